@@ -1,0 +1,54 @@
+//! The program: `monastr decide FILE`.
+#![tactic(auto)]
+
+use ms_app::run;
+use ms_edge::{DiskFiles, Status, StdSink, Words};
+use std::env::{self, Env};
+use std::io::ErrorKind;
+use std::process::ExitCode;
+
+/// The exit status where no memory is found for the words, as for a run that finds none.
+const NO_MEMORY: u8 = 6;
+
+/// The exit status where the words cannot be read for another cause.
+const NO_WORDS: u8 = 7;
+
+fn main(rt: HostRuntime) -> ExitCode {
+    match words(&rt) {
+        Ok(words) => {
+            let mut files = DiskFiles::new(rt);
+            let mut out = StdSink::new(rt);
+            ExitCode::from(code(run(rt.alloc(), &words, &mut files, &mut out)))
+        }
+        Err(status) => ExitCode::from(status),
+    }
+}
+
+/// The words after the program's name, or the exit status where there are none to be had.
+fn words(rt: &(impl Env + AllocGlobal)) -> Result<Words, u8> {
+    let arguments = match env::args(rt) {
+        Ok(arguments) => arguments,
+        Err(error) if error.kind() == ErrorKind::OutOfMemory => return Err(NO_MEMORY),
+        Err(_) => return Err(NO_WORDS),
+    };
+    let mut words = Words::new(rt.alloc());
+    for word in arguments.skip(1) {
+        if words.push(word.as_str()).is_err() {
+            return Err(NO_MEMORY);
+        }
+    }
+    Ok(words)
+}
+
+/// The exit status of a status.
+fn code(status: Status) -> u8 {
+    match status {
+        Status::Done => 0,
+        Status::Usage => 1,
+        Status::Refused => 2,
+        Status::Limit => 3,
+        Status::FileFault => 4,
+        Status::SinkFault => 5,
+        Status::NoMemory => NO_MEMORY,
+    }
+}

@@ -1,0 +1,4 @@
+pub mod Command
+pub mod Answer
+pub mod Inclusion
+pub mod HasValue

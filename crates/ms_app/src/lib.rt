@@ -1,0 +1,13 @@
+//! The top call of monastr: from words, files and a sink to a status.
+#![tactic(auto)]
+
+mod command;
+mod decide;
+mod inclusion;
+mod print;
+mod top;
+
+pub use top::run;
+
+#[cfg(test)]
+mod tests;

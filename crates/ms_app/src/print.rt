@@ -1,0 +1,66 @@
+ghost use Rattle.std.specs.Prelude.{◌≡◌, ◌⊎◌, [], ◌<◌, ◌≤◌};
+ghost use Rattle.ms_report.specs.Line.{HasLine, IsPlaced, place_of};
+ghost use Rattle.ms_app.specs.Answer.{Prints, status_of, answer_of};
+
+use ms_edge::{List, Refusal, Sink, Status, Text, write_all};
+use ms_report::refusal_line;
+use std::alloc::Global;
+
+/// Prints the text, and ends with the status that goes with it.
+pub fn print<S: Sink>(out: &mut S, status: Status, text: &[u8]) -> Status
+    ensures { Prints (S.taken out.old) (S.taken out.new) (S.faults out.old) (S.faults out.new) (record { status = status; text = text.now }) result }
+{
+    match write_all(out, text) {
+        Ok(()) => status,
+        Err(_) => Status::SinkFault,
+    }
+}
+
+/// The status that goes with a refusal.
+fn status(refusal: &Refusal) -> Status
+    ensures { result ≡ status_of refusal.now }
+{
+    match refusal {
+        Refusal::FileSize { .. }
+        | Refusal::Includes { .. }
+        | Refusal::Depth { .. }
+        | Refusal::CoreSize
+        | Refusal::Nodes { .. } => Status::Limit,
+        Refusal::ReadFault { .. } | Refusal::WriteFault { .. } => Status::FileFault,
+        Refusal::SinkFault { .. } => Status::SinkFault,
+        Refusal::Memory => Status::NoMemory,
+        Refusal::Word { .. }
+        | Refusal::NumberTooLarge { .. }
+        | Refusal::Grammar { .. }
+        | Refusal::Unclosed { .. }
+        | Refusal::UnknownName { .. }
+        | Refusal::Twice { .. }
+        | Refusal::WrongOrder { .. }
+        | Refusal::Arity { .. }
+        | Refusal::ConstRange { .. }
+        | Refusal::NotHere { .. }
+        | Refusal::LeftOut { .. }
+        | Refusal::NotBuilt { .. }
+        | Refusal::VarsDiffer
+        | Refusal::FileMissing { .. }
+        | Refusal::IncludeCycle { .. }
+        | Refusal::ImportMissing { .. }
+        | Refusal::ImportText { .. }
+        | Refusal::ImportMode { .. }
+        | Refusal::ImportVars { .. }
+        | Refusal::ImportOpen { .. } => Status::Refused,
+    }
+}
+
+/// Prints the line of a refusal, or that there is no memory for it.
+pub fn refuse<S: Sink>(alloc: Global, refusal: &Refusal, files: &List<Text>, out: &mut S) -> Status
+    requires has_line { HasLine refusal.now }
+    requires is_placed { IsPlaced (place_of refusal.now) files.now }
+    ensures { Prints (S.taken out.old) (S.taken out.new) (S.faults out.old) (S.faults out.new) (answer_of refusal.now files.now) result
+        ⊎ Prints (S.taken out.old) (S.taken out.new) (S.faults out.old) (S.faults out.new) (answer_of Refusal.Memory []) result }
+{
+    match refusal_line(alloc, refusal, files) {
+        Ok(line) => print(out, status(refusal), line.slice()),
+        Err(_) => print(out, Status::NoMemory, b"70 out of memory\n"),
+    }
+}

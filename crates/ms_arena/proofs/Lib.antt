@@ -1,0 +1,11 @@
+pub mod Appending
+pub mod BitsLemmas
+pub mod Canonicity
+pub mod Ends
+pub mod Equality
+pub mod Essential
+pub mod HalvesLemmas
+pub mod Lists
+pub mod Needs
+pub mod Paths
+pub mod ReachLemmas

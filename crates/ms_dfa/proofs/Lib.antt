@@ -1,0 +1,3 @@
+pub mod Ranks
+pub mod Following
+pub mod States

@@ -1,0 +1,19 @@
+//! Finite automata whose transitions are decision diagrams.
+#![tactic(auto)]
+
+mod automaton;
+mod count;
+mod part;
+mod plain;
+mod sign;
+mod state;
+mod track;
+
+pub use automaton::Automaton;
+pub use plain::{FileSign, FileState, FileVar, Plain};
+pub use sign::Sign;
+pub use state::State;
+pub use track::Track;
+
+#[cfg(test)]
+mod tests;

@@ -1,0 +1,8 @@
+use ms_logic::Order;
+
+/// A track of a word: the bits of one variable.
+#[derive(Clone, Copy, Debug, PartialEq, Eq)]
+pub struct Track {
+    pub variable: u32,
+    pub order: Order,
+}

@@ -1,0 +1,19 @@
+use Rattle.std.proofs.Common.{subst, sym}
+use Rattle.ms_diagram.specs.Collect.{SetNumber, LacksSet}
+use Rattle.ms_diagram.specs.Growth.{Builds}
+use Rattle.ms_diagram.specs.Store.{IsStore}
+use Rattle.ms_diagram.proofs.Building.{Builds-memory}
+use Rattle.ms_diagram.proofs.store.Store.collect.Goals as goal
+
+pub returns-in_default-clause-builds : goal.returns-in_default-clause-builds
+returns-in_default-clause-builds c =
+    let nodes = c.args.self.now.nodes in
+    let store = subst (λ s. IsStore s.nodes s.limit) c.self.view_is c.self.invariant in
+    Builds-memory c.args.self.now (SetNumber nodes c.args.sets.now c.args.roots.now c.args.track) (LacksSet nodes c.args.sets.now c.args.roots.now c.args.track) store
+
+pub returns-clause-builds : goal.returns-clause-builds
+returns-clause-builds c =
+    let nodes = c.args.self.now.nodes in
+    let sets = c.collect_at.new.sets in
+    subst (λ roots. Builds c.args.self.now c.collect_at.new.self (SetNumber nodes sets roots c.args.track) (LacksSet nodes sets roots c.args.track) c.collect_at.result)
+    c.in-Ok.ensures.items c.collect_at.ensures.builds

@@ -1,0 +1,9 @@
+pub mod Apply
+pub mod Bring
+pub mod Collect
+pub mod Growth
+pub mod Leaves
+pub mod Numbering
+pub mod Relabel
+pub mod Store
+pub mod Table

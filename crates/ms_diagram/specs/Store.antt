@@ -1,0 +1,21 @@
+-- What contracts see of a store of diagrams.
+use Rattle.std.specs.Prelude.{◌≡◌, ℕ, ◌<◌, ◌≤◌, Bool, false, List, length, slice_index_or}
+use Rattle.ms_arena.specs.declared.node.Ref.{Ref}
+use Rattle.ms_arena.specs.declared.node.Node.{Node}
+use Rattle.ms_arena.specs.Diagram.{Bits, IsOrdered, IsReduced}
+
+-- the nodes of a store, in the order of their places, and how many it may hold
+pub record Contents : Type 0 where
+  pub nodes : List Node
+  pub limit : ℕ
+
+-- the nodes are reduced ordered diagrams, and no more than the limit
+pub record IsStore (nodes : List Node) (limit : ℕ) : Type 0 where
+  pub ordered : IsOrdered nodes
+  pub reduced : IsReduced nodes
+  pub within : length nodes ≤ limit
+  pub small : limit ≤ 4000000000
+
+-- the bits of the variables that a list has, and 0 for each later variable
+abbrev pub bits_of : List Bool → Bits
+bits_of list = λ var. slice_index_or list var false

@@ -1,0 +1,108 @@
+ghost use Rattle.std.specs.Prelude.{◌≡◌, ◌⊎◌, IfOk, All};
+ghost use Rattle.ms_arena.specs.Diagram.{IsValid};
+ghost use Rattle.ms_arena.specs.Target.{Extends};
+
+use crate::halves::LEAF_LEVEL;
+use crate::roots::leaf_set;
+use crate::sets::Sets;
+use crate::store::Store;
+use crate::table::remember;
+use indexmap::IndexMap;
+use ms_arena::Ref;
+use ms_edge::StepFault;
+
+// What each list of roots has become.
+type RootTable = IndexMap<Vec<Ref>, Ref>;
+
+impl Store {
+    ghost use Rattle.ms_diagram.specs.Collect.{IsCollected, IsSetLeaf, IsSetMissing, IsSetNumbering, LacksSet, SetNumber, leaf_values};
+    ghost use Rattle.ms_diagram.specs.Growth.{Builds, OnNodes};
+    ghost use Rattle.ms_diagram.specs.Store.{IsStore};
+    ghost use Rattle.ms_diagram.specs.Table.{EachEntry};
+
+    /// The function that has at each bits the number of the set of the leaves that the roots have there, with the bit
+    /// of the track at 0 and at 1. A set that is new gets its number at first sight.
+    pub fn collect(&mut self, roots: &[Ref], track: u32, sets: &mut Sets) -> Result<Ref, StepFault>
+        requires { All (IsValid self.old.nodes) roots.now }
+        ensures builds { Builds self.old self.new (SetNumber self.old.nodes sets.new roots.now track) (LacksSet self.old.nodes sets.new roots.now track) result }
+        ensures sets { Extends sets.old sets.new }
+    {
+        // The length tells that the sets are a numbering.
+        let _ = sets.len();
+        let Ok(list) = Vec::from_slice(self.alloc, roots) else {
+            return Err(StepFault::Memory);
+        };
+        let mut table = IndexMap::new(self.alloc);
+        self.collect_at(list, track, sets, &mut table)
+    }
+
+    // The same for a list of halves of the roots, over a table of what is done.
+    fn collect_at(
+        &mut self,
+        roots: Vec<Ref>,
+        track: u32,
+        sets: &mut Sets,
+        table: &mut RootTable,
+    ) -> Result<Ref, StepFault>
+        requires store { IsStore self.old.nodes self.old.limit }
+        requires numbering { IsSetNumbering sets.old }
+        requires valid { All (IsValid self.old.nodes) roots.items }
+        requires table { EachEntry (λ key. IsCollected self.old.nodes sets.old track key.items) table.old.entries }
+        ensures builds { Builds self.old self.new (SetNumber self.old.nodes sets.new roots.items track) (LacksSet self.old.nodes sets.new roots.items track) result }
+        ensures sets { Extends sets.old sets.new }
+        ensures numbering { IsSetNumbering sets.new }
+        ensures table { EachEntry (λ key. IsCollected self.new.nodes sets.new track key.items) table.new.entries }
+    {
+        let list = roots.as_slice();
+        let level = self.least_level(list);
+        if level == LEAF_LEVEL {
+            return self.set_leaf(list, sets);
+        }
+        if let Some(made) = table.get(list) {
+            return Ok(*made);
+        }
+        let var = level as u32;
+        if var == track {
+            let Ok(both) = self.both_halves(list, var) else {
+                return Err(StepFault::Memory);
+            };
+            return self.collect_at(both, track, sets, table);
+        }
+        let Ok(low) = self.half_set(list, var, false) else {
+            return Err(StepFault::Memory);
+        };
+        let Ok(high) = self.half_set(list, var, true) else {
+            return Err(StepFault::Memory);
+        };
+        let low_end = self.collect_at(low, track, sets, table)?;
+        let high_end = self.collect_at(high, track, sets, table)?;
+        let made = self.mk(var, low_end, high_end)?;
+        remember(table, roots, made)
+    }
+
+    // The leaf with the number of the set of the leaves among the roots.
+    #[inline(never)]
+    fn set_leaf(&self, roots: &[Ref], sets: &mut Sets) -> Result<Ref, StepFault>
+        ensures made { IfOk result (IsSetLeaf sets.new (leaf_values roots.now)) }
+        ensures sets { Extends sets.old sets.new }
+        ensures numbering { IsSetNumbering sets.new }
+        ensures nodes { OnNodes result (λ limit. (limit ≡ self.now.limit) × IsSetMissing sets.new (leaf_values roots.now)) }
+    {
+        let _ = sets.len();
+        let Ok(set) = leaf_set(self.alloc, roots) else {
+            return Err(StepFault::Memory);
+        };
+        if sets.len() == u32::MAX {
+            let Some(number) = sets.find(set.as_slice()) else {
+                return Err(StepFault::Nodes {
+                    limit: self.limit(),
+                });
+            };
+            return Ok(Ref::Leaf(number));
+        }
+        let Ok(number) = sets.number(set.as_slice()) else {
+            return Err(StepFault::Memory);
+        };
+        Ok(Ref::Leaf(number))
+    }
+}

@@ -1,0 +1,57 @@
+ghost use Rattle.std.specs.Prelude.{IfOk};
+ghost use Rattle.ms_arena.specs.Diagram.{IsValid};
+
+use crate::store::Store;
+use crate::table::remember;
+use indexmap::IndexMap;
+use ms_arena::Ref;
+use ms_edge::StepFault;
+
+// What the node at each place has become.
+type PlaceTable = IndexMap<u32, Ref>;
+
+impl Store {
+    ghost use Rattle.ms_diagram.specs.Growth.{Builds};
+    ghost use Rattle.ms_diagram.specs.Relabel.{CoversLeaves, IsRelabelled, MappedLeaf};
+    ghost use Rattle.ms_diagram.specs.Store.{IsStore};
+    ghost use Rattle.ms_diagram.specs.Table.{EachEntry};
+
+    /// The function that has at each bits what the map has for the leaf of `root`.
+    pub fn relabel(&mut self, root: Ref, map: &[u32]) -> Result<Ref, StepFault>
+        requires valid { IsValid self.old.nodes root }
+        requires covers { CoversLeaves self.old.nodes map.now root }
+        ensures { Builds self.old self.new (MappedLeaf self.old.nodes map.now root) ⊥ result }
+    {
+        let mut table = IndexMap::new(self.alloc);
+        self.relabel_at(root, map, &mut table)
+    }
+
+    // The same for an end of `root`, over a table of what is done.
+    fn relabel_at(
+        &mut self,
+        root: Ref,
+        map: &[u32],
+        table: &mut PlaceTable,
+    ) -> Result<Ref, StepFault>
+        requires store { IsStore self.old.nodes self.old.limit }
+        requires valid { IsValid self.old.nodes root }
+        requires covers { CoversLeaves self.old.nodes map.now root }
+        requires table { EachEntry (IsRelabelled self.old.nodes map.now) table.old.entries }
+        ensures builds { Builds self.old self.new (MappedLeaf self.old.nodes map.now root) ⊥ result }
+        ensures table { EachEntry (IsRelabelled self.new.nodes map.now) table.new.entries }
+    {
+        match root {
+            Ref::Leaf(value) => Ok(Ref::Leaf(map[value as usize])),
+            Ref::Inner(place) => {
+                if let Some(made) = table.get(&place) {
+                    return Ok(*made);
+                }
+                let node = self.node(place);
+                let low = self.relabel_at(node.low, map, table)?;
+                let high = self.relabel_at(node.high, map, table)?;
+                let made = self.mk(node.var, low, high)?;
+                remember(table, place, made)
+            }
+        }
+    }
+}

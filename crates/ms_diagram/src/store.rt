@@ -1,0 +1,175 @@
+ghost use Rattle.std.specs.Prelude.{◌≡◌, ◌≢◌, ◌⊎◌, ◌≤◌, ◌<◌, ◌↔◌, ℕ, [], ◌∷◌, ◌++◌, length, slice_get, if◌then◌else◌, IsTrue, IfOk, IfErr, OnErr, IsErrOf};
+ghost use Rattle.ms_arena.specs.Diagram.{Bits, leaf_of, IsValid, SameFunction, TestsAbove};
+ghost use Rattle.ms_arena.specs.Reach.{IsTested};
+ghost use Rattle.ms_arena.specs.Target.{Appends, HoldsAt, IsFormed, IsNew};
+
+use indexmap::IndexSet;
+use ms_arena::{Node, Ref};
+use ms_edge::StepFault;
+use std::alloc::Global;
+use std::marker::Model;
+
+/// Diagrams over one list of nodes. Equal functions have equal references.
+#[derive(Drop)]
+pub struct Store {
+    pub(crate) alloc: Global,
+    nodes: IndexSet<Node>,
+    limit: u64,
+}
+
+impl Model for Store {
+    ghost use Rattle.ms_diagram.specs.Store.{Contents, IsStore};
+
+    ghost Value = { Contents };
+
+    ghost view = { λ s. record { nodes = s.nodes.keys; limit = s.limit } };
+
+    ghost invariant = { λ s. IsStore s.nodes.keys s.limit };
+}
+
+impl Store {
+    ghost use Rattle.ms_diagram.specs.Growth.{OnNodes};
+    ghost use Rattle.ms_diagram.specs.Store.{IsStore, bits_of};
+
+    /// A store with no nodes, which will hold at most so many.
+    pub fn new(alloc: Global, limit: u64) -> Store
+        requires some { 1 ≤ limit }
+        requires small { limit ≤ 4000000000 }
+        ensures empty { result.nodes ≡ [] }
+        ensures limit { result.limit ≡ limit }
+    {
+        Store {
+            alloc,
+            nodes: IndexSet::new(alloc),
+            limit,
+        }
+    }
+
+    /// The constant function.
+    pub fn leaf(&self, value: u32) -> Ref
+        ensures { result ≡ Ref.Leaf value }
+    {
+        Ref::Leaf(value)
+    }
+
+    /// The number of nodes.
+    pub fn len(&self) -> u64
+        ensures len { result ≡ length self.now.nodes }
+        ensures store { IsStore self.now.nodes self.now.limit }
+    {
+        self.nodes.len() as u64
+    }
+
+    // How many nodes the store may hold.
+    pub(crate) fn limit(&self) -> u64
+        ensures { result ≡ self.now.limit }
+    {
+        self.limit
+    }
+
+    /// The node at a place.
+    pub fn node(&self, place: u32) -> Node
+        requires { place < length self.now.nodes }
+        ensures held { slice_get self.now.nodes place ≡ Some result }
+        ensures store { IsStore self.now.nodes self.now.limit }
+    {
+        self.nodes.as_slice()[place as usize]
+    }
+
+    /// The leaf to which the bits lead.
+    pub fn eval(&self, root: Ref, bits: &[bool]) -> u32
+        requires valid { IsValid self.now.nodes root }
+        requires tested { (var : ℕ) → IsTested self.now.nodes root var → var < length bits.now }
+        ensures { result ≡ leaf_of self.now.nodes root (bits_of bits.now) }
+    {
+        let mut at = root;
+        loop {
+            match at {
+                Ref::Leaf(value) => return value,
+                Ref::Inner(place) => {
+                    let node = self.node(place);
+                    at = if bits[node.var as usize] {
+                        node.high
+                    } else {
+                        node.low
+                    };
+                }
+            }
+        }
+    }
+
+    /// Whether two references stand for the same function.
+    pub fn same(&self, left: Ref, right: Ref) -> bool
+        requires valid_left { IsValid self.now.nodes left }
+        requires valid_right { IsValid self.now.nodes right }
+        ensures equal { IsTrue result ↔ (left ≡ right) }
+        ensures canonical { (left ≡ right) ↔ SameFunction self.now.nodes left right }
+    {
+        let _ = &self.nodes;
+        left == right
+    }
+
+    /// The function that is `low` where the bit of the variable is 0, and `high` where it is 1.
+    #[inline(never)]
+    pub fn mk(&mut self, var: u32, low: Ref, high: Ref) -> Result<Ref, StepFault>
+        requires valid_low { IsValid self.old.nodes low }
+        requires valid_high { IsValid self.old.nodes high }
+        requires above_low { TestsAbove self.old.nodes var low }
+        requires above_high { TestsAbove self.old.nodes var high }
+        ensures valid { IfOk result (IsValid self.new.nodes) }
+        ensures made { IfOk result (λ made. ((low ≡ high) × (made ≡ low)) ⊎ HoldsAt self.new.nodes (record { var = var; low = low; high = high }) made) }
+        ensures function { IfOk result (λ made. (bits : Bits) → leaf_of self.new.nodes made bits
+            ≡ (if bits var then leaf_of self.old.nodes high bits else leaf_of self.old.nodes low bits)) }
+        ensures appends { Appends self.old.nodes self.new.nodes (record { var = var; low = low; high = high }) }
+        ensures refused { OnErr result (self.new.nodes ≡ self.old.nodes) }
+        ensures above { IfOk result (λ made. (lower : ℕ) → lower < var → TestsAbove self.new.nodes lower made) }
+        ensures limit { self.new.limit ≡ self.old.limit }
+        ensures store { IsStore self.new.nodes self.new.limit }
+
+        // Nodes comes exactly where the ends differ, the node is new and the store is at its limit.
+        ensures full { low ≢ high → IsNew self.old.nodes (record { var = var; low = low; high = high })
+            → length self.old.nodes ≡ self.old.limit → IsErrOf result (StepFault.Nodes self.old.limit) }
+        ensures only_full { OnNodes result (λ limit. (limit ≡ self.old.limit) × (low ≢ high)
+            × IsNew self.old.nodes (record { var = var; low = low; high = high }) × (length self.old.nodes ≡ self.old.limit)) }
+    {
+        let is_full = self.len() == self.limit;
+        if low == high {
+            return Ok(low);
+        }
+        let node = Node { var, low, high };
+        if is_full {
+            self.find(node)
+        } else {
+            self.insert(node)
+        }
+    }
+
+    // The reference to a node that is held; there is no room for another.
+    fn find(&self, node: Node) -> Result<Ref, StepFault>
+        ensures held { IfOk result (HoldsAt self.now.nodes node) }
+        ensures new { OnErr result (IsNew self.now.nodes node) }
+        ensures fault { IfErr result (λ fault. fault ≡ StepFault.Nodes self.now.limit) }
+    {
+        let Some(place) = self.nodes.get_index_of(&node) else {
+            return Err(StepFault::Nodes { limit: self.limit });
+        };
+        Ok(Ref::Inner(place as u32))
+    }
+
+    // The reference to the node, which is appended where it is new.
+    fn insert(&mut self, node: Node) -> Result<Ref, StepFault>
+        requires formed { IsFormed self.old.nodes node }
+        requires room { length self.old.nodes < self.old.limit }
+        ensures held { IfOk result (HoldsAt self.new.nodes node) }
+        ensures appends { Appends self.old.nodes self.new.nodes node }
+        ensures refused { OnErr result (self.new.nodes ≡ self.old.nodes) }
+        ensures fault { IfErr result (λ fault. fault ≡ StepFault.Memory) }
+        ensures limit { self.new.limit ≡ self.old.limit }
+        ensures store { IsStore self.new.nodes self.new.limit }
+    {
+        let Ok((place, _)) = self.nodes.insert_full(node) else {
+            return Err(StepFault::Memory);
+        };
+        Ok(Ref::Inner(place as u32))
+    }
+}

@@ -1,0 +1,11 @@
+pub mod Agreement
+pub mod BitOrder
+pub mod Consistent
+pub mod Members
+pub mod FreeVariables
+pub mod OrderLaws
+pub mod SetLaws
+pub mod Values
+pub mod Views
+pub mod Within
+pub mod WordLaws

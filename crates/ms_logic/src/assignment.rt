@@ -1,0 +1,16 @@
+use ms_edge::List;
+
+/// The value of a variable, by its order.
+#[derive(Debug, Drop)]
+pub enum Value {
+    Truth(bool),
+    Number(u64),
+    Set(List<u64>),
+}
+
+/// A value for each global, in the order of the globals, and the length of the whole.
+#[derive(Debug, Drop)]
+pub struct Assignment {
+    pub length: u64,
+    pub values: List<Value>,
+}

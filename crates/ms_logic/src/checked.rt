@@ -1,0 +1,76 @@
+use crate::formula::Formula;
+use crate::mode::{Mode, Order};
+use ms_edge::{At, List, Name, Text};
+
+/// A parameter with its restriction.
+#[derive(Debug, Drop)]
+pub struct Param {
+    pub order: Order,
+    pub variable: u32,
+    pub domain: Option<Formula>,
+}
+
+/// A predicate, a macro or a default restriction. Its body calls those with smaller numbers alone.
+#[derive(Debug, Drop)]
+pub struct Predicate {
+    pub params: List<Param>,
+    pub body: Formula,
+}
+
+/// A global with its restriction, its own or the default. Its number as a variable is its place among
+/// the globals.
+#[derive(Debug, Drop)]
+pub struct Global {
+    pub at: At,
+    /// The number of its declaration.
+    pub item: u32,
+    pub order: Order,
+    pub name: Name,
+    pub domain: Option<Formula>,
+}
+
+/// A variable of an automaton file, by its name, and the variable that it stands for.
+#[derive(Debug, Drop)]
+pub struct MapPair {
+    pub name: Name,
+    pub variable: u32,
+    pub order: Order,
+}
+
+/// One `import` of the source.
+#[derive(Debug, Drop)]
+pub struct ImportUse {
+    pub at: At,
+    pub name: Text,
+    pub pairs: List<MapPair>,
+}
+
+/// One `export` of the source, with the free variables of its formula and their names.
+#[derive(Debug, Drop)]
+pub struct ExportUse {
+    pub at: At,
+    pub name: Text,
+    pub variables: List<u32>,
+    pub names: List<Name>,
+}
+
+/// A formula declaration.
+#[derive(Debug, Drop)]
+pub struct Placed {
+    pub at: At,
+    /// The number of its declaration.
+    pub item: u32,
+    pub formula: Formula,
+}
+
+/// A source whose names and orders are checked.
+#[derive(Debug, Drop)]
+pub struct Checked {
+    pub mode: Mode,
+    pub globals: List<Global>,
+    pub predicates: List<Predicate>,
+    pub imports: List<ImportUse>,
+    pub exports: List<ExportUse>,
+    pub formulas: List<Placed>,
+    pub files: List<Text>,
+}

@@ -1,0 +1,64 @@
+-- The report of a decision (docs/FORMATS.md, "Report"): the verdict, the example and the counterexample, and the
+-- counts where they are asked for.
+use Rattle.std.specs.Prelude.{ℕ, Bool, true, false, List, [], ◌∷◌, ◌++◌, codes, Option, Some, None}
+use Rattle.std.specs.List.{flat_map}
+use Rattle.std.specs.Fmt.{decimal}
+use Rattle.ms_logic.specs.declared.assignment.Value.{Value}
+use Rattle.ms_logic.specs.declared.assignment.Value.TheVariants.{Truth, Number, Set}
+use Rattle.ms_logic.specs.declared.assignment.Assignment.{Assignment}
+use Rattle.ms_report.specs.declared.found.Verdict.{Verdict}
+use Rattle.ms_report.specs.declared.found.Verdict.TheVariants.{Valid, Unsatisfiable, Contingent, Vacuous}
+use Rattle.ms_report.specs.declared.found.Stats.{Stats}
+use Rattle.ms_report.specs.declared.found.Found.{Found}
+
+abbrev pub verdict_text : Verdict → List ℕ
+verdict_text Valid = codes "valid"
+verdict_text Unsatisfiable = codes "unsatisfiable"
+verdict_text Contingent = codes "contingent"
+verdict_text Vacuous = codes "vacuous"
+
+-- a further member of a set
+abbrev pub further_member : ℕ → List ℕ
+further_member member = codes ", " ++ decimal member
+
+-- the members with a comma and a blank between them
+abbrev pub members_text : List ℕ → List ℕ
+members_text [] = []
+members_text (first ∷ further) = decimal first ++ flat_map further_member further
+
+abbrev pub truth_text : Bool → List ℕ
+truth_text true = codes "true"
+truth_text false = codes "false"
+
+abbrev pub value_text : Value → List ℕ
+value_text (Truth value) = truth_text value
+value_text (Number n) = decimal n
+value_text (Set members) = codes "{" ++ members_text members ++ codes "}"
+
+-- a line for each global: its name and its value
+abbrev pub values_text : List (List ℕ) → List Value → List ℕ
+values_text [] values = []
+values_text (name ∷ names) [] = []
+values_text (name ∷ names) (value ∷ values) = name ++ codes " = " ++ value_text value ++ 10 ∷ [] ++ values_text names values
+
+-- the example or the counterexample, by the word for it
+abbrev pub assignment_text : List ℕ → List (List ℕ) → Option Assignment → List ℕ
+assignment_text word names None = codes "no " ++ word ++ 10 ∷ []
+assignment_text word names (Some found) = word ++ codes " length " ++ decimal found.length ++ 10 ∷ [] ++ values_text names found.values
+
+-- one line of counts
+abbrev pub count_line : List ℕ → ℕ → List ℕ
+count_line word count = word ++ 32 ∷ [] ++ decimal count ++ 10 ∷ []
+
+abbrev pub stats_text : Option Stats → List ℕ
+stats_text None = []
+stats_text (Some stats) =
+    count_line (codes "files") stats.files ++ count_line (codes "size") stats.size ++ count_line (codes "depth") stats.depth
+    ++ count_line (codes "states") stats.states ++ count_line (codes "nodes") stats.nodes
+
+abbrev pub report_of : Found → List ℕ
+report_of found =
+    verdict_text found.verdict ++ 10 ∷ []
+    ++ assignment_text (codes "example") found.globals found.example
+    ++ assignment_text (codes "counterexample") found.globals found.counterexample
+    ++ stats_text found.stats

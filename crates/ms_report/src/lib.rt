@@ -1,0 +1,14 @@
+//! The texts that monastr prints: the report, and the line of a refusal.
+#![tactic(auto)]
+
+mod found;
+mod number;
+mod refusal_text;
+mod report_text;
+
+pub use found::{Found, Stats, Verdict};
+pub use refusal_text::refusal_line;
+pub use report_text::report;
+
+#[cfg(test)]
+mod tests;

@@ -1,0 +1,140 @@
+ghost use Rattle.std.specs.Prelude.{◌≡◌, ◌++◌, ◌∷◌, [], codes, IfOk, OnOk, string_bytes};
+ghost use Rattle.ms_report.specs.Report.{verdict_text, members_text, value_text, values_text, assignment_text, count_line, stats_text, report_of};
+
+use crate::found::{Found, Stats, Verdict};
+use crate::number::push_number;
+use ms_edge::{Bytes, List, Name, NoMemory};
+use ms_logic::{Assignment, Value};
+use std::alloc::{AllocError, Global};
+
+/// The report: the verdict, the example and the counterexample, and the counts where there are any.
+pub fn report(alloc: Global, found: &Found) -> Result<Bytes, NoMemory>
+    ensures { IfOk result (λ text. text ≡ report_of found.now) }
+{
+    match text(alloc, found) {
+        Ok(text) => Ok(List::from(text.into_bytes())),
+        Err(_) => Err(NoMemory),
+    }
+}
+
+fn text(alloc: Global, found: &Found) -> Result<String, AllocError>
+    ensures { IfOk result (λ text. string_bytes text ≡ report_of found.now) }
+{
+    let mut text = String::from_str(alloc, verdict(found.verdict))?;
+    text.push_str("\n")?;
+    push_assignment(&mut text, "example", &found.globals, &found.example)?;
+    push_assignment(
+        &mut text,
+        "counterexample",
+        &found.globals,
+        &found.counterexample,
+    )?;
+    push_stats(&mut text, found.stats)?;
+    Ok(text)
+}
+
+fn verdict(verdict: Verdict) -> &'static str
+    ensures { result.now ≡ verdict_text verdict }
+{
+    match verdict {
+        Verdict::Valid => "valid",
+        Verdict::Unsatisfiable => "unsatisfiable",
+        Verdict::Contingent => "contingent",
+        Verdict::Vacuous => "vacuous",
+    }
+}
+
+fn push_assignment(
+    text: &mut String,
+    word: &str,
+    names: &List<Name>,
+    found: &Option<Assignment>,
+) -> Result<(), AllocError>
+    ensures { OnOk result (string_bytes text.new ≡ string_bytes text.old ++ assignment_text word.now names.now found.now) }
+{
+    match found {
+        None => {
+            text.push_str("no ")?;
+            text.push_str(word)?;
+            text.push_str("\n")
+        }
+        Some(assignment) => {
+            text.push_str(word)?;
+            text.push_str(" length ")?;
+            push_number(text, assignment.length)?;
+            text.push_str("\n")?;
+            push_values(text, names.slice(), assignment.values.slice())
+        }
+    }
+}
+
+/// A line for each name and its value.
+fn push_values(text: &mut String, names: &[Name], values: &[Value]) -> Result<(), AllocError>
+    ensures { OnOk result (string_bytes text.new ≡ string_bytes text.old ++ values_text names.now values.now) }
+{
+    let count = names.len().min(values.len());
+    for i in 0..count {
+        push_value_line(text, &names[i], &values[i])?;
+    }
+    Ok(())
+}
+
+fn push_value_line(text: &mut String, name: &Name, value: &Value) -> Result<(), AllocError>
+    ensures { OnOk result (string_bytes text.new ≡ string_bytes text.old ++ values_text (name.now ∷ []) (value.now ∷ [])) }
+{
+    text.push_str(name.text())?;
+    text.push_str(" = ")?;
+    push_value(text, value)?;
+    text.push_str("\n")
+}
+
+fn push_value(text: &mut String, value: &Value) -> Result<(), AllocError>
+    ensures { OnOk result (string_bytes text.new ≡ string_bytes text.old ++ value_text value.now) }
+{
+    match value {
+        Value::Truth(true) => text.push_str("true"),
+        Value::Truth(false) => text.push_str("false"),
+        Value::Number(number) => push_number(text, *number),
+        Value::Set(members) => {
+            text.push_str("{")?;
+            push_members(text, members.slice())?;
+            text.push_str("}")
+        }
+    }
+}
+
+fn push_members(text: &mut String, members: &[u64]) -> Result<(), AllocError>
+    ensures { OnOk result (string_bytes text.new ≡ string_bytes text.old ++ members_text members.now) }
+{
+    let Some((first, further)) = members.split_first() else {
+        return Ok(());
+    };
+    push_number(text, *first)?;
+    for member in further {
+        text.push_str(", ")?;
+        push_number(text, *member)?;
+    }
+    Ok(())
+}
+
+fn push_stats(text: &mut String, stats: Option<Stats>) -> Result<(), AllocError>
+    ensures { OnOk result (string_bytes text.new ≡ string_bytes text.old ++ stats_text stats) }
+{
+    let Some(stats) = stats else {
+        return Ok(());
+    };
+    push_count(text, "files", u64::from(stats.files))?;
+    push_count(text, "size", stats.size)?;
+    push_count(text, "depth", u64::from(stats.depth))?;
+    push_count(text, "states", stats.states)?;
+    push_count(text, "nodes", stats.nodes)
+}
+
+fn push_count(text: &mut String, word: &str, count: u64) -> Result<(), AllocError>
+    ensures { OnOk result (string_bytes text.new ≡ string_bytes text.old ++ count_line word.now count) }
+{
+    text.push_str(word)?;
+    text.push_str(" ")?;
+    push_number(text, count)?;
+    text.push_str("\n")
+}

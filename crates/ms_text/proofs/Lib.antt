@@ -1,0 +1,13 @@
+pub mod BlankBehind
+pub mod Bytes
+pub mod Decisions
+pub mod Fronts
+pub mod Gaps
+pub mod Here
+pub mod Lists
+pub mod Longest
+pub mod OneFault
+pub mod OneGap
+pub mod OneReading
+pub mod Starts
+pub mod Tables

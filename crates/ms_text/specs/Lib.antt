@@ -1,0 +1,4 @@
+pub mod Fault
+pub mod Gap
+pub mod Spelling
+pub mod TokenList
