@@ -1,12 +1,12 @@
 -- A formed and new node may stand behind an ordered and reduced list.
-use Rattle.std.proofs.Common.{◌≡◌, ◌≢◌, ℕ, ◌<◌, ◌≤◌, ◌⊎◌, Bool, true, false, if◌then◌else◌, List, [], ◌∷◌, ◌++◌, length, slice_get, Some, refl, sym, ap, subst, ◌∙◌, inl, inr, ⊎_elim, length-append, append_assoc, append-nil, arith}
-use Rattle.std.proofs.lemmas.Option.{slice_get_within, same_Some}
+use Rattle.std.proofs.Common.{◌≡◌, ◌≢◌, ℕ, ◌<◌, true, false, if◌then◌else◌, List, [], ◌∷◌, ◌++◌, length, slice_get, Some, sym, ap, subst, ◌∙◌, inl, inr, ⊎_elim, length-append, append_assoc, append-nil, arith}
+use Rattle.std.proofs.lemmas.Option.{slice_get_within}
 use Rattle.ms_arena.specs.declared.node.Ref.{Ref}
 use Rattle.ms_arena.specs.declared.node.Ref.TheVariants.{Leaf, Inner}
 use Rattle.ms_arena.specs.declared.node.Node.{Node}
 use Rattle.ms_arena.specs.Diagram.{Bits, leaf_of, IsBefore, IsValid, TestsAbove, IsOrdered, IsReduced}
 use Rattle.ms_arena.specs.Target.{Extends, Appends, HoldsAt, IsFormed, IsNew}
-use Rattle.ms_arena.proofs.Lists.{slice_get-append_left, slice_get-append_some, slice_get-push, slice_get-pushed}
+use Rattle.ms_arena.proofs.Lists.{slice_get-append_left, slice_get-append_some, slice_get-pushed}
 use Rattle.ms_arena.proofs.Paths.{IsBefore-later, leaf_of-node, leaf_of-append}
 
 module _ (nodes more : List Node) where

@@ -5,11 +5,11 @@ use Rattle.std.proofs.lemmas.Bool.{cases_lt, cases_order}
 use Rattle.ms_arena.specs.declared.node.Ref.{Ref}
 use Rattle.ms_arena.specs.declared.node.Ref.TheVariants.{Leaf, Inner}
 use Rattle.ms_arena.specs.declared.node.Node.{Node}
-use Rattle.ms_arena.specs.Diagram.{Bits, end_at, leaf_of, SameFunction, IsBefore, IsValid, TestsAbove, IsOrdered, IsReduced}
+use Rattle.ms_arena.specs.Diagram.{Bits, leaf_of, SameFunction, IsBefore, IsValid, TestsAbove, IsOrdered, IsReduced}
 use Rattle.ms_arena.specs.Bits.{with_bit, AgreeAbove}
 use Rattle.ms_arena.proofs.Lists.{slice_get-held}
 use Rattle.ms_arena.proofs.BitsLemmas.{with_bit-same, AgreeAbove-with_bit, AgreeAbove-two_bits}
-use Rattle.ms_arena.proofs.Paths.{IsBefore-later, IsBefore-end_at, leaf_of-leaf, leaf_of-node}
+use Rattle.ms_arena.proofs.Paths.{IsBefore-later, leaf_of-leaf, leaf_of-node}
 
 -- the end of a node at a value of its bit
 abbrev pub end_for : Node → Bool → Ref

@@ -1,8 +1,7 @@
 -- The ends of a held node, as they stand in a longer list.
-use Rattle.std.proofs.Common.{◌≡◌, ℕ, suc, ◌<◌, ◌≤◌, Bool, List, length, slice_get, Some, sym, ◌∙◌, arith}
+use Rattle.std.proofs.Common.{◌≡◌, ℕ, suc, ◌<◌, Bool, List, length, slice_get, Some, sym, ◌∙◌, arith}
 use Rattle.std.proofs.lemmas.Option.{slice_get_within}
-use Rattle.ms_arena.specs.declared.node.Ref.{Ref}
-use Rattle.ms_arena.specs.declared.node.Ref.TheVariants.{Leaf, Inner}
+use Rattle.ms_arena.specs.declared.node.Ref.TheVariants.{Inner}
 use Rattle.ms_arena.specs.declared.node.Node.{Node}
 use Rattle.ms_arena.specs.Diagram.{Bits, leaf_of, IsValid, IsOrdered}
 use Rattle.ms_arena.specs.Bits.{with_bit, AgreeAbove}

@@ -1,5 +1,5 @@
 -- The derived `==` on references and on nodes is equality.
-use Rattle.std.proofs.Common.{◌≡◌, Bool, true, false, ◌&&◌, nat_eq, refl, sym, ap, ◌∙◌, ⊎_elim}
+use Rattle.std.proofs.Common.{◌≡◌, true, ◌&&◌, nat_eq, refl, sym, ap, ◌∙◌, ⊎_elim}
 use Rattle.std.proofs.lemmas.Bool.{eqb-true, eq-eqb, and_parts, and_from, false≢true, both_ways, cases_Bool}
 use Rattle.std.specs.Cmp.{IsEquivalence}
 use Rattle.ms_arena.specs.declared.node.Ref.{Ref}

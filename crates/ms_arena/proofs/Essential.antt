@@ -1,18 +1,17 @@
 -- A variable that a reduced diagram tests makes a difference to its function.
-use Rattle.std.proofs.Common.{◌≡◌, ℕ, ◌<◌, ◌≤◌, Bool, true, false, if◌then◌else◌, List, length, slice_get, Some, refl, sym, ap, subst, ◌∙◌, ⊎_elim, arith}
+use Rattle.std.proofs.Common.{◌≡◌, ℕ, ◌<◌, Bool, true, false, List, slice_get, Some, refl, sym, ap, subst, ◌∙◌, ⊎_elim, arith}
 use Rattle.std.proofs.lemmas.Bool.{cases_eq, cases_lt}
-use Rattle.std.proofs.lemmas.Option.{slice_get_within}
 use Rattle.ms_arena.specs.declared.node.Ref.{Ref}
-use Rattle.ms_arena.specs.declared.node.Ref.TheVariants.{Leaf, Inner}
+use Rattle.ms_arena.specs.declared.node.Ref.TheVariants.{Inner}
 use Rattle.ms_arena.specs.declared.node.Node.{Node}
-use Rattle.ms_arena.specs.Diagram.{Bits, leaf_of, IsValid, IsOrdered, IsReduced}
+use Rattle.ms_arena.specs.Diagram.{Bits, leaf_of, IsOrdered, IsReduced}
 use Rattle.ms_arena.specs.Bits.{with_bit, below_from, AgreeAbove}
 use Rattle.ms_arena.specs.Reach.{Reaches, here, through_low, through_high, IsTested}
-use Rattle.ms_arena.proofs.BitsLemmas.{same_bits, with_bit-same, with_bit-other, below_from-first, below_from-later, AgreeAbove-below_from, AgreeAbove-with_bit}
+use Rattle.ms_arena.proofs.BitsLemmas.{same_bits, with_bit-same, with_bit-other, below_from-first, below_from-later, AgreeAbove-below_from}
 use Rattle.ms_arena.proofs.Canonicity.{end_for, leaf_of-above, TestsAbove-end_for, same_ends, same_reference}
 use Rattle.ms_arena.proofs.Ends.{end_valid}
 use Rattle.ms_arena.proofs.Paths.{leaf_of-node}
-use Rattle.ms_arena.proofs.ReachLemmas.{IsTested-end, IsTested-own, IsTested-above}
+use Rattle.ms_arena.proofs.ReachLemmas.{IsTested-above}
 
 -- a bit from the variable on is replaced among the later ones
 with_bit-later : (var : ℕ) (first bits : Bits) (value : Bool) → below_from var first (with_bit bits var value) ≡ with_bit (below_from var first bits) var value

@@ -1,5 +1,5 @@
 -- Which nodes a target needs, when it is split at a variable into the targets for the two values of its bit.
-use Rattle.std.proofs.Common.{◌≡◌, ◌≢◌, ℕ, ◌<◌, ◌≤◌, ◌⊎◌, Bool, true, false, if◌then◌else◌, List, [], ◌∷◌, ◌++◌, length, slice_get, Some, refl, sym, ap, subst, ◌∙◌, inl, inr, ⊎_elim, arith}
+use Rattle.std.proofs.Common.{◌≡◌, ◌≢◌, ℕ, ◌<◌, ◌≤◌, Bool, true, false, if◌then◌else◌, List, [], ◌∷◌, length, slice_get, Some, refl, sym, ap, subst, ◌∙◌, inl, inr, ⊎_elim, arith}
 use Rattle.std.proofs.lemmas.Bool.{cases_lt}
 use Rattle.std.proofs.lemmas.Option.{slice_get_within}
 use Rattle.ms_arena.specs.declared.node.Ref.{Ref}
@@ -11,7 +11,7 @@ use Rattle.ms_arena.proofs.Lists.{slice_get-append_left, slice_get-pushed}
 use Rattle.ms_arena.proofs.BitsLemmas.{with_bit-same, with_bit-own, with_bit-below_from, below_from-later, AgreeAbove-with_bit, AgreeAbove-two_bits, AgreeAbove-below_from}
 use Rattle.ms_arena.proofs.Paths.{IsBefore-later}
 use Rattle.ms_arena.proofs.Canonicity.{end_for, leaf_of-above, same_reference, TestsAbove-from_function}
-use Rattle.ms_arena.proofs.Appending.{leaf_of-extends, IsValid-extends, TestsAbove-extends}
+use Rattle.ms_arena.proofs.Appending.{leaf_of-extends}
 
 -- one target asks for no more than the other
 abbrev pub Implies : Target → Target → Type 0

@@ -1,10 +1,10 @@
 -- Where the bits lead: a reference has the leaf of the end that the bits choose, and later nodes change nothing.
-use Rattle.std.proofs.Common.{◌≡◌, ℕ, zero, suc, ◌<◌, ◌≤◌, Bool, true, false, if◌then◌else◌, List, ◌++◌, length, slice_get, Some, refl, sym, ap, subst, ◌∙◌, length-append, arith}
+use Rattle.std.proofs.Common.{◌≡◌, ℕ, zero, suc, ◌<◌, ◌≤◌, true, false, if◌then◌else◌, List, ◌++◌, length, slice_get, Some, refl, sym, ap, ◌∙◌, length-append, arith}
 use Rattle.std.proofs.lemmas.Option.{slice_get_within}
 use Rattle.ms_arena.specs.declared.node.Ref.{Ref}
 use Rattle.ms_arena.specs.declared.node.Ref.TheVariants.{Leaf, Inner}
 use Rattle.ms_arena.specs.declared.node.Node.{Node}
-use Rattle.ms_arena.specs.Diagram.{Bits, end_at, end_behind, step_from, ref_after, leaf_number, leaf_of, IsBefore, IsValid, TestsAbove, IsOrdered}
+use Rattle.ms_arena.specs.Diagram.{Bits, end_at, end_behind, ref_after, leaf_number, leaf_of, IsBefore, IsValid, IsOrdered}
 use Rattle.ms_arena.proofs.Lists.{slice_get-append_left, slice_get-held}
 
 -- what is before a place is before each later one

@@ -1,6 +1,5 @@
 -- A diagram reads only the bits of the variables that it tests.
-use Rattle.std.proofs.Common.{◌≡◌, ℕ, zero, suc, ◌<◌, ◌≤◌, Bool, true, false, List, length, slice_get, Some, refl, sym, ap, subst, ◌∙◌, arith}
-use Rattle.std.proofs.lemmas.Option.{same_Some}
+use Rattle.std.proofs.Common.{◌≡◌, ℕ, zero, suc, ◌<◌, ◌≤◌, Bool, true, false, List, length, slice_get, Some, refl, sym, ap, ◌∙◌, arith}
 use Rattle.ms_arena.specs.declared.node.Ref.{Ref}
 use Rattle.ms_arena.specs.declared.node.Ref.TheVariants.{Leaf, Inner}
 use Rattle.ms_arena.specs.declared.node.Node.{Node}
@@ -8,7 +7,7 @@ use Rattle.ms_arena.specs.Diagram.{Bits, leaf_of, IsBefore, IsValid, TestsAbove,
 use Rattle.ms_arena.specs.Reach.{Reaches, here, through_low, through_high, IsTested}
 use Rattle.ms_arena.proofs.Lists.{slice_get-held}
 use Rattle.ms_arena.proofs.Paths.{IsBefore-later, leaf_of-leaf, leaf_of-node}
-use Rattle.ms_arena.proofs.Canonicity.{end_for, IsBefore-end_for, TestsAbove-lower}
+use Rattle.ms_arena.proofs.Canonicity.{end_for, IsBefore-end_for}
 
 -- a node tests its own variable
 pub IsTested-own : (nodes : List Node) (place : ℕ) (node : Node) → slice_get nodes place ≡ Some node → IsTested nodes (Inner place) node.var

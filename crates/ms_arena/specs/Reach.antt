@@ -1,7 +1,7 @@
 -- Which nodes and variables a diagram has.
 use Rattle.std.specs.Prelude.{◌≡◌, ℕ, List, slice_get, Some}
 use Rattle.ms_arena.specs.declared.node.Ref.{Ref}
-use Rattle.ms_arena.specs.declared.node.Ref.TheVariants.{Leaf, Inner}
+use Rattle.ms_arena.specs.declared.node.Ref.TheVariants.{Inner}
 use Rattle.ms_arena.specs.declared.node.Node.{Node}
 
 -- a path of ends leads from the reference to the node at a place

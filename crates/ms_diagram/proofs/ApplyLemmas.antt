@@ -9,7 +9,7 @@ use Rattle.ms_arena.specs.declared.node.Node.{Node}
 use Rattle.ms_arena.specs.Diagram.{Bits, leaf_of, IsValid, IsOrdered}
 use Rattle.ms_arena.specs.Bits.{with_bit, AgreeAbove}
 use Rattle.ms_arena.specs.Halves.{half_of, TestsFrom, TestsAt, level_of, size_of}
-use Rattle.ms_arena.specs.Target.{Extends, Meets}
+use Rattle.ms_arena.specs.Target.{Extends}
 use Rattle.ms_arena.proofs.Canonicity.{leaf_of-above}
 use Rattle.ms_arena.proofs.Appending.{IsValid-extends, TestsAbove-extends, leaf_of-extends, slice_get-extends}
 use Rattle.ms_arena.proofs.HalvesLemmas.{IsValid-half, TestsAbove-half, leaf_of-half, TestsAt-level, size_of-half, size_of-half_below}

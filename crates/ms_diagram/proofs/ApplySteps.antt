@@ -1,8 +1,7 @@
 -- The steps of `apply` at two references that are split: each refusal, and the node over both answers.
-use Rattle.std.proofs.Common.{◌≡◌, ℕ, Bool, true, false, List, Result, Ok, Err}
+use Rattle.std.proofs.Common.{ℕ, true, false, List, Result, Ok, Err}
 use Rattle.ms_edge.specs.declared.fault.StepFault.{StepFault}
 use Rattle.ms_arena.specs.declared.node.Ref.{Ref}
-use Rattle.ms_arena.specs.declared.node.Node.{Node}
 use Rattle.ms_arena.specs.Diagram.{IsValid, TestsAbove}
 use Rattle.ms_arena.specs.Target.{Extends}
 use Rattle.ms_arena.proofs.Appending.{Extends-same}
@@ -11,7 +10,7 @@ use Rattle.ms_diagram.specs.Apply.{PairNumber, LacksPair, IsPairBranch}
 use Rattle.ms_diagram.specs.Growth.{Builds}
 use Rattle.ms_diagram.specs.Numbering.{IsNumbering}
 use Rattle.ms_diagram.specs.Store.{Contents, IsStore}
-use Rattle.ms_diagram.proofs.Building.{Makes, Builds-part, Builds-high_refused, IsValid-low, TestsAbove-low_built, TestsAbove-high_built, Builds-node}
+use Rattle.ms_diagram.proofs.Building.{Makes, Builds-part, Builds-high_refused, TestsAbove-low_built, TestsAbove-high_built, Builds-node}
 use Rattle.ms_diagram.proofs.ApplyLemmas.{PairNumber-more, lows_part, highs_part, lows_lack, highs_lack}
 
 module _ (zero : Contents) (store : IsStore zero.nodes zero.limit) (f g : Ref) (valid_f : IsValid zero.nodes f) (valid_g : IsValid zero.nodes g)

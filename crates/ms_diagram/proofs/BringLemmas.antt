@@ -1,13 +1,12 @@
 -- Renamed leaves, split at a node of the other store.
-use Rattle.std.proofs.Common.{◌≡◌, ◌≢◌, ℕ, ◌<◌, ◌≤◌, Bool, List, length, slice_get, get_or, Some, Ok, Result, sym, ap, subst, ◌∙◌, ⊎_elim, arith}
+use Rattle.std.proofs.Common.{◌≡◌, ◌≢◌, ℕ, ◌<◌, Bool, List, length, slice_get, get_or, Some, Ok, sym, ap, subst, ◌∙◌, ⊎_elim, arith}
 use Rattle.std.proofs.lemmas.Bool.{cases_eq, cases_lt}
 use Rattle.std.proofs.lemmas.Option.{slice_get_within}
-use Rattle.ms_edge.specs.declared.fault.StepFault.{StepFault}
 use Rattle.ms_arena.specs.declared.node.Ref.{Ref}
 use Rattle.ms_arena.specs.declared.node.Ref.TheVariants.{Leaf, Inner}
 use Rattle.ms_arena.specs.declared.node.Node.{Node}
 use Rattle.ms_arena.specs.Diagram.{Bits, leaf_of, IsValid, IsOrdered}
-use Rattle.ms_arena.specs.Bits.{with_bit, AgreeAbove}
+use Rattle.ms_arena.specs.Bits.{with_bit}
 use Rattle.ms_arena.specs.Reach.{IsTested}
 use Rattle.ms_arena.specs.Halves.{size_of}
 use Rattle.ms_arena.specs.Target.{Extends}

@@ -1,22 +1,22 @@
 -- The set of several functions' leaves, split at a variable, and at the track.
-use Rattle.std.proofs.Common.{◌≡◌, ◌≢◌, ℕ, ◌<◌, ◌≤◌, ◌⊎◌, Bool, true, false, List, length, slice_get, get_or, Some, Result, Ok, Err, IfOk, All, Contains, refl, sym, ap, subst, ◌∙◌, inl, inr, ⊎_elim, arith}
+use Rattle.std.proofs.Common.{◌≡◌, ◌≢◌, ℕ, ◌⊎◌, Bool, false, List, slice_get, get_or, Some, Result, Ok, Err, IfOk, All, Contains, sym, ap, subst, ◌∙◌, inr}
 use Rattle.ms_edge.specs.declared.fault.StepFault.{StepFault}
 use Rattle.ms_edge.specs.declared.fault.StepFault.TheVariants.{Nodes, Memory}
 use Rattle.ms_arena.specs.declared.node.Ref.{Ref}
 use Rattle.ms_arena.specs.declared.node.Ref.TheVariants.{Leaf, Inner}
 use Rattle.ms_arena.specs.declared.node.Node.{Node}
-use Rattle.ms_arena.specs.Diagram.{Bits, leaf_of, IsValid, TestsAbove, IsOrdered}
+use Rattle.ms_arena.specs.Diagram.{Bits, leaf_of, IsValid, IsOrdered}
 use Rattle.ms_arena.specs.Bits.{with_bit, AgreeAbove}
-use Rattle.ms_arena.specs.Halves.{half_of, level_of, TestsFrom, IsLeaf}
-use Rattle.ms_arena.specs.Target.{Extends, Meets}
+use Rattle.ms_arena.specs.Halves.{half_of, TestsFrom, IsLeaf}
+use Rattle.ms_arena.specs.Target.{Extends}
 use Rattle.ms_arena.proofs.Appending.{IsValid-extends, leaf_of-extends, slice_get-extends}
 use Rattle.ms_arena.proofs.BitsLemmas.{with_bit-swap, with_bit-twice, AgreeAbove-both}
-use Rattle.ms_arena.proofs.HalvesLemmas.{IsValid-half, TestsAbove-half, leaf_of-half}
+use Rattle.ms_arena.proofs.HalvesLemmas.{leaf_of-half}
 use Rattle.ms_arena.proofs.Needs.{Implies, IsPart}
 use Rattle.ms_arena.proofs.Paths.{leaf_of-leaf}
-use Rattle.ms_diagram.specs.Collect.{IsLeafThere, IsRisingSet, SetNumber, LacksSet, IsCollected, AreHalves, AreBothHalves, HaveSameItems, IsSetOf, IsSetLeaf, IsSetMissing, leaf_values}
+use Rattle.ms_diagram.specs.Collect.{IsLeafThere, IsRisingSet, SetNumber, LacksSet, IsCollected, AreHalves, AreBothHalves, IsSetOf, IsSetLeaf, IsSetMissing, leaf_values}
 use Rattle.ms_diagram.specs.Growth.{OnNodes, IsFull, Builds}
-use Rattle.ms_diagram.specs.Numbering.{HasNoRepeats, IsMissing}
+use Rattle.ms_diagram.specs.Numbering.{HasNoRepeats}
 use Rattle.ms_diagram.specs.Store.{Contents, IsStore}
 use Rattle.ms_diagram.proofs.ApplyLemmas.{half_leaf, half_blind}
 use Rattle.ms_diagram.proofs.Building.{Grows-same, Builds-found}

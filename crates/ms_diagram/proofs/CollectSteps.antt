@@ -1,11 +1,11 @@
 -- The steps of `collect` at a list of roots that is split: each refusal, and the node over both answers.
-use Rattle.std.proofs.Common.{◌≡◌, ◌≢◌, ℕ, ◌+◌, ◌-◌, ◌<◌, ◌≤◌, Bool, true, false, List, length, get_or, Result, Ok, Err, All, Contains, sym, ap, subst, arith}
+use Rattle.std.proofs.Common.{◌≡◌, ◌≢◌, ℕ, ◌-◌, ◌<◌, ◌≤◌, Bool, true, false, List, get_or, Result, Ok, Err, All, Contains, sym, subst, arith}
 use Rattle.std.proofs.lemmas.List.Elements.{Contains-get_or}
 use Rattle.ms_edge.specs.declared.fault.StepFault.{StepFault}
 use Rattle.ms_arena.specs.declared.node.Ref.{Ref}
 use Rattle.ms_arena.specs.declared.node.Node.{Node}
 use Rattle.ms_arena.specs.Diagram.{IsValid, TestsAbove}
-use Rattle.ms_arena.specs.Halves.{half_of, level_of, TestsFrom}
+use Rattle.ms_arena.specs.Halves.{half_of, TestsFrom}
 use Rattle.ms_arena.specs.Target.{Extends}
 use Rattle.ms_arena.proofs.Appending.{Extends-same, IsValid-extends, TestsAbove-extends}
 use Rattle.ms_arena.proofs.HalvesLemmas.{IsValid-half, TestsAbove-half, TestsFrom-level, level_of-above}

@@ -3,7 +3,7 @@ use Rattle.std.proofs.Common.{◌≡◌, ℕ, ◌<◌, Bool, List, length, slice
 use Rattle.ms_arena.specs.declared.node.Ref.{Ref}
 use Rattle.ms_arena.specs.declared.node.Ref.TheVariants.{Leaf, Inner}
 use Rattle.ms_arena.specs.declared.node.Node.{Node}
-use Rattle.ms_arena.specs.Diagram.{Bits, leaf_of, IsValid, IsOrdered}
+use Rattle.ms_arena.specs.Diagram.{leaf_of, IsValid, IsOrdered}
 use Rattle.ms_arena.specs.Reach.{IsTested}
 use Rattle.ms_arena.proofs.Canonicity.{end_for}
 use Rattle.ms_arena.proofs.Ends.{end_valid}

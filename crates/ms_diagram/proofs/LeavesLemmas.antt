@@ -1,5 +1,5 @@
 -- The leaves of a diagram, noted by first sight.
-use Rattle.std.proofs.Common.{◌≡◌, ℕ, zero, suc, ◌<◌, ◌≤◌, nat_eq, Bool, true, false, ◌||◌, if◌then◌else◌, List, [], ◌∷◌, ◌++◌, length, slice_get, fold, Some, refl, sym, ap, subst, ◌∙◌, ⊎_elim, arith}
+use Rattle.std.proofs.Common.{◌≡◌, ℕ, zero, suc, ◌<◌, ◌≤◌, nat_eq, true, false, ◌||◌, if◌then◌else◌, List, [], ◌∷◌, ◌++◌, length, slice_get, fold, Some, refl, sym, ap, subst, ◌∙◌, ⊎_elim, arith}
 use Rattle.std.proofs.lemmas.Bool.{cases_Bool, eq-eqb, eqb-true}
 use Rattle.std.proofs.lemmas.Option.{slice_get_within}
 use Rattle.std.specs.List.{list_any}
@@ -7,10 +7,10 @@ use Rattle.indexmap.specs.IndexSet.{insert_key}
 use Rattle.ms_arena.specs.declared.node.Ref.{Ref}
 use Rattle.ms_arena.specs.declared.node.Ref.TheVariants.{Leaf, Inner}
 use Rattle.ms_arena.specs.declared.node.Node.{Node}
-use Rattle.ms_arena.specs.Diagram.{IsBefore, IsValid, IsOrdered}
+use Rattle.ms_arena.specs.Diagram.{IsBefore, IsOrdered}
 use Rattle.ms_arena.proofs.Lists.{slice_get-held}
 use Rattle.ms_arena.proofs.Paths.{IsBefore-later}
-use Rattle.ms_diagram.specs.Leaves.{own_leaf, leaves_behind, leaves_within, noted, leaves_of, KnowsAll, KnowsPlaces}
+use Rattle.ms_diagram.specs.Leaves.{leaves_behind, leaves_within, noted, KnowsAll, KnowsPlaces}
 
 module _ (nodes : List Node) (ordered : IsOrdered nodes) where
   -- more steps than the place find no more leaves

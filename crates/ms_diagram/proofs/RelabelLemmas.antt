@@ -1,10 +1,9 @@
 -- Leaves read in a map, split at a node.
-use Rattle.std.proofs.Common.{◌≡◌, ℕ, suc, ◌<◌, Bool, List, length, slice_get, Some, Ok, sym, ap, subst, ◌∙◌, arith}
-use Rattle.ms_edge.specs.declared.fault.StepFault.{StepFault}
+use Rattle.std.proofs.Common.{◌≡◌, ℕ, ◌<◌, Bool, List, length, slice_get, Some, Ok, sym, ap, subst, ◌∙◌}
 use Rattle.ms_arena.specs.declared.node.Ref.{Ref}
 use Rattle.ms_arena.specs.declared.node.Ref.TheVariants.{Leaf, Inner}
 use Rattle.ms_arena.specs.declared.node.Node.{Node}
-use Rattle.ms_arena.specs.Diagram.{Bits, leaf_of, IsValid, IsOrdered}
+use Rattle.ms_arena.specs.Diagram.{leaf_of, IsValid, IsOrdered}
 use Rattle.ms_arena.specs.Bits.{with_bit}
 use Rattle.ms_arena.specs.Halves.{size_of}
 use Rattle.ms_arena.specs.Target.{Extends}

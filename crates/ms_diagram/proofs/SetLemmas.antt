@@ -1,5 +1,5 @@
 -- A numbering of sets stays one when a set gets a number.
-use Rattle.std.proofs.Common.{◌≡◌, ℕ, ◌<◌, List, [], ◌∷◌, ◌++◌, length, slice_get, Some, sym, ap, subst, ◌∙◌, inl, inr, ⊎_elim}
+use Rattle.std.proofs.Common.{◌≡◌, ℕ, ◌<◌, List, length, slice_get, Some, sym, ap, subst, ◌∙◌, inl, inr, ⊎_elim}
 use Rattle.std.specs.List.Sorted.{IsStrictlyIncreasing}
 use Rattle.ms_arena.proofs.Lists.{slice_get-pushed}
 use Rattle.ms_diagram.specs.Collect.{IsSetNumbering}

@@ -1,5 +1,5 @@
 -- A store stays one when a node is appended.
-use Rattle.std.proofs.Common.{◌≡◌, ℕ, ◌<◌, List, [], ◌∷◌, ◌++◌, length, sym, subst, inl, inr, length-append, arith}
+use Rattle.std.proofs.Common.{ℕ, ◌<◌, List, [], ◌∷◌, length, sym, subst, inl, inr, length-append, arith}
 use Rattle.ms_arena.specs.declared.node.Node.{Node}
 use Rattle.ms_arena.specs.Target.{Appends, IsFormed}
 use Rattle.ms_arena.proofs.Appending.{IsOrdered-push, IsReduced-push}

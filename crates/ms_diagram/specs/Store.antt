@@ -1,6 +1,5 @@
 -- What contracts see of a store of diagrams.
-use Rattle.std.specs.Prelude.{◌≡◌, ℕ, ◌<◌, ◌≤◌, Bool, false, List, length, slice_index_or}
-use Rattle.ms_arena.specs.declared.node.Ref.{Ref}
+use Rattle.std.specs.Prelude.{ℕ, ◌≤◌, Bool, false, List, length, slice_index_or}
 use Rattle.ms_arena.specs.declared.node.Node.{Node}
 use Rattle.ms_arena.specs.Diagram.{Bits, IsOrdered, IsReduced}
 

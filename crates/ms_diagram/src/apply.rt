@@ -78,7 +78,6 @@ impl Store {
     }
 
     // The leaf with the number of the pair.
-    #[inline(never)]
     fn pair_leaf(&self, left: u32, right: u32, pairs: &mut Pairs) -> Result<Ref, StepFault>
         ensures made { IfOk result (IsLeafOf pairs.new (left, right)) }
         ensures pairs { Extends pairs.old pairs.new }
@@ -100,7 +99,6 @@ impl Store {
         Ok(Ref::Leaf(number))
     }
 
-    #[inline(never)]
     fn split_pair(&self, f: Ref, g: Ref) -> PairSplit
         requires valid_f { IsValid self.now.nodes f }
         requires valid_g { IsValid self.now.nodes g }

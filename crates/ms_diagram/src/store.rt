@@ -28,7 +28,7 @@ impl Model for Store {
 }
 
 impl Store {
-    ghost use Rattle.ms_diagram.specs.Growth.{OnNodes};
+    ghost use Rattle.ms_diagram.specs.Growth.{KeepsFunctions, OnNodes};
     ghost use Rattle.ms_diagram.specs.Store.{IsStore, bits_of};
 
     /// A store with no nodes, which will hold at most so many.
@@ -121,6 +121,7 @@ impl Store {
         ensures function { IfOk result (λ made. (bits : Bits) → leaf_of self.new.nodes made bits
             ≡ (if bits var then leaf_of self.old.nodes high bits else leaf_of self.old.nodes low bits)) }
         ensures appends { Appends self.old.nodes self.new.nodes (record { var = var; low = low; high = high }) }
+        ensures kept { KeepsFunctions self.old.nodes self.new.nodes }
         ensures refused { OnErr result (self.new.nodes ≡ self.old.nodes) }
         ensures above { IfOk result (λ made. (lower : ℕ) → lower < var → TestsAbove self.new.nodes lower made) }
         ensures limit { self.new.limit ≡ self.old.limit }

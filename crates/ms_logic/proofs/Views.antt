@@ -16,11 +16,11 @@ use Rattle.ms_logic.specs.declared.formula.Arg.TheVariants as arg
 use Rattle.ms_logic.specs.declared.formula.Binding.{Binding}
 use Rattle.ms_logic.specs.declared.formula.Arg.TheOpen.{Formula-F, Arg-F}
 use Rattle.ms_logic.specs.declared.formula.Arg.TheFolds.{fold-roll-Formula, fold-roll-Arg}
-use Rattle.ms_logic.specs.declared.core.Basic.{Basic}
-use Rattle.ms_logic.specs.declared.core.Core.{Core}
-use Rattle.ms_logic.specs.declared.core.Core.TheVariants as core
-use Rattle.ms_logic.specs.declared.core.Core.TheOpen.{Core-F}
-use Rattle.ms_logic.specs.declared.core.Core.TheFolds.{fold-roll-Core}
+use Rattle.ms_logic.specs.declared.core_formula.Basic.{Basic}
+use Rattle.ms_logic.specs.declared.core_formula.Core.{Core}
+use Rattle.ms_logic.specs.declared.core_formula.Core.TheVariants as core
+use Rattle.ms_logic.specs.declared.core_formula.Core.TheOpen.{Core-F}
+use Rattle.ms_logic.specs.declared.core_formula.Core.TheFolds.{fold-roll-Core}
 use Rattle.ms_logic.specs.CoreForm as c
 use Rattle.ms_logic.specs.Tree.{Term, number_variable, numeral, plus, minus, minimum, maximum, SetTerm, set_variable, empty_set, whole, literal, pconst, union, intersection, difference, shift_up, shift_down}
 use Rattle.ms_logic.specs.Tree.{Form, truth, falsity, truth_variable, negation, conjunction, disjunction, implication, equivalence, comparison, set_comparison, membership, emptiness, quantified, where_let, call, restrict, imported, exported, default_at, unrestricted, restricted, Argument, truth_argument, number_argument, set_argument}

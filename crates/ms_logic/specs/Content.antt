@@ -11,6 +11,7 @@ use Rattle.ms_arena.specs.declared.node.Ref.TheVariants.{Leaf, Inner}
 use Rattle.ms_arena.specs.Diagram.{Bits, leaf_of, IsValid, IsOrdered}
 use Rattle.ms_arena.specs.Reach.{TestsOnly}
 use Rattle.ms_logic.specs.declared.mode.Mode.{Mode}
+use Rattle.ms_logic.specs.declared.mode.Mode.TheVariants.{Ws1s}
 use Rattle.ms_logic.specs.declared.mode.Order.{Order}
 use Rattle.ms_logic.specs.declared.mode.Order.TheVariants.{Zero, One, Two}
 use Rattle.ms_logic.specs.declared.assignment.Value.{Value}
@@ -150,6 +151,7 @@ variables_by_place orders = variables_from 0 orders
 
 -- in WS1S, some word that encodes an assignment has another sign than the same word with a zero letter at its end
 pub record IsOpen {Sign : Type 0} (content : Content Sign) : Type 0 where
+  pub numbers : content.mode ≡ Ws1s
   pub e : Env
   pub word : Word
   pub assignment : IsAssignment content.mode content.variables e

@@ -5,11 +5,11 @@ use Rattle.std.specs.List.{zip}
 use Rattle.ms_logic.specs.declared.mode.Order.{Order}
 use Rattle.ms_logic.specs.declared.mode.Quant.{Quant}
 use Rattle.ms_logic.specs.declared.mode.Quant.TheVariants.{Ex, All}
-use Rattle.ms_logic.specs.declared.core.Basic.{Basic}
-use Rattle.ms_logic.specs.declared.core.Basic.TheVariants.{Truth, Number, Plus, Less, Member, Sub, Union, Inter, Diff, Up, Down, Min, Max, Bits}
-use Rattle.ms_logic.specs.declared.core.Core.{Core}
-use Rattle.ms_logic.specs.declared.core.Core.TheOpen.{Core-F}
-use Rattle.ms_logic.specs.declared.core.Core.TheFolds.{fold-Core}
+use Rattle.ms_logic.specs.declared.core_formula.Basic.{Basic}
+use Rattle.ms_logic.specs.declared.core_formula.Basic.TheVariants.{Truth, Number, Plus, Less, Member, Sub, Union, Inter, Diff, Up, Down, Min, Max, Bits}
+use Rattle.ms_logic.specs.declared.core_formula.Core.{Core}
+use Rattle.ms_logic.specs.declared.core_formula.Core.TheOpen.{Core-F}
+use Rattle.ms_logic.specs.declared.core_formula.Core.TheFolds.{fold-Core}
 use Rattle.ms_logic.specs.Assignment.{Env, assign, value_at}
 use Rattle.ms_logic.specs.FiniteSet.{IsMember, IsSubset, union_of, intersection_of, difference_of, least, greatest, moved_up, moved_down, one_bits}
 use Rattle.ms_logic.specs.Terms.{part_within}

@@ -3,7 +3,7 @@
 
 mod assignment;
 mod checked;
-mod core;
+mod core_formula;
 mod examples;
 mod formula;
 mod laws;
@@ -18,7 +18,7 @@ mod tests;
 
 pub use assignment::{Assignment, Value};
 pub use checked::{Checked, ExportUse, Global, ImportUse, MapPair, Param, Placed, Predicate};
-pub use core::{Basic, Core, Lowered, Root};
+pub use core_formula::{Basic, Core, Lowered, Root};
 pub use examples::{
     worked_all, worked_atoms, worked_calls, worked_connectives, worked_defaults, worked_exists,
     worked_lets, worked_orders, worked_runs, worked_terms, worked_terms_on_strings,

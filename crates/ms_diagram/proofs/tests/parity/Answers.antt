@@ -1,4 +1,4 @@
-use Rattle.std.proofs.Common.{◌-◌, ◌<◌, arith}
+use Rattle.std.proofs.Common.{◌-◌, arith}
 use Rattle.ms_arena.proofs.Appending.{Extends-from_appends}
 use Rattle.ms_diagram.proofs.TestLemmas.{IsTruthFrom-extends, IsTruthFrom-leaf, IsTruthFrom-made}
 use Rattle.ms_diagram.proofs.tests.parity.Goals as goal

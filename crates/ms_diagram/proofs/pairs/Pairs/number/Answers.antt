@@ -1,4 +1,4 @@
-use Rattle.std.proofs.Common.{◌<◌, length, subst, sym, ap}
+use Rattle.std.proofs.Common.{◌<◌, length, subst, sym}
 use Rattle.ms_diagram.specs.Numbering.{Numbers}
 use Rattle.ms_diagram.proofs.Keys.{numbered_key}
 use Rattle.ms_diagram.proofs.NumberingLemmas.{IsNumbering-numbers}

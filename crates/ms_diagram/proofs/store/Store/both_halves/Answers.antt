@@ -1,4 +1,4 @@
-use Rattle.std.proofs.Common.{◌++◌, subst, ap, sym, ◌∙◌}
+use Rattle.std.proofs.Common.{◌++◌, subst, ap, ◌∙◌}
 use Rattle.ms_diagram.specs.Collect.{HaveSameItems}
 use Rattle.ms_diagram.proofs.RootLemmas.{AreBothHalves-sorted}
 use Rattle.ms_diagram.proofs.store.Store.both_halves.Goals as goal
