@@ -1,5 +1,5 @@
 -- What the tests know of the diagrams that they build.
-use Rattle.std.proofs.Common.{◌≡◌, ℕ, ◌<◌, Bool, true, false, if◌then◌else◌, List, subst, sym}
+use Rattle.std.proofs.Common.{◌≡◌, ℕ, ◌<◌, ◌≤◌, Bool, true, false, if◌then◌else◌, List, slice_get, Some, subst, sym}
 use Rattle.ms_arena.specs.declared.node.Ref.{Ref}
 use Rattle.ms_arena.specs.declared.node.Ref.TheVariants.{Leaf}
 use Rattle.ms_arena.specs.declared.node.Node.{Node}
@@ -50,3 +50,14 @@ IsTruthFrom-made old new var low high made valid above function first second = r
   above = above;
   truth = λ bits. subst (λ leaf. leaf < 2) (sym (function bits)) (truth_chosen old low high bits (bits var) (first bits) (second bits));
 }
+
+-- each node of the list tests a variable below a count
+abbrev pub AllBelow : ℕ → List Node → Type 0
+AllBelow count nodes = (place : ℕ) (node : Node) → slice_get nodes place ≡ Some node → node.var < count
+
+-- what is made so far of a chain of the variables below a count
+pub record IsChain (nodes : List Node) (count var : ℕ) (root : Ref) : Type 0 where
+  pub valid : IsValid nodes root
+  pub above : (lower : ℕ) → lower < var → TestsAbove nodes lower root
+  pub below : AllBelow count nodes
+  pub within : var ≤ count

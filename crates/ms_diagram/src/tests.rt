@@ -1,10 +1,12 @@
-ghost use Rattle.std.specs.Prelude.{◌<◌, [], ◌∷◌, IfOk};
+ghost use Rattle.std.specs.Prelude.{◌≡◌, ◌<◌, ℕ, [], ◌∷◌, length, slice_get, slice_index, Some, IfOk};
 ghost use Rattle.ms_arena.specs.Diagram.{IsValid};
+ghost use Rattle.ms_arena.specs.declared.node.Node.{Node};
 ghost use Rattle.ms_diagram.specs.Relabel.{CoversLeaves};
 
 use super::*;
 use ms_arena::Ref;
-use ms_edge::StepFault;
+use ms_edge::{List, NoMemory, StepFault};
+use std::alloc::Global;
 use std::test::Fail;
 
 // Whether the number of ones among the first bits is odd.
@@ -166,5 +168,59 @@ fn stands_long_paths(rt: HostRuntime) -> Result<(), Fail> {
     let mut sets = Sets::new(rt.alloc());
     let _sets = store.collect(&[same], 10_000, &mut sets)?;
     assert_eq!(rt; (store.len(), sets.len()), (19_999, 2));
+    Ok(())
+}
+
+// So does `relabel`, which makes each node anew.
+#[test]
+fn relabels_long_paths(rt: HostRuntime) -> Result<(), Fail> {
+    let mut store = Store::new(rt.alloc(), 100_000);
+    let odd = parity(&mut store, 10_000)?;
+    let _renamed = store.relabel(odd, &[9, 7])?;
+    assert_eq!(rt; store.len(), 39_998);
+    Ok(())
+}
+
+// A chain of the variables below a count: 1 where each bit is 1.
+fn chain(store: &mut Store, count: u32) -> Result<Ref, StepFault>
+    requires { store.old.nodes ≡ [] }
+    ensures valid { IfOk result (IsValid store.new.nodes) }
+    ensures below { (place : ℕ) (node : Node) → slice_get store.new.nodes place ≡ Some node → node.var < count }
+{
+    let zero = store.leaf(0);
+    let mut root = store.leaf(1);
+    let mut var = count;
+    while var > 0 {
+        var -= 1;
+        root = store.mk(var, zero, root)?;
+    }
+    Ok(root)
+}
+
+// Each variable below a count in its own place.
+fn identity(alloc: Global, count: u32) -> Result<List<u32>, NoMemory>
+    ensures long { IfOk result (λ made. length made ≡ count) }
+    ensures same { IfOk result (λ made. (var : ℕ) → var < count → slice_index made var ≡ var) }
+{
+    let mut made = List::new(alloc);
+    let mut var = 0;
+    while var < count {
+        if made.push(var).is_err() {
+            return Err(NoMemory);
+        }
+        var += 1;
+    }
+    Ok(made)
+}
+
+// `bring` stands a chain as long.
+#[test]
+fn brings_long_paths(rt: HostRuntime) -> Result<(), Fail> {
+    let mut store = Store::new(rt.alloc(), 100_000);
+    let root = chain(&mut store, 10_000)?;
+    let map = identity(rt.alloc(), 10_000)?;
+    let mut other = Store::new(rt.alloc(), 100_000);
+    let _brought = other.bring(&store, root, map.slice())?;
+    assert_eq!(rt; other.len(), 10_000);
     Ok(())
 }
