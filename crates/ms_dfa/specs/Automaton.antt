@@ -34,15 +34,15 @@ abbrev pub content_of : List Node → Mode → List Track → Ref → List State
 content_of nodes mode tracks start states =
     record { mode = mode; variables = variables_of tracks; start = start; states = states_of states; nodes = nodes }
 
--- a variable's number is below those of the variables behind it
-abbrev pub IsBelowAll : ℕ → List Variable → Type 0
-IsBelowAll name [] = Unit {0}
-IsBelowAll name (v ∷ vs) = name < v.name
+-- a number is below that of the first variable of a list, if there is one
+abbrev pub IsBelowFirst : ℕ → List Variable → Type 0
+IsBelowFirst name [] = Unit {0}
+IsBelowFirst name (v ∷ vs) = name < v.name
 
 -- the numbers of the variables rise
 abbrev pub AreRising : List Variable → Type 0
 AreRising [] = Unit {0}
-AreRising (v ∷ vs) = IsBelowAll v.name vs × AreRising vs
+AreRising (v ∷ vs) = IsBelowFirst v.name vs × AreRising vs
 
 -- the sign of a word is another than Outside exactly where the word encodes an assignment
 abbrev pub TellsEncodings : Content Sign → Type 0
