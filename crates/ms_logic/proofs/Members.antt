@@ -3,6 +3,8 @@ use Rattle.std.proofs.Common.{◌≡◌, ℕ, ◌+◌, ◌-◌, ◌<◌, ◌≤�
 use Rattle.std.specs.List.{range_with_len, filter}
 use Rattle.std.proofs.lemmas.Bool.Decides.{nat_tests}
 use Rattle.std.proofs.lemmas.List.Folds.{list_any-append}
+use Rattle.std.proofs.lemmas.Bool.{eqb-true}
+use Rattle.ms_logic.specs.Word.{bound_of_set}
 use Rattle.ms_logic.specs.FiniteSet.{is_member, IsMember, with_member, set_of, union_of, IsRising, IsBelowFirst, moved_up, moved_down}
 
 -- a further member is the only new one
@@ -121,3 +123,14 @@ either_true false b = (λ h. inr h, λ h. ⊎_elim (λ first. absurd cc) (λ sec
 -- equal tests mean the same
 pub along : (a b : Bool) (P : Type 0) → a ≡ b → ((b ≡ true) ↔ P) → ((a ≡ true) ↔ P)
 along a b P same means = (λ h. means.0 (sym same ∙ h), λ p. same ∙ means.1 p)
+
+-- a member of a list is its first, or one of the others
+pub member_cases : (n first : ℕ) (more : List ℕ) → is_member n (first ∷ more) ≡ true → (first ≡ n) ⊎ (is_member n more ≡ true)
+member_cases n first more member =
+    ⊎_elim (λ same. inl (eqb-true first n same)) (λ there. inr there) ((either_true (first == n) (is_member n more)).0 member)
+
+-- a member is below the bound of its set
+pub member_below_bound : (members : List ℕ) (n : ℕ) → is_member n members ≡ true → n < bound_of_set members
+member_below_bound [] n member = let never : ⊥ = cc in absurd never
+member_below_bound (first ∷ more) n member =
+    ⊎_elim (λ same. omega (arith, same)) (λ there. omega (arith, member_below_bound more n there)) (member_cases n first more member)

@@ -15,4 +15,5 @@ pub mod Truth
 pub mod Verdict
 pub mod View
 pub mod Word
+pub mod WordLaws
 pub mod WordSign
