@@ -8,7 +8,11 @@ pub mod First
 pub mod FreeVariables
 pub mod Laws
 pub mod OrderLaws
+pub mod Roots
 pub mod SetLaws
+pub mod Size
+pub mod Spread
+pub mod SpreadExamples
 pub mod Terms
 pub mod Tree
 pub mod Truth

@@ -6,6 +6,8 @@ mod contents;
 mod formulas;
 mod orders;
 mod quantifiers;
+mod sizes;
+mod spreads;
 mod terms;
 mod verdicts;
 
@@ -14,5 +16,9 @@ pub use contents::worked_runs;
 pub use formulas::{worked_atoms, worked_connectives};
 pub use orders::worked_orders;
 pub use quantifiers::{worked_all, worked_exists};
+pub use sizes::{worked_extents, worked_sizes};
+pub use spreads::{
+    worked_formula_spreads, worked_number_spreads, worked_roots, worked_set_spreads,
+};
 pub use terms::{worked_terms, worked_terms_on_strings};
 pub use verdicts::worked_verdicts;
