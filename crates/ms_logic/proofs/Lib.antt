@@ -3,8 +3,12 @@ pub mod BitOrder
 pub mod Consistent
 pub mod Members
 pub mod FreeVariables
+pub mod FullContents
 pub mod OrderLaws
 pub mod SetLaws
+pub mod SetTracks
+pub mod SubsetContent
+pub mod SubsetStarts
 pub mod Values
 pub mod Views
 pub mod Within
