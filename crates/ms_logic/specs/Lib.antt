@@ -17,7 +17,9 @@ pub mod SameUpToBound
 pub mod SetLaws
 pub mod Size
 pub mod Spread
+pub mod SpreadCount
 pub mod SpreadExamples
+pub mod SpreadLaws
 pub mod Starts
 pub mod Steps
 pub mod Terms

@@ -187,16 +187,25 @@ pub record Callees : Type 0 where
   -- the variables of an import
   pub imported : ℕ → List Variable
 
+-- the names, with the first of some variables standing for y
+abbrev pub first_named : Order → List ℕ → ℕ → Names → Names
+first_named order [] y names = names
+first_named order (x ∷ xs) y names = named order x y names
+
+abbrev pub after_first : List ℕ → List ℕ
+after_first [] = []
+after_first (x ∷ xs) = xs
+
 -- the numbers and sets among the arguments, which are read with these names, are put in place of the variables xs; something is
 -- then said with inner names in which the variables have theirs
 abbrev pub numbers_and_sets : List ℕ → Arguments → Names → Names → ℕ → (Names → ℕ → CoreForm) → CoreForm
 numbers_and_sets xs no_arguments names inner free Said = Said inner free
-numbers_and_sets [] (more_arguments a more) names inner free Said = Said inner free
-numbers_and_sets (x ∷ xs) (more_arguments (truth_argument f) more) names inner free Said = numbers_and_sets xs more names inner free Said
-numbers_and_sets (x ∷ xs) (more_arguments (number_argument t) more) names inner free Said =
-    spread_number t names free (λ free y. numbers_and_sets xs more names inner free (λ inner free. Said (named One x y inner) free))
-numbers_and_sets (x ∷ xs) (more_arguments (set_argument s) more) names inner free Said =
-    spread_set s names free (λ free y. numbers_and_sets xs more names inner free (λ inner free. Said (named Two x y inner) free))
+numbers_and_sets xs (more_arguments (truth_argument f) more) names inner free Said =
+    numbers_and_sets (after_first xs) more names inner free Said
+numbers_and_sets xs (more_arguments (number_argument t) more) names inner free Said =
+    spread_number t names free (λ free y. numbers_and_sets (after_first xs) more names inner free (λ inner free. Said (first_named One xs y inner) free))
+numbers_and_sets xs (more_arguments (set_argument s) more) names inner free Said =
+    spread_set s names free (λ free y. numbers_and_sets (after_first xs) more names inner free (λ inner free. Said (first_named Two xs y inner) free))
 
 abbrev mutual
   pub spread_under : Callees → Form → Names → ℕ → CoreForm
@@ -239,16 +248,15 @@ abbrev mutual
   -- the truth values among the arguments, likewise
   pub truth_values : Callees → List ℕ → Arguments → Names → Names → ℕ → (Names → ℕ → CoreForm) → CoreForm
   truth_values c xs no_arguments names inner free Said = Said inner free
-  truth_values c [] (more_arguments a more) names inner free Said = Said inner free
-  truth_values c (x ∷ xs) (more_arguments a more) names inner free Said =
-      truth_value_at c x a names free (λ name free. truth_values c xs more names inner free (λ inner free. Said (name inner) free))
+  truth_values c xs (more_arguments a more) names inner free Said =
+      truth_value_at c xs a names free (λ name free. truth_values c (after_first xs) more names inner free (λ inner free. Said (name inner) free))
 
   -- one of them, with what it adds to the inner names; an argument of another order adds nothing
-  pub truth_value_at : Callees → ℕ → Argument → Names → ℕ → ((Names → Names) → ℕ → CoreForm) → CoreForm
-  truth_value_at c x (truth_argument f) names free Said =
-      truth_value (option_map (names Zero) (variable_of_form f)) (spread_under c f names) free (λ free y. Said (named Zero x y) free)
-  truth_value_at c x (number_argument t) names free Said = Said (λ inner. inner) free
-  truth_value_at c x (set_argument s) names free Said = Said (λ inner. inner) free
+  pub truth_value_at : Callees → List ℕ → Argument → Names → ℕ → ((Names → Names) → ℕ → CoreForm) → CoreForm
+  truth_value_at c xs (truth_argument f) names free Said =
+      truth_value (option_map (names Zero) (variable_of_form f)) (spread_under c f names) free (λ free y. Said (first_named Zero xs y) free)
+  truth_value_at c xs (number_argument t) names free Said = Said (λ inner. inner) free
+  truth_value_at c xs (set_argument s) names free Said = Said (λ inner. inner) free
 
 -- `restrict` of a restriction, if there is one, in front of others
 abbrev pub restriction_before : Callees → Restriction → Names → ℕ → List CoreForm → List CoreForm

@@ -12,6 +12,7 @@ mod mode;
 mod same;
 mod same_term;
 mod source;
+mod spread_laws;
 mod term;
 #[cfg(test)]
 mod tests;
@@ -31,4 +32,5 @@ pub use laws::{laws_of_order, laws_of_sets, laws_of_truth, laws_of_words};
 pub use mode::{Mode, Order, Quant, Rel};
 pub use same::same_formula;
 pub use source::{Bound, Decl, Expr, Form, Int, Item, LetPart, Loaded, PlacedInt, Rename, Source};
+pub use spread_laws::laws_of_spread;
 pub use term::{Term1, Term2};

@@ -3,6 +3,7 @@ ghost use Rattle.ms_logic.specs.CoreForm as core;
 ghost use Rattle.ms_logic.specs.Examples.{var_x, var_y, var_z, set_P, set_Q, truth_a, truth_b, less, at_most, greater, at_least, equal, differs, is_in, not_in, subset, set_equal, listed, ex1_where, both, two_arguments, let_b, call_number, nothing_given, restricted_given, defaults_given, variable, problem, import_given};
 ghost use Rattle.ms_logic.specs.Roots.{main_root, IsRoot};
 ghost use Rattle.ms_logic.specs.Spread.{spread, own_names};
+ghost use Rattle.ms_logic.specs.SpreadCount.{spread_count};
 ghost use Rattle.ms_logic.specs.SpreadExamples.{spread_over, ex0, ex1, all1, ex2_where, and, or, only_member, set_R, before_given, number_and_set, subset_source, export_source};
 ghost use Rattle.ms_logic.specs.SpreadExamples.{ex1_where as core_ex1_where};
 ghost use Rattle.ms_logic.specs.Tree.{number_variable, numeral, plus, minus, minimum, maximum, set_variable, empty_set, whole, literal, pconst, union, intersection, difference, shift_up, shift_down, no_terms, more_terms, truth, truth_variable, negation, conjunction, disjunction, emptiness, where_let, call, imported, default_at, truth_argument, number_argument};
@@ -161,6 +162,11 @@ pub fn worked_roots()
     // var2 P, Q; P sub Q, and the empty source
     ensures one_formula { (main_root subset_source).formula ≡ basic (Sub 0 1) }
     ensures empty_source { (main_root (problem Ws1s [] no_formulas)).formula ≡ core.truth }
+
+    // 7 subformulas, 1 root, 2 globals and 1 quantified variable; true; 3 subformulas, 2 roots, 1 global and 1 variable
+    ensures count { spread_count number_and_set ≡ 11 }
+    ensures empty_count { spread_count (problem Ws1s [] no_formulas) ≡ 2 }
+    ensures export_count { spread_count export_source ≡ 7 }
 
     // var1 x; ex1 y: export(.., y < x)
     ensures main { IsRoot export_source 0 (record {
