@@ -6,6 +6,7 @@ pub mod FreeVariables
 pub mod FullContents
 pub mod Members
 pub mod OrderLaws
+pub mod ProjectStarts
 pub mod Saying
 pub mod SayingLiterals
 pub mod SayingParts

@@ -28,7 +28,7 @@ one_bit_read = part_of_letter (word [] []) (true ∷ [])
 abbrev four : List Start
 four = inside ∷ outside ∷ no_bit_read ∷ one_bit_read ∷ []
 
-letters_for : (letters : List (List Bool)) → AreLetters set_P_and_Q (map (λ letter. bits_for is_in_letters set_P_and_Q letter set_P_and_Q) letters)
+pub letters_for : (letters : List (List Bool)) → AreLetters set_P_and_Q (map (λ letter. bits_for is_in_letters set_P_and_Q letter set_P_and_Q) letters)
 letters_for [] = tt
 letters_for (letter ∷ letters) = (refl, letters_for letters)
 
@@ -39,13 +39,13 @@ state_after_word w =
     (is_within letters, last_of_subset (narrowed set_P_and_Q w set_P_and_Q) (record { truth = refl; letters = letters_for w.letters }))
 
 -- the references of the first state and of the second
-from_P : (bits : Bits) (p q : Bool) → bits 0 ≡ p → bits 1 ≡ q → leaf_of full_subset_content.nodes (Inner 1) bits ≡ cond p (cond q 0 1) 0
+pub from_P : (bits : Bits) (p q : Bool) → bits 0 ≡ p → bits 1 ≡ q → leaf_of full_subset_content.nodes (Inner 1) bits ≡ cond p (cond q 0 1) 0
 unfolding leaf_of
 from_P bits true true is_p is_q = rw is_p (rw is_q refl)
 from_P bits true false is_p is_q = rw is_p (rw is_q refl)
 from_P bits false q is_p is_q = rw is_p refl
 
-abbrev bits_of_letter : List Bool → Bits → Bits
+abbrev pub bits_of_letter : List Bool → Bits → Bits
 bits_of_letter bits rest = with_free_bits is_in_letters set_P_and_Q bits set_P_and_Q rest
 
 -- what the four starts leave
@@ -58,7 +58,7 @@ unfolding leaf_of
 left_outside rest = refl
 
 -- what a start in the midst of a letter leaves, from the state 0 and from the state 1
-abbrev from_state : ℕ → List Bool → Bits → ℕ
+abbrev pub from_state : ℕ → List Bool → Bits → ℕ
 from_state s bits rest = next_at full_subset_content (slice_get full_subset_content.states s) (bits_of_letter bits rest)
 
 left_in_letter : (w : Word) (bits : List Bool) (s : ℕ) → state_at full_subset_content set_P_and_Q w ≡ s → (rest : Bits) →
@@ -69,12 +69,12 @@ left_at_start : (bits : List Bool) (rest : Bits) → left_by full_subset_content
 unfolding leaf_of
 left_at_start bits rest = refl
 
-from_state_1 : (bits : List Bool) (rest : Bits) → from_state 1 bits rest ≡ 1
+pub from_state_1 : (bits : List Bool) (rest : Bits) → from_state 1 bits rest ≡ 1
 unfolding leaf_of
 from_state_1 bits rest = refl
 
 -- what is left for each letter
-rest_of : Bool → Bool → Bits
+unfoldable pub rest_of : Bool → Bool → Bits
 rest_of p q zero = p
 rest_of p q (suc place) = q
 
@@ -148,7 +148,7 @@ pub subset_references : LeadsToReferences full_subset_content set_P_and_Q 4
 subset_references = record { chosen = four; items = items; different = different; complete = complete; count = refl }
 
 -- where alike items are alike in a second way too, there are as many by both ways together
-number_of_both : {A : Type 0} (AreAlike AreAlikeToo : A → A → Type 0) (IsItem : A → Type 0) (n : ℕ) →
+pub number_of_both : {A : Type 0} (AreAlike AreAlikeToo : A → A → Type 0) (IsItem : A → Type 0) (n : ℕ) →
     ((one other : A) → AreAlike one other → AreAlikeToo one other) → IsNumberOf AreAlike IsItem n → IsNumberOf (λ one other. AreAlike one other × AreAlikeToo one other) IsItem n
 number_of_both AreAlike AreAlikeToo IsItem n implies counted = record {
   chosen = counted.chosen;
@@ -177,7 +177,7 @@ subset_twice =
     number_of_both (LeaveSame full_subset_content set_P_and_Q) (LeaveSame full_subset_content set_P_and_Q) (IsStartOver set_P_and_Q) 4 (λ one other alike. alike) subset_references
 
 -- a missing restriction is led to its one state
-only_state : (letters : List (List Bool)) → state_after (no_restriction Ws1s) 0 letters ≡ 0
+pub only_state : (letters : List (List Bool)) → state_after (no_restriction Ws1s) 0 letters ≡ 0
 unfolding leaf_of
 only_state [] = refl
 only_state (letter ∷ letters) = only_state letters

@@ -1,6 +1,6 @@
 ghost use Rattle.ms_logic.specs.BudgetExamples.{measured_subset, full_subset_content, encodings_content, subset_form};
 ghost use Rattle.ms_logic.specs.Budgets.{IsMeasure, budget};
-ghost use Rattle.ms_logic.specs.CallMeasures.{call_measure, place_variables, in_order_of, HasReachedParts, no_restriction, IsMinimiseMeasure, IsCombineMeasure, IsRenameMeasure};
+ghost use Rattle.ms_logic.specs.CallMeasures.{call_measure, place_variables, in_order_of, HasReachedParts, no_restriction, IsMinimiseMeasure, IsCombineMeasure, IsProjectMeasure, IsRenameMeasure};
 ghost use Rattle.ms_logic.specs.Examples.{set_P_and_Q, word, variable};
 ghost use Rattle.ms_logic.specs.FullContent.{IsFullContent};
 ghost use Rattle.ms_logic.specs.Roots.{main_root};
@@ -60,6 +60,10 @@ pub fn worked_call_measures()
     ensures combine { IsCombineMeasure full_subset_content full_subset_content 4 8 }
     ensures rename { IsRenameMeasure full_subset_content (2 ∷ 6 ∷ []) 4 4 }
     ensures measure { call_measure 4 8 ≡ 784 }
+
+    // ex2 Q: the sets {0} and {0, 1} of states, where P is empty and where it is not, and two sets in the midst of a letter;
+    // four pairs, four parts and one for the missing restriction are read
+    ensures project { IsProjectMeasure full_subset_content (no_restriction Ws1s) (variable 1 Two) 4 9 }
 {}
 
 /// The budgets of the source var2 P, Q; P sub Q.

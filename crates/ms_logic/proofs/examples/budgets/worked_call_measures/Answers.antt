@@ -1,4 +1,5 @@
 use Rattle.std.proofs.Common.{refl}
+use Rattle.ms_logic.proofs.ProjectStarts.{subset_project}
 use Rattle.ms_logic.proofs.SubsetStarts.{subset_references, subset_twice, one_reference}
 use Rattle.ms_logic.proofs.examples.budgets.worked_call_measures.Goals as goal
 
@@ -16,3 +17,6 @@ returns-clause-combine c = record { made = subset_twice; read = (4, 4, subset_re
 
 pub returns-clause-rename : goal.returns-clause-rename
 returns-clause-rename c = record { made = subset_references; read = subset_references }
+
+pub returns-clause-project : goal.returns-clause-project
+returns-clause-project c = subset_project
