@@ -35,7 +35,7 @@ agrees_inside_all xs orders vs Free e f are_orders agrees = record {
   values = λ w free. agree_assign_all xs vs w e f (λ other. agrees.values w ((λ bound. let P : List Order → Type 0 = λ os. IsBound xs os w in other (subst P (sym are_orders) bound)), free));
 }
 
-order_of_value_of : (o : Order) (universe : Universe) (v : Value) → IsValueOf o universe v → order_of_value v ≡ o
+pub order_of_value_of : (o : Order) (universe : Universe) (v : Value) → IsValueOf o universe v → order_of_value v ≡ o
 order_of_value_of Zero universe (Truth b) is_value = refl
 order_of_value_of Zero universe (Number n) is_value = absurd is_value
 order_of_value_of Zero universe (Set members) is_value = absurd is_value
@@ -101,13 +101,13 @@ for_body o x v universe D Free e f is_value agrees =
     agrees_inside x o v Free e f (order_of_value_of o universe v is_value) (agrees_weaker (λ w free. (free.0, inr free.1)) agrees)
 
 -- a property of some value, of none, and an empty range, where each value of one range is in the other
-some_moves : (Here There P Q : Value → Type 0) → ((v : Value) → Here v → There v) → ((v : Value) → Here v → P v → Q v) → SomeInRange Here P → SomeInRange There Q
+pub some_moves : (Here There P Q : Value → Type 0) → ((v : Value) → Here v → There v) → ((v : Value) → Here v → P v → Q v) → SomeInRange Here P → SomeInRange There Q
 some_moves Here There P Q there keep some = (some.0, there some.0 some.1, keep some.0 some.1 some.2)
 
-none_moves : (Here There P Q : Value → Type 0) → ((v : Value) → There v → Here v) → ((v : Value) → There v → Q v → P v) → NoneInRange Here P → NoneInRange There Q
+pub none_moves : (Here There P Q : Value → Type 0) → ((v : Value) → There v → Here v) → ((v : Value) → There v → Q v → P v) → NoneInRange Here P → NoneInRange There Q
 none_moves Here There P Q back keep none = λ v in_range holds. none v (back v in_range) (keep v in_range holds)
 
-some_or_empty_moves : (Here There P Q : Value → Type 0) → ((v : Value) → Here v → There v) → ((v : Value) → There v → Here v) → ((v : Value) → Here v → P v → Q v) →
+pub some_or_empty_moves : (Here There P Q : Value → Type 0) → ((v : Value) → Here v → There v) → ((v : Value) → There v → Here v) → ((v : Value) → Here v → P v → Q v) →
     SomeInRange Here P ⊎ IsEmptyRange Here → SomeInRange There Q ⊎ IsEmptyRange There
 some_or_empty_moves Here There P Q there back keep either =
     ⊎_elim (λ some. inl (some_moves Here There P Q there keep some)) (λ empty. inr (λ v in_range. empty v (back v in_range))) either

@@ -253,15 +253,18 @@ zero_source =
 abbrev pub word : List Bool → List (List Bool) → Word
 word truth letters = record { truth = truth; letters = letters }
 
--- the canonical content of P sub Q over P and Q
-abbrev pub subset_content : Content Answer
-subset_content = record {
+-- the canonical content of P sub Q over P and Q, with one sign for Yes and another for No
+abbrev pub subset_content_with : {Sign : Type 0} → Sign → Sign → Content Sign
+subset_content_with for_yes for_no = record {
   mode = Ws1s;
   variables = variables_by_place (Two ∷ Two ∷ []);
   start = Leaf 0;
-  states = record { sign = answer_yes; next = Inner 1 } ∷ record { sign = answer_no; next = Leaf 1 } ∷ [];
+  states = record { sign = for_yes; next = Inner 1 } ∷ record { sign = for_no; next = Leaf 1 } ∷ [];
   nodes = record { var = 1; low = Leaf 1; high = Leaf 0 } ∷ record { var = 0; low = Leaf 0; high = Inner 0 } ∷ [];
 }
+
+abbrev pub subset_content : Content Answer
+subset_content = subset_content_with answer_yes answer_no
 
 -- the canonical content of A <=> 0 in P over A and P
 abbrev pub member_content : Content Answer

@@ -1,4 +1,7 @@
 pub mod Assignment
+pub mod BudgetExamples
+pub mod Budgets
+pub mod CallMeasures
 pub mod Canonical
 pub mod Content
 pub mod CoreForm
@@ -6,9 +9,19 @@ pub mod Examples
 pub mod FiniteSet
 pub mod First
 pub mod FreeVariables
+pub mod FullContent
 pub mod Laws
 pub mod OrderLaws
+pub mod Roots
+pub mod SameUpToBound
 pub mod SetLaws
+pub mod Size
+pub mod Spread
+pub mod SpreadCount
+pub mod SpreadExamples
+pub mod SpreadLaws
+pub mod Starts
+pub mod Steps
 pub mod Terms
 pub mod Tree
 pub mod Truth

@@ -1,5 +1,6 @@
-ghost use Rattle.ms_logic.specs.Canonical.{first_sights_of, seen_leaves, seen_nodes};
-ghost use Rattle.ms_logic.specs.Content.{sign_of, answer_of};
+ghost use Rattle.ms_logic.specs.BudgetExamples.{open_content};
+ghost use Rattle.ms_logic.specs.Canonical.{IsCanonical, first_sights_of, seen_leaves, seen_nodes};
+ghost use Rattle.ms_logic.specs.Content.{IsOpen, sign_of, answer_of};
 ghost use Rattle.ms_logic.specs.Examples.{word, subset_content, member_content};
 ghost use Rattle.ms_logic.specs.Truth.{answer_yes, answer_no};
 ghost use Rattle.ms_logic.specs.declared.assignment.Value.TheVariants.{Truth, Set};
@@ -37,4 +38,13 @@ pub fn worked_runs()
     ensures subset_nodes { first_sights_of (seen_nodes subset_content) ≡ 0 ∷ 1 ∷ [] }
     ensures member_states { first_sights_of (seen_leaves member_content) ≡ 0 ∷ 1 ∷ 2 ∷ 3 ∷ [] }
     ensures member_nodes { first_sights_of (seen_nodes member_content) ≡ 0 ∷ 1 ∷ 2 ∷ [] }
+{}
+
+/// Canonical and open contents.
+pub fn worked_contents()
+    // the content of P sub Q
+    ensures canonical { IsCanonical subset_content }
+
+    // Yes on the empty word alone: the empty set has words with different signs
+    ensures open { IsOpen open_content }
 {}
