@@ -67,14 +67,16 @@ impl Automaton {
 
     /// The tracks, whose variables rise.
     pub fn tracks(&self) -> &[Track]
-        ensures { variables_of result.now ≡ self.now.variables }
+        ensures variables { variables_of result.now ≡ self.now.variables }
+        ensures automaton { IsAutomaton self.now }
     {
         self.tracks.slice()
     }
 
     /// How many states there are.
     pub fn states(&self) -> u32
-        ensures { result ≡ length self.now.states }
+        ensures states { result ≡ length self.now.states }
+        ensures automaton { IsAutomaton self.now }
     {
         self.states.len() as u32
     }
@@ -88,7 +90,8 @@ impl Automaton {
 
     /// The diagram that leads from truth values to the first state.
     pub fn start_ref(&self) -> Ref
-        ensures { result ≡ self.now.start }
+        ensures start { result ≡ self.now.start }
+        ensures followed { IsFollowed self.now is_truth_value result }
     {
         self.start
     }
@@ -96,7 +99,8 @@ impl Automaton {
     /// The diagram that leads from a letter to the state after it.
     pub fn next_ref(&self, state: u32) -> Ref
         requires { state < length self.now.states }
-        ensures { IfSome (slice_get self.now.states state) (λ found. result ≡ found.next) }
+        ensures next { IfSome (slice_get self.now.states state) (λ found. result ≡ found.next) }
+        ensures followed { IsFollowed self.now is_in_letters result }
     {
         self.states.get(state as usize).next
     }

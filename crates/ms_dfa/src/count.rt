@@ -3,19 +3,8 @@ ghost use Rattle.ms_logic.specs.Content.{count_of};
 ghost use Rattle.ms_dfa.specs.Automaton.{variables_of};
 ghost use Rattle.ms_dfa.specs.Part.{has_value};
 
-use crate::part::Part;
+use crate::part::{Part, is_in};
 use crate::track::Track;
-use ms_logic::Order;
-
-/// Whether a variable of the order has a value in this part of a word.
-fn is_in(part: Part, order: Order) -> bool
-    ensures { result ≡ has_value part order }
-{
-    match part {
-        Part::Truth => order == Order::Zero,
-        Part::Letters => order != Order::Zero,
-    }
-}
 
 /// How many of the tracks have a value in this part of a word.
 pub fn count_in(tracks: &[Track], part: Part) -> usize

@@ -10,6 +10,7 @@ mod state;
 mod track;
 
 pub use automaton::Automaton;
+pub use part::{Part, is_in};
 pub use plain::{FileSign, FileState, FileVar, Plain};
 pub use sign::Sign;
 pub use state::State;

@@ -19,6 +19,7 @@ pub use keyword::Keyword;
 pub use laws::{blank_behind, one_first_fault, one_token_list, spans, tokens_or_fault};
 pub use lexer::tokens;
 pub use mark::Mark;
+pub use scan::{is_name, name_length};
 pub use token::{Kind, Token};
 pub use token_list::{MAX_BYTES, Tokens};
 

@@ -1,4 +1,4 @@
-ghost use Rattle.std.specs.Prelude.{◌≡◌, ◌≢◌, ◌≤◌, ◌<◌, ◌^◌, false, length, slice_index, IsTrue, IfSome, IfNone, IfOk, IfErr};
+ghost use Rattle.std.specs.Prelude.{◌≡◌, ◌≢◌, ◌≤◌, ◌<◌, ◌^◌, ◌↔◌, false, length, slice_index, IsTrue, IfSome, IfNone, IfOk, IfErr};
 ghost use Rattle.std.specs.Char.{is_ascii_digit};
 ghost use Rattle.std.specs.List.{prefix_len, list_all};
 ghost use Rattle.std.specs.Str.{byte};
@@ -24,7 +24,8 @@ fn is_name_byte(byte: u8) -> bool
     is_name_start(byte) || byte.is_ascii_digit() || byte == b'\''
 }
 
-fn name_length(rest: &[u8]) -> usize
+/// How many bytes at the beginning may stand in a name.
+pub fn name_length(rest: &[u8]) -> usize
     ensures run { result ≡ prefix_len is_name_byte rest.now }
     ensures within { result ≤ length rest.now }
 {
@@ -46,6 +47,29 @@ fn content_length(rest: &[u8]) -> usize
     rest.iter()
         .take_while(|byte| **byte != b'"' && **byte != b'\n')
         .count()
+}
+
+fn are_name_bytes(bytes: &[u8]) -> bool
+    ensures { result ≡ list_all is_name_byte bytes.now }
+{
+    bytes.iter().all(|byte| is_name_byte(*byte))
+}
+
+// Whether these bytes are a letter or `_`, and then letters, digits, `_` and `'`.
+fn is_identifier(bytes: &[u8]) -> bool
+    ensures { result ≡ is_identifier bytes.now }
+{
+    match bytes {
+        [first, more @ ..] => is_name_start(*first) && are_name_bytes(more),
+        [] => false,
+    }
+}
+
+/// Whether these bytes are a name: an identifier that is no word of the language and no word that is left out.
+pub fn is_name(bytes: &[u8]) -> bool
+    ensures { IsTrue result ↔ Spells Kind.Name bytes.now }
+{
+    is_identifier(bytes) && word_of(bytes).is_none() && !is_left_out(bytes)
 }
 
 // What a name or a word is.

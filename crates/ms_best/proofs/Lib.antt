@@ -1,0 +1,9 @@
+pub mod Cover
+pub mod DecodedValues
+pub mod FirstWords
+pub mod LeastValues
+pub mod Nearness
+pub mod Reaching
+pub mod Searching
+pub mod Users
+pub mod Vertices

@@ -1,0 +1,7 @@
+pub mod Automaton
+pub mod Decoding
+pub mod Distances
+pub mod FirstWord
+pub mod Graph
+pub mod Least
+pub mod Search
