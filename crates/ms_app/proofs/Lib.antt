@@ -1,7 +1,9 @@
 pub mod Excess
+pub mod FirstAssignments
 pub mod InclusionAutomaton
 pub mod InclusionRun
 pub mod InclusionValue
 pub mod InclusionWords
-pub mod Subsets
 pub mod Members
+pub mod Splitting
+pub mod Subsets

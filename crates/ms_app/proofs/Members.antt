@@ -4,7 +4,7 @@ use Rattle.std.specs.List.{list_any, list_all}
 use Rattle.std.proofs.lemmas.Bool.{eqb-true, eq-eqb}
 use Rattle.std.proofs.Math.Bool.{or-true}
 use Rattle.ms_logic.specs.FiniteSet.{is_member}
-use Rattle.ms_logic.specs.Word.{bound_of_set}
+use Rattle.ms_logic.proofs.Members.{member_cases}
 
 -- one of two tests passes
 either : (a b : Bool) → (a || b) ≡ true → (a ≡ true) ⊎ (b ≡ true)
@@ -20,11 +20,6 @@ both false b holds = let never : ⊥ = cc in absurd never
 not_both : (a b : Bool) → (a && b) ≡ false → (a ≡ false) ⊎ (b ≡ false)
 not_both true b fails = inr fails
 not_both false b fails = inl refl
-
--- a member is the first of the list, or one of the others
-pub member_cases : (n first : ℕ) (more : List ℕ) → is_member n (first ∷ more) ≡ true → (first ≡ n) ⊎ (is_member n more ≡ true)
-member_cases n first more member =
-    elim (either (first == n) (is_member n more) member) [ inl same ↦ inl (eqb-true first n same) | inr there ↦ inr there ]
 
 -- what all members pass, each passes
 pub passed_by_member : (test : ℕ → Bool) (members : List ℕ) (n : ℕ) → list_all test members ≡ true → is_member n members ≡ true → test n ≡ true
@@ -58,9 +53,3 @@ some_passes test (first ∷ more) n member pass =
 pub none_passes : (test : ℕ → Bool) (members : List ℕ) → ((n : ℕ) → test n ≡ false) → list_any test members ≡ false
 none_passes test [] fails = refl
 none_passes test (first ∷ more) fails = rw (fails first) (none_passes test more fails)
-
--- a member is below the bound of its set
-pub member_below_bound : (members : List ℕ) (n : ℕ) → is_member n members ≡ true → n < bound_of_set members
-member_below_bound [] n member = let never : ⊥ = cc in absurd never
-member_below_bound (first ∷ more) n member =
-    elim (member_cases n first more member) [ inl same ↦ omega arith | inr there ↦ omega (arith, member_below_bound more n there) ]

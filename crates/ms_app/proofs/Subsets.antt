@@ -4,8 +4,8 @@ use Rattle.std.specs.List.{list_any, list_all}
 use Rattle.std.proofs.lemmas.Bool.Decides.{nat_tests}
 use Rattle.ms_logic.specs.FiniteSet.{is_member, numbers_below}
 use Rattle.ms_logic.specs.Word.{bound_of_set}
-use Rattle.ms_logic.proofs.Members.{is_member-range}
-use Rattle.ms_app.proofs.Members.{passed_by_member, failed_by_member, some_passes, none_passes, member_below_bound}
+use Rattle.ms_logic.proofs.Members.{is_member-range, member_below_bound}
+use Rattle.ms_app.proofs.Members.{passed_by_member, failed_by_member, some_passes, none_passes}
 
 -- the position is in the first set alone
 abbrev pub is_in_first_alone : List ℕ → List ℕ → ℕ → Bool

@@ -1,5 +1,7 @@
 -- An automaton with the main value of a problem.
-use Rattle.std.specs.Prelude.{◌≡◌, ◌↔◌, Some}
+use Rattle.std.specs.Prelude.{◌≡◌, ◌↔◌, Some, Result, Ok, Err}
+use Rattle.ms_edge.specs.declared.fault.StepFault.{StepFault}
+use Rattle.ms_edge.specs.declared.fault.StepFault.TheVariants.{Nodes, Memory}
 use Rattle.ms_edge.specs.declared.refusal.Word.{Word}
 use Rattle.ms_logic.specs.Assignment.{Env, IsAssignment}
 use Rattle.ms_logic.specs.Word.{Encodes}
@@ -16,3 +18,9 @@ pub record HasMainValue (problem : Problem) (content : Content Sign) : Type 0 wh
       → (sign_of content word ≡ Some Yes) ↔ MainYes problem e
   pub no : (word : Word) (e : Env) → IsAssignment problem.mode (variables_of problem.globals) e → Encodes (variables_of problem.globals) word e
       → (sign_of content word ≡ Some No) ↔ MainNo problem e
+
+-- a fact of each refusal for want of nodes
+abbrev pub OnFewNodes : {A : Type 0} → Result A StepFault → Type 0 → Type 0
+OnFewNodes (Ok made) fact = Unit {0}
+OnFewNodes (Err Memory) fact = Unit {0}
+OnFewNodes (Err (Nodes limit)) fact = fact

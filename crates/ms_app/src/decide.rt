@@ -1,22 +1,26 @@
 ghost use Rattle.std.specs.Prelude.{◌≡◌, ◌≤◌, ◌<◌, [], ◌∷◌, length, IfOk, IfErr};
 ghost use Rattle.ms_edge.specs.Files.{Holds};
-ghost use Rattle.ms_app.specs.Answer.{Seen, source_limit, IsRefused};
+ghost use Rattle.ms_app.specs.Answer.{Seen, source_limit, IsRefused, IsDecided};
 
+use crate::solve::solve;
+use crate::statement::read_statement;
 use ms_edge::{At, Bytes, Files, List, ReadAnswer, Refusal, Text};
+use ms_report::Found;
 use std::alloc::Global;
 
 /// The most bytes of a source file.
 const SOURCE_LIMIT: u64 = 1_048_576;
 
-/// Decides the file, and says how it is refused. The files that the refusal numbers are in `names`.
+/// Decides the file. The files that a refusal numbers are in `names`.
 pub fn decide<F: Files>(
     alloc: Global,
     name: &Text,
     files: &mut F,
     names: &mut List<Text>,
-) -> Refusal
+) -> Result<Found, Refusal>
     requires { names.old ≡ [] }
-    ensures refused { IsRefused name.now (record {
+    ensures decided { IfOk result (IsDecided name.now (F.held files.old)) }
+    ensures refused { IfErr result (λ refusal. IsRefused name.now (record {
       held = F.held files.old;
       faults_before = F.faults files.old;
       faults_after = F.faults files.new;
@@ -24,21 +28,29 @@ pub fn decide<F: Files>(
       absences_after = F.absences files.new;
       overlongs_before = F.overlongs files.old;
       overlongs_after = F.overlongs files.new;
-    }) result names.new }
+    }) refusal names.new) }
     ensures kept { F.held files.new ≡ F.held files.old }
 {
-    let _bytes = match read(alloc, name, files) {
-        Ok(bytes) => bytes,
-        Err(refusal) => return refusal,
-    };
+    let bytes = read(alloc, name, files)?;
     let Ok(copy) = Text::new(alloc, name.text()) else {
-        return Refusal::Memory;
+        return Err(Refusal::Memory);
     };
-    if names.push(copy).is_err() {
-        return Refusal::Memory;
+    match names.push(copy) {
+        Ok(()) => {}
+        Err(_) => return Err(Refusal::Memory),
     }
-    Refusal::NotBuilt {
-        at: At { file: 0, place: 0 },
+    let statement = match read_statement(alloc, bytes.slice()) {
+        Ok(Some(statement)) => statement,
+        Ok(None) => {
+            return Err(Refusal::NotBuilt {
+                at: At { file: 0, place: 0 },
+            });
+        }
+        Err(_) => return Err(Refusal::Memory),
+    };
+    match solve(alloc, statement) {
+        Ok(found) => Ok(found),
+        Err(_) => Err(Refusal::Memory),
     }
 }
 

@@ -1,15 +1,15 @@
-ghost use Rattle.std.specs.Prelude.{◌≡◌, ◌<◌, ◌≤◌, ◌⊎◌, ℕ, [], IfOk, if◌then◌else◌, not, ◌&&◌};
+ghost use Rattle.std.specs.Prelude.{◌≡◌, ◌<◌, ◌≤◌, ◌+◌, ◌⊎◌, ℕ, [], length, IfOk, if◌then◌else◌, not, ◌&&◌};
 ghost use Rattle.ms_arena.specs.Diagram.{Bits, leaf_of, IsValid};
 ghost use Rattle.ms_arena.specs.Reach.{TestsOnly};
 ghost use Rattle.ms_diagram.specs.Store.{IsStore};
 ghost use Rattle.ms_dfa.specs.Automaton.{variables_of, states_of};
 ghost use Rattle.ms_app.specs.Inclusion.{two_sets, inclusion_of, inclusion_content};
-ghost use Rattle.ms_app.specs.HasValue.{HasMainValue};
+ghost use Rattle.ms_app.specs.HasValue.{HasMainValue, OnFewNodes};
 
 use ms_arena::Ref;
 use ms_dfa::{Automaton, Sign, State, Track};
 use ms_diagram::Store;
-use ms_edge::{List, StepFault};
+use ms_edge::{List, NoMemory, StepFault};
 use ms_logic::{Mode, Order};
 use std::alloc::Global;
 
@@ -19,6 +19,7 @@ fn excess(store: &mut Store, left: u32, right: u32) -> Result<Ref, StepFault>
     ensures valid { IfOk result (IsValid store.new.nodes) }
     ensures function { IfOk result (λ made. (bits : Bits) → leaf_of store.new.nodes made bits ≡ (if bits left && not (bits right) then 1 else 0)) }
     ensures tests { IfOk result (TestsOnly store.new.nodes (λ var. (var ≡ left) ⊎ (var ≡ right))) }
+    ensures nodes { OnFewNodes result (store.old.limit < length store.old.nodes + 2) }
 {
     if left == right {
         let _ = store.len();
@@ -36,7 +37,7 @@ fn excess(store: &mut Store, left: u32, right: u32) -> Result<Ref, StepFault>
 }
 
 /// The tracks of the two set variables.
-fn tracks(alloc: Global) -> Result<List<Track>, StepFault>
+fn tracks(alloc: Global) -> Result<List<Track>, NoMemory>
     ensures { IfOk result (λ tracks. variables_of tracks ≡ two_sets) }
 {
     let first = Track {
@@ -49,12 +50,12 @@ fn tracks(alloc: Global) -> Result<List<Track>, StepFault>
     };
     match vec![in alloc; first, second] {
         Ok(tracks) => Ok(List::from(tracks)),
-        Err(_) => Err(StepFault::Memory),
+        Err(_) => Err(NoMemory),
     }
 }
 
 /// The state in which the inclusion holds so far, and the one in which it fails.
-fn states(alloc: Global, excess: Ref) -> Result<List<State>, StepFault>
+fn states(alloc: Global, excess: Ref) -> Result<List<State>, NoMemory>
     ensures { IfOk result (λ states. states_of states ≡ (inclusion_content [] excess).states) }
 {
     let holds = State {
@@ -67,7 +68,7 @@ fn states(alloc: Global, excess: Ref) -> Result<List<State>, StepFault>
     };
     match vec![in alloc; holds, fails] {
         Ok(states) => Ok(List::from(states)),
-        Err(_) => Err(StepFault::Memory),
+        Err(_) => Err(NoMemory),
     }
 }
 
@@ -77,12 +78,17 @@ pub fn inclusion(alloc: Global, left: u32, right: u32, limit: u64) -> Result<Aut
     requires right { right < 2 }
     requires some { 1 ≤ limit }
     requires small { limit ≤ 4000000000 }
-    ensures { IfOk result (HasMainValue (inclusion_of left right)) }
+    ensures value { IfOk result (HasMainValue (inclusion_of left right)) }
+    ensures nodes { OnFewNodes result (limit < 2) }
 {
     let mut store = Store::new(alloc, limit);
     let excess = excess(&mut store, left, right)?;
-    let tracks = tracks(alloc)?;
-    let states = states(alloc, excess)?;
+    let Ok(tracks) = tracks(alloc) else {
+        return Err(StepFault::Memory);
+    };
+    let Ok(states) = states(alloc, excess) else {
+        return Err(StepFault::Memory);
+    };
     let automaton = Automaton::make(store, Mode::Ws1s, tracks, Ref::Leaf(0), states);
     Ok(automaton)
 }

@@ -5,6 +5,8 @@ mod command;
 mod decide;
 mod inclusion;
 mod print;
+mod solve;
+mod statement;
 mod top;
 
 pub use top::run;

@@ -1,10 +1,13 @@
 ghost use Rattle.std.specs.Prelude.{◌≡◌, ◌⊎◌, [], ◌<◌, ◌≤◌};
 ghost use Rattle.ms_report.specs.Line.{HasLine, IsPlaced, place_of};
-ghost use Rattle.ms_app.specs.Answer.{Prints, status_of, answer_of};
+ghost use Rattle.ms_app.specs.Answer.{Prints, status_of, answer_of, report_answer};
 
 use ms_edge::{List, Refusal, Sink, Status, Text, write_all};
-use ms_report::refusal_line;
+use ms_report::{Found, refusal_line, report};
 use std::alloc::Global;
+
+/// The line of the refusal for want of memory, which takes none.
+const OUT_OF_MEMORY: &[u8] = b"70 out of memory\n";
 
 /// Prints the text, and ends with the status that goes with it.
 pub fn print<S: Sink>(out: &mut S, status: Status, text: &[u8]) -> Status
@@ -61,6 +64,17 @@ pub fn refuse<S: Sink>(alloc: Global, refusal: &Refusal, files: &List<Text>, out
 {
     match refusal_line(alloc, refusal, files) {
         Ok(line) => print(out, status(refusal), line.slice()),
-        Err(_) => print(out, Status::NoMemory, b"70 out of memory\n"),
+        Err(_) => print(out, Status::NoMemory, OUT_OF_MEMORY),
+    }
+}
+
+/// Prints the report, or that there is no memory for it.
+pub fn tell<S: Sink>(alloc: Global, found: &Found, out: &mut S) -> Status
+    ensures { Prints (S.taken out.old) (S.taken out.new) (S.faults out.old) (S.faults out.new) (report_answer found.now) result
+        ⊎ Prints (S.taken out.old) (S.taken out.new) (S.faults out.old) (S.faults out.new) (answer_of Refusal.Memory []) result }
+{
+    match report(alloc, found) {
+        Ok(text) => print(out, Status::Done, text.slice()),
+        Err(_) => print(out, Status::NoMemory, OUT_OF_MEMORY),
     }
 }

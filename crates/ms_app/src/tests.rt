@@ -1,6 +1,7 @@
 use crate::inclusion::inclusion;
 use crate::run;
 use ms_arena::Ref;
+use ms_best::first;
 use ms_dfa::Sign;
 use ms_edge::{List, MemFiles, MemSink, NoMemory, Status, Words};
 use ms_logic::Mode;
@@ -31,7 +32,7 @@ fn each_request_has_its_line_and_its_status(rt: HostRuntime) -> Result<(), Fail>
     let usage = b"usage: the words are not a command of monastr\n".as_slice();
     let source = b"ws1s; var2 P, Q; P sub Q;".as_slice();
     // The words, the reads that fail, what is printed, the status.
-    let rows: [(&[&str], &[u64], &[u8], Status); 9] = [
+    let rows: [(&[&str], &[u64], &[u8], Status); 8] = [
         (&[], &[], usage, Status::Usage),
         (&["decide"], &[], usage, Status::Usage),
         (&["solve", "t.mona"], &[], usage, Status::Usage),
@@ -55,12 +56,6 @@ fn each_request_has_its_line_and_its_status(rt: HostRuntime) -> Result<(), Fail>
             b"60 read fault: t.mona\n",
             Status::FileFault,
         ),
-        (
-            &["decide", "t.mona"],
-            &[1],
-            b"27 not built at t.mona:0\n",
-            Status::Refused,
-        ),
     ];
     for (all, failing, line, status) in rows {
         let words = words(alloc, all)?;
@@ -72,6 +67,47 @@ fn each_request_has_its_line_and_its_status(rt: HostRuntime) -> Result<(), Fail>
             "{all:?}"
         );
         assert_eq!(rt; sink.bytes(), line, "{all:?}");
+    }
+    Ok(())
+}
+
+#[test]
+fn a_source_is_decided_or_not_built(rt: HostRuntime) -> Result<(), Fail> {
+    let alloc = rt.alloc();
+    let words = words(alloc, &["decide", "t.mona"])?;
+    let unbuilt = b"27 not built at t.mona:0\n".as_slice();
+    // The source, what is printed, the status.
+    let rows: [(&[u8], &[u8], Status); 8] = [
+        (
+            b"ws1s; var2 P, Q; P sub Q;",
+            b"contingent\nexample length 0\nP = {}\nQ = {}\ncounterexample length 1\nP = {0}\nQ = {}\n",
+            Status::Done,
+        ),
+        (
+            b"ws1s; var2 B, A; A sub B;",
+            b"contingent\nexample length 0\nB = {}\nA = {}\ncounterexample length 1\nB = {}\nA = {0}\n",
+            Status::Done,
+        ),
+        (
+            b"ws1s; var2 P, Q; P sub P;",
+            b"valid\nexample length 0\nP = {}\nQ = {}\nno counterexample\n",
+            Status::Done,
+        ),
+        (b"ws1s; var2 P, P; P sub P;", unbuilt, Status::Refused),
+        (b"ws1s; var2 P, in; P sub P;", unbuilt, Status::Refused),
+        (b"ws1s; var2 P, Q; P sub R;", unbuilt, Status::Refused),
+        (b"ws1s; var2 P,Q; P sub Q;", unbuilt, Status::Refused),
+        (b"ws1s; var2 P, Q; P sub Q;\n", unbuilt, Status::Refused),
+    ];
+    for (source, text, status) in rows {
+        let mut files = files(alloc, source, &[])?;
+        let mut sink = MemSink::new(alloc, 99, 99, List::new(alloc))?;
+        assert_eq!(rt;
+            run(alloc, &words, &mut files, &mut sink),
+            status,
+            "{source:?}"
+        );
+        assert_eq!(rt; sink.bytes(), text, "{source:?}");
     }
     Ok(())
 }
@@ -95,17 +131,17 @@ fn a_file_is_read_up_to_its_limit(rt: HostRuntime) -> Result<(), Fail> {
 }
 
 #[test]
-fn a_sink_that_fails_has_a_part_of_the_line(rt: HostRuntime) -> Result<(), Fail> {
+fn a_sink_that_fails_has_a_part_of_the_report(rt: HostRuntime) -> Result<(), Fail> {
     let alloc = rt.alloc();
     let words = words(alloc, &["decide", "t.mona"])?;
-    let mut files = files(alloc, b"", &[])?;
+    let mut files = files(alloc, b"ws1s; var2 P, Q; P sub Q;", &[])?;
     let failing = List::from(vec![in alloc; 1u64]?);
     let mut sink = MemSink::new(alloc, 3, 99, failing)?;
     assert_eq!(rt;
         run(alloc, &words, &mut files, &mut sink),
         Status::SinkFault
     );
-    assert_eq!(rt; sink.bytes(), b"27 ".as_slice());
+    assert_eq!(rt; sink.bytes(), b"con".as_slice());
     Ok(())
 }
 
@@ -133,5 +169,21 @@ fn an_inclusion_has_two_states(rt: HostRuntime) -> Result<(), Fail> {
         assert_eq!(rt; automaton.step(0, letter.as_slice()), state, "{letter:?}");
         assert_eq!(rt; automaton.step(1, letter.as_slice()), 1, "{letter:?}");
     }
+    Ok(())
+}
+
+#[test]
+fn the_first_words_of_an_inclusion(rt: HostRuntime) -> Result<(), Fail> {
+    let alloc = rt.alloc();
+    let automaton = inclusion(alloc, 0, 1, 2)?;
+    // The shortest word with the sign has one letter: the left set has the position, the right one has not.
+    let Some(word) = first(alloc, &automaton, Sign::No)? else {
+        assert!(rt; false, "no word");
+        return Ok(());
+    };
+    assert_eq!(rt; word.truth.len(), 0);
+    assert_eq!(rt; word.letters.len(), 1);
+    assert_eq!(rt; word.letters.get(0).slice(), [true, false].as_slice());
+    assert!(rt; first(alloc, &automaton, Sign::Undefined)?.is_none());
     Ok(())
 }

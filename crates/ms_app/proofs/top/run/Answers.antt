@@ -1,18 +1,22 @@
-use Rattle.std.proofs.Common.{◌≡◌, [], inl, inr}
+use Rattle.std.proofs.Common.{◌≡◌, [], ℕ, List, Some, inl, inr, sym}
 use Rattle.ms_edge.specs.declared.refusal.Refusal.TheVariants.{Memory}
+use Rattle.ms_app.specs.Command.{file_of}
 use Rattle.ms_app.proofs.top.run.Goals as goal
 
-pub returns-clause-refused : goal.returns-clause-refused
-returns-clause-refused g c = λ name asked.
-    let same : c.in-Some.name.now ≡ name = cc c.in-Some.ensures in
-    elim c.refuse.ensures [
-      | inl whole ↦ (
-        c.decide-refusal.result,
-        (
-          c.decide-refusal.new.names,
-          rw (← same) c.decide-refusal.ensures.refused,
-          whole,
-        ),
-      )
-      | inr short ↦ (Memory, ([], tt, short))
-    ]
+pub returns-in-Ok-clause-answered : goal.returns-in-Ok-clause-answered
+returns-in-Ok-clause-answered g c =
+    let asked : file_of c.args.words.now ≡ Some c.in-Some.name.now = sym c.in-Some.ensures in
+    rw asked
+    (elim c.tell.ensures [
+      | inl whole ↦ inl (c.in-Ok.found, c.in-Ok.ensures.decided, whole)
+      | inr short ↦ inr (Memory, [], tt, short)
+    ])
+
+pub returns-clause-answered : goal.returns-clause-answered
+returns-clause-answered g c =
+    let asked : file_of c.args.words.now ≡ Some c.in-Some.name.now = sym c.in-Some.ensures in
+    rw asked
+    (elim c.refuse.ensures [
+      | inl whole ↦ inr (c.in-Err.refusal, c.decide.new.names, c.in-Err.ensures.refused, whole)
+      | inr short ↦ inr (Memory, [], tt, short)
+    ])

@@ -1,0 +1,46 @@
+-- What is found of a problem: its verdict, and the first assignment of each value.
+use Rattle.std.specs.Prelude.{◌≡◌, ℕ, Bool, true, false, List, Option, Some, None}
+use Rattle.ms_logic.specs.declared.assignment.Assignment.{Assignment}
+use Rattle.ms_logic.specs.Assignment.{Env}
+use Rattle.ms_logic.specs.First.{IsFirst, assignment_of}
+use Rattle.ms_logic.specs.Verdict.{Problem, variables_of, Assigns, MainYes, MainNo, IsValid, IsUnsatisfiable, IsContingent, IsVacuous}
+use Rattle.ms_dfa.specs.declared.sign.Sign.{Sign}
+use Rattle.ms_dfa.specs.declared.sign.Sign.TheVariants.{Yes, No, Undefined, Outside}
+use Rattle.ms_report.specs.declared.found.Verdict.{Verdict}
+use Rattle.ms_report.specs.declared.found.Verdict.TheVariants.{Valid, Unsatisfiable, Contingent, Vacuous}
+use Rattle.ms_report.specs.declared.found.Found.{Found}
+
+-- the main value at an assignment is the one that the sign stands for
+abbrev pub MainIs : Problem → Sign → Env → Type 0
+MainIs problem Yes e = MainYes problem e
+MainIs problem No e = MainNo problem e
+MainIs problem Undefined e = (¬ MainYes problem e) × (¬ MainNo problem e)
+MainIs problem Outside e = ⊥
+
+-- what is shown is the first assignment of the globals that has the property; nothing is shown where none has it
+abbrev pub ShowsFirst : Problem → (Env → Type 0) → Option Assignment → Type 0
+ShowsFirst problem Holds None = (e : Env) → Assigns problem e → ¬ Holds e
+ShowsFirst problem Holds (Some shown) =
+    (e : Env) × IsFirst problem.mode (variables_of problem.globals) Holds e × (shown ≡ assignment_of (variables_of problem.globals) e)
+
+-- the verdict by whether there is an example, and a counterexample
+abbrev pub verdict_by : Bool → Bool → Verdict
+verdict_by true false = Valid
+verdict_by false true = Unsatisfiable
+verdict_by true true = Contingent
+verdict_by false false = Vacuous
+
+-- the verdict is the problem's
+abbrev pub IsVerdict : Problem → Verdict → Type 0
+IsVerdict problem Valid = IsValid problem
+IsVerdict problem Unsatisfiable = IsUnsatisfiable problem
+IsVerdict problem Contingent = IsContingent problem
+IsVerdict problem Vacuous = IsVacuous problem
+
+-- what was found is true of the problem, whose globals have these names
+pub record IsFound (problem : Problem) (names : List (List ℕ)) (found : Found) : Type 0 where
+  pub verdict : IsVerdict problem found.verdict
+  pub globals : found.globals ≡ names
+  pub example : ShowsFirst problem (MainYes problem) found.example
+  pub counterexample : ShowsFirst problem (MainNo problem) found.counterexample
+  pub no_counts : found.stats ≡ None
