@@ -1,5 +1,5 @@
 -- What contracts see of an automaton, and what is true of each.
-use Rattle.std.specs.Prelude.{◌≡◌, ◌≢◌, ◌↔◌, ℕ, ◌<◌, ◌≤◌, Bool, List, [], ◌∷◌, length, map, Some}
+use Rattle.std.specs.Prelude.{◌≡◌, ◌≢◌, ◌↔◌, ◌≤◌, List, length, map, Some}
 use Rattle.ms_edge.specs.declared.refusal.Word.{Word}
 use Rattle.ms_arena.specs.declared.node.Ref.{Ref}
 use Rattle.ms_arena.specs.declared.node.Node.{Node}
@@ -8,6 +8,7 @@ use Rattle.ms_logic.specs.declared.mode.Mode.{Mode}
 use Rattle.ms_logic.specs.declared.mode.Mode.TheVariants.{Ws1s}
 use Rattle.ms_logic.specs.declared.mode.Order.{Order}
 use Rattle.ms_logic.specs.Assignment.{Variable}
+use Rattle.ms_logic.specs.Roots.{AreRising}
 use Rattle.ms_logic.specs.Word.{IsEncoding}
 use Rattle.ms_logic.specs.Content.{StateOf, Content, IsWordOver, IsClosed, sign_of, with_zero_letter, is_truth_value, is_in_letters}
 use Rattle.ms_dfa.specs.declared.sign.Sign.{Sign}
@@ -33,16 +34,6 @@ states_of states = map state_of states
 abbrev pub content_of : List Node → Mode → List Track → Ref → List State → Content Sign
 content_of nodes mode tracks start states =
     record { mode = mode; variables = variables_of tracks; start = start; states = states_of states; nodes = nodes }
-
--- a number is below that of the first variable of a list, if there is one
-abbrev pub IsBelowFirst : ℕ → List Variable → Type 0
-IsBelowFirst name [] = Unit {0}
-IsBelowFirst name (v ∷ vs) = name < v.name
-
--- the numbers of the variables rise
-abbrev pub AreRising : List Variable → Type 0
-AreRising [] = Unit {0}
-AreRising (v ∷ vs) = IsBelowFirst v.name vs × AreRising vs
 
 -- the sign of a word is another than Outside exactly where the word encodes an assignment
 abbrev pub TellsEncodings : Content Sign → Type 0
