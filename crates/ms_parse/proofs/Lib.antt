@@ -1,0 +1,13 @@
+pub mod Extensions
+pub mod Frames
+pub mod Headers
+pub mod Levels
+pub mod OneTree
+pub mod Soundness
+pub mod Runs
+pub mod Settling
+pub mod Sources
+pub mod Steps
+pub mod Trials
+pub mod Completeness
+pub mod Moves

@@ -1,0 +1,9 @@
+//! The grammar of the language, both ways: a tree reads from tokens, and a tree is printed as a text.
+#![tactic(auto)]
+
+mod examples;
+mod laws;
+mod operator;
+
+pub use examples::{example_documents, example_operators, example_refusals};
+pub use laws::one_document;
