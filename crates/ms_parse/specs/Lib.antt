@@ -3,6 +3,7 @@ pub mod Examples
 pub mod Grammar
 pub mod Machine
 pub mod Reads
+pub mod Signs
 pub mod Symbol
 pub mod Tree
 pub mod View

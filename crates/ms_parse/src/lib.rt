@@ -4,6 +4,7 @@
 mod examples;
 mod laws;
 mod operator;
+mod sign;
 
 pub use examples::{example_documents, example_operators, example_refusals};
 pub use laws::one_document;
