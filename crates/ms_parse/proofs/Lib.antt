@@ -1,6 +1,7 @@
 pub mod Extensions
 pub mod Frames
 pub mod Headers
+pub mod Inputs
 pub mod Levels
 pub mod OneTree
 pub mod Soundness
@@ -8,6 +9,7 @@ pub mod Runs
 pub mod Settling
 pub mod Sources
 pub mod Steps
+pub mod Texts
 pub mod Trials
 pub mod Completeness
 pub mod Moves

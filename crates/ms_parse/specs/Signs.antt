@@ -60,3 +60,14 @@ behind file lexed i = drop i (symbols file lexed)
 -- the token with this number is this symbol
 abbrev pub IsNext : ℕ → Lexed → ℕ → Symbol → At → Type 0
 IsNext file lexed i s at = behind file lexed i ≡ placed s at ∷ behind file lexed (suc i)
+
+-- the first symbol is no name, and no text
+abbrev pub NoName : List Placed → Type 0
+NoName [] = Unit {0}
+NoName (placed (name n) at ∷ more) = ⊥
+NoName (placed _ at ∷ more) = Unit {0}
+
+abbrev pub NoText : List Placed → Type 0
+NoText [] = Unit {0}
+NoText (placed (text t) at ∷ more) = ⊥
+NoText (placed _ at ∷ more) = Unit {0}

@@ -2,6 +2,7 @@
 #![tactic(auto)]
 
 mod examples;
+mod input;
 mod laws;
 mod operator;
 mod sign;
