@@ -14,7 +14,7 @@ use Rattle.ms_parse.specs.Tree.{Atom, truth, falsity, whole, empty_set, named, n
 use Rattle.ms_parse.specs.Tree.{Expression, atom, prefixed, binary, joined, shifted, enclosed, listed, quantified, let_in, Expressions, no_expressions, and_expression, Variables, no_variables, and_variable, Domain, unrestricted, restricted, Parts, no_parts, and_part, Document}
 use Rattle.ms_parse.specs.Grammar.{binary_level, left_level, right_level, prefix_level, operand_level, junction_level, level, last_ends_open, is_in, has_bare_in, some_bare_in, domain_bare_in, part_bare_in, IsGrammatical, AreGrammatical, AreOperands, HaveGrammaticalDomains, HaveGrammaticalValues, AreOfOrder, depth, depth_of_all, depth_of_domains, depth_of_values}
 use Rattle.ms_parse.specs.Reads.{int_symbol, Starts, Follows, ReadsPairs, ReadsAtom, ReadsOpening, ReadsListOpening, closing, place, FirstIsAt, ReadsExpression, ReadsSeparated, ReadsList, ReadsDomain, ReadsVariables, ReadsParts}
-use Rattle.ms_parse.specs.Machine.{Frame, prefix_frame, left_frame, joined_frame, bracket_frame, list_frame, domain_frame, body_frame, part_frame, let_frame, Context, wanted, holding, variable_wanted, part_wanted, pair_wanted, Next, need, in_part, enter, bound, step, Runs}
+use Rattle.ms_parse.specs.Machine.{Frame, prefix_frame, left_frame, joined_frame, bracket_frame, list_frame, domain_frame, body_frame, part_frame, let_frame, Context, wanted, holding, variable_wanted, part_wanted, pair_wanted, Next, need, in_part, enter, bound, step, Runs, hold}
 use Rattle.ms_parse.proofs.Levels.{Yields, yields-zero, yields, tight-infix, tight-joining, tight-sign}
 use Rattle.ms_parse.proofs.Moves.{follower, starter, neither, quiet, depth_positive, left_high, list_begins, name_alone, empty_alone, literal_filled, call_filled, infix_step, sign_step, join_first, join_further}
 use Rattle.ms_parse.proofs.Steps.{by_step, Leads, by_lead, ended, entered, at_start}
@@ -123,11 +123,15 @@ empty_list_read (Call p) c st at from f1 behind d (g1, starts, opens) closes run
     by_step (wanted c st) from (placed (name p) at ∷ placed open_round opens.0 ∷ placed close_round closes.0 ∷ behind) (holding c (listed at (Call p) no_expressions) st) behind d
     (at_start (name p) at from g1 starts ∙ ap (λ f. placed (name p) at ∷ f) (opens.1 ∙ ap (λ f. placed open_round opens.0 ∷ f) closes.1)) refl runs
 
+-- an expression that is not too deep is kept
+held : (c : Context) (e : Expression) (st : List Frame) (ts : List Placed) → depth e ≤ 300 → hold c e st ts ≡ Some (holding c e st, ts)
+held c e st ts deep = ap (λ b. cond b (Some (holding c e st, ts)) None) (le-leb (depth e) 300 deep)
+
 -- the bracket behind the last expression of a list
-list_closed : (l : Listing) (c : Context) (st : List Frame) (at x : At) (es : Expressions) (e : Expression) (behind : List Placed)
+list_closed : (l : Listing) (c : Context) (st : List Frame) (at x : At) (es : Expressions) (e : Expression) (behind : List Placed) → suc (depth_of_all (and_expression es e)) ≤ 300
     → step (holding c e (list_frame at l es ∷ st)) (placed (closing l) x ∷ behind) ≡ Some (holding c (listed at l (and_expression es e)) st, behind)
-list_closed Literal c st at x es e behind = refl
-list_closed (Call p) c st at x es e behind = refl
+list_closed Literal c st at x es e behind deep = held c (listed at Literal (and_expression es e)) st behind deep
+list_closed (Call p) c st at x es e behind deep = held c (listed at (Call p) (and_expression es e)) st behind deep
 
 -- a comma, or what stands behind the last variable or part
 abbrev pub variable_separator : Bool → Symbol
@@ -227,14 +231,14 @@ mutual
       (ap (λ b. cond b (enter c (prefix_frame at op) st f1) None) (le-leb (need st) (prefix_level op) low)
       ∙ entered c (prefix_frame at op) st f1 (omega (arith, depth_positive e)) (omega (arith, depth_positive e)))
       (expression_read e c (prefix_frame at op ∷ st) f1 ts s a d good.1 good.0 (omega arith) bare follows yield.1 read_e
-      (ended c (prefix_frame at op) e st s a ts d (le-leb (bound (in_part st) s) (operand_level op) yield.0) refl runs))
+      (ended c (prefix_frame at op) e st s a ts d (le-leb (bound (in_part st) s) (operand_level op) yield.0) (omega arith) refl runs))
   expression_read (binary at op l r) c st from ts s a d good low deep bare follows yield (f1, f2, at_is, read_l, follow, read_r) runs =
       let no_let : (in_part st && is_in op) ≡ false = quiet (in_part st) (is_in op) (λ p. (neither (is_in op) (has_bare_in l) (neither (is_in op || has_bare_in l) (has_bare_in r) (bare p)).0).0) in
       let held : Runs (holding c (binary (place l) op l r) st) (placed s a ∷ ts) d = subst (λ x. Runs (holding c (binary x op l r) st) (placed s a ∷ ts) d) at_is runs in
       let right : Runs (wanted c (left_frame op l ∷ st)) f2 d =
       expression_read r c (left_frame op l ∷ st) f2 ts s a d good.4 good.3 (omega arith)
       (λ p. (neither (is_in op || has_bare_in l) (has_bare_in r) (bare p)).1) follows yield.1 read_r
-      (ended c (left_frame op l) r st s a ts d (le-leb (bound (in_part st) s) (right_level op) yield.0) refl held)
+      (ended c (left_frame op l) r st s a ts d (le-leb (bound (in_part st) s) (right_level op) yield.0) (omega arith) refl held)
       in
       expression_read l c st from f2 (infix_operator op) follow.0 d good.2 (omega (arith, left_high op, good.0)) (omega arith)
       (λ p. (neither (is_in op) (has_bare_in l) (neither (is_in op || has_bare_in l) (has_bare_in r) (bare p)).0).1) refl
@@ -250,7 +254,7 @@ mutual
       (subst (λ f. ReadsSeparated true (joining op) (and_expression es x) from f) follow.1 read_es)
       (expression_read e c (joined_frame at op (and_expression es x) ∷ st) f2 ts s a d good.1.3 good.1.2 (omega arith)
       (λ p. (neither (some_bare_in (and_expression es x)) (has_bare_in e) (bare p)).1) follows yield.1 read_e
-      (ended c (joined_frame at op (and_expression es x)) e st s a ts d (le-leb (bound (in_part st) s) (junction_level op) yield.0) refl runs))
+      (ended c (joined_frame at op (and_expression es x)) e st s a ts d (le-leb (bound (in_part st) s) (junction_level op) yield.0) (omega arith) refl runs))
   expression_read (shifted at e n) c st from ts s a d good low deep bare follows yield (f1, f2, at_is, read_e, follow, int_is) runs =
       expression_read e c st from f2 (sign n.minus) follow.0 d good.2 (omega (arith, good.0)) (omega arith) bare refl
       (yields 9 10 tight-sign e good.2 good.1 good.0) (subst (λ f. ReadsExpression true e from f) follow.1 read_e)
@@ -264,7 +268,7 @@ mutual
       (expression_read e c (bracket_frame at b ∷ st) f1 (placed s a ∷ ts) close_round follow.0 d good (omega arith) (omega arith) (λ p. absurd (false≢true p)) refl (yields-zero e)
       (subst (λ f. ReadsExpression true e f1 f) follow.1 read_e)
       (by_step (holding c e (bracket_frame at b ∷ st)) (placed close_round follow.0 ∷ placed s a ∷ ts) (placed close_round follow.0 ∷ placed s a ∷ ts)
-      (holding c (enclosed at b e) st) (placed s a ∷ ts) d refl refl runs))
+      (holding c (enclosed at b e) st) (placed s a ∷ ts) d refl (held c (enclosed at b e) st (placed s a ∷ ts) (omega arith)) runs))
   expression_read (listed at l no_expressions) c st from ts s a d good low deep bare follows yield (f1, f2, opens, none, follow) runs =
       empty_list_read l c st at from f1 (placed s a ∷ ts) d opens (follow.0, none ∙ follow.1) runs
   expression_read (listed at l (and_expression es e)) c st from ts s a d good low deep bare follows yield (f1, f2, opens, read_es, follow) runs =
@@ -272,7 +276,7 @@ mutual
       (entries_read (and_expression es e) l c st at f1 (placed s a ∷ ts) (closing l) follow.0 d good (omega arith) (closing_follows l) (closing_bound l)
       (subst (λ f. ReadsList true (and_expression es e) f1 f) follow.1 read_es)
       (by_step (holding c e (list_frame at l es ∷ st)) (placed (closing l) follow.0 ∷ placed s a ∷ ts) (placed (closing l) follow.0 ∷ placed s a ∷ ts)
-      (holding c (listed at l (and_expression es e)) st) (placed s a ∷ ts) d refl (list_closed l c st at follow.0 es e (placed s a ∷ ts)) runs))
+      (holding c (listed at l (and_expression es e)) st) (placed s a ∷ ts) d refl (list_closed l c st at follow.0 es e (placed s a ∷ ts) (omega arith)) runs))
   expression_read (quantified at q o vs body) c st from ts s a d good low deep bare follows yield (f1, f2, f3, starts, read_vs, follow, read_body) runs =
       by_step (wanted c st) from (placed (quantifier q o) at ∷ f1) (variable_wanted c st at q o no_variables) f1 d (at_start (quantifier q o) at from f1 starts)
       (ap (λ b. cond b (Some (variable_wanted c st at q o no_variables, f1)) None) (le-leb (need st) 4 low))
@@ -281,7 +285,7 @@ mutual
       (subst (λ n. Leads n d) (sym (entered c (body_frame at q o vs) st f3 (omega (arith, depth_positive body)) (omega arith)))
       (expression_read body c (body_frame at q o vs ∷ st) f3 ts s a d good.3 (omega arith) (omega arith)
       (λ p. (neither (domain_bare_in vs) (has_bare_in body) (bare p)).1) follows yield.1 read_body
-      (ended c (body_frame at q o vs) body st s a ts d (le-leb (bound (in_part st) s) 0 yield.0) refl runs))))
+      (ended c (body_frame at q o vs) body st s a ts d (le-leb (bound (in_part st) s) 0 yield.0) (omega arith) refl runs))))
   expression_read (let_in at o parts body) c st from ts s a d good low deep bare follows yield (f1, f2, f3, starts, read_parts, follow, read_body) runs =
       by_step (wanted c st) from (placed (let_word o) at ∷ f1) (part_wanted c st at o no_parts) f1 d (at_start (let_word o) at from f1 starts)
       (ap (λ b. cond b (Some (part_wanted c st at o no_parts, f1)) None) (le-leb (need st) 4 low))
@@ -290,7 +294,7 @@ mutual
       (subst (λ n. Leads n d) (sym (entered c (let_frame at o parts) st f3 (omega (arith, depth_positive body)) (omega arith)))
       (expression_read body c (let_frame at o parts ∷ st) f3 ts s a d good.2 (omega arith) (omega arith)
       (λ p. (neither (part_bare_in parts) (has_bare_in body) (bare p)).1) follows yield.1 read_body
-      (ended c (let_frame at o parts) body st s a ts d (le-leb (bound (in_part st) s) 0 yield.0) refl runs))))
+      (ended c (let_frame at o parts) body st s a ts d (le-leb (bound (in_part st) s) 0 yield.0) (omega arith) refl runs))))
 
   -- operands of `&` or `|`, with the operator behind the last of them
   operands_read : (es : Expressions) (op : Junction) (c : Context) (st : List Frame) (at : At) (from ts : List Placed) (y : At) (d : Document)

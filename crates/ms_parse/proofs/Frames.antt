@@ -1,5 +1,5 @@
 -- What the stack of the automaton says of the symbols that have been read.
-use Rattle.std.proofs.Common.{◌≡◌, ℕ, suc, ◌+◌, ◌≤◌, Bool, true, false, cond, ◌||◌, List, [], ◌∷◌, length, refl, sym, subst, arith}
+use Rattle.std.proofs.Common.{◌≡◌, ℕ, suc, ◌+◌, ◌≤◌, Bool, true, false, cond, ◌||◌, List, [], ◌∷◌, length, refl, sym, subst, arith, Option, leb, Some, None}
 use Rattle.std.proofs.lemmas.Bool.{false≢true, leb-true}
 use Rattle.ms_logic.specs.declared.mode.Rel.TheVariants.{Equal, Member}
 use Rattle.ms_parse.specs.Symbol.{name, prefix_operator, infix_operator, joining, quantifier, let_word, word_where, comma, colon, Placed}
@@ -7,7 +7,7 @@ use Rattle.ms_parse.specs.Tree.{Relation}
 use Rattle.ms_parse.specs.Tree.{Expression, Expressions, no_expressions, and_expression, Variables, no_variables, and_variable, Parts, no_parts, and_part}
 use Rattle.ms_parse.specs.Grammar.{binary_level, left_level, prefix_level, junction_level, level, ends_open, last_ends_open, is_in, has_bare_in, some_bare_in, domain_bare_in, part_bare_in, IsVariableList, IsPartList, IsGrammatical, AreGrammatical, AreOperands, HaveGrammaticalDomains, HaveGrammaticalValues, AreOfOrder, depth}
 use Rattle.ms_parse.specs.Reads.{Starts, Follows, ReadsOpening, ReadsListOpening, FirstIsAt, ReadsExpression, ReadsSeparated, ReadsList, ReadsVariables, ReadsParts}
-use Rattle.ms_parse.specs.Machine.{Frame, prefix_frame, left_frame, joined_frame, bracket_frame, list_frame, domain_frame, body_frame, part_frame, let_frame, need, in_part, frame_depth, ends, completed, collapse}
+use Rattle.ms_parse.specs.Machine.{Frame, prefix_frame, left_frame, joined_frame, bracket_frame, list_frame, domain_frame, body_frame, part_frame, let_frame, need, in_part, frame_depth, ends, completed, Top, collapse}
 
 -- entries with a comma behind each
 abbrev pub EntriesSoFar : Expressions → List Placed → List Placed → Type 0
@@ -170,10 +170,17 @@ pub chosen : {A : Type 0} (P : A → Type 0) (b : Bool) (x y : A) → (b ≡ tru
 chosen P true x y one other = one refl
 chosen P false x y one other = other refl
 
-pub collapsed : (b : ℕ) (st : List Frame) (e : Expression) (from ts : List Placed) → Held e st from ts → (1 ≤ b → ends_open e ≡ false) → Collapsed b (in_part st) (collapse b e st) from ts
+-- what has been completed, if it is not too deep
+abbrev pub CollapsedTo : ℕ → Bool → Option Top → List Placed → List Placed → Type 0
+CollapsedTo b inside None from ts = Unit {0}
+CollapsedTo b inside (Some top) from ts = Collapsed b inside top from ts
+
+pub collapsed : (b : ℕ) (st : List Frame) (e : Expression) (from ts : List Placed) → Held e st from ts → (1 ≤ b → ends_open e ≡ false) → CollapsedTo b (in_part st) (collapse b e st) from ts
 collapsed b [] e from ts held closed = record { held = held; closed = closed; stands = tt; same_part = refl }
 collapsed b (f ∷ st) e from ts held closed =
-    chosen (λ top. Collapsed b (in_part (f ∷ st)) top from ts) (ends b f) (collapse b (completed f e) st) (e, f ∷ st)
-    (λ is. subst (λ p. Collapsed b p (collapse b (completed f e) st) from ts) (sym (below_part b f st is))
+    chosen (λ top. CollapsedTo b (in_part (f ∷ st)) top from ts) (ends b f) (cond (leb (depth (completed f e)) 300) (collapse b (completed f e) st) None) (Some (e, f ∷ st))
+    (λ is. chosen (λ top. CollapsedTo b (in_part (f ∷ st)) top from ts) (leb (depth (completed f e)) 300) (collapse b (completed f e) st) None
+    (λ small. subst (λ p. CollapsedTo b p (collapse b (completed f e) st) from ts) (sym (below_part b f st is))
     (collapsed b st (completed f e) from ts (completed_held b f e st from ts is held) (λ some. completed_closed b f e is some (closed some))))
+    (λ large. tt))
     (λ is_not. record { held = held; closed = closed; stands = is_not; same_part = refl })

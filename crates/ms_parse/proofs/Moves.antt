@@ -10,7 +10,7 @@ use Rattle.ms_parse.specs.Tree.{truth, falsity, whole, empty_set, named, numeral
 use Rattle.ms_parse.specs.Tree.{Expression, atom, prefixed, binary, joined, shifted, enclosed, listed, quantified, let_in, Expressions, no_expressions, and_expression}
 use Rattle.ms_parse.specs.Grammar.{binary_level, left_level, right_level, operand_level, junction_level, level, is_in, depth, depth_of_all}
 use Rattle.ms_parse.specs.Reads.{int_symbol, place, ReadsExpression, ReadsSeparated, ReadsList}
-use Rattle.ms_parse.specs.Machine.{Frame, prefix_frame, left_frame, joined_frame, bracket_frame, list_frame, domain_frame, body_frame, part_frame, let_frame, Context, wanted, holding, need, in_part, enter, collapse, begin_name, begin_empty, begin_literal, in_at, join, join_new, shift, shift_by, shift_int, step}
+use Rattle.ms_parse.specs.Machine.{Frame, prefix_frame, left_frame, joined_frame, bracket_frame, list_frame, domain_frame, body_frame, part_frame, let_frame, Context, wanted, holding, need, in_part, enter, collapse, on_top, begin_name, begin_empty, begin_literal, in_at, join, join_new, shift, shift_by, shift_int, step}
 use Rattle.ms_parse.proofs.Steps.{entered}
 
 -- a symbol that may stand behind an expression
@@ -72,17 +72,17 @@ left_high Intersection = omega arith
 left_high Difference = omega arith
 
 -- an operator that is as loose as what is wanted ends no frame
-pub stays : (n : ℕ) (e : Expression) (st : List Frame) → need st ≤ n → collapse (suc n) e st ≡ (e, st)
+pub stays : (n : ℕ) (e : Expression) (st : List Frame) → need st ≤ n → collapse (suc n) e st ≡ Some (e, st)
 stays n e [] low = refl
-stays n e (prefix_frame at op ∷ st) low = ap (λ b. cond b (collapse (suc n) (prefixed at op e) st) (e, prefix_frame at op ∷ st)) (lt-leb (suc n) (operand_level op) (omega arith))
-stays n e (left_frame op l ∷ st) low = ap (λ b. cond b (collapse (suc n) (binary (place l) op l e) st) (e, left_frame op l ∷ st)) (lt-leb (suc n) (right_level op) (omega arith))
-stays n e (joined_frame at op es ∷ st) low = ap (λ b. cond b (collapse (suc n) (joined at op (and_expression es e)) st) (e, joined_frame at op es ∷ st)) (lt-leb (suc n) (junction_level op) (omega arith))
+stays n e (prefix_frame at op ∷ st) low = ap (λ b. cond b (cond (leb (depth (prefixed at op e)) 300) (collapse (suc n) (prefixed at op e) st) None) (Some (e, prefix_frame at op ∷ st))) (lt-leb (suc n) (operand_level op) (omega arith))
+stays n e (left_frame op l ∷ st) low = ap (λ b. cond b (cond (leb (depth (binary (place l) op l e)) 300) (collapse (suc n) (binary (place l) op l e) st) None) (Some (e, left_frame op l ∷ st))) (lt-leb (suc n) (right_level op) (omega arith))
+stays n e (joined_frame at op es ∷ st) low = ap (λ b. cond b (cond (leb (depth (joined at op (and_expression es e))) 300) (collapse (suc n) (joined at op (and_expression es e)) st) None) (Some (e, joined_frame at op es ∷ st))) (lt-leb (suc n) (junction_level op) (omega arith))
 stays n e (bracket_frame at b ∷ st) low = refl
 stays n e (list_frame at l es ∷ st) low = refl
 stays n e (domain_frame at q o vs at_v v ∷ st) low = refl
-stays n e (body_frame at q o vs ∷ st) low = ap (λ b. cond b (collapse (suc n) (quantified at q o vs e) st) (e, body_frame at q o vs ∷ st)) (lt-leb (suc n) 0 (omega arith))
+stays n e (body_frame at q o vs ∷ st) low = ap (λ b. cond b (cond (leb (depth (quantified at q o vs e)) 300) (collapse (suc n) (quantified at q o vs e) st) None) (Some (e, body_frame at q o vs ∷ st))) (lt-leb (suc n) 0 (omega arith))
 stays n e (part_frame at o parts at_n v ∷ st) low = refl
-stays n e (let_frame at o parts ∷ st) low = ap (λ b. cond b (collapse (suc n) (let_in at o parts e) st) (e, let_frame at o parts ∷ st)) (lt-leb (suc n) 0 (omega arith))
+stays n e (let_frame at o parts ∷ st) low = ap (λ b. cond b (cond (leb (depth (let_in at o parts e)) 300) (collapse (suc n) (let_in at o parts e) st) None) (Some (e, let_frame at o parts ∷ st))) (lt-leb (suc n) 0 (omega arith))
 
 -- what an expression begins with
 mutual
@@ -147,8 +147,8 @@ pub infix_step : (c : Context) (op : Binary) (l : Expression) (st : List Frame) 
     → (in_part st && is_in op) ≡ false → left_level op ≤ level l → suc (suc (length st)) ≤ 300 → suc (length st) + depth l ≤ 300
     → step (holding c l st) (placed (infix_operator op) x ∷ ts) ≡ Some (wanted c (left_frame op l ∷ st), ts)
 infix_step c op l st x ts low no_let high room deep =
-    ap (λ b. cond b (let top = collapse (cond b 0 (suc (binary_level op))) l st in in_at c top.0 top.1 ts) (shift c op (collapse (cond b 0 (suc (binary_level op))) l st) ts)) no_let
-    ∙ ap (λ top. shift c op top ts) (stays (binary_level op) l st low)
+    ap (λ b. on_top (λ top. cond b (in_at c top.0 top.1 ts) (shift c op top ts)) (collapse (cond b 0 (suc (binary_level op))) l st)) no_let
+    ∙ ap (on_top (λ top. shift c op top ts)) (stays (binary_level op) l st low)
     ∙ ap (λ b. cond b (enter c (left_frame op l) st ts) None) (le-leb (left_level op) (level l) high)
     ∙ entered c (left_frame op l) st ts room deep
 
@@ -161,7 +161,7 @@ int_read c minus e st (Constant n) a ts = refl
 pub sign_step : (c : Context) (e : Expression) (n : PlacedInt) (st : List Frame) (x : At) (ts : List Placed) → need st ≤ 9 → 9 ≤ level e → length st + suc (depth e) ≤ 300
     → step (holding c e st) (placed (sign n.minus) x ∷ placed (int_symbol n.value) n.at ∷ ts) ≡ Some (holding c (shifted (place e) e n) st, ts)
 sign_step c e n st x ts low high deep =
-    ap (λ top. shift_int c n.minus top.0 top.1 (placed (int_symbol n.value) n.at ∷ ts)) (stays 9 e st low)
+    ap (on_top (λ top. shift_int c n.minus top.0 top.1 (placed (int_symbol n.value) n.at ∷ ts))) (stays 9 e st low)
     ∙ int_read c n.minus e st n.value n.at ts
     ∙ ap (λ b. cond (b && leb (length st + suc (depth e)) 300) (Some (holding c (shifted (place e) e n) st, ts)) None) (le-leb 9 (level e) high)
     ∙ ap (λ b. cond b (Some (holding c (shifted (place e) e n) st, ts)) None) (le-leb (length st + suc (depth e)) 300 deep)
@@ -181,7 +181,7 @@ pub join_first : (c : Context) (op : Junction) (e : Expression) (st : List Frame
     → suc (suc (length st)) ≤ 300 → suc (length st) + depth e ≤ 300
     → step (holding c e st) (placed (joining op) x ∷ ts) ≡ Some (wanted c (joined_frame (place e) op (and_expression no_expressions e) ∷ st), ts)
 join_first c op e st x ts low high room deep =
-    ap (λ top. join c op top.0 top.1 ts) (stays (junction_level op) e st low)
+    ap (on_top (λ top. join c op top.0 top.1 ts)) (stays (junction_level op) e st low)
     ∙ first_joined c op e st ts low
     ∙ ap (λ b. cond b (enter c (joined_frame (place e) op (and_expression no_expressions e)) st ts) None) (le-leb (suc (junction_level op)) (level e) high)
     ∙ entered c (joined_frame (place e) op (and_expression no_expressions e)) st ts room (omega arith)
@@ -196,7 +196,7 @@ pub join_further : (c : Context) (op : Junction) (at : At) (es : Expressions) (e
     → suc (suc (length st)) ≤ 300 → suc (length st) + depth_of_all (and_expression es e) ≤ 300
     → step (holding c e (joined_frame at op es ∷ st)) (placed (joining op) x ∷ ts) ≡ Some (wanted c (joined_frame at op (and_expression es e) ∷ st), ts)
 join_further c op at es e st x ts room deep =
-    ap (λ b. let top = cond b (collapse (suc (junction_level op)) (joined at op (and_expression es e)) st) (e, joined_frame at op es ∷ st) in join c op top.0 top.1 ts)
+    ap (λ b. on_top (λ top. join c op top.0 top.1 ts) (cond b (cond (leb (depth (joined at op (and_expression es e))) 300) (collapse (suc (junction_level op)) (joined at op (and_expression es e)) st) None) (Some (e, joined_frame at op es ∷ st))))
     (lt-leb (suc (junction_level op)) (junction_level op) (omega arith))
     ∙ further_joined c op at es e st ts
     ∙ entered c (joined_frame at op (and_expression es e)) st ts room deep

@@ -17,8 +17,8 @@ use Rattle.ms_parse.specs.Tree.{variables, constant, included, Document}
 use Rattle.ms_parse.specs.Grammar.{domain_bare_in, HaveGrammaticalDomains, AreOfOrder}
 use Rattle.ms_parse.specs.Reads.{Starts, Follows}
 use Rattle.ms_parse.specs.Declarations.{ReadsString, AreDomains, Reads}
-use Rattle.ms_parse.specs.Machine.{Frame, domain_frame, body_frame, part_frame, Context, in_formula, State, outside, wanted, holding, variable_wanted, part_wanted, pair_wanted, global_wanted, parameter_wanted, summand_wanted, Next, need, in_part, ends, collapse, bound, behind_variable, next_variable, next_part, next_pair, behind_global, next_global, behind_parameter, next_parameter, next_summand, begin_constant, begin_predicate, begin_include, begin_default, begin_declaration, step, headed, start, finished, goes_on, run, Runs}
-use Rattle.ms_parse.proofs.Frames.{VariablesSoFar, InFrames, chosen, collapsed}
+use Rattle.ms_parse.specs.Machine.{Frame, domain_frame, body_frame, part_frame, Context, in_formula, State, outside, wanted, holding, variable_wanted, part_wanted, pair_wanted, global_wanted, parameter_wanted, summand_wanted, Next, need, in_part, Top, on_top, settle, ends, collapse, bound, behind_variable, next_variable, next_part, next_pair, behind_global, next_global, behind_parameter, next_parameter, next_summand, begin_constant, begin_predicate, begin_include, begin_default, begin_declaration, step, headed, start, finished, goes_on, run, Runs}
+use Rattle.ms_parse.proofs.Frames.{VariablesSoFar, InFrames, CollapsedTo, chosen, collapsed}
 use Rattle.ms_parse.proofs.Extensions.{variables_extended, ParametersSoFar, ParameterKind, parameters_extended, pairs_extended, sum_extended}
 use Rattle.ms_parse.proofs.Settling.{declared_good, begins_with, body_of_good, settle_good}
 use Rattle.ms_parse.proofs.Soundness.{SoFar, InContext, Good, GoodNext, need_small, enter_good, begin_good}
@@ -283,11 +283,16 @@ declaration_good all d at word_include ts so_far = include_good all d at ts so_f
 declaration_good all d at (default_word o) ts so_far = default_good all d at o ts so_far
 declaration_good all d at s ts so_far = begin_good all (in_formula d at) [] at s (placed s at ∷ ts) ts (so_far, refl) refl (omega arith)
 
+top_good : (all : List Placed) (c : Context) (s : Symbol) (inside : Bool) (top : Option Top) (from ts : List Placed) (a : At) → InContext c all from → CollapsedTo (bound inside s) inside top from (placed s a ∷ ts)
+    → GoodNext all (on_top (λ t. settle c s inside t ts) top)
+top_good all c s inside None from ts a context is = tt
+top_good all c s inside (Some top) from ts a context is = settle_good all c s inside top from ts a context is
+
 step_good : (s : State) (all ts : List Placed) → Good s all ts → GoodNext all (step s ts)
 step_good (outside d) all (placed s at ∷ ts) is = declaration_good all d at s ts is
 step_good (wanted c st) all (placed s at ∷ ts) (from, context, frames, room) = begin_good all c st at s from ts context frames room
 step_good (holding c e st) all (placed s at ∷ ts) (from, context, held, closed) =
-    settle_good all c s (in_part st) (collapse (bound (in_part st) s) e st) from ts at context (collapsed (bound (in_part st) s) st e from (placed s at ∷ ts) held (λ some. closed))
+    top_good all c s (in_part st) (collapse (bound (in_part st) s) e st) from ts at context (collapsed (bound (in_part st) s) st e from (placed s at ∷ ts) held (λ some. closed))
 step_good (variable_wanted c st at q o vs) all (placed s a ∷ ts) is = next_variable_good all c st at q o vs (placed s a ∷ ts) is
 step_good (part_wanted c st at o parts) all (placed s a ∷ ts) is = next_part_good all c st at o parts (placed s a ∷ ts) is
 step_good (pair_wanted c st at file pairs) all (placed s a ∷ ts) is = next_pair_good all c st at file pairs (placed s a ∷ ts) is

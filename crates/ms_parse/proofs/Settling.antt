@@ -6,7 +6,7 @@ use Rattle.ms_logic.specs.declared.mode.Rel.TheVariants.{Equal, Differs, Less, A
 use Rattle.ms_logic.specs.declared.source.Int.TheVariants.{Number, Constant}
 use Rattle.ms_logic.specs.declared.source.PlacedInt.{PlacedInt}
 use Rattle.ms_parse.specs.Symbol.{Symbol, name, number, infix_operator, joining, sign, kind, predicate_word, default_word, close_round, close_curly, comma, colon, semicolon, Placed, placed}
-use Rattle.ms_parse.specs.Tree.{Binary, Implication, Equivalence, Relation, Union, Intersection, Difference, Junction, Conjunction, Disjunction, Literal, Call}
+use Rattle.ms_parse.specs.Tree.{Binary, Implication, Equivalence, Relation, Union, Intersection, Difference, Junction, Conjunction, Disjunction, Literal, Call, enclosed, listed}
 use Rattle.ms_parse.specs.Tree.{Expression, shifted, Expressions, no_expressions, and_expression, Variables, and_variable, restricted, and_part}
 use Rattle.ms_parse.specs.Tree.{Declaration, variables, predicate, default_restriction, formula, Document}
 use Rattle.ms_parse.specs.Grammar.{binary_level, left_level, junction_level, level, ends_open, is_in, right_level, operand_level, has_bare_in, some_bare_in, domain_bare_in, IsExpression, depth}
@@ -168,7 +168,8 @@ body_of_good all d at is_pred at_p p vs f g h i _ so_far words starts list good 
 close_round_good : (all : List Placed) (c : Context) (e : Expression) (st : List Frame) (from ts : List Placed) (a : At) → InContext c all from → Held e st from (placed close_round a ∷ ts)
     → GoodNext all (close_round_at c e st ts)
 close_round_good all c e (bracket_frame at b ∷ st) from ts a context held =
-    let (m, below, reads, good, deep) = held.frames in (
+    let (m, below, reads, good, deep) = held.frames in 
+    chosen (GoodNext all) (leb (depth (enclosed at b e)) 300) (Some (holding c (enclosed at b e) st, ts)) None (λ small. (
       from,
       context,
       record {
@@ -181,9 +182,10 @@ close_round_good all c e (bracket_frame at b ∷ st) from ts a context held =
         quiet = λ p. refl;
       },
       refl,
-    )
+    )) (λ large. tt)
 close_round_good all c e (list_frame at (Call p) es ∷ st) from ts a context held =
-    let (m, below, reads, good, deep) = held.frames in (
+    let (m, below, reads, good, deep) = held.frames in 
+    chosen (GoodNext all) (leb (depth (listed at (Call p) (and_expression es e))) 300) (Some (holding c (listed at (Call p) (and_expression es e)) st, ts)) None (λ small. (
       from,
       context,
       record {
@@ -196,7 +198,7 @@ close_round_good all c e (list_frame at (Call p) es ∷ st) from ts a context he
         quiet = λ p. refl;
       },
       refl,
-    )
+    )) (λ large. tt)
 close_round_good all (in_parameter d at is_pred at_p p vs o at_v n) e [] from ts a (f, g, h, i, j, k, l, so_far, words, starts, opens, before, kinds, names, follow, good) held =
     body_of_good all d at is_pred at_p p (and_variable vs at_v o n (restricted e)) f g h i ts so_far words starts (
       i,
@@ -211,7 +213,8 @@ close_round_good all c e _ from ts a context held = tt
 close_curly_good : (all : List Placed) (c : Context) (e : Expression) (st : List Frame) (from ts : List Placed) (a : At) → InContext c all from → Held e st from (placed close_curly a ∷ ts)
     → GoodNext all (close_curly_at c e st ts)
 close_curly_good all c e (list_frame at Literal es ∷ st) from ts a context held =
-    let (m, below, reads, good, deep) = held.frames in (
+    let (m, below, reads, good, deep) = held.frames in 
+    chosen (GoodNext all) (leb (depth (listed at Literal (and_expression es e))) 300) (Some (holding c (listed at Literal (and_expression es e)) st, ts)) None (λ small. (
       from,
       context,
       record {
@@ -224,7 +227,7 @@ close_curly_good all c e (list_frame at Literal es ∷ st) from ts a context hel
         quiet = λ p. refl;
       },
       refl,
-    )
+    )) (λ large. tt)
 close_curly_good all c e _ from ts a context held = tt
 
 comma_good : (all : List Placed) (c : Context) (e : Expression) (st : List Frame) (from ts : List Placed) (a : At) → InContext c all from → Held e st from (placed comma a ∷ ts)

@@ -126,10 +126,18 @@ completed (body_frame at q o vs) e = quantified at q o vs e
 completed (part_frame at o parts at_n n) e = e
 completed (let_frame at o parts) e = let_in at o parts e
 
--- the frames on top that end there, completed
-abbrev pub collapse : ℕ → Expression → List Frame → Expression × List Frame
-collapse b e [] = (e, [])
-collapse b e (f ∷ st) = cond (ends b f) (collapse b (completed f e) st) (e, f ∷ st)
+-- an expression on top of the frames that go on behind it
+abbrev pub Top : Type 0
+Top = Expression × List Frame
+
+-- the frames on top that end there, completed, where no expression is too deep
+abbrev pub collapse : ℕ → Expression → List Frame → Option Top
+collapse b e [] = Some (e, [])
+collapse b e (f ∷ st) = cond (ends b f) (cond (leb (depth (completed f e)) greatest_depth) (collapse b (completed f e) st) None) (Some (e, f ∷ st))
+
+abbrev pub on_top : (Top → Next) → Option Top → Next
+on_top further None = None
+on_top further (Some top) = further top
 
 -- how loosely a symbol binds; the first argument says whether `in` ends a right side of a `let`
 abbrev pub bound : Bool → Symbol → ℕ
@@ -192,7 +200,7 @@ begin c st at _ ts = None
 
 -- an expression goes on, or ends
 
-abbrev pub shift : Context → Binary → Expression × List Frame → List Placed → Next
+abbrev pub shift : Context → Binary → Top → List Placed → Next
 shift c op (e, st) ts = cond (leb (left_level op) (level e)) (enter c (left_frame op e) st ts) None
 
 abbrev pub join_new : Context → Junction → Expression → List Frame → List Placed → Next
@@ -220,14 +228,18 @@ abbrev pub body_of : Document → At → Bool → At → List ℕ → Variables 
 body_of d at is_pred at_p p vs (placed (infix_operator (Relation Equal)) a ∷ ts) = Some (wanted (in_predicate d at is_pred at_p p vs) [], ts)
 body_of d at is_pred at_p p vs _ = None
 
+-- an expression that a bracket has ended
+abbrev pub hold : Context → Expression → List Frame → List Placed → Next
+hold c e st ts = cond (leb (depth e) greatest_depth) (Some (holding c e st, ts)) None
+
 abbrev pub close_round_at : Context → Expression → List Frame → List Placed → Next
-close_round_at c e (bracket_frame at b ∷ st) ts = Some (holding c (enclosed at b e) st, ts)
-close_round_at c e (list_frame at (Call p) es ∷ st) ts = Some (holding c (listed at (Call p) (and_expression es e)) st, ts)
+close_round_at c e (bracket_frame at b ∷ st) ts = hold c (enclosed at b e) st ts
+close_round_at c e (list_frame at (Call p) es ∷ st) ts = hold c (listed at (Call p) (and_expression es e)) st ts
 close_round_at (in_parameter d at is_pred at_p p vs o at_v n) e [] ts = body_of d at is_pred at_p p (and_variable vs at_v o n (restricted e)) ts
 close_round_at c e _ ts = None
 
 abbrev pub close_curly_at : Context → Expression → List Frame → List Placed → Next
-close_curly_at c e (list_frame at Literal es ∷ st) ts = Some (holding c (listed at Literal (and_expression es e)) st, ts)
+close_curly_at c e (list_frame at Literal es ∷ st) ts = hold c (listed at Literal (and_expression es e)) st ts
 close_curly_at c e _ ts = None
 
 abbrev pub comma_at : Context → Expression → List Frame → List Placed → Next
@@ -253,7 +265,7 @@ semicolon_at (in_predicate d at is_pred at_p p vs) e [] ts = Some (outside (decl
 semicolon_at (in_default d at o n) e [] ts = Some (outside (declare d at (default_restriction o n e)), ts)
 semicolon_at c e _ ts = None
 
-abbrev pub settle : Context → Symbol → Bool → Expression × List Frame → List Placed → Next
+abbrev pub settle : Context → Symbol → Bool → Top → List Placed → Next
 settle c (infix_operator op) inside top ts = cond (inside && is_in op) (in_at c top.0 top.1 ts) (shift c op top ts)
 settle c (joining op) inside top ts = join c op top.0 top.1 ts
 settle c (sign minus) inside top ts = shift_int c minus top.0 top.1 ts
@@ -355,7 +367,7 @@ begin_declaration d at s ts = begin (in_formula d at) [] at s ts
 abbrev pub step : State → List Placed → Next
 step (outside d) (placed s at ∷ ts) = begin_declaration d at s ts
 step (wanted c st) (placed s at ∷ ts) = begin c st at s ts
-step (holding c e st) (placed s at ∷ ts) = settle c s (in_part st) (collapse (bound (in_part st) s) e st) ts
+step (holding c e st) (placed s at ∷ ts) = on_top (λ top. settle c s (in_part st) top ts) (collapse (bound (in_part st) s) e st)
 step (variable_wanted c st at q o vs) ts = next_variable c st at q o vs ts
 step (part_wanted c st at o parts) ts = next_part c st at o parts ts
 step (pair_wanted c st at file pairs) ts = next_pair c st at file pairs ts

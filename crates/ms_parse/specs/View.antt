@@ -97,6 +97,12 @@ part_of p = fold-LetPart (At → Expression) Variable Expression Part form_at va
 abbrev pub form_of : Form → At → Expression
 form_of f = fold-Form (At → Expression) Variable Expression Part form_at variable_at expression_at part_at f
 
+abbrev pub expressions_of : List Expr → Expressions
+expressions_of es = expressions_behind no_expressions (map expression_of es)
+
+abbrev pub parts_of : List LetPart → Parts
+parts_of parts = parts_behind no_parts (map part_of parts)
+
 abbrev pub variables_of : List Bound → Variables
 variables_of bounds = variables_behind no_variables (map variable_of bounds)
 

@@ -4,8 +4,11 @@
 mod examples;
 mod input;
 mod laws;
+mod memory;
+mod operand;
 mod operator;
 mod sign;
+mod stop;
 
 pub use examples::{example_documents, example_operators, example_refusals};
 pub use laws::one_document;
