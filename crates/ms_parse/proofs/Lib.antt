@@ -11,5 +11,6 @@ pub mod Sources
 pub mod Steps
 pub mod Texts
 pub mod Trials
+pub mod Views
 pub mod Completeness
 pub mod Moves

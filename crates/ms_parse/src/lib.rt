@@ -2,6 +2,7 @@
 #![tactic(auto)]
 
 mod examples;
+mod form;
 mod input;
 mod laws;
 mod memory;
