@@ -5,9 +5,11 @@ pub mod Inputs
 pub mod Levels
 pub mod OneTree
 pub mod Soundness
+pub mod Pushes
 pub mod Runs
 pub mod Settling
 pub mod Sources
+pub mod Stacks
 pub mod Steps
 pub mod Texts
 pub mod Trials

@@ -168,7 +168,7 @@ body_of_good all d at is_pred at_p p vs f g h i _ so_far words starts list good 
 close_round_good : (all : List Placed) (c : Context) (e : Expression) (st : List Frame) (from ts : List Placed) (a : At) → InContext c all from → Held e st from (placed close_round a ∷ ts)
     → GoodNext all (close_round_at c e st ts)
 close_round_good all c e (bracket_frame at b ∷ st) from ts a context held =
-    let (m, below, reads, good, deep) = held.frames in 
+    let (m, below, reads, good, deep) = held.frames in
     chosen (GoodNext all) (leb (depth (enclosed at b e)) 300) (Some (holding c (enclosed at b e) st, ts)) None (λ small. (
       from,
       context,
@@ -184,7 +184,7 @@ close_round_good all c e (bracket_frame at b ∷ st) from ts a context held =
       refl,
     )) (λ large. tt)
 close_round_good all c e (list_frame at (Call p) es ∷ st) from ts a context held =
-    let (m, below, reads, good, deep) = held.frames in 
+    let (m, below, reads, good, deep) = held.frames in
     chosen (GoodNext all) (leb (depth (listed at (Call p) (and_expression es e))) 300) (Some (holding c (listed at (Call p) (and_expression es e)) st, ts)) None (λ small. (
       from,
       context,
@@ -213,7 +213,7 @@ close_round_good all c e _ from ts a context held = tt
 close_curly_good : (all : List Placed) (c : Context) (e : Expression) (st : List Frame) (from ts : List Placed) (a : At) → InContext c all from → Held e st from (placed close_curly a ∷ ts)
     → GoodNext all (close_curly_at c e st ts)
 close_curly_good all c e (list_frame at Literal es ∷ st) from ts a context held =
-    let (m, below, reads, good, deep) = held.frames in 
+    let (m, below, reads, good, deep) = held.frames in
     chosen (GoodNext all) (leb (depth (listed at Literal (and_expression es e))) 300) (Some (holding c (listed at Literal (and_expression es e)) st, ts)) None (λ small. (
       from,
       context,

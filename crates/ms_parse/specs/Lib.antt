@@ -2,8 +2,10 @@ pub mod Declarations
 pub mod Examples
 pub mod Grammar
 pub mod Machine
+pub mod Opened
 pub mod Reads
 pub mod Signs
+pub mod Stack
 pub mod Symbol
 pub mod Tree
 pub mod View

@@ -97,6 +97,10 @@ part_of p = fold-LetPart (At → Expression) Variable Expression Part form_at va
 abbrev pub form_of : Form → At → Expression
 form_of f = fold-Form (At → Expression) Variable Expression Part form_at variable_at expression_at part_at f
 
+abbrev pub domain_of : Option Expr → Domain
+domain_of None = unrestricted
+domain_of (Some e) = restricted (expression_of e)
+
 abbrev pub expressions_of : List Expr → Expressions
 expressions_of es = expressions_behind no_expressions (map expression_of es)
 

@@ -1,18 +1,21 @@
 ghost use Rattle.std.specs.Prelude.{◌≡◌, ◌≤◌};
 ghost use Rattle.ms_parse.specs.Grammar.{depth, depth_of_all, depth_of_domains, depth_of_values};
+ghost use Rattle.ms_parse.specs.Reads.{place};
 ghost use Rattle.ms_parse.specs.View.{expression_of, expressions_of, variables_of, parts_of};
 
-use ms_edge::List;
+use ms_edge::{At, List};
 use ms_logic::{Bound, Expr, LetPart};
 
 /// The greatest depth of an expression.
 pub const GREATEST_DEPTH: u32 = 300;
 
-/// An expression and its depth.
+/// An expression, its place and its depth.
 #[derive(Debug, Drop)]
 pub struct Operand {
     pub expr: Expr,
+    pub start: At,
     pub height: u32,
+    ghost begins: { start ≡ place (expression_of expr) },
     ghost measured: { height ≡ depth (expression_of expr) },
     ghost bounded: { height ≤ 300 },
 }

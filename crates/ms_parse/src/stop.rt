@@ -10,6 +10,7 @@ pub enum Stop {
 
 impl From<NoMemory> for Stop {
     ghost from_gives = { λ _ stop. stop ≡ Memory };
+
     ghost use Rattle.std.specs.Prelude.{◌≡◌};
     ghost use Rattle.ms_parse.specs.declared.stop.Stop.TheVariants.{Memory};
 
