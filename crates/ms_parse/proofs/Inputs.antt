@@ -1,6 +1,6 @@
 -- The symbol of a token by its number.
-use Rattle.std.proofs.Common.{◌≡◌, ◌≢◌, ℕ, zero, suc, ◌<◌, ◌≤◌, Bool, true, false, List, [], ◌∷◌, length, drop, map, slice_get, Some, None, refl, sym, ap, ◌∙◌, subst, arith, add-one}
-use Rattle.std.specs.Prelude.{slice_index, IfSome, IsAscii, IsUtf8}
+use Rattle.std.proofs.Common.{◌≡◌, ◌≢◌, ℕ, zero, suc, ◌<◌, ◌≤◌, true, List, [], ◌∷◌, length, drop, map, slice_get, Some, refl, sym, ap, ◌∙◌, subst, arith}
+use Rattle.std.specs.Prelude.{slice_index, IfSome, IsUtf8}
 use Rattle.std.specs.List.{list_all}
 use Rattle.std.proofs.lemmas.Bool.Decides.{nat_tests}
 use Rattle.std.proofs.lemmas.Str.{IsUtf8-from_ascii}
@@ -16,7 +16,7 @@ use Rattle.ms_text.specs.declared.token.Token.{Token}
 use Rattle.ms_text.specs.Spelling.{is_name_byte, is_identifier, Spells}
 use Rattle.ms_text.specs.TokenList.{Lexed, slice_of}
 use Rattle.ms_text.proofs.Starts.{identifier_bytes}
-use Rattle.ms_parse.specs.Symbol.{Symbol, name, text, symbol_of, word_symbol, mark_symbol, Placed, placed, placed_symbol, symbols}
+use Rattle.ms_parse.specs.Symbol.{Symbol, name, symbol_of, word_symbol, mark_symbol, Placed, placed, placed_symbol}
 use Rattle.ms_parse.specs.Signs.{behind, IsNext, NoName, NoText}
 
 drop_read : (f : Token → Placed) (tokens : List Token) (i : ℕ) (token : Token) → slice_get tokens i ≡ Some token → drop i (map f tokens) ≡ f token ∷ drop (suc i) (map f tokens)

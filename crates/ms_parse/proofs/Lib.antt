@@ -1,3 +1,4 @@
+pub mod Begins
 pub mod Extensions
 pub mod Frames
 pub mod Headers

@@ -1,5 +1,7 @@
 -- The stack of the code with one more frame.
-use Rattle.std.proofs.Common.{◌≡◌, ℕ, ◌+◌, List, [], ◌∷◌, ◌++◌, length, Option, Some, None, refl, sym, ap, ◌∙◌, arith}
+use Rattle.ms_parse.specs.Symbol.{Placed}
+use Rattle.std.proofs.lemmas.Bool.{le-leb, lt-leb}
+use Rattle.std.proofs.Common.{◌≡◌, ℕ, ◌+◌, List, [], ◌∷◌, ◌++◌, length, Option, Some, None, refl, sym, ap, ◌∙◌, arith, suc, max, ◌<◌, ◌≤◌, cond}
 use Rattle.std.specs.Prelude.{MatchOption, option_to_list}
 use Rattle.ms_parse.specs.declared.frame.Frame.{Frame}
 use Rattle.ms_parse.specs.Machine as machine
@@ -25,3 +27,17 @@ popped (Some f) old new m n long same cases = ap stack_of same ∙ stack_push ne
 pub popped_none : (r : Option Frame) (new : List Frame) (m n : ℕ) → n ≡ length new → MatchOption r ((m ≡ 0) × (n ≡ 0)) (λ f. n + 1 ≡ m) → MatchOption r (stack_of new ≡ []) (λ f. n + 1 ≡ m)
 popped_none None new m n long cases = ap stack_of (no_items new (sym long ∙ cases.1))
 popped_none (Some f) new m n long cases = cases
+
+stack_on_length : (below : List machine.Frame) (fs : List Frame) → length (stack_on below fs) ≡ length below + length fs
+stack_on_length below [] = omega arith
+stack_on_length below (f ∷ fs) = omega (arith, stack_on_length (frame_of f.opened ∷ below) fs)
+
+pub stack_length : (fs : List Frame) → length (stack_of fs) ≡ length fs
+stack_length fs = omega (arith, stack_on_length [] fs)
+
+pub enter_refused : (c : machine.Context) (f : machine.Frame) (st : List machine.Frame) (ts : List Placed) → 300 < suc (length st) + max 1 (machine.frame_depth f) → machine.enter c f st ts ≡ None
+enter_refused c f st ts deep = ap (λ b. cond b (Some (machine.wanted c (f ∷ st), ts)) None) (lt-leb (suc (length st) + max 1 (machine.frame_depth f)) 300 deep)
+
+pub enter_taken : (c : machine.Context) (f : machine.Frame) (st new : List machine.Frame) (ts : List Placed) → suc (length st) + max 1 (machine.frame_depth f) ≤ 300 → new ≡ f ∷ st → machine.enter c f st ts ≡ Some (machine.wanted c new, ts)
+enter_taken c f st new ts small same =
+    ap (λ b. cond b (Some (machine.wanted c (f ∷ st), ts)) None) (le-leb (suc (length st) + max 1 (machine.frame_depth f)) 300 small) ∙ ap (λ s. Some (machine.wanted c s, ts)) (sym same)

@@ -2,7 +2,6 @@
 use Rattle.std.proofs.Common.{◌≡◌, ℕ, zero, suc, ◌+◌, ◌-◌, List, [], ◌∷◌, ◌++◌, length, drop, take, slice_range, slice_get, Some, refl, sym, ap, ◌∙◌, subst, arith, append_assoc, length-append}
 use Rattle.std.specs.Prelude.{IfSome, IsUtf8}
 use Rattle.std.proofs.lemmas.List.{take_at, drop_at}
-use Rattle.ms_text.specs.declared.token.Kind.{Kind}
 use Rattle.ms_text.specs.declared.token.Kind.TheVariants as kinds
 use Rattle.ms_text.specs.declared.token.Token.{Token}
 use Rattle.ms_text.specs.Spelling.{quoted, Spells, IsAccepted}

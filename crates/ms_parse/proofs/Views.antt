@@ -1,12 +1,11 @@
 -- The mathematical tree of each form of the code's expressions.
-use Rattle.std.proofs.Common.{◌≡◌, ℕ, List, map, refl, sym, ap, ◌∙◌}
+use Rattle.std.proofs.Common.{◌≡◌, ℕ, List, sym, ap, ◌∙◌}
 use Rattle.ms_edge.specs.declared.at.At.{At}
 use Rattle.ms_logic.specs.declared.mode.Order.{Order}
 use Rattle.ms_logic.specs.declared.mode.Quant.{Quant}
 use Rattle.ms_logic.specs.declared.mode.Rel.{Rel}
 use Rattle.ms_logic.specs.declared.source.Bound.{Bound}
 use Rattle.ms_logic.specs.declared.source.Expr.{Expr}
-use Rattle.ms_logic.specs.declared.source.Form.{Form}
 use Rattle.ms_logic.specs.declared.source.Form.TheVariants as forms
 use Rattle.ms_logic.specs.declared.source.Form.TheOpen.{Form-F}
 use Rattle.ms_logic.specs.declared.source.Form.TheFolds.{fold-roll-Form}

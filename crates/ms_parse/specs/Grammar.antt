@@ -1,5 +1,6 @@
--- Which trees have the form that the grammar asks for: how tightly each operator binds, where a body that reaches to
--- the right may stand, and where the relation `in` may stand.
+-- The grammar of the linear modes of MONA (MONA Version 1.4 User Manual, Klarlund and Møller 2001): which trees have
+-- the form that it asks for. How tightly each operator binds, where a body that reaches to the right may stand, and
+-- where the relation `in` may stand.
 use Rattle.std.specs.Prelude.{◌≡◌, ℕ, suc, ◌≤◌, max, Bool, true, false, ◌||◌}
 use Rattle.ms_logic.specs.declared.mode.Order.{Order}
 use Rattle.ms_logic.specs.declared.mode.Rel.TheVariants.{Equal, Differs, Less, AtMost, Greater, AtLeast, Member, NotMember, Sub}

@@ -3,6 +3,8 @@ pub mod Examples
 pub mod Grammar
 pub mod Machine
 pub mod Opened
+pub mod Outcomes
+pub mod Punctuations
 pub mod Reads
 pub mod Signs
 pub mod Stack

@@ -1,5 +1,4 @@
 -- The frames that the code keeps, as frames of the automaton.
-use Rattle.std.specs.Prelude.{ℕ, List, [], ◌∷◌}
 use Rattle.ms_parse.specs.declared.opened.Opened.{Opened}
 use Rattle.ms_parse.specs.declared.opened.Opened.TheVariants as opened
 use Rattle.ms_parse.specs.View.{expression_of, expressions_of, variables_of, parts_of}

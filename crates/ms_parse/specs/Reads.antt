@@ -1,6 +1,7 @@
--- Which symbols an expression is read from. The grammar has one line for each form; `from` are the symbols from its
--- first one on, and `behind` are those behind its last one. Where places count, each place of the tree is that of
--- the symbol which it names; where they do not, they may be any.
+-- Which symbols an expression is read from (MONA Version 1.4 User Manual, Klarlund and Møller 2001, on syntax). The
+-- grammar has one line for each form; `from` are the symbols from its first one on, and `behind` are those behind its
+-- last one. Where places count, each place of the tree is that of the symbol which it names; where they do not, they
+-- may be any.
 use Rattle.std.specs.Prelude.{◌≡◌, Bool, true, false, List, [], ◌∷◌}
 use Rattle.ms_edge.specs.declared.at.At.{At}
 use Rattle.ms_logic.specs.declared.mode.Rel.TheVariants.{Equal, Member}

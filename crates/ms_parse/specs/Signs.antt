@@ -71,3 +71,10 @@ abbrev pub NoText : List Placed → Type 0
 NoText [] = Unit {0}
 NoText (placed (text t) at ∷ more) = ⊥
 NoText (placed _ at ∷ more) = Unit {0}
+
+-- the first symbol is no number and no name
+abbrev pub NoInt : List Placed → Type 0
+NoInt [] = Unit {0}
+NoInt (placed (name n) at ∷ more) = ⊥
+NoInt (placed (number n) at ∷ more) = ⊥
+NoInt (placed _ at ∷ more) = Unit {0}

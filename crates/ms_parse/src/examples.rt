@@ -1,13 +1,13 @@
 ghost use Rattle.std.specs.Prelude.{[], ◌∷◌, true, false, codes, Some, None};
 ghost use Rattle.ms_logic.specs.declared.mode.Mode.TheVariants.{Ws1s, M2lStr};
-ghost use Rattle.ms_logic.specs.declared.mode.Order.TheVariants.{One, Two};
+ghost use Rattle.ms_logic.specs.declared.mode.Order.TheVariants.{One, Two, Zero};
 ghost use Rattle.ms_logic.specs.declared.mode.Quant.TheVariants.{Ex};
 ghost use Rattle.ms_logic.specs.declared.mode.Rel.TheVariants.{Equal, Member};
 ghost use Rattle.ms_logic.specs.declared.source.Int.TheVariants.{Number, Constant};
 ghost use Rattle.ms_parse.specs.Declarations.{Reads};
 ghost use Rattle.ms_parse.specs.Examples.{at, row, a, b, c, x, y, P, p, a_at, b_at, c_at, x_at, y_at, P_at, one, two, three, ex1_x, only, says};
-ghost use Rattle.ms_parse.specs.Symbol.{name, number, prefix_operator, infix_operator, joining, sign, quantifier, let_word, kind, predicate_word, word_true, word_where, word_empty, word_ws1s, left_out, open_round, close_round, open_curly, close_curly, comma, colon, semicolon};
-ghost use Rattle.ms_parse.specs.Tree.{Negation, Implication, Equivalence, Relation, Union, Difference, Conjunction, Disjunction, Parentheses, Emptiness, Literal, Call, truth, empty_set, named, prefixed, binary, joined, shifted, enclosed, listed, let_in, quantified, atom, no_expressions, no_variables, and_variable, unrestricted, restricted, no_parts, and_part, predicate, variables, formula};
+ghost use Rattle.ms_parse.specs.Symbol.{name, number, prefix_operator, infix_operator, joining, sign, quantifier, let_word, kind, predicate_word, word_true, word_where, word_empty, word_ws1s, left_out, open_round, close_round, open_curly, close_curly, comma, colon, semicolon, word_const, word_include, text, default_word, word_import, arrow, word_export, word_pconst, word_restrict, dollar};
+ghost use Rattle.ms_parse.specs.Tree.{Negation, Implication, Equivalence, Relation, Union, Difference, Conjunction, Disjunction, Parentheses, Emptiness, Literal, Call, truth, empty_set, named, prefixed, binary, joined, shifted, enclosed, listed, let_in, quantified, atom, no_expressions, no_variables, and_variable, unrestricted, restricted, no_parts, and_part, predicate, variables, formula, constant, included, default_restriction, imported, Export, pconst, Minimum, Restriction, whole};
 ghost use Rattle.ms_parse.specs.Tree.{Document};
 
 /// Rows of symbols and their trees: how operators group, and how far a body reaches.
@@ -55,6 +55,29 @@ pub fn example_documents()
         (atom (at 12) truth))) }
     ensures restricted_variable { Reads true (row (kind One ∷ x ∷ word_where ∷ a ∷ comma ∷ y ∷ semicolon ∷ []))
         (only (variables (and_variable (and_variable no_variables (at 1) One (codes "x") (restricted (a_at 3))) (at 5) One (codes "y") unrestricted))) }
+{}
+
+/// Rows of symbols and their trees: declarations, and forms with words.
+pub fn example_declarations()
+    ensures sum { Reads true (row (word_const ∷ c ∷ infix_operator (Relation Equal) ∷ number 3 ∷ sign false ∷ b ∷ sign true ∷ number 1 ∷ semicolon ∷ []))
+        (only (constant (at 1) (codes "c") (record { at = at 3; value = Number 3; minus = false } ∷ record { at = at 5; value = Constant (codes "b"); minus = false } ∷ record { at = at 7; value = Number 1; minus = true } ∷ []))) }
+    ensures include { Reads true (row (word_include ∷ text (codes "f") ∷ semicolon ∷ [])) (only (included (at 1) (codes "f"))) }
+    ensures default { Reads true (row (default_word Two ∷ open_round ∷ P ∷ close_round ∷ infix_operator (Relation Equal) ∷ a ∷ semicolon ∷ []))
+        (only (default_restriction Two (codes "P") (a_at 5))) }
+    ensures bare_macro { Reads true (row (predicate_word false ∷ p ∷ infix_operator (Relation Equal) ∷ a ∷ semicolon ∷ [])) (only (predicate false (at 1) (codes "p") no_variables (a_at 3))) }
+    ensures empty_brackets { Reads true (row (predicate_word false ∷ p ∷ open_round ∷ close_round ∷ infix_operator (Relation Equal) ∷ a ∷ semicolon ∷ []))
+        (only (predicate false (at 1) (codes "p") no_variables (a_at 5))) }
+    ensures renaming { Reads true (row (word_import ∷ open_round ∷ text (codes "f") ∷ comma ∷ a ∷ arrow ∷ b ∷ close_round ∷ semicolon ∷ []))
+        (says (atom (at 0) (imported (codes "f") (record { at = at 4; left = codes "a"; at_right = at 6; right = codes "b" } ∷ [])))) }
+    ensures export { Reads true (row (word_export ∷ open_round ∷ text (codes "f") ∷ comma ∷ a ∷ close_round ∷ semicolon ∷ []))
+        (says (enclosed (at 0) (Export (at 2) (codes "f")) (a_at 4))) }
+    ensures pconst { Reads true (row (word_pconst ∷ open_round ∷ number 5 ∷ close_round ∷ semicolon ∷ [])) (says (atom (at 0) (pconst (record { at = at 2; value = Number 5; minus = false })))) }
+    ensures least { Reads true (row (prefix_operator Minimum ∷ P ∷ sign false ∷ number 1 ∷ semicolon ∷ []))
+        (says (shifted (at 0) (prefixed (at 0) Minimum (P_at 1)) (record { at = at 3; value = Number 1; minus = false }))) }
+    ensures restrict { Reads true (row (let_word Zero ∷ b ∷ infix_operator (Relation Equal) ∷ word_restrict ∷ open_round ∷ a ∷ close_round ∷ infix_operator (Relation Member) ∷ b ∷ joining Disjunction ∷ prefix_operator Negation ∷ b ∷ semicolon ∷ []))
+        (says (let_in (at 0) Zero (and_part no_parts (at 1) (codes "b") (enclosed (at 3) Restriction (a_at 5))) (joined (at 8) Disjunction (two (b_at 8) (prefixed (at 10) Negation (b_at 11)))))) }
+    ensures two_formulas { Reads true (row (a ∷ semicolon ∷ dollar ∷ semicolon ∷ []))
+        (record { header = None; declarations = record { at = at 0; declaration = formula (a_at 0) } ∷ record { at = at 2; declaration = formula (atom (at 2) whole) } ∷ [] }) }
 {}
 
 /// Rows of symbols that read as no document.

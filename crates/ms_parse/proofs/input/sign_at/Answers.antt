@@ -1,7 +1,6 @@
-use Rattle.std.proofs.Common.{◌≡◌}
 use Rattle.ms_text.specs.TokenList.{slice_of}
 use Rattle.ms_parse.specs.Signs.{symbol_with, content}
-use Rattle.ms_parse.proofs.Inputs.{sign_next, at_end}
+use Rattle.ms_parse.proofs.Inputs.{sign_next}
 use Rattle.ms_parse.proofs.input.sign_at.Goals as goal
 
 pub returns-then-i-len-clause-next : goal.returns-then-i-len-clause-next

@@ -1,4 +1,4 @@
-use Rattle.std.proofs.Common.{◌≡◌, true, sym, ◌∙◌}
+use Rattle.std.proofs.Common.{◌≡◌, true, ◌∙◌}
 use Rattle.ms_parse.proofs.Inputs.{no_text, sign_next}
 use Rattle.ms_parse.proofs.Texts.{text_is_utf8, text_symbol}
 use Rattle.ms_parse.specs.Symbol.{text}
