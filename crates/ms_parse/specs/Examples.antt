@@ -1,10 +1,10 @@
 -- Symbols and trees for worked examples.
-use Rattle.std.specs.Prelude.{ℕ, suc, List, [], ◌∷◌, codes, None}
+use Rattle.std.specs.Prelude.{ℕ, suc, List, [], ◌∷◌, codes, None, zero}
 use Rattle.ms_edge.specs.declared.at.At.{At}
 use Rattle.ms_logic.specs.declared.mode.Order.TheVariants.{One}
 use Rattle.ms_logic.specs.declared.mode.Quant.TheVariants.{Ex}
-use Rattle.ms_parse.specs.Symbol.{Symbol, name, Placed, placed}
-use Rattle.ms_parse.specs.Tree.{named, Expression, atom, quantified, Expressions, no_expressions, and_expression, no_variables, and_variable, unrestricted, Declaration, formula, Document}
+use Rattle.ms_parse.specs.Symbol.{Symbol, name, Placed, placed, open_round, close_round, semicolon}
+use Rattle.ms_parse.specs.Tree.{named, Expression, atom, quantified, Expressions, no_expressions, and_expression, no_variables, and_variable, unrestricted, Declaration, formula, Document, enclosed, Parentheses}
 
 -- a place in file 0
 abbrev pub at : ℕ → At
@@ -81,3 +81,17 @@ only d = record { header = None; declarations = record { at = at 0; declaration 
 -- a document of one formula, at place 0
 abbrev pub says : Expression → Document
 says e = only (formula e)
+
+-- the symbols so many times
+abbrev pub repeated : ℕ → Symbol → List Symbol → List Symbol
+repeated zero s more = more
+repeated (suc n) s more = s ∷ repeated n s more
+
+-- `a;` in so many brackets
+abbrev pub bracketed : ℕ → List Symbol
+bracketed n = repeated n open_round (a ∷ repeated n close_round (semicolon ∷ []))
+
+-- so many brackets from a place on, around the name `a`
+abbrev pub brackets : ℕ → ℕ → Expression
+brackets zero n = a_at n
+brackets (suc k) n = enclosed (at n) Parentheses (brackets k (suc n))

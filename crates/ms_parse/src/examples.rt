@@ -5,7 +5,7 @@ ghost use Rattle.ms_logic.specs.declared.mode.Quant.TheVariants.{Ex};
 ghost use Rattle.ms_logic.specs.declared.mode.Rel.TheVariants.{Equal, Member};
 ghost use Rattle.ms_logic.specs.declared.source.Int.TheVariants.{Number, Constant};
 ghost use Rattle.ms_parse.specs.Declarations.{Reads};
-ghost use Rattle.ms_parse.specs.Examples.{at, row, a, b, c, x, y, P, p, a_at, b_at, c_at, x_at, y_at, P_at, one, two, three, ex1_x, only, says};
+ghost use Rattle.ms_parse.specs.Examples.{bracketed, brackets, at, row, a, b, c, x, y, P, p, a_at, b_at, c_at, x_at, y_at, P_at, one, two, three, ex1_x, only, says};
 ghost use Rattle.ms_parse.specs.Symbol.{name, number, prefix_operator, infix_operator, joining, sign, quantifier, let_word, kind, predicate_word, word_true, word_where, word_empty, word_ws1s, left_out, open_round, close_round, open_curly, close_curly, comma, colon, semicolon, word_const, word_include, text, default_word, word_import, arrow, word_export, word_pconst, word_restrict, dollar};
 ghost use Rattle.ms_parse.specs.Tree.{Negation, Implication, Equivalence, Relation, Union, Difference, Conjunction, Disjunction, Parentheses, Emptiness, Literal, Call, truth, empty_set, named, prefixed, binary, joined, shifted, enclosed, listed, let_in, quantified, atom, no_expressions, no_variables, and_variable, unrestricted, restricted, no_parts, and_part, predicate, variables, formula, constant, included, default_restriction, imported, Export, pconst, Minimum, Restriction, whole};
 ghost use Rattle.ms_parse.specs.Tree.{Document};
@@ -78,6 +78,12 @@ pub fn example_declarations()
         (says (let_in (at 0) Zero (and_part no_parts (at 1) (codes "b") (enclosed (at 3) Restriction (a_at 5))) (joined (at 8) Disjunction (two (b_at 8) (prefixed (at 10) Negation (b_at 11)))))) }
     ensures two_formulas { Reads true (row (a ∷ semicolon ∷ dollar ∷ semicolon ∷ []))
         (record { header = None; declarations = record { at = at 0; declaration = formula (a_at 0) } ∷ record { at = at 2; declaration = formula (atom (at 2) whole) } ∷ [] }) }
+{}
+
+/// Brackets up to the greatest depth, and beyond.
+pub fn example_depths()
+    ensures deepest { Reads true (row (bracketed 299)) (says (brackets 299 0)) }
+    ensures too_deep { (d : Document) → ¬ (Reads true (row (bracketed 300)) d) }
 {}
 
 /// Rows of symbols that read as no document.

@@ -24,5 +24,7 @@ mod sign;
 mod stack;
 mod stop;
 
-pub use examples::{example_declarations, example_documents, example_operators, example_refusals};
+pub use examples::{
+    example_declarations, example_depths, example_documents, example_operators, example_refusals,
+};
 pub use laws::one_document;
