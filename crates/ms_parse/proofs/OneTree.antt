@@ -1,0 +1,43 @@
+-- Symbols read as one document at most, since the automaton is a function.
+use Rattle.std.proofs.Common.{◌≡◌, ℕ, zero, suc, true, List, [], ◌∷◌, Option, Some, None, refl, sym, ap, ◌∙◌}
+use Rattle.ms_parse.specs.Symbol.{Placed}
+use Rattle.ms_parse.specs.Tree.{Document}
+use Rattle.ms_parse.specs.Declarations.{Reads}
+use Rattle.ms_parse.specs.Machine.{State, outside, wanted, holding, variable_wanted, part_wanted, pair_wanted, global_wanted, parameter_wanted, summand_wanted, Next, start, step, finished, goes_on, run}
+use Rattle.ms_parse.proofs.Headers.{document_read}
+
+-- where nothing is left, no step is taken
+finished_stops : (s : State) (ts : List Placed) (d : Document) → finished s ts ≡ Some d → step s ts ≡ None
+finished_stops (outside d0) [] d done = refl
+finished_stops (outside d0) (t ∷ ts) d done = let never : ⊥ = cc in absurd never
+finished_stops (wanted c st) ts d done = let never : ⊥ = cc in absurd never
+finished_stops (holding c e st) ts d done = let never : ⊥ = cc in absurd never
+finished_stops (variable_wanted c st at q o vs) ts d done = let never : ⊥ = cc in absurd never
+finished_stops (part_wanted c st at o parts) ts d done = let never : ⊥ = cc in absurd never
+finished_stops (pair_wanted c st at file pairs) ts d done = let never : ⊥ = cc in absurd never
+finished_stops (global_wanted d0 at o vs) ts d done = let never : ⊥ = cc in absurd never
+finished_stops (parameter_wanted d0 at is_pred at_p p vs) ts d done = let never : ⊥ = cc in absurd never
+finished_stops (summand_wanted d0 at at_n n sum) ts d done = let never : ⊥ = cc in absurd never
+
+stuck : (s : State) (ts : List Placed) (d d' : Document) (n : ℕ) → finished s ts ≡ Some d → run (suc n) s ts ≡ Some d' → ⊥
+stuck s ts d d' n done read =
+    let nothing : None ≡ Some d' = sym (ap (goes_on (run n)) (finished_stops s ts d done)) ∙ read in
+    let never : ⊥ = cc in never
+
+one_next : (r r' : State → List Placed → Option Document) → ((s : State) (ts : List Placed) (d d' : Document) → r s ts ≡ Some d → r' s ts ≡ Some d' → d ≡ d')
+    → (x : Next) (d d' : Document) → goes_on r x ≡ Some d → goes_on r' x ≡ Some d' → d ≡ d'
+one_next r r' same None d d' read read' = let never : ⊥ = cc in absurd never
+one_next r r' same (Some x) d d' read read' = same x.0 x.1 d d' read read'
+
+one_run : (m n : ℕ) (s : State) (ts : List Placed) (d d' : Document) → run m s ts ≡ Some d → run n s ts ≡ Some d' → d ≡ d'
+one_run zero zero s ts d d' read read' = let both : Some d ≡ Some d' = sym read ∙ read' in let same : d ≡ d' = cc in same
+one_run zero (suc n) s ts d d' read read' = absurd (stuck s ts d d' n read read')
+one_run (suc m) zero s ts d d' read read' = absurd (stuck s ts d' d m read' read)
+one_run (suc m) (suc n) s ts d d' read read' =
+    one_next (run m) (run n) (λ s' ts' e e' r r'. one_run m n s' ts' e e' r r') (step s ts) d d' read read'
+
+pub one_document : (all : List Placed) (d d' : Document) → Reads true all d → Reads true all d' → d ≡ d'
+one_document all d d' reads reads' =
+    let first = document_read all d reads in
+    let second = document_read all d' reads' in
+    one_run first.0 second.0 (outside (start all).0) (start all).1 d d' first.1 second.1

@@ -1,0 +1,15 @@
+use Rattle.ms_parse.specs.Machine.{bracket_frame, enter, begin_restrict}
+use Rattle.ms_parse.specs.Signs.{behind}
+use Rattle.ms_parse.specs.Stack.{stack_of}
+use Rattle.ms_parse.specs.Tree.{Restriction}
+use Rattle.ms_parse.proofs.Begins.{as_taken, restrict_entered}
+use Rattle.ms_parse.proofs.begin.begin_restrict.Goals as goal
+
+pub returns : goal.returns
+returns c context =
+    let st = stack_of c.args.stack.now.items in
+    let ts = behind c.args.file c.args.tokens.now c.in-Some.next in
+    as_taken context c.args.file c.args.tokens.now (begin_restrict context st c.args.at (behind c.args.file c.args.tokens.now c.args.i)) (enter context (bracket_frame c.args.at Restriction) st ts)
+    c.enter.new.stack.items c.enter.result
+    (restrict_entered context st c.args.at (behind c.args.file c.args.tokens.now c.args.i) ts c.in-Some.ensures.some)
+    (c.enter.ensures context c.args.file c.args.tokens.now)

@@ -1,0 +1,22 @@
+use Rattle.std.proofs.Common.{arith}
+use Rattle.ms_parse.specs.Opened.{frame_of}
+use Rattle.ms_parse.specs.Signs.{behind}
+use Rattle.ms_parse.specs.Stack.{stack_of}
+use Rattle.ms_parse.proofs.Stacks.{stack_length, enter_refused, enter_taken}
+use Rattle.ms_parse.proofs.enter.enter.Goals as goal
+
+pub returns-then-len-ge299 : goal.returns-then-len-ge299
+returns-then-len-ge299 c context file lexed =
+    enter_refused context (frame_of c.args.frame.opened) (stack_of c.args.stack.now.items) (behind file lexed c.args.i)
+    (omega (arith, stack_length c.args.stack.now.items, c.args.stack.now.ok.0, c.len.ensures))
+
+pub returns-then-len-inside-gt-GREATEST_DEPTH : goal.returns-then-len-inside-gt-GREATEST_DEPTH
+returns-then-len-inside-gt-GREATEST_DEPTH c context file lexed =
+    enter_refused context (frame_of c.args.frame.opened) (stack_of c.args.stack.now.items) (behind file lexed c.args.i)
+    (omega (arith, stack_length c.args.stack.now.items, c.args.stack.now.ok.0, c.len.ensures, c.args.frame.measured))
+
+pub returns : goal.returns
+returns c context file lexed =
+    enter_taken context (frame_of c.args.frame.opened) (stack_of c.args.stack.now.items) (stack_of c.push_frame.new.stack.items) (behind file lexed c.args.i)
+    (omega (arith, stack_length c.args.stack.now.items, c.args.stack.now.ok.0, c.len.ensures, c.args.frame.measured))
+    c.in_ok-push_frame.ensures.ok

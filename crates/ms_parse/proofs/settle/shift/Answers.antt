@@ -1,0 +1,17 @@
+use Rattle.std.proofs.Common.{◌≤◌, arith}
+use Rattle.ms_parse.specs.Grammar.{left_level, level}
+use Rattle.ms_parse.specs.Machine.{left_frame, enter, shift}
+use Rattle.ms_parse.specs.Signs.{behind}
+use Rattle.ms_parse.specs.Stack.{stack_of}
+use Rattle.ms_parse.specs.View.{expression_of}
+use Rattle.ms_parse.proofs.Begins.{as_taken, shift_entered}
+use Rattle.ms_parse.proofs.settle.shift.Goals as goal
+
+pub returns : goal.returns
+returns c context file lexed =
+    let st = stack_of c.args.stack.now.items in
+    let e = expression_of c.args.left.expr in
+    let ts = behind file lexed c.args.i in
+    let high : left_level c.args.op ≤ level e = omega (arith, c.level.ensures, c.least_left.ensures) in
+    as_taken context file lexed (shift context c.args.op (e, st) ts) (enter context (left_frame c.args.op e) st ts) c.enter.new.stack.items c.enter.result
+    (shift_entered context c.args.op e st ts high) (c.enter.ensures context file lexed)

@@ -1,0 +1,89 @@
+ghost use Rattle.std.specs.Prelude.{◌≡◌, ◌++◌, ◌∷◌, [], ℕ, List};
+ghost use Rattle.ms_parse.specs.Machine.{Context, next_part, next_pair};
+ghost use Rattle.ms_parse.specs.Outcomes.{Took};
+ghost use Rattle.ms_parse.specs.Signs.{behind};
+ghost use Rattle.ms_parse.specs.Stack.{stack_of};
+ghost use Rattle.ms_parse.specs.View.{parts_of};
+
+use crate::complete::finish;
+use crate::enter::enter;
+use crate::frame::Frame;
+use crate::input::name_at;
+use crate::memory::push;
+use crate::opened::Opened;
+use crate::operand::Parts;
+use crate::outcome::Outcome;
+use crate::punctuation::{Punctuation, behind_mark};
+use crate::stop::Stop;
+use ms_edge::{At, List, Text};
+use ms_logic::{Form, Order, Rename};
+use ms_text::Tokens;
+use std::alloc::Global;
+
+/// A name of a `let` and `=`, where a name is wanted.
+pub fn next_part(
+    alloc: Global,
+    tokens: &Tokens,
+    file: u32,
+    stack: &mut Vec<Frame>,
+    at: At,
+    order: Order,
+    parts: Parts,
+    i: u32,
+) -> Result<(Outcome, u32), Stop>
+    ensures { (c : Context) →
+        Took c file tokens.now (next_part c (stack_of stack.old.items) at order (parts_of parts.list) (behind file tokens.now i)) stack.new.items result }
+{
+    let Some((name, at_name)) = name_at(alloc, tokens, file, i)? else {
+        return Err(Stop::Refused(i));
+    };
+    let Some(next) = behind_mark(tokens, file, i + 1, Punctuation::Equal) else {
+        return Err(Stop::Refused(i + 1));
+    };
+    let Parts { list, height } = parts;
+    let frame = Frame {
+        opened: Opened::Part(at, order, list, at_name, name),
+        height,
+    };
+    enter(stack, frame, next)
+}
+
+/// A pair of an import or its end, where these are wanted.
+pub fn next_pair(
+    alloc: Global,
+    tokens: &Tokens,
+    file: u32,
+    stack: &mut Vec<Frame>,
+    at: At,
+    text: Text,
+    mut pairs: List<Rename>,
+    i: u32,
+) -> Result<(Outcome, u32), Stop>
+    ensures { (c : Context) →
+        Took c file tokens.now (next_pair c (stack_of stack.old.items) at text pairs (behind file tokens.now i)) stack.new.items result }
+{
+    if let Some(next) = behind_mark(tokens, file, i, Punctuation::CloseRound) {
+        let operand = finish(at, Form::Import(text, pairs), 0, i)?;
+        return Ok((Outcome::Holding(operand), next));
+    }
+    let Some(from) = behind_mark(tokens, file, i, Punctuation::Comma) else {
+        return Err(Stop::Refused(i));
+    };
+    let Some((left, at_left)) = name_at(alloc, tokens, file, from)? else {
+        return Err(Stop::Refused(from));
+    };
+    let Some(to) = behind_mark(tokens, file, from + 1, Punctuation::Arrow) else {
+        return Err(Stop::Refused(from + 1));
+    };
+    let Some((right, at_right)) = name_at(alloc, tokens, file, to)? else {
+        return Err(Stop::Refused(to));
+    };
+    let pair = Rename {
+        at: at_left,
+        left,
+        at_right,
+        right,
+    };
+    push(&mut pairs, pair)?;
+    Ok((Outcome::Pair(at, text, pairs), to + 1))
+}

@@ -1,0 +1,48 @@
+ghost use Rattle.std.specs.Prelude.{◌≡◌, ◌≤◌};
+ghost use Rattle.ms_parse.specs.Grammar.{depth, depth_of_all, depth_of_domains, depth_of_values};
+ghost use Rattle.ms_parse.specs.Reads.{place};
+ghost use Rattle.ms_parse.specs.View.{expression_of, expressions_of, variables_of, parts_of};
+
+use ms_edge::{At, List};
+use ms_logic::{Bound, Expr, LetPart};
+
+/// The greatest depth of an expression.
+pub const GREATEST_DEPTH: u32 = 300;
+
+/// An expression, its place and its depth.
+#[derive(Debug, Drop)]
+pub struct Operand {
+    pub expr: Expr,
+    pub start: At,
+    pub height: u32,
+    ghost begins: { start ≡ place (expression_of expr) },
+    ghost measured: { height ≡ depth (expression_of expr) },
+    ghost bounded: { height ≤ 300 },
+}
+
+/// Expressions and the greatest of their depths.
+#[derive(Debug, Drop)]
+pub struct Operands {
+    pub list: List<Expr>,
+    pub height: u32,
+    ghost measured: { height ≡ depth_of_all (expressions_of list) },
+    ghost bounded: { height ≤ 300 },
+}
+
+/// Variables and the greatest depth of their restrictions.
+#[derive(Debug, Drop)]
+pub struct Bounds {
+    pub list: List<Bound>,
+    pub height: u32,
+    ghost measured: { height ≡ depth_of_domains (variables_of list) },
+    ghost bounded: { height ≤ 300 },
+}
+
+/// Parts of a `let` and the greatest depth of their right sides.
+#[derive(Debug, Drop)]
+pub struct Parts {
+    pub list: List<LetPart>,
+    pub height: u32,
+    ghost measured: { height ≡ depth_of_values (parts_of list) },
+    ghost bounded: { height ≤ 300 },
+}

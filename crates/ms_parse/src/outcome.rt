@@ -1,0 +1,18 @@
+use crate::operand::{Bounds, Operand, Parts};
+use ms_edge::{At, List, Text};
+use ms_logic::{Order, Quant, Rename};
+
+/// Where an expression stands after a step.
+#[derive(Debug, Drop)]
+pub enum Outcome {
+    /// An expression is wanted.
+    Wanted,
+    /// An expression has been read, which may go on.
+    Holding(Operand),
+    /// A variable of a binder is wanted.
+    Variable(At, Quant, Order, Bounds),
+    /// A name of a `let` is wanted.
+    Part(At, Order, Parts),
+    /// A pair of an import or its end is wanted.
+    Pair(At, Text, List<Rename>),
+}
