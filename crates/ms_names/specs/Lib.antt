@@ -1,0 +1,14 @@
+pub mod Before
+pub mod Constant
+pub mod Declarations
+pub mod Examples
+pub mod Fault
+pub mod Occurrence
+pub mod Order
+pub mod Reads
+pub mod Rules
+pub mod Scope
+pub mod Syntax
+pub mod Typed
+pub mod TypedSource
+pub mod View
