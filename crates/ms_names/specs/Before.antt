@@ -1,7 +1,7 @@
 -- What stands before an expression in the text: names that are bound, imports and exports. They are numbered in the order
 -- of the text.
-use Rattle.std.specs.Prelude.{ℕ, ◌+◌, List, [], ◌∷◌, ◌++◌}
-use Rattle.ms_names.specs.Syntax.{Bytes, Expression, truth, falsity, whole, empty_set, name, number, pconst, brackets, literal, call, negation, conjunction, disjunction, implication, equivalence, relation, emptiness, union, intersection, difference, shift, minimum, maximum, quantified, where_let, restrict, imported, exported}
+use Rattle.std.specs.Prelude.{ℕ, ◌+◌}
+use Rattle.ms_names.specs.Syntax.{Expression, truth, falsity, whole, empty_set, name, number, pconst, brackets, literal, call, negation, conjunction, disjunction, implication, equivalence, relation, emptiness, union, intersection, difference, shift, minimum, maximum, quantified, where_let, restrict, imported, exported}
 use Rattle.ms_names.specs.Syntax.{Expressions, no_expressions, more_expressions, Bounds, no_bounds, more_bounds, Domain, unrestricted, restricted, Parts, no_parts, more_parts}
 use Rattle.ms_names.specs.Scope.{count_of_bounds, count_of_parts}
 
@@ -10,8 +10,8 @@ pub record Before : Type 0 where
   pub next : ℕ
   -- how many imports there are
   pub imports : ℕ
-  -- the file names of the exports
-  pub exports : List Bytes
+  -- how many exports there are
+  pub exports : ℕ
 
 abbrev pub with_names : Before → ℕ → Before
 with_names b count = record b { next = b.next + count }
@@ -19,8 +19,8 @@ with_names b count = record b { next = b.next + count }
 abbrev pub with_import : Before → Before
 with_import b = record b { imports = b.imports + 1 }
 
-abbrev pub with_export : Before → Bytes → Before
-with_export b file = record b { exports = b.exports ++ file ∷ [] }
+abbrev pub with_export : Before → Before
+with_export b = record b { exports = b.exports + 1 }
 
 -- what stands before the text that follows an expression
 abbrev mutual
@@ -53,7 +53,7 @@ abbrev mutual
   after b (where_let at o ps e) = after (after_parts (with_names b (count_of_parts ps)) ps) e
   after b (restrict at e) = after b e
   after b (imported at file rs) = with_import b
-  after b (exported at text_at file e) = after (with_export b file) e
+  after b (exported at text_at file e) = after (with_export b) e
 
   pub after_all : Before → Expressions → Before
   after_all b no_expressions = b

@@ -3,13 +3,15 @@ use Rattle.std.specs.Prelude.{ℕ, ◌+◌, ◌-◌, Bool, true, false, if◌the
 use Rattle.ms_logic.specs.declared.source.Int.{Int}
 use Rattle.ms_logic.specs.declared.source.Int.TheVariants.{Number, Constant}
 use Rattle.ms_logic.specs.declared.source.PlacedInt.{PlacedInt}
-use Rattle.ms_names.specs.Scope.{Meaning, variable, constant, predicate, Scope, meaning_of}
+use Rattle.ms_names.specs.declared.meaning.Meaning.{Meaning}
+use Rattle.ms_names.specs.declared.meaning.Meaning.TheVariants as meaning
+use Rattle.ms_names.specs.Scope.{Scope, meaning_of}
 
 abbrev pub value_of_meaning : Option Meaning → Option ℕ
 value_of_meaning None = None
-value_of_meaning (Some (variable x o)) = None
-value_of_meaning (Some (constant value)) = Some value
-value_of_meaning (Some (predicate p parameters free)) = None
+value_of_meaning (Some (meaning.Variable x o)) = None
+value_of_meaning (Some (meaning.Constant value)) = Some value
+value_of_meaning (Some (meaning.Predicate p parameters)) = None
 
 -- the value of a number or of the name of a constant
 abbrev pub value_of_int : Scope → Int → Option ℕ

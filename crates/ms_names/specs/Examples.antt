@@ -18,7 +18,7 @@ use Rattle.ms_logic.specs.Tree.{Term, SetTerm, Form, Forms, Restriction, Argumen
 use Rattle.ms_names.specs.Syntax as syntax
 use Rattle.ms_names.specs.Syntax.{Bytes, Expression, Declaration, Placed, place}
 use Rattle.ms_names.specs.View.{OneBound, OnePart, expressions, bounds, parts}
-use Rattle.ms_names.specs.Fault.{Fault}
+use Rattle.ms_names.specs.declared.fault.Fault.{Fault}
 use Rattle.ms_names.specs.Declarations.{first_fault_of}
 use Rattle.ms_names.specs.TypedSource.{globals_of_source, predicates_of_source, imports_of_source, exports_of_source, formulas_of_source}
 
@@ -177,7 +177,7 @@ restrictions_in ds = map (λ g. option_map (λ typed. typed.restriction) g) (glo
 abbrev pub predicates_in : List Placed → List (Option Predicate)
 predicates_in ds = predicates_of_source Ws1s ds
 
-abbrev pub imports_in : List Placed → List (Option ImportUse)
+abbrev pub imports_in : List Placed → List ImportUse
 imports_in ds = imports_of_source Ws1s ds
 
 abbrev pub exports_in : List Placed → List ExportUse

@@ -11,4 +11,5 @@ pub mod Scope
 pub mod Syntax
 pub mod Typed
 pub mod TypedSource
+pub mod Uses
 pub mod View

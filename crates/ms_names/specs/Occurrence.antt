@@ -5,9 +5,12 @@ use Rattle.ms_logic.specs.declared.mode.Order.{Order}
 use Rattle.ms_logic.specs.declared.mode.Order.TheVariants.{Zero, One, Two}
 use Rattle.ms_names.specs.Syntax.{Expression, truth, falsity, whole, empty_set, name, number, pconst, brackets, literal, call, negation, conjunction, disjunction, implication, equivalence, relation, emptiness, union, intersection, difference, shift, minimum, maximum, quantified, where_let, restrict, imported, exported}
 use Rattle.ms_names.specs.Syntax.{Expressions, no_expressions, more_expressions, Bounds, no_bounds, more_bounds, Domain, unrestricted, restricted, Parts, no_parts, more_parts}
-use Rattle.ms_names.specs.Scope.{Scope, variable, bind, without_exports, meaning_of, under_bounds, under_parts, count_of_bounds, count_of_parts}
+use Rattle.ms_names.specs.declared.meaning.Meaning.TheVariants.{Variable}
+use Rattle.ms_names.specs.declared.wanted.Wanted.{Wanted}
+use Rattle.ms_names.specs.declared.wanted.Wanted.TheVariants.{Exactly, NumberOrSet, Anything}
+use Rattle.ms_names.specs.Scope.{Scope, bind, without_exports, meaning_of, under_bounds, under_parts, count_of_bounds, count_of_parts}
 use Rattle.ms_names.specs.Before.{Before, with_names, with_export, after, after_bounds, after_domain, after_parts}
-use Rattle.ms_names.specs.Order.{Wanted, exactly, number_or_set, anything, order_of, wanted_on_the_left, wanted_on_the_right, parameters_of, wanted_by, later_parameters}
+use Rattle.ms_names.specs.Order.{order_of, wanted_on_the_left, wanted_on_the_right, parameters_of, wanted_by, later_parameters}
 
 pub record Occurrence : Type 0 where
   pub scope : Scope
@@ -19,13 +22,13 @@ abbrev pub standing : Scope → Before → Wanted → Expression → Occurrence
 standing s b w e = record { scope = s; before = b; wanted = w; expression = e }
 
 abbrev pub formula_wanted : Wanted
-formula_wanted = exactly Zero
+formula_wanted = Exactly Zero
 
 abbrev pub number_wanted : Wanted
-number_wanted = exactly One
+number_wanted = Exactly One
 
 abbrev pub set_wanted : Wanted
-set_wanted = exactly Two
+set_wanted = Exactly Two
 
 abbrev mutual
   -- all expressions inside an expression, in the order of the text, without itself
@@ -38,7 +41,7 @@ abbrev mutual
   inside s b (number at n) = []
   inside s b (pconst at i) = []
   -- brackets have the order of what is in them, and want none
-  inside s b (brackets at e) = standing s b anything e ∷ inside s b e
+  inside s b (brackets at e) = standing s b Anything e ∷ inside s b e
   inside s b (literal at es) = inside_operands s b number_wanted es
   -- no export may stand in an argument
   inside s b (call at n es) = inside_arguments (without_exports s) b (parameters_of (meaning_of s n)) es
@@ -59,7 +62,7 @@ abbrev mutual
       (standing s b set_wanted e ∷ inside s b e) ++ (standing s (after b e) set_wanted f ∷ inside s (after b e) f)
   inside s b (difference at e f) =
       (standing s b set_wanted e ∷ inside s b e) ++ (standing s (after b e) set_wanted f ∷ inside s (after b e) f)
-  inside s b (shift at e i) = standing s b number_or_set e ∷ inside s b e
+  inside s b (shift at e i) = standing s b NumberOrSet e ∷ inside s b e
   inside s b (minimum at e) = standing s b set_wanted e ∷ inside s b e
   inside s b (maximum at e) = standing s b set_wanted e ∷ inside s b e
   -- the body sees all variables of the list
@@ -77,7 +80,7 @@ abbrev mutual
   inside s b (restrict at e) = standing s b formula_wanted e ∷ inside s b e
   inside s b (imported at file rs) = []
   inside s b (exported at text_at file e) =
-      standing s (with_export b file) formula_wanted e ∷ inside s (with_export b file) e
+      standing s (with_export b) formula_wanted e ∷ inside s (with_export b) e
 
   -- in operands of one wanted order
   pub inside_operands : Scope → Before → Wanted → Expressions → List Occurrence
@@ -95,8 +98,8 @@ abbrev mutual
   pub inside_bounds : Scope → ℕ → Before → Bounds → List Occurrence
   inside_bounds s x b no_bounds = []
   inside_bounds s x b (more_bounds at o n d vs) =
-      inside_domain (without_exports (bind n (variable x o) s)) b d
-      ++ inside_bounds (bind n (variable x o) s) (x + 1) (after_domain b d) vs
+      inside_domain (without_exports (bind n (Variable x o) s)) b d
+      ++ inside_bounds (bind n (Variable x o) s) (x + 1) (after_domain b d) vs
 
   pub inside_domain : Scope → Before → Domain → List Occurrence
   inside_domain s b unrestricted = []
@@ -105,7 +108,7 @@ abbrev mutual
   -- in the right sides of a `let` of an order
   pub inside_parts : Scope → Before → Order → Parts → List Occurrence
   inside_parts s b o no_parts = []
-  inside_parts s b o (more_parts at n e ps) = (standing s b (exactly o) e ∷ inside s b e) ++ inside_parts s (after b e) o ps
+  inside_parts s b o (more_parts at n e ps) = (standing s b (Exactly o) e ∷ inside s b e) ++ inside_parts s (after b e) o ps
 
 -- an expression with all that are inside it
 abbrev pub occurrences : Scope → Before → Wanted → Expression → List Occurrence

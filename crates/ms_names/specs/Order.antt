@@ -5,13 +5,17 @@ use Rattle.ms_logic.specs.declared.mode.Order.TheVariants.{Zero, One, Two}
 use Rattle.ms_logic.specs.declared.mode.Rel.{Rel}
 use Rattle.ms_logic.specs.declared.mode.Rel.TheVariants.{Equal, Differs, Less, AtMost, Greater, AtLeast, Member, NotMember, Sub}
 use Rattle.ms_names.specs.Syntax.{Expression, truth, falsity, whole, empty_set, name, number, pconst, brackets, literal, call, negation, conjunction, disjunction, implication, equivalence, relation, emptiness, union, intersection, difference, shift, minimum, maximum, quantified, where_let, restrict, imported, exported}
-use Rattle.ms_names.specs.Scope.{Meaning, variable, constant, predicate, Scope, meaning_of}
+use Rattle.ms_names.specs.declared.meaning.Meaning.{Meaning}
+use Rattle.ms_names.specs.declared.meaning.Meaning.TheVariants.{Variable, Constant, Predicate}
+use Rattle.ms_names.specs.declared.wanted.Wanted.{Wanted}
+use Rattle.ms_names.specs.declared.wanted.Wanted.TheVariants.{Exactly, NumberOrSet, Anything}
+use Rattle.ms_names.specs.Scope.{Scope, meaning_of}
 
 -- a variable has its own order, a constant is a number, and a predicate is a formula
 abbrev pub order_of_meaning : Meaning → Order
-order_of_meaning (variable x o) = o
-order_of_meaning (constant value) = One
-order_of_meaning (predicate p parameters free) = Zero
+order_of_meaning (Variable x o) = o
+order_of_meaning (Constant value) = One
+order_of_meaning (Predicate p parameters) = Zero
 
 -- a name by itself; an unknown one has no order
 abbrev pub order_of_name : Option Meaning → Option Order
@@ -53,13 +57,6 @@ order_of s (restrict at e) = Some Zero
 order_of s (imported at file rs) = Some Zero
 order_of s (exported at text_at file e) = Some Zero
 
--- what a place wants
-pub data Wanted : Type 0 where
-  exactly : (o : Order) → Wanted
-  number_or_set : Wanted
-  -- as an argument of a name that has no parameter for it
-  anything : Wanted
-
 abbrev pub is_order : Order → Order → Bool
 is_order Zero Zero = true
 is_order One One = true
@@ -69,51 +66,51 @@ is_order _ _ = false
 -- an expression without an order, by an unknown name, is no fault of order
 abbrev pub fits : Wanted → Option Order → Bool
 fits w None = true
-fits (exactly o) (Some p) = is_order o p
-fits number_or_set (Some Zero) = false
-fits number_or_set (Some One) = true
-fits number_or_set (Some Two) = true
-fits anything (Some p) = true
+fits (Exactly o) (Some p) = is_order o p
+fits NumberOrSet (Some Zero) = false
+fits NumberOrSet (Some One) = true
+fits NumberOrSet (Some Two) = true
+fits Anything (Some p) = true
 
 abbrev pub wanted_on_the_left : Rel → Wanted
-wanted_on_the_left Equal = number_or_set
-wanted_on_the_left Differs = number_or_set
-wanted_on_the_left Less = exactly One
-wanted_on_the_left AtMost = exactly One
-wanted_on_the_left Greater = exactly One
-wanted_on_the_left AtLeast = exactly One
-wanted_on_the_left Member = exactly One
-wanted_on_the_left NotMember = exactly One
-wanted_on_the_left Sub = exactly Two
+wanted_on_the_left Equal = NumberOrSet
+wanted_on_the_left Differs = NumberOrSet
+wanted_on_the_left Less = Exactly One
+wanted_on_the_left AtMost = Exactly One
+wanted_on_the_left Greater = Exactly One
+wanted_on_the_left AtLeast = Exactly One
+wanted_on_the_left Member = Exactly One
+wanted_on_the_left NotMember = Exactly One
+wanted_on_the_left Sub = Exactly Two
 
 -- the order of the other side, where it has one
 abbrev pub wanted_beside : Option Order → Wanted
-wanted_beside None = number_or_set
-wanted_beside (Some o) = exactly o
+wanted_beside None = NumberOrSet
+wanted_beside (Some o) = Exactly o
 
 -- on the right, by the order of the left
 abbrev pub wanted_on_the_right : Rel → Option Order → Wanted
 wanted_on_the_right Equal left = wanted_beside left
 wanted_on_the_right Differs left = wanted_beside left
-wanted_on_the_right Less left = exactly One
-wanted_on_the_right AtMost left = exactly One
-wanted_on_the_right Greater left = exactly One
-wanted_on_the_right AtLeast left = exactly One
-wanted_on_the_right Member left = exactly Two
-wanted_on_the_right NotMember left = exactly Two
-wanted_on_the_right Sub left = exactly Two
+wanted_on_the_right Less left = Exactly One
+wanted_on_the_right AtMost left = Exactly One
+wanted_on_the_right Greater left = Exactly One
+wanted_on_the_right AtLeast left = Exactly One
+wanted_on_the_right Member left = Exactly Two
+wanted_on_the_right NotMember left = Exactly Two
+wanted_on_the_right Sub left = Exactly Two
 
 -- the parameters of a name that is called
 abbrev pub parameters_of : Option Meaning → List Order
 parameters_of None = []
-parameters_of (Some (variable x o)) = []
-parameters_of (Some (constant value)) = []
-parameters_of (Some (predicate p parameters free)) = parameters
+parameters_of (Some (Variable x o)) = []
+parameters_of (Some (Constant value)) = []
+parameters_of (Some (Predicate p parameters)) = parameters
 
 -- an argument, by the parameters that are left
 abbrev pub wanted_by : List Order → Wanted
-wanted_by [] = anything
-wanted_by (o ∷ parameters) = exactly o
+wanted_by [] = Anything
+wanted_by (o ∷ parameters) = Exactly o
 
 abbrev pub later_parameters : List Order → List Order
 later_parameters [] = []

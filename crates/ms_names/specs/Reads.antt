@@ -1,58 +1,85 @@
--- The variables that expressions read, through the predicates that they call and the default restrictions of the
--- variables that they bind.
-use Rattle.std.specs.Prelude.{ℕ, List, [], ◌∷◌, ◌++◌, flat_map, Option, Some, None}
+-- What expressions read, and the variables that are free in them: through the predicates that they call and the default
+-- restrictions of the variables that they bind.
+use Rattle.std.specs.Prelude.{ℕ, ◌==◌, Bool, true, false, if◌then◌else◌, List, [], ◌∷◌, ◌++◌, length, filter, flat_map, Option, Some, None}
 use Rattle.ms_logic.specs.declared.source.Rename.{Rename}
+use Rattle.ms_names.specs.declared.meaning.Meaning.{Meaning}
+use Rattle.ms_names.specs.declared.meaning.Meaning.TheVariants as meaning
+use Rattle.ms_names.specs.declared.meaning.Reading.{Reading}
+use Rattle.ms_names.specs.declared.meaning.Reading.TheVariants.{Variable, Predicate}
 use Rattle.ms_names.specs.Syntax.{Expression, name, call, quantified, imported, Bounds, no_bounds, more_bounds, unrestricted, restricted}
-use Rattle.ms_names.specs.Scope.{Meaning, variable, constant, predicate, Default, Scope, meaning_of, default_of, Named, variables_among_read}
+use Rattle.ms_names.specs.Scope.{Scope, meaning_of, default_of, Named, variables_among}
 use Rattle.ms_names.specs.Before.{Before}
 use Rattle.ms_names.specs.Occurrence.{Occurrence, occurrences, formula_wanted}
 
 -- a name by itself: a variable, or a predicate that is called
-abbrev pub read_by_name : Option Meaning → List ℕ
-read_by_name None = []
-read_by_name (Some (variable x o)) = x ∷ []
-read_by_name (Some (constant value)) = []
-read_by_name (Some (predicate p parameters free)) = free
+abbrev pub readings_of_name : Option Meaning → List Reading
+readings_of_name None = []
+readings_of_name (Some (meaning.Variable x o)) = Variable x ∷ []
+readings_of_name (Some (meaning.Constant value)) = []
+readings_of_name (Some (meaning.Predicate p parameters)) = Predicate p ∷ []
 
 -- a name before brackets; a variable there is misused and is not read
-abbrev pub read_by_call : Option Meaning → List ℕ
-read_by_call None = []
-read_by_call (Some (variable x o)) = []
-read_by_call (Some (constant value)) = []
-read_by_call (Some (predicate p parameters free)) = free
+abbrev pub readings_of_call : Option Meaning → List Reading
+readings_of_call None = []
+readings_of_call (Some (meaning.Variable x o)) = []
+readings_of_call (Some (meaning.Constant value)) = []
+readings_of_call (Some (meaning.Predicate p parameters)) = Predicate p ∷ []
 
-abbrev pub read_by_default : Option Default → List ℕ
-read_by_default None = []
-read_by_default (Some d) = d.free
+abbrev pub readings_of_default : Option ℕ → List Reading
+readings_of_default None = []
+readings_of_default (Some p) = Predicate p ∷ []
 
 -- the default restrictions of the variables of a list that have none of their own
-abbrev pub read_by_bounds : Scope → Bounds → List ℕ
-read_by_bounds s no_bounds = []
-read_by_bounds s (more_bounds at o n unrestricted vs) = read_by_default (default_of s o) ++ read_by_bounds s vs
-read_by_bounds s (more_bounds at o n (restricted e) vs) = read_by_bounds s vs
+abbrev pub readings_of_bounds : Scope → Bounds → List Reading
+readings_of_bounds s no_bounds = []
+readings_of_bounds s (more_bounds at o n unrestricted vs) = readings_of_default (default_of s o) ++ readings_of_bounds s vs
+readings_of_bounds s (more_bounds at o n (restricted e) vs) = readings_of_bounds s vs
 
-abbrev pub read_by_variable : Option Meaning → List ℕ
-read_by_variable None = []
-read_by_variable (Some (variable x o)) = x ∷ []
-read_by_variable (Some (constant value)) = []
-read_by_variable (Some (predicate p parameters free)) = []
+-- a name on the right of an import
+abbrev pub readings_of_variable : Option Meaning → List Reading
+readings_of_variable None = []
+readings_of_variable (Some (meaning.Variable x o)) = Variable x ∷ []
+readings_of_variable (Some (meaning.Constant value)) = []
+readings_of_variable (Some (meaning.Predicate p parameters)) = []
 
--- the variables on the right of an import
-abbrev pub read_by_renames : Scope → List Rename → List ℕ
-read_by_renames s [] = []
-read_by_renames s (r ∷ rs) = read_by_variable (meaning_of s r.right) ++ read_by_renames s rs
+abbrev pub readings_of_renames : Scope → List Rename → List Reading
+readings_of_renames s [] = []
+readings_of_renames s (r ∷ rs) = readings_of_variable (meaning_of s r.right) ++ readings_of_renames s rs
 
 -- what an expression reads itself, beside those inside it
-abbrev pub read_by_itself : Scope → Expression → List ℕ
-read_by_itself s (name at n) = read_by_name (meaning_of s n)
-read_by_itself s (call at n es) = read_by_call (meaning_of s n)
-read_by_itself s (quantified at q vs e) = read_by_bounds s vs
-read_by_itself s (imported at file rs) = read_by_renames s rs
-read_by_itself s _ = []
+abbrev pub readings_of_form : Scope → Expression → List Reading
+readings_of_form s (name at n) = readings_of_name (meaning_of s n)
+readings_of_form s (call at n es) = readings_of_call (meaning_of s n)
+readings_of_form s (quantified at q vs e) = readings_of_bounds s vs
+readings_of_form s (imported at file rs) = readings_of_renames s rs
+readings_of_form s _ = []
 
-abbrev pub read_at : Occurrence → List ℕ
-read_at o = read_by_itself o.scope o.expression
+abbrev pub readings_at : Occurrence → List Reading
+readings_at o = readings_of_form o.scope o.expression
 
--- the free variables of an expression: those that it reads and that are bound outside it
+abbrev pub reads_predicate : ℕ → List Reading → Bool
+reads_predicate p [] = false
+reads_predicate p (Variable x ∷ more) = reads_predicate p more
+reads_predicate p (Predicate q ∷ more) = if p == q then true else reads_predicate p more
+
+abbrev pub reads_variable : ℕ → List Reading → Bool
+reads_variable x [] = false
+reads_variable x (Variable y ∷ more) = if x == y then true else reads_variable x more
+reads_variable x (Predicate q ∷ more) = reads_variable x more
+
+-- with what is read through predicates: a predicate that is read adds what it reads itself. A predicate reads only those
+-- before it, and the last stands first.
+abbrev pub with_predicates : List (List Reading) → List Reading → List Reading
+with_predicates [] rs = rs
+with_predicates (last ∷ earlier) rs = with_predicates earlier (if reads_predicate (length earlier) rs then rs ++ last else rs)
+
+-- those variables of a scope that are read, through predicates too: the globals in their order, then the others, the
+-- outermost first
+abbrev pub variables_read : Scope → List Reading → List Named
+variables_read s rs =
+    let all = with_predicates s.readings rs in
+    filter (λ v. reads_variable v.number all) (variables_among s.names)
+
+-- the free variables of a formula: those that it reads and that are bound outside it
 abbrev pub free_variables : Scope → Before → Expression → List Named
-free_variables s b e = variables_among_read s (flat_map read_at (occurrences s b formula_wanted e))
+free_variables s b e = variables_read s (flat_map readings_at (occurrences s b formula_wanted e))

@@ -1,29 +1,21 @@
 -- What names mean where an expression stands, and what stands before it in the text.
-use Rattle.std.specs.Prelude.{ℕ, ◌+◌, ◌==◌, Bool, true, false, if◌then◌else◌, List, [], ◌∷◌, ◌++◌, filter, bytes_eq, Option, Some, None}
+use Rattle.std.specs.Prelude.{ℕ, ◌+◌, Bool, false, if◌then◌else◌, List, [], ◌∷◌, ◌++◌, bytes_eq, Option, Some, None}
 use Rattle.ms_logic.specs.declared.mode.Mode.{Mode}
 use Rattle.ms_logic.specs.declared.mode.Order.{Order}
 use Rattle.ms_logic.specs.declared.mode.Order.TheVariants.{Zero, One, Two}
+use Rattle.ms_names.specs.declared.meaning.Meaning.{Meaning}
+use Rattle.ms_names.specs.declared.meaning.Meaning.TheVariants.{Variable, Constant, Predicate}
+use Rattle.ms_names.specs.declared.meaning.Reading.{Reading}
 use Rattle.ms_names.specs.Syntax.{Bytes, Bounds, no_bounds, more_bounds, Parts, no_parts, more_parts}
 
--- what a name stands for
-pub data Meaning : Type 0 where
-  -- a variable: its number and its order
-  variable : (x : ℕ) (o : Order) → Meaning
-  constant : (value : ℕ) → Meaning
-  -- a predicate or a macro: its number, the orders of its parameters, and the globals that are free in it
-  predicate : (p : ℕ) (parameters : List Order) (free : List ℕ) → Meaning
-
--- a default restriction: its number, and the globals that are free in it
-pub record Default : Type 0 where
-  pub number : ℕ
-  pub free : List ℕ
-
--- the names that are seen, the innermost first; the default restrictions that hold; and whether an export may stand here
+-- the names that are seen, the innermost first; what each predicate, macro and default restriction so far reads, the last
+-- first; the numbers of the default restrictions that hold; and whether an export may stand here
 pub record Scope : Type 0 where
   pub mode : Mode
   pub names : List (Bytes × Meaning)
-  pub default_of_numbers : Option Default
-  pub default_of_sets : Option Default
+  pub readings : List (List Reading)
+  pub default_of_numbers : Option ℕ
+  pub default_of_sets : Option ℕ
   pub exports_allowed : Bool
 
 -- with one more name, which hides an outer one
@@ -35,13 +27,13 @@ abbrev pub without_exports : Scope → Scope
 without_exports s = record s { exports_allowed = false }
 
 -- the default restriction of the variables of an order
-abbrev pub default_of : Scope → Order → Option Default
+abbrev pub default_of : Scope → Order → Option ℕ
 default_of s Zero = None
 default_of s One = s.default_of_numbers
 default_of s Two = s.default_of_sets
 
 -- with another default restriction for an order
-abbrev pub with_default : Order → Default → Scope → Scope
+abbrev pub with_default : Order → ℕ → Scope → Scope
 with_default Zero d s = s
 with_default One d s = record s { default_of_numbers = Some d }
 with_default Two d s = record s { default_of_sets = Some d }
@@ -63,27 +55,19 @@ pub record Named : Type 0 where
 -- the variables among the names, each before those that were bound after it, hidden ones too
 abbrev pub variables_among : List (Bytes × Meaning) → List Named
 variables_among [] = []
-variables_among ((n, variable x o) ∷ outer) = variables_among outer ++ record { number = x; order = o; name = n } ∷ []
-variables_among ((n, constant value) ∷ outer) = variables_among outer
-variables_among ((n, predicate p parameters free) ∷ outer) = variables_among outer
-
-abbrev pub is_number_among : ℕ → List ℕ → Bool
-is_number_among x [] = false
-is_number_among x (y ∷ more) = if x == y then true else is_number_among x more
-
--- those variables of a scope that are among these numbers: the globals in their order, then the others, the outermost first
-abbrev pub variables_among_read : Scope → List ℕ → List Named
-variables_among_read s read = filter (λ v. is_number_among v.number read) (variables_among s.names)
+variables_among ((n, Variable x o) ∷ outer) = variables_among outer ++ record { number = x; order = o; name = n } ∷ []
+variables_among ((n, Constant value) ∷ outer) = variables_among outer
+variables_among ((n, Predicate p parameters) ∷ outer) = variables_among outer
 
 -- with the variables of a list, whose numbers go on from x
 abbrev pub under_bounds : Scope → ℕ → Bounds → Scope
 under_bounds s x no_bounds = s
-under_bounds s x (more_bounds at o n d vs) = under_bounds (bind n (variable x o) s) (x + 1) vs
+under_bounds s x (more_bounds at o n d vs) = under_bounds (bind n (Variable x o) s) (x + 1) vs
 
 -- with the names of a `let` of this order, whose numbers go on from x
 abbrev pub under_parts : Scope → ℕ → Order → Parts → Scope
 under_parts s x o no_parts = s
-under_parts s x o (more_parts at n e ps) = under_parts (bind n (variable x o) s) (x + 1) o ps
+under_parts s x o (more_parts at n e ps) = under_parts (bind n (Variable x o) s) (x + 1) o ps
 
 abbrev pub count_of_bounds : Bounds → ℕ
 count_of_bounds no_bounds = 0

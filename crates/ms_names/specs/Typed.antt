@@ -1,5 +1,5 @@
 -- The typed tree that an expression becomes, where nothing is wrong with it: what each name became.
-use Rattle.std.specs.Prelude.{ℕ, ◌+◌, Bool, true, false, List, [], ◌∷◌, length, Option, Some, None}
+use Rattle.std.specs.Prelude.{ℕ, ◌+◌, Bool, true, false, List, [], ◌∷◌, Option, Some, None}
 use Rattle.std.specs.Option.{option_map, option_and_then}
 use Rattle.ms_logic.specs.declared.mode.Order.{Order}
 use Rattle.ms_logic.specs.declared.mode.Order.TheVariants.{Zero, One, Two}
@@ -10,7 +10,9 @@ use Rattle.ms_logic.specs.Tree as tree
 use Rattle.ms_logic.specs.Tree.{Term, SetTerm, Terms, Form, Forms, Restriction, Argument, truth_argument, number_argument, set_argument, Arguments}
 use Rattle.ms_names.specs.Syntax.{Expression, truth, falsity, whole, empty_set, name, number, pconst, brackets, literal, call, negation, conjunction, disjunction, implication, equivalence, relation, emptiness, union, intersection, difference, shift, minimum, maximum, quantified, where_let, restrict, imported, exported}
 use Rattle.ms_names.specs.Syntax.{Expressions, no_expressions, more_expressions, Bounds, no_bounds, more_bounds, Domain, unrestricted, restricted, Parts, no_parts, more_parts}
-use Rattle.ms_names.specs.Scope.{Meaning, variable, constant, predicate, Default, Scope, bind, meaning_of, default_of, under_bounds, under_parts, count_of_bounds, count_of_parts}
+use Rattle.ms_names.specs.declared.meaning.Meaning.{Meaning}
+use Rattle.ms_names.specs.declared.meaning.Meaning.TheVariants.{Variable, Constant, Predicate}
+use Rattle.ms_names.specs.Scope.{Scope, bind, meaning_of, default_of, under_bounds, under_parts, count_of_bounds, count_of_parts}
 use Rattle.ms_names.specs.Before.{Before, with_names, with_export, after, after_bounds, after_domain, after_parts}
 use Rattle.ms_names.specs.Constant.{value_of}
 
@@ -67,10 +69,10 @@ variable_argument x Two = set_argument (tree.set_variable x)
 -- a name by itself: a variable, the number of a constant, or a call without arguments
 abbrev pub typed_name : Option Meaning → Option Argument
 typed_name None = None
-typed_name (Some (variable x o)) = Some (variable_argument x o)
-typed_name (Some (constant value)) = Some (number_argument (tree.numeral value))
-typed_name (Some (predicate p [] free)) = Some (truth_argument (tree.call p tree.no_arguments))
-typed_name (Some (predicate p (o ∷ parameters) free)) = None
+typed_name (Some (Variable x o)) = Some (variable_argument x o)
+typed_name (Some (Constant value)) = Some (number_argument (tree.numeral value))
+typed_name (Some (Predicate p [])) = Some (truth_argument (tree.call p tree.no_arguments))
+typed_name (Some (Predicate p (o ∷ parameters))) = None
 
 -- an argument of this order
 abbrev pub of_order : Order → Argument → Option Argument
@@ -111,14 +113,14 @@ typed_shift minus (Some n) a = option_and_then (shifted minus n) a
 
 abbrev pub typed_call : Option Meaning → (List Order → Option Arguments) → Option Argument
 typed_call None given = None
-typed_call (Some (variable x o)) given = None
-typed_call (Some (constant value)) given = None
-typed_call (Some (predicate p parameters free)) given = option_map (λ arguments. truth_argument (tree.call p arguments)) (given parameters)
+typed_call (Some (Variable x o)) given = None
+typed_call (Some (Constant value)) given = None
+typed_call (Some (Predicate p parameters)) given = option_map (λ arguments. truth_argument (tree.call p arguments)) (given parameters)
 
 -- the restriction of a variable that has none of its own: the default of its order, at the variable
-abbrev pub default_restriction : Option Default → ℕ → Restriction
+abbrev pub default_restriction : Option ℕ → ℕ → Restriction
 default_restriction None x = tree.unrestricted
-default_restriction (Some d) x = tree.restricted (tree.default_at d.number x)
+default_restriction (Some p) x = tree.restricted (tree.default_at p x)
 
 abbrev pub typed_restriction : Option Argument → Option Restriction
 typed_restriction d = option_map (λ f. tree.restricted f) (formula_in d)
@@ -170,7 +172,7 @@ abbrev mutual
   -- imports and exports are numbered in the order of the text
   typed s b (imported at file rs) = Some (truth_argument (tree.imported b.imports))
   typed s b (exported at text_at file e) =
-      formula_of_one (λ f. tree.exported (length b.exports) f) (typed s (with_export b file) e)
+      formula_of_one (λ f. tree.exported b.exports f) (typed s (with_export b) e)
 
   pub typed_numbers : Scope → Before → Expressions → Option Terms
   typed_numbers s b no_expressions = Some tree.no_terms
@@ -194,8 +196,8 @@ abbrev mutual
   pub typed_quantifiers : Scope → ℕ → Before → Quant → Bounds → Option Form → Option Form
   typed_quantifiers s x b q no_bounds f = f
   typed_quantifiers s x b q (more_bounds at o n d vs) f =
-      quantifier q o x (typed_domain (bind n (variable x o) s) b o x d)
-      (typed_quantifiers (bind n (variable x o) s) (x + 1) (after_domain b d) q vs f)
+      quantifier q o x (typed_domain (bind n (Variable x o) s) b o x d)
+      (typed_quantifiers (bind n (Variable x o) s) (x + 1) (after_domain b d) q vs f)
 
   -- the restriction of the variable x of an order
   pub typed_domain : Scope → Before → Order → ℕ → Domain → Option Restriction

@@ -1,26 +1,24 @@
 -- The typed tree that a source becomes, where nothing is wrong with it.
-use Rattle.std.specs.Prelude.{◌≡◌, ℕ, ◌+◌, List, [], ◌∷◌, ◌++◌, map, flat_map, Option, Some, None}
+use Rattle.std.specs.Prelude.{◌≡◌, ℕ, ◌+◌, List, [], ◌∷◌, ◌++◌, map, flat_map, Option, Some}
 use Rattle.std.specs.Option.{option_map}
 use Rattle.ms_edge.specs.declared.at.At.{At}
 use Rattle.ms_logic.specs.declared.mode.Mode.{Mode}
 use Rattle.ms_logic.specs.declared.mode.Order.{Order}
 use Rattle.ms_logic.specs.declared.source.Loaded.{Loaded}
-use Rattle.ms_logic.specs.declared.source.Rename.{Rename}
 use Rattle.ms_logic.specs.declared.checked.Checked.{Checked}
 use Rattle.ms_logic.specs.declared.checked.ExportUse.{ExportUse}
 use Rattle.ms_logic.specs.declared.checked.Global.{Global}
 use Rattle.ms_logic.specs.declared.checked.ImportUse.{ImportUse}
-use Rattle.ms_logic.specs.declared.checked.MapPair.{MapPair}
 use Rattle.ms_logic.specs.declared.checked.Placed as code
 use Rattle.ms_logic.specs.Tree as tree
 use Rattle.ms_logic.specs.Tree.{Form, Restriction, unrestricted}
 use Rattle.ms_logic.specs.View.{formula_of, predicate_of, restriction}
 use Rattle.ms_names.specs.Syntax as syntax
 use Rattle.ms_names.specs.Syntax.{Bytes, Expression, imported, exported, Bounds, no_bounds, more_bounds, Domain, Declaration, globals, constant, predicate, include, default, formula, Placed}
-use Rattle.ms_names.specs.Scope.{Meaning, variable, constant as constant_meaning, predicate as predicate_meaning, Scope, bind, meaning_of, under_bounds, count_of_bounds}
-use Rattle.ms_names.specs.Before.{Before, with_names, with_export, after_bounds, after_domain}
-use Rattle.ms_names.specs.Occurrence.{Occurrence}
-use Rattle.ms_names.specs.Reads.{free_variables}
+use Rattle.ms_names.specs.declared.meaning.Meaning.TheVariants.{Variable}
+use Rattle.ms_names.specs.Scope.{Scope, bind, under_bounds, count_of_bounds}
+use Rattle.ms_names.specs.Before.{Before, with_names, after_bounds, after_domain}
+use Rattle.ms_names.specs.Uses.{import_at, export_at}
 use Rattle.ms_names.specs.Typed.{both, formula_in, typed, typed_domain, typed_restriction}
 use Rattle.ms_names.specs.Declarations.{Known, at_the_beginning, after_declaration, occurrences_in}
 use Rattle.ms_names.specs.View.{placed_of}
@@ -44,8 +42,8 @@ abbrev pub globals_of_bounds : At → ℕ → Scope → ℕ → Before → Bound
 globals_of_bounds at item s x b no_bounds = []
 globals_of_bounds at item s x b (more_bounds name_at o n d vs) =
     option_map (λ restriction. record { at = at; item = item; order = o; name = n; restriction = restriction })
-    (typed_domain (bind n (variable x o) s) b o x d)
-    ∷ globals_of_bounds at item (bind n (variable x o) s) (x + 1) (after_domain b d) vs
+    (typed_domain (bind n (Variable x o) s) b o x d)
+    ∷ globals_of_bounds at item (bind n (Variable x o) s) (x + 1) (after_domain b d) vs
 
 -- the restriction of a parameter, which takes no default
 abbrev pub restriction_of_parameter : Scope → Before → Domain → Option Restriction
@@ -57,8 +55,8 @@ abbrev pub parameters_of_bounds : Scope → ℕ → Before → Bounds → Option
 parameters_of_bounds s x b no_bounds = Some []
 parameters_of_bounds s x b (more_bounds at o n d vs) =
     both (λ restriction more. record { variable = record { name = x; order = o }; restriction = restriction } ∷ more)
-    (restriction_of_parameter (bind n (variable x o) s) b d)
-    (parameters_of_bounds (bind n (variable x o) s) (x + 1) (after_domain b d) vs)
+    (restriction_of_parameter (bind n (Variable x o) s) b d)
+    (parameters_of_bounds (bind n (Variable x o) s) (x + 1) (after_domain b d) vs)
 
 abbrev pub typed_predicate : Scope → Before → Bounds → Expression → Option tree.Predicate
 typed_predicate s b vs e =
@@ -71,36 +69,7 @@ typed_predicate s b vs e =
 abbrev pub typed_default : Scope → Before → Order → Bytes → Expression → Option tree.Predicate
 typed_default s b o n e =
     option_map (λ body. record { parameters = record { variable = record { name = b.next; order = o }; restriction = unrestricted } ∷ []; body = body })
-    (formula_in (typed (bind n (variable b.next o) s) (with_names b 1) e))
-
--- a pair of an import: the name in the file, and the variable for which it stands
-abbrev pub pair_of : Bytes → Option Meaning → Option MapPair
-pair_of n None = None
-pair_of n (Some (variable x o)) = Some (record { name = n; variable = x; order = o })
-pair_of n (Some (constant_meaning value)) = None
-pair_of n (Some (predicate_meaning p parameters free)) = None
-
-abbrev pub pairs_of : Scope → List Rename → Option (List MapPair)
-pairs_of s [] = Some []
-pairs_of s (r ∷ rs) = both (λ pair more. pair ∷ more) (pair_of r.left (meaning_of s r.right)) (pairs_of s rs)
-
--- the import that an expression is, if it is one
-abbrev pub import_of_form : Scope → Expression → List (Option ImportUse)
-import_of_form s (imported at file rs) = option_map (λ pairs. record { at = at; name = file; pairs = pairs }) (pairs_of s rs) ∷ []
-import_of_form s _ = []
-
--- the export that an expression is, if it is one, with the free variables of its formula
-abbrev pub export_of_form : Scope → Before → Expression → List ExportUse
-export_of_form s b (exported at text_at file e) =
-    let free = free_variables s (with_export b file) e in
-    record { at = text_at; name = file; variables = map (λ v. v.number) free; names = map (λ v. v.name) free } ∷ []
-export_of_form s b _ = []
-
-abbrev pub import_at : Occurrence → List (Option ImportUse)
-import_at o = import_of_form o.scope o.expression
-
-abbrev pub export_at : Occurrence → List ExportUse
-export_at o = export_of_form o.scope o.before o.expression
+    (formula_in (typed (bind n (Variable b.next o) s) (with_names b 1) e))
 
 -- what a declaration gives, by what is known before it and its number
 
@@ -144,7 +113,7 @@ globals_of_source mode ds = all_of (λ k item d. globals_of k d.at item d.declar
 abbrev pub predicates_of_source : Mode → List Placed → List (Option tree.Predicate)
 predicates_of_source mode ds = all_of (λ k item d. predicates_of k d.declaration) mode ds
 
-abbrev pub imports_of_source : Mode → List Placed → List (Option ImportUse)
+abbrev pub imports_of_source : Mode → List Placed → List ImportUse
 imports_of_source mode ds = all_of (λ k item d. flat_map import_at (occurrences_in k d.declaration)) mode ds
 
 abbrev pub exports_of_source : Mode → List Placed → List ExportUse
@@ -164,7 +133,7 @@ pub record IsTyped (loaded : Loaded) (checked : Checked) : Type 0 where
   pub mode : checked.mode ≡ loaded.mode
   pub globals_are : map (λ g. Some (global_of g)) checked.globals ≡ globals_of_source loaded.mode (map placed_of loaded.items)
   pub predicates_are : map (λ p. Some (predicate_of p)) checked.predicates ≡ predicates_of_source loaded.mode (map placed_of loaded.items)
-  pub imports_are : map Some checked.imports ≡ imports_of_source loaded.mode (map placed_of loaded.items)
+  pub imports_are : checked.imports ≡ imports_of_source loaded.mode (map placed_of loaded.items)
   pub exports_are : checked.exports ≡ exports_of_source loaded.mode (map placed_of loaded.items)
   pub formulas_are : map (λ f. Some (placed_formula_of f)) checked.formulas ≡ formulas_of_source loaded.mode (map placed_of loaded.items)
   pub files : checked.files ≡ loaded.files

@@ -2,6 +2,9 @@
 #![tactic(auto)]
 
 mod examples;
+mod fault;
+mod meaning;
+mod wanted;
 
 pub use examples::{
     worked_counts_of_arguments, worked_either_wanted, worked_exports, worked_firsts,
@@ -9,3 +12,4 @@ pub use examples::{
     worked_ranges, worked_repeats, worked_sets_wanted, worked_typed_declarations,
     worked_typed_names, worked_unknown_names, worked_uses,
 };
+pub use fault::Fault;

@@ -1,105 +1,106 @@
 ghost use Rattle.ms_logic.specs.declared.mode.Order.TheVariants.{Zero, One, Two};
 ghost use Rattle.ms_logic.specs.declared.mode.Rel.TheVariants.{Equal, Less, Member, Sub};
 ghost use Rattle.ms_names.specs.Examples.{byte, fault_in, vars, const_is, pred_is, no_vars, default_is, holds, var, var_where, part, int, int_named, rename, yes, nothing, named, num, bits, paren, set_of, called, all_of, related, is_empty, moved, exists, let_in, import_of};
-ghost use Rattle.ms_names.specs.Fault.{unknown_name, named_twice, wrong_order};
 ghost use Rattle.std.specs.Prelude.{◌≡◌, [], ◌∷◌, false, codes};
+
+use crate::fault::Fault;
 
 /// Names that are not declared where they stand.
 pub fn worked_unknown_names()
     // q;
     ensures bare { fault_in
         (holds 0 (named 0 (codes "q")) ∷ [])
-        ≡ Some (unknown_name (byte 0) (codes "q")) }
+        ≡ Some (Fault.UnknownName (byte 0) (codes "q")) }
 
     // var2 P; P sub q;
     ensures operand { fault_in
         (vars 0 (var 5 Two (codes "P") ∷ []) ∷ holds 8 (related Sub (named 8 (codes "P")) (named 14 (codes "q"))) ∷ [])
-        ≡ Some (unknown_name (byte 14) (codes "q")) }
+        ≡ Some (Fault.UnknownName (byte 14) (codes "q")) }
 
     // p(1);
     ensures called { fault_in
         (holds 0 (called 0 (codes "p") ((num 2 1) ∷ [])) ∷ [])
-        ≡ Some (unknown_name (byte 0) (codes "p")) }
+        ≡ Some (Fault.UnknownName (byte 0) (codes "p")) }
 
     // (q(1)) sub empty;
     ensures called_in_brackets { fault_in
         (holds 0 (related Sub (paren 0 (called 1 (codes "q") ((num 3 1) ∷ []))) (nothing 11)) ∷ [])
-        ≡ Some (unknown_name (byte 1) (codes "q")) }
+        ≡ Some (Fault.UnknownName (byte 1) (codes "q")) }
 
     // var1 x; x = x + k;
     ensures offset { fault_in
         (vars 0 (var 5 One (codes "x") ∷ []) ∷ holds 8 (related Equal (named 8 (codes "x")) (moved (named 12 (codes "x")) (int_named 16 (codes "k") false))) ∷ [])
-        ≡ Some (unknown_name (byte 16) (codes "k")) }
+        ≡ Some (Fault.UnknownName (byte 16) (codes "k")) }
 
     // var2 P; P = pconst(k);
     ensures pconst { fault_in
         (vars 0 (var 5 Two (codes "P") ∷ []) ∷ holds 8 (related Equal (named 8 (codes "P")) (bits 12 (int_named 19 (codes "k") false))) ∷ [])
-        ≡ Some (unknown_name (byte 19) (codes "k")) }
+        ≡ Some (Fault.UnknownName (byte 19) (codes "k")) }
 
     // const n = n;
     ensures own_constant { fault_in
         (const_is 0 6 (codes "n") (int_named 10 (codes "n") false ∷ []) ∷ [])
-        ≡ Some (unknown_name (byte 10) (codes "n")) }
+        ≡ Some (Fault.UnknownName (byte 10) (codes "n")) }
 
     // import("a", x -> y);
     ensures right_of_import { fault_in
         (holds 0 (import_of 0 (codes "a") (rename 12 (codes "x") 17 (codes "y") ∷ [])) ∷ [])
-        ≡ Some (unknown_name (byte 17) (codes "y")) }
+        ≡ Some (Fault.UnknownName (byte 17) (codes "y")) }
 
     // p(); pred p() = true;
     ensures predicate_before_its_declaration { fault_in
         (holds 0 (called 0 (codes "p") ([])) ∷ pred_is 5 10 (codes "p") no_vars (yes 16) ∷ [])
-        ≡ Some (unknown_name (byte 0) (codes "p")) }
+        ≡ Some (Fault.UnknownName (byte 0) (codes "p")) }
 
     // pred p() = p();
     ensures predicate_in_its_own_body { fault_in
         (pred_is 0 5 (codes "p") no_vars (called 11 (codes "p") ([])) ∷ [])
-        ≡ Some (unknown_name (byte 11) (codes "p")) }
+        ≡ Some (Fault.UnknownName (byte 11) (codes "p")) }
 
     // macro p(var1 x) = x = 0 & p(x);
     ensures macro_in_its_own_body { fault_in
         (pred_is 0 6 (codes "p") (var 13 One (codes "x") ∷ []) (all_of (related Equal (named 18 (codes "x")) (num 22 0)) ((called 26 (codes "p") ((named 28 (codes "x")) ∷ [])) ∷ [])) ∷ [])
-        ≡ Some (unknown_name (byte 26) (codes "p")) }
+        ≡ Some (Fault.UnknownName (byte 26) (codes "p")) }
 
     // var1 x where x < y, y;
     ensures later_global_of_the_list { fault_in
         (vars 0 (var_where 5 One (codes "x") (related Less (named 13 (codes "x")) (named 17 (codes "y"))) ∷ var 20 One (codes "y") ∷ []) ∷ [])
-        ≡ Some (unknown_name (byte 17) (codes "y")) }
+        ≡ Some (Fault.UnknownName (byte 17) (codes "y")) }
 
     // ex1 x where x < y, y: true;
     ensures later_variable_of_the_list { fault_in
         (holds 0 (exists 0 (var_where 4 One (codes "x") (related Less (named 12 (codes "x")) (named 16 (codes "y"))) ∷ var 19 One (codes "y") ∷ []) (yes 22)) ∷ [])
-        ≡ Some (unknown_name (byte 16) (codes "y")) }
+        ≡ Some (Fault.UnknownName (byte 16) (codes "y")) }
 
     // pred p(var1 x where x < y, y) = true;
     ensures later_parameter_of_the_list { fault_in
         (pred_is 0 5 (codes "p") (var_where 12 One (codes "x") (related Less (named 20 (codes "x")) (named 24 (codes "y"))) ∷ var 27 One (codes "y") ∷ []) (yes 32) ∷ [])
-        ≡ Some (unknown_name (byte 24) (codes "y")) }
+        ≡ Some (Fault.UnknownName (byte 24) (codes "y")) }
 
     // let1 x = x in x = 0;
     ensures right_side_of_its_own_let { fault_in
         (holds 0 (let_in 0 One (part 5 (codes "x") (named 9 (codes "x")) ∷ []) (related Equal (named 14 (codes "x")) (num 18 0))) ∷ [])
-        ≡ Some (unknown_name (byte 9) (codes "x")) }
+        ≡ Some (Fault.UnknownName (byte 9) (codes "x")) }
 
     // let1 x = 0, y = x in x = y;
     ensures earlier_name_of_the_same_let { fault_in
         (holds 0 (let_in 0 One (part 5 (codes "x") (num 9 0) ∷ part 12 (codes "y") (named 16 (codes "x")) ∷ []) (related Equal (named 21 (codes "x")) (named 25 (codes "y")))) ∷ [])
-        ≡ Some (unknown_name (byte 16) (codes "x")) }
+        ≡ Some (Fault.UnknownName (byte 16) (codes "x")) }
 
     // (ex1 x: x = 0) & x = 0;
     ensures bound_variable_outside { fault_in
         (holds 0 (all_of (paren 0 (exists 1 (var 5 One (codes "x") ∷ []) (related Equal (named 8 (codes "x")) (num 12 0)))) ((related Equal (named 17 (codes "x")) (num 21 0)) ∷ [])) ∷ [])
-        ≡ Some (unknown_name (byte 17) (codes "x")) }
+        ≡ Some (Fault.UnknownName (byte 17) (codes "x")) }
 
     // pred p(var1 x) = x = 0; x = 0;
     ensures parameter_outside { fault_in
         (pred_is 0 5 (codes "p") (var 12 One (codes "x") ∷ []) (related Equal (named 17 (codes "x")) (num 21 0)) ∷ holds 24 (related Equal (named 24 (codes "x")) (num 28 0)) ∷ [])
-        ≡ Some (unknown_name (byte 24) (codes "x")) }
+        ≡ Some (Fault.UnknownName (byte 24) (codes "x")) }
 
     // defaultwhere1(x) = x < 3; x = 0;
     ensures parameter_of_default_outside { fault_in
         (default_is 0 One (codes "x") (related Less (named 19 (codes "x")) (num 23 3)) ∷ holds 26 (related Equal (named 26 (codes "x")) (num 30 0)) ∷ [])
-        ≡ Some (unknown_name (byte 26) (codes "x")) }
+        ≡ Some (Fault.UnknownName (byte 26) (codes "x")) }
 {}
 
 /// A name means what it means where its declaration stands.
@@ -107,17 +108,17 @@ pub fn worked_lexical_scopes()
     // pred p() = empty(P); var2 P; p();
     ensures global_after_a_predicate { fault_in
         (pred_is 0 5 (codes "p") no_vars (is_empty 11 (named 17 (codes "P"))) ∷ vars 21 (var 26 Two (codes "P") ∷ []) ∷ holds 29 (called 29 (codes "p") ([])) ∷ [])
-        ≡ Some (unknown_name (byte 17) (codes "P")) }
+        ≡ Some (Fault.UnknownName (byte 17) (codes "P")) }
 
     // pred p() = x = 0; ex1 x: p();
     ensures variable_round_a_call { fault_in
         (pred_is 0 5 (codes "p") no_vars (related Equal (named 11 (codes "x")) (num 15 0)) ∷ holds 18 (exists 18 (var 22 One (codes "x") ∷ []) (called 25 (codes "p") ([]))) ∷ [])
-        ≡ Some (unknown_name (byte 11) (codes "x")) }
+        ≡ Some (Fault.UnknownName (byte 11) (codes "x")) }
 
     // defaultwhere1(x) = x < y; var1 y; ex1 z: true;
     ensures global_after_a_default { fault_in
         (default_is 0 One (codes "x") (related Less (named 19 (codes "x")) (named 23 (codes "y"))) ∷ vars 26 (var 31 One (codes "y") ∷ []) ∷ holds 34 (exists 34 (var 38 One (codes "z") ∷ []) (yes 41)) ∷ [])
-        ≡ Some (unknown_name (byte 23) (codes "y")) }
+        ≡ Some (Fault.UnknownName (byte 23) (codes "y")) }
 
     // var1 x; pred p() = x = 0; ex2 x: p();
     ensures global_hidden_at_a_call { fault_in
@@ -162,12 +163,12 @@ pub fn worked_lexical_scopes()
     // const n = 3; ex1 n: n = 0 + n;
     ensures binder_hides_constant { fault_in
         (const_is 0 6 (codes "n") (int 10 3 false ∷ []) ∷ holds 13 (exists 13 (var 17 One (codes "n") ∷ []) (related Equal (named 20 (codes "n")) (moved (num 24 0) (int_named 28 (codes "n") false)))) ∷ [])
-        ≡ Some (wrong_order (byte 28)) }
+        ≡ Some (Fault.WrongOrder (byte 28)) }
 
     // pred p(var1 x) = true; ex1 p: p(0);
     ensures binder_hides_predicate { fault_in
         (pred_is 0 5 (codes "p") (var 12 One (codes "x") ∷ []) (yes 17) ∷ holds 23 (exists 23 (var 27 One (codes "p") ∷ []) (called 30 (codes "p") ((num 32 0) ∷ []))) ∷ [])
-        ≡ Some (wrong_order (byte 30)) }
+        ≡ Some (Fault.WrongOrder (byte 30)) }
 
     // pred p(var1 p) = p = 0; p(1);
     ensures predicate_named_as_its_parameter { fault_in
@@ -185,57 +186,57 @@ pub fn worked_repeats()
     // var1 x; var2 x;
     ensures global_and_global { fault_in
         (vars 0 (var 5 One (codes "x") ∷ []) ∷ vars 8 (var 13 Two (codes "x") ∷ []) ∷ [])
-        ≡ Some (named_twice (byte 13) (codes "x")) }
+        ≡ Some (Fault.NamedTwice (byte 13) (codes "x")) }
 
     // var1 x, x;
     ensures globals_of_one_list { fault_in
         (vars 0 (var 5 One (codes "x") ∷ var 8 One (codes "x") ∷ []) ∷ [])
-        ≡ Some (named_twice (byte 8) (codes "x")) }
+        ≡ Some (Fault.NamedTwice (byte 8) (codes "x")) }
 
     // var1 x; const x = 0;
     ensures constant_and_global { fault_in
         (vars 0 (var 5 One (codes "x") ∷ []) ∷ const_is 8 14 (codes "x") (int 18 0 false ∷ []) ∷ [])
-        ≡ Some (named_twice (byte 14) (codes "x")) }
+        ≡ Some (Fault.NamedTwice (byte 14) (codes "x")) }
 
     // const n = 0; pred n() = true;
     ensures predicate_and_constant { fault_in
         (const_is 0 6 (codes "n") (int 10 0 false ∷ []) ∷ pred_is 13 18 (codes "n") no_vars (yes 24) ∷ [])
-        ≡ Some (named_twice (byte 18) (codes "n")) }
+        ≡ Some (Fault.NamedTwice (byte 18) (codes "n")) }
 
     // pred p() = true; macro p() = true;
     ensures macro_and_predicate { fault_in
         (pred_is 0 5 (codes "p") no_vars (yes 11) ∷ pred_is 17 23 (codes "p") no_vars (yes 29) ∷ [])
-        ≡ Some (named_twice (byte 23) (codes "p")) }
+        ≡ Some (Fault.NamedTwice (byte 23) (codes "p")) }
 
     // pred p() = true; var0 p;
     ensures global_and_predicate { fault_in
         (pred_is 0 5 (codes "p") no_vars (yes 11) ∷ vars 17 (var 22 Zero (codes "p") ∷ []) ∷ [])
-        ≡ Some (named_twice (byte 22) (codes "p")) }
+        ≡ Some (Fault.NamedTwice (byte 22) (codes "p")) }
 
     // ex1 x, x: true;
     ensures variables_of_one_list { fault_in
         (holds 0 (exists 0 (var 4 One (codes "x") ∷ var 7 One (codes "x") ∷ []) (yes 10)) ∷ [])
-        ≡ Some (named_twice (byte 7) (codes "x")) }
+        ≡ Some (Fault.NamedTwice (byte 7) (codes "x")) }
 
     // pred p(var1 x, var2 x) = true;
     ensures parameters_of_one_list { fault_in
         (pred_is 0 5 (codes "p") (var 12 One (codes "x") ∷ var 20 Two (codes "x") ∷ []) (yes 25) ∷ [])
-        ≡ Some (named_twice (byte 20) (codes "x")) }
+        ≡ Some (Fault.NamedTwice (byte 20) (codes "x")) }
 
     // let1 x = 0, x = 1 in true;
     ensures names_of_one_let { fault_in
         (holds 0 (let_in 0 One (part 5 (codes "x") (num 9 0) ∷ part 12 (codes "x") (num 16 1) ∷ []) (yes 21)) ∷ [])
-        ≡ Some (named_twice (byte 12) (codes "x")) }
+        ≡ Some (Fault.NamedTwice (byte 12) (codes "x")) }
 
     // var2 P, Q; import("a", b -> P, b -> Q);
     ensures left_names_of_one_import { fault_in
         (vars 0 (var 5 Two (codes "P") ∷ var 8 Two (codes "Q") ∷ []) ∷ holds 11 (import_of 11 (codes "a") (rename 23 (codes "b") 28 (codes "P") ∷ rename 31 (codes "b") 36 (codes "Q") ∷ [])) ∷ [])
-        ≡ Some (named_twice (byte 31) (codes "b")) }
+        ≡ Some (Fault.NamedTwice (byte 31) (codes "b")) }
 
     // var2 P; import("a", b -> P, c -> P);
     ensures right_names_of_one_import { fault_in
         (vars 0 (var 5 Two (codes "P") ∷ []) ∷ holds 8 (import_of 8 (codes "a") (rename 20 (codes "b") 25 (codes "P") ∷ rename 28 (codes "c") 33 (codes "P") ∷ [])) ∷ [])
-        ≡ Some (named_twice (byte 33) (codes "P")) }
+        ≡ Some (Fault.NamedTwice (byte 33) (codes "P")) }
 
     // var2 P, Q; import("a", P -> Q, Q -> P);
     ensures left_and_right_of_an_import { fault_in
@@ -250,5 +251,5 @@ pub fn worked_repeats()
     // pred p() = true; pred p(var1 x) = q;
     ensures before_its_body { fault_in
         (pred_is 0 5 (codes "p") no_vars (yes 11) ∷ pred_is 17 22 (codes "p") (var 29 One (codes "x") ∷ []) (named 34 (codes "q")) ∷ [])
-        ≡ Some (named_twice (byte 22) (codes "p")) }
+        ≡ Some (Fault.NamedTwice (byte 22) (codes "p")) }
 {}

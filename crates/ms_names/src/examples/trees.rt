@@ -115,12 +115,12 @@ pub fn worked_uses()
     // var2 P; var1 x; import("a", b -> P, c -> x);
     ensures import { imports_in
         (vars 0 (var 5 Two (codes "P") ∷ []) ∷ vars 8 (var 13 One (codes "x") ∷ []) ∷ holds 16 (import_of 16 (codes "a") (rename 28 (codes "b") 33 (codes "P") ∷ rename 36 (codes "c") 41 (codes "x") ∷ [])) ∷ [])
-        ≡ Some (import_with 16 (pair (codes "b") 0 Two ∷ pair (codes "c") 1 One ∷ [])) ∷ [] }
+        ≡ import_with 16 (pair (codes "b") 0 Two ∷ pair (codes "c") 1 One ∷ []) ∷ [] }
 
     // var2 P; ex2 P: import("a", b -> P);
     ensures import_at_an_inner_variable { imports_in
         (vars 0 (var 5 Two (codes "P") ∷ []) ∷ holds 8 (exists 8 (var 12 Two (codes "P") ∷ []) (import_of 15 (codes "a") (rename 27 (codes "b") 32 (codes "P") ∷ []))) ∷ [])
-        ≡ Some (import_with 15 (pair (codes "b") 1 Two ∷ [])) ∷ [] }
+        ≡ import_with 15 (pair (codes "b") 1 Two ∷ []) ∷ [] }
 
     // import("a") & export("a", import("a"));
     ensures numbers_of_uses { formulas_in
