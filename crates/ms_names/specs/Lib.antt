@@ -9,6 +9,7 @@ pub mod Reads
 pub mod Rules
 pub mod Scope
 pub mod Syntax
+pub mod Table
 pub mod Typed
 pub mod TypedSource
 pub mod Uses

@@ -4,6 +4,7 @@
 mod examples;
 mod fault;
 mod meaning;
+mod names;
 mod wanted;
 
 pub use examples::{
