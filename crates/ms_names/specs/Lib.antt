@@ -8,6 +8,7 @@ pub mod Order
 pub mod Reads
 pub mod Rules
 pub mod Scope
+pub mod State
 pub mod Syntax
 pub mod Table
 pub mod Typed

@@ -1,0 +1,38 @@
+-- What a check has found so far, and what it has found after some expressions.
+use Rattle.std.specs.Prelude.{ℕ, List, [], ◌∷◌, ◌++◌, flat_map, Option}
+use Rattle.ms_logic.specs.declared.checked.ExportUse.{ExportUse}
+use Rattle.ms_logic.specs.declared.checked.ImportUse.{ImportUse}
+use Rattle.ms_names.specs.declared.fault.Fault.{Fault}
+use Rattle.ms_names.specs.declared.meaning.Reading.{Reading}
+use Rattle.ms_names.specs.Scope.{Scope}
+use Rattle.ms_names.specs.Before.{Before}
+use Rattle.ms_names.specs.Fault.{first_with}
+use Rattle.ms_names.specs.Occurrence.{Occurrence}
+use Rattle.ms_names.specs.Reads.{readings_at}
+use Rattle.ms_names.specs.Rules.{faults_at}
+use Rattle.ms_names.specs.Uses.{import_at, export_at}
+
+-- the scope, what stands before in the text, the first fault of the declaration, what the declaration reads, and the
+-- imports and exports
+pub record State : Type 0 where
+  pub scope : Scope
+  pub before : Before
+  pub first : Option Fault
+  pub reads : List Reading
+  pub imports : List ImportUse
+  pub exports : List ExportUse
+
+-- after some faults
+abbrev pub with_faults : State → List Fault → State
+with_faults s fs = record s { first = first_with s.first fs }
+
+-- after some expressions, before the text that follows them
+abbrev pub passed : State → List Occurrence → Before → State
+passed s os b = record {
+  scope = s.scope;
+  before = b;
+  first = first_with s.first (flat_map faults_at os);
+  reads = s.reads ++ flat_map readings_at os;
+  imports = s.imports ++ flat_map import_at os;
+  exports = s.exports ++ flat_map export_at os;
+}
