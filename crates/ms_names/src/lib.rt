@@ -5,7 +5,9 @@ mod checker;
 mod examples;
 mod fault;
 mod meaning;
+mod memory;
 mod names;
+mod order;
 mod wanted;
 
 pub use examples::{
