@@ -36,3 +36,7 @@ passed s os b = record {
   imports = s.imports ++ flat_map import_at os;
   exports = s.exports ++ flat_map export_at os;
 }
+
+-- after some faults, and what is read beside
+abbrev pub noted : State → List Fault → List Reading → State
+noted s fs rs = record s { first = first_with s.first fs; reads = s.reads ++ rs }

@@ -6,8 +6,10 @@ mod examples;
 mod fault;
 mod meaning;
 mod memory;
+mod name;
 mod names;
 mod order;
+mod value;
 mod wanted;
 
 pub use examples::{
