@@ -27,7 +27,7 @@ in_case false f = []
 
 abbrev pub is_name_among : Bytes → List Bytes → Bool
 is_name_among n [] = false
-is_name_among n (m ∷ more) = if bytes_eq n m then true else is_name_among n more
+is_name_among n (m ∷ more) = if bytes_eq m n then true else is_name_among n more
 
 abbrev pub count : Expressions → ℕ
 count no_expressions = 0

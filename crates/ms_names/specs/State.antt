@@ -5,12 +5,13 @@ use Rattle.ms_logic.specs.declared.checked.ImportUse.{ImportUse}
 use Rattle.ms_names.specs.declared.fault.Fault.{Fault}
 use Rattle.ms_names.specs.declared.meaning.Reading.{Reading}
 use Rattle.ms_names.specs.Scope.{Scope}
-use Rattle.ms_names.specs.Before.{Before}
+use Rattle.ms_names.specs.Syntax.{Expression}
+use Rattle.ms_names.specs.Before.{Before, after}
 use Rattle.ms_names.specs.Fault.{first_with}
-use Rattle.ms_names.specs.Occurrence.{Occurrence}
-use Rattle.ms_names.specs.Reads.{readings_at}
-use Rattle.ms_names.specs.Rules.{faults_at}
-use Rattle.ms_names.specs.Uses.{import_at, export_at}
+use Rattle.ms_names.specs.Occurrence.{Occurrence, inside}
+use Rattle.ms_names.specs.Reads.{readings_of_form, readings_at}
+use Rattle.ms_names.specs.Rules.{faults_of_form, faults_at}
+use Rattle.ms_names.specs.Uses.{import_of_form, export_of_form, import_at, export_at}
 
 -- the scope, what stands before in the text, the first fault of the declaration, what the declaration reads, and the
 -- imports and exports
@@ -40,3 +41,14 @@ passed s os b = record {
 -- after some faults, and what is read beside
 abbrev pub noted : State → List Fault → List Reading → State
 noted s fs rs = record s { first = first_with s.first fs; reads = s.reads ++ rs }
+
+-- after an expression by its form: its own faults but that of its order, what it reads and uses, and all inside it
+abbrev pub formed : State → Expression → State
+formed s e = record {
+  scope = s.scope;
+  before = after s.before e;
+  first = first_with s.first (faults_of_form s.scope e ++ flat_map faults_at (inside s.scope s.before e));
+  reads = s.reads ++ (readings_of_form s.scope e ++ flat_map readings_at (inside s.scope s.before e));
+  imports = s.imports ++ (import_of_form s.scope e ++ flat_map import_at (inside s.scope s.before e));
+  exports = s.exports ++ (export_of_form s.scope s.before e ++ flat_map export_at (inside s.scope s.before e));
+}

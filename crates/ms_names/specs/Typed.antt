@@ -81,18 +81,31 @@ of_order One (number_argument t) = Some (number_argument t)
 of_order Two (set_argument s) = Some (set_argument s)
 of_order _ _ = None
 
--- two numbers or two sets, or a number and a set
+-- a relation of two numbers
+abbrev pub related_numbers : Rel → Term → Term → Option Argument
+related_numbers Member t u = None
+related_numbers NotMember t u = None
+related_numbers Sub t u = None
+related_numbers r t u = Some (truth_argument (tree.comparison r t u))
+
+-- of two sets
+abbrev pub related_sets : Rel → SetTerm → SetTerm → Option Argument
+related_sets Equal s t = Some (truth_argument (tree.set_comparison Equal s t))
+related_sets Differs s t = Some (truth_argument (tree.set_comparison Differs s t))
+related_sets Sub s t = Some (truth_argument (tree.set_comparison Sub s t))
+related_sets _ s t = None
+
+-- of a number and a set
+abbrev pub related_member : Rel → Term → SetTerm → Option Argument
+related_member Member t s = Some (truth_argument (tree.membership true t s))
+related_member NotMember t s = Some (truth_argument (tree.membership false t s))
+related_member _ t s = None
+
 abbrev pub related : Rel → Argument → Argument → Option Argument
-related Member (number_argument t) (set_argument s) = Some (truth_argument (tree.membership true t s))
-related Member _ _ = None
-related NotMember (number_argument t) (set_argument s) = Some (truth_argument (tree.membership false t s))
-related NotMember _ _ = None
-related Sub (set_argument s) (set_argument t) = Some (truth_argument (tree.set_comparison Sub s t))
-related Sub _ _ = None
-related r (number_argument t) (number_argument u) = Some (truth_argument (tree.comparison r t u))
-related Equal (set_argument s) (set_argument t) = Some (truth_argument (tree.set_comparison Equal s t))
-related Differs (set_argument s) (set_argument t) = Some (truth_argument (tree.set_comparison Differs s t))
-related _ _ _ = None
+related r (number_argument t) (number_argument u) = related_numbers r t u
+related r (set_argument s) (set_argument t) = related_sets r s t
+related r (number_argument t) (set_argument s) = related_member r t s
+related r _ _ = None
 
 abbrev pub typed_relation : Rel → Option Argument → Option Argument → Option Argument
 typed_relation r None b = None

@@ -36,19 +36,19 @@ impl Model for Checker {
     ghost Value = { State };
 
     ghost view = { λ c. record {
-        scope = record {
-            mode = c.mode;
-            names = c.names;
-            readings = reverse c.predicates.items;
-            default_of_numbers = c.default_of_numbers;
-            default_of_sets = c.default_of_sets;
-            exports_allowed = c.exports_allowed;
-        };
-        before = record { next = c.next; imports = c.import_count; exports = c.export_count };
-        first = c.first;
-        reads = c.reads;
-        imports = c.imports;
-        exports = c.exports.items;
+      scope = record {
+        mode = c.mode;
+        names = c.names;
+        readings = reverse c.predicates.items;
+        default_of_numbers = c.default_of_numbers;
+        default_of_sets = c.default_of_sets;
+        exports_allowed = c.exports_allowed;
+      };
+      before = record { next = c.next; imports = c.import_count; exports = c.export_count };
+      first = c.first;
+      reads = c.reads;
+      imports = c.imports;
+      exports = c.exports.items;
     } };
 }
 

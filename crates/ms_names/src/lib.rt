@@ -1,6 +1,7 @@
 //! Names, orders, constants and forbidden places: from the tree of a source to its typed tree, or to its first fault.
 #![tactic(auto)]
 
+mod build;
 mod checker;
 mod examples;
 mod fault;
