@@ -1,14 +1,13 @@
 -- The table of names: what is found in it, and what it becomes with one entry more or less.
-use Rattle.std.proofs.Common.{◌≡◌, ℕ, ◌+◌, ◌<◌, List, [], ◌∷◌, ◌++◌, length, map, reverse, get_or, Option, Some, None, refl, sym, subst, ap, ◌∙◌, arith}
+use Rattle.std.proofs.Common.{◌≡◌, ℕ, ◌<◌, List, [], ◌∷◌, ◌++◌, length, map, reverse, get_or, Option, Some, None, refl, sym, subst, ap, ◌∙◌, arith}
 use Rattle.std.specs.Prelude.{bytes_eq, string_bytes, Bool, true, false, if◌then◌else◌}
-use Rattle.std.proofs.lemmas.List.{reverse-append, reverse-reverse, length-reverse}
+use Rattle.std.proofs.lemmas.List.{reverse-append, length-reverse}
 use Rattle.std.proofs.lemmas.Grind.{common_steps}
 use Rattle.std.proofs.lemmas.Slice.Eq.{bytes_eq-Decides}
-use Rattle.ms_names.specs.declared.meaning.Meaning.{Meaning}
 use Rattle.ms_names.specs.declared.names.Entry.{Entry}
 use Rattle.ms_names.specs.Scope.{meaning_among}
 use Rattle.ms_names.specs.Syntax.{Bytes}
-use Rattle.ms_names.specs.Table.{flat, innermost, KnowHidden, IsTable, IsNoted, IsSame, named_meaning}
+use Rattle.ms_names.specs.Table.{flat, innermost, KnowHidden, IsTable, IsNoted, named_meaning}
 
 pub innermost-below : (r : List Entry) (n : Bytes) (i : ℕ) → innermost r n ≡ Some i → i < length r
 innermost-below [] n i h = grind arith

@@ -3,6 +3,7 @@ pub mod Constant
 pub mod Declarations
 pub mod Examples
 pub mod Fault
+pub mod Lists
 pub mod Occurrence
 pub mod Order
 pub mod Reads

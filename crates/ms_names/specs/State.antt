@@ -1,5 +1,5 @@
 -- What a check has found so far, and what it has found after some expressions.
-use Rattle.std.specs.Prelude.{ℕ, List, [], ◌∷◌, ◌++◌, flat_map, Option}
+use Rattle.std.specs.Prelude.{List, [], ◌++◌, flat_map, Option}
 use Rattle.ms_logic.specs.declared.checked.ExportUse.{ExportUse}
 use Rattle.ms_logic.specs.declared.checked.ImportUse.{ImportUse}
 use Rattle.ms_names.specs.declared.fault.Fault.{Fault}
@@ -52,3 +52,7 @@ formed s e = record {
   imports = s.imports ++ (import_of_form s.scope e ++ flat_map import_at (inside s.scope s.before e));
   exports = s.exports ++ (export_of_form s.scope s.before e ++ flat_map export_at (inside s.scope s.before e));
 }
+
+-- after an expression that has no faults, readings and uses of its own but these faults of order, and after those inside it
+abbrev pub after_inside : State → List Fault → List Occurrence → Before → State
+after_inside s fs os b = record (passed s os b) { first = first_with s.first ((fs ++ []) ++ flat_map faults_at os) }

@@ -3,12 +3,13 @@
 
 ghost use Rattle.ms_logic.specs.Tree as tree;
 ghost use Rattle.ms_logic.specs.View.{argument_of, formula_of, set_term_of, term_of};
+ghost use Rattle.ms_names.specs.Lists.{formula_behind, forms_of, number_behind, terms_of};
 ghost use Rattle.ms_names.specs.Typed.{both, formula_in, formula_of_one, number_in, number_of_set, set_in, set_of_two, related, shifted, typed_relation, typed_shift};
 ghost use Rattle.std.specs.Option.{option_map};
 ghost use Rattle.std.specs.Prelude.{◌≡◌, IfOk};
 
-use crate::memory::boxed;
-use ms_edge::{Boxed, NoMemory};
+use crate::memory::{boxed, push};
+use ms_edge::{Boxed, List, NoMemory};
 use ms_logic::{Arg, Formula, Rel, Term1, Term2};
 use std::alloc::Global;
 
@@ -148,6 +149,40 @@ pub(crate) fn boxed_set(alloc: Global, value: Option<Arg>) -> Result<Option<Boxe
         None => Ok(None),
         Some(set) => Ok(Some(boxed(alloc, set)?)),
     }
+}
+
+// A formula behind those before it, if all are formulas.
+pub(crate) fn more_formulas(
+    made: Option<List<Formula>>,
+    value: Option<Arg>,
+) -> Result<Option<List<Formula>>, NoMemory>
+    ensures { IfOk result (λ list. option_map forms_of list ≡ both formula_behind (option_map forms_of made) (formula_in (option_map argument_of value))) }
+{
+    let Some(mut list) = made else {
+        return Ok(None);
+    };
+    let Some(formula) = formula_in(value) else {
+        return Ok(None);
+    };
+    push(&mut list, formula)?;
+    Ok(Some(list))
+}
+
+// A number behind those before it, if all are numbers.
+pub(crate) fn more_numbers(
+    made: Option<List<Term1>>,
+    value: Option<Arg>,
+) -> Result<Option<List<Term1>>, NoMemory>
+    ensures { IfOk result (λ list. option_map terms_of list ≡ both number_behind (option_map terms_of made) (number_in (option_map argument_of value))) }
+{
+    let Some(mut list) = made else {
+        return Ok(None);
+    };
+    let Some(number) = number_in(value) else {
+        return Ok(None);
+    };
+    push(&mut list, number)?;
+    Ok(Some(list))
 }
 
 pub(crate) fn emptiness(body: Option<Arg>) -> Option<Arg>
