@@ -1,19 +1,20 @@
 -- A list of operands with one more.
-use Rattle.std.proofs.Common.{◌≡◌, List, [], ◌∷◌, ◌++◌, append_assoc, map, Option, Some, None, refl, sym, subst, ap, ◌∙◌}
-use Rattle.std.proofs.lemmas.List.{append-nil, map-append}
+use Rattle.std.proofs.Common.{◌≡◌, ℕ, ◌+◌, ◌<◌, length, get_or, take, List, [], ◌∷◌, ◌++◌, append_assoc, map, Option, Some, None, refl, sym, subst, ap, ◌∙◌}
+use Rattle.std.proofs.lemmas.List.{append-nil, map-append, take_more}
 use Rattle.ms_logic.specs.declared.formula.Formula.{Formula}
+use Rattle.ms_logic.specs.declared.source.Expr.{Expr}
 use Rattle.ms_logic.specs.declared.term.Term1.{Term1}
-use Rattle.ms_logic.specs.Tree.{Form, Forms, no_forms, more_forms, Term, Terms, no_terms, more_terms}
+use Rattle.ms_logic.specs.Tree.{Form, Forms, no_forms, more_forms, Term, Terms, no_terms, more_terms, Argument}
 use Rattle.ms_logic.specs.View.{forms, formula_of, terms, term_of}
 use Rattle.ms_names.specs.declared.wanted.Wanted.{Wanted}
 use Rattle.ms_names.specs.Syntax.{Expression}
 use Rattle.ms_names.specs.Scope.{Scope}
 use Rattle.ms_names.specs.Before.{Before, after, after_all}
-use Rattle.ms_names.specs.Lists.{forms_of, formula_behind, number_behind, terms_of}
+use Rattle.ms_names.specs.Lists.{forms_of, formula_behind, number_behind, terms_of, expressions_of}
 use Rattle.ms_names.specs.Occurrence.{occurrences, inside_operands}
 use Rattle.ms_names.specs.Typed.{both, formula_in, number_in, typed, typed_formulas, typed_numbers}
 use Rattle.ms_names.specs.State.{State, passed}
-use Rattle.ms_names.specs.View.{expressions}
+use Rattle.ms_names.specs.View.{expressions, expression_of}
 use Rattle.ms_names.proofs.States.{passed-passed}
 
 pub after_all-more : (b : Before) (es : List Expression) (e : Expression) →
@@ -93,3 +94,32 @@ forms_of-more fs f = ap forms (map-append formula_of fs (f ∷ [])) ∙ forms-mo
 
 pub terms_of-more : (ts : List Term1) (t : Term1) → terms_of (ts ++ t ∷ []) ≡ number_behind (terms_of ts) (term_of t)
 terms_of-more ts t = ap terms (map-append term_of ts (t ∷ [])) ∙ terms-more (map term_of ts) (term_of t)
+
+pub formulas-more : (s t : State) (w : Wanted) (es : List Expression) (e : Expression) (made : Option Forms) (value : Option Argument) →
+    t ≡ passed s (inside_operands s.scope s.before w (expressions es)) (after_all s.before (expressions es)) →
+    made ≡ typed_formulas s.scope s.before (expressions es) →
+    value ≡ typed t.scope t.before e →
+    both formula_behind made (formula_in value) ≡ typed_formulas s.scope s.before (expressions (es ++ e ∷ []))
+formulas-more s t w es e made value state before here =
+    let P : State → Type 0 = λ there. value ≡ typed there.scope there.before e in
+    ap (λ fs. both formula_behind fs (formula_in value)) before
+    ∙ (ap (λ a. both formula_behind (typed_formulas s.scope s.before (expressions es)) (formula_in a)) (subst P state here)
+    ∙ sym (typed_formulas-more s.scope s.before es e))
+
+pub numbers-more : (s t : State) (w : Wanted) (es : List Expression) (e : Expression) (made : Option Terms) (value : Option Argument) →
+    t ≡ passed s (inside_operands s.scope s.before w (expressions es)) (after_all s.before (expressions es)) →
+    made ≡ typed_numbers s.scope s.before (expressions es) →
+    value ≡ typed t.scope t.before e →
+    both number_behind made (number_in value) ≡ typed_numbers s.scope s.before (expressions (es ++ e ∷ []))
+numbers-more s t w es e made value state before here =
+    let P : State → Type 0 = λ there. value ≡ typed there.scope there.before e in
+    ap (λ ts. both number_behind ts (number_in value)) before
+    ∙ (ap (λ a. both number_behind (typed_numbers s.scope s.before (expressions es)) (number_in a)) (subst P state here)
+    ∙ sym (typed_numbers-more s.scope s.before es e))
+
+-- one expression more of a slice
+pub taken-more : (xs : List Expr) (i : ℕ) (x : Expr) → i < length xs → x ≡ get_or xs i x →
+    expressions (map expression_of (take i xs) ++ expression_of x ∷ []) ≡ expressions_of (take (i + 1) xs)
+taken-more xs i x below is =
+    let taken : take (i + 1) xs ≡ take i xs ++ x ∷ [] = take_more xs i x below ∙ ap (λ y. take i xs ++ y ∷ []) (sym is) in
+    ap expressions (sym (map-append expression_of (take i xs) (x ∷ []))) ∙ ap expressions_of (sym taken)

@@ -151,6 +151,27 @@ pub(crate) fn boxed_set(alloc: Global, value: Option<Arg>) -> Result<Option<Boxe
     }
 }
 
+pub(crate) fn conjunction(operands: Option<List<Formula>>) -> Option<Arg>
+    ensures { option_map argument_of result ≡ option_map (λ fs. tree.truth_argument (tree.conjunction fs)) (option_map forms_of operands) }
+{
+    let operands = operands?;
+    Some(Arg::Zero(Formula::And(operands)))
+}
+
+pub(crate) fn disjunction(operands: Option<List<Formula>>) -> Option<Arg>
+    ensures { option_map argument_of result ≡ option_map (λ fs. tree.truth_argument (tree.disjunction fs)) (option_map forms_of operands) }
+{
+    let operands = operands?;
+    Some(Arg::Zero(Formula::Or(operands)))
+}
+
+pub(crate) fn literal(elements: Option<List<Term1>>) -> Option<Arg>
+    ensures { option_map argument_of result ≡ option_map (λ ts. tree.set_argument (tree.literal ts)) (option_map terms_of elements) }
+{
+    let elements = elements?;
+    Some(Arg::Two(Term2::Literal(elements)))
+}
+
 // A formula behind those before it, if all are formulas.
 pub(crate) fn more_formulas(
     made: Option<List<Formula>>,
