@@ -1,0 +1,4 @@
+pub mod Arms
+pub mod Operands
+pub mod States
+pub mod Tables

@@ -1,0 +1,88 @@
+-- What a check has found after some expressions and then some more.
+use Rattle.std.proofs.Common.{◌≡◌, List, [], ◌∷◌, ◌++◌, append_assoc, Option, refl, sym, subst, ap, ◌∙◌}
+use Rattle.std.specs.Prelude.{flat_map}
+use Rattle.std.proofs.lemmas.Grind.{flat_map-append}
+use Rattle.std.proofs.lemmas.List.{append-nil}
+use Rattle.ms_names.specs.declared.fault.Fault.{Fault}
+use Rattle.ms_names.specs.declared.wanted.Wanted.{Wanted}
+use Rattle.ms_names.specs.Syntax.{Expression}
+use Rattle.ms_names.specs.Before.{Before, after}
+use Rattle.ms_names.specs.Fault.{first_of_two, first_with}
+use Rattle.ms_names.specs.Occurrence.{Occurrence, occurrences}
+use Rattle.ms_names.specs.Reads.{readings_at}
+use Rattle.ms_names.specs.Rules.{faults_at}
+use Rattle.ms_names.specs.State.{State, with_faults, passed, after_inside}
+use Rattle.ms_names.specs.Uses.{import_at, export_at}
+
+-- the first of two lists of faults, one after the other
+pub first_with-append : (known : Option Fault) (fs gs : List Fault) → first_with known (fs ++ gs) ≡ first_with (first_with known fs) gs
+first_with-append known [] gs = refl
+first_with-append known (f ∷ fs) gs = first_with-append (first_of_two known f) fs gs
+
+longer : {A : Type 0} (found : List A) (f : Occurrence → List A) (os more : List Occurrence) →
+    (found ++ flat_map f os) ++ flat_map f more ≡ found ++ flat_map f (os ++ more)
+longer found f os more = append_assoc found (flat_map f os) (flat_map f more) ∙ ap (λ l. found ++ l) (sym (flat_map-append f os more))
+
+pub passed-passed : (s : State) (os more : List Occurrence) (b c : Before) → passed (passed s os b) more c ≡ passed s (os ++ more) c
+passed-passed s os more b c = λ i. record {
+  scope = s.scope;
+  before = c;
+  first = (sym (first_with-append s.first (flat_map faults_at os) (flat_map faults_at more)) ∙ ap (first_with s.first) (sym (flat_map-append faults_at os more))) i;
+  reads = longer s.reads readings_at os more i;
+  imports = longer s.imports import_at os more i;
+  exports = longer s.exports export_at os more i;
+}
+
+-- an expression and then another
+pub two-passed : (s t u : State) (w v : Wanted) (e f : Expression) →
+    t ≡ passed s (occurrences s.scope s.before w e) (after s.before e) →
+    u ≡ passed t (occurrences t.scope t.before v f) (after t.before f) →
+    u ≡ passed s (occurrences s.scope s.before w e ++ occurrences s.scope (after s.before e) v f) (after (after s.before e) f)
+two-passed s t u w v e f first second =
+    let P : State → Type 0 = λ there. u ≡ passed there (occurrences there.scope there.before v f) (after there.before f) in
+    subst P first second
+    ∙ passed-passed s (occurrences s.scope s.before w e) (occurrences s.scope (after s.before e) v f) (after s.before e) (after (after s.before e) f)
+
+-- an expression after its own faults
+pub faults-passed : (s t u v : State) (fs gs hs : List Fault) (os : List Occurrence) (b : Before) →
+    t ≡ with_faults s fs → u ≡ with_faults t gs → v ≡ with_faults u hs →
+    passed v os b ≡ record (passed s os b) { first = first_with s.first ((fs ++ (gs ++ hs)) ++ flat_map faults_at os) }
+faults-passed s t u v fs gs hs os b first second third =
+    let P : State → Type 0 = λ there. v ≡ with_faults (with_faults there gs) hs in
+    let Q : State → Type 0 = λ there. v ≡ with_faults there hs in
+    let found : v ≡ with_faults (with_faults (with_faults s fs) gs) hs = subst P first (subst Q second third) in
+    ap (λ there. passed there os b) found
+    ∙ ap (λ known. record (passed s os b) { first = known })
+    (ap (λ known. first_with known (flat_map faults_at os))
+    (sym (first_with-append (first_with s.first fs) gs hs) ∙ sym (first_with-append s.first fs (gs ++ hs)))
+    ∙ sym (first_with-append s.first (fs ++ (gs ++ hs)) (flat_map faults_at os)))
+
+-- the faults of the order of an expression, and then all inside it
+pub plain : (s : State) (fs : List Fault) (os : List Occurrence) (b : Before) → passed (with_faults s fs) os b ≡ after_inside s fs os b
+plain s fs os b =
+    ap (λ known. record (passed s os b) { first = known })
+    (sym (first_with-append s.first fs (flat_map faults_at os))
+    ∙ ap (λ gs. first_with s.first (gs ++ flat_map faults_at os)) (sym (append-nil fs)))
+
+-- the same where two expressions are inside
+pub two-inside : (s r t u : State) (fs : List Fault) (w v : Wanted) (e f : Expression) →
+    r ≡ with_faults s fs →
+    t ≡ passed r (occurrences r.scope r.before w e) (after r.before e) →
+    u ≡ passed t (occurrences t.scope t.before v f) (after t.before f) →
+    u ≡ after_inside s fs (occurrences s.scope s.before w e ++ occurrences s.scope (after s.before e) v f) (after (after s.before e) f)
+two-inside s r t u fs w v e f ordered first second =
+    let P : State → Type 0 = λ there.
+    u ≡ passed there (occurrences there.scope there.before w e ++ occurrences there.scope (after there.before e) v f) (after (after there.before e) f) in
+    subst P ordered (two-passed r t u w v e f first second)
+    ∙ plain s fs (occurrences s.scope s.before w e ++ occurrences s.scope (after s.before e) v f) (after (after s.before e) f)
+
+-- nothing yet
+pub passed-none : (s : State) → s ≡ passed s [] s.before
+passed-none s = λ i. record {
+  scope = s.scope;
+  before = s.before;
+  first = s.first;
+  reads = sym (append-nil s.reads) i;
+  imports = sym (append-nil s.imports) i;
+  exports = sym (append-nil s.exports) i;
+}

@@ -1,0 +1,75 @@
+ghost use Rattle.ms_names.specs.Fault.{first_of_two};
+ghost use Rattle.ms_names.specs.Scope.{meaning_of};
+ghost use Rattle.std.specs.Prelude.{◌≡◌, ◌∷◌, [], option_copied};
+
+use crate::fault::Fault;
+use crate::meaning::{Meaning, Reading};
+use crate::names::Names;
+use ms_edge::{List, Name};
+use ms_logic::{ExportUse, ImportUse, Mode};
+use std::alloc::Global;
+use std::marker::Model;
+
+/// What the check of a declaration knows and has found so far.
+#[derive(Drop)]
+pub(crate) struct Checker {
+    pub(crate) alloc: Global,
+    pub(crate) mode: Mode,
+    pub(crate) names: Names,
+    pub(crate) predicates: Vec<List<Reading>>,
+    pub(crate) default_of_numbers: Option<u32>,
+    pub(crate) default_of_sets: Option<u32>,
+    pub(crate) exports_allowed: bool,
+    pub(crate) next: u32,
+    pub(crate) import_count: u32,
+    pub(crate) export_count: u32,
+    pub(crate) first: Option<Fault>,
+    pub(crate) reads: List<Reading>,
+    pub(crate) imports: List<ImportUse>,
+    pub(crate) exports: Vec<ExportUse>,
+}
+
+impl Model for Checker {
+    ghost use Rattle.ms_names.specs.State.{State};
+    ghost use Rattle.std.specs.Prelude.{reverse};
+
+    ghost Value = { State };
+
+    ghost view = { λ c. record {
+      scope = record {
+        mode = c.mode;
+        names = c.names;
+        readings = reverse c.predicates.items;
+        default_of_numbers = c.default_of_numbers;
+        default_of_sets = c.default_of_sets;
+        exports_allowed = c.exports_allowed;
+      };
+      before = record { next = c.next; imports = c.import_count; exports = c.export_count };
+      first = c.first;
+      reads = c.reads;
+      imports = c.imports;
+      exports = c.exports.items;
+    } };
+}
+
+impl Checker {
+    /// What the name means here, if it is declared.
+    pub(crate) fn meaning(&self, name: &Name) -> Option<&Meaning>
+        ensures { option_copied result ≡ meaning_of self.now.scope name.now }
+    {
+        self.names.meaning(name)
+    }
+
+    /// One more fault.
+    pub(crate) fn report(&mut self, fault: Fault)
+        ensures { self.new ≡ record self.old { first = first_of_two self.old.first fault } }
+    {
+        let is_first = match &self.first {
+            None => true,
+            Some(known) => fault.comes_before(known),
+        };
+        if is_first {
+            self.first = Some(fault);
+        }
+    }
+}
