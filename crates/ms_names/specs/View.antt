@@ -5,10 +5,11 @@ use Rattle.ms_logic.specs.declared.mode.Order.{Order}
 use Rattle.ms_logic.specs.declared.source.Bound.{Bound}
 use Rattle.ms_logic.specs.declared.source.Expr.{Expr}
 use Rattle.ms_logic.specs.declared.source.Form.TheOpen.{Bound-F, Expr-F, Form-F, LetPart-F}
-use Rattle.ms_logic.specs.declared.source.Form.TheFolds.{fold-Bound, fold-Expr}
+use Rattle.ms_logic.specs.declared.source.Form.TheFolds.{fold-Bound, fold-Expr, fold-LetPart}
 use Rattle.ms_logic.specs.declared.source.Decl.{Decl}
 use Rattle.ms_logic.specs.declared.source.Decl.TheVariants.{Vars, Const, Pred, Include, Default, Formula}
 use Rattle.ms_logic.specs.declared.source.Item.{Item}
+use Rattle.ms_logic.specs.declared.source.LetPart.{LetPart}
 use Rattle.ms_names.specs.Syntax.{Bytes, Expression, truth, falsity, whole, empty_set, name, number, pconst, brackets, literal, call, negation, conjunction, disjunction, implication, equivalence, relation, emptiness, union, intersection, difference, shift, minimum, maximum, quantified, where_let, restrict, imported, exported}
 use Rattle.ms_names.specs.Syntax.{Expressions, no_expressions, more_expressions, Bounds, no_bounds, more_bounds, Domain, unrestricted, restricted, Parts, no_parts, more_parts, Declaration, globals, constant, predicate, include, default, formula, Placed}
 
@@ -90,6 +91,12 @@ bound_of v = fold-Bound (At → Expression) OneBound Expression OnePart form_at 
 
 abbrev pub bounds_of : List Bound → Bounds
 bounds_of vs = bounds (map bound_of vs)
+
+abbrev pub part_of : LetPart → OnePart
+part_of p = fold-LetPart (At → Expression) OneBound Expression OnePart form_at bound_at expression_at part_at p
+
+abbrev pub parts_of : List LetPart → Parts
+parts_of ps = parts (map part_of ps)
 
 abbrev pub declaration_of : Decl → Declaration
 declaration_of (Vars vs) = globals (bounds_of vs)

@@ -5,11 +5,14 @@ mod build;
 mod checker;
 mod examples;
 mod fault;
+mod import;
 mod meaning;
 mod memory;
 mod name;
 mod names;
 mod order;
+mod repeat;
+mod seen;
 mod value;
 mod wanted;
 

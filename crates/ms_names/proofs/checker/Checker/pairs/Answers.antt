@@ -1,0 +1,67 @@
+use Rattle.std.proofs.Common.{◌≡◌, ◌+◌, drop, ◌∷◌, ◌++◌, [], refl, sym, subst, ap, ◌∙◌, arith}
+use Rattle.std.proofs.lemmas.List.{drop_all, append-nil}
+use Rattle.ms_names.specs.Reads.{readings_of_renames}
+use Rattle.ms_names.specs.Rules.{faults_of_renames}
+use Rattle.ms_names.specs.Scope.{Scope}
+use Rattle.ms_names.specs.State.{noted}
+use Rattle.ms_names.specs.Uses.{pairs_of}
+use Rattle.ms_names.proofs.Repeats.{noted-none, pairs-next, renames-next}
+use Rattle.ms_names.proofs.checker.Checker.pairs.Goals as goal
+
+pub loop-rename-init : goal.loop-rename-init
+loop-rename-init c =
+    let s = c.args.self.now in
+    let rs = c.args.renames.now in
+    record {
+      scope = refl;
+      state =
+          ap (λ lefts. noted s (faults_of_renames s.scope lefts c.new-rights.result rs) (readings_of_renames s.scope rs)) c.new-lefts.ensures
+          ∙ ap (λ rights. noted s (faults_of_renames s.scope [] rights rs) (readings_of_renames s.scope rs)) c.new-rights.ensures;
+      value = ap (λ pairs. pairs ++ pairs_of s.scope rs) c.new-pairs.ensures;
+    }
+
+pub loop-rename-preserved : goal.loop-rename-preserved
+loop-rename-preserved c =
+    let a : Scope = c.args.self.now.scope in
+    let s = c.loop-rename.self in
+    let t = c.check_repeat.new.self in
+    let u = c.add_pair.new.self in
+    let v = c.check_repeat-in-loop-rename.new.self in
+    let rs = c.args.renames.now in
+    let i = c.loop-rename.rename-index in
+    let r = c.rename-item.result in
+    let rest = drop (i + 1) rs in
+    let first : t.scope ≡ a = ap (λ there. there.scope) c.in_ok-check_repeat.ensures.state ∙ c.loop-rename.invariant.scope in
+    let Left : Scope → Type 0 = λ there.
+    noted v (faults_of_renames there (r.left ∷ c.loop-rename.lefts) (r.right ∷ c.loop-rename.rights) rest) (readings_of_renames there rest)
+    ≡ noted s (faults_of_renames there c.loop-rename.lefts c.loop-rename.rights (drop i rs)) (readings_of_renames there (drop i rs)) in
+    record {
+      scope =
+          ap (λ there. there.scope) c.in_ok-check_repeat-2.ensures.state
+          ∙ (ap (λ there. there.scope) c.in_ok-add_pair.ensures.state ∙ first);
+      state =
+          ap (λ lefts. noted v (faults_of_renames a lefts c.check_repeat-in-loop-rename.new.seen rest) (readings_of_renames a rest)) c.in_ok-check_repeat.ensures.seen
+          ∙ (ap (λ rights. noted v (faults_of_renames a (r.left ∷ c.loop-rename.lefts) rights rest) (readings_of_renames a rest)) c.in_ok-check_repeat-2.ensures.seen
+          ∙ (subst Left c.loop-rename.invariant.scope
+          (renames-next s t u v c.loop-rename.lefts c.loop-rename.rights rs i r (omega arith) c.rename-item.is
+          c.in_ok-check_repeat.ensures.state c.in_ok-add_pair.ensures.state c.in_ok-check_repeat-2.ensures.state)
+          ∙ c.loop-rename.invariant.state));
+      value =
+          pairs-next a t c.loop-rename.pairs c.add_pair.new.pairs rs i r (omega arith) c.rename-item.is first c.in_ok-add_pair.ensures.pairs
+          ∙ c.loop-rename.invariant.value;
+    }
+
+pub returns-clause-state : goal.returns-clause-state
+returns-clause-state c =
+    let a = c.args.self.now.scope in
+    let none = drop_all c.loop-rename.rename-index c.args.renames.now (omega arith) in
+    noted-none c.loop-rename.self
+    ∙ (ap (λ rest. noted c.loop-rename.self (faults_of_renames a c.loop-rename.lefts c.loop-rename.rights rest) (readings_of_renames a rest)) (sym none)
+    ∙ c.loop-rename.invariant.state)
+
+pub returns-clause-value : goal.returns-clause-value
+returns-clause-value c =
+    let a = c.args.self.now.scope in
+    let none = drop_all c.loop-rename.rename-index c.args.renames.now (omega arith) in
+    sym (append-nil c.loop-rename.pairs)
+    ∙ (ap (λ rest. c.loop-rename.pairs ++ pairs_of a rest) (sym none) ∙ c.loop-rename.invariant.value)

@@ -1,0 +1,64 @@
+ghost use Rattle.ms_names.specs.Reads.{readings_of_renames, readings_of_variable};
+ghost use Rattle.ms_names.specs.Rules.{faults_of_renames, faults_of_variable};
+ghost use Rattle.ms_names.specs.Scope.{meaning_of};
+ghost use Rattle.ms_names.specs.State.{noted};
+ghost use Rattle.ms_names.specs.Uses.{pair_of, pairs_of};
+ghost use Rattle.std.specs.Prelude.{◌≡◌, ◌++◌, [], IfOk, OnOk};
+
+use crate::checker::Checker;
+use crate::fault::Fault;
+use crate::meaning::{Meaning, Reading};
+use crate::memory::{copy_name, push};
+use crate::seen::Seen;
+use ms_edge::{List, NoMemory};
+use ms_logic::{MapPair, Rename};
+
+impl Checker {
+    /// The pairs of an import, and what is wrong with its names.
+    pub(crate) fn pairs(&mut self, renames: &[Rename]) -> Result<List<MapPair>, NoMemory>
+        ensures state { OnOk result (self.new ≡ noted self.old
+            (faults_of_renames self.old.scope [] [] renames.now)
+            (readings_of_renames self.old.scope renames.now)) }
+        ensures value { IfOk result (λ pairs. pairs ≡ pairs_of self.old.scope renames.now) }
+    {
+        let mut lefts = Seen::new(self.alloc);
+        let mut rights = Seen::new(self.alloc);
+        let mut pairs = List::new(self.alloc);
+        for rename in renames {
+            self.check_repeat(rename.at, &rename.left, &mut lefts)?;
+            self.add_pair(&mut pairs, rename)?;
+            self.check_repeat(rename.at_right, &rename.right, &mut rights)?;
+        }
+        Ok(pairs)
+    }
+
+    // One pair more, where the right name is a variable.
+    fn add_pair(&mut self, pairs: &mut List<MapPair>, rename: &Rename) -> Result<(), NoMemory>
+        ensures state { OnOk result (self.new ≡ noted self.old
+            (faults_of_variable rename.now.at_right rename.now.right (meaning_of self.old.scope rename.now.right))
+            (readings_of_variable (meaning_of self.old.scope rename.now.right))) }
+        ensures pairs { OnOk result (pairs.new ≡ pairs.old ++ pair_of rename.now.left (meaning_of self.old.scope rename.now.right)) }
+    {
+        match self.meaning(&rename.right) {
+            None => {
+                let name = copy_name(self.alloc, &rename.right)?;
+                self.report(Fault::UnknownName(rename.at_right, name));
+            }
+            Some(Meaning::Variable(x, order)) => {
+                let (variable, order) = (*x, *order);
+                let name = copy_name(self.alloc, &rename.left)?;
+                push(&mut self.reads, Reading::Variable(variable))?;
+                push(
+                    pairs,
+                    MapPair {
+                        name,
+                        variable,
+                        order,
+                    },
+                )?;
+            }
+            Some(_) => self.report(Fault::WrongOrder(rename.at_right)),
+        }
+        Ok(())
+    }
+}
