@@ -1,5 +1,5 @@
 -- Names that stand twice in a list.
-use Rattle.std.proofs.Common.{rules, ◌≡◌, ℕ, ◌+◌, ◌<◌, length, get_or, drop, List, [], ◌∷◌, ◌++◌, append_assoc, map, Option, Some, None, is_some, option_copied, Bor, refl, sym, subst, ap, ◌∙◌}
+use Rattle.std.proofs.Common.{rules, ◌≡◌, ℕ, ◌+◌, ◌-◌, ◌<◌, length, get_or, drop, List, [], ◌∷◌, ◌++◌, append_assoc, map, Option, Some, None, is_some, option_copied, Bor, refl, sym, subst, ap, ◌∙◌, arith}
 use Rattle.std.specs.Prelude.{Bool, true, false, if◌then◌else◌, bytes_eq}
 use Rattle.std.proofs.lemmas.List.{append-nil, drop_more}
 use Rattle.ms_edge.specs.declared.at.At.{At}
@@ -12,7 +12,7 @@ use Rattle.ms_names.specs.declared.fault.Fault.{Fault}
 use Rattle.ms_names.specs.declared.meaning.Meaning.{Meaning}
 use Rattle.ms_names.specs.declared.meaning.Reading.{Reading}
 use Rattle.ms_names.specs.Reads.{readings_of_renames, readings_of_variable}
-use Rattle.ms_names.specs.Rules.{is_name_among, faults_of_bounds, faults_of_parts, faults_of_renames, faults_of_repeat, faults_of_variable}
+use Rattle.ms_names.specs.Rules.{first_name_twice, is_name_among, faults_of_bounds, faults_of_parts, faults_of_renames, faults_of_repeat, faults_of_variable}
 use Rattle.ms_names.specs.Scope.{Scope, meaning_among, meaning_of}
 use Rattle.ms_names.specs.State.{State, with_faults, noted}
 use Rattle.ms_names.specs.Syntax.{Bytes, Bounds, more_bounds, Parts, more_parts}
@@ -136,3 +136,25 @@ pairs-next a t before after rs i r below is same added =
     ap (λ pairs. pairs ++ pairs_of a (drop (i + 1) rs)) (added ∙ ap (λ there. before ++ pair_of r.left (meaning_of there r.right)) same)
     ∙ (append_assoc before (pair_of r.left (meaning_of a r.right)) (pairs_of a (drop (i + 1) rs))
     ∙ ap (λ rest. before ++ pairs_of a rest) (sym (next rs i r below is)))
+
+-- the names from a place on
+from-place : (names : List Bytes) (i : ℕ) (n : Bytes) → 0 < i → i - 1 < length names → n ≡ get_or names (i - 1) n →
+    drop (i - 1) names ≡ n ∷ drop i names
+from-place names i n some below is =
+    let on : i - 1 + 1 ≡ i = omega (arith, some) in
+    next names (i - 1) n below is ∙ ap (λ j. n ∷ drop j names) on
+
+-- with one more name in front
+pub behind-next : (names behind after : List Bytes) (i : ℕ) (n : Bytes) → 0 < i → i - 1 < length names → n ≡ get_or names (i - 1) n →
+    behind ≡ drop i names → after ≡ n ∷ behind → after ≡ drop (i - 1) names
+behind-next names behind after i n some below is so added =
+    added ∙ (ap (λ more. n ∷ more) so ∙ sym (from-place names i n some below is))
+
+pub found-next : (names behind : List Bytes) (found : Option Bytes) (i : ℕ) (n : Bytes) (b : Bool) →
+    0 < i → i - 1 < length names → n ≡ get_or names (i - 1) n →
+    behind ≡ drop i names → found ≡ first_name_twice (drop i names) → b ≡ is_name_among n behind →
+    (if b then Some n else found) ≡ first_name_twice (drop (i - 1) names)
+found-next names behind found i n b some below is so before among =
+    ap (λ c. if c then Some n else found) (among ∙ ap (is_name_among n) so)
+    ∙ (ap (λ f. if is_name_among n (drop i names) then Some n else f) before
+    ∙ ap first_name_twice (sym (from-place names i n some below is)))

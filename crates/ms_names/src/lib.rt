@@ -4,6 +4,7 @@
 mod build;
 mod checker;
 mod examples;
+mod export;
 mod fault;
 mod import;
 mod meaning;

@@ -14,7 +14,7 @@ use ms_logic::{Bound, LetPart};
 
 impl Checker {
     /// Reports a name that stands twice.
-    fn report_twice(&mut self, at: At, name: &Name) -> Result<(), NoMemory>
+    pub(crate) fn report_twice(&mut self, at: At, name: &Name) -> Result<(), NoMemory>
         ensures { OnOk result (self.new ≡ with_faults self.old (NamedTwice at name.now ∷ [])) }
     {
         let text = name_text(self.alloc, name)?;
