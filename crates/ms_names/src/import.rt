@@ -1,8 +1,12 @@
+ghost use Rattle.ms_logic.specs.View.{argument_of};
 ghost use Rattle.ms_names.specs.Reads.{readings_of_renames, readings_of_variable};
 ghost use Rattle.ms_names.specs.Rules.{faults_of_renames, faults_of_variable};
 ghost use Rattle.ms_names.specs.Scope.{meaning_of};
-ghost use Rattle.ms_names.specs.State.{noted};
+ghost use Rattle.ms_names.specs.State.{formed, noted};
+ghost use Rattle.ms_names.specs.Syntax.{imported};
+ghost use Rattle.ms_names.specs.Typed.{typed};
 ghost use Rattle.ms_names.specs.Uses.{pair_of, pairs_of};
+ghost use Rattle.std.specs.Option.{option_map};
 ghost use Rattle.std.specs.Prelude.{◌≡◌, ◌++◌, [], IfOk, OnOk};
 
 use crate::checker::Checker;
@@ -10,12 +14,33 @@ use crate::fault::Fault;
 use crate::meaning::{Meaning, Reading};
 use crate::memory::{copy_name, push};
 use crate::seen::Seen;
-use ms_edge::{List, NoMemory};
-use ms_logic::{MapPair, Rename};
+use ms_edge::{At, List, NoMemory, Text};
+use ms_logic::{Arg, Formula, ImportUse, MapPair, Rename};
 
 impl Checker {
-    /// The pairs of an import, and what is wrong with its names.
-    pub(crate) fn pairs(&mut self, renames: &[Rename]) -> Result<List<MapPair>, NoMemory>
+    /// An import: what is wrong with its names, what it reads, and what it becomes.
+    pub(crate) fn import(
+        &mut self,
+        at: At,
+        file: &Text,
+        renames: &[Rename],
+    ) -> Result<Option<Arg>, NoMemory>
+        ensures state { OnOk result (self.new ≡ formed self.old (imported at file.now renames.now)) }
+        ensures value { IfOk result (λ value. option_map argument_of value ≡ typed self.old.scope self.old.before (imported at file.now renames.now)) }
+    {
+        let pairs = self.pairs(renames)?;
+        let name = Text::new(self.alloc, file.text())?;
+        let number = self.import_count;
+        let Some(count) = number.checked_add(1) else {
+            return Err(NoMemory);
+        };
+        push(&mut self.imports, ImportUse { at, name, pairs })?;
+        self.import_count = count;
+        Ok(Some(Arg::Zero(Formula::Import(number))))
+    }
+
+    // The pairs of an import, and what is wrong with its names.
+    fn pairs(&mut self, renames: &[Rename]) -> Result<List<MapPair>, NoMemory>
         ensures state { OnOk result (self.new ≡ noted self.old
             (faults_of_renames self.old.scope [] [] renames.now)
             (readings_of_renames self.old.scope renames.now)) }
