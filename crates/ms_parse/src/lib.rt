@@ -6,6 +6,7 @@ mod close;
 mod complete;
 mod enter;
 mod examples;
+mod expression;
 mod form;
 mod frame;
 mod input;
@@ -23,6 +24,7 @@ mod settle;
 mod sign;
 mod stack;
 mod stop;
+mod top;
 
 pub use examples::{
     example_declarations, example_depths, example_documents, example_operators, example_refusals,
