@@ -1,6 +1,7 @@
 //! The grammar of the language, both ways: a tree reads from tokens, and a tree is printed as a text.
 #![tactic(auto)]
 
+mod append;
 mod begin;
 mod close;
 mod complete;
