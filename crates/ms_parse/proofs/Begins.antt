@@ -10,6 +10,7 @@ use Rattle.std.specs.Prelude.{Result}
 use Rattle.ms_edge.specs.declared.at.At.{At}
 use Rattle.ms_text.specs.TokenList.{Lexed}
 use Rattle.ms_parse.specs.declared.frame.Frame.{Frame}
+use Rattle.ms_parse.specs.declared.opened.Opened.{Opened}
 use Rattle.ms_parse.specs.declared.outcome.Outcome.{Outcome}
 use Rattle.ms_parse.specs.declared.stop.Stop.{Stop}
 use Rattle.ms_parse.specs.Machine as machine
@@ -123,3 +124,8 @@ join_entered c op at es e st ts high begins pushed =
     ap (λ b. cond b (enter c (machine.joined_frame (place e) op (and_expression no_expressions e)) st ts) None) (le-leb (suc (junction_level op)) (level e) high)
     ∙ ap (λ x. enter c (machine.joined_frame x op (and_expression no_expressions e)) st ts) (sym begins)
     ∙ ap (λ x. enter c (machine.joined_frame at op x) st ts) (sym pushed)
+
+-- a step in a frame that is known
+pub in_frame : (c : Context) (file : ℕ) (lexed : Lexed) (next : Opened → machine.Next) (opened is : Opened) (frames : List Frame) (r : Result (Outcome × ℕ) Stop) → opened ≡ is → Took c file lexed (next is) frames r
+    → Took c file lexed (next opened) frames r
+in_frame c file lexed next opened is frames r same took = subst (λ x. Took c file lexed (next x) frames r) (sym same) took

@@ -17,3 +17,5 @@ pub mod Trials
 pub mod Views
 pub mod Completeness
 pub mod Moves
+pub mod Wanting
+pub mod Expressions

@@ -1,7 +1,9 @@
 -- The stack of the code with one more frame.
 use Rattle.ms_parse.specs.Symbol.{Placed}
 use Rattle.std.proofs.lemmas.Bool.{le-leb, lt-leb}
-use Rattle.std.proofs.Common.{◌≡◌, ℕ, ◌+◌, List, [], ◌∷◌, ◌++◌, length, Option, Some, None, refl, sym, ap, ◌∙◌, arith, suc, max, ◌<◌, ◌≤◌, cond}
+use Rattle.std.proofs.Common.{◌≡◌, ℕ, ◌+◌, List, [], ◌∷◌, ◌++◌, length, Option, Some, None, refl, sym, ap, ◌∙◌, arith, suc, max, ◌<◌, ◌≤◌, cond, take, get_or}
+use Rattle.std.proofs.lemmas.List.{take_more}
+use Rattle.std.proofs.Math.Seq.{take-length}
 use Rattle.std.specs.Prelude.{MatchOption, option_to_list}
 use Rattle.ms_parse.specs.declared.frame.Frame.{Frame}
 use Rattle.ms_parse.specs.Machine as machine
@@ -41,3 +43,16 @@ enter_refused c f st ts deep = ap (λ b. cond b (Some (machine.wanted c (f ∷ s
 pub enter_taken : (c : machine.Context) (f : machine.Frame) (st new : List machine.Frame) (ts : List Placed) → suc (length st) + max 1 (machine.frame_depth f) ≤ 300 → new ≡ f ∷ st → machine.enter c f st ts ≡ Some (machine.wanted c new, ts)
 enter_taken c f st new ts small same =
     ap (λ b. cond b (Some (machine.wanted c (f ∷ st), ts)) None) (le-leb (suc (length st) + max 1 (machine.frame_depth f)) 300 small) ∙ ap (λ s. Some (machine.wanted c s, ts)) (sym same)
+
+-- the frames up to one of them, and that one on top
+pub stack_take : (fs : List Frame) (k : ℕ) (d : Frame) → k < length fs → stack_of (take (k + 1) fs) ≡ frame_of (get_or fs k d).opened ∷ stack_of (take k fs)
+stack_take fs k d within = ap stack_of (take_more fs k d within) ∙ stack_push (take k fs) (get_or fs k d)
+
+pub stack_whole : (fs : List Frame) (n : ℕ) → n ≡ length fs → stack_of fs ≡ stack_of (take n fs)
+stack_whole fs n whole = ap stack_of (sym (ap (λ k. take k fs) whole ∙ take-length fs))
+
+pub stack_frame : (fs : List Frame) (n k : ℕ) (d : Frame) → n ≡ k + 1 → k < length fs → stack_of (take n fs) ≡ frame_of (get_or fs k d).opened ∷ stack_of (take k fs)
+stack_frame fs n k d next within = ap (λ m. stack_of (take m fs)) next ∙ stack_take fs k d within
+
+pub stack_top : (fs : List Frame) (k : ℕ) (d : Frame) → k + 1 ≡ length fs → stack_of fs ≡ frame_of (get_or fs k d).opened ∷ stack_of (take k fs)
+stack_top fs k d whole = stack_whole fs (k + 1) whole ∙ stack_frame fs (k + 1) k d refl (omega arith)

@@ -1,6 +1,6 @@
 ghost use Rattle.std.specs.Prelude.{◌≡◌, ◌∷◌, ℕ, List};
 ghost use Rattle.ms_text.specs.TokenList.{Lexed};
-ghost use Rattle.ms_parse.specs.Machine.{Context, close_curly_at};
+ghost use Rattle.ms_parse.specs.Machine.{Context, close_curly_at, close_round_at};
 ghost use Rattle.ms_parse.specs.Opened.{frame_of};
 ghost use Rattle.ms_parse.specs.Outcomes.{Took};
 ghost use Rattle.ms_parse.specs.Signs.{behind};
@@ -9,7 +9,7 @@ ghost use Rattle.ms_parse.specs.View.{expression_of};
 ghost use Rattle.ms_parse.specs.declared.frame.Frame.{Frame};
 
 use crate::complete::finish;
-use crate::form::listed;
+use crate::form::{enclosed, listed};
 use crate::frame::Frame;
 use crate::lists::push_expression;
 use crate::opened::Opened;
@@ -17,6 +17,7 @@ use crate::operand::Operand;
 use crate::operator::Listing;
 use crate::outcome::Outcome;
 use crate::stop::Stop;
+use std::alloc::Global;
 
 /// `}` behind an expression, in a frame.
 pub fn close_curly(frame: Frame, operand: Operand, i: u32) -> Result<(Outcome, u32), Stop>
@@ -39,6 +40,43 @@ pub fn close_curly(frame: Frame, operand: Operand, i: u32) -> Result<(Outcome, u
         Opened::Left(..) => Err(Stop::Refused(i)),
         Opened::Joined(..) => Err(Stop::Refused(i)),
         Opened::Bracket(..) => Err(Stop::Refused(i)),
+        Opened::Domain(..) => Err(Stop::Refused(i)),
+        Opened::Body(..) => Err(Stop::Refused(i)),
+        Opened::Part(..) => Err(Stop::Refused(i)),
+        Opened::Let(..) => Err(Stop::Refused(i)),
+    }
+}
+
+/// `)` behind an expression, in a frame.
+pub fn close_round(
+    alloc: Global,
+    frame: Frame,
+    operand: Operand,
+    i: u32,
+) -> Result<(Outcome, u32), Stop>
+    ensures { (c : Context) (file : ℕ) (lexed : Lexed) (below : List Frame) →
+        Took c file lexed (close_round_at c (expression_of operand.expr) (frame_of frame.opened ∷ stack_of below) (behind file lexed i)) below result }
+{
+    let height = operand.height;
+    let inside = frame.height.max(height);
+    let Frame { opened, .. } = frame;
+    let Operand { expr, .. } = operand;
+    match opened {
+        Opened::Bracket(at, bracket) => {
+            let made = finish(at, enclosed(alloc, bracket, expr)?, height, i)?;
+            Ok((Outcome::Holding(made), i))
+        }
+        Opened::Listed(at, listing, mut list) => match listing {
+            Listing::Call(name) => {
+                push_expression(&mut list, expr)?;
+                let made = finish(at, listed(Listing::Call(name), list), inside, i)?;
+                Ok((Outcome::Holding(made), i))
+            }
+            Listing::Literal => Err(Stop::Refused(i)),
+        },
+        Opened::Prefix(..) => Err(Stop::Refused(i)),
+        Opened::Left(..) => Err(Stop::Refused(i)),
+        Opened::Joined(..) => Err(Stop::Refused(i)),
         Opened::Domain(..) => Err(Stop::Refused(i)),
         Opened::Body(..) => Err(Stop::Refused(i)),
         Opened::Part(..) => Err(Stop::Refused(i)),

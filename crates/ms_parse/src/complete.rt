@@ -39,7 +39,7 @@ pub fn finish(at: At, form: Form, inside: u32, i: u32) -> Result<Operand, Stop>
     })
 }
 
-fn prefix_reach(op: Prefix) -> u32
+pub fn prefix_reach(op: Prefix) -> u32
     ensures { result ≡ operand_level op }
 {
     match op {
@@ -49,7 +49,7 @@ fn prefix_reach(op: Prefix) -> u32
     }
 }
 
-fn infix_reach(op: Binary) -> u32
+pub fn infix_reach(op: Binary) -> u32
     ensures { result ≡ right_level op }
 {
     match op {
@@ -62,7 +62,7 @@ fn infix_reach(op: Binary) -> u32
     }
 }
 
-fn junction_reach(op: Junction) -> u32
+pub fn junction_reach(op: Junction) -> u32
     ensures { result ≡ junction_level op }
 {
     match op {

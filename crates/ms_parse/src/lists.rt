@@ -3,10 +3,11 @@ ghost use Rattle.ms_parse.specs.Tree.{and_expression, and_variable, and_part, un
 ghost use Rattle.ms_parse.specs.View.{expression_of, expressions_of, variables_of, parts_of, domain_of, variable_of, part_of};
 ghost use Rattle.ms_parse.specs.declared.stop.Stop.TheVariants.{Memory};
 
-use crate::memory::push;
+use crate::memory::{boxed, push};
 use crate::stop::Stop;
 use ms_edge::{At, Boxed, List, Name};
 use ms_logic::{Bound, Expr, LetPart, Order};
+use std::alloc::Global;
 
 pub fn push_expression(list: &mut List<Expr>, expr: Expr) -> Result<(), Stop>
     ensures ok { OnOk result (expressions_of list.new ≡ and_expression (expressions_of list.old) (expression_of expr)) }
@@ -52,4 +53,19 @@ pub fn push_part(list: &mut List<LetPart>, at: At, name: Name, value: Expr) -> R
 {
     let one = part(at, name, value);
     push(list, one)
+}
+
+pub fn push_restricted(
+    alloc: Global,
+    list: &mut List<Bound>,
+    at: At,
+    order: Order,
+    name: Name,
+    domain: Expr,
+) -> Result<(), Stop>
+    ensures ok { OnOk result (variables_of list.new ≡ and_variable (variables_of list.old) at order name (restricted (expression_of domain))) }
+    ensures err { IfErr result (λ stop. stop ≡ Memory) }
+{
+    let domain = boxed(alloc, domain)?;
+    push_variable(list, at, order, name, Some(domain))
 }

@@ -1,22 +1,25 @@
 ghost use Rattle.std.specs.Prelude.{◌≡◌, ◌++◌, ◌∷◌, [], ℕ, List};
-ghost use Rattle.ms_parse.specs.Machine.{Context, next_part, next_pair};
+ghost use Rattle.ms_parse.specs.Machine.{Context, behind_variable, next_variable, next_part, next_pair};
 ghost use Rattle.ms_parse.specs.Outcomes.{Took};
-ghost use Rattle.ms_parse.specs.Signs.{behind};
+ghost use Rattle.ms_parse.specs.Signs.{symbol_with, behind};
 ghost use Rattle.ms_parse.specs.Stack.{stack_of};
-ghost use Rattle.ms_parse.specs.View.{parts_of};
+ghost use Rattle.ms_parse.specs.View.{variables_of, parts_of};
+ghost use Rattle.ms_text.specs.TokenList.{Lexed};
 
 use crate::complete::finish;
 use crate::enter::enter;
 use crate::frame::Frame;
-use crate::input::name_at;
+use crate::input::{name_at, sign_at};
+use crate::lists::push_variable;
 use crate::memory::push;
 use crate::opened::Opened;
-use crate::operand::Parts;
+use crate::operand::{Bounds, Parts};
 use crate::outcome::Outcome;
 use crate::punctuation::{Punctuation, behind_mark};
+use crate::sign::Sign;
 use crate::stop::Stop;
-use ms_edge::{At, List, Text};
-use ms_logic::{Form, Order, Rename};
+use ms_edge::{At, List, Name, Text};
+use ms_logic::{Form, Order, Quant, Rename};
 use ms_text::Tokens;
 use std::alloc::Global;
 
@@ -86,4 +89,65 @@ pub fn next_pair(
     };
     push(&mut pairs, pair)?;
     Ok((Outcome::Pair(at, text, pairs), to + 1))
+}
+
+/// What stands behind a variable of a binder.
+fn behind_variable(
+    stack: &mut Vec<Frame>,
+    at: At,
+    quant: Quant,
+    order: Order,
+    bounds: Bounds,
+    at_name: At,
+    name: Name,
+    sign: Sign,
+    i: u32,
+) -> Result<(Outcome, u32), Stop>
+    ensures { (c : Context) (file : ℕ) (lexed : Lexed) (bytes : List ℕ) →
+        Took c file lexed (behind_variable c (stack_of stack.old.items) at quant order (variables_of bounds.list) at_name name (symbol_with sign bytes) (behind file lexed i)) stack.new.items result }
+{
+    let Bounds { mut list, height } = bounds;
+    match sign {
+        Sign::Where => {
+            let opened = Opened::Domain(at, quant, order, list, at_name, name);
+            enter(stack, Frame { opened, height }, i)
+        }
+        Sign::Comma => {
+            push_variable(&mut list, at_name, order, name, None)?;
+            Ok((
+                Outcome::Variable(at, quant, order, Bounds { list, height }),
+                i,
+            ))
+        }
+        Sign::Colon => {
+            push_variable(&mut list, at_name, order, name, None)?;
+            let opened = Opened::Body(at, quant, order, list);
+            enter(stack, Frame { opened, height }, i)
+        }
+        _ => Err(Stop::Refused(i)),
+    }
+}
+
+/// A variable of a binder and what stands behind it, where a variable is wanted.
+pub fn next_variable(
+    alloc: Global,
+    tokens: &Tokens,
+    file: u32,
+    stack: &mut Vec<Frame>,
+    at: At,
+    quant: Quant,
+    order: Order,
+    bounds: Bounds,
+    i: u32,
+) -> Result<(Outcome, u32), Stop>
+    ensures { (c : Context) →
+        Took c file tokens.now (next_variable c (stack_of stack.old.items) at quant order (variables_of bounds.list) (behind file tokens.now i)) stack.new.items result }
+{
+    let Some((name, at_name)) = name_at(alloc, tokens, file, i)? else {
+        return Err(Stop::Refused(i));
+    };
+    let Some((sign, _)) = sign_at(tokens, file, i + 1) else {
+        return Err(Stop::Refused(i + 1));
+    };
+    behind_variable(stack, at, quant, order, bounds, at_name, name, sign, i + 2)
 }

@@ -1,0 +1,18 @@
+use Rattle.std.proofs.Common.{◌≡◌, ◌≤◌, ap, ◌∙◌, arith}
+use Rattle.ms_parse.specs.Grammar.{prefix_level}
+use Rattle.ms_parse.specs.Machine.{prefix_frame, enter, begin, need}
+use Rattle.ms_parse.specs.Signs.{behind}
+use Rattle.ms_parse.specs.Stack.{stack_of}
+use Rattle.ms_parse.specs.Symbol.{prefix_operator}
+use Rattle.ms_parse.proofs.Begins.{as_taken}
+use Rattle.ms_parse.proofs.Expressions.{prefix_entered}
+use Rattle.ms_parse.proofs.expression.begin_prefix.Goals as goal
+
+pub returns : goal.returns
+returns c context file lexed =
+    let st = stack_of c.args.stack.now.items in
+    let ts = behind file lexed c.args.i in
+    let least : c.need.result ≡ need st = c.need.ensures ∙ ap (λ x. need (stack_of x)) c.deref.ensures.value in
+    let low : need st ≤ prefix_level c.args.op = omega (arith, c.level_of.ensures) in
+    as_taken context file lexed (begin context st c.args.at (prefix_operator c.args.op) ts) (enter context (prefix_frame c.args.at c.args.op) st ts) c.enter.new.stack.items c.enter.result
+    (prefix_entered context c.args.op c.args.at st ts low) (c.enter.ensures context file lexed)
