@@ -1,4 +1,4 @@
-use Rattle.std.proofs.Common.{◌≡◌, ◌∷◌, None, sym, subst}
+use Rattle.std.proofs.Common.{◌≡◌, ◌∷◌, sym, subst}
 use Rattle.ms_parse.specs.Machine.{list_frame, domain_frame, part_frame, comma_at}
 use Rattle.ms_parse.specs.Outcomes.{Took}
 use Rattle.ms_parse.specs.Rows.{IsRow}
