@@ -20,3 +20,4 @@ pub mod Moves
 pub mod Wanting
 pub mod Expressions
 pub mod Separations
+pub mod Shifts
