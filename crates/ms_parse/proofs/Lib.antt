@@ -19,3 +19,5 @@ pub mod Completeness
 pub mod Moves
 pub mod Wanting
 pub mod Expressions
+pub mod Separations
+pub mod Shifts

@@ -6,6 +6,7 @@ pub mod Opened
 pub mod Outcomes
 pub mod Punctuations
 pub mod Reads
+pub mod Rows
 pub mod Signs
 pub mod Stack
 pub mod Symbol

@@ -21,6 +21,8 @@ mod operand;
 mod operator;
 mod outcome;
 mod punctuation;
+mod row;
+mod separate;
 mod settle;
 mod sign;
 mod stack;

@@ -1,21 +1,24 @@
-ghost use Rattle.std.specs.Prelude.{◌≡◌, ℕ, suc};
+ghost use Rattle.std.specs.Prelude.{◌≡◌, ◌≤◌, ◌<◌, ◌+◌, ◌⊎◌, ℕ, suc, false, List, length, IsTrue};
 ghost use Rattle.ms_text.specs.TokenList.{Lexed};
-ghost use Rattle.ms_parse.specs.Grammar.{left_level, junction_level};
-ghost use Rattle.ms_parse.specs.Machine.{Context, shift, join_new};
+ghost use Rattle.ms_parse.specs.Grammar.{left_level, junction_level, level, depth};
+ghost use Rattle.ms_parse.specs.Machine.{Context, shift, join_new, shift_by};
 ghost use Rattle.ms_parse.specs.Outcomes.{Took};
 ghost use Rattle.ms_parse.specs.Signs.{behind};
 ghost use Rattle.ms_parse.specs.Stack.{stack_of};
 ghost use Rattle.ms_parse.specs.View.{expression_of};
 
+use crate::complete::finish;
 use crate::enter::{enter, level};
 use crate::frame::Frame;
 use crate::lists::push_expression;
+use crate::memory::boxed;
 use crate::opened::Opened;
-use crate::operand::Operand;
+use crate::operand::{GREATEST_DEPTH, Operand};
 use crate::operator::{Binary, Junction};
 use crate::outcome::Outcome;
 use crate::stop::Stop;
 use ms_edge::List;
+use ms_logic::{Form, PlacedInt};
 use std::alloc::Global;
 
 fn least_left(op: Binary) -> u32
@@ -85,4 +88,42 @@ fn least_operand(op: Junction) -> u32
         Junction::Disjunction => 3,
         Junction::Conjunction => 4,
     }
+}
+
+/// Whether a number may be added to the expression: it binds tightly enough, and the depth leaves room.
+fn may_shift(stack: &[Frame], operand: &Operand) -> bool
+    ensures yes { IsTrue result → (9 ≤ level (expression_of operand.now.expr)) × (length stack.now + suc (depth (expression_of operand.now.expr)) ≤ 300) }
+    ensures no { result ≡ false → (level (expression_of operand.now.expr) < 9) ⊎ (300 < length stack.now + suc (depth (expression_of operand.now.expr))) }
+{
+    if level(&operand.expr) < 9 {
+        return false;
+    }
+    if stack.len() >= 300 {
+        return false;
+    }
+    stack.len() as u32 + 1 + operand.height <= GREATEST_DEPTH
+}
+
+/// `+` or `-` and its number behind an expression.
+pub fn shift_by(
+    alloc: Global,
+    stack: &[Frame],
+    operand: Operand,
+    number: PlacedInt,
+    i: u32,
+) -> Result<(Outcome, u32), Stop>
+    ensures { (c : Context) (file : ℕ) (lexed : Lexed) →
+        Took c file lexed (shift_by c (expression_of operand.expr) (stack_of stack.now) number (behind file lexed i)) stack.now result }
+{
+    if !may_shift(stack, &operand) {
+        return Err(Stop::Refused(i));
+    }
+    let Operand {
+        expr,
+        start,
+        height,
+    } = operand;
+    let form = Form::Shift(boxed(alloc, expr)?, number);
+    let made = finish(start, form, height, i)?;
+    Ok((Outcome::Holding(made), i))
 }

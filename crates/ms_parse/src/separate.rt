@@ -1,0 +1,180 @@
+ghost use Rattle.std.specs.Prelude.{◌≡◌, ◌∷◌, ℕ, List, Some};
+ghost use Rattle.ms_text.specs.TokenList.{Lexed};
+ghost use Rattle.ms_parse.specs.Machine as machine;
+ghost use Rattle.ms_parse.specs.Machine.{Context, list_frame, body_frame, let_frame, variable_wanted, part_wanted, enter, comma_at, colon_at, in_at};
+ghost use Rattle.ms_parse.specs.Outcomes.{Took};
+ghost use Rattle.ms_parse.specs.Rows.{IsRow};
+ghost use Rattle.ms_parse.specs.Signs.{behind};
+ghost use Rattle.ms_parse.specs.Stack.{stack_of};
+ghost use Rattle.ms_parse.specs.Tree.{and_expression, and_variable, and_part, restricted};
+ghost use Rattle.ms_parse.specs.View.{expression_of, expressions_of, variables_of, parts_of};
+ghost use Rattle.ms_parse.specs.declared.frame.Frame.{Frame};
+
+use crate::append::{with_expression, with_part, with_restricted};
+use crate::enter::enter;
+use crate::frame::Frame;
+use crate::opened::Opened;
+use crate::operand::{Bounds, Operand, Operands, Parts};
+use crate::operator::Listing;
+use crate::outcome::Outcome;
+use crate::row::Row;
+use crate::stop::Stop;
+use ms_edge::{At, Name};
+use ms_logic::{Order, Quant};
+use std::alloc::Global;
+
+fn another_expression(
+    stack: &mut Vec<Frame>,
+    at: At,
+    listing: Listing,
+    operands: Operands,
+    operand: Operand,
+    i: u32,
+) -> Result<(Outcome, u32), Stop>
+    ensures { (c : Context) (file : ℕ) (lexed : Lexed) →
+        Took c file lexed (enter c (list_frame at listing (and_expression (expressions_of operands.list) (expression_of operand.expr))) (stack_of stack.old.items) (behind file lexed i)) stack.new.items result }
+{
+    let Operands { list, height } = with_expression(operands, operand)?;
+    let opened = Opened::Listed(at, listing, list);
+    enter(stack, Frame { opened, height }, i)
+}
+
+fn another_variable(
+    alloc: Global,
+    at: At,
+    quant: Quant,
+    order: Order,
+    bounds: Bounds,
+    at_name: At,
+    name: Name,
+    operand: Operand,
+    i: u32,
+) -> Result<(Outcome, u32), Stop>
+    ensures { (c : Context) (file : ℕ) (lexed : Lexed) (frames : List Frame) →
+        Took c file lexed (Some (variable_wanted c (stack_of frames) at quant order (and_variable (variables_of bounds.list) at_name order name (restricted (expression_of operand.expr))), behind file lexed i)) frames result }
+{
+    let more = with_restricted(alloc, bounds, at_name, order, name, operand)?;
+    Ok((Outcome::Variable(at, quant, order, more), i))
+}
+
+fn another_part(
+    at: At,
+    order: Order,
+    parts: Parts,
+    at_name: At,
+    name: Name,
+    operand: Operand,
+    i: u32,
+) -> Result<(Outcome, u32), Stop>
+    ensures { (c : Context) (file : ℕ) (lexed : Lexed) (frames : List Frame) →
+        Took c file lexed (Some (part_wanted c (stack_of frames) at order (and_part (parts_of parts.list) at_name name (expression_of operand.expr)), behind file lexed i)) frames result }
+{
+    let more = with_part(parts, at_name, name, operand)?;
+    Ok((Outcome::Part(at, order, more), i))
+}
+
+/// `,` behind an expression, in the row that stood on top of the stack.
+pub fn comma(
+    alloc: Global,
+    stack: &mut Vec<Frame>,
+    row: Row,
+    operand: Operand,
+    i: u32,
+) -> Result<(Outcome, u32), Stop>
+    ensures { (c : Context) (file : ℕ) (lexed : Lexed) (top : machine.Frame) → IsRow row top →
+        Took c file lexed (comma_at c (expression_of operand.expr) (top ∷ stack_of stack.old.items) (behind file lexed i)) stack.new.items result }
+{
+    match row {
+        Row::Listed(at, listing, operands) => {
+            another_expression(stack, at, listing, operands, operand, i)
+        }
+        Row::Domain(at, quant, order, bounds, at_name, name) => {
+            another_variable(alloc, at, quant, order, bounds, at_name, name, operand, i)
+        }
+        Row::Part(at, order, parts, at_name, name) => {
+            another_part(at, order, parts, at_name, name, operand, i)
+        }
+        Row::Other => Err(Stop::Refused(i)),
+    }
+}
+
+fn begin_body(
+    alloc: Global,
+    stack: &mut Vec<Frame>,
+    at: At,
+    quant: Quant,
+    order: Order,
+    bounds: Bounds,
+    at_name: At,
+    name: Name,
+    operand: Operand,
+    i: u32,
+) -> Result<(Outcome, u32), Stop>
+    ensures { (c : Context) (file : ℕ) (lexed : Lexed) →
+        Took c file lexed (enter c (body_frame at quant order (and_variable (variables_of bounds.list) at_name order name (restricted (expression_of operand.expr)))) (stack_of stack.old.items) (behind file lexed i)) stack.new.items result }
+{
+    let Bounds { list, height } = with_restricted(alloc, bounds, at_name, order, name, operand)?;
+    let opened = Opened::Body(at, quant, order, list);
+    enter(stack, Frame { opened, height }, i)
+}
+
+/// `:` behind an expression, in the row that stood on top of the stack.
+pub fn colon(
+    alloc: Global,
+    stack: &mut Vec<Frame>,
+    row: Row,
+    operand: Operand,
+    i: u32,
+) -> Result<(Outcome, u32), Stop>
+    ensures { (c : Context) (file : ℕ) (lexed : Lexed) (top : machine.Frame) → IsRow row top →
+        Took c file lexed (colon_at c (expression_of operand.expr) (top ∷ stack_of stack.old.items) (behind file lexed i)) stack.new.items result }
+{
+    match row {
+        Row::Domain(at, quant, order, bounds, at_name, name) => {
+            begin_body(
+                alloc, stack, at, quant, order, bounds, at_name, name, operand, i,
+            )
+        }
+        Row::Listed(..) => Err(Stop::Refused(i)),
+        Row::Part(..) => Err(Stop::Refused(i)),
+        Row::Other => Err(Stop::Refused(i)),
+    }
+}
+
+fn begin_scope(
+    stack: &mut Vec<Frame>,
+    at: At,
+    order: Order,
+    parts: Parts,
+    at_name: At,
+    name: Name,
+    operand: Operand,
+    i: u32,
+) -> Result<(Outcome, u32), Stop>
+    ensures { (c : Context) (file : ℕ) (lexed : Lexed) →
+        Took c file lexed (enter c (let_frame at order (and_part (parts_of parts.list) at_name name (expression_of operand.expr))) (stack_of stack.old.items) (behind file lexed i)) stack.new.items result }
+{
+    let Parts { list, height } = with_part(parts, at_name, name, operand)?;
+    let opened = Opened::Let(at, order, list);
+    enter(stack, Frame { opened, height }, i)
+}
+
+/// `in` behind a right side of a `let`, in the row that stood on top of the stack.
+pub fn end_parts(
+    stack: &mut Vec<Frame>,
+    row: Row,
+    operand: Operand,
+    i: u32,
+) -> Result<(Outcome, u32), Stop>
+    ensures { (c : Context) (file : ℕ) (lexed : Lexed) (top : machine.Frame) → IsRow row top →
+        Took c file lexed (in_at c (expression_of operand.expr) (top ∷ stack_of stack.old.items) (behind file lexed i)) stack.new.items result }
+{
+    match row {
+        Row::Part(at, order, parts, at_name, name) => {
+            begin_scope(stack, at, order, parts, at_name, name, operand, i)
+        }
+        Row::Listed(..) => Err(Stop::Refused(i)),
+        Row::Domain(..) => Err(Stop::Refused(i)),
+        Row::Other => Err(Stop::Refused(i)),
+    }
+}
