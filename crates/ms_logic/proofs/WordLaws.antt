@@ -13,7 +13,7 @@ use Rattle.ms_logic.specs.Content.{AreLetters, is_truth_value, is_in_letters, co
 use Rattle.ms_logic.specs.FiniteSet.{is_member}
 use Rattle.ms_logic.specs.First.{length_of, length_by}
 use Rattle.ms_logic.specs.Word.{HasLength, with_truth_value, truth_values_of, with_bit, letter_at, letters_below, bound_of_set, bound_at, bound_of}
-use Rattle.ms_logic.specs.WordLaws.{EncodingIsOver, LengthIsLeast, ZeroLetterKeeps}
+use Rattle.ms_logic.specs.WordLaws.{EncodingIsOver, LengthIsLeast, WordIsUnique, ZeroLetterKeeps}
 use Rattle.ms_logic.specs.WordSign.{EncodingExists, EncodingIsUnique}
 use Rattle.ms_logic.proofs.Members.{member_below_bound}
 use Rattle.ms_logic.proofs.OrderLaws.{bound_is_least, same_values, values_below_length}
@@ -144,3 +144,9 @@ zero_letter_keeps vs word e numbers encodes =
       room = omega (arith, long, encodes.room);
       string = (let P : Universe → Type 0 = λ universe. HasLength universe (length (word.letters ++ zero_letter vs ∷ [])) in subst P (sym numbers) tt);
     }
+
+pub word_is_unique : WordIsUnique
+word_is_unique variables word other e one two same = λ i. record {
+  truth = (one.truth ∙ sym two.truth) i;
+  letters = (one.letters ∙ (ap (λ n. letters_below n variables e) same ∙ sym two.letters)) i;
+}

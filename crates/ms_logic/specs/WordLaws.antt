@@ -22,3 +22,9 @@ LengthIsLeast =
 abbrev pub ZeroLetterKeeps : Type 0
 ZeroLetterKeeps =
     (variables : List Variable) (word : Word) (e : Env) → e.universe ≡ None → Encodes variables word e → Encodes variables (with_zero_letter variables word) e
+
+-- values are encoded by one word of a length at most, and so by exactly one of the least length
+abbrev pub WordIsUnique : Type 0
+WordIsUnique =
+    (variables : List Variable) (word other : Word) (e : Env) → Encodes variables word e → Encodes variables other e
+    → length word.letters ≡ length other.letters → word ≡ other

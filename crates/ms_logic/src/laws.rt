@@ -4,7 +4,7 @@ ghost use Rattle.ms_logic.specs.FreeVariables.{ValueDependsOnFreeVariables};
 ghost use Rattle.ms_logic.specs.Laws.{YesExcludesNo, DoubleNegation, ExIsDual, AllIsDual};
 ghost use Rattle.ms_logic.specs.OrderLaws.{BoundIsLeast, BeforeIsIrreflexive, BeforeIsTransitive, BeforeIsTotal};
 ghost use Rattle.ms_logic.specs.SetLaws.{SetsAreTheirMembers, SubsetLaw, ListedSet, UnionLaw, IntersectionLaw, DifferenceLaw, MovedUpLaw, MovedDownLaw, NumbersBelowLaw, OneBitsLaw, PartWithinLaw, LeastLaw, GreatestLaw};
-ghost use Rattle.ms_logic.specs.WordLaws.{EncodingIsOver, LengthIsLeast, ZeroLetterKeeps};
+ghost use Rattle.ms_logic.specs.WordLaws.{EncodingIsOver, LengthIsLeast, WordIsUnique, ZeroLetterKeeps};
 ghost use Rattle.ms_logic.specs.WordSign.{EncodingExists, EncodingIsUnique};
 
 /// Yes and No exclude each other, and negation exchanges them.
@@ -41,12 +41,13 @@ pub fn laws_of_order()
     ensures total { BeforeIsTotal }
 {}
 
-/// A word encodes one assignment at most, and each assignment is encoded, by a word of its own length and by none that
-/// is shorter. In WS1S a zero letter at the end changes nothing.
+/// A word encodes one assignment at most, and each assignment is encoded, by exactly one word of its own length and by
+/// none that is shorter. In WS1S a zero letter at the end changes nothing.
 pub fn laws_of_words()
     ensures encoding_exists { EncodingExists }
     ensures encoding_is_unique { EncodingIsUnique }
     ensures encoding_is_over { EncodingIsOver }
     ensures length_is_least { LengthIsLeast }
+    ensures word_is_unique { WordIsUnique }
     ensures zero_letter_keeps { ZeroLetterKeeps }
 {}
