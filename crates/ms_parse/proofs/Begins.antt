@@ -1,7 +1,7 @@
 -- Steps at the beginning of an expression, as the code takes them.
 use Rattle.ms_logic.specs.declared.source.Rename.{Rename}
 use Rattle.std.proofs.lemmas.Bool.{le-leb}
-use Rattle.ms_parse.specs.Grammar.{left_level, level, junction_level}
+use Rattle.ms_grammar.specs.Grammar.{left_level, level, junction_level}
 use Rattle.ms_logic.specs.declared.mode.Order.{Order}
 use Rattle.ms_logic.specs.declared.mode.Rel.TheVariants.{Equal}
 use Rattle.ms_parse.specs.Signs.{NoText, NoName}
@@ -17,9 +17,9 @@ use Rattle.ms_parse.specs.Machine as machine
 use Rattle.ms_parse.specs.Machine.{Context, list_frame, bracket_frame, holding, enter, begin_name, begin_restrict, begin_empty, begin_literal, begin_export, begin_import, pair_wanted, next_part, part_frame, next_pair}
 use Rattle.ms_parse.specs.Outcomes.{Took}
 use Rattle.ms_parse.specs.Punctuations.{IsNot}
-use Rattle.ms_parse.specs.Reads.{Follows, place}
-use Rattle.ms_parse.specs.Symbol.{open_round, close_round, Placed, placed, text, comma, close_curly, name, infix_operator, arrow}
-use Rattle.ms_parse.specs.Tree.{Restriction, Call, named, atom, listed, no_expressions, Emptiness, Literal, Export, Relation, Parts, Binary, Expression, Junction, Expressions, and_expression}
+use Rattle.ms_grammar.specs.Reads.{Follows, place}
+use Rattle.ms_grammar.specs.Symbol.{open_round, close_round, Placed, placed, text, comma, close_curly, name, infix_operator, arrow}
+use Rattle.ms_grammar.specs.Tree.{Restriction, Call, named, atom, listed, no_expressions, Emptiness, Literal, Export, Relation, Parts, Binary, Expression, Junction, Expressions, and_expression}
 
 pub restrict_refused : (c : Context) (st : List machine.Frame) (at : At) (ts : List Placed) → IsNot open_round ts → begin_restrict c st at ts ≡ None
 restrict_refused c st at [] other = refl

@@ -9,11 +9,11 @@ use Rattle.ms_logic.specs.declared.mode.Rel.TheVariants.{Equal, Member}
 use Rattle.ms_logic.specs.declared.source.Int.{Int}
 use Rattle.ms_logic.specs.declared.source.Int.TheVariants.{Number, Constant}
 use Rattle.ms_logic.specs.declared.source.Rename.{Rename}
-use Rattle.ms_parse.specs.Symbol.{Symbol, name, number, text, prefix_operator, infix_operator, joining, sign, quantifier, let_word, word_true, word_false, dollar, word_empty, word_pconst, word_import, word_export, word_restrict, word_where, open_round, close_round, open_curly, close_curly, comma, colon, arrow, Placed, placed}
-use Rattle.ms_parse.specs.Tree.{Atom, truth, falsity, whole, empty_set, named, numeral, pconst, imported, Relation, Junction, Bracket, Parentheses, Emptiness, Restriction, Export, Listing, Literal, Call}
-use Rattle.ms_parse.specs.Tree.{Expression, atom, prefixed, binary, joined, shifted, enclosed, listed, quantified, let_in, Expressions, no_expressions, and_expression, Variables, no_variables, and_variable, Domain, unrestricted, restricted, Parts, no_parts, and_part, Document}
-use Rattle.ms_parse.specs.Grammar.{binary_level, left_level, right_level, prefix_level, operand_level, junction_level, level, last_ends_open, is_in, has_bare_in, some_bare_in, domain_bare_in, part_bare_in, IsGrammatical, AreGrammatical, AreOperands, HaveGrammaticalDomains, HaveGrammaticalValues, AreOfOrder, depth, depth_of_all, depth_of_domains, depth_of_values}
-use Rattle.ms_parse.specs.Reads.{int_symbol, Starts, Follows, ReadsPairs, ReadsAtom, ReadsOpening, ReadsListOpening, closing, place, FirstIsAt, ReadsExpression, ReadsSeparated, ReadsList, ReadsDomain, ReadsVariables, ReadsParts}
+use Rattle.ms_grammar.specs.Symbol.{Symbol, name, number, text, prefix_operator, infix_operator, joining, sign, quantifier, let_word, word_true, word_false, dollar, word_empty, word_pconst, word_import, word_export, word_restrict, word_where, open_round, close_round, open_curly, close_curly, comma, colon, arrow, Placed, placed}
+use Rattle.ms_grammar.specs.Tree.{Atom, truth, falsity, whole, empty_set, named, numeral, pconst, imported, Relation, Junction, Bracket, Parentheses, Emptiness, Restriction, Export, Listing, Literal, Call}
+use Rattle.ms_grammar.specs.Tree.{Expression, atom, prefixed, binary, joined, shifted, enclosed, listed, quantified, let_in, Expressions, no_expressions, and_expression, Variables, no_variables, and_variable, Domain, unrestricted, restricted, Parts, no_parts, and_part, Document}
+use Rattle.ms_grammar.specs.Grammar.{binary_level, left_level, right_level, prefix_level, operand_level, junction_level, level, last_ends_open, is_in, has_bare_in, some_bare_in, domain_bare_in, part_bare_in, IsGrammatical, AreGrammatical, AreOperands, HaveGrammaticalDomains, HaveGrammaticalValues, AreOfOrder, depth, depth_of_all, depth_of_domains, depth_of_values}
+use Rattle.ms_grammar.specs.Reads.{int_symbol, Starts, Follows, ReadsPairs, ReadsAtom, ReadsOpening, ReadsListOpening, closing, place, FirstIsAt, ReadsExpression, ReadsSeparated, ReadsList, ReadsDomain, ReadsVariables, ReadsParts}
 use Rattle.ms_parse.specs.Machine.{Frame, prefix_frame, left_frame, joined_frame, bracket_frame, list_frame, domain_frame, body_frame, part_frame, let_frame, Context, wanted, holding, variable_wanted, part_wanted, pair_wanted, Next, need, in_part, enter, bound, step, Runs, hold}
 use Rattle.ms_parse.proofs.Levels.{Yields, yields-zero, yields, tight-infix, tight-joining, tight-sign}
 use Rattle.ms_parse.proofs.Moves.{follower, starter, neither, quiet, depth_positive, left_high, list_begins, name_alone, empty_alone, literal_filled, call_filled, infix_step, sign_step, join_first, join_further}

@@ -5,9 +5,9 @@ use Rattle.std.proofs.lemmas.Slice.Eq.{bytes_eq-Decides}
 use Rattle.ms_edge.specs.declared.at.At.{At}
 use Rattle.ms_logic.specs.declared.mode.Mode.{Mode}
 use Rattle.ms_logic.specs.declared.mode.Mode.TheVariants.{Ws1s, M2lStr}
-use Rattle.ms_parse.specs.Symbol.{Symbol, name, sign, word_ws1s, semicolon, Placed, placed}
-use Rattle.ms_parse.specs.Tree.{Declaration, variables, constant, predicate, included, default_restriction, formula, Declared, Document}
-use Rattle.ms_parse.specs.Declarations.{ReadsDeclaration, ReadsDeclarations, ReadsString, ReadsHeader, Reads}
+use Rattle.ms_grammar.specs.Symbol.{Symbol, name, sign, word_ws1s, semicolon, Placed, placed}
+use Rattle.ms_grammar.specs.Tree.{Declaration, variables, constant, predicate, included, default_restriction, formula, Declared, Document}
+use Rattle.ms_grammar.specs.Declarations.{ReadsDeclaration, ReadsDeclarations, ReadsString, ReadsHeader, Reads}
 use Rattle.ms_parse.specs.Machine.{outside, headed, start, Runs}
 use Rattle.ms_parse.proofs.Moves.{starter, begins}
 use Rattle.ms_parse.proofs.Steps.{at_start}

@@ -16,7 +16,7 @@ use Rattle.ms_text.specs.declared.token.Token.{Token}
 use Rattle.ms_text.specs.Spelling.{is_name_byte, is_identifier, Spells}
 use Rattle.ms_text.specs.TokenList.{Lexed, slice_of}
 use Rattle.ms_text.proofs.Starts.{identifier_bytes}
-use Rattle.ms_parse.specs.Symbol.{Symbol, name, symbol_of, word_symbol, mark_symbol, Placed, placed, placed_symbol}
+use Rattle.ms_grammar.specs.Symbol.{Symbol, name, symbol_of, word_symbol, mark_symbol, Placed, placed, placed_symbol}
 use Rattle.ms_parse.specs.Signs.{behind, IsNext, NoName, NoText}
 
 drop_read : (f : Token → Placed) (tokens : List Token) (i : ℕ) (token : Token) → slice_get tokens i ≡ Some token → drop i (map f tokens) ≡ f token ∷ drop (suc i) (map f tokens)

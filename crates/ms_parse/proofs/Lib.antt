@@ -14,7 +14,6 @@ pub mod Stacks
 pub mod Steps
 pub mod Texts
 pub mod Trials
-pub mod Views
 pub mod Completeness
 pub mod Moves
 pub mod Wanting

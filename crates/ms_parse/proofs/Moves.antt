@@ -5,11 +5,11 @@ use Rattle.ms_edge.specs.declared.at.At.{At}
 use Rattle.ms_logic.specs.declared.source.Int.{Int}
 use Rattle.ms_logic.specs.declared.source.Int.TheVariants.{Number, Constant}
 use Rattle.ms_logic.specs.declared.source.PlacedInt.{PlacedInt}
-use Rattle.ms_parse.specs.Symbol.{Symbol, name, number, prefix_operator, infix_operator, joining, sign, quantifier, let_word, word_true, word_false, dollar, word_empty, word_pconst, word_import, word_export, word_restrict, open_round, close_round, open_curly, close_curly, comma, colon, semicolon, Placed, placed}
-use Rattle.ms_parse.specs.Tree.{truth, falsity, whole, empty_set, named, numeral, pconst, imported, Binary, Implication, Equivalence, Relation, Union, Intersection, Difference, Junction, Conjunction, Disjunction, Parentheses, Emptiness, Restriction, Export, Literal, Call}
-use Rattle.ms_parse.specs.Tree.{Expression, atom, prefixed, binary, joined, shifted, enclosed, listed, quantified, let_in, Expressions, no_expressions, and_expression}
-use Rattle.ms_parse.specs.Grammar.{binary_level, left_level, right_level, operand_level, junction_level, level, is_in, depth, depth_of_all}
-use Rattle.ms_parse.specs.Reads.{int_symbol, place, ReadsExpression, ReadsSeparated, ReadsList}
+use Rattle.ms_grammar.specs.Symbol.{Symbol, name, number, prefix_operator, infix_operator, joining, sign, quantifier, let_word, word_true, word_false, dollar, word_empty, word_pconst, word_import, word_export, word_restrict, open_round, close_round, open_curly, close_curly, comma, colon, semicolon, Placed, placed}
+use Rattle.ms_grammar.specs.Tree.{truth, falsity, whole, empty_set, named, numeral, pconst, imported, Binary, Implication, Equivalence, Relation, Union, Intersection, Difference, Junction, Conjunction, Disjunction, Parentheses, Emptiness, Restriction, Export, Literal, Call}
+use Rattle.ms_grammar.specs.Tree.{Expression, atom, prefixed, binary, joined, shifted, enclosed, listed, quantified, let_in, Expressions, no_expressions, and_expression}
+use Rattle.ms_grammar.specs.Grammar.{binary_level, left_level, right_level, operand_level, junction_level, level, is_in, depth, depth_of_all}
+use Rattle.ms_grammar.specs.Reads.{int_symbol, place, ReadsExpression, ReadsSeparated, ReadsList}
 use Rattle.ms_parse.specs.Machine.{Frame, prefix_frame, left_frame, joined_frame, bracket_frame, list_frame, domain_frame, body_frame, part_frame, let_frame, Context, wanted, holding, need, in_part, enter, collapse, on_top, begin_name, begin_empty, begin_literal, in_at, join, join_new, shift, shift_by, shift_int, step}
 use Rattle.ms_parse.proofs.Steps.{entered}
 

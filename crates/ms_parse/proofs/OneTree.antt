@@ -1,8 +1,8 @@
 -- Symbols read as one document at most, since the automaton is a function.
 use Rattle.std.proofs.Common.{◌≡◌, ℕ, zero, suc, true, List, [], ◌∷◌, Option, Some, None, refl, sym, ap, ◌∙◌}
-use Rattle.ms_parse.specs.Symbol.{Placed}
-use Rattle.ms_parse.specs.Tree.{Document}
-use Rattle.ms_parse.specs.Declarations.{Reads}
+use Rattle.ms_grammar.specs.Symbol.{Placed}
+use Rattle.ms_grammar.specs.Tree.{Document}
+use Rattle.ms_grammar.specs.Declarations.{Reads}
 use Rattle.ms_parse.specs.Machine.{State, outside, wanted, holding, variable_wanted, part_wanted, pair_wanted, global_wanted, parameter_wanted, summand_wanted, Next, start, step, finished, goes_on, run}
 use Rattle.ms_parse.proofs.Headers.{document_read}
 

@@ -1,8 +1,8 @@
 -- Lists of the code with one more entry.
 use Rattle.std.specs.Prelude.{Result, Ok, Err, OnOk}
 use Rattle.std.proofs.Common.{◌≡◌, List, [], ◌∷◌, ◌++◌, map, refl}
-use Rattle.ms_parse.specs.Tree.{Expression, Expressions, and_expression, Variables, and_variable, Parts, and_part}
-use Rattle.ms_parse.specs.View.{Variable, Part, expressions_behind, variables_behind, parts_behind}
+use Rattle.ms_grammar.specs.Tree.{Expression, Expressions, and_expression, Variables, and_variable, Parts, and_part}
+use Rattle.ms_grammar.specs.View.{Variable, Part, expressions_behind, variables_behind, parts_behind}
 
 pub expressions_push : {X : Type 0} (f : X → Expression) (before : Expressions) (xs : List X) (x : X) → expressions_behind before (map f (xs ++ x ∷ [])) ≡ and_expression (expressions_behind before (map f xs)) (f x)
 expressions_push f before [] x = refl

@@ -10,13 +10,13 @@ use Rattle.ms_logic.specs.declared.mode.Rel.TheVariants.{Equal}
 use Rattle.ms_logic.specs.declared.source.Int.TheVariants.{Number, Constant}
 use Rattle.ms_logic.specs.declared.source.PlacedInt.{PlacedInt}
 use Rattle.ms_logic.specs.declared.source.Rename.{Rename}
-use Rattle.ms_parse.specs.Symbol.{Symbol, name, number, text, infix_operator, sign, quantifier, kind, predicate_word, default_word, word_where, word_const, word_include, word_ws1s, open_round, close_round, comma, colon, semicolon, arrow, Placed, placed}
-use Rattle.ms_parse.specs.Tree.{Relation}
-use Rattle.ms_parse.specs.Tree.{Variables, no_variables, and_variable, unrestricted, Parts}
-use Rattle.ms_parse.specs.Tree.{variables, constant, included, Document}
-use Rattle.ms_parse.specs.Grammar.{domain_bare_in, HaveGrammaticalDomains, AreOfOrder}
-use Rattle.ms_parse.specs.Reads.{Starts, Follows}
-use Rattle.ms_parse.specs.Declarations.{ReadsString, AreDomains, Reads}
+use Rattle.ms_grammar.specs.Symbol.{Symbol, name, number, text, infix_operator, sign, quantifier, kind, predicate_word, default_word, word_where, word_const, word_include, word_ws1s, open_round, close_round, comma, colon, semicolon, arrow, Placed, placed}
+use Rattle.ms_grammar.specs.Tree.{Relation}
+use Rattle.ms_grammar.specs.Tree.{Variables, no_variables, and_variable, unrestricted, Parts}
+use Rattle.ms_grammar.specs.Tree.{variables, constant, included, Document}
+use Rattle.ms_grammar.specs.Grammar.{domain_bare_in, HaveGrammaticalDomains, AreOfOrder}
+use Rattle.ms_grammar.specs.Reads.{Starts, Follows}
+use Rattle.ms_grammar.specs.Declarations.{ReadsString, AreDomains, Reads}
 use Rattle.ms_parse.specs.Machine.{Frame, domain_frame, body_frame, part_frame, Context, in_formula, State, outside, wanted, holding, variable_wanted, part_wanted, pair_wanted, global_wanted, parameter_wanted, summand_wanted, Next, need, in_part, Top, on_top, settle, ends, collapse, bound, behind_variable, next_variable, next_part, next_pair, behind_global, next_global, behind_parameter, next_parameter, next_summand, begin_constant, begin_predicate, begin_include, begin_default, begin_declaration, step, headed, start, finished, goes_on, run, Runs}
 use Rattle.ms_parse.proofs.Frames.{VariablesSoFar, InFrames, CollapsedTo, chosen, collapsed}
 use Rattle.ms_parse.proofs.Extensions.{variables_extended, ParametersSoFar, ParameterKind, parameters_extended, pairs_extended, sum_extended}

@@ -4,8 +4,8 @@ use Rattle.ms_parse.specs.declared.row.Row.{Row}
 use Rattle.ms_parse.specs.declared.row.Row.TheVariants as rows
 use Rattle.ms_parse.specs.Machine.{Frame, prefix_frame, left_frame, joined_frame, bracket_frame, list_frame, domain_frame, body_frame, part_frame, let_frame, Context, comma_at, colon_at, in_at}
 use Rattle.ms_parse.specs.Rows.{IsOther, IsRow}
-use Rattle.ms_parse.specs.Symbol.{Placed}
-use Rattle.ms_parse.specs.Tree.{Expression}
+use Rattle.ms_grammar.specs.Symbol.{Placed}
+use Rattle.ms_grammar.specs.Tree.{Expression}
 
 pub comma_at-other : (c : Context) (e : Expression) (f : Frame) (st : List Frame) (ts : List Placed) → IsOther f → comma_at c e (f ∷ st) ts ≡ None
 comma_at-other c e (prefix_frame at op) st ts is = refl

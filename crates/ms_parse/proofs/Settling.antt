@@ -5,13 +5,13 @@ use Rattle.ms_edge.specs.declared.at.At.{At}
 use Rattle.ms_logic.specs.declared.mode.Rel.TheVariants.{Equal, Differs, Less, AtMost, Greater, AtLeast, Member, NotMember, Sub}
 use Rattle.ms_logic.specs.declared.source.Int.TheVariants.{Number, Constant}
 use Rattle.ms_logic.specs.declared.source.PlacedInt.{PlacedInt}
-use Rattle.ms_parse.specs.Symbol.{Symbol, name, number, infix_operator, joining, sign, kind, predicate_word, default_word, close_round, close_curly, comma, colon, semicolon, Placed, placed}
-use Rattle.ms_parse.specs.Tree.{Binary, Implication, Equivalence, Relation, Union, Intersection, Difference, Junction, Conjunction, Disjunction, Literal, Call, enclosed, listed}
-use Rattle.ms_parse.specs.Tree.{Expression, shifted, Expressions, no_expressions, and_expression, Variables, and_variable, restricted, and_part}
-use Rattle.ms_parse.specs.Tree.{Declaration, variables, predicate, default_restriction, formula, Document}
-use Rattle.ms_parse.specs.Grammar.{binary_level, left_level, junction_level, level, ends_open, is_in, right_level, operand_level, has_bare_in, some_bare_in, domain_bare_in, IsExpression, depth}
-use Rattle.ms_parse.specs.Reads.{Starts, ReadsInt, place, FirstIsAt, ReadsExpression}
-use Rattle.ms_parse.specs.Declarations.{ReadsParameterList, ReadsDeclaration, BeginsAt, AreDomains, IsDeclaration}
+use Rattle.ms_grammar.specs.Symbol.{Symbol, name, number, infix_operator, joining, sign, kind, predicate_word, default_word, close_round, close_curly, comma, colon, semicolon, Placed, placed}
+use Rattle.ms_grammar.specs.Tree.{Binary, Implication, Equivalence, Relation, Union, Intersection, Difference, Junction, Conjunction, Disjunction, Literal, Call, enclosed, listed}
+use Rattle.ms_grammar.specs.Tree.{Expression, shifted, Expressions, no_expressions, and_expression, Variables, and_variable, restricted, and_part}
+use Rattle.ms_grammar.specs.Tree.{Declaration, variables, predicate, default_restriction, formula, Document}
+use Rattle.ms_grammar.specs.Grammar.{binary_level, left_level, junction_level, level, ends_open, is_in, right_level, operand_level, has_bare_in, some_bare_in, domain_bare_in, IsExpression, depth}
+use Rattle.ms_grammar.specs.Reads.{Starts, ReadsInt, place, FirstIsAt, ReadsExpression}
+use Rattle.ms_grammar.specs.Declarations.{ReadsParameterList, ReadsDeclaration, BeginsAt, AreDomains, IsDeclaration}
 use Rattle.ms_parse.specs.Machine.{Frame, prefix_frame, left_frame, joined_frame, bracket_frame, list_frame, domain_frame, body_frame, part_frame, let_frame, Context, in_formula, in_global, in_parameter, in_predicate, in_default, holding, need, enter, ends, bound, shift, join_new, join, shift_by, shift_int, declare, body_of, close_round_at, close_curly_at, comma_at, colon_at, in_at, semicolon_at, settle}
 use Rattle.ms_parse.proofs.Frames.{Held, both_false, Stands, Collapsed, chosen}
 use Rattle.ms_parse.proofs.Extensions.{entries_extended, variables_extended, parts_extended, parameters_extended, declarations_extended, all_declared}

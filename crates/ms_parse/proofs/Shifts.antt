@@ -3,12 +3,12 @@ use Rattle.std.proofs.Common.{◌≡◌, suc, ◌+◌, ◌<◌, ◌≤◌, leb, 
 use Rattle.std.proofs.lemmas.Bool.{le-leb, lt-leb}
 use Rattle.ms_logic.specs.declared.source.PlacedInt.{PlacedInt}
 use Rattle.ms_parse.specs.declared.frame.Frame.{Frame}
-use Rattle.ms_parse.specs.Grammar.{level, depth}
+use Rattle.ms_grammar.specs.Grammar.{level, depth}
 use Rattle.ms_parse.specs.Machine.{Context, Next, holding, shift_by}
-use Rattle.ms_parse.specs.Reads.{place}
+use Rattle.ms_grammar.specs.Reads.{place}
 use Rattle.ms_parse.specs.Stack.{stack_of}
-use Rattle.ms_parse.specs.Symbol.{Placed}
-use Rattle.ms_parse.specs.Tree.{Expression, shifted}
+use Rattle.ms_grammar.specs.Symbol.{Placed}
+use Rattle.ms_grammar.specs.Tree.{Expression, shifted}
 use Rattle.ms_parse.proofs.Stacks.{stack_length}
 
 and_none : (x : Next) (b : Bool) → cond (b && false) x None ≡ None

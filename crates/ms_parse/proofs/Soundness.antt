@@ -4,13 +4,13 @@ use Rattle.std.proofs.lemmas.Bool.{leb-true}
 use Rattle.ms_edge.specs.declared.at.At.{At}
 use Rattle.ms_logic.specs.declared.mode.Rel.TheVariants.{Equal}
 use Rattle.ms_logic.specs.declared.source.Int.TheVariants.{Number, Constant}
-use Rattle.ms_parse.specs.Symbol.{Symbol, name, number, text, prefix_operator, infix_operator, quantifier, let_word, kind, predicate_word, default_word, word_true, word_false, dollar, word_empty, word_pconst, word_import, word_export, word_restrict, word_where, word_const, open_round, close_round, open_curly, close_curly, comma, Placed, placed}
-use Rattle.ms_parse.specs.Tree.{Atom, truth, falsity, whole, empty_set, named, numeral, pconst, Negation, Minimum, Maximum, Implication, Equivalence, Relation, Union, Intersection, Difference, Conjunction, Disjunction, Parentheses, Emptiness, Restriction, Export, Listing, Literal, Call}
-use Rattle.ms_parse.specs.Tree.{atom, listed, no_expressions, no_variables, no_parts}
-use Rattle.ms_parse.specs.Tree.{Document}
-use Rattle.ms_parse.specs.Grammar.{ends_open, domain_bare_in, HaveGrammaticalDomains, HaveGrammaticalValues, AreOfOrder, prefix_level}
-use Rattle.ms_parse.specs.Reads.{Starts, Follows, ReadsPairs, ReadsAtom, ReadsListOpening, closing}
-use Rattle.ms_parse.specs.Declarations.{ReadsParameterList, ReadsSum, BeginsAt, ReadsDeclarations, ReadsHeader, AreDomains, AreDeclarations}
+use Rattle.ms_grammar.specs.Symbol.{Symbol, name, number, text, prefix_operator, infix_operator, quantifier, let_word, kind, predicate_word, default_word, word_true, word_false, dollar, word_empty, word_pconst, word_import, word_export, word_restrict, word_where, word_const, open_round, close_round, open_curly, close_curly, comma, Placed, placed}
+use Rattle.ms_grammar.specs.Tree.{Atom, truth, falsity, whole, empty_set, named, numeral, pconst, Negation, Minimum, Maximum, Implication, Equivalence, Relation, Union, Intersection, Difference, Conjunction, Disjunction, Parentheses, Emptiness, Restriction, Export, Listing, Literal, Call}
+use Rattle.ms_grammar.specs.Tree.{atom, listed, no_expressions, no_variables, no_parts}
+use Rattle.ms_grammar.specs.Tree.{Document}
+use Rattle.ms_grammar.specs.Grammar.{ends_open, domain_bare_in, HaveGrammaticalDomains, HaveGrammaticalValues, AreOfOrder, prefix_level}
+use Rattle.ms_grammar.specs.Reads.{Starts, Follows, ReadsPairs, ReadsAtom, ReadsListOpening, closing}
+use Rattle.ms_grammar.specs.Declarations.{ReadsParameterList, ReadsSum, BeginsAt, ReadsDeclarations, ReadsHeader, AreDomains, AreDeclarations}
 use Rattle.ms_parse.specs.Machine.{Frame, prefix_frame, left_frame, joined_frame, bracket_frame, list_frame, domain_frame, body_frame, part_frame, let_frame, Context, in_formula, in_global, in_parameter, in_predicate, in_default, State, outside, wanted, holding, variable_wanted, part_wanted, pair_wanted, global_wanted, parameter_wanted, summand_wanted, Next, need, in_part, frame_depth, enter, begin_name, begin_empty, begin_literal, begin_pconst, begin_import, begin_restrict, begin_export, begin}
 use Rattle.ms_parse.proofs.Frames.{VariablesSoFar, PartsSoFar, FrameReads, FrameGood, InFrames, Held, chosen}
 use Rattle.ms_parse.proofs.Extensions.{ParametersSoFar, ParameterKind}

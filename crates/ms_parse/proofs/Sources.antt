@@ -8,12 +8,12 @@ use Rattle.ms_logic.specs.declared.mode.Rel.TheVariants.{Equal}
 use Rattle.ms_logic.specs.declared.source.Int.{Int}
 use Rattle.ms_logic.specs.declared.source.Int.TheVariants.{Number, Constant}
 use Rattle.ms_logic.specs.declared.source.PlacedInt.{PlacedInt}
-use Rattle.ms_parse.specs.Symbol.{Symbol, name, text, infix_operator, sign, kind, predicate_word, default_word, word_where, word_const, word_include, open_round, close_round, comma, semicolon, Placed, placed}
-use Rattle.ms_parse.specs.Tree.{Relation, Expression, Variables, no_variables, and_variable, Domain, unrestricted, restricted}
-use Rattle.ms_parse.specs.Tree.{Declaration, variables, constant, predicate, included, default_restriction, formula, Declared, Document}
-use Rattle.ms_parse.specs.Grammar.{IsExpression, AreOfOrder}
-use Rattle.ms_parse.specs.Reads.{int_symbol, Starts, Follows, ReadsExpression, ReadsDomain, ReadsVariables}
-use Rattle.ms_parse.specs.Declarations.{ReadsParameters, ReadsParameterList, ReadsFurther, ReadsDeclaration, BeginsAt, ReadsDeclarations, AreDomains, IsDeclaration, AreDeclarations}
+use Rattle.ms_grammar.specs.Symbol.{Symbol, name, text, infix_operator, sign, kind, predicate_word, default_word, word_where, word_const, word_include, open_round, close_round, comma, semicolon, Placed, placed}
+use Rattle.ms_grammar.specs.Tree.{Relation, Expression, Variables, no_variables, and_variable, Domain, unrestricted, restricted}
+use Rattle.ms_grammar.specs.Tree.{Declaration, variables, constant, predicate, included, default_restriction, formula, Declared, Document}
+use Rattle.ms_grammar.specs.Grammar.{IsExpression, AreOfOrder}
+use Rattle.ms_grammar.specs.Reads.{int_symbol, Starts, Follows, ReadsExpression, ReadsDomain, ReadsVariables}
+use Rattle.ms_grammar.specs.Declarations.{ReadsParameters, ReadsParameterList, ReadsFurther, ReadsDeclaration, BeginsAt, ReadsDeclarations, AreDomains, IsDeclaration, AreDeclarations}
 use Rattle.ms_parse.specs.Machine.{Context, in_formula, in_global, in_parameter, in_predicate, in_default, outside, wanted, holding, global_wanted, parameter_wanted, summand_wanted, Next, declare, body_of, behind_parameter, step, finished, goes_on, run, Runs}
 use Rattle.ms_parse.proofs.Levels.{yields-zero}
 use Rattle.ms_parse.proofs.Moves.{starter, begins}

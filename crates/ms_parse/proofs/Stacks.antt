@@ -1,5 +1,5 @@
 -- The stack of the code with one more frame.
-use Rattle.ms_parse.specs.Symbol.{Placed}
+use Rattle.ms_grammar.specs.Symbol.{Placed}
 use Rattle.std.proofs.lemmas.Bool.{le-leb, lt-leb}
 use Rattle.std.proofs.Common.{◌≡◌, ℕ, ◌+◌, List, [], ◌∷◌, ◌++◌, length, Option, Some, None, refl, sym, ap, ◌∙◌, arith, suc, max, ◌<◌, ◌≤◌, cond, take, get_or}
 use Rattle.std.proofs.lemmas.List.{take_more}

@@ -2,10 +2,10 @@
 use Rattle.std.proofs.Common.{◌≡◌, zero, suc, ◌+◌, ◌≤◌, max, true, cond, List, ◌∷◌, length, Some, None, sym, ap, ◌∙◌, arith, leb}
 use Rattle.std.proofs.lemmas.Bool.{le-leb}
 use Rattle.ms_edge.specs.declared.at.At.{At}
-use Rattle.ms_parse.specs.Symbol.{Symbol, Placed, placed}
-use Rattle.ms_parse.specs.Tree.{Expression, Document}
-use Rattle.ms_parse.specs.Reads.{Starts}
-use Rattle.ms_parse.specs.Grammar.{depth}
+use Rattle.ms_grammar.specs.Symbol.{Symbol, Placed, placed}
+use Rattle.ms_grammar.specs.Tree.{Expression, Document}
+use Rattle.ms_grammar.specs.Reads.{Starts}
+use Rattle.ms_grammar.specs.Grammar.{depth}
 use Rattle.ms_parse.specs.Machine.{Frame, Context, State, holding, wanted, Next, in_part, frame_depth, enter, ends, completed, collapse, on_top, bound, settle, step, goes_on, run, Runs}
 
 pub by_step : (s : State) (from ts : List Placed) (s' : State) (ts' : List Placed) (d : Document) → from ≡ ts → step s ts ≡ Some (s', ts') → Runs s' ts' d → Runs s from d

@@ -7,7 +7,7 @@ use Rattle.ms_text.specs.declared.token.Token.{Token}
 use Rattle.ms_text.specs.Spelling.{quoted, Spells, IsAccepted}
 use Rattle.ms_text.specs.TokenList.{Lexed, BeginsWith, IsTokenList, slice_of, place_behind}
 use Rattle.ms_text.proofs.Lists.{next_before}
-use Rattle.ms_parse.specs.Symbol.{text, symbol_of, between_quotes}
+use Rattle.ms_grammar.specs.Symbol.{text, symbol_of, between_quotes}
 use Rattle.ms_parse.proofs.Inputs.{of_token}
 
 first_cut : (before bytes : List ℕ) (token : Token) (rest : List ℕ) → BeginsWith (length before) bytes token rest → IsAccepted token.kind (slice_range (before ++ bytes) token.place (place_behind token))

@@ -1,9 +1,9 @@
 -- What the automaton reads, or does not, by computation.
 use Rattle.std.proofs.Common.{◌≡◌, ℕ, zero, suc, Bool, true, false, List, Option, Some, None, refl, sym, ap, ◌∙◌}
 use Rattle.std.proofs.lemmas.Bool.{false≢true}
-use Rattle.ms_parse.specs.Symbol.{Placed}
-use Rattle.ms_parse.specs.Tree.{Document}
-use Rattle.ms_parse.specs.Declarations.{Reads}
+use Rattle.ms_grammar.specs.Symbol.{Placed}
+use Rattle.ms_grammar.specs.Tree.{Document}
+use Rattle.ms_grammar.specs.Declarations.{Reads}
 use Rattle.ms_parse.specs.Machine.{State, outside, Next, start, step, finished, goes_on, run, Runs}
 use Rattle.ms_parse.proofs.Headers.{document_read}
 use Rattle.ms_parse.proofs.Runs.{runs_read}

@@ -4,8 +4,8 @@ use Rattle.ms_edge.specs.declared.at.At.{At}
 use Rattle.ms_logic.specs.declared.mode.Order.{Order}
 use Rattle.ms_logic.specs.declared.mode.Quant.{Quant}
 use Rattle.ms_parse.specs.Machine.{Frame, Context, behind_variable, next_variable}
-use Rattle.ms_parse.specs.Symbol.{Symbol, Placed, placed, name}
-use Rattle.ms_parse.specs.Tree.{Variables}
+use Rattle.ms_grammar.specs.Symbol.{Symbol, Placed, placed, name}
+use Rattle.ms_grammar.specs.Tree.{Variables}
 
 pub variable_read : (c : Context) (st : List Frame) (at : At) (q : Quant) (o : Order) (vs : Variables) (n : List ℕ) (at_v a : At) (s : Symbol) (ts g g' h h' : List Placed) → ts ≡ placed (name n) at_v ∷ g → g ≡ g' → g' ≡ placed s a ∷ h → h ≡ h'
     → next_variable c st at q o vs ts ≡ behind_variable c st at q o vs at_v n s h'

@@ -1,14 +1,8 @@
-pub mod Declarations
 pub mod Examples
-pub mod Grammar
 pub mod Machine
 pub mod Opened
 pub mod Outcomes
 pub mod Punctuations
-pub mod Reads
 pub mod Rows
 pub mod Signs
 pub mod Stack
-pub mod Symbol
-pub mod Tree
-pub mod View

@@ -1,7 +1,7 @@
 -- The frames that the code keeps, as frames of the automaton.
 use Rattle.ms_parse.specs.declared.opened.Opened.{Opened}
 use Rattle.ms_parse.specs.declared.opened.Opened.TheVariants as opened
-use Rattle.ms_parse.specs.View.{expression_of, expressions_of, variables_of, parts_of}
+use Rattle.ms_grammar.specs.View.{expression_of, expressions_of, variables_of, parts_of}
 use Rattle.ms_parse.specs.Machine.{Frame, prefix_frame, left_frame, joined_frame, bracket_frame, list_frame, domain_frame, body_frame, part_frame, let_frame}
 
 abbrev pub frame_of : Opened → Frame

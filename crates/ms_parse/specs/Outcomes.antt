@@ -9,7 +9,7 @@ use Rattle.ms_parse.specs.declared.stop.Stop.TheVariants.{Memory, Refused}
 use Rattle.ms_parse.specs.Machine as machine
 use Rattle.ms_parse.specs.Signs.{behind}
 use Rattle.ms_parse.specs.Stack.{stack_of}
-use Rattle.ms_parse.specs.View.{expression_of, variables_of, parts_of}
+use Rattle.ms_grammar.specs.View.{expression_of, variables_of, parts_of}
 
 abbrev pub outcome_of : machine.Context → List machine.Frame → Outcome → machine.State
 outcome_of c st outcomes.Wanted = machine.wanted c st

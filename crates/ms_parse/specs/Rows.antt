@@ -3,7 +3,7 @@ use Rattle.std.specs.Prelude.{◌≡◌}
 use Rattle.ms_parse.specs.declared.row.Row.{Row}
 use Rattle.ms_parse.specs.declared.row.Row.TheVariants as rows
 use Rattle.ms_parse.specs.Machine.{Frame, list_frame, domain_frame, part_frame}
-use Rattle.ms_parse.specs.View.{expressions_of, variables_of, parts_of}
+use Rattle.ms_grammar.specs.View.{expressions_of, variables_of, parts_of}
 
 abbrev pub IsOther : Frame → Type 0
 IsOther (list_frame at l es) = ⊥

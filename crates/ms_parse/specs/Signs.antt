@@ -6,7 +6,7 @@ use Rattle.ms_text.specs.declared.token.Kind.TheVariants as kinds
 use Rattle.ms_text.specs.TokenList.{Lexed}
 use Rattle.ms_parse.specs.declared.sign.Sign.{Sign}
 use Rattle.ms_parse.specs.declared.sign.Sign.TheVariants as signs
-use Rattle.ms_parse.specs.Symbol.{Symbol, name, number, text, left_out, prefix_operator, infix_operator, joining, sign, quantifier, let_word, kind, predicate_word, default_word, word_true, word_false, dollar, word_empty, word_pconst, word_import, word_export, word_restrict, word_where, word_const, word_include, word_ws1s, open_round, close_round, open_curly, close_curly, comma, colon, semicolon, arrow, between_quotes, Placed, placed, symbols}
+use Rattle.ms_grammar.specs.Symbol.{Symbol, name, number, text, left_out, prefix_operator, infix_operator, joining, sign, quantifier, let_word, kind, predicate_word, default_word, word_true, word_false, dollar, word_empty, word_pconst, word_import, word_export, word_restrict, word_where, word_const, word_include, word_ws1s, open_round, close_round, open_curly, close_curly, comma, colon, semicolon, arrow, between_quotes, Placed, placed, symbols}
 
 -- the symbol with these bytes, where it has bytes
 abbrev pub symbol_with : Sign → List ℕ → Symbol

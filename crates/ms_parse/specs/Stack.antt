@@ -5,11 +5,11 @@ use Rattle.ms_parse.specs.declared.frame.Frame.{Frame}
 use Rattle.ms_parse.specs.declared.operand.Operand.{Operand}
 use Rattle.ms_parse.specs.declared.stop.Stop.{Stop}
 use Rattle.ms_parse.specs.declared.stop.Stop.TheVariants.{Memory, Refused}
-use Rattle.ms_parse.specs.Grammar.{depth}
+use Rattle.ms_grammar.specs.Grammar.{depth}
 use Rattle.ms_parse.specs.Machine as machine
 use Rattle.ms_parse.specs.Opened.{frame_of}
-use Rattle.ms_parse.specs.Tree.{Expression}
-use Rattle.ms_parse.specs.View.{expression_of}
+use Rattle.ms_grammar.specs.Tree.{Expression}
+use Rattle.ms_grammar.specs.View.{expression_of}
 
 abbrev pub stack_on : List machine.Frame → List Frame → List machine.Frame
 stack_on below [] = below

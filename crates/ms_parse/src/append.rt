@@ -1,6 +1,6 @@
 ghost use Rattle.std.specs.Prelude.{◌≡◌, IfOk, IfErr};
-ghost use Rattle.ms_parse.specs.Tree.{and_expression, and_variable, and_part, restricted};
-ghost use Rattle.ms_parse.specs.View.{expression_of, expressions_of, variables_of, parts_of};
+ghost use Rattle.ms_grammar.specs.Tree.{and_expression, and_variable, and_part, restricted};
+ghost use Rattle.ms_grammar.specs.View.{expression_of, expressions_of, variables_of, parts_of};
 ghost use Rattle.ms_parse.specs.declared.stop.Stop.TheVariants.{Memory};
 
 use crate::lists::{push_expression, push_part, push_restricted};

@@ -1,11 +1,11 @@
 ghost use Rattle.std.specs.Prelude.{◌≡◌, ◌≤◌, ◌<◌, ℕ, List, length};
-ghost use Rattle.ms_parse.specs.Grammar.{depth};
+ghost use Rattle.ms_grammar.specs.Grammar.{depth};
 ghost use Rattle.ms_parse.specs.Machine.{Context, begin_name, begin_empty, begin_literal, begin_restrict, begin_export, begin_import, begin_pconst};
 ghost use Rattle.ms_parse.specs.Outcomes.{Took};
-ghost use Rattle.ms_parse.specs.Reads.{place};
+ghost use Rattle.ms_grammar.specs.Reads.{place};
 ghost use Rattle.ms_parse.specs.Signs.{behind};
 ghost use Rattle.ms_parse.specs.Stack.{stack_of};
-ghost use Rattle.ms_parse.specs.View.{form_of};
+ghost use Rattle.ms_grammar.specs.View.{form_of};
 
 use crate::complete::finish;
 use crate::enter::enter;
@@ -14,11 +14,11 @@ use crate::frame::Frame;
 use crate::input::text_at;
 use crate::int::int_at;
 use crate::opened::Opened;
-use crate::operator::{Bracket, Listing};
 use crate::outcome::Outcome;
 use crate::punctuation::{Punctuation, behind_mark};
 use crate::stop::Stop;
 use ms_edge::{At, List, Name};
+use ms_grammar::{Bracket, Listing};
 use ms_logic::Form;
 use ms_text::Tokens;
 use std::alloc::Global;

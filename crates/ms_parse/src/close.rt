@@ -5,7 +5,7 @@ ghost use Rattle.ms_parse.specs.Opened.{frame_of};
 ghost use Rattle.ms_parse.specs.Outcomes.{Took};
 ghost use Rattle.ms_parse.specs.Signs.{behind};
 ghost use Rattle.ms_parse.specs.Stack.{stack_of};
-ghost use Rattle.ms_parse.specs.View.{expression_of};
+ghost use Rattle.ms_grammar.specs.View.{expression_of};
 ghost use Rattle.ms_parse.specs.declared.frame.Frame.{Frame};
 
 use crate::complete::finish;
@@ -14,9 +14,9 @@ use crate::frame::Frame;
 use crate::lists::push_expression;
 use crate::opened::Opened;
 use crate::operand::Operand;
-use crate::operator::Listing;
 use crate::outcome::Outcome;
 use crate::stop::Stop;
+use ms_grammar::Listing;
 use std::alloc::Global;
 
 /// `}` behind an expression, in a frame.

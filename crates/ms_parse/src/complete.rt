@@ -1,11 +1,11 @@
 ghost use Rattle.std.specs.Prelude.{◌≡◌, ◌≤◌, ◌<◌, ◌+◌, ◌↔◌, ℕ, max, IfOk, IfErr, IsTrue};
-ghost use Rattle.ms_parse.specs.Grammar.{depth, depth_of_all, depth_of_domains, depth_of_values, operand_level, right_level, junction_level};
+ghost use Rattle.ms_grammar.specs.Grammar.{depth, depth_of_all, depth_of_domains, depth_of_values, operand_level, right_level, junction_level};
 ghost use Rattle.ms_parse.specs.Machine.{completed, ends};
 ghost use Rattle.ms_parse.specs.Opened.{frame_of};
-ghost use Rattle.ms_parse.specs.Reads.{place};
+ghost use Rattle.ms_grammar.specs.Reads.{place};
 ghost use Rattle.ms_parse.specs.Stack.{IsTooDeep};
-ghost use Rattle.ms_parse.specs.Tree.{prefixed, binary, joined, quantified, let_in, and_expression};
-ghost use Rattle.ms_parse.specs.View.{expression_of, form_of, expressions_of, variables_of, parts_of};
+ghost use Rattle.ms_grammar.specs.Tree.{prefixed, binary, joined, quantified, let_in, and_expression};
+ghost use Rattle.ms_grammar.specs.View.{expression_of, form_of, expressions_of, variables_of, parts_of};
 
 use crate::form::{infixed, joined, placed, prefixed};
 use crate::frame::Frame;
@@ -13,9 +13,9 @@ use crate::lists::push_expression;
 use crate::memory::boxed;
 use crate::opened::Opened;
 use crate::operand::{GREATEST_DEPTH, Operand};
-use crate::operator::{Binary, Junction, Prefix};
 use crate::stop::Stop;
 use ms_edge::{At, List};
+use ms_grammar::{Binary, Junction, Prefix};
 use ms_logic::{Bound, Expr, Form, LetPart, Order, Quant};
 use std::alloc::Global;
 

@@ -1,20 +1,20 @@
 ghost use Rattle.std.specs.Prelude.{◌≡◌, ◌+◌, ℕ, List, length, vec_len};
 ghost use Rattle.ms_text.specs.TokenList.{Lexed};
 ghost use Rattle.ms_parse.specs.Machine.{Context, enter, need, in_part};
-ghost use Rattle.ms_parse.specs.Grammar.{level};
+ghost use Rattle.ms_grammar.specs.Grammar.{level};
 ghost use Rattle.ms_parse.specs.Opened.{frame_of};
 ghost use Rattle.ms_parse.specs.Outcomes.{Took};
 ghost use Rattle.ms_parse.specs.Signs.{behind};
 ghost use Rattle.ms_parse.specs.Stack.{stack_of};
-ghost use Rattle.ms_parse.specs.View.{expression_of};
+ghost use Rattle.ms_grammar.specs.View.{expression_of};
 
 use crate::frame::Frame;
 use crate::opened::Opened;
 use crate::operand::GREATEST_DEPTH;
-use crate::operator::{Binary, Junction, Prefix};
 use crate::outcome::Outcome;
 use crate::stack::push_frame;
 use crate::stop::Stop;
+use ms_grammar::{Binary, Junction, Prefix};
 use ms_logic::{Expr, Form};
 
 /// Puts a frame on the stack, where the depth leaves room for an expression in it.

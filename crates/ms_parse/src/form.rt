@@ -1,13 +1,13 @@
 ghost use Rattle.std.specs.Prelude.{◌≡◌, IfOk, IfErr};
 ghost use Rattle.ms_edge.specs.declared.at.At.{At};
-ghost use Rattle.ms_parse.specs.Tree.{prefixed, binary, joined, enclosed, listed};
-ghost use Rattle.ms_parse.specs.View.{expression_of, expressions_of, form_of};
+ghost use Rattle.ms_grammar.specs.Tree.{prefixed, binary, joined, enclosed, listed};
+ghost use Rattle.ms_grammar.specs.View.{expression_of, expressions_of, form_of};
 ghost use Rattle.ms_parse.specs.declared.stop.Stop.TheVariants.{Memory};
 
 use crate::memory::boxed;
-use crate::operator::{Binary, Bracket, Junction, Listing, Prefix};
 use crate::stop::Stop;
 use ms_edge::{At, List};
+use ms_grammar::{Binary, Bracket, Junction, Listing, Prefix};
 use ms_logic::{Expr, Form};
 use std::alloc::Global;
 

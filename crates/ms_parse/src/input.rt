@@ -1,6 +1,6 @@
 ghost use Rattle.std.specs.Prelude.{◌≡◌, ◌<◌, ◌↔◌, ℕ, List, [], length, IfSome, IfNone, IfOk, IsTrue};
 ghost use Rattle.ms_parse.specs.Signs.{symbol_with, behind, IsNext, NoName, NoText};
-ghost use Rattle.ms_parse.specs.Symbol.{name, text, between_quotes};
+ghost use Rattle.ms_grammar.specs.Symbol.{name, text, between_quotes};
 
 use crate::sign::{Sign, sign_of};
 use ms_edge::{At, Name, NoMemory, Text};

@@ -1,5 +1,5 @@
 ghost use Rattle.std.specs.Prelude.{◌≡◌, true, IfOk, IfSome, IfNone};
-ghost use Rattle.ms_parse.specs.Reads.{int_symbol, Starts};
+ghost use Rattle.ms_grammar.specs.Reads.{int_symbol, Starts};
 ghost use Rattle.ms_parse.specs.Signs.{behind, NoInt};
 
 use crate::input::{name_at, sign_at};

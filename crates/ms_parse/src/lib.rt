@@ -18,7 +18,6 @@ mod memory;
 mod names;
 mod opened;
 mod operand;
-mod operator;
 mod outcome;
 mod punctuation;
 mod row;

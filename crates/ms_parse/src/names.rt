@@ -3,7 +3,7 @@ ghost use Rattle.ms_parse.specs.Machine.{Context, behind_variable, next_variable
 ghost use Rattle.ms_parse.specs.Outcomes.{Took};
 ghost use Rattle.ms_parse.specs.Signs.{symbol_with, behind};
 ghost use Rattle.ms_parse.specs.Stack.{stack_of};
-ghost use Rattle.ms_parse.specs.View.{variables_of, parts_of};
+ghost use Rattle.ms_grammar.specs.View.{variables_of, parts_of};
 ghost use Rattle.ms_text.specs.TokenList.{Lexed};
 
 use crate::complete::finish;

@@ -1,6 +1,6 @@
 use crate::operand::Operand;
-use crate::operator::{Binary, Bracket, Junction, Listing, Prefix};
 use ms_edge::{At, List, Name};
+use ms_grammar::{Binary, Bracket, Junction, Listing, Prefix};
 use ms_logic::{Bound, Expr, LetPart, Order, Quant};
 
 /// An expression that has been begun, up to the part that follows.

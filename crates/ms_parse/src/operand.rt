@@ -1,7 +1,7 @@
 ghost use Rattle.std.specs.Prelude.{◌≡◌, ◌≤◌};
-ghost use Rattle.ms_parse.specs.Grammar.{depth, depth_of_all, depth_of_domains, depth_of_values};
-ghost use Rattle.ms_parse.specs.Reads.{place};
-ghost use Rattle.ms_parse.specs.View.{expression_of, expressions_of, variables_of, parts_of};
+ghost use Rattle.ms_grammar.specs.Grammar.{depth, depth_of_all, depth_of_domains, depth_of_values};
+ghost use Rattle.ms_grammar.specs.Reads.{place};
+ghost use Rattle.ms_grammar.specs.View.{expression_of, expressions_of, variables_of, parts_of};
 
 use ms_edge::{At, List};
 use ms_logic::{Bound, Expr, LetPart};

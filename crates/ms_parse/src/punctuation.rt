@@ -1,11 +1,11 @@
 ghost use Rattle.std.specs.Prelude.{◌≡◌, ◌≢◌, ℕ, List, false, IsTrue, IfSome, IfNone};
 ghost use Rattle.ms_parse.specs.Punctuations.{punctuation, IsNot};
-ghost use Rattle.ms_parse.specs.Reads.{Follows};
+ghost use Rattle.ms_grammar.specs.Reads.{Follows};
 ghost use Rattle.ms_parse.specs.Signs.{symbol_with, behind};
 
 use crate::input::sign_at;
-use crate::operator::Binary;
 use crate::sign::Sign;
+use ms_grammar::Binary;
 use ms_logic::Rel;
 use ms_text::Tokens;
 

@@ -4,8 +4,8 @@ ghost use Rattle.ms_parse.specs.Rows.{IsRow};
 use crate::frame::Frame;
 use crate::opened::Opened;
 use crate::operand::{Bounds, Operands, Parts};
-use crate::operator::Listing;
 use ms_edge::{At, Name};
+use ms_grammar::Listing;
 use ms_logic::{Order, Quant};
 
 /// Parts that marks separate, in which a comma, a colon or `in` may stand.

@@ -6,8 +6,8 @@ ghost use Rattle.ms_parse.specs.Outcomes.{Took};
 ghost use Rattle.ms_parse.specs.Rows.{IsRow};
 ghost use Rattle.ms_parse.specs.Signs.{behind};
 ghost use Rattle.ms_parse.specs.Stack.{stack_of};
-ghost use Rattle.ms_parse.specs.Tree.{and_expression, and_variable, and_part, restricted};
-ghost use Rattle.ms_parse.specs.View.{expression_of, expressions_of, variables_of, parts_of};
+ghost use Rattle.ms_grammar.specs.Tree.{and_expression, and_variable, and_part, restricted};
+ghost use Rattle.ms_grammar.specs.View.{expression_of, expressions_of, variables_of, parts_of};
 ghost use Rattle.ms_parse.specs.declared.frame.Frame.{Frame};
 
 use crate::append::{with_expression, with_part, with_restricted};
@@ -15,11 +15,11 @@ use crate::enter::enter;
 use crate::frame::Frame;
 use crate::opened::Opened;
 use crate::operand::{Bounds, Operand, Operands, Parts};
-use crate::operator::Listing;
 use crate::outcome::Outcome;
 use crate::row::Row;
 use crate::stop::Stop;
 use ms_edge::{At, Name};
+use ms_grammar::Listing;
 use ms_logic::{Order, Quant};
 use std::alloc::Global;
 

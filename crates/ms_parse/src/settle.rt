@@ -1,11 +1,11 @@
 ghost use Rattle.std.specs.Prelude.{◌≡◌, ◌≤◌, ◌<◌, ◌+◌, ◌⊎◌, ℕ, suc, false, List, length, IsTrue};
 ghost use Rattle.ms_text.specs.TokenList.{Lexed};
-ghost use Rattle.ms_parse.specs.Grammar.{left_level, junction_level, level, depth};
+ghost use Rattle.ms_grammar.specs.Grammar.{left_level, junction_level, level, depth};
 ghost use Rattle.ms_parse.specs.Machine.{Context, shift, join_new, shift_by};
 ghost use Rattle.ms_parse.specs.Outcomes.{Took};
 ghost use Rattle.ms_parse.specs.Signs.{behind};
 ghost use Rattle.ms_parse.specs.Stack.{stack_of};
-ghost use Rattle.ms_parse.specs.View.{expression_of};
+ghost use Rattle.ms_grammar.specs.View.{expression_of};
 
 use crate::complete::finish;
 use crate::enter::{enter, level};
@@ -14,10 +14,10 @@ use crate::lists::push_expression;
 use crate::memory::boxed;
 use crate::opened::Opened;
 use crate::operand::{GREATEST_DEPTH, Operand};
-use crate::operator::{Binary, Junction};
 use crate::outcome::Outcome;
 use crate::stop::Stop;
 use ms_edge::List;
+use ms_grammar::{Binary, Junction};
 use ms_logic::{Form, PlacedInt};
 use std::alloc::Global;
 

@@ -1,8 +1,8 @@
 ghost use Rattle.std.specs.Prelude.{◌≡◌, ℕ, List};
 ghost use Rattle.ms_parse.specs.Signs.{symbol_with, content};
-ghost use Rattle.ms_parse.specs.Symbol.{symbol_of, word_symbol, mark_symbol};
+ghost use Rattle.ms_grammar.specs.Symbol.{symbol_of, word_symbol, mark_symbol};
 
-use crate::operator::{Binary, Junction, Prefix};
+use ms_grammar::{Binary, Junction, Prefix};
 use ms_logic::{Order, Quant, Rel};
 use ms_text::{Keyword, Kind, Mark};
 

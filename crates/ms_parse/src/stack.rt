@@ -2,15 +2,15 @@ ghost use Rattle.std.specs.Prelude.{◌≡◌, ◌+◌, ◌≤◌, ◌++◌, ◌
 ghost use Rattle.ms_parse.specs.Machine.{need, in_part, collapse};
 ghost use Rattle.ms_parse.specs.Opened.{frame_of};
 ghost use Rattle.ms_parse.specs.Stack.{stack_of, CollapsesTo};
-ghost use Rattle.ms_parse.specs.View.{expression_of};
+ghost use Rattle.ms_grammar.specs.View.{expression_of};
 ghost use Rattle.ms_parse.specs.declared.stop.Stop.TheVariants.{Memory};
 
 use crate::complete::{complete, ends};
 use crate::frame::Frame;
 use crate::opened::Opened;
 use crate::operand::Operand;
-use crate::operator::{Binary, Junction, Prefix};
 use crate::stop::Stop;
+use ms_grammar::{Binary, Junction, Prefix};
 use std::alloc::Global;
 
 fn push_item<T: Drop>(items: &mut Vec<T>, item: T) -> Result<(), Stop>

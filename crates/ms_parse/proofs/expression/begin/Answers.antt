@@ -2,7 +2,7 @@ use Rattle.std.proofs.Common.{rules, ◌≡◌, ℕ, List, suc, ◌+◌, ap, ari
 use Rattle.ms_parse.specs.Machine.{wanted, begin, begin_name, step}
 use Rattle.ms_parse.specs.Signs.{symbol_with, behind, IsNext, NoName}
 use Rattle.ms_parse.specs.Stack.{stack_of}
-use Rattle.ms_parse.specs.Symbol.{name}
+use Rattle.ms_grammar.specs.Symbol.{name}
 use Rattle.ms_parse.proofs.Begins.{as_taken}
 use Rattle.ms_parse.proofs.Expressions.{named_begun, sign_begun, no_name_sign}
 use Rattle.ms_parse.proofs.expression.begin.Goals as goal

@@ -1,9 +1,9 @@
 use Rattle.std.proofs.Common.{◌≡◌, ◌≤◌, ap, ◌∙◌, arith}
-use Rattle.ms_parse.specs.Grammar.{prefix_level}
+use Rattle.ms_grammar.specs.Grammar.{prefix_level}
 use Rattle.ms_parse.specs.Machine.{prefix_frame, enter, begin, need}
 use Rattle.ms_parse.specs.Signs.{behind}
 use Rattle.ms_parse.specs.Stack.{stack_of}
-use Rattle.ms_parse.specs.Symbol.{prefix_operator}
+use Rattle.ms_grammar.specs.Symbol.{prefix_operator}
 use Rattle.ms_parse.proofs.Begins.{as_taken}
 use Rattle.ms_parse.proofs.Expressions.{prefix_entered}
 use Rattle.ms_parse.proofs.expression.begin_prefix.Goals as goal

@@ -4,10 +4,10 @@ use Rattle.ms_parse.specs.Machine.{begin, holding}
 use Rattle.ms_parse.specs.Signs.{symbol_with, behind}
 use Rattle.ms_parse.specs.Stack.{stack_of}
 use Rattle.ms_logic.specs.declared.source.Form.TheVariants as forms
-use Rattle.ms_parse.specs.View.{form_of}
+use Rattle.ms_grammar.specs.View.{form_of}
 use Rattle.ms_parse.proofs.Begins.{as_taken}
 use Rattle.ms_parse.proofs.Expressions.{begun, begun_on}
-use Rattle.ms_parse.proofs.Views.{form_of-True, form_of-False, form_of-Whole, form_of-Number}
+use Rattle.ms_grammar.proofs.Views.{form_of-True, form_of-False, form_of-Whole, form_of-Number}
 use Rattle.ms_parse.proofs.expression.begin_sign.Goals as goal
 
 pub returns-in-True : goal.returns-in-True

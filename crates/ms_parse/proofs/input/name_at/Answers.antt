@@ -1,6 +1,6 @@
 use Rattle.std.proofs.Common.{◌≡◌, true, ◌∙◌}
 use Rattle.ms_parse.proofs.Inputs.{no_name, sign_next, token_is_utf8, name_symbol}
-use Rattle.ms_parse.specs.Symbol.{name}
+use Rattle.ms_grammar.specs.Symbol.{name}
 use Rattle.ms_parse.proofs.input.name_at.Goals as goal
 
 pub returns-then-not-is_name-clause-other : goal.returns-then-not-is_name-clause-other

@@ -1,7 +1,7 @@
 use Rattle.std.proofs.Common.{◌≡◌, true, ◌∙◌}
 use Rattle.ms_parse.proofs.Inputs.{no_text, sign_next}
 use Rattle.ms_parse.proofs.Texts.{text_is_utf8, text_symbol}
-use Rattle.ms_parse.specs.Symbol.{text}
+use Rattle.ms_grammar.specs.Symbol.{text}
 use Rattle.ms_parse.proofs.input.text_at.Goals as goal
 
 pub returns-then-not-is_text-clause-other : goal.returns-then-not-is_text-clause-other

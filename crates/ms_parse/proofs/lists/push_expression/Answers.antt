@@ -1,6 +1,6 @@
 use Rattle.std.proofs.Common.{◌≡◌, ◌++◌, ◌∷◌, [], ap, ◌∙◌}
-use Rattle.ms_parse.specs.Tree.{no_expressions, and_expression}
-use Rattle.ms_parse.specs.View.{expression_of, expressions_of}
+use Rattle.ms_grammar.specs.Tree.{no_expressions, and_expression}
+use Rattle.ms_grammar.specs.View.{expression_of, expressions_of}
 use Rattle.ms_parse.proofs.Pushes.{on_ok, expressions_push}
 use Rattle.ms_parse.proofs.lists.push_expression.Goals as goal
 

@@ -1,6 +1,6 @@
 use Rattle.std.proofs.Common.{◌≡◌, ◌++◌, ◌∷◌, [], ap, ◌∙◌}
-use Rattle.ms_parse.specs.Tree.{no_parts, and_part}
-use Rattle.ms_parse.specs.View.{Part, expression_of, parts_of, part_of}
+use Rattle.ms_grammar.specs.Tree.{no_parts, and_part}
+use Rattle.ms_grammar.specs.View.{Part, expression_of, parts_of, part_of}
 use Rattle.ms_parse.proofs.Pushes.{on_ok, parts_push}
 use Rattle.ms_parse.proofs.lists.push_part.Goals as goal
 

@@ -1,6 +1,6 @@
 use Rattle.std.proofs.Common.{◌≡◌, ◌++◌, ◌∷◌, [], ap, ◌∙◌}
-use Rattle.ms_parse.specs.Tree.{no_variables, and_variable}
-use Rattle.ms_parse.specs.View.{Variable, variables_of, variable_of, domain_of}
+use Rattle.ms_grammar.specs.Tree.{no_variables, and_variable}
+use Rattle.ms_grammar.specs.View.{Variable, variables_of, variable_of, domain_of}
 use Rattle.ms_parse.proofs.Pushes.{on_ok, variables_push}
 use Rattle.ms_parse.proofs.lists.push_variable.Goals as goal
 

@@ -2,7 +2,7 @@ use Rattle.std.proofs.Common.{ap, sym, ◌∙◌}
 use Rattle.ms_parse.specs.Machine.{domain_frame, body_frame, enter, behind_variable}
 use Rattle.ms_parse.specs.Signs.{symbol_with, behind}
 use Rattle.ms_parse.specs.Stack.{stack_of}
-use Rattle.ms_parse.specs.View.{variables_of}
+use Rattle.ms_grammar.specs.View.{variables_of}
 use Rattle.ms_parse.proofs.Begins.{as_taken}
 use Rattle.ms_parse.proofs.names.behind_variable.Goals as goal
 

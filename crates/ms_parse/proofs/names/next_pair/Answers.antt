@@ -1,7 +1,7 @@
 use Rattle.std.proofs.Common.{rules, ◌≡◌, ◌+◌, suc, ap, arith}
 use Rattle.ms_parse.specs.Signs.{behind, IsNext, NoName}
 use Rattle.ms_parse.specs.Stack.{stack_of}
-use Rattle.ms_parse.specs.Symbol.{name}
+use Rattle.ms_grammar.specs.Symbol.{name}
 use Rattle.ms_parse.proofs.Begins.{pair_read, pair_without}
 use Rattle.ms_parse.proofs.names.next_pair.Goals as goal
 

@@ -2,8 +2,8 @@ use Rattle.std.proofs.Common.{rules, ◌≡◌, ◌+◌, suc, ap, arith}
 use Rattle.ms_parse.specs.Machine.{part_frame, enter, next_part}
 use Rattle.ms_parse.specs.Signs.{behind, IsNext}
 use Rattle.ms_parse.specs.Stack.{stack_of}
-use Rattle.ms_parse.specs.Symbol.{name}
-use Rattle.ms_parse.specs.View.{parts_of}
+use Rattle.ms_grammar.specs.Symbol.{name}
+use Rattle.ms_grammar.specs.View.{parts_of}
 use Rattle.ms_parse.proofs.Begins.{as_taken, part_entered}
 use Rattle.ms_parse.proofs.names.next_part.Goals as goal
 

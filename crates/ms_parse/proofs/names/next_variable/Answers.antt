@@ -2,8 +2,8 @@ use Rattle.std.proofs.Common.{rules, ◌≡◌, ◌+◌, ℕ, List, suc, ap, ari
 use Rattle.ms_parse.specs.Machine.{behind_variable, next_variable}
 use Rattle.ms_parse.specs.Signs.{behind, symbol_with, IsNext}
 use Rattle.ms_parse.specs.Stack.{stack_of}
-use Rattle.ms_parse.specs.Symbol.{name}
-use Rattle.ms_parse.specs.View.{variables_of}
+use Rattle.ms_grammar.specs.Symbol.{name}
+use Rattle.ms_grammar.specs.View.{variables_of}
 use Rattle.ms_parse.proofs.Begins.{as_taken}
 use Rattle.ms_parse.proofs.Wanting.{variable_read}
 use Rattle.ms_parse.proofs.names.next_variable.Goals as goal

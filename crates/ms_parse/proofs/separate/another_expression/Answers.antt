@@ -2,8 +2,8 @@ use Rattle.std.proofs.Common.{ap, sym}
 use Rattle.ms_parse.specs.Machine.{list_frame, enter}
 use Rattle.ms_parse.specs.Signs.{behind}
 use Rattle.ms_parse.specs.Stack.{stack_of}
-use Rattle.ms_parse.specs.Tree.{and_expression}
-use Rattle.ms_parse.specs.View.{expression_of, expressions_of}
+use Rattle.ms_grammar.specs.Tree.{and_expression}
+use Rattle.ms_grammar.specs.View.{expression_of, expressions_of}
 use Rattle.ms_parse.proofs.Begins.{as_taken}
 use Rattle.ms_parse.proofs.separate.another_expression.Goals as goal
 

@@ -2,8 +2,8 @@ use Rattle.std.proofs.Common.{ap, sym}
 use Rattle.ms_parse.specs.Machine.{let_frame, enter}
 use Rattle.ms_parse.specs.Signs.{behind}
 use Rattle.ms_parse.specs.Stack.{stack_of}
-use Rattle.ms_parse.specs.Tree.{and_part}
-use Rattle.ms_parse.specs.View.{expression_of, parts_of}
+use Rattle.ms_grammar.specs.Tree.{and_part}
+use Rattle.ms_grammar.specs.View.{expression_of, parts_of}
 use Rattle.ms_parse.proofs.Begins.{as_taken}
 use Rattle.ms_parse.proofs.separate.begin_scope.Goals as goal
 

@@ -4,7 +4,7 @@ use Rattle.ms_parse.specs.Outcomes.{Took}
 use Rattle.ms_parse.specs.Rows.{IsRow}
 use Rattle.ms_parse.specs.Signs.{behind}
 use Rattle.ms_parse.specs.Stack.{stack_of}
-use Rattle.ms_parse.specs.View.{expression_of, expressions_of, variables_of, parts_of}
+use Rattle.ms_grammar.specs.View.{expression_of, expressions_of, variables_of, parts_of}
 use Rattle.ms_parse.proofs.Separations.{comma_at-other}
 use Rattle.ms_parse.proofs.separate.comma.Goals as goal
 

@@ -1,10 +1,10 @@
 use Rattle.std.proofs.Common.{◌≤◌, suc, ap, ◌∙◌, arith}
-use Rattle.ms_parse.specs.Grammar.{junction_level, level}
+use Rattle.ms_grammar.specs.Grammar.{junction_level, level}
 use Rattle.ms_parse.specs.Machine.{joined_frame, enter, join_new}
 use Rattle.ms_parse.specs.Signs.{behind}
 use Rattle.ms_parse.specs.Stack.{stack_of}
-use Rattle.ms_parse.specs.Tree.{and_expression}
-use Rattle.ms_parse.specs.View.{expression_of, expressions_of}
+use Rattle.ms_grammar.specs.Tree.{and_expression}
+use Rattle.ms_grammar.specs.View.{expression_of, expressions_of}
 use Rattle.ms_parse.proofs.Begins.{as_taken, join_entered}
 use Rattle.ms_parse.proofs.settle.join_new.Goals as goal
 

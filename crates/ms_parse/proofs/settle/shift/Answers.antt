@@ -1,9 +1,9 @@
 use Rattle.std.proofs.Common.{◌≤◌, arith}
-use Rattle.ms_parse.specs.Grammar.{left_level, level}
+use Rattle.ms_grammar.specs.Grammar.{left_level, level}
 use Rattle.ms_parse.specs.Machine.{left_frame, enter, shift}
 use Rattle.ms_parse.specs.Signs.{behind}
 use Rattle.ms_parse.specs.Stack.{stack_of}
-use Rattle.ms_parse.specs.View.{expression_of}
+use Rattle.ms_grammar.specs.View.{expression_of}
 use Rattle.ms_parse.proofs.Begins.{as_taken, shift_entered}
 use Rattle.ms_parse.proofs.settle.shift.Goals as goal
 

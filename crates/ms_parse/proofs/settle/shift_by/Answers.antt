@@ -1,9 +1,9 @@
 use Rattle.std.proofs.Common.{ap, ◌∙◌}
 use Rattle.ms_parse.specs.Signs.{behind}
-use Rattle.ms_parse.specs.Tree.{shifted}
-use Rattle.ms_parse.specs.View.{expression_of}
+use Rattle.ms_grammar.specs.Tree.{shifted}
+use Rattle.ms_grammar.specs.View.{expression_of}
 use Rattle.ms_parse.proofs.Shifts.{shift_refused, shift_taken}
-use Rattle.ms_parse.proofs.Views.{form_of-Shift}
+use Rattle.ms_grammar.proofs.Views.{form_of-Shift}
 use Rattle.ms_parse.proofs.settle.shift_by.Goals as goal
 
 pub returns-then-not-may_shift : goal.returns-then-not-may_shift

@@ -1,7 +1,7 @@
 use Rattle.std.proofs.Common.{◌≡◌, vec_len}
 use Rattle.ms_parse.specs.Machine.{collapse}
 use Rattle.ms_parse.specs.Stack.{stack_of}
-use Rattle.ms_parse.specs.View.{expression_of}
+use Rattle.ms_grammar.specs.View.{expression_of}
 use Rattle.ms_parse.proofs.stack.collapse.Given as goal
 
 -- what is left to complete gives what the whole gives

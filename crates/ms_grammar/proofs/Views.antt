@@ -12,9 +12,9 @@ use Rattle.ms_logic.specs.declared.source.Form.TheFolds.{fold-roll-Form}
 use Rattle.ms_logic.specs.declared.source.LetPart.{LetPart}
 use Rattle.ms_logic.specs.declared.source.PlacedInt.{PlacedInt}
 use Rattle.ms_logic.specs.declared.source.Rename.{Rename}
-use Rattle.ms_parse.specs.Tree.{truth, falsity, whole, empty_set, named, numeral, pconst, imported, Negation, Minimum, Maximum, Implication, Equivalence, Relation, Union, Intersection, Difference, Conjunction, Disjunction, Parentheses, Emptiness, Restriction, Export, Literal, Call}
-use Rattle.ms_parse.specs.Tree.{Expression, atom, prefixed, binary, joined, shifted, enclosed, listed, quantified, let_in}
-use Rattle.ms_parse.specs.View.{Variable, Part, form_at, variable_at, expression_at, part_at, expression_of, expressions_of, variables_of, parts_of, form_of}
+use Rattle.ms_grammar.specs.Tree.{truth, falsity, whole, empty_set, named, numeral, pconst, imported, Negation, Minimum, Maximum, Implication, Equivalence, Relation, Union, Intersection, Difference, Conjunction, Disjunction, Parentheses, Emptiness, Restriction, Export, Literal, Call}
+use Rattle.ms_grammar.specs.Tree.{Expression, atom, prefixed, binary, joined, shifted, enclosed, listed, quantified, let_in}
+use Rattle.ms_grammar.specs.View.{Variable, Part, form_at, variable_at, expression_at, part_at, expression_of, expressions_of, variables_of, parts_of, form_of}
 
 pub form_of-True : (at : At) → form_of forms.True at ≡ atom at truth
 form_of-True at = ap (λ f. form_of f at) (sym forms.rolls-True) ∙ ap (λ (k : At → Expression). k at) (fold-roll-Form (At → Expression) Variable Expression Part form_at variable_at expression_at part_at Form-F.True)

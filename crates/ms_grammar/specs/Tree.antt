@@ -7,16 +7,16 @@ use Rattle.ms_logic.specs.declared.mode.Order.{Order}
 use Rattle.ms_logic.specs.declared.mode.Quant.{Quant}
 use Rattle.ms_logic.specs.declared.source.PlacedInt.{PlacedInt}
 use Rattle.ms_logic.specs.declared.source.Rename.{Rename}
-pub use Rattle.ms_parse.specs.declared.operator.Prefix.{Prefix}
-pub use Rattle.ms_parse.specs.declared.operator.Prefix.TheVariants.{Negation, Minimum, Maximum}
-pub use Rattle.ms_parse.specs.declared.operator.Binary.{Binary}
-pub use Rattle.ms_parse.specs.declared.operator.Binary.TheVariants.{Implication, Equivalence, Relation, Union, Intersection, Difference}
-pub use Rattle.ms_parse.specs.declared.operator.Junction.{Junction}
-pub use Rattle.ms_parse.specs.declared.operator.Junction.TheVariants.{Conjunction, Disjunction}
-pub use Rattle.ms_parse.specs.declared.operator.Bracket.{Bracket}
-pub use Rattle.ms_parse.specs.declared.operator.Bracket.TheVariants.{Parentheses, Emptiness, Restriction, Export}
-pub use Rattle.ms_parse.specs.declared.operator.Listing.{Listing}
-pub use Rattle.ms_parse.specs.declared.operator.Listing.TheVariants.{Literal, Call}
+pub use Rattle.ms_grammar.specs.declared.operator.Prefix.{Prefix}
+pub use Rattle.ms_grammar.specs.declared.operator.Prefix.TheVariants.{Negation, Minimum, Maximum}
+pub use Rattle.ms_grammar.specs.declared.operator.Binary.{Binary}
+pub use Rattle.ms_grammar.specs.declared.operator.Binary.TheVariants.{Implication, Equivalence, Relation, Union, Intersection, Difference}
+pub use Rattle.ms_grammar.specs.declared.operator.Junction.{Junction}
+pub use Rattle.ms_grammar.specs.declared.operator.Junction.TheVariants.{Conjunction, Disjunction}
+pub use Rattle.ms_grammar.specs.declared.operator.Bracket.{Bracket}
+pub use Rattle.ms_grammar.specs.declared.operator.Bracket.TheVariants.{Parentheses, Emptiness, Restriction, Export}
+pub use Rattle.ms_grammar.specs.declared.operator.Listing.{Listing}
+pub use Rattle.ms_grammar.specs.declared.operator.Listing.TheVariants.{Literal, Call}
 
 -- an expression that holds no other
 pub data Atom : Type 0 where

@@ -12,9 +12,9 @@ use Rattle.ms_logic.specs.declared.source.Expr.{Expr}
 use Rattle.ms_logic.specs.declared.source.Form.{Form}
 use Rattle.ms_logic.specs.declared.source.Form.TheOpen.{Bound-F, LetPart-F, Expr-F, Form-F}
 use Rattle.ms_logic.specs.declared.source.Form.TheFolds.{fold-Bound, fold-LetPart, fold-Expr, fold-Form}
-use Rattle.ms_parse.specs.Tree.{truth, falsity, whole, empty_set, named, numeral, pconst, imported, Negation, Minimum, Maximum, Implication, Equivalence, Relation, Union, Intersection, Difference, Conjunction, Disjunction, Parentheses, Emptiness, Restriction, Export, Literal, Call}
-use Rattle.ms_parse.specs.Tree.{Expression, atom, prefixed, binary, joined, shifted, enclosed, listed, quantified, let_in, Expressions, no_expressions, and_expression, Variables, no_variables, and_variable, Domain, unrestricted, restricted, Parts, no_parts, and_part}
-use Rattle.ms_parse.specs.Tree.{Declaration, variables, constant, predicate, included, default_restriction, formula, Declared, Document}
+use Rattle.ms_grammar.specs.Tree.{truth, falsity, whole, empty_set, named, numeral, pconst, imported, Negation, Minimum, Maximum, Implication, Equivalence, Relation, Union, Intersection, Difference, Conjunction, Disjunction, Parentheses, Emptiness, Restriction, Export, Literal, Call}
+use Rattle.ms_grammar.specs.Tree.{Expression, atom, prefixed, binary, joined, shifted, enclosed, listed, quantified, let_in, Expressions, no_expressions, and_expression, Variables, no_variables, and_variable, Domain, unrestricted, restricted, Parts, no_parts, and_part}
+use Rattle.ms_grammar.specs.Tree.{Declaration, variables, constant, predicate, included, default_restriction, formula, Declared, Document}
 
 -- a variable with its restriction, and a name of a `let` with its right side, as the lists take them
 pub record Variable : Type 0 where

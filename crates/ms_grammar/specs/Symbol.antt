@@ -15,7 +15,7 @@ use Rattle.ms_logic.specs.declared.mode.Order.TheVariants.{Zero, One, Two}
 use Rattle.ms_logic.specs.declared.mode.Quant.{Quant}
 use Rattle.ms_logic.specs.declared.mode.Quant.TheVariants.{Ex, All}
 use Rattle.ms_logic.specs.declared.mode.Rel.TheVariants.{Equal, Differs, Less, AtMost, Greater, AtLeast, Member, NotMember, Sub}
-use Rattle.ms_parse.specs.Tree.{Prefix, Negation, Minimum, Maximum, Binary, Implication, Equivalence, Relation, Union, Intersection, Difference, Junction, Conjunction, Disjunction}
+use Rattle.ms_grammar.specs.Tree.{Prefix, Negation, Minimum, Maximum, Binary, Implication, Equivalence, Relation, Union, Intersection, Difference, Junction, Conjunction, Disjunction}
 
 pub data Symbol : Type 0 where
   name : (n : List ℕ) → Symbol

@@ -8,12 +8,12 @@ use Rattle.ms_logic.specs.declared.mode.Order.{Order}
 use Rattle.ms_logic.specs.declared.mode.Rel.TheVariants.{Equal}
 use Rattle.ms_logic.specs.declared.source.PlacedInt.{PlacedInt}
 use Rattle.ms_logic.specs.declared.source.Source.{Source}
-use Rattle.ms_parse.specs.Symbol.{name, text, infix_operator, sign, kind, predicate_word, default_word, word_const, word_include, word_ws1s, open_round, close_round, comma, semicolon, Placed, placed, symbols}
-use Rattle.ms_parse.specs.Tree.{Relation, Variables, no_variables, and_variable, unrestricted, restricted}
-use Rattle.ms_parse.specs.Tree.{Declaration, variables, constant, predicate, included, default_restriction, formula, Declared, Document}
-use Rattle.ms_parse.specs.View.{document_of}
-use Rattle.ms_parse.specs.Grammar.{AreOfOrder, IsExpression}
-use Rattle.ms_parse.specs.Reads.{IsAt, Starts, Follows, ReadsInt, ReadsExpression, ReadsDomain, ReadsVariables}
+use Rattle.ms_grammar.specs.Symbol.{name, text, infix_operator, sign, kind, predicate_word, default_word, word_const, word_include, word_ws1s, open_round, close_round, comma, semicolon, Placed, placed, symbols}
+use Rattle.ms_grammar.specs.Tree.{Relation, Variables, no_variables, and_variable, unrestricted, restricted}
+use Rattle.ms_grammar.specs.Tree.{Declaration, variables, constant, predicate, included, default_restriction, formula, Declared, Document}
+use Rattle.ms_grammar.specs.View.{document_of}
+use Rattle.ms_grammar.specs.Grammar.{AreOfOrder, IsExpression}
+use Rattle.ms_grammar.specs.Reads.{IsAt, Starts, Follows, ReadsInt, ReadsExpression, ReadsDomain, ReadsVariables}
 
 -- the kind of a parameter, which may be missing where it is that of the parameter before
 abbrev pub ReadsKind : Order → Order → List Placed → List Placed → Type 0

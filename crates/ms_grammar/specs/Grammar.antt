@@ -4,8 +4,8 @@
 use Rattle.std.specs.Prelude.{◌≡◌, ℕ, suc, ◌≤◌, max, Bool, true, false, ◌||◌}
 use Rattle.ms_logic.specs.declared.mode.Order.{Order}
 use Rattle.ms_logic.specs.declared.mode.Rel.TheVariants.{Equal, Differs, Less, AtMost, Greater, AtLeast, Member, NotMember, Sub}
-use Rattle.ms_parse.specs.Tree.{Prefix, Negation, Minimum, Maximum, Binary, Implication, Equivalence, Relation, Union, Intersection, Difference, Junction, Conjunction, Disjunction}
-use Rattle.ms_parse.specs.Tree.{Expression, atom, prefixed, binary, joined, shifted, enclosed, listed, quantified, let_in, Expressions, no_expressions, and_expression, Variables, no_variables, and_variable, unrestricted, restricted, Parts, no_parts, and_part}
+use Rattle.ms_grammar.specs.Tree.{Prefix, Negation, Minimum, Maximum, Binary, Implication, Equivalence, Relation, Union, Intersection, Difference, Junction, Conjunction, Disjunction}
+use Rattle.ms_grammar.specs.Tree.{Expression, atom, prefixed, binary, joined, shifted, enclosed, listed, quantified, let_in, Expressions, no_expressions, and_expression, Variables, no_variables, and_variable, unrestricted, restricted, Parts, no_parts, and_part}
 
 -- The levels, from the loosest: 0 `<=>`, 1 `=>`, 2 `|`, 3 `&`, 4 `~` and binders, 5 relations, 6 `union`, 7 `inter`,
 -- 8 `\`, 9 `+` and `-`, 10 `min` and `max`, 11 names, numbers and whatever ends with a bracket.

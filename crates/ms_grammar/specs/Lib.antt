@@ -1,0 +1,6 @@
+pub mod Declarations
+pub mod Grammar
+pub mod Reads
+pub mod Symbol
+pub mod Tree
+pub mod View

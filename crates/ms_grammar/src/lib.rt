@@ -1,0 +1,7 @@
+//! The grammar of the language: which symbols a text has, and which tree they are read as. Definitions alone; `ms_parse`
+//! reads by them, and `ms_print` writes by them.
+#![tactic(auto)]
+
+mod operator;
+
+pub use operator::{Binary, Bracket, Junction, Listing, Prefix};
