@@ -4,7 +4,7 @@ use Rattle.ms_logic.specs.declared.mode.Rel.TheVariants.{Equal}
 use Rattle.ms_parse.specs.declared.punctuation.Punctuation.{Punctuation}
 use Rattle.ms_parse.specs.declared.punctuation.Punctuation.TheVariants as marks
 use Rattle.ms_grammar.specs.Symbol.{Symbol, infix_operator, open_round, close_round, close_curly, comma, semicolon, arrow, Placed, placed}
-use Rattle.ms_grammar.specs.Tree.{Relation}
+use Rattle.ms_grammar.specs.declared.operator.Binary.TheVariants.{Relation}
 
 abbrev pub punctuation : Punctuation → Symbol
 punctuation marks.OpenRound = open_round
