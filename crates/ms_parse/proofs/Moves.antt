@@ -159,7 +159,7 @@ infix_step c op l st x ts low no_let high room deep =
     ∙ entered c (left_frame op l) st ts room deep
 
 -- `+` or `-` and an int behind an operand
-int_read : (c : Context) (minus : Bool) (e : Expression) (st : List Frame) (v : Int) (a : At) (ts : List Placed)
+pub int_read : (c : Context) (minus : Bool) (e : Expression) (st : List Frame) (v : Int) (a : At) (ts : List Placed)
     → shift_int c minus e st (placed (int_symbol v) a ∷ ts) ≡ shift_by c e st (record { at = a; value = v; minus = minus }) ts
 int_read c minus e st (Number n) a ts = refl
 int_read c minus e st (Constant n) a ts = refl
@@ -193,7 +193,7 @@ join_first c op e st x ts low high room deep =
     ∙ entered c (joined_frame (place e) op (and_expression no_expressions e)) st ts room (omega arith)
 
 -- a further operand
-further_joined : (c : Context) (op : Junction) (at : At) (es : Expressions) (e : Expression) (st : List Frame) (ts : List Placed)
+pub further_joined : (c : Context) (op : Junction) (at : At) (es : Expressions) (e : Expression) (st : List Frame) (ts : List Placed)
     → join c op e (joined_frame at op es ∷ st) ts ≡ enter c (joined_frame at op (and_expression es e)) st ts
 further_joined c Conjunction at es e st ts = refl
 further_joined c Disjunction at es e st ts = refl
