@@ -1,0 +1,6 @@
+//! Texts of trees: whether some text reads as a tree, and such a text.
+#![tactic(auto)]
+
+mod declaration;
+mod expression;
+mod token;
