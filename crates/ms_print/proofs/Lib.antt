@@ -1,7 +1,11 @@
+pub mod Back
+pub mod Fitting
 pub mod Fused
 pub mod Lists
+pub mod Printing
 pub mod Reading
 pub mod Shapes
+pub mod Sources
 pub mod Spelled
 pub mod Spellings
 pub mod Tokens

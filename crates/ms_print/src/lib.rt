@@ -3,4 +3,7 @@
 
 mod declaration;
 mod expression;
+mod text;
 mod token;
+
+pub use text::print;
