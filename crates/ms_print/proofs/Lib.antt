@@ -2,6 +2,8 @@ pub mod Back
 pub mod Fitting
 pub mod Fused
 pub mod Lists
+pub mod Passing
+pub mod Prefixes
 pub mod Printing
 pub mod Reading
 pub mod Shapes

@@ -122,7 +122,7 @@ first_kept : (before : Variables) (at : At) (o : Order) (n : List ℕ) (d : Doma
 first_kept before at o n d [] = refl
 first_kept before at o n d (v ∷ vs) = first_kept (and_variable before at o n d) v.at v.order v.name v.domain vs
 
-order_read : (bound : Bound) → (variable_of bound).order ≡ (out-Bound bound).order
+pub order_read : (bound : Bound) → (variable_of bound).order ≡ (out-Bound bound).order
 order_read bound = search (rules, the_lemmas)
 
 pub first_order_is : (bounds : List Bound) (x : Bound) → 0 < length bounds → x ≡ get_or bounds 0 x → (out-Bound x).order ≡ first_order (variables_of bounds)

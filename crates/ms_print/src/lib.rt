@@ -3,6 +3,9 @@
 
 mod declaration;
 mod expression;
+mod fit;
+mod level;
+mod said;
 mod text;
 mod token;
 
