@@ -1,26 +1,23 @@
 -- A document that some text reads as can be printed.
-use Rattle.std.proofs.Common.{◌≡◌, ◌≢◌, ℕ, ◌⊎◌, inl, inr, ⊎_elim, Bool, true, false, cond, List, [], ◌∷◌, ◌++◌, length, codes, map, Option, Some, None, refl, sym, ap, ◌∙◌, subst, append_assoc}
+use Rattle.std.proofs.Common.{◌≡◌, inl, inr, true, false, cond, List, [], ◌∷◌, ◌++◌, codes, map, Option, Some, None, refl, sym, ap, ◌∙◌, subst, append_assoc}
 use Rattle.std.specs.List.{flat_map}
-use Rattle.std.proofs.lemmas.List.{append-nil}
 use Rattle.ms_edge.specs.declared.at.At.{At}
-use Rattle.ms_text.specs.TokenList.{Lexed, IsTokenList}
 use Rattle.ms_logic.specs.declared.mode.Mode.{Mode}
 use Rattle.ms_logic.specs.declared.mode.Mode.TheVariants.{Ws1s, M2lStr}
 use Rattle.ms_logic.specs.declared.mode.Order.{Order}
 use Rattle.ms_logic.specs.declared.mode.Rel.TheVariants.{Equal}
-use Rattle.ms_logic.specs.declared.source.Int.{Int}
 use Rattle.ms_logic.specs.declared.source.PlacedInt.{PlacedInt}
 use Rattle.ms_logic.specs.declared.source.Source.{Source}
 use Rattle.ms_grammar.specs.declared.operator.Binary.TheVariants.{Relation}
-use Rattle.ms_grammar.specs.Symbol.{Symbol, name, text, left_out, infix_operator, sign, kind, predicate_word, default_word, word_const, word_include, word_ws1s, open_round, close_round, comma, semicolon, Placed, placed, placed_symbol, symbols}
-use Rattle.ms_grammar.specs.Tree.{Expression, Variables, no_variables, and_variable, Domain}
-use Rattle.ms_grammar.specs.Tree.{Declaration, variables, constant, predicate, included, default_restriction, formula, Declared, Document}
-use Rattle.ms_grammar.specs.View.{document_of}
+use Rattle.ms_grammar.specs.Symbol.{Symbol, name, text, left_out, infix_operator, sign, kind, predicate_word, default_word, word_const, word_include, word_ws1s, open_round, close_round, comma, semicolon, Placed, symbols}
+use Rattle.ms_grammar.specs.Tree.{Expression, Variables, no_variables, and_variable}
+use Rattle.ms_grammar.specs.Tree.{Declaration, variables, constant, predicate, included, default_restriction, formula, Declared}
+use Rattle.ms_grammar.specs.View.{declared_of, document_of}
 use Rattle.ms_grammar.specs.Grammar.{IsVariableList, AreOfOrder}
-use Rattle.ms_grammar.specs.Reads.{int_symbol, Starts, Follows, ReadsVariables}
+use Rattle.ms_grammar.specs.Reads.{int_symbol, ReadsVariables}
 use Rattle.ms_grammar.specs.Declarations.{ReadsKind, ReadsParameters, ReadsParameterList, ReadsFurther, ReadsSum, ReadsDeclaration, ReadsDeclarations, ReadsString, ReadsHeader, AreDeclarations, Fits}
-use Rattle.ms_print.specs.Printable.{HasSummand, IsFormed, IsPrintable, ArePrintable, BeginWithNoHeader, IsClear, IsPrintableDocument}
-use Rattle.ms_print.specs.Printed.{IsSpellable, AreSpellable, unsigned, first_order, single, printed, printed_domain, printed_variables, printed_parameters, printed_parameter_list, printed_shift, printed_sum, printed_declaration, printed_declared, text_of}
+use Rattle.ms_print.specs.Printable.{HasSummand, IsFormed, ArePrintable, BeginWithNoHeader, IsClear, IsPrintableDocument}
+use Rattle.ms_print.specs.Printed.{AreSpellable, first_order, single, printed, printed_domain, printed_variables, printed_parameters, printed_parameter_list, printed_shift, printed_sum, printed_declaration, printed_declared, text_of}
 use Rattle.ms_print.proofs.Back.{follows_back, starts_back}
 use Rattle.ms_print.proofs.Reading.{follows_said, starts_said, said, domain_said, variables_said}
 use Rattle.ms_print.proofs.Sources.{spellable_both, spellable_split, string_said, is_text}
@@ -144,7 +141,7 @@ declarations_kept (d ∷ ds) from behind (f1, f2, begins, declaration_is, ends, 
 
 -- the header
 
-abbrev string_header : List Symbol → List Symbol
+abbrev pub string_header : List Symbol → List Symbol
 string_header more = name (codes "m2l") ∷ sign true ∷ name (codes "str") ∷ semicolon ∷ more
 
 -- whether a list begins with the header is seen up to its first semicolon
@@ -163,7 +160,7 @@ string_back at from more e good =
     let d = follows_back semicolon c.0 more c.2 c.3 in
     (d.0, (a.0, b.0, c.0, a.1, b.1, c.1, d.1))
 
-begins_with_name : (d : Declaration) (rest more : List Symbol) → printed_declaration single d ++ semicolon ∷ rest ≡ string_header more → (e : Expression) × (d ≡ formula e)
+pub begins_with_name : (d : Declaration) (rest more : List Symbol) → printed_declaration single d ++ semicolon ∷ rest ≡ string_header more → (e : Expression) × (d ≡ formula e)
 begins_with_name (variables vs) rest more e = let never : ⊥ = cc in absurd never
 begins_with_name (constant at n sum) rest more e = let never : ⊥ = cc in absurd never
 begins_with_name (predicate is_pred at n parameters body) rest more e = let never : ⊥ = cc in absurd never
@@ -209,3 +206,11 @@ pub fits_by_text : (source : Source) → IsPrintableDocument (document_of source
 fits_by_text source is =
     let printed_text = is_text source is in
     record { lexed = record { bytes = text_of (document_of source); tokens = printed_text.tokens }; tokens = printed_text.listed; reads = printed_text.reads }
+
+-- the parts that are tested
+
+pub fits_by_parts : (source : Source) → ArePrintable (map declared_of source.items) → IsClear source.header (map declared_of source.items) → Fits source
+fits_by_parts source items header = fits_by_text source (record { header = header; declarations = items })
+
+pub parts_of_fit : (source : Source) → Fits source → ArePrintable (map declared_of source.items) × IsClear source.header (map declared_of source.items)
+parts_of_fit source fits = let is = is_printable source fits in (is.declarations, is.header)

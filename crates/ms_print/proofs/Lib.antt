@@ -1,6 +1,8 @@
 pub mod Back
+pub mod Declared
 pub mod Fitting
 pub mod Fused
+pub mod Header
 pub mod Lists
 pub mod Passing
 pub mod Prefixes

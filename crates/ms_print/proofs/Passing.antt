@@ -1,5 +1,5 @@
 -- What is tested of an expression is what printing it needs.
-use Rattle.std.proofs.Common.{◌≡◌, ℕ, suc, ◌-◌, ◌<◌, ◌≤◌, max, Bool, true, false, not, ◌||◌, List, [], ◌∷◌, ◌++◌, refl, sym, ap, ◌∙◌, arith}
+use Rattle.std.proofs.Common.{◌≡◌, ℕ, suc, ◌-◌, ◌≤◌, Bool, true, false, not, ◌||◌, List, [], ◌∷◌, ◌++◌, refl, sym, ◌∙◌, arith}
 use Rattle.std.proofs.lemmas.Bool.{false≢true}
 use Rattle.ms_edge.specs.declared.at.At.{At}
 use Rattle.ms_logic.specs.declared.mode.Order.{Order}
@@ -10,7 +10,7 @@ use Rattle.ms_grammar.specs.declared.operator.Listing.{Listing}
 use Rattle.ms_grammar.specs.declared.operator.Listing.TheVariants.{Literal, Call}
 use Rattle.ms_grammar.specs.Symbol.{Symbol, name, comma, colon, close_round, infix_operator, joining, sign}
 use Rattle.ms_grammar.specs.Reads.{int_symbol, closing}
-use Rattle.ms_grammar.specs.Grammar.{junction_level, is_in, last_ends_open, has_bare_in, some_bare_in, domain_bare_in, part_bare_in, IsGrammatical, AreGrammatical, AreOperands, HaveGrammaticalDomains, HaveGrammaticalValues, depth, depth_of_all, depth_of_domains, depth_of_values}
+use Rattle.ms_grammar.specs.Grammar.{junction_level, is_in, has_bare_in, some_bare_in, domain_bare_in, part_bare_in, IsGrammatical, AreGrammatical, AreOperands, HaveGrammaticalDomains, HaveGrammaticalValues, depth, depth_of_all, depth_of_domains, depth_of_values}
 use Rattle.ms_grammar.specs.Tree.{Expression, atom, prefixed, binary, joined, shifted, enclosed, listed, quantified, let_in, Expressions, no_expressions, and_expression, Variables, no_variables, and_variable, Domain, unrestricted, restricted, Parts, no_parts, and_part}
 use Rattle.ms_print.specs.Passes.{Passes, OperandsPass, AllPass, DomainPasses, VariablesPass, PartsPass}
 use Rattle.ms_print.specs.Printed.{IsSpellable, AreSpellable, single, printed, printed_all, printed_opening, printed_list_opening, printed_domain, printed_variables, printed_parts}

@@ -1,19 +1,18 @@
 -- Tests of the entries of a list, from its first one on.
-use Rattle.std.proofs.Common.{◌≡◌, ℕ, zero, suc, ◌+◌, ◌-◌, ◌<◌, ◌≤◌, Bool, true, false, List, [], ◌∷◌, ◌++◌, length, take, get_or, map, refl, sym, ap, ◌∙◌, subst, arith, add-one, zero-add, nat_le, IsTrue}
+use Rattle.std.proofs.Common.{◌≡◌, ℕ, zero, suc, ◌+◌, ◌-◌, ◌<◌, ◌≤◌, Bool, true, false, List, [], ◌∷◌, length, take, get_or, map, refl, sym, ap, ◌∙◌, subst, arith, add-one, zero-add, nat_le, IsTrue}
 use Rattle.std.proofs.lemmas.Bool.{leb-true, le-leb}
 use Rattle.std.specs.List.{flat_map}
 use Rattle.std.proofs.lemmas.List.{take_all, length-map}
-use Rattle.ms_edge.specs.declared.at.At.{At}
 use Rattle.ms_logic.specs.declared.mode.Order.{Order}
 use Rattle.ms_logic.specs.declared.source.Bound.{Bound, out-Bound}
 use Rattle.ms_logic.specs.declared.source.Expr.{Expr}
 use Rattle.ms_logic.specs.declared.source.LetPart.{LetPart}
-use Rattle.ms_grammar.specs.Symbol.{Symbol, name}
+use Rattle.ms_grammar.specs.Symbol.{Symbol}
 use Rattle.ms_grammar.specs.Grammar.{level, ends_open, last_ends_open, HasTwo, IsVariableList, IsPartList, AreOfOrder}
 use Rattle.ms_grammar.specs.Tree.{Expression, Expressions, no_expressions, and_expression, Variables, no_variables, and_variable, Parts, no_parts, and_part}
 use Rattle.ms_grammar.specs.View.{expressions_behind, variables_behind, parts_behind, expression_of, variable_of, part_of, expressions_of, variables_of, parts_of}
 use Rattle.ms_print.specs.Passes.{Passes, OperandsPass, AllPass, VariablePasses, VariablesPass, PartPasses, PartsPass}
-use Rattle.ms_print.specs.Printed.{IsSpellable, AreSpellable}
+use Rattle.ms_print.specs.Printed.{AreSpellable}
 use Rattle.ms_print.proofs.Lists.{expressions_more, variables_more, parts_more, count, count_variables, count_parts, count_behind, count_variables_behind, count_parts_behind, order_read}
 use Rattle.ms_print.proofs.Sources.{spellable_both, spellable_split}
 

@@ -1,5 +1,5 @@
 -- The symbols that an expression is read from are those that are printed for it.
-use Rattle.std.proofs.Common.{◌≡◌, ℕ, Bool, true, false, cond, List, [], ◌∷◌, ◌++◌, refl, sym, ap, ◌∙◌, append_assoc}
+use Rattle.std.proofs.Common.{◌≡◌, false, cond, List, [], ◌∷◌, ◌++◌, sym, ap, append_assoc}
 use Rattle.std.specs.List.{flat_map}
 use Rattle.ms_edge.specs.declared.at.At.{At}
 use Rattle.ms_logic.specs.declared.mode.Rel.TheVariants.{Equal, Member}

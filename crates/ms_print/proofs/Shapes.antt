@@ -1,5 +1,5 @@
 -- What is printed for an expression of a form.
-use Rattle.std.proofs.Common.{rules, ◌≡◌, List, ℕ, ◌++◌, Result, OnOk, append_assoc, Bool, IsTrue, refl, sym, subst, ap, ◌∙◌}
+use Rattle.std.proofs.Common.{rules, ◌≡◌, List, ℕ, ◌++◌, Result, OnOk, append_assoc, Bool, IsTrue, sym, subst, ap, ◌∙◌}
 use Rattle.std.proofs.lemmas.Result.{on_ok_weaker}
 use Rattle.ms_edge.specs.declared.at.At.{At}
 use Rattle.ms_logic.specs.declared.mode.Order.{Order}

@@ -1,5 +1,5 @@
 -- What is printed for a document has tokens that read as it.
-use Rattle.std.proofs.Common.{◌≡◌, ◌≢◌, ℕ, ◌⊎◌, inl, inr, Bool, true, false, List, [], ◌∷◌, ◌++◌, length, codes, eqb, map, Option, Some, None, refl, sym, ap, ◌∙◌, subst, append_assoc}
+use Rattle.std.proofs.Common.{◌≡◌, ◌≢◌, ℕ, inl, true, false, List, [], ◌∷◌, ◌++◌, codes, eqb, Option, Some, None, refl, sym, ap, ◌∙◌, subst, append_assoc}
 use Rattle.std.specs.List.{flat_map}
 use Rattle.std.specs.Cmp.Lexicographic.{pointwise}
 use Rattle.std.proofs.lemmas.Bool.{false≢true}
@@ -9,8 +9,7 @@ use Rattle.ms_text.specs.declared.keyword.Keyword.{Keyword}
 use Rattle.ms_text.specs.declared.keyword.Keyword.TheVariants as words
 use Rattle.ms_text.specs.declared.keyword.LeftOutWord.{LeftOutWord}
 use Rattle.ms_text.specs.declared.keyword.LeftOutWord.TheVariants as others
-use Rattle.ms_text.specs.declared.token.Kind.TheVariants as kinds
-use Rattle.ms_text.specs.Spelling.{word_spelling, left_out_spelling, Spells}
+use Rattle.ms_text.specs.Spelling.{word_spelling, left_out_spelling}
 use Rattle.ms_text.specs.TokenList.{Lexed, IsTokenList}
 use Rattle.ms_logic.specs.declared.mode.Mode.{Mode}
 use Rattle.ms_logic.specs.declared.mode.Mode.TheVariants.{Ws1s, M2lStr}
@@ -19,15 +18,15 @@ use Rattle.ms_logic.specs.declared.mode.Rel.TheVariants.{Equal}
 use Rattle.ms_logic.specs.declared.source.PlacedInt.{PlacedInt}
 use Rattle.ms_logic.specs.declared.source.Source.{Source}
 use Rattle.ms_grammar.specs.declared.operator.Binary.TheVariants.{Relation}
-use Rattle.ms_grammar.specs.Symbol.{Symbol, name, text, infix_operator, sign, kind, predicate_word, default_word, word_const, word_include, word_ws1s, open_round, close_round, comma, semicolon, Placed, placed, placed_symbol, symbols}
-use Rattle.ms_grammar.specs.Tree.{Expression, Variables, no_variables, and_variable, Domain, unrestricted, restricted}
+use Rattle.ms_grammar.specs.Symbol.{Symbol, name, text, infix_operator, sign, kind, predicate_word, default_word, word_const, word_include, word_ws1s, open_round, close_round, comma, semicolon, Placed, placed, symbols}
+use Rattle.ms_grammar.specs.Tree.{Variables, no_variables, and_variable, Domain, unrestricted, restricted}
 use Rattle.ms_grammar.specs.Tree.{Declaration, variables, constant, predicate, included, default_restriction, formula, Declared, Document}
 use Rattle.ms_grammar.specs.View.{document_of}
-use Rattle.ms_grammar.specs.Grammar.{IsVariableList, HaveGrammaticalDomains, IsExpression}
-use Rattle.ms_grammar.specs.Reads.{int_symbol, Starts, Follows}
-use Rattle.ms_grammar.specs.Declarations.{ReadsParameters, ReadsParameterList, ReadsFurther, ReadsSum, ReadsDeclaration, BeginsAt, ReadsDeclarations, ReadsString, ReadsHeader, ReadsDocument, AreDomains, IsDeclaration, AreDeclarations, Reads, ReadsAs}
-use Rattle.ms_print.specs.Printable.{HasSummand, IsFormed, IsPrintable, ArePrintable, IsClear, IsPrintableDocument}
-use Rattle.ms_print.specs.Printed.{IsSpellable, AreSpellable, unsigned, first_order, spelled, single, printed, printed_domain, printed_variables, printed_parameters, printed_parameter_list, printed_shift, printed_sum, printed_declaration, printed_declared, printed_header, printed_document, symbols_of, text_of}
+use Rattle.ms_grammar.specs.Grammar.{IsVariableList, HaveGrammaticalDomains}
+use Rattle.ms_grammar.specs.Reads.{int_symbol}
+use Rattle.ms_grammar.specs.Declarations.{ReadsParameters, ReadsParameterList, ReadsFurther, ReadsSum, ReadsDeclaration, BeginsAt, ReadsDeclarations, ReadsString, ReadsHeader, ReadsDocument, AreDomains, IsDeclaration, AreDeclarations}
+use Rattle.ms_print.specs.Printable.{HasSummand, IsFormed, ArePrintable, IsClear, IsPrintableDocument}
+use Rattle.ms_print.specs.Printed.{AreSpellable, first_order, spelled, single, printed, printed_domain, printed_variables, printed_parameters, printed_parameter_list, printed_shift, printed_sum, printed_declaration, printed_declared, printed_header, symbols_of, text_of}
 use Rattle.ms_print.specs.Text.{IsTextOf}
 use Rattle.ms_print.proofs.Back.{Back, follows_back, starts_back, unsigned_back, GoodDomain, back, domain_back, variables_back}
 use Rattle.ms_print.proofs.Fused.{fused_document}

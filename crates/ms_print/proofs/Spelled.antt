@@ -1,5 +1,5 @@
 -- Each symbol that a token can say is said by the token that is written for it, where a blank stands behind.
-use Rattle.std.proofs.Common.{◌≡◌, ℕ, zero, suc, ◌+◌, ◌-◌, ◌<◌, ◌≤◌, ◌^◌, Bool, true, false, not, List, [], ◌∷◌, ◌++◌, length, take, drop, IsUtf8, IsTrue, refl, sym, ap, ◌∙◌, subst, arith, length-append}
+use Rattle.std.proofs.Common.{◌≡◌, ℕ, ◌-◌, ◌<◌, ◌^◌, Bool, true, false, not, List, [], ◌∷◌, length, IsUtf8, IsTrue, refl, sym, ap, ◌∙◌, subst, arith, length-append}
 use Rattle.std.specs.Char.{is_ascii_digit}
 use Rattle.std.specs.Fmt.{decimal}
 use Rattle.std.specs.List.{list_all}
@@ -14,7 +14,7 @@ use Rattle.ms_text.specs.declared.mark.Mark.TheVariants as marks
 use Rattle.ms_text.specs.declared.token.Kind.{Kind}
 use Rattle.ms_text.specs.declared.token.Kind.TheVariants as kinds
 use Rattle.ms_text.specs.Gap.{is_blank}
-use Rattle.ms_text.specs.Spelling.{is_name_byte, is_identifier, is_text_byte, quoted, word_spelling, mark_spelling, left_out_spelling, IsLeftOut, Spells, IsAccepted, IsToken}
+use Rattle.ms_text.specs.Spelling.{is_name_byte, is_identifier, is_text_byte, quoted, word_spelling, mark_spelling, IsLeftOut, Spells, IsToken}
 use Rattle.ms_text.proofs.Bytes.{longest_run}
 use Rattle.ms_text.proofs.Fronts.{digit_texts, one_quoted}
 use Rattle.ms_text.proofs.Longest.{longest_identifier, longest_number, longest_text, longest_sign}

@@ -1,5 +1,5 @@
 -- What is written for words and marks.
-use Rattle.std.proofs.Common.{◌≡◌, ℕ, List, [], ◌∷◌, ◌++◌, refl}
+use Rattle.std.proofs.Common.{◌≡◌, [], ◌∷◌, ◌++◌, refl}
 use Rattle.ms_text.specs.declared.keyword.Keyword.{Keyword}
 use Rattle.ms_text.specs.declared.keyword.Keyword.TheVariants as words
 use Rattle.ms_text.specs.declared.mark.Mark.{Mark}

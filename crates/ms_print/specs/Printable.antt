@@ -1,5 +1,5 @@
 -- When some text reads as a tree, said of the tree alone.
-use Rattle.std.specs.Prelude.{◌≢◌, List, [], ◌∷◌, ◌++◌, codes, true, Option, Some, None}
+use Rattle.std.specs.Prelude.{◌≢◌, List, [], ◌∷◌, codes, true, Option, Some, None}
 use Rattle.std.specs.List.{flat_map}
 use Rattle.ms_edge.specs.declared.at.At.{At}
 use Rattle.ms_logic.specs.declared.mode.Mode.{Mode}

@@ -1,6 +1,6 @@
 -- How a tree is printed: its symbols in order, and the bytes of each with a blank or a line feed behind them. What a
 -- printed text has to be is said by the grammar alone; this says which of the possible texts it is.
-use Rattle.std.specs.Prelude.{ℕ, zero, suc, ◌<◌, ◌^◌, Bool, true, false, cond, List, [], ◌∷◌, ◌++◌, codes, Option, Some, None, IsTrue, IsUtf8}
+use Rattle.std.specs.Prelude.{ℕ, zero, suc, ◌<◌, ◌^◌, true, false, cond, List, [], ◌∷◌, ◌++◌, codes, Option, Some, None, IsTrue, IsUtf8}
 use Rattle.std.specs.Fmt.{decimal}
 use Rattle.std.specs.List.{list_all, flat_map}
 use Rattle.ms_edge.specs.declared.at.At.{At}

@@ -1,7 +1,7 @@
 -- A text of a source.
 use Rattle.std.specs.Prelude.{ℕ, false, List}
 use Rattle.ms_text.specs.declared.token.Token.{Token}
-use Rattle.ms_text.specs.TokenList.{Lexed, IsTokenList}
+use Rattle.ms_text.specs.TokenList.{IsTokenList}
 use Rattle.ms_logic.specs.declared.source.Source.{Source}
 use Rattle.ms_grammar.specs.Declarations.{ReadsAs}
 

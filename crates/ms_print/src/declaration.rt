@@ -17,8 +17,8 @@ use ms_logic::{Bound, Decl, Expr, Item, Mode, Order, PlacedInt, Source};
 use ms_text::{Keyword, Mark};
 use std::alloc::AllocError;
 
-// The order of the first variable.
-fn first_order(bounds: &[Bound]) -> Order
+/// The order of the first variable.
+pub fn first_order(bounds: &[Bound]) -> Order
     ensures { result ≡ first_order (variables_of bounds.now) }
 {
     match bounds {

@@ -1,4 +1,4 @@
-use Rattle.std.proofs.Common.{rules, ◌≡◌, ◌++◌, OnOk, string_bytes, append_assoc, arith, ap, sym, ◌∙◌}
+use Rattle.std.proofs.Common.{rules, string_bytes, append_assoc, ap, sym, ◌∙◌}
 use Rattle.ms_logic.specs.declared.source.Form.TheVariants as forms
 use Rattle.ms_grammar.specs.Symbol.{close_round, mark_symbol}
 use Rattle.ms_grammar.specs.declared.operator.Bracket.TheVariants.{Restriction, Export}

@@ -1,5 +1,5 @@
 use Rattle.std.proofs.Common.{◌≡◌, ◌++◌, take, string_bytes}
-use Rattle.ms_grammar.specs.Symbol.{mark_symbol, comma}
+use Rattle.ms_grammar.specs.Symbol.{mark_symbol}
 use Rattle.ms_grammar.specs.View.{expressions_of, parts_of, variables_of}
 use Rattle.ms_print.specs.Printed.{printed_all, printed_parts, printed_variables, spelled}
 use Rattle.ms_print.proofs.expression.+print_expression.Given as goal

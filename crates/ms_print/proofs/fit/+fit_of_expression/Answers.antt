@@ -5,7 +5,7 @@ use Rattle.ms_grammar.specs.declared.operator.Junction.TheVariants.{Conjunction,
 use Rattle.ms_grammar.specs.declared.operator.Listing.TheVariants.{Literal, Call}
 use Rattle.ms_grammar.specs.Tree.{joined, listed, quantified, let_in}
 use Rattle.ms_grammar.specs.View.{expression_of, expressions_of, variables_of, parts_of}
-use Rattle.ms_print.proofs.Prefixes.{all_step, all_stop, operands_none, operands_step, operands_stop, variables_step, variables_stop, parts_step, parts_stop}
+use Rattle.ms_print.proofs.Prefixes.{all_step, all_stop, operands_step, operands_stop, variables_step, variables_stop, parts_step, parts_stop}
 use Rattle.ms_print.proofs.Shapes.{literal_shape, call_shape, and_shape, or_shape, bind_shape, let_shape, by_shape}
 use Rattle.ms_print.proofs.fit.+fit_of_expression.Goals as goal
 use Rattle.ms_print.proofs.fit.+fit_of_expression.Goals.{operands_pass-then-open_end-via-then-open_end, operands_pass-then-open_end-via-else-open_end+then-level-least, operands_pass-then-open_end-via-else-open_end+else-level-least+then-not-passes}

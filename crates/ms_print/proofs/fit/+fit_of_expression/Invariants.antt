@@ -1,4 +1,4 @@
-use Rattle.std.proofs.Common.{take, true}
+use Rattle.std.proofs.Common.{take}
 use Rattle.ms_grammar.specs.View.{expressions_of, variables_of, parts_of}
 use Rattle.ms_print.specs.Passes.{AllPass, VariablesPass, PartsPass}
 use Rattle.ms_print.proofs.Prefixes.{OperandsSoFar}
