@@ -1,0 +1,15 @@
+pub mod Back
+pub mod Declared
+pub mod Fitting
+pub mod Fused
+pub mod Header
+pub mod Lists
+pub mod Passing
+pub mod Prefixes
+pub mod Printing
+pub mod Reading
+pub mod Shapes
+pub mod Sources
+pub mod Spelled
+pub mod Spellings
+pub mod Tokens

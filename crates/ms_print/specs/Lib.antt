@@ -1,0 +1,5 @@
+pub mod Header
+pub mod Passes
+pub mod Printable
+pub mod Printed
+pub mod Text

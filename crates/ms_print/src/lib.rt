@@ -1,0 +1,15 @@
+//! Texts of trees: whether some text reads as a tree, and such a text.
+#![tactic(auto)]
+
+mod clear;
+mod declaration;
+mod expression;
+mod fit;
+mod level;
+mod said;
+mod source_fit;
+mod text;
+mod token;
+
+pub use source_fit::fits;
+pub use text::print;
