@@ -1,5 +1,9 @@
-pub mod Arms
+pub mod Exports
+pub mod FreeVariables
+pub mod Lists
 pub mod Operands
 pub mod Repeats
 pub mod States
 pub mod Tables
+pub mod Values
+pub mod Walk

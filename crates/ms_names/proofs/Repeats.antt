@@ -91,7 +91,7 @@ parts-next s t earlier ps i p below is checked =
     ∙ ap (λ rest. with_faults s (faults_of_parts earlier (parts_of rest))) (sym (next ps i p below is))
 
 -- some faults and readings, and then some more
-noted-noted : (s : State) (fs gs : List Fault) (rs more : List Reading) → noted (noted s fs rs) gs more ≡ noted s (fs ++ gs) (rs ++ more)
+pub noted-noted : (s : State) (fs gs : List Fault) (rs more : List Reading) → noted (noted s fs rs) gs more ≡ noted s (fs ++ gs) (rs ++ more)
 noted-noted s fs gs rs more = λ i. record s {
   first = sym (first_with-append s.first fs gs) i;
   reads = append_assoc s.reads rs more i;

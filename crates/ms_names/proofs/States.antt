@@ -11,7 +11,7 @@ use Rattle.ms_names.specs.Fault.{first_of_two, first_with}
 use Rattle.ms_names.specs.Occurrence.{Occurrence, occurrences}
 use Rattle.ms_names.specs.Reads.{readings_at}
 use Rattle.ms_names.specs.Rules.{faults_at}
-use Rattle.ms_names.specs.State.{State, with_faults, passed, after_inside}
+use Rattle.ms_names.specs.State.{State, passed}
 use Rattle.ms_names.specs.Uses.{import_at, export_at}
 
 -- the first of two lists of faults, one after the other
@@ -42,39 +42,6 @@ two-passed s t u w v e f first second =
     let P : State → Type 0 = λ there. u ≡ passed there (occurrences there.scope there.before v f) (after there.before f) in
     subst P first second
     ∙ passed-passed s (occurrences s.scope s.before w e) (occurrences s.scope (after s.before e) v f) (after s.before e) (after (after s.before e) f)
-
--- an expression after its own faults
-pub faults-passed : (s t u v : State) (fs gs hs : List Fault) (os : List Occurrence) (b : Before) →
-    t ≡ with_faults s fs → u ≡ with_faults t gs → v ≡ with_faults u hs →
-    passed v os b ≡ record (passed s os b) { first = first_with s.first ((fs ++ (gs ++ hs)) ++ flat_map faults_at os) }
-faults-passed s t u v fs gs hs os b first second third =
-    let P : State → Type 0 = λ there. v ≡ with_faults (with_faults there gs) hs in
-    let Q : State → Type 0 = λ there. v ≡ with_faults there hs in
-    let found : v ≡ with_faults (with_faults (with_faults s fs) gs) hs = subst P first (subst Q second third) in
-    ap (λ there. passed there os b) found
-    ∙ ap (λ known. record (passed s os b) { first = known })
-    (ap (λ known. first_with known (flat_map faults_at os))
-    (sym (first_with-append (first_with s.first fs) gs hs) ∙ sym (first_with-append s.first fs (gs ++ hs)))
-    ∙ sym (first_with-append s.first (fs ++ (gs ++ hs)) (flat_map faults_at os)))
-
--- the faults of the order of an expression, and then all inside it
-pub plain : (s : State) (fs : List Fault) (os : List Occurrence) (b : Before) → passed (with_faults s fs) os b ≡ after_inside s fs os b
-plain s fs os b =
-    ap (λ known. record (passed s os b) { first = known })
-    (sym (first_with-append s.first fs (flat_map faults_at os))
-    ∙ ap (λ gs. first_with s.first (gs ++ flat_map faults_at os)) (sym (append-nil fs)))
-
--- the same where two expressions are inside
-pub two-inside : (s r t u : State) (fs : List Fault) (w v : Wanted) (e f : Expression) →
-    r ≡ with_faults s fs →
-    t ≡ passed r (occurrences r.scope r.before w e) (after r.before e) →
-    u ≡ passed t (occurrences t.scope t.before v f) (after t.before f) →
-    u ≡ after_inside s fs (occurrences s.scope s.before w e ++ occurrences s.scope (after s.before e) v f) (after (after s.before e) f)
-two-inside s r t u fs w v e f ordered first second =
-    let P : State → Type 0 = λ there.
-    u ≡ passed there (occurrences there.scope there.before w e ++ occurrences there.scope (after there.before e) v f) (after (after there.before e) f) in
-    subst P ordered (two-passed r t u w v e f first second)
-    ∙ plain s fs (occurrences s.scope s.before w e ++ occurrences s.scope (after s.before e) v f) (after (after s.before e) f)
 
 -- nothing yet
 pub passed-none : (s : State) → s ≡ passed s [] s.before

@@ -1,8 +1,10 @@
 pub mod Before
+pub mod Binder
 pub mod Constant
 pub mod Declarations
 pub mod Examples
 pub mod Fault
+pub mod Free
 pub mod Lists
 pub mod Occurrence
 pub mod Order

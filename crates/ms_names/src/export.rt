@@ -1,11 +1,18 @@
-ghost use Rattle.ms_names.specs.Rules.{faults_of_export, first_name_twice};
+ghost use Rattle.ms_names.specs.Before.{with_export};
+ghost use Rattle.ms_names.specs.Free.{Tells, export_use};
+ghost use Rattle.ms_names.specs.Reads.{variables_read, with_predicates};
+ghost use Rattle.ms_names.specs.Rules.{faults_of_export, first_name_twice, in_case};
 ghost use Rattle.ms_names.specs.State.{with_faults};
+ghost use Rattle.ms_names.specs.declared.fault.Fault.TheVariants.{NotHere};
+ghost use Rattle.std.specs.List.{insert};
 ghost use Rattle.std.specs.Option.{option_copied};
-ghost use Rattle.std.specs.Prelude.{◌≡◌, ◌∷◌, IfOk, OnOk};
+ghost use Rattle.std.specs.Prelude.{◌≡◌, ◌≤◌, ◌∷◌, drop, length, not, IfOk, OnOk};
 
 use crate::checker::Checker;
+use crate::fault::Fault;
+use crate::free::Read;
 use crate::seen::Seen;
-use ms_edge::{Name, NoMemory};
+use ms_edge::{At, Name, NoMemory, Text};
 use ms_logic::ExportUse;
 use std::alloc::Global;
 
@@ -27,7 +34,80 @@ fn first_twice<'a>(alloc: Global, names: &'a [Name]) -> Result<Option<&'a Name>,
     Ok(found)
 }
 
+/// Where the formula of an export begins: how many exports and readings there are, and the number of the export.
+#[derive(Clone, Copy)]
+pub(crate) struct Begun {
+    pub(crate) exports: usize,
+    pub(crate) reads: usize,
+    pub(crate) number: u32,
+}
+
 impl Checker {
+    /// Begins an export: reports it where none may stand.
+    pub(crate) fn begin_export(&mut self, at: At) -> Result<Begun, NoMemory>
+        ensures state { OnOk result (self.new ≡ record
+            (with_faults self.old (in_case (not self.old.scope.exports_allowed) (NotHere at)))
+            { before = with_export self.old.before }) }
+        ensures exports { IfOk result (λ begun. begun.exports ≡ length self.old.exports) }
+        ensures reads { IfOk result (λ begun. begun.reads ≡ length self.old.reads) }
+        ensures number { IfOk result (λ begun. begun.number ≡ self.old.before.exports) }
+    {
+        let number = self.export_count;
+        let Some(count) = number.checked_add(1) else {
+            return Err(NoMemory);
+        };
+        if !self.exports_allowed {
+            self.report(Fault::NotHere(at));
+        }
+        self.export_count = count;
+        Ok(Begun {
+            exports: self.exports.len(),
+            reads: self.reads.len(),
+            number,
+        })
+    }
+
+    // The variables that are among the readings from a place on, through predicates too.
+    fn read_from(&self, from: usize) -> Result<Read, NoMemory>
+        requires { from ≤ length self.now.reads }
+        ensures { IfOk result (λ read. Tells read (with_predicates self.now.scope.readings (drop from self.now.reads))) }
+    {
+        let mut read = Read::new(self.alloc);
+        read.add_all(&self.reads.slice()[from..])?;
+        read.add_predicates(&self.predicates)?;
+        Ok(read)
+    }
+
+    /// Notes an export before those inside it, with the variables that are read from a place on.
+    pub(crate) fn note_export(
+        &mut self,
+        at: At,
+        file: &Text,
+        entry: usize,
+        from: usize,
+    ) -> Result<(), NoMemory>
+        requires entry { entry ≤ length self.old.exports }
+        requires from { from ≤ length self.old.reads }
+        ensures { OnOk result (self.new ≡ record self.old {
+          exports = insert self.old.exports entry
+              (export_use at file.now (variables_read self.old.scope (drop from self.old.reads)));
+        }) }
+    {
+        let read = self.read_from(from)?;
+        let name = Text::new(self.alloc, file.text())?;
+        let (variables, names) = self.names.variables_read(&read)?;
+        let export = ExportUse {
+            at,
+            name,
+            variables,
+            names,
+        };
+        match self.exports.insert(entry, export) {
+            Ok(()) => Ok(()),
+            Err(_) => Err(NoMemory),
+        }
+    }
+
     /// Reports an export whose file name stands in an earlier one, or two of whose variables have one name.
     pub(crate) fn check_export(
         &mut self,

@@ -2,17 +2,23 @@
 #![tactic(auto)]
 
 mod build;
+mod call;
 mod checker;
+mod default;
 mod examples;
 mod export;
+mod expression;
 mod fault;
+mod free;
 mod import;
 mod meaning;
 mod memory;
 mod name;
 mod names;
 mod order;
+mod quantifier;
 mod repeat;
+mod scope;
 mod seen;
 mod value;
 mod wanted;

@@ -1,11 +1,14 @@
 ghost use Rattle.indexmap.specs.IndexMap.{get_by_text};
-ghost use Rattle.ms_names.specs.Scope.{meaning_among};
-ghost use Rattle.ms_names.specs.Table.{flat, IsNoted, IsSame};
-ghost use Rattle.std.specs.Prelude.{◌≡◌, [], ◌∷◌, ◌++◌, drop, length, OnOk, OnErr, option_copied, string_bytes};
+ghost use Rattle.ms_names.specs.Free.{Readings, Tells, read_among};
+ghost use Rattle.ms_names.specs.Scope.{meaning_among, variables_among};
+ghost use Rattle.ms_names.specs.Table.{flat, IsNoted, IsSame, named_meaning};
+ghost use Rattle.std.specs.Prelude.{◌≡◌, [], ◌∷◌, ◌++◌, drop, length, map, IfOk, OnOk, OnErr, option_copied, string_bytes};
 
+use crate::free::Read;
 use crate::meaning::Meaning;
+use crate::memory::push;
 use indexmap::IndexMap;
-use ms_edge::{Name, NoMemory};
+use ms_edge::{List, Name, NoMemory};
 use std::alloc::Global;
 use std::marker::Model;
 
@@ -92,6 +95,29 @@ impl Names {
         Ok(())
     }
 
+    /// The variables among the names that are read, the outermost first, by their numbers and by their names.
+    pub(crate) fn variables_read(&self, read: &Read) -> Result<(List<u32>, List<Name>), NoMemory>
+        ensures { IfOk result (λ free. (rs : Readings) → Tells read.now rs
+            → (free.0 ≡ map (λ v. v.number) (read_among rs (variables_among self.now)))
+            × (free.1 ≡ map (λ v. v.name) (read_among rs (variables_among self.now)))) }
+    {
+        let mut numbers = List::new(self.alloc);
+        let mut names = List::new(self.alloc);
+        for entry in &self.entries {
+            note_entry(self.alloc, entry, read, &mut numbers, &mut names)?;
+        }
+        Ok((numbers, names))
+    }
+
+    /// Without the innermost names, so many.
+    pub(crate) fn unbind_all(&mut self, count: usize)
+        ensures { self.new ≡ drop count self.old }
+    {
+        for _i in 0..count {
+            self.unbind();
+        }
+    }
+
     /// Without the innermost name.
     pub(crate) fn unbind(&mut self)
         ensures { self.new ≡ drop 1 self.old }
@@ -107,6 +133,33 @@ impl Names {
                 return;
             };
         }
+    }
+}
+
+// An entry behind those before it, if it is a variable that is read.
+fn note_entry(
+    alloc: Global,
+    entry: &Entry,
+    read: &Read,
+    numbers: &mut List<u32>,
+    names: &mut List<Name>,
+) -> Result<(), NoMemory>
+    ensures numbers { OnOk result ((rs : Readings) → Tells read.now rs
+        → numbers.new ≡ numbers.old ++ map (λ v. v.number) (read_among rs (variables_among (named_meaning entry.now ∷ [])))) }
+    ensures names { OnOk result ((rs : Readings) → Tells read.now rs
+        → names.new ≡ names.old ++ map (λ v. v.name) (read_among rs (variables_among (named_meaning entry.now ∷ [])))) }
+{
+    match &entry.meaning {
+        Meaning::Variable(x, _) => {
+            if read.reads_variable(*x) {
+                let name = Name::new(alloc, entry.name.as_str())?;
+                push(numbers, *x)?;
+                push(names, name)?;
+            }
+            Ok(())
+        }
+        Meaning::Constant(_) => Ok(()),
+        Meaning::Predicate(_, _) => Ok(()),
     }
 }
 

@@ -1,0 +1,227 @@
+-- An expression after what is inside it.
+use Rattle.std.proofs.Common.{◌≡◌, ℕ, ◌+◌, ◌≤◌, Bool, List, [], ◌∷◌, ◌++◌, append_assoc, length, drop, length-append, arith, Result, Ok, Err, OnOk, refl, sym, subst, ap, ◌∙◌}
+use Rattle.std.specs.Prelude.{flat_map, not}
+use Rattle.std.specs.List.{insert}
+use Rattle.std.proofs.lemmas.List.{drop-drop}
+use Rattle.std.proofs.Math.Seq.{drop-append_seam, take-append_seam}
+use Rattle.ms_edge.specs.declared.at.At.{At}
+use Rattle.ms_logic.specs.declared.mode.Order.{Order}
+use Rattle.ms_logic.specs.declared.mode.Quant.{Quant}
+use Rattle.ms_names.specs.declared.fault.Fault.{Fault}
+use Rattle.ms_names.specs.declared.fault.Fault.TheVariants.{NotHere}
+use Rattle.ms_names.specs.declared.meaning.Meaning.{Meaning}
+use Rattle.ms_names.specs.declared.meaning.Meaning.TheVariants.{Variable}
+use Rattle.ms_names.specs.declared.meaning.Reading.{Reading}
+use Rattle.ms_names.specs.declared.wanted.Wanted.{Wanted}
+use Rattle.ms_names.specs.Syntax.{Bytes, Expression, Expressions, Bounds, no_bounds, more_bounds, Parts, no_parts, more_parts, call, quantified, where_let, exported}
+use Rattle.ms_names.specs.Before.{Before, after, after_all, after_bounds, after_parts, with_names, with_export}
+use Rattle.ms_names.specs.Binder.{after_restrictions, unbound}
+use Rattle.ms_names.specs.Fault.{first_with}
+use Rattle.ms_names.specs.Free.{export_use}
+use Rattle.ms_names.specs.Occurrence.{Occurrence, occurrences, inside, inside_arguments, inside_bounds, inside_parts, formula_wanted}
+use Rattle.ms_names.specs.Order.{parameters_of}
+use Rattle.ms_names.specs.Reads.{readings_at, readings_of_bounds, readings_of_call, variables_read}
+use Rattle.ms_names.specs.Rules.{count, faults_at, faults_of_bounds, faults_of_call, faults_of_form, faults_of_order, faults_of_parts, in_case}
+use Rattle.ms_names.specs.Scope.{Scope, bind, count_of_bounds, count_of_parts, meaning_of, under_bounds, under_parts, without_exports}
+use Rattle.ms_names.specs.State.{State, with_faults, passed, noted, formed}
+use Rattle.ms_names.specs.Uses.{import_at, export_at}
+use Rattle.ms_names.proofs.States.{first_with-append, passed-passed}
+
+-- after some faults and readings, and then some expressions
+abbrev pub with_inside : State → List Fault → List Reading → List Occurrence → Before → State
+with_inside s fs rs os b = record {
+  scope = s.scope;
+  before = b;
+  first = first_with s.first (fs ++ flat_map faults_at os);
+  reads = s.reads ++ (rs ++ flat_map readings_at os);
+  imports = s.imports ++ flat_map import_at os;
+  exports = s.exports ++ flat_map export_at os;
+}
+
+-- an expression after the fault of its order and then by its form
+pub formed-passed : (s r u : State) (w : Wanted) (e : Expression) →
+    r ≡ with_faults s (faults_of_order s.scope w e) → u ≡ formed r e →
+    u ≡ passed s (occurrences s.scope s.before w e) (after s.before e)
+formed-passed s r u w e ordered within =
+    let fs = faults_of_order s.scope w e in
+    let gs = faults_of_form s.scope e in
+    let hs = flat_map faults_at (inside s.scope s.before e) in
+    within ∙ (ap (λ there. formed there e) ordered
+    ∙ ap (λ known. record (passed s (occurrences s.scope s.before w e) (after s.before e)) { first = known })
+    (sym (first_with-append s.first fs (gs ++ hs)) ∙ ap (first_with s.first) (sym (append_assoc fs gs hs))))
+
+-- faults and readings, and then what is inside
+pub noted-passed : (s : State) (fs : List Fault) (rs : List Reading) (os : List Occurrence) (b : Before) →
+    passed (noted s fs rs) os b ≡ with_inside s fs rs os b
+noted-passed s fs rs os b = λ i. record {
+  scope = s.scope;
+  before = b;
+  first = sym (first_with-append s.first fs (flat_map faults_at os)) i;
+  reads = append_assoc s.reads rs (flat_map readings_at os) i;
+  imports = s.imports ++ flat_map import_at os;
+  exports = s.exports ++ flat_map export_at os;
+}
+
+pub faults-passed : (s : State) (fs : List Fault) (os : List Occurrence) (b : Before) →
+    passed (with_faults s fs) os b ≡ with_inside s fs [] os b
+faults-passed s fs os b =
+    ap (λ known. record (passed s os b) { first = known }) (sym (first_with-append s.first fs (flat_map faults_at os)))
+
+pub call-formed : (s r t u v : State) (at : At) (n : Bytes) (es : Expressions) (given : ℕ) (parameters : List Order) (allowed : Bool) →
+    given ≡ count es → parameters ≡ parameters_of (meaning_of s.scope n) →
+    r ≡ noted s (faults_of_call at n given (meaning_of s.scope n)) (readings_of_call (meaning_of s.scope n)) →
+    allowed ≡ r.scope.exports_allowed →
+    t ≡ record r { scope = without_exports r.scope } →
+    u ≡ passed t (inside_arguments t.scope t.before parameters es) (after_all t.before es) →
+    v ≡ record u { scope = record u.scope { exports_allowed = allowed } } →
+    v ≡ formed s (call at n es)
+call-formed s r t u v at n es given parameters allowed counted known named was without within last =
+    let m = meaning_of s.scope n in
+    let F : State → State = λ there. passed (record there { scope = without_exports there.scope })
+    (inside_arguments (without_exports there.scope) there.before parameters es) (after_all there.before es) in
+    let P : State → Type 0 = λ there. u ≡ passed there (inside_arguments there.scope there.before parameters es) (after_all there.before es) in
+    let inner : u ≡ F r = subst P without within in
+    last
+    ∙ (ap (λ (there : State). record there { scope = record there.scope { exports_allowed = allowed } }) inner
+    ∙ (ap (λ was_allowed. record (F r) { scope = record r.scope { exports_allowed = was_allowed } }) was
+    ∙ (ap (λ (there : State). record (F there) { scope = there.scope }) named
+    ∙ (ap (λ orders. passed (noted s (faults_of_call at n given m) (readings_of_call m)) (inside_arguments (without_exports s.scope) s.before orders es) (after_all s.before es)) known
+    ∙ (ap (λ k. passed (noted s (faults_of_call at n k m) (readings_of_call m)) (inside_arguments (without_exports s.scope) s.before (parameters_of m) es) (after_all s.before es)) counted
+    ∙ noted-passed s (faults_of_call at n (count es) m) (readings_of_call m) (inside_arguments (without_exports s.scope) s.before (parameters_of m) es) (after_all s.before es))))))
+
+-- without the variables of a list
+pub unbound-bounds : (s : Scope) (x : ℕ) (vs : Bounds) →
+    record (under_bounds s x vs) { names = drop (count_of_bounds vs) (under_bounds s x vs).names } ≡ s
+unbound-bounds s x no_bounds = refl
+unbound-bounds s x (more_bounds at o n d vs) =
+    let inner = bind n (Variable x o) s in
+    let N : List (Bytes × Meaning) → Scope = λ names. record (under_bounds inner (x + 1) vs) { names = names } in
+    ap N
+    (sym (drop-drop 1 (count_of_bounds vs) (under_bounds inner (x + 1) vs).names))
+    ∙ ap (λ (there : Scope). record there { names = drop 1 there.names }) (unbound-bounds inner (x + 1) vs)
+
+pub unbound-parts : (s : Scope) (x : ℕ) (o : Order) (ps : Parts) →
+    record (under_parts s x o ps) { names = drop (count_of_parts ps) (under_parts s x o ps).names } ≡ s
+unbound-parts s x o no_parts = refl
+unbound-parts s x o (more_parts at n e ps) =
+    let inner = bind n (Variable x o) s in
+    let N : List (Bytes × Meaning) → Scope = λ names. record (under_parts inner (x + 1) o ps) { names = names } in
+    ap N
+    (sym (drop-drop 1 (count_of_parts ps) (under_parts inner (x + 1) o ps).names))
+    ∙ ap (λ (there : Scope). record there { names = drop 1 there.names }) (unbound-parts inner (x + 1) o ps)
+
+pub quantified-formed : (s r t u v : State) (at : At) (q : Quant) (vs : Bounds) (e : Expression) (x n : ℕ) →
+    x ≡ s.before.next → n ≡ count_of_bounds vs →
+    r ≡ record (noted s (faults_of_bounds [] vs) (readings_of_bounds s.scope vs)) { before = with_names s.before (count_of_bounds vs) } →
+    t ≡ after_restrictions r x vs →
+    u ≡ passed t (occurrences t.scope t.before formula_wanted e) (after t.before e) →
+    v ≡ unbound n u →
+    v ≡ formed s (quantified at q vs e)
+quantified-formed s r t u v at q vs e x n first counted begun restricted within last =
+    let here = with_names s.before (count_of_bounds vs) in
+    let fs = faults_of_bounds [] vs in
+    let rs = readings_of_bounds s.scope vs in
+    let before = inside_bounds s.scope s.before.next here vs in
+    let inner = under_bounds s.scope s.before.next vs in
+    let os = occurrences inner (after_bounds here vs) formula_wanted e in
+    let end = after (after_bounds here vs) e in
+    let G : State → State = λ there. passed there (occurrences there.scope there.before formula_wanted e) (after there.before e) in
+    let begun_at = record (noted s fs rs) { before = here } in
+    let known : t ≡ after_restrictions begun_at s.before.next vs =
+    restricted ∙ (ap (λ y. after_restrictions r y vs) first ∙ ap (λ there. after_restrictions there s.before.next vs) begun) in
+    last
+    ∙ (ap (λ k. unbound k u) counted
+    ∙ (ap (unbound (count_of_bounds vs)) (within ∙ ap G known)
+    ∙ (ap (λ (found : State). record found { scope = record inner { names = drop (count_of_bounds vs) inner.names } }) (passed-passed (noted s fs rs) before os (after_bounds here vs) end)
+    ∙ (ap (λ (there : Scope). record (passed (noted s fs rs) (before ++ os) end) { scope = there }) (unbound-bounds s.scope s.before.next vs)
+    ∙ noted-passed s fs rs (before ++ os) end))))
+
+pub let-formed : (s r p q t w u v l : State) (at : At) (o : Order) (ps : Parts) (e : Expression) (x n m : ℕ) (allowed : Bool) →
+    x ≡ r.before.next → n ≡ count_of_parts ps → m ≡ count_of_parts ps →
+    r ≡ with_faults s (faults_of_parts [] ps) →
+    p ≡ record r { before = with_names r.before n } →
+    allowed ≡ p.scope.exports_allowed →
+    q ≡ record p { scope = without_exports p.scope } →
+    t ≡ passed q (inside_parts q.scope q.before o ps) (after_parts q.before ps) →
+    w ≡ record t { scope = under_parts t.scope x o ps } →
+    u ≡ passed w (occurrences w.scope w.before formula_wanted e) (after w.before e) →
+    v ≡ unbound m u →
+    l ≡ record v { scope = record v.scope { exports_allowed = allowed } } →
+    l ≡ formed s (where_let at o ps e)
+let-formed s r p q t w u v l at o ps e x n m allowed first counted counted_again checked numbered was without right_sides named within unnamed last =
+    let here = with_names s.before (count_of_parts ps) in
+    let fs = faults_of_parts [] ps in
+    let outer = without_exports s.scope in
+    let before = inside_parts outer here o ps in
+    let inner = under_parts outer s.before.next o ps in
+    let os = occurrences inner (after_parts here ps) formula_wanted e in
+    let end = after (after_parts here ps) e in
+    let G : State → State = λ there. passed there (occurrences there.scope there.before formula_wanted e) (after there.before e) in
+    let H : State → State = λ there. passed there (inside_parts there.scope there.before o ps) (after_parts there.before ps) in
+    let numbered_at : p ≡ record (with_faults s fs) { before = here } =
+    numbered ∙ (ap (λ k. record r { before = with_names r.before k }) counted ∙ ap (λ (there : State). record there { before = with_names there.before (count_of_parts ps) }) checked) in
+    let start = record (with_faults s fs) { before = here; scope = outer } in
+    let begun : q ≡ start = without ∙ ap (λ (there : State). record there { scope = without_exports there.scope }) numbered_at in
+    let first_is : x ≡ s.before.next = first ∙ ap (λ (there : State). there.before.next) checked in
+    let known : w ≡ record (H start) { scope = inner } =
+    named ∙ (ap (λ y. record t { scope = under_parts t.scope y o ps }) first_is
+    ∙ ap (λ (there : State). record there { scope = under_parts there.scope s.before.next o ps }) (right_sides ∙ ap H begun)) in
+    let was_is : allowed ≡ s.scope.exports_allowed = was ∙ ap (λ (there : State). there.scope.exports_allowed) numbered_at in
+    last
+    ∙ (ap (λ (there : State). record there { scope = record there.scope { exports_allowed = allowed } })
+    (unnamed ∙ (ap (λ k. unbound k u) counted_again
+    ∙ (ap (unbound (count_of_parts ps)) (within ∙ ap G known)
+    ∙ (ap (λ (found : State). record found { scope = record inner { names = drop (count_of_parts ps) inner.names } }) (passed-passed (with_faults s fs) before os (after_parts here ps) end)
+    ∙ ap (λ (there : Scope). record (passed (with_faults s fs) (before ++ os) end) { scope = there }) (unbound-parts outer s.before.next o ps)))))
+    ∙ (ap (λ can. record (passed (with_faults s fs) (before ++ os) end) { scope = record outer { exports_allowed = can } }) was_is
+    ∙ faults-passed s fs (before ++ os) end))
+
+pub insert-behind : {A : Type 0} (xs ys : List A) (x : A) → insert (xs ++ ys) (length xs) x ≡ xs ++ (x ∷ ys)
+insert-behind xs ys x =
+    ap (λ before. before ++ x ∷ drop (length xs) (xs ++ ys)) (take-append_seam xs ys) ∙ ap (λ behind. xs ++ x ∷ behind) (drop-append_seam xs ys)
+
+pub export-formed : (s r t u : State) (at text_at : At) (file : Bytes) (e : Expression) (entry from : ℕ) →
+    r ≡ record (with_faults s (in_case (not s.scope.exports_allowed) (NotHere at))) { before = with_export s.before } →
+    t ≡ passed r (occurrences r.scope r.before formula_wanted e) (after r.before e) →
+    entry ≡ length s.exports → from ≡ length s.reads →
+    u ≡ record t { exports = insert t.exports entry (export_use text_at file (variables_read t.scope (drop from t.reads))) } →
+    u ≡ formed s (exported at text_at file e)
+export-formed s r t u at text_at file e entry from begun within entry_is from_is last =
+    let fs = in_case (not s.scope.exports_allowed) (NotHere at) in
+    let os = occurrences s.scope (with_export s.before) formula_wanted e in
+    let end = after (with_export s.before) e in
+    let G : State → State = λ there. passed there (occurrences there.scope there.before formula_wanted e) (after there.before e) in
+    let found : t ≡ with_inside s fs [] os end = within ∙ (ap G begun ∙ faults-passed s fs os end) in
+    let rs = flat_map readings_at os in
+    let xs = flat_map export_at os in
+    let N : State → ℕ → ℕ → State = λ there i j. record there { exports = insert there.exports i (export_use text_at file (variables_read there.scope (drop j there.reads))) } in
+    last
+    ∙ (ap (λ there. N there entry from) found
+    ∙ (ap (λ i. N (with_inside s fs [] os end) i from) entry_is
+    ∙ (ap (λ j. N (with_inside s fs [] os end) (length s.exports) j) from_is
+    ∙ (ap (λ read. record (with_inside s fs [] os end) { exports = insert (s.exports ++ xs) (length s.exports) (export_use text_at file (variables_read s.scope read)) }) (drop-append_seam s.reads rs)
+    ∙ ap (λ uses. record (with_inside s fs [] os end) { exports = uses }) (insert-behind s.exports xs (export_use text_at file (variables_read s.scope rs)))))))
+
+-- a fact at a last call, whose answer is handed on
+pub on_ok : {T E P : Type 0} (r : Result T E) → P → OnOk r P
+on_ok (Ok value) here = here
+on_ok (Err e) here = tt
+
+-- what an export notes lies within what is there after its formula
+
+longer : {A : Type 0} (n : ℕ) (xs ys : List A) → n ≡ length xs → n ≤ length (xs ++ ys)
+longer n xs ys is = let e = length-append xs ys in omega (arith, e)
+
+pub export-entry : (s r t : State) (fs : List Fault) (os : List Occurrence) (b c : Before) (n : ℕ) →
+    r ≡ record (with_faults s fs) { before = b } → t ≡ passed r os c → n ≡ length s.exports → n ≤ length t.exports
+export-entry s r t fs os b c n begun within is =
+    let P : State → Type 0 = λ there. n ≤ length there.exports in
+    let Q : State → Type 0 = λ there. n ≤ length (there.exports ++ flat_map export_at os) in
+    subst P (sym within) (subst Q (sym begun) (longer n s.exports (flat_map export_at os) is))
+
+pub export-from : (s r t : State) (fs : List Fault) (os : List Occurrence) (b c : Before) (n : ℕ) →
+    r ≡ record (with_faults s fs) { before = b } → t ≡ passed r os c → n ≡ length s.reads → n ≤ length t.reads
+export-from s r t fs os b c n begun within is =
+    let P : State → Type 0 = λ there. n ≤ length there.reads in
+    let Q : State → Type 0 = λ there. n ≤ length (there.reads ++ flat_map readings_at os) in
+    subst P (sym within) (subst Q (sym begun) (longer n s.reads (flat_map readings_at os) is))

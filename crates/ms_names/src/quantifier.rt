@@ -1,0 +1,185 @@
+ghost use Rattle.ms_logic.specs.Tree as tree;
+ghost use Rattle.ms_logic.specs.View.{argument_of, binding_of, declaration_of, formula_of};
+ghost use Rattle.ms_names.specs.Binder.{quantified_over, restricted_variable, restriction_in, sides_of};
+ghost use Rattle.ms_names.specs.Syntax.{unrestricted};
+ghost use Rattle.ms_names.specs.Typed.{both, formula_in, of_order, typed_restriction, formula_of_one};
+ghost use Rattle.std.specs.Option.{option_map, option_and_then};
+ghost use Rattle.std.specs.Prelude.{◌≡◌, ◌∷◌, ◌++◌, [], Some, map, IfOk};
+
+use crate::build::formula_in;
+use crate::call::in_order;
+use crate::checker::Checker;
+use crate::memory::{boxed, push};
+use ms_edge::{Boxed, List, NoMemory};
+use ms_logic::{Arg, Binding, Formula, Order, Param, Quant, Term2};
+use std::alloc::Global;
+
+impl Checker {
+    /// A variable that has no restriction of its own.
+    pub(crate) fn unrestricted(&self, x: u32, order: Order, takes_defaults: bool) -> Param
+        ensures { Some (declaration_of result) ≡ option_map (restricted_variable x order) (restriction_in takes_defaults self.now.scope self.now.before order x unrestricted) }
+    {
+        let default = if takes_defaults {
+            self.default_of(order)
+        } else {
+            None
+        };
+        let domain = match default {
+            None => None,
+            Some(number) => Some(Formula::Domain(number, x)),
+        };
+        Param {
+            order,
+            variable: x,
+            domain,
+        }
+    }
+}
+
+/// A variable by what its restriction became.
+pub(crate) fn restricted(x: u32, order: Order, value: Option<Arg>) -> Option<Param>
+    ensures { option_map declaration_of result ≡ option_map (restricted_variable x order) (typed_restriction (option_map argument_of value)) }
+{
+    let formula = formula_in(value)?;
+    Some(Param {
+        order,
+        variable: x,
+        domain: Some(formula),
+    })
+}
+
+/// A variable behind those before it, if all restrictions are formulas.
+pub(crate) fn more_params(
+    made: Option<Vec<Param>>,
+    param: Option<Param>,
+) -> Result<Option<Vec<Param>>, NoMemory>
+    ensures { IfOk result (λ list. option_map (λ ps. map declaration_of ps.items) list
+        ≡ both (λ front v. front ++ v ∷ []) (option_map (λ ps. map declaration_of ps.items) made) (option_map declaration_of param)) }
+{
+    let Some(mut list) = made else {
+        return Ok(None);
+    };
+    let Some(param) = param else {
+        return Ok(None);
+    };
+    match list.push(param) {
+        Ok(()) => Ok(Some(list)),
+        Err(_) => Err(NoMemory),
+    }
+}
+
+fn boxed_domain(alloc: Global, domain: Option<Formula>) -> Result<Option<Boxed<Formula>>, NoMemory>
+    ensures { IfOk result (λ made. made ≡ domain) }
+{
+    match domain {
+        None => Ok(None),
+        Some(formula) => Ok(Some(boxed(alloc, formula)?)),
+    }
+}
+
+fn quantifier(alloc: Global, quant: Quant, param: Param, body: Formula) -> Result<Formula, NoMemory>
+    ensures { IfOk result (λ made. formula_of made ≡ quantified_over quant (declaration_of param ∷ []) (formula_of body)) }
+{
+    let Param {
+        order,
+        variable,
+        domain,
+    } = param;
+    let domain = boxed_domain(alloc, domain)?;
+    Ok(Formula::Bind(quant, order, variable, domain, boxed(alloc, body)?))
+}
+
+fn quantifiers(
+    alloc: Global,
+    quant: Quant,
+    params: Vec<Param>,
+    body: Formula,
+) -> Result<Formula, NoMemory>
+    ensures { IfOk result (λ made. formula_of made ≡ quantified_over quant (map declaration_of params.items) (formula_of body)) }
+{
+    let mut outer = params;
+    let mut made = body;
+    while let Some(param) = outer.pop() {
+        made = quantifier(alloc, quant, param, made)?;
+    }
+    Ok(made)
+}
+
+/// The quantifiers of a list of variables, the first outermost, by what the restrictions and the body became.
+pub(crate) fn quantified(
+    alloc: Global,
+    quant: Quant,
+    params: Option<Vec<Param>>,
+    body: Option<Arg>,
+) -> Result<Option<Arg>, NoMemory>
+    ensures { IfOk result (λ value. option_map argument_of value
+        ≡ option_map (λ f. tree.truth_argument f) (both (quantified_over quant) (option_map (λ ps. map declaration_of ps.items) params) (formula_in (option_map argument_of body)))) }
+{
+    let Some(params) = params else {
+        return Ok(None);
+    };
+    let Some(body) = formula_in(body) else {
+        return Ok(None);
+    };
+    Ok(Some(Arg::Zero(quantifiers(alloc, quant, params, body)?)))
+}
+
+/// A name of a `let` behind those before it, if all right sides are of the order.
+pub(crate) fn more_bindings(
+    made: Option<List<Binding>>,
+    x: u32,
+    order: Order,
+    value: Option<Arg>,
+) -> Result<Option<List<Binding>>, NoMemory>
+    ensures { IfOk result (λ list. option_map (map binding_of) list
+        ≡ both (λ front a. front ++ (x, a) ∷ []) (option_map (map binding_of) made) (option_and_then (of_order order) (option_map argument_of value))) }
+{
+    let Some(mut list) = made else {
+        return Ok(None);
+    };
+    let Some(value) = in_order(order, value) else {
+        return Ok(None);
+    };
+    push(&mut list, Binding { variable: x, value })?;
+    Ok(Some(list))
+}
+
+/// A `let`, by what its right sides and its body became.
+pub(crate) fn where_let(
+    alloc: Global,
+    bindings: Option<List<Binding>>,
+    body: Option<Arg>,
+) -> Result<Option<Arg>, NoMemory>
+    ensures { IfOk result (λ value. option_map argument_of value
+        ≡ both (λ sides f. tree.truth_argument (tree.where_let sides.0 sides.1 f)) (option_map sides_of bindings) (formula_in (option_map argument_of body))) }
+{
+    let Some(bindings) = bindings else {
+        return Ok(None);
+    };
+    let Some(body) = formula_in(body) else {
+        return Ok(None);
+    };
+    Ok(Some(Arg::Zero(Formula::Let(bindings, boxed(alloc, body)?))))
+}
+
+/// An export with its number, by what its formula became.
+pub(crate) fn exported(
+    alloc: Global,
+    number: u32,
+    body: Option<Arg>,
+) -> Result<Option<Arg>, NoMemory>
+    ensures { IfOk result (λ value. option_map argument_of value ≡ formula_of_one (λ f. tree.exported number f) (option_map argument_of body)) }
+{
+    let Some(body) = formula_in(body) else {
+        return Ok(None);
+    };
+    Ok(Some(Arg::Zero(Formula::Export(number, boxed(alloc, body)?))))
+}
+
+/// The set of the places of the one bits of a constant, if it has a value.
+pub(crate) fn pconst(value: Option<u64>) -> Option<Arg>
+    ensures { option_map argument_of result ≡ option_map (λ n. tree.set_argument (tree.pconst n)) value }
+{
+    let value = value?;
+    Some(Arg::Two(Term2::Pconst(value)))
+}
