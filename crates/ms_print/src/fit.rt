@@ -70,7 +70,8 @@ pub fn are_alike(bounds: &[Bound], order: Order) -> bool
     has_variable(bounds) && are_of_order(bounds, order)
 }
 
-/// Whether an expression that is no deeper than the room can be printed; where `in` is not free, it stands only in brackets.
+/// Whether an expression can be printed and is no deeper than the room; where `in` is not free, it stands only in brackets.
+/// The recursion goes no deeper than the room, however deep the expression is.
 #[cycle(fit_of_expression)]
 #[tactic(auto, using(crate::proofs::Passing::no_room))]
 pub fn passes(e: &Expr, room: u32, free: bool) -> bool
@@ -95,47 +96,47 @@ pub fn passes(e: &Expr, room: u32, free: bool) -> bool
         Form::And(operands) => operands_pass(operands.slice(), 4, room, free),
         Form::Or(operands) => operands_pass(operands.slice(), 3, room, free),
         Form::Implies(left, right) => {
-            stands_left(left.get(), 2)
-                && level(right.get()) >= 1
-                && passes(left.get(), room, free)
+            passes(left.get(), room, free)
                 && passes(right.get(), room, free)
+                && stands_left(left.get(), 2)
+                && level(right.get()) >= 1
         }
         Form::Iff(left, right) => {
-            stands_left(left.get(), 0)
-                && level(right.get()) >= 1
-                && passes(left.get(), room, free)
+            passes(left.get(), room, free)
                 && passes(right.get(), room, free)
+                && stands_left(left.get(), 0)
+                && level(right.get()) >= 1
         }
         Form::Relation(rel, left, right) => {
             may_stand(*rel, free)
-                && stands_left(left.get(), 6)
-                && level(right.get()) >= 6
                 && passes(left.get(), room, free)
                 && passes(right.get(), room, free)
+                && stands_left(left.get(), 6)
+                && level(right.get()) >= 6
         }
         Form::IsEmpty(inner) => passes(inner.get(), room, true),
         Form::Union(left, right) => {
-            stands_left(left.get(), 6)
-                && level(right.get()) >= 7
-                && passes(left.get(), room, free)
+            passes(left.get(), room, free)
                 && passes(right.get(), room, free)
+                && stands_left(left.get(), 6)
+                && level(right.get()) >= 7
         }
         Form::Inter(left, right) => {
-            stands_left(left.get(), 7)
-                && level(right.get()) >= 8
-                && passes(left.get(), room, free)
+            passes(left.get(), room, free)
                 && passes(right.get(), room, free)
+                && stands_left(left.get(), 7)
+                && level(right.get()) >= 8
         }
         Form::Minus(left, right) => {
-            stands_left(left.get(), 8)
-                && level(right.get()) >= 9
-                && passes(left.get(), room, free)
+            passes(left.get(), room, free)
                 && passes(right.get(), room, free)
+                && stands_left(left.get(), 8)
+                && level(right.get()) >= 9
         }
         Form::Shift(operand, n) => {
-            stands_left(operand.get(), 9)
-                && can_say_int(&n.value)
+            can_say_int(&n.value)
                 && passes(operand.get(), room, free)
+                && stands_left(operand.get(), 9)
         }
         Form::Min(operand) => level(operand.get()) >= 11 && passes(operand.get(), room, free),
         Form::Max(operand) => level(operand.get()) >= 11 && passes(operand.get(), room, free),

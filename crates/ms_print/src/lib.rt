@@ -13,3 +13,6 @@ mod token;
 
 pub use source_fit::fits;
 pub use text::print;
+
+#[cfg(test)]
+mod tests;
