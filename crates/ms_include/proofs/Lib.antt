@@ -1,0 +1,4 @@
+pub mod Main
+pub mod Opening
+pub mod Parts
+pub mod Placing

@@ -1,0 +1,4 @@
+pub mod File
+pub mod Include
+pub mod Load
+pub mod Seen

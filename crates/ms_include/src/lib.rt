@@ -1,0 +1,10 @@
+//! Includes: a source of several files as one list of declarations, or the first refusal of one of its files.
+#![tactic(auto)]
+
+mod begun;
+mod file;
+mod loader;
+mod source;
+
+pub use begun::Begun;
+pub use source::load;
