@@ -1,3 +1,4 @@
+pub mod Examples
 pub mod File
 pub mod Include
 pub mod Load

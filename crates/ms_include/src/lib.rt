@@ -2,9 +2,11 @@
 #![tactic(auto)]
 
 mod begun;
+mod examples;
 mod file;
 mod loader;
 mod source;
 
 pub use begun::Begun;
+pub use examples::{example_loads, example_refused_loads};
 pub use source::load;
