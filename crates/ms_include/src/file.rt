@@ -53,7 +53,7 @@ fn read<F: Files>(
 }
 
 /// What the bytes of the file with this number read as.
-fn parse(alloc: Global, bytes: Bytes, number: u32) -> Result<Parsed, Refusal>
+pub fn parse(alloc: Global, bytes: Bytes, number: u32) -> Result<Parsed, Refusal>
     requires { length bytes ≤ source_limit }
     ensures read { IfOk result (λ read. ReadAs number bytes (record { header = read.header; items = read.items.items })) }
     ensures refused { IfErr result (λ refusal. (refusal ≡ Refusal.Memory) ⊎ ReadAsNone number bytes refusal) }

@@ -6,7 +6,9 @@ mod examples;
 mod file;
 mod loader;
 mod source;
+mod text;
 
 pub use begun::Begun;
 pub use examples::{example_loads, example_refused_loads};
 pub use source::load;
+pub use text::load_bytes;

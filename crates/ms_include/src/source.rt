@@ -9,7 +9,8 @@ use ms_logic::{Loaded, Mode};
 use ms_parse::Parsed;
 use std::alloc::Global;
 
-fn mode(header: Option<(At, Mode)>) -> Mode
+/// The mode of a source with this header.
+pub fn mode(header: Option<(At, Mode)>) -> Mode
     ensures { result ≡ mode_of header }
 {
     match header {
