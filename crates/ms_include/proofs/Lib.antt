@@ -1,3 +1,4 @@
+pub mod Bounds
 pub mod Main
 pub mod Opening
 pub mod Parts

@@ -1,4 +1,5 @@
 ghost use Rattle.std.specs.Prelude.{◌≡◌, ◌≤◌, ◌⊎◌, ◌++◌, List, ℕ, length, drop, IfOk, IfErr};
+ghost use Rattle.ms_grammar.specs.Size.{size_of_items};
 ghost use Rattle.ms_include.specs.Load.{mode_of, files_of, IsLoaded, IsRefusedLoad};
 ghost use Rattle.ms_include.specs.Seen.{Seen};
 
@@ -58,6 +59,7 @@ pub fn load<F: Files>(
       overlongs_before = F.overlongs files.old;
       overlongs_after = F.overlongs files.new;
     }) (length names.old)) name.now) }
+    ensures bounded { IfOk result (λ loaded. size_of_items loaded.items ≤ 67108864) }
     ensures names { IfOk result (λ loaded. names.new ≡ names.old ++ loaded.files) }
 
     // The files that a refusal numbers were read before it.

@@ -1,4 +1,5 @@
 use Rattle.std.proofs.Common.{◌≡◌, ◌≤◌, refl, sym, ap, ◌∙◌, arith, length, drop}
+use Rattle.ms_include.proofs.Bounds.{loaded-within}
 use Rattle.ms_include.proofs.Main.{main-loaded, main-unopened, main-stopped, renamed-refused, renamed-loaded}
 use Rattle.ms_include.proofs.Opening.{grown-more}
 use Rattle.ms_include.proofs.Parts.{seen, second-part, whole}
@@ -29,3 +30,7 @@ returns-clause-loaded g c =
     (record { mode = c.mode.result; items = c.from.result; files = c.in_ok-read.read }) c.begin.new.self.items.items c.put_all.new.self.items.items put.0
     c.len-base.ensures c.in_ok-begin.ensures.base refl c.new-2.ensures.items c.in_ok-begin.ensures.chain c.in-Ok-open.ensures.noted c.in-Ok-open.ensures.read c.mode.ensures
     (c.in_ok-read.ensures.ok ∙ ap (drop c.len-base.result) c.slice.ensures) c.from.ensures (c.in_ok-begin.ensures.items ∙ c.new-3.ensures.items) put.1 put.2)
+
+pub returns-clause-bounded : goal.returns-clause-bounded
+returns-clause-bounded g c =
+    loaded-within (seen (g.F.Files.held c.args.files.now) (g.F.Files.faults c.args.files.now) (g.F.Files.faults c.put_all.new.files) (g.F.Files.absences c.args.files.now) (g.F.Files.absences c.put_all.new.files) (g.F.Files.overlongs c.args.files.now) (g.F.Files.overlongs c.put_all.new.files)) (length c.args.names.now) c.args.name.now (record { mode = c.mode.result; items = c.from.result; files = c.in_ok-read.read }) (returns-clause-loaded g c)
