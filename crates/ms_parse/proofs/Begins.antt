@@ -19,7 +19,12 @@ use Rattle.ms_parse.specs.Outcomes.{Took}
 use Rattle.ms_parse.specs.Punctuations.{IsNot}
 use Rattle.ms_grammar.specs.Reads.{Follows, place}
 use Rattle.ms_grammar.specs.Symbol.{open_round, close_round, Placed, placed, text, comma, close_curly, name, infix_operator, arrow}
-use Rattle.ms_grammar.specs.Tree.{Restriction, Call, named, atom, listed, no_expressions, Emptiness, Literal, Export, Relation, Parts, Binary, Expression, Junction, Expressions, and_expression}
+use Rattle.ms_grammar.specs.declared.operator.Binary.{Binary}
+use Rattle.ms_grammar.specs.declared.operator.Binary.TheVariants.{Relation}
+use Rattle.ms_grammar.specs.declared.operator.Junction.{Junction}
+use Rattle.ms_grammar.specs.declared.operator.Bracket.TheVariants.{Restriction, Emptiness, Export}
+use Rattle.ms_grammar.specs.declared.operator.Listing.TheVariants.{Call, Literal}
+use Rattle.ms_grammar.specs.Tree.{named, atom, listed, no_expressions, Parts, Expression, Expressions, and_expression}
 
 pub restrict_refused : (c : Context) (st : List machine.Frame) (at : At) (ts : List Placed) → IsNot open_round ts → begin_restrict c st at ts ≡ None
 restrict_refused c st at [] other = refl

@@ -16,7 +16,7 @@ use Rattle.ms_parse.specs.Outcomes.{Took}
 use Rattle.ms_parse.specs.Signs.{symbol_with, behind, NoName}
 use Rattle.ms_parse.specs.Stack.{stack_of}
 use Rattle.ms_grammar.specs.Symbol.{Symbol, Placed, placed, name, prefix_operator}
-use Rattle.ms_grammar.specs.Tree.{Prefix}
+use Rattle.ms_grammar.specs.declared.operator.Prefix.{Prefix}
 
 pub prefix_entered : (c : Context) (op : Prefix) (at : At) (st : List machine.Frame) (ts : List Placed) → need st ≤ prefix_level op → begin c st at (prefix_operator op) ts ≡ enter c (prefix_frame at op) st ts
 prefix_entered c op at st ts low = ap (λ b. cond b (enter c (prefix_frame at op) st ts) None) (le-leb (need st) (prefix_level op) low)

@@ -6,7 +6,8 @@ use Rattle.ms_logic.specs.declared.mode.Rel.TheVariants.{Equal}
 use Rattle.ms_logic.specs.declared.source.PlacedInt.{PlacedInt}
 use Rattle.ms_logic.specs.declared.source.Rename.{Rename}
 use Rattle.ms_grammar.specs.Symbol.{name, infix_operator, sign, kind, comma, semicolon, arrow, Placed}
-use Rattle.ms_grammar.specs.Tree.{Relation, Expression, Expressions, no_expressions, and_expression, Variables, no_variables, and_variable, Domain, unrestricted, Parts, no_parts, and_part, Declared}
+use Rattle.ms_grammar.specs.declared.operator.Binary.TheVariants.{Relation}
+use Rattle.ms_grammar.specs.Tree.{Expression, Expressions, no_expressions, and_expression, Variables, no_variables, and_variable, Domain, unrestricted, Parts, no_parts, and_part, Declared}
 use Rattle.ms_grammar.specs.Reads.{Starts, Follows, ReadsInt, ReadsPairs, ReadsExpression, ReadsList, ReadsDomain, ReadsVariables, ReadsParts}
 use Rattle.ms_grammar.specs.Declarations.{ReadsKind, ReadsParameters, ReadsFurther, ReadsSum, ReadsDeclaration, BeginsAt, ReadsDeclarations, AreDomains, IsDeclaration, AreDeclarations}
 use Rattle.ms_parse.proofs.Frames.{EntriesSoFar, VariablesSoFar, PartsSoFar}

@@ -3,7 +3,7 @@ use Rattle.std.proofs.Common.{◌≡◌, ℕ, suc, ◌+◌, ◌≤◌, Bool, tru
 use Rattle.std.proofs.lemmas.Bool.{false≢true, leb-true}
 use Rattle.ms_logic.specs.declared.mode.Rel.TheVariants.{Equal, Member}
 use Rattle.ms_grammar.specs.Symbol.{name, prefix_operator, infix_operator, joining, quantifier, let_word, word_where, comma, colon, Placed}
-use Rattle.ms_grammar.specs.Tree.{Relation}
+use Rattle.ms_grammar.specs.declared.operator.Binary.TheVariants.{Relation}
 use Rattle.ms_grammar.specs.Tree.{Expression, Expressions, no_expressions, and_expression, Variables, no_variables, and_variable, Parts, no_parts, and_part}
 use Rattle.ms_grammar.specs.Grammar.{binary_level, left_level, prefix_level, junction_level, level, ends_open, last_ends_open, is_in, has_bare_in, some_bare_in, domain_bare_in, part_bare_in, IsVariableList, IsPartList, IsGrammatical, AreGrammatical, AreOperands, HaveGrammaticalDomains, HaveGrammaticalValues, AreOfOrder, depth}
 use Rattle.ms_grammar.specs.Reads.{Starts, Follows, ReadsOpening, ReadsListOpening, FirstIsAt, ReadsExpression, ReadsSeparated, ReadsList, ReadsVariables, ReadsParts}

@@ -1,7 +1,12 @@
 -- How the levels of operators fit together: what stands to the left of an operator ends before it.
 use Rattle.std.proofs.Common.{◌≡◌, ℕ, suc, ◌≤◌, false, sym, arith}
 use Rattle.std.proofs.lemmas.Bool.{false≢true}
-use Rattle.ms_grammar.specs.Tree.{Prefix, Negation, Binary, Implication, Equivalence, Relation, Union, Intersection, Difference, Junction, Conjunction, Disjunction}
+use Rattle.ms_grammar.specs.declared.operator.Prefix.{Prefix}
+use Rattle.ms_grammar.specs.declared.operator.Prefix.TheVariants.{Negation}
+use Rattle.ms_grammar.specs.declared.operator.Binary.{Binary}
+use Rattle.ms_grammar.specs.declared.operator.Binary.TheVariants.{Implication, Equivalence, Relation, Union, Intersection, Difference}
+use Rattle.ms_grammar.specs.declared.operator.Junction.{Junction}
+use Rattle.ms_grammar.specs.declared.operator.Junction.TheVariants.{Conjunction, Disjunction}
 use Rattle.ms_grammar.specs.Tree.{Expression, atom, prefixed, binary, joined, shifted, enclosed, listed, quantified, let_in, Expressions, no_expressions, and_expression}
 use Rattle.ms_grammar.specs.Grammar.{binary_level, left_level, right_level, prefix_level, operand_level, junction_level, level, ends_open, last_ends_open, IsGrammatical, AreOperands}
 

@@ -20,3 +20,12 @@ pub mod Wanting
 pub mod Expressions
 pub mod Separations
 pub mod Shifts
+pub mod Declaring
+pub mod Ending
+pub mod Joins
+pub mod Loops
+pub mod ParameterSteps
+pub mod Starting
+pub mod Stepping
+pub mod Takes
+pub mod Faults

@@ -6,7 +6,13 @@ use Rattle.ms_logic.specs.declared.source.Int.{Int}
 use Rattle.ms_logic.specs.declared.source.Int.TheVariants.{Number, Constant}
 use Rattle.ms_logic.specs.declared.source.PlacedInt.{PlacedInt}
 use Rattle.ms_grammar.specs.Symbol.{Symbol, name, number, prefix_operator, infix_operator, joining, sign, quantifier, let_word, word_true, word_false, dollar, word_empty, word_pconst, word_import, word_export, word_restrict, open_round, close_round, open_curly, close_curly, comma, colon, semicolon, Placed, placed}
-use Rattle.ms_grammar.specs.Tree.{truth, falsity, whole, empty_set, named, numeral, pconst, imported, Binary, Implication, Equivalence, Relation, Union, Intersection, Difference, Junction, Conjunction, Disjunction, Parentheses, Emptiness, Restriction, Export, Literal, Call}
+use Rattle.ms_grammar.specs.declared.operator.Binary.{Binary}
+use Rattle.ms_grammar.specs.declared.operator.Binary.TheVariants.{Implication, Equivalence, Relation, Union, Intersection, Difference}
+use Rattle.ms_grammar.specs.declared.operator.Junction.{Junction}
+use Rattle.ms_grammar.specs.declared.operator.Junction.TheVariants.{Conjunction, Disjunction}
+use Rattle.ms_grammar.specs.declared.operator.Bracket.TheVariants.{Parentheses, Emptiness, Restriction, Export}
+use Rattle.ms_grammar.specs.declared.operator.Listing.TheVariants.{Literal, Call}
+use Rattle.ms_grammar.specs.Tree.{truth, falsity, whole, empty_set, named, numeral, pconst, imported}
 use Rattle.ms_grammar.specs.Tree.{Expression, atom, prefixed, binary, joined, shifted, enclosed, listed, quantified, let_in, Expressions, no_expressions, and_expression}
 use Rattle.ms_grammar.specs.Grammar.{binary_level, left_level, right_level, operand_level, junction_level, level, is_in, depth, depth_of_all}
 use Rattle.ms_grammar.specs.Reads.{int_symbol, place, ReadsExpression, ReadsSeparated, ReadsList}
@@ -153,7 +159,7 @@ infix_step c op l st x ts low no_let high room deep =
     ∙ entered c (left_frame op l) st ts room deep
 
 -- `+` or `-` and an int behind an operand
-int_read : (c : Context) (minus : Bool) (e : Expression) (st : List Frame) (v : Int) (a : At) (ts : List Placed)
+pub int_read : (c : Context) (minus : Bool) (e : Expression) (st : List Frame) (v : Int) (a : At) (ts : List Placed)
     → shift_int c minus e st (placed (int_symbol v) a ∷ ts) ≡ shift_by c e st (record { at = a; value = v; minus = minus }) ts
 int_read c minus e st (Number n) a ts = refl
 int_read c minus e st (Constant n) a ts = refl
@@ -187,7 +193,7 @@ join_first c op e st x ts low high room deep =
     ∙ entered c (joined_frame (place e) op (and_expression no_expressions e)) st ts room (omega arith)
 
 -- a further operand
-further_joined : (c : Context) (op : Junction) (at : At) (es : Expressions) (e : Expression) (st : List Frame) (ts : List Placed)
+pub further_joined : (c : Context) (op : Junction) (at : At) (es : Expressions) (e : Expression) (st : List Frame) (ts : List Placed)
     → join c op e (joined_frame at op es ∷ st) ts ≡ enter c (joined_frame at op (and_expression es e)) st ts
 further_joined c Conjunction at es e st ts = refl
 further_joined c Disjunction at es e st ts = refl

@@ -29,7 +29,7 @@ one_next : (r r' : State → List Placed → Option Document) → ((s : State) (
 one_next r r' same None d d' read read' = let never : ⊥ = cc in absurd never
 one_next r r' same (Some x) d d' read read' = same x.0 x.1 d d' read read'
 
-one_run : (m n : ℕ) (s : State) (ts : List Placed) (d d' : Document) → run m s ts ≡ Some d → run n s ts ≡ Some d' → d ≡ d'
+pub one_run : (m n : ℕ) (s : State) (ts : List Placed) (d d' : Document) → run m s ts ≡ Some d → run n s ts ≡ Some d' → d ≡ d'
 one_run zero zero s ts d d' read read' = let both : Some d ≡ Some d' = sym read ∙ read' in let same : d ≡ d' = cc in same
 one_run zero (suc n) s ts d d' read read' = absurd (stuck s ts d d' n read read')
 one_run (suc m) zero s ts d d' read read' = absurd (stuck s ts d' d m read' read)

@@ -11,7 +11,7 @@ use Rattle.ms_logic.specs.declared.source.Int.TheVariants.{Number, Constant}
 use Rattle.ms_logic.specs.declared.source.PlacedInt.{PlacedInt}
 use Rattle.ms_logic.specs.declared.source.Rename.{Rename}
 use Rattle.ms_grammar.specs.Symbol.{Symbol, name, number, text, infix_operator, sign, quantifier, kind, predicate_word, default_word, word_where, word_const, word_include, word_ws1s, open_round, close_round, comma, colon, semicolon, arrow, Placed, placed}
-use Rattle.ms_grammar.specs.Tree.{Relation}
+use Rattle.ms_grammar.specs.declared.operator.Binary.TheVariants.{Relation}
 use Rattle.ms_grammar.specs.Tree.{Variables, no_variables, and_variable, unrestricted, Parts}
 use Rattle.ms_grammar.specs.Tree.{variables, constant, included, Document}
 use Rattle.ms_grammar.specs.Grammar.{domain_bare_in, HaveGrammaticalDomains, AreOfOrder}

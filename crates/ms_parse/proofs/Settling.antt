@@ -6,7 +6,12 @@ use Rattle.ms_logic.specs.declared.mode.Rel.TheVariants.{Equal, Differs, Less, A
 use Rattle.ms_logic.specs.declared.source.Int.TheVariants.{Number, Constant}
 use Rattle.ms_logic.specs.declared.source.PlacedInt.{PlacedInt}
 use Rattle.ms_grammar.specs.Symbol.{Symbol, name, number, infix_operator, joining, sign, kind, predicate_word, default_word, close_round, close_curly, comma, colon, semicolon, Placed, placed}
-use Rattle.ms_grammar.specs.Tree.{Binary, Implication, Equivalence, Relation, Union, Intersection, Difference, Junction, Conjunction, Disjunction, Literal, Call, enclosed, listed}
+use Rattle.ms_grammar.specs.declared.operator.Binary.{Binary}
+use Rattle.ms_grammar.specs.declared.operator.Binary.TheVariants.{Implication, Equivalence, Relation, Union, Intersection, Difference}
+use Rattle.ms_grammar.specs.declared.operator.Junction.{Junction}
+use Rattle.ms_grammar.specs.declared.operator.Junction.TheVariants.{Conjunction, Disjunction}
+use Rattle.ms_grammar.specs.declared.operator.Listing.TheVariants.{Literal, Call}
+use Rattle.ms_grammar.specs.Tree.{enclosed, listed}
 use Rattle.ms_grammar.specs.Tree.{Expression, shifted, Expressions, no_expressions, and_expression, Variables, and_variable, restricted, and_part}
 use Rattle.ms_grammar.specs.Tree.{Declaration, variables, predicate, default_restriction, formula, Document}
 use Rattle.ms_grammar.specs.Grammar.{binary_level, left_level, junction_level, level, ends_open, is_in, right_level, operand_level, has_bare_in, some_bare_in, domain_bare_in, IsExpression, depth}

@@ -5,7 +5,13 @@ use Rattle.ms_edge.specs.declared.at.At.{At}
 use Rattle.ms_logic.specs.declared.mode.Rel.TheVariants.{Equal}
 use Rattle.ms_logic.specs.declared.source.Int.TheVariants.{Number, Constant}
 use Rattle.ms_grammar.specs.Symbol.{Symbol, name, number, text, prefix_operator, infix_operator, quantifier, let_word, kind, predicate_word, default_word, word_true, word_false, dollar, word_empty, word_pconst, word_import, word_export, word_restrict, word_where, word_const, open_round, close_round, open_curly, close_curly, comma, Placed, placed}
-use Rattle.ms_grammar.specs.Tree.{Atom, truth, falsity, whole, empty_set, named, numeral, pconst, Negation, Minimum, Maximum, Implication, Equivalence, Relation, Union, Intersection, Difference, Conjunction, Disjunction, Parentheses, Emptiness, Restriction, Export, Listing, Literal, Call}
+use Rattle.ms_grammar.specs.declared.operator.Prefix.TheVariants.{Negation, Minimum, Maximum}
+use Rattle.ms_grammar.specs.declared.operator.Binary.TheVariants.{Implication, Equivalence, Relation, Union, Intersection, Difference}
+use Rattle.ms_grammar.specs.declared.operator.Junction.TheVariants.{Conjunction, Disjunction}
+use Rattle.ms_grammar.specs.declared.operator.Bracket.TheVariants.{Parentheses, Emptiness, Restriction, Export}
+use Rattle.ms_grammar.specs.declared.operator.Listing.{Listing}
+use Rattle.ms_grammar.specs.declared.operator.Listing.TheVariants.{Literal, Call}
+use Rattle.ms_grammar.specs.Tree.{Atom, truth, falsity, whole, empty_set, named, numeral, pconst}
 use Rattle.ms_grammar.specs.Tree.{atom, listed, no_expressions, no_variables, no_parts}
 use Rattle.ms_grammar.specs.Tree.{Document}
 use Rattle.ms_grammar.specs.Grammar.{ends_open, domain_bare_in, HaveGrammaticalDomains, HaveGrammaticalValues, AreOfOrder, prefix_level}

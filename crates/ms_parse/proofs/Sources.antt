@@ -9,7 +9,8 @@ use Rattle.ms_logic.specs.declared.source.Int.{Int}
 use Rattle.ms_logic.specs.declared.source.Int.TheVariants.{Number, Constant}
 use Rattle.ms_logic.specs.declared.source.PlacedInt.{PlacedInt}
 use Rattle.ms_grammar.specs.Symbol.{Symbol, name, text, infix_operator, sign, kind, predicate_word, default_word, word_where, word_const, word_include, open_round, close_round, comma, semicolon, Placed, placed}
-use Rattle.ms_grammar.specs.Tree.{Relation, Expression, Variables, no_variables, and_variable, Domain, unrestricted, restricted}
+use Rattle.ms_grammar.specs.declared.operator.Binary.TheVariants.{Relation}
+use Rattle.ms_grammar.specs.Tree.{Expression, Variables, no_variables, and_variable, Domain, unrestricted, restricted}
 use Rattle.ms_grammar.specs.Tree.{Declaration, variables, constant, predicate, included, default_restriction, formula, Declared, Document}
 use Rattle.ms_grammar.specs.Grammar.{IsExpression, AreOfOrder}
 use Rattle.ms_grammar.specs.Reads.{int_symbol, Starts, Follows, ReadsExpression, ReadsDomain, ReadsVariables}

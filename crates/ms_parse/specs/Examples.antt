@@ -4,7 +4,8 @@ use Rattle.ms_edge.specs.declared.at.At.{At}
 use Rattle.ms_logic.specs.declared.mode.Order.TheVariants.{One}
 use Rattle.ms_logic.specs.declared.mode.Quant.TheVariants.{Ex}
 use Rattle.ms_grammar.specs.Symbol.{Symbol, name, Placed, placed, open_round, close_round, semicolon}
-use Rattle.ms_grammar.specs.Tree.{named, Expression, atom, quantified, Expressions, no_expressions, and_expression, no_variables, and_variable, unrestricted, Declaration, formula, Document, enclosed, Parentheses}
+use Rattle.ms_grammar.specs.declared.operator.Bracket.TheVariants.{Parentheses}
+use Rattle.ms_grammar.specs.Tree.{named, Expression, atom, quantified, Expressions, no_expressions, and_expression, no_variables, and_variable, unrestricted, Declaration, formula, Document, enclosed}
 
 -- a place in file 0
 abbrev pub at : ℕ → At

@@ -10,7 +10,16 @@ use Rattle.ms_logic.specs.declared.source.Int.TheVariants.{Number, Constant}
 use Rattle.ms_logic.specs.declared.source.PlacedInt.{PlacedInt}
 use Rattle.ms_logic.specs.declared.source.Rename.{Rename}
 use Rattle.ms_grammar.specs.Symbol.{Symbol, name, number, text, prefix_operator, infix_operator, joining, sign, quantifier, let_word, kind, predicate_word, default_word, word_true, word_false, dollar, word_empty, word_pconst, word_import, word_export, word_restrict, word_where, word_const, word_include, word_ws1s, open_round, close_round, open_curly, close_curly, comma, colon, semicolon, arrow, Placed, placed}
-use Rattle.ms_grammar.specs.Tree.{truth, falsity, whole, empty_set, named, numeral, pconst, imported, Prefix, Binary, Relation, Junction, Conjunction, Disjunction, Bracket, Parentheses, Emptiness, Restriction, Export, Listing, Literal, Call}
+use Rattle.ms_grammar.specs.declared.operator.Prefix.{Prefix}
+use Rattle.ms_grammar.specs.declared.operator.Binary.{Binary}
+use Rattle.ms_grammar.specs.declared.operator.Binary.TheVariants.{Relation}
+use Rattle.ms_grammar.specs.declared.operator.Junction.{Junction}
+use Rattle.ms_grammar.specs.declared.operator.Junction.TheVariants.{Conjunction, Disjunction}
+use Rattle.ms_grammar.specs.declared.operator.Bracket.{Bracket}
+use Rattle.ms_grammar.specs.declared.operator.Bracket.TheVariants.{Parentheses, Emptiness, Restriction, Export}
+use Rattle.ms_grammar.specs.declared.operator.Listing.{Listing}
+use Rattle.ms_grammar.specs.declared.operator.Listing.TheVariants.{Literal, Call}
+use Rattle.ms_grammar.specs.Tree.{truth, falsity, whole, empty_set, named, numeral, pconst, imported}
 use Rattle.ms_grammar.specs.Tree.{Expression, atom, prefixed, binary, joined, shifted, enclosed, listed, quantified, let_in, Expressions, no_expressions, and_expression, Variables, no_variables, and_variable, unrestricted, restricted, Parts, no_parts, and_part}
 use Rattle.ms_grammar.specs.Tree.{Declaration, variables, constant, predicate, included, default_restriction, formula, Document}
 use Rattle.ms_grammar.specs.Grammar.{binary_level, left_level, right_level, prefix_level, operand_level, junction_level, level, is_in, depth, depth_of_all, depth_of_domains, depth_of_values, greatest_depth}

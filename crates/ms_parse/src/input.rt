@@ -8,7 +8,7 @@ use ms_text::{Kind, Tokens};
 use std::alloc::Global;
 use std::str;
 
-fn at_of(file: u32, place: u64) -> At
+pub fn at_of(file: u32, place: u64) -> At
     ensures { result ≡ record { file = file; place = place } }
 {
     At { file, place }
@@ -28,7 +28,7 @@ pub fn sign_at(tokens: &Tokens, file: u32, i: u32) -> Option<(Sign, At)>
     }
 }
 
-fn is_name(kind: Kind) -> bool
+pub fn is_name(kind: Kind) -> bool
     ensures { IsTrue result ↔ (kind ≡ Kind.Name) }
 {
     matches!(kind, Kind::Name)

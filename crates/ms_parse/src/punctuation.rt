@@ -19,6 +19,8 @@ pub enum Punctuation {
     Semicolon,
     Arrow,
     Equal,
+    Minus,
+    Ws1s,
 }
 
 fn is_punctuation(sign: Sign, mark: Punctuation) -> bool
@@ -33,6 +35,8 @@ fn is_punctuation(sign: Sign, mark: Punctuation) -> bool
         Punctuation::Semicolon => matches!(sign, Sign::Semicolon),
         Punctuation::Arrow => matches!(sign, Sign::Arrow),
         Punctuation::Equal => matches!(sign, Sign::Infix(Binary::Relation(Rel::Equal))),
+        Punctuation::Minus => matches!(sign, Sign::Shift(true)),
+        Punctuation::Ws1s => matches!(sign, Sign::Ws1s),
     }
 }
 

@@ -1,7 +1,7 @@
 ghost use Rattle.std.specs.Prelude.{◌≡◌, ◌≤◌, ◌<◌, ◌+◌, ◌⊎◌, ℕ, suc, false, List, length, IsTrue};
 ghost use Rattle.ms_text.specs.TokenList.{Lexed};
 ghost use Rattle.ms_grammar.specs.Grammar.{left_level, junction_level, level, depth};
-ghost use Rattle.ms_parse.specs.Machine.{Context, shift, join_new, shift_by};
+ghost use Rattle.ms_parse.specs.Machine.{Context, shift, join_new, shift_by, shift_int};
 ghost use Rattle.ms_parse.specs.Outcomes.{Took};
 ghost use Rattle.ms_parse.specs.Signs.{behind};
 ghost use Rattle.ms_parse.specs.Stack.{stack_of};
@@ -10,6 +10,7 @@ ghost use Rattle.ms_grammar.specs.View.{expression_of};
 use crate::complete::finish;
 use crate::enter::{enter, level};
 use crate::frame::Frame;
+use crate::int::int_at;
 use crate::lists::push_expression;
 use crate::memory::boxed;
 use crate::opened::Opened;
@@ -19,6 +20,7 @@ use crate::stop::Stop;
 use ms_edge::List;
 use ms_grammar::{Binary, Junction};
 use ms_logic::{Form, PlacedInt};
+use ms_text::Tokens;
 use std::alloc::Global;
 
 fn least_left(op: Binary) -> u32
@@ -126,4 +128,23 @@ pub fn shift_by(
     let form = Form::Shift(boxed(alloc, expr)?, number);
     let made = finish(start, form, height, i)?;
     Ok((Outcome::Holding(made), i))
+}
+
+/// `+` or `-` behind an expression.
+pub fn shift_int(
+    alloc: Global,
+    tokens: &Tokens,
+    file: u32,
+    stack: &[Frame],
+    operand: Operand,
+    minus: bool,
+    i: u32,
+) -> Result<(Outcome, u32), Stop>
+    ensures { (c : Context) →
+        Took c file tokens.now (shift_int c minus (expression_of operand.expr) (stack_of stack.now) (behind file tokens.now i)) stack.now result }
+{
+    let Some((number, next)) = int_at(alloc, tokens, file, i, minus)? else {
+        return Err(Stop::Refused(i));
+    };
+    shift_by(alloc, stack, operand, number, next)
 }

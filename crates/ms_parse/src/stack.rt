@@ -13,7 +13,8 @@ use crate::stop::Stop;
 use ms_grammar::{Binary, Junction, Prefix};
 use std::alloc::Global;
 
-fn push_item<T: Drop>(items: &mut Vec<T>, item: T) -> Result<(), Stop>
+/// Appends the item, which is dropped where memory is refused.
+pub fn push_item<T: Drop>(items: &mut Vec<T>, item: T) -> Result<(), Stop>
     ensures ok { OnOk result (items.new.items ≡ items.old.items ++ item ∷ []) }
     ensures err { IfErr result (λ stop. stop ≡ Memory) }
 {

@@ -1,7 +1,7 @@
 use Rattle.ms_parse.specs.Machine.{bracket_frame, enter, begin_empty}
 use Rattle.ms_parse.specs.Signs.{behind}
 use Rattle.ms_parse.specs.Stack.{stack_of}
-use Rattle.ms_grammar.specs.Tree.{Emptiness}
+use Rattle.ms_grammar.specs.declared.operator.Bracket.TheVariants.{Emptiness}
 use Rattle.ms_parse.proofs.Begins.{as_taken, empty_entered}
 use Rattle.ms_parse.proofs.begin.begin_empty.Goals as goal
 

@@ -3,7 +3,7 @@ use Rattle.ms_parse.specs.Machine.{bracket_frame, enter, begin_export}
 use Rattle.ms_parse.specs.Signs.{behind, IsNext}
 use Rattle.ms_parse.specs.Stack.{stack_of}
 use Rattle.ms_grammar.specs.Symbol.{text}
-use Rattle.ms_grammar.specs.Tree.{Export}
+use Rattle.ms_grammar.specs.declared.operator.Bracket.TheVariants.{Export}
 use Rattle.ms_parse.proofs.Begins.{as_taken, export_entered}
 use Rattle.ms_parse.proofs.begin.begin_export.Goals as goal
 

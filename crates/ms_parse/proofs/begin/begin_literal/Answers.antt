@@ -2,7 +2,7 @@ use Rattle.std.proofs.Common.{ap, sym, ◌∙◌}
 use Rattle.ms_parse.specs.Machine.{list_frame, enter, begin_literal}
 use Rattle.ms_parse.specs.Signs.{behind}
 use Rattle.ms_parse.specs.Stack.{stack_of}
-use Rattle.ms_grammar.specs.Tree.{Literal}
+use Rattle.ms_grammar.specs.declared.operator.Listing.TheVariants.{Literal}
 use Rattle.ms_grammar.specs.View.{expressions_of}
 use Rattle.ms_parse.proofs.Begins.{as_taken, literal_entered}
 use Rattle.ms_parse.proofs.begin.begin_literal.Goals as goal

@@ -2,7 +2,7 @@ use Rattle.std.proofs.Common.{ap, sym, ◌∙◌}
 use Rattle.ms_parse.specs.Machine.{list_frame, enter, begin_name}
 use Rattle.ms_parse.specs.Signs.{behind}
 use Rattle.ms_parse.specs.Stack.{stack_of}
-use Rattle.ms_grammar.specs.Tree.{Call}
+use Rattle.ms_grammar.specs.declared.operator.Listing.TheVariants.{Call}
 use Rattle.ms_grammar.specs.View.{expressions_of}
 use Rattle.ms_parse.proofs.Begins.{as_taken, call_entered}
 use Rattle.ms_parse.proofs.begin.begin_name.Goals as goal

@@ -1,7 +1,7 @@
 use Rattle.ms_parse.specs.Machine.{bracket_frame, enter, begin_restrict}
 use Rattle.ms_parse.specs.Signs.{behind}
 use Rattle.ms_parse.specs.Stack.{stack_of}
-use Rattle.ms_grammar.specs.Tree.{Restriction}
+use Rattle.ms_grammar.specs.declared.operator.Bracket.TheVariants.{Restriction}
 use Rattle.ms_parse.proofs.Begins.{as_taken, restrict_entered}
 use Rattle.ms_parse.proofs.begin.begin_restrict.Goals as goal
 

@@ -1,0 +1,18 @@
+use Rattle.std.proofs.Common.{[], ap, sym}
+use Rattle.ms_parse.specs.Machine.{in_formula, step, wanted}
+use Rattle.ms_parse.specs.Signs.{behind}
+use Rattle.ms_parse.specs.Stack.{stack_of}
+use Rattle.ms_parse.specs.States.{read_of}
+use Rattle.ms_parse.proofs.Stepping.{as_stepped}
+use Rattle.ms_parse.proofs.declaration.begin_formula.Goals as goal
+
+pub returns : goal.returns
+returns c made =
+    let file = c.args.file in
+    let lexed = c.args.tokens.now in
+    let ts = behind file lexed c.args.i in
+    let context = in_formula (read_of made) c.args.at in
+    let cleared = c.clear.new.self.items in
+    as_stepped file lexed (step (wanted context []) ts) (step (wanted context (stack_of cleared)) ts) made c.begin-taken.new.stack.items c.inside.result
+    (ap (λ x. step (wanted context (stack_of x)) ts) (sym c.clear.ensures.items))
+    (c.inside.ensures file lexed (step (wanted context (stack_of cleared)) ts) made c.begin-taken.new.stack.items (c.begin-taken.ensures context))

@@ -1,0 +1,42 @@
+use Rattle.std.proofs.Common.{[], Some, ap, sym}
+use Rattle.ms_grammar.specs.Symbol.{close_round, comma}
+use Rattle.ms_grammar.specs.Tree.{and_variable, restricted}
+use Rattle.ms_grammar.specs.View.{expression_of, variables_of}
+use Rattle.ms_parse.specs.declared.sign.Sign.TheVariants as signs
+use Rattle.ms_parse.specs.Machine.{body_of, in_parameter, parameter_wanted, settle}
+use Rattle.ms_parse.specs.Signs.{behind, symbol_with}
+use Rattle.ms_parse.specs.States.{read_of}
+use Rattle.ms_parse.proofs.Stepping.{as_stepped, stepped_by}
+use Rattle.ms_parse.proofs.parameters.end_parameter.Goals as goal
+
+pub returns-in-Comma : goal.returns-in-Comma
+returns-in-Comma c made bytes inside is =
+    let file = c.args.file in
+    let lexed = c.args.tokens.now in
+    let d = read_of made in
+    let s = c.args.signature in
+    let vs = variables_of s.parameters in
+    let e = expression_of c.args.operand.expr in
+    let ts = behind file lexed c.args.i in
+    let context = in_parameter d s.at s.is_pred s.at_name s.name vs c.args.order c.args.at_name c.args.name in
+    stepped_by file lexed (λ x. settle context (symbol_with x bytes) inside (e, []) ts) c.args.sign signs.Comma made c.args.stack.now.items c.another_parameter.result c.in-Comma.is
+    (as_stepped file lexed (settle context comma inside (e, []) ts)
+    (Some (parameter_wanted d s.at s.is_pred s.at_name s.name (and_variable vs c.args.at_name c.args.order c.args.name (restricted (expression_of c.in_ok-domain.domain))), ts)) made c.args.stack.now.items c.another_parameter.result
+    (ap (λ x. Some (parameter_wanted d s.at s.is_pred s.at_name s.name (and_variable vs c.args.at_name c.args.order c.args.name (restricted (expression_of x))), ts)) (sym c.in_ok-domain.ensures.ok))
+    (c.another_parameter.ensures file lexed made c.args.stack.now.items))
+
+pub returns-in-CloseRound : goal.returns-in-CloseRound
+returns-in-CloseRound c made bytes inside is =
+    let file = c.args.file in
+    let lexed = c.args.tokens.now in
+    let d = read_of made in
+    let s = c.args.signature in
+    let vs = variables_of s.parameters in
+    let e = expression_of c.args.operand.expr in
+    let ts = behind file lexed c.args.i in
+    let context = in_parameter d s.at s.is_pred s.at_name s.name vs c.args.order c.args.at_name c.args.name in
+    stepped_by file lexed (λ x. settle context (symbol_with x bytes) inside (e, []) ts) c.args.sign signs.CloseRound made c.last_parameter.new.stack.items c.last_parameter.result c.in-CloseRound.is
+    (as_stepped file lexed (settle context close_round inside (e, []) ts)
+    (body_of d s.at s.is_pred s.at_name s.name (and_variable vs c.args.at_name c.args.order c.args.name (restricted (expression_of c.in_ok-domain.domain))) ts) made c.last_parameter.new.stack.items c.last_parameter.result
+    (ap (λ x. body_of d s.at s.is_pred s.at_name s.name (and_variable vs c.args.at_name c.args.order c.args.name (restricted (expression_of x))) ts) (sym c.in_ok-domain.ensures.ok))
+    (c.last_parameter.ensures made))

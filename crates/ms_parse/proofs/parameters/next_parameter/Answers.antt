@@ -1,0 +1,61 @@
+use Rattle.std.proofs.Common.{rules, ◌≡◌, ◌+◌, ℕ, List, [], suc, ap, arith}
+use Rattle.ms_grammar.specs.Symbol.{name}
+use Rattle.ms_grammar.specs.View.{variables_of}
+use Rattle.ms_parse.specs.Kinds.{IsKind, NoKind}
+use Rattle.ms_parse.specs.Machine.{behind_parameter, next_parameter}
+use Rattle.ms_parse.specs.Signs.{behind, symbol_with, IsNext, NoName}
+use Rattle.ms_parse.specs.States.{read_of}
+use Rattle.ms_parse.proofs.ParameterSteps.{parameter_read, parameter_alone, parameter_nameless, parameter_kindless}
+use Rattle.ms_parse.proofs.Stepping.{as_stepped}
+use Rattle.ms_parse.proofs.parameters.next_parameter.Goals as goal
+
+pub returns-in_default : goal.returns-in_default
+returns-in_default c made =
+    let s = c.args.signature in
+    let none : NoKind (variables_of s.parameters) (behind c.args.file c.args.tokens.now c.args.i) = search rules in
+    parameter_kindless (read_of made) s.at s.is_pred s.at_name s.name (variables_of s.parameters) (behind c.args.file c.args.tokens.now c.args.i) none
+
+pub returns-in_default-2 : goal.returns-in_default-2
+returns-in_default-2 c made =
+    let file = c.args.file in
+    let lexed = c.args.tokens.now in
+    let s = c.args.signature in
+    let vs = variables_of s.parameters in
+    let kinds : IsKind vs c.in-Some.order (behind file lexed c.args.i) (behind file lexed c.in-Some.from) = search rules in
+    let none : NoName (behind file lexed c.in-Some.from) = search rules in
+    parameter_nameless (read_of made) s.at s.is_pred s.at_name s.name vs c.in-Some.order (behind file lexed c.args.i) (behind file lexed c.in-Some.from) kinds none
+
+pub returns-in_default-sign_at : goal.returns-in_default-sign_at
+returns-in_default-sign_at c made =
+    let file = c.args.file in
+    let lexed = c.args.tokens.now in
+    let s = c.args.signature in
+    let vs = variables_of s.parameters in
+    let from = c.in-Some.from in
+    let kinds : IsKind vs c.in-Some.order (behind file lexed c.args.i) (behind file lexed from) = search rules in
+    let names : IsNext file lexed from (name c.in-Some-2.name) c.in-Some-2.at_name = search rules in
+    let end : behind file lexed (from + 1) ≡ [] = search rules in
+    let one : suc from ≡ from + 1 = omega arith in
+    parameter_alone (read_of made) s.at s.is_pred s.at_name s.name vs c.in-Some.order c.in-Some-2.name c.in-Some-2.at_name (behind file lexed c.args.i) (behind file lexed from) (behind file lexed (suc from)) (behind file lexed (from + 1))
+    kinds names (ap (behind file lexed) one) end
+
+pub returns : goal.returns
+returns c made =
+    let file = c.args.file in
+    let lexed = c.args.tokens.now in
+    let s = c.args.signature in
+    let vs = variables_of s.parameters in
+    let from = c.in-Some.from in
+    let d = read_of made in
+    let kinds : IsKind vs c.in-Some.order (behind file lexed c.args.i) (behind file lexed from) = search rules in
+    let names : IsNext file lexed from (name c.in-Some-2.name) c.in-Some-2.at_name = search rules in
+    let next : (bytes : List ℕ) × IsNext file lexed (from + 1) (symbol_with c.in-Some-sign_at.sign bytes) c.in-Some-sign_at.field-0-1 = search rules in
+    let one : suc from ≡ from + 1 = omega arith in
+    let two : suc (from + 1) ≡ from + 2 = omega arith in
+    as_stepped file lexed (next_parameter d s.at s.is_pred s.at_name s.name vs (behind file lexed c.args.i))
+    (behind_parameter d s.at s.is_pred s.at_name s.name vs c.in-Some.order c.in-Some-2.at_name c.in-Some-2.name (symbol_with c.in-Some-sign_at.sign next.0) (behind file lexed (from + 2)))
+    made c.behind_parameter.new.stack.items c.behind_parameter.result
+    (parameter_read d s.at s.is_pred s.at_name s.name vs c.in-Some.order c.in-Some-2.name c.in-Some-2.at_name (symbol_with c.in-Some-sign_at.sign next.0) c.in-Some-sign_at.field-0-1
+    (behind file lexed c.args.i) (behind file lexed from) (behind file lexed (suc from)) (behind file lexed (from + 1)) (behind file lexed (suc (from + 1))) (behind file lexed (from + 2))
+    kinds names (ap (behind file lexed) one) next.1 (ap (behind file lexed) two))
+    (c.behind_parameter.ensures made next.0)

@@ -1,0 +1,242 @@
+ghost use Rattle.std.specs.Prelude.{◌≡◌, ◌∷◌, [], ℕ, Bool, List, false, IsTrue};
+ghost use Rattle.ms_text.specs.TokenList.{Lexed};
+ghost use Rattle.ms_grammar.specs.View.{expression_of, variables_of};
+ghost use Rattle.ms_parse.specs.Ends.{ends_part, IsEnd, IsOperator};
+ghost use Rattle.ms_parse.specs.Machine as machine;
+ghost use Rattle.ms_parse.specs.Machine.{holding, in_default, in_formula, in_predicate, settle, step};
+ghost use Rattle.ms_parse.specs.Opened.{frame_of};
+ghost use Rattle.ms_parse.specs.Outcomes.{Took};
+ghost use Rattle.ms_parse.specs.Signs.{behind, symbol_with};
+ghost use Rattle.ms_parse.specs.Stack.{stack_of};
+ghost use Rattle.ms_parse.specs.States.{Stepped, context_of, read_of};
+ghost use Rattle.ms_parse.specs.declared.frame.Frame.{Frame};
+
+use crate::bound::{bound, ends_part};
+use crate::close::{close_curly, close_round};
+use crate::context::{Context, Signature};
+use crate::declare::{declared, inside};
+use crate::frame::Frame;
+use crate::globals::end_global;
+use crate::input::sign_at;
+use crate::join::join;
+use crate::operand::Operand;
+use crate::outcome::Outcome;
+use crate::parameters::end_parameter;
+use crate::row::row_of;
+use crate::separate::{colon, comma, end_parts};
+use crate::settle::{shift, shift_int};
+use crate::sign::Sign;
+use crate::stack::{collapse, pop_frame};
+use crate::state::{Parsed, State};
+use crate::stop::Stop;
+use ms_edge::{At, Name};
+use ms_logic::{Decl, Order};
+use ms_text::Tokens;
+use std::alloc::Global;
+
+fn is_operator(sign: Sign, is_end: bool) -> bool
+    ensures yes { (bytes : List ℕ) (inside : Bool) → is_end ≡ ends_part inside (symbol_with sign bytes) → IsTrue result → IsOperator inside (symbol_with sign bytes) }
+    ensures no { (bytes : List ℕ) (inside : Bool) → is_end ≡ ends_part inside (symbol_with sign bytes) → result ≡ false → IsEnd inside (symbol_with sign bytes) }
+{
+    match sign {
+        Sign::Infix(_) => !is_end,
+        Sign::Joining(_) => true,
+        Sign::Shift(_) => true,
+        _ => false,
+    }
+}
+
+/// An operator behind its left operand, with the frames around it that go on.
+fn settle_operator(
+    alloc: Global,
+    tokens: &Tokens,
+    file: u32,
+    stack: &mut Vec<Frame>,
+    operand: Operand,
+    sign: Sign,
+    i: u32,
+) -> Result<(Outcome, u32), Stop>
+    ensures { (c : machine.Context) (bytes : List ℕ) (inside : Bool) → IsOperator inside (symbol_with sign bytes) →
+        Took c file tokens.now (settle c (symbol_with sign bytes) inside (expression_of operand.expr, stack_of stack.old.items) (behind file tokens.now i)) stack.new.items result }
+{
+    match sign {
+        Sign::Infix(op) => shift(stack, op, operand, i),
+        Sign::Joining(op) => join(alloc, stack, op, operand, i),
+        Sign::Shift(minus) => shift_int(alloc, tokens, file, stack, operand, minus, i),
+        _ => Err(Stop::Refused(i)),
+    }
+}
+
+/// What ends an expression in a frame.
+fn settle_frame(
+    alloc: Global,
+    stack: &mut Vec<Frame>,
+    frame: Frame,
+    operand: Operand,
+    sign: Sign,
+    i: u32,
+) -> Result<(Outcome, u32), Stop>
+    ensures { (c : machine.Context) (file : ℕ) (lexed : Lexed) (bytes : List ℕ) (inside : Bool) → IsEnd inside (symbol_with sign bytes) →
+        Took c file lexed (settle c (symbol_with sign bytes) inside (expression_of operand.expr, frame_of frame.opened ∷ stack_of stack.old.items) (behind file lexed i)) stack.new.items result }
+{
+    match sign {
+        Sign::CloseRound => close_round(alloc, frame, operand, i),
+        Sign::CloseCurly => close_curly(frame, operand, i),
+        Sign::Comma => comma(alloc, stack, row_of(frame), operand, i),
+        Sign::Colon => colon(alloc, stack, row_of(frame), operand, i),
+        Sign::Infix(_) => end_parts(stack, row_of(frame), operand, i),
+        _ => Err(Stop::Refused(i)),
+    }
+}
+
+/// What ends a formula that is declared.
+fn end_formula(
+    made: &mut Parsed,
+    at: At,
+    operand: Operand,
+    sign: Sign,
+    i: u32,
+) -> Result<(State, u32), Stop>
+    ensures { (file : ℕ) (lexed : Lexed) (frames : List Frame) (bytes : List ℕ) (inside : Bool) → IsEnd inside (symbol_with sign bytes) →
+        Stepped file lexed (settle (in_formula (read_of made.old) at) (symbol_with sign bytes) inside (expression_of operand.expr, []) (behind file lexed i)) made.new frames result }
+{
+    let Operand { expr, .. } = operand;
+    match sign {
+        Sign::Semicolon => declared(made, at, Decl::Formula(expr), i),
+        _ => Err(Stop::Refused(i)),
+    }
+}
+
+/// What ends the body of a predicate.
+fn end_predicate(
+    made: &mut Parsed,
+    signature: Signature,
+    operand: Operand,
+    sign: Sign,
+    i: u32,
+) -> Result<(State, u32), Stop>
+    ensures { (file : ℕ) (lexed : Lexed) (frames : List Frame) (bytes : List ℕ) (inside : Bool) → IsEnd inside (symbol_with sign bytes) →
+        Stepped file lexed (settle (in_predicate (read_of made.old) signature.at signature.is_pred signature.at_name signature.name (variables_of signature.parameters)) (symbol_with sign bytes) inside (expression_of operand.expr, []) (behind file lexed i)) made.new frames result }
+{
+    let Signature {
+        at,
+        is_pred,
+        at_name,
+        name,
+        parameters,
+    } = signature;
+    let Operand { expr, .. } = operand;
+    match sign {
+        Sign::Semicolon => {
+            let decl = Decl::Pred(is_pred, at_name, name, parameters, expr);
+            declared(made, at, decl, i)
+        }
+        _ => Err(Stop::Refused(i)),
+    }
+}
+
+/// What ends the body of a default restriction.
+fn end_default(
+    made: &mut Parsed,
+    at: At,
+    order: Order,
+    name: Name,
+    operand: Operand,
+    sign: Sign,
+    i: u32,
+) -> Result<(State, u32), Stop>
+    ensures { (file : ℕ) (lexed : Lexed) (frames : List Frame) (bytes : List ℕ) (inside : Bool) → IsEnd inside (symbol_with sign bytes) →
+        Stepped file lexed (settle (in_default (read_of made.old) at order name) (symbol_with sign bytes) inside (expression_of operand.expr, []) (behind file lexed i)) made.new frames result }
+{
+    let Operand { expr, .. } = operand;
+    match sign {
+        Sign::Semicolon => declared(made, at, Decl::Default(order, name, expr), i),
+        _ => Err(Stop::Refused(i)),
+    }
+}
+
+/// What ends the expression of a declaration.
+fn end_expression(
+    alloc: Global,
+    tokens: &Tokens,
+    file: u32,
+    made: &mut Parsed,
+    stack: &mut Vec<Frame>,
+    context: Context,
+    operand: Operand,
+    sign: Sign,
+    i: u32,
+) -> Result<(State, u32), Stop>
+    ensures { (bytes : List ℕ) (inside : Bool) → IsEnd inside (symbol_with sign bytes) →
+        Stepped file tokens.now (settle (context_of (read_of made.old) context) (symbol_with sign bytes) inside (expression_of operand.expr, []) (behind file tokens.now i)) made.new stack.new.items result }
+{
+    match context {
+        Context::Formula(at) => end_formula(made, at, operand, sign, i),
+        Context::Global(globals, at_name, name) => {
+            end_global(alloc, made, globals, at_name, name, operand, sign, i)
+        }
+        Context::Parameter(signature, order, at_name, name) => end_parameter(
+            alloc, tokens, file, stack, signature, order, at_name, name, operand, sign, i,
+        ),
+        Context::Predicate(signature) => end_predicate(made, signature, operand, sign, i),
+        Context::Default(at, order, name) => end_default(made, at, order, name, operand, sign, i),
+    }
+}
+
+/// A sign behind an expression, once the frames that end before it are completed.
+fn settle(
+    alloc: Global,
+    tokens: &Tokens,
+    file: u32,
+    made: &mut Parsed,
+    stack: &mut Vec<Frame>,
+    context: Context,
+    operand: Operand,
+    sign: Sign,
+    is_end: bool,
+    i: u32,
+) -> Result<(State, u32), Stop>
+    ensures { (bytes : List ℕ) (inside : Bool) → is_end ≡ ends_part inside (symbol_with sign bytes) →
+        Stepped file tokens.now (settle (context_of (read_of made.old) context) (symbol_with sign bytes) inside (expression_of operand.expr, stack_of stack.old.items) (behind file tokens.now i)) made.new stack.new.items result }
+{
+    if is_operator(sign, is_end) {
+        let taken = settle_operator(alloc, tokens, file, stack, operand, sign, i);
+        return inside(context, taken);
+    }
+    match pop_frame(stack) {
+        Some(frame) => inside(context, settle_frame(alloc, stack, frame, operand, sign, i)),
+        None => end_expression(alloc, tokens, file, made, stack, context, operand, sign, i),
+    }
+}
+
+/// A step where an expression has been read.
+pub fn go_on(
+    alloc: Global,
+    tokens: &Tokens,
+    file: u32,
+    made: &mut Parsed,
+    stack: &mut Vec<Frame>,
+    context: Context,
+    operand: Operand,
+    i: u32,
+) -> Result<(State, u32), Stop>
+    ensures { Stepped file tokens.now (step (holding (context_of (read_of made.old) context) (expression_of operand.expr) (stack_of stack.old.items)) (behind file tokens.now i)) made.new stack.new.items result }
+{
+    let Some((sign, _)) = sign_at(tokens, file, i) else {
+        return Err(Stop::Refused(i));
+    };
+    let is_end = ends_part(stack, sign);
+    let operand = collapse(alloc, stack, operand, bound(sign, is_end), i)?;
+    settle(
+        alloc,
+        tokens,
+        file,
+        made,
+        stack,
+        context,
+        operand,
+        sign,
+        is_end,
+        i + 1,
+    )
+}

@@ -1,0 +1,47 @@
+ghost use Rattle.std.specs.Prelude.{◌≡◌, ◌⊎◌, ◌↔◌, IsTrue};
+ghost use Rattle.ms_parse.specs.Refused.{IsGrammarFault, NamesFault, StopsAt};
+
+use crate::input::at_of;
+use crate::stop::Stop;
+use ms_edge::{Name, Refusal};
+use ms_text::{Kind, Tokens};
+use std::alloc::Global;
+use std::str;
+
+fn is_left_out(kind: Kind) -> bool
+    ensures { IsTrue result ↔ (kind ≡ Kind.LeftOut) }
+{
+    matches!(kind, Kind::LeftOut)
+}
+
+/// The refusal at the token with a number, or at the end of the file where there is none.
+fn fault_at(alloc: Global, tokens: &Tokens, file: u32, i: u32) -> Refusal
+    ensures { (result ≡ Refusal.Memory) ⊎ NamesFault file tokens.now result }
+{
+    if i >= tokens.len() {
+        let at = at_of(file, tokens.end());
+        return Refusal::Grammar { at };
+    }
+    let token = tokens.get(i);
+    let at = at_of(file, token.place);
+    if !is_left_out(token.kind) {
+        return Refusal::Grammar { at };
+    }
+    match str::from_utf8(tokens.slice(i)) {
+        Ok(word) => match Name::new(alloc, word) {
+            Ok(word) => Refusal::LeftOut { at, word },
+            Err(_) => Refusal::Memory,
+        },
+        Err(_) => Refusal::Grammar { at },
+    }
+}
+
+/// The refusal where the reading stops.
+pub fn refusal_of(alloc: Global, tokens: &Tokens, file: u32, stop: Stop) -> Refusal
+    ensures { StopsAt file tokens.now stop → (result ≡ Refusal.Memory) ⊎ IsGrammarFault file tokens.now result }
+{
+    match stop {
+        Stop::Memory => Refusal::Memory,
+        Stop::Refused(i) => fault_at(alloc, tokens, file, i),
+    }
+}
