@@ -12,3 +12,6 @@ pub use begun::Begun;
 pub use examples::{example_loads, example_refused_loads};
 pub use source::load;
 pub use text::load_bytes;
+
+#[cfg(test)]
+mod tests;
