@@ -1,0 +1,5 @@
+pub mod Bounds
+pub mod Main
+pub mod Opening
+pub mod Parts
+pub mod Placing

@@ -1,0 +1,116 @@
+ghost use Rattle.std.specs.Prelude.{◌≡◌, ◌≤◌, ◌⊎◌, ◌++◌, ◌∷◌, [], List, ℕ, length, IfOk, IfErr, OnOk, OnErr};
+ghost use Rattle.ms_include.specs.File.{AreBytes, ReadAs, ReadAsNone, IsSource, IsNoSource, IsUnread, source_limit};
+ghost use Rattle.ms_include.specs.Seen.{Seen, IsPart};
+
+use ms_edge::{At, Bytes, Files, List, ReadAnswer, Refusal, Text};
+use ms_parse::{Parsed, declarations};
+use ms_text::tokens;
+use std::alloc::Global;
+
+/// The most bytes of a source file.
+const SOURCE_LIMIT: u64 = 1_048_576;
+
+/// The bytes of a source file, which is named at a place.
+fn read<F: Files>(
+    alloc: Global,
+    files: &mut F,
+    named: Option<At>,
+    name: &Text,
+) -> Result<Bytes, Refusal>
+    ensures read { IfOk result (AreBytes (F.held files.old) name.now) }
+    ensures refused { (request : Seen) → IsPart (record {
+      held = F.held files.old;
+      faults_before = F.faults files.old;
+      faults_after = F.faults files.new;
+      absences_before = F.absences files.old;
+      absences_after = F.absences files.new;
+      overlongs_before = F.overlongs files.old;
+      overlongs_after = F.overlongs files.new;
+    }) request →
+        IfErr result (λ refusal. (refusal ≡ Refusal.Memory) ⊎ IsUnread request named name.now refusal) }
+
+    ensures kept { F.held files.new ≡ F.held files.old }
+    ensures faults_last { F.faults files.old ≤ F.faults files.new }
+    ensures absences_last { F.absences files.old ≤ F.absences files.new }
+    ensures overlongs_last { F.overlongs files.old ≤ F.overlongs files.new }
+{
+    let answer = match files.read(alloc, name.text(), SOURCE_LIMIT) {
+        Ok(bytes) => return Ok(bytes),
+        Err(answer) => answer,
+    };
+    let Ok(name) = Text::new(alloc, name.text()) else {
+        return Err(Refusal::Memory);
+    };
+    Err(match answer {
+        ReadAnswer::Missing => Refusal::FileMissing { at: named, name },
+        ReadAnswer::TooLong => Refusal::FileSize {
+            name,
+            limit: SOURCE_LIMIT,
+        },
+        ReadAnswer::Failed => Refusal::ReadFault { name },
+        ReadAnswer::NoMemory => Refusal::Memory,
+    })
+}
+
+/// What the bytes of the file with this number read as.
+pub fn parse(alloc: Global, bytes: Bytes, number: u32) -> Result<Parsed, Refusal>
+    requires { length bytes ≤ source_limit }
+    ensures read { IfOk result (λ read. ReadAs number bytes (record { header = read.header; items = read.items.items })) }
+    ensures refused { IfErr result (λ refusal. (refusal ≡ Refusal.Memory) ⊎ ReadAsNone number bytes refusal) }
+{
+    let tokens = tokens(alloc, bytes, number)?;
+    declarations(alloc, &tokens, number)
+}
+
+/// Appends a copy of the name.
+pub fn note(alloc: Global, names: &mut List<Text>, name: &Text) -> Result<(), Refusal>
+    ensures ok { OnOk result (names.new ≡ names.old ++ name.now ∷ []) }
+    ensures err { OnErr result (names.new ≡ names.old) }
+    ensures memory { IfErr result (λ refusal. refusal ≡ Refusal.Memory) }
+{
+    let Ok(copy) = Text::new(alloc, name.text()) else {
+        return Err(Refusal::Memory);
+    };
+    match names.push(copy) {
+        Ok(()) => Ok(()),
+        Err(_) => Err(Refusal::Memory),
+    }
+}
+
+/// Reads the file, which is named at a place and gets this number, and notes its name where it could be read.
+pub fn open<F: Files>(
+    alloc: Global,
+    files: &mut F,
+    names: &mut List<Text>,
+    named: Option<At>,
+    name: &Text,
+    number: u32,
+) -> Result<Parsed, Refusal>
+    ensures read { IfOk result (λ read. IsSource (F.held files.old) number name.now (record { header = read.header; items = read.items.items })) }
+    ensures noted { OnOk result (names.new ≡ names.old ++ name.now ∷ []) }
+    ensures refused { (request : Seen) → IsPart (record {
+      held = F.held files.old;
+      faults_before = F.faults files.old;
+      faults_after = F.faults files.new;
+      absences_before = F.absences files.old;
+      absences_after = F.absences files.new;
+      overlongs_before = F.overlongs files.old;
+      overlongs_after = F.overlongs files.new;
+    }) request →
+        IfErr result (λ refusal. (refusal ≡ Refusal.Memory)
+        ⊎ (IsUnread request named name.now refusal × (names.new ≡ names.old))
+        ⊎ (IsNoSource (F.held files.old) number name.now refusal × (names.new ≡ names.old ++ name.now ∷ []))) }
+    ensures grown { (added : List (List ℕ)) × (names.new ≡ names.old ++ added) }
+
+    ensures kept { F.held files.new ≡ F.held files.old }
+    ensures faults_last { F.faults files.old ≤ F.faults files.new }
+    ensures absences_last { F.absences files.old ≤ F.absences files.new }
+    ensures overlongs_last { F.overlongs files.old ≤ F.overlongs files.new }
+{
+    let bytes = match read(alloc, files, named, name) {
+        Ok(bytes) => bytes,
+        Err(refusal) => return Err(refusal),
+    };
+    note(alloc, names, name)?;
+    parse(alloc, bytes, number)
+}
