@@ -1,5 +1,5 @@
 -- What is printed for a document has tokens that read as it.
-use Rattle.std.proofs.Common.{◌≡◌, ◌≢◌, ℕ, inl, true, false, List, [], ◌∷◌, ◌++◌, codes, eqb, Option, Some, None, refl, sym, ap, ◌∙◌, subst, append_assoc}
+use Rattle.std.proofs.Common.{◌≡◌, Bool, ◌≢◌, ℕ, inl, true, false, List, [], ◌∷◌, ◌++◌, codes, eqb, Option, Some, None, refl, sym, ap, ◌∙◌, subst, append_assoc}
 use Rattle.std.specs.List.{flat_map}
 use Rattle.std.specs.Cmp.Lexicographic.{pointwise}
 use Rattle.std.proofs.lemmas.Bool.{false≢true}
@@ -174,9 +174,9 @@ header_spellable (Some (at, Ws1s)) = (tt, (tt, tt))
 header_spellable (Some (at, M2lStr)) =
     ((refl, (λ w. no_word_m2l w.0 w.1), (λ w. not_left_out_m2l w.0 w.1)), (tt, ((refl, (λ w. no_word_str w.0 w.1), (λ w. not_left_out_str w.0 w.1)), (tt, tt))))
 
-pub string_said : (at : At) (from behind : List Placed) → ReadsString false at from behind → unplaced from ≡ name (codes "m2l") ∷ sign true ∷ name (codes "str") ∷ semicolon ∷ unplaced behind
-string_said at from behind (f1, f2, f3, starts, minus_is, name_is, ends) =
-    let e1 = starts_said (name (codes "m2l")) at from f1 starts in
+pub string_said : (exact : Bool) (at : At) (from behind : List Placed) → ReadsString exact at from behind → unplaced from ≡ name (codes "m2l") ∷ sign true ∷ name (codes "str") ∷ semicolon ∷ unplaced behind
+string_said exact at from behind (f1, f2, f3, starts, minus_is, name_is, ends) =
+    let e1 = starts_said exact (name (codes "m2l")) at from f1 starts in
     let e2 = follows_said (sign true) f1 f2 minus_is in
     let e3 = follows_said (name (codes "str")) f2 f3 name_is in
     let e4 = follows_said semicolon f3 behind ends in
@@ -184,7 +184,7 @@ string_said at from behind (f1, f2, f3, starts, minus_is, name_is, ends) =
 
 header_back : (header : Option (At × Mode)) (ds : List Declared) → IsClear header ds → (from : List Placed) → unplaced from ≡ printed_header single header ++ flat_map (printed_declared single) ds → AreSpellable (unplaced from)
     → Back (λ behind. ReadsHeader false header from behind) (flat_map (printed_declared single) ds)
-header_back None ds clear from e good = (from, (refl, (λ at f reads. clear (unplaced f) (sym e ∙ string_said at from f reads))), e, good)
+header_back None ds clear from e good = (from, (refl, (λ at f reads. clear (unplaced f) (sym e ∙ string_said false at from f reads))), e, good)
 header_back (Some (at, Ws1s)) ds clear from e good =
     let more = flat_map (printed_declared single) ds in
     let a = starts_back word_ws1s at from (semicolon ∷ more) e good in

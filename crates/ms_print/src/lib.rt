@@ -5,12 +5,14 @@ mod clear;
 mod declaration;
 mod expression;
 mod fit;
+mod laws;
 mod level;
 mod said;
 mod source_fit;
 mod text;
 mod token;
 
+pub use laws::read_sources_fit;
 pub use source_fit::fits;
 pub use text::print;
 
