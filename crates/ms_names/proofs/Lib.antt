@@ -1,3 +1,4 @@
+pub mod Declaring
 pub mod Exports
 pub mod FreeVariables
 pub mod Lists
@@ -5,5 +6,6 @@ pub mod Operands
 pub mod Repeats
 pub mod States
 pub mod Tables
+pub mod Told
 pub mod Values
 pub mod Walk

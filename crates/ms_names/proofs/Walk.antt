@@ -206,22 +206,3 @@ export-formed s r t u at text_at file e entry from begun within entry_is from_is
 pub on_ok : {T E P : Type 0} (r : Result T E) → P → OnOk r P
 on_ok (Ok value) here = here
 on_ok (Err e) here = tt
-
--- what an export notes lies within what is there after its formula
-
-longer : {A : Type 0} (n : ℕ) (xs ys : List A) → n ≡ length xs → n ≤ length (xs ++ ys)
-longer n xs ys is = let e = length-append xs ys in omega (arith, e)
-
-pub export-entry : (s r t : State) (fs : List Fault) (os : List Occurrence) (b c : Before) (n : ℕ) →
-    r ≡ record (with_faults s fs) { before = b } → t ≡ passed r os c → n ≡ length s.exports → n ≤ length t.exports
-export-entry s r t fs os b c n begun within is =
-    let P : State → Type 0 = λ there. n ≤ length there.exports in
-    let Q : State → Type 0 = λ there. n ≤ length (there.exports ++ flat_map export_at os) in
-    subst P (sym within) (subst Q (sym begun) (longer n s.exports (flat_map export_at os) is))
-
-pub export-from : (s r t : State) (fs : List Fault) (os : List Occurrence) (b c : Before) (n : ℕ) →
-    r ≡ record (with_faults s fs) { before = b } → t ≡ passed r os c → n ≡ length s.reads → n ≤ length t.reads
-export-from s r t fs os b c n begun within is =
-    let P : State → Type 0 = λ there. n ≤ length there.reads in
-    let Q : State → Type 0 = λ there. n ≤ length (there.reads ++ flat_map readings_at os) in
-    subst P (sym within) (subst Q (sym begun) (longer n s.reads (flat_map readings_at os) is))

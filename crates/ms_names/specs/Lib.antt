@@ -1,6 +1,7 @@
 pub mod Before
 pub mod Binder
 pub mod Constant
+pub mod Declaration
 pub mod Declarations
 pub mod Examples
 pub mod Fault

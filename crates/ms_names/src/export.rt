@@ -1,8 +1,9 @@
 ghost use Rattle.ms_names.specs.Before.{with_export};
 ghost use Rattle.ms_names.specs.Free.{Tells, export_use};
 ghost use Rattle.ms_names.specs.Reads.{variables_read, with_predicates};
-ghost use Rattle.ms_names.specs.Rules.{faults_of_export, first_name_twice, in_case};
+ghost use Rattle.ms_names.specs.Rules.{faults_of_export, faults_of_exports, first_name_twice, in_case};
 ghost use Rattle.ms_names.specs.State.{with_faults};
+ghost use Rattle.ms_names.specs.Uses.{with_files};
 ghost use Rattle.ms_names.specs.declared.fault.Fault.TheVariants.{NotHere};
 ghost use Rattle.std.specs.List.{insert};
 ghost use Rattle.std.specs.Option.{option_copied};
@@ -15,6 +16,7 @@ use crate::seen::Seen;
 use ms_edge::{At, Name, NoMemory, Text};
 use ms_logic::ExportUse;
 use std::alloc::Global;
+use std::mem;
 
 // The first name of a list that stands there twice.
 fn first_twice<'a>(alloc: Global, names: &'a [Name]) -> Result<Option<&'a Name>, NoMemory>
@@ -124,5 +126,29 @@ impl Checker {
             self.report_twice(export.at, name)?;
         }
         files.add(&file)
+    }
+
+    // Checks some exports in their order.
+    fn check_each(&mut self, exports: &[ExportUse], files: &mut Seen) -> Result<(), NoMemory>
+        ensures state { OnOk result (self.new ≡ with_faults self.old (faults_of_exports files.old exports.now)) }
+        ensures files { OnOk result (files.new ≡ with_files files.old exports.now) }
+    {
+        for export in exports {
+            self.check_export(export, files)?;
+        }
+        Ok(())
+    }
+
+    /// Checks the exports from a place on, by the file names of those before.
+    pub(crate) fn check_exports(&mut self, from: usize, files: &mut Seen) -> Result<(), NoMemory>
+        requires { from ≤ length self.old.exports }
+        ensures state { OnOk result (self.new ≡ with_faults self.old (faults_of_exports files.old (drop from self.old.exports))) }
+        ensures files { OnOk result (files.new ≡ with_files files.old (drop from self.old.exports)) }
+    {
+        // The exports are held apart while faults are reported.
+        let exports = mem::replace(&mut self.exports, Vec::new(self.alloc));
+        self.check_each(&exports[from..], files)?;
+        self.exports = exports;
+        Ok(())
     }
 }

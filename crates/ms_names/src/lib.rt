@@ -4,6 +4,8 @@
 mod build;
 mod call;
 mod checker;
+mod declaration;
+mod declare;
 mod default;
 mod examples;
 mod export;
@@ -20,6 +22,7 @@ mod quantifier;
 mod repeat;
 mod scope;
 mod seen;
+mod sum;
 mod value;
 mod wanted;
 

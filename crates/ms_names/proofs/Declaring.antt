@@ -1,0 +1,195 @@
+-- Declarations: constants, names of globals, predicates and default restrictions.
+use Rattle.std.proofs.Common.{◌≡◌, ℕ, ◌+◌, Bool, true, false, if◌then◌else◌, List, [], ◌∷◌, ◌++◌, append_assoc, length, drop, map, reverse, Option, Some, None, refl, sym, subst, ap, ◌∙◌}
+use Rattle.std.specs.Prelude.{bytes_eq, flat_map}
+use Rattle.std.specs.Option.{option_map}
+use Rattle.ms_edge.specs.declared.at.At.{At}
+use Rattle.ms_logic.specs.declared.mode.Order.{Order}
+use Rattle.ms_logic.specs.declared.source.PlacedInt.{PlacedInt}
+use Rattle.ms_logic.specs.Tree as tree
+use Rattle.ms_logic.specs.Tree.{Form, Restriction, Argument}
+use Rattle.ms_names.specs.declared.fault.Fault.{Fault}
+use Rattle.ms_names.specs.declared.meaning.Meaning.TheVariants.{Variable}
+use Rattle.ms_names.specs.declared.meaning.Reading.{Reading}
+use Rattle.ms_names.specs.Syntax.{Bytes, Expression, Bounds, no_bounds, more_bounds, Domain, unrestricted, restricted}
+use Rattle.ms_names.specs.Before.{Before, after, after_bounds, after_domain, with_names}
+use Rattle.ms_names.specs.Binder.{after_restrictions, restricted_variable, restricted_variables, restriction_in, unbound}
+use Rattle.ms_names.specs.Constant.{Sum, leaves_range, has_no_value, next_sum, sum_from, sum_in_range, sum_of_value, value_of}
+use Rattle.ms_names.specs.Declaration.{predicate_with}
+use Rattle.ms_names.specs.Declarations.{occurrences_in_default, occurrences_in_predicate}
+use Rattle.ms_names.specs.Fault.{first_with}
+use Rattle.ms_names.specs.Occurrence.{occurrences, inside_bounds, formula_wanted}
+use Rattle.ms_names.specs.Rules.{faults_of_placed, is_name_among}
+use Rattle.ms_names.specs.Scope.{Scope, bind, count_of_bounds, under_bounds, without_exports}
+use Rattle.ms_names.specs.State.{State, with_faults, passed}
+use Rattle.ms_names.specs.Typed.{both, formula_in, typed, typed_domain, typed_restriction}
+use Rattle.ms_names.specs.TypedSource.{parameters_of_bounds, restriction_of_parameter, typed_default, typed_predicate}
+use Rattle.ms_names.proofs.Exports.{domain-same, typed-same, under_bounds-same}
+use Rattle.ms_names.proofs.Lists.{parameters-all}
+use Rattle.ms_names.proofs.Repeats.{faults-faults}
+use Rattle.ms_names.proofs.States.{passed-passed}
+use Rattle.ms_names.proofs.Walk.{unbound-bounds}
+
+-- constants
+
+pub sum-none : (s : Scope) (sum : ℕ) (i : PlacedInt) (rest : List PlacedInt) → value_of s i ≡ None → sum_from s sum (i ∷ rest) ≡ has_no_value
+sum-none s sum i rest none = ap (λ v. sum_of_value v (λ n. sum_in_range (next_sum i.minus sum n) (λ next. sum_from s next rest))) none
+
+pub sum-out : (s : Scope) (sum n : ℕ) (i : PlacedInt) (rest : List PlacedInt) → value_of s i ≡ Some n → next_sum i.minus sum n ≡ None →
+    sum_from s sum (i ∷ rest) ≡ leaves_range
+sum-out s sum n i rest some out =
+    ap (λ v. sum_of_value v (λ k. sum_in_range (next_sum i.minus sum k) (λ next. sum_from s next rest))) some
+    ∙ ap (λ v. sum_in_range v (λ next. sum_from s next rest)) out
+
+pub sum-next : (s : Scope) (sum n m : ℕ) (i : PlacedInt) (rest : List PlacedInt) → value_of s i ≡ Some n → next_sum i.minus sum n ≡ Some m →
+    sum_from s sum (i ∷ rest) ≡ sum_from s m rest
+sum-next s sum n m i rest some within =
+    ap (λ v. sum_of_value v (λ k. sum_in_range (next_sum i.minus sum k) (λ next. sum_from s next rest))) some
+    ∙ ap (λ v. sum_in_range v (λ next. sum_from s next rest)) within
+
+pub ints-next : (t u : State) (i : PlacedInt) (rest : List PlacedInt) → u ≡ with_faults t (faults_of_placed t.scope i) →
+    with_faults u (flat_map (faults_of_placed u.scope) rest) ≡ with_faults t (flat_map (faults_of_placed t.scope) (i ∷ rest))
+ints-next t u i rest checked =
+    ap (λ (there : State). with_faults there (flat_map (faults_of_placed there.scope) rest)) checked
+    ∙ faults-faults t (faults_of_placed t.scope i) (flat_map (faults_of_placed t.scope) rest)
+
+pub three-faults : (s r t u : State) (fs gs hs : List Fault) → r ≡ with_faults s fs → t ≡ with_faults r gs → u ≡ with_faults t hs →
+    u ≡ with_faults s (fs ++ (gs ++ hs))
+three-faults s r t u fs gs hs first second third =
+    third ∙ (ap (λ there. with_faults there hs) second
+    ∙ (faults-faults r gs hs ∙ (ap (λ there. with_faults there (gs ++ hs)) first ∙ faults-faults s fs (gs ++ hs))))
+
+-- names of globals
+
+nested : (a b c : Bool) → (if a then true else (if b then true else c)) ≡ (if (if a then true else b) then true else c)
+nested true b c = refl
+nested false b c = refl
+
+pub among-append : (n : Bytes) (ms more : List Bytes) → is_name_among n (ms ++ more) ≡ (if is_name_among n ms then true else is_name_among n more)
+among-append n [] more = refl
+among-append n (m ∷ ms) more = ap (λ b. if bytes_eq m n then true else b) (among-append n ms more) ∙ nested (bytes_eq m n) (is_name_among n ms) (is_name_among n more)
+
+-- predicates
+
+restriction_in-same : (takes_defaults : Bool) (s t : Scope) (b : Before) (o : Order) (x : ℕ) (d : Domain) → without_exports s ≡ without_exports t →
+    restriction_in takes_defaults s b o x d ≡ restriction_in takes_defaults t b o x d
+restriction_in-same true s t b o x d h = domain-same s t b o x d h
+restriction_in-same false s t b o x unrestricted h = refl
+restriction_in-same false s t b o x (restricted e) h = ap typed_restriction (typed-same s t b e h)
+
+pub restricted-same : (takes_defaults : Bool) (s t : Scope) (x : ℕ) (b : Before) (vs : Bounds) → without_exports s ≡ without_exports t →
+    restricted_variables takes_defaults s x b vs ≡ restricted_variables takes_defaults t x b vs
+restricted-same takes_defaults s t x b no_bounds h = refl
+restricted-same takes_defaults s t x b (more_bounds at o n d vs) h =
+    let inner = bind n (Variable x o) s in
+    let other = bind n (Variable x o) t in
+    let same : without_exports inner ≡ without_exports other = ap (bind n (Variable x o)) h in
+    ap (λ r. both (λ there more. restricted_variable x o there ∷ more) r (restricted_variables takes_defaults inner (x + 1) (after_domain b d) vs))
+    (restriction_in-same takes_defaults inner other b o x d same)
+    ∙ ap (both (λ there more. restricted_variable x o there ∷ more) (restriction_in takes_defaults other b o x d))
+    (restricted-same takes_defaults inner other (x + 1) (after_domain b d) vs same)
+
+pub predicate-passed : (s r q t u v w : State) (vs : Bounds) (e : Expression) (x n m : ℕ) (allowed : Bool) →
+    x ≡ s.before.next → n ≡ count_of_bounds vs → m ≡ count_of_bounds vs →
+    r ≡ record s { before = with_names s.before n } →
+    allowed ≡ r.scope.exports_allowed →
+    q ≡ record r { scope = without_exports r.scope } →
+    t ≡ after_restrictions q x vs →
+    u ≡ passed t (occurrences t.scope t.before formula_wanted e) (after t.before e) →
+    v ≡ unbound m u →
+    w ≡ record v { scope = record v.scope { exports_allowed = allowed } } →
+    w ≡ passed s (occurrences_in_predicate s.scope s.before vs e) (after (after_bounds (with_names s.before (count_of_bounds vs)) vs) e)
+predicate-passed s r q t u v w vs e x n m allowed first counted counted_again numbered was without restricted_are within unnamed last =
+    let here = with_names s.before (count_of_bounds vs) in
+    let outer = without_exports s.scope in
+    let before = inside_bounds outer s.before.next here vs in
+    let inner = under_bounds outer s.before.next vs in
+    let os = occurrences inner (after_bounds here vs) formula_wanted e in
+    let end = after (after_bounds here vs) e in
+    let G : State → State = λ there. passed there (occurrences there.scope there.before formula_wanted e) (after there.before e) in
+    let numbered_at : r ≡ record s { before = here } = numbered ∙ ap (λ k. record s { before = with_names s.before k }) counted in
+    let start = record s { before = here; scope = outer } in
+    let begun : q ≡ start = without ∙ ap (λ (there : State). record there { scope = without_exports there.scope }) numbered_at in
+    let known : t ≡ after_restrictions start s.before.next vs =
+    restricted_are ∙ (ap (λ y. after_restrictions q y vs) first ∙ ap (λ there. after_restrictions there s.before.next vs) begun) in
+    let was_is : allowed ≡ s.scope.exports_allowed = was ∙ ap (λ (there : State). there.scope.exports_allowed) numbered_at in
+    last
+    ∙ (ap (λ (there : State). record there { scope = record there.scope { exports_allowed = allowed } })
+    (unnamed ∙ (ap (λ k. unbound k u) counted_again
+    ∙ (ap (unbound (count_of_bounds vs)) (within ∙ ap G known)
+    ∙ (ap (λ (found : State). record found { scope = record inner { names = drop (count_of_bounds vs) inner.names } }) (passed-passed s before os (after_bounds here vs) end)
+    ∙ ap (λ (there : Scope). record (passed s (before ++ os) end) { scope = there }) (unbound-bounds outer s.before.next vs)))))
+    ∙ ap (λ (can : Bool). record (passed s (before ++ os) end) { scope = record outer { exports_allowed = can } }) was_is)
+
+pub predicate-typed : (s r q t : State) (vs : Bounds) (e : Expression) (x n : ℕ) (made : Option (List tree.Declaration)) (body : Option Argument) →
+    x ≡ s.before.next → n ≡ count_of_bounds vs →
+    r ≡ record s { before = with_names s.before n } →
+    q ≡ record r { scope = without_exports r.scope } →
+    t ≡ after_restrictions q x vs →
+    made ≡ restricted_variables false q.scope x q.before vs →
+    body ≡ typed t.scope t.before e →
+    both predicate_with made (formula_in body) ≡ typed_predicate s.scope s.before vs e
+predicate-typed s r q t vs e x n made body first counted numbered without restricted_are made_are is =
+    let here = with_names s.before (count_of_bounds vs) in
+    let outer = without_exports s.scope in
+    let y = s.before.next in
+    let inside = typed (under_bounds s.scope y vs) (after_bounds here vs) e in
+    let numbered_at : r ≡ record s { before = here } = numbered ∙ ap (λ k. record s { before = with_names s.before k }) counted in
+    let begun : q ≡ record s { before = here; scope = outer } = without ∙ ap (λ (there : State). record there { scope = without_exports there.scope }) numbered_at in
+    let all : made ≡ restricted_variables false s.scope y here vs =
+    made_are ∙ (ap (λ (there : State). restricted_variables false there.scope x there.before vs) begun
+    ∙ (ap (λ z. restricted_variables false outer z here vs) first ∙ restricted-same false outer s.scope y here vs refl)) in
+    let body_is : body ≡ inside =
+    is ∙ (ap (λ (there : State). typed there.scope there.before e) restricted_are
+    ∙ (ap (λ (there : State). typed (under_bounds there.scope x vs) (after_bounds there.before vs) e) begun
+    ∙ (ap (λ z. typed (under_bounds outer z vs) (after_bounds here vs) e) first
+    ∙ typed-same (under_bounds outer y vs) (under_bounds s.scope y vs) (after_bounds here vs) e (under_bounds-same outer s.scope y vs refl)))) in
+    ap (λ there. both predicate_with there (formula_in body)) (all ∙ sym (parameters-all s.scope y here vs))
+    ∙ ap (λ a. both predicate_with (parameters_of_bounds s.scope y here vs) (formula_in a)) body_is
+
+-- default restrictions
+
+pub default-passed : (s r q p u v w : State) (o : Order) (n : Bytes) (e : Expression) (x : ℕ) (allowed : Bool) →
+    x ≡ s.before.next →
+    r ≡ record s { before = with_names s.before 1 } →
+    allowed ≡ r.scope.exports_allowed →
+    q ≡ record r { scope = without_exports r.scope } →
+    p ≡ record q { scope = bind n (Variable x o) q.scope } →
+    u ≡ passed p (occurrences p.scope p.before formula_wanted e) (after p.before e) →
+    v ≡ unbound 1 u →
+    w ≡ record v { scope = record v.scope { exports_allowed = allowed } } →
+    w ≡ passed s (occurrences_in_default s.scope s.before o n e) (after (with_names s.before 1) e)
+default-passed s r q p u v w o n e x allowed first numbered was without named within unnamed last =
+    let here = with_names s.before 1 in
+    let outer = without_exports s.scope in
+    let inner = bind n (Variable s.before.next o) outer in
+    let os = occurrences inner here formula_wanted e in
+    let end = after here e in
+    let G : State → State = λ there. passed there (occurrences there.scope there.before formula_wanted e) (after there.before e) in
+    let start = record s { before = here; scope = outer } in
+    let begun : q ≡ start = without ∙ ap (λ (there : State). record there { scope = without_exports there.scope }) numbered in
+    let known : p ≡ record s { before = here; scope = inner } =
+    named ∙ (ap (λ y. record q { scope = bind n (Variable y o) q.scope }) first ∙ ap (λ (there : State). record there { scope = bind n (Variable s.before.next o) there.scope }) begun) in
+    let was_is : allowed ≡ s.scope.exports_allowed = was ∙ ap (λ (there : State). there.scope.exports_allowed) numbered in
+    last
+    ∙ (ap (λ (there : State). record there { scope = record there.scope { exports_allowed = allowed } }) (unnamed ∙ ap (unbound 1) (within ∙ ap G known))
+    ∙ ap (λ (can : Bool). record (passed s os end) { scope = record outer { exports_allowed = can } }) was_is)
+
+pub default-typed : (s r q p : State) (o : Order) (n : Bytes) (e : Expression) (x : ℕ) (body : Option Argument) →
+    x ≡ s.before.next →
+    r ≡ record s { before = with_names s.before 1 } →
+    q ≡ record r { scope = without_exports r.scope } →
+    p ≡ record q { scope = bind n (Variable x o) q.scope } →
+    body ≡ typed p.scope p.before e →
+    option_map (predicate_with (restricted_variable x o tree.unrestricted ∷ [])) (formula_in body) ≡ typed_default s.scope s.before o n e
+default-typed s r q p o n e x body first numbered without named is =
+    let here = with_names s.before 1 in
+    let outer = without_exports s.scope in
+    let y = s.before.next in
+    let begun : q ≡ record s { before = here; scope = outer } = without ∙ ap (λ (there : State). record there { scope = without_exports there.scope }) numbered in
+    let body_is : body ≡ typed (bind n (Variable y o) s.scope) here e =
+    is ∙ (ap (λ (there : State). typed there.scope there.before e) named
+    ∙ (ap (λ (there : State). typed (bind n (Variable x o) there.scope) there.before e) begun
+    ∙ (ap (λ z. typed (bind n (Variable z o) outer) here e) first
+    ∙ typed-same (bind n (Variable y o) outer) (bind n (Variable y o) s.scope) here e refl))) in
+    ap (λ z. option_map (predicate_with (restricted_variable z o tree.unrestricted ∷ [])) (formula_in body)) first
+    ∙ ap (λ a. option_map (predicate_with (restricted_variable y o tree.unrestricted ∷ [])) (formula_in a)) body_is

@@ -1,0 +1,134 @@
+-- A check after a declaration but for its exports.
+use Rattle.std.proofs.Common.{◌≡◌, ℕ, List, [], ◌∷◌, ◌++◌, append_assoc, length, refl, sym, subst, ap, ◌∙◌}
+use Rattle.std.specs.Prelude.{flat_map}
+use Rattle.std.proofs.lemmas.List.{append-nil}
+use Rattle.ms_edge.specs.declared.at.At.{At}
+use Rattle.ms_logic.specs.declared.mode.Order.{Order}
+use Rattle.ms_logic.specs.declared.source.PlacedInt.{PlacedInt}
+use Rattle.ms_names.specs.declared.fault.Fault.{Fault}
+use Rattle.ms_names.specs.declared.meaning.Meaning.TheVariants.{Constant, Predicate}
+use Rattle.ms_names.specs.declared.meaning.Reading.{Reading}
+use Rattle.ms_names.specs.Syntax.{Bytes, Expression, Bounds, Declaration, globals, constant, predicate, default, formula}
+use Rattle.ms_names.specs.Before.{Before, after, after_bounds, with_names}
+use Rattle.ms_names.specs.Binder.{after_restrictions}
+use Rattle.ms_names.specs.Constant.{sum_from, value_of_sum}
+use Rattle.ms_names.specs.Declaration.{Files, known_at, read_through, told}
+use Rattle.ms_names.specs.Declarations.{declared_names, faults_of_sum, next_predicate, occurrences_in_default, occurrences_in_predicate, orders_of_bounds}
+use Rattle.ms_names.specs.Fault.{first_with}
+use Rattle.ms_names.specs.Occurrence.{Occurrence, occurrences, inside_bounds, formula_wanted}
+use Rattle.ms_names.specs.Reads.{readings_at}
+use Rattle.ms_names.specs.Rules.{faults_at, faults_of_bounds, faults_of_placed, faults_of_repeat}
+use Rattle.ms_names.specs.Scope.{Scope, bind, count_of_bounds, under_bounds, with_default}
+use Rattle.ms_names.specs.State.{State, with_faults, passed}
+use Rattle.ms_names.specs.Uses.{import_at, export_at}
+use Rattle.ms_names.proofs.States.{first_with-append}
+
+kept-reads : (u v : State) → u ≡ v → u ≡ record v { reads = u.reads }
+kept-reads u v same = let P : State → Type 0 = λ there. u ≡ record there { reads = u.reads } in subst P same refl
+
+pub formula-told : (s u : State) (count : ℕ) (files : Files) (e : Expression) →
+    u ≡ passed s (occurrences s.scope s.before formula_wanted e) (after s.before e) →
+    u ≡ told s (known_at s count files) (formula e) u.reads
+formula-told s u count files e within = kept-reads u (passed s (occurrences s.scope s.before formula_wanted e) (after s.before e)) within
+
+pub globals-told : (s r u : State) (first : ℕ) (files : Files) (vs : Bounds) →
+    r ≡ with_faults s (faults_of_bounds (declared_names s.scope) vs) →
+    u ≡ after_restrictions r first vs →
+    u ≡ told s (known_at s first files) (globals vs) u.reads
+globals-told s r u first files vs checked restricted_are =
+    let fs = faults_of_bounds (declared_names s.scope) vs in
+    let os = inside_bounds s.scope first s.before vs in
+    let end : State = record (passed s os (after_bounds s.before vs)) { scope = under_bounds s.scope first vs } in
+    kept-reads u (record end { first = first_with s.first (fs ++ flat_map faults_at os) })
+    (restricted_are ∙ (ap (λ (there : State). after_restrictions there first vs) checked
+    ∙ ap (λ known. record end { first = known }) (sym (first_with-append s.first fs (flat_map faults_at os)))))
+
+pub constant-told : (s r u : State) (count : ℕ) (files : Files) (at : At) (n : Bytes) (is : List PlacedInt) (value : ℕ) →
+    r ≡ with_faults s (faults_of_repeat at n (declared_names s.scope) ++ (faults_of_sum at (sum_from s.scope 0 is) ++ flat_map (faults_of_placed s.scope) is)) →
+    value ≡ value_of_sum (sum_from s.scope 0 is) →
+    u ≡ record r { scope = bind n (Constant value) r.scope } →
+    u ≡ told s (known_at s count files) (constant at n is) u.reads
+constant-told s r u count files at n is value checked valued bound =
+    let fs = faults_of_repeat at n (declared_names s.scope) ++ (faults_of_sum at (sum_from s.scope 0 is) ++ flat_map (faults_of_placed s.scope) is) in
+    let m = Constant (value_of_sum (sum_from s.scope 0 is)) in
+    let plain : State = record (with_faults s fs) { scope = bind n m s.scope } in
+    let all : State = record {
+      scope = bind n m s.scope;
+      before = s.before;
+      first = first_with s.first (fs ++ []);
+      reads = s.reads;
+      imports = s.imports ++ [];
+      exports = s.exports ++ [];
+    } in
+    let padded : plain ≡ all = λ i. record {
+      scope = bind n m s.scope;
+      before = s.before;
+      first = first_with s.first (sym (append-nil fs) i);
+      reads = s.reads;
+      imports = sym (append-nil s.imports) i;
+      exports = sym (append-nil s.exports) i;
+    } in
+    kept-reads u all
+    (bound ∙ (ap (λ v. record r { scope = bind n (Constant v) r.scope }) valued
+    ∙ (ap (λ (there : State). record there { scope = bind n m there.scope }) checked ∙ padded)))
+
+pub predicate-told : (s r p t u v : State) (count : ℕ) (files : Files) (at : At) (n : Bytes) (vs : Bounds) (e : Expression) (number : ℕ) (orders : List Order) →
+    s.reads ≡ [] →
+    r ≡ with_faults s (faults_of_repeat at n (declared_names s.scope)) →
+    p ≡ with_faults r (faults_of_bounds [] vs) →
+    t ≡ passed p (occurrences_in_predicate p.scope p.before vs e) (after (after_bounds (with_names p.before (count_of_bounds vs)) vs) e) →
+    number ≡ next_predicate t.scope → u ≡ read_through t →
+    orders ≡ orders_of_bounds vs →
+    v ≡ record u { scope = bind n (Predicate number orders) u.scope } →
+    v ≡ told s (known_at s count files) (predicate at n vs e) v.reads
+predicate-told s r p t u v count files at n vs e number orders empty declared_once different within numbered noted_as ordered bound =
+    let fs = faults_of_repeat at n (declared_names s.scope) in
+    let gs = faults_of_bounds [] vs in
+    let os = occurrences_in_predicate s.scope s.before vs e in
+    let end = after (after_bounds (with_names s.before (count_of_bounds vs)) vs) e in
+    let G : State → State = λ there. passed there (occurrences_in_predicate there.scope there.before vs e) (after (after_bounds (with_names there.before (count_of_bounds vs)) vs) e) in
+    let known : p ≡ record s { first = first_with (first_with s.first fs) gs } = different ∙ ap (λ there. with_faults there gs) declared_once in
+    let N : State → State = λ there. record (read_through there) { scope = bind n (Predicate (next_predicate there.scope) (orders_of_bounds vs)) (read_through there).scope } in
+    let begun = record s { first = first_with (first_with s.first fs) gs } in
+    let F : List Reading → List Fault → State = λ reads found. record {
+      scope = bind n (Predicate (length s.scope.readings) (orders_of_bounds vs)) (record s.scope { readings = (reads ++ flat_map readings_at os) ∷ s.scope.readings });
+      before = end;
+      first = first_with s.first found;
+      reads = [];
+      imports = s.imports ++ flat_map import_at os;
+      exports = s.exports ++ flat_map export_at os;
+    } in
+    let found : first_with (first_with (first_with s.first fs) gs) (flat_map faults_at os) ≡ first_with s.first ((fs ++ gs) ++ flat_map faults_at os) =
+    ap (λ known. first_with known (flat_map faults_at os)) (sym (first_with-append s.first fs gs)) ∙ sym (first_with-append s.first (fs ++ gs) (flat_map faults_at os)) in
+    kept-reads v (F [] ((fs ++ gs) ++ flat_map faults_at os))
+    (bound
+    ∙ (ap (λ (there : State). record there { scope = bind n (Predicate number orders) there.scope }) noted_as
+    ∙ (ap (λ k. record (read_through t) { scope = bind n (Predicate k orders) (read_through t).scope }) numbered
+    ∙ (ap (λ qs. record (read_through t) { scope = bind n (Predicate (next_predicate t.scope) qs) (read_through t).scope }) ordered
+    ∙ (ap N (within ∙ ap G known)
+    ∙ (ap (λ first. record (N (passed begun os end)) { first = first }) found
+    ∙ ap (λ reads. F reads ((fs ++ gs) ++ flat_map faults_at os)) empty))))))
+
+pub default-told : (s t u v : State) (count : ℕ) (files : Files) (o : Order) (n : Bytes) (e : Expression) (number : ℕ) →
+    s.reads ≡ [] →
+    t ≡ passed s (occurrences_in_default s.scope s.before o n e) (after (with_names s.before 1) e) →
+    number ≡ next_predicate t.scope → u ≡ read_through t →
+    v ≡ record u { scope = with_default o number u.scope } →
+    v ≡ told s (known_at s count files) (default o n e) v.reads
+default-told s t u v count files o n e number empty within numbered noted_as held =
+    let os = occurrences_in_default s.scope s.before o n e in
+    let end = after (with_names s.before 1) e in
+    let F : List Reading → State = λ reads. record {
+      scope = with_default o (length s.scope.readings) (record s.scope { readings = (reads ++ flat_map readings_at os) ∷ s.scope.readings });
+      before = end;
+      first = first_with s.first (flat_map faults_at os);
+      reads = [];
+      imports = s.imports ++ flat_map import_at os;
+      exports = s.exports ++ flat_map export_at os;
+    } in
+    let N : State → State = λ there. record (read_through there) { scope = with_default o (next_predicate there.scope) (read_through there).scope } in
+    kept-reads v (F [])
+    (held
+    ∙ (ap (λ (there : State). record there { scope = with_default o number there.scope }) noted_as
+    ∙ (ap (λ k. record (read_through t) { scope = with_default o k (read_through t).scope }) numbered
+    ∙ (ap N within ∙ ap F empty))))
