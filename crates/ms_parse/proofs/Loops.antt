@@ -54,3 +54,5 @@ pub stops_at : (file : ℕ) (lexed : Lexed) (s : State) (ts : List Placed) (made
     → Stepped file lexed (step s ts) made frames (Err stop) → StopsAt file lexed stop
 stops_at file lexed s ts made frames stops.Memory same more stepped = tt
 stops_at file lexed s ts made frames (stops.Refused i) same more stepped = λ source reads. reads_none (symbols file lexed) s ts same more stepped (document_of source) reads
+stops_at file lexed s ts made frames (stops.TooDeep i) same more stepped = λ source reads. reads_none (symbols file lexed) s ts same more stepped (document_of source) reads
+stops_at file lexed s ts made frames (stops.TooDeepFrom at) same more stepped = λ source reads. reads_none (symbols file lexed) s ts same more stepped (document_of source) reads

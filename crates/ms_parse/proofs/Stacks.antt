@@ -8,7 +8,12 @@ use Rattle.std.specs.Prelude.{MatchOption, option_to_list}
 use Rattle.ms_parse.specs.declared.frame.Frame.{Frame}
 use Rattle.ms_parse.specs.Machine as machine
 use Rattle.ms_parse.specs.Opened.{frame_of}
-use Rattle.ms_parse.specs.Stack.{stack_on, stack_of}
+use Rattle.ms_text.specs.TokenList.{Lexed}
+use Rattle.std.specs.Prelude.{Err}
+use Rattle.ms_parse.specs.declared.stop.Stop.{Stop}
+use Rattle.ms_parse.specs.declared.stop.Stop.TheVariants as stops
+use Rattle.ms_parse.specs.Outcomes.{Took}
+use Rattle.ms_parse.specs.Stack.{stack_on, stack_of, IsDepth}
 
 stack_push_on : (below : List machine.Frame) (fs : List Frame) (f : Frame) → stack_on below (fs ++ f ∷ []) ≡ frame_of f.opened ∷ stack_on below fs
 stack_push_on below [] f = refl
@@ -56,3 +61,10 @@ stack_frame fs n k d next within = ap (λ m. stack_of (take m fs)) next ∙ stac
 
 pub stack_top : (fs : List Frame) (k : ℕ) (d : Frame) → k + 1 ≡ length fs → stack_of fs ≡ frame_of (get_or fs k d).opened ∷ stack_of (take k fs)
 stack_top fs k d whole = stack_whole fs (k + 1) whole ∙ stack_frame fs (k + 1) k d refl (omega arith)
+
+-- a refusal for the depth
+pub depth_refuses : (c : machine.Context) (file : ℕ) (lexed : Lexed) (next : machine.Next) (frames : List Frame) (stop : Stop) → IsDepth stop → next ≡ None → Took c file lexed next frames (Err stop)
+depth_refuses c file lexed next frames stops.Memory is none = absurd is
+depth_refuses c file lexed next frames (stops.Refused i) is none = absurd is
+depth_refuses c file lexed next frames (stops.TooDeep i) is none = none
+depth_refuses c file lexed next frames (stops.TooDeepFrom at) is none = none

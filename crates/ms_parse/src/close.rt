@@ -34,16 +34,16 @@ pub fn close_curly(frame: Frame, operand: Operand, i: u32) -> Result<(Outcome, u
                 let made = finish(at, listed(Listing::Literal, list), inside, i)?;
                 Ok((Outcome::Holding(made), i))
             }
-            Listing::Call(_) => Err(Stop::Refused(i)),
+            Listing::Call(_) => Err(Stop::Refused(i.saturating_sub(1))),
         },
-        Opened::Prefix(..) => Err(Stop::Refused(i)),
-        Opened::Left(..) => Err(Stop::Refused(i)),
-        Opened::Joined(..) => Err(Stop::Refused(i)),
-        Opened::Bracket(..) => Err(Stop::Refused(i)),
-        Opened::Domain(..) => Err(Stop::Refused(i)),
-        Opened::Body(..) => Err(Stop::Refused(i)),
-        Opened::Part(..) => Err(Stop::Refused(i)),
-        Opened::Let(..) => Err(Stop::Refused(i)),
+        Opened::Prefix(..) => Err(Stop::Refused(i.saturating_sub(1))),
+        Opened::Left(..) => Err(Stop::Refused(i.saturating_sub(1))),
+        Opened::Joined(..) => Err(Stop::Refused(i.saturating_sub(1))),
+        Opened::Bracket(..) => Err(Stop::Refused(i.saturating_sub(1))),
+        Opened::Domain(..) => Err(Stop::Refused(i.saturating_sub(1))),
+        Opened::Body(..) => Err(Stop::Refused(i.saturating_sub(1))),
+        Opened::Part(..) => Err(Stop::Refused(i.saturating_sub(1))),
+        Opened::Let(..) => Err(Stop::Refused(i.saturating_sub(1))),
     }
 }
 
@@ -72,14 +72,14 @@ pub fn close_round(
                 let made = finish(at, listed(Listing::Call(name), list), inside, i)?;
                 Ok((Outcome::Holding(made), i))
             }
-            Listing::Literal => Err(Stop::Refused(i)),
+            Listing::Literal => Err(Stop::Refused(i.saturating_sub(1))),
         },
-        Opened::Prefix(..) => Err(Stop::Refused(i)),
-        Opened::Left(..) => Err(Stop::Refused(i)),
-        Opened::Joined(..) => Err(Stop::Refused(i)),
-        Opened::Domain(..) => Err(Stop::Refused(i)),
-        Opened::Body(..) => Err(Stop::Refused(i)),
-        Opened::Part(..) => Err(Stop::Refused(i)),
-        Opened::Let(..) => Err(Stop::Refused(i)),
+        Opened::Prefix(..) => Err(Stop::Refused(i.saturating_sub(1))),
+        Opened::Left(..) => Err(Stop::Refused(i.saturating_sub(1))),
+        Opened::Joined(..) => Err(Stop::Refused(i.saturating_sub(1))),
+        Opened::Domain(..) => Err(Stop::Refused(i.saturating_sub(1))),
+        Opened::Body(..) => Err(Stop::Refused(i.saturating_sub(1))),
+        Opened::Part(..) => Err(Stop::Refused(i.saturating_sub(1))),
+        Opened::Let(..) => Err(Stop::Refused(i.saturating_sub(1))),
     }
 }

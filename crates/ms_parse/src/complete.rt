@@ -29,7 +29,7 @@ pub fn finish(at: At, form: Form, inside: u32, i: u32) -> Result<Operand, Stop>
 {
     let height = inside + 1;
     if height > GREATEST_DEPTH {
-        return Err(Stop::Refused(i));
+        return Err(Stop::TooDeep(i));
     }
     let expr = placed(at, form);
     Ok(Operand {

@@ -5,7 +5,7 @@ ghost use Rattle.ms_grammar.specs.Grammar.{level};
 ghost use Rattle.ms_parse.specs.Opened.{frame_of};
 ghost use Rattle.ms_parse.specs.Outcomes.{Took};
 ghost use Rattle.ms_parse.specs.Signs.{behind};
-ghost use Rattle.ms_parse.specs.Stack.{stack_of};
+ghost use Rattle.ms_parse.specs.Stack.{stack_of, IsDepth};
 ghost use Rattle.ms_grammar.specs.View.{expression_of};
 
 use crate::frame::Frame;
@@ -14,8 +14,31 @@ use crate::operand::GREATEST_DEPTH;
 use crate::outcome::Outcome;
 use crate::stack::push_frame;
 use crate::stop::Stop;
-use ms_grammar::{Binary, Junction, Prefix};
+use ms_grammar::{Binary, Bracket, Junction, Prefix};
 use ms_logic::{Expr, Form};
+
+/// The first token at which an expression in this frame is too deep, where the stack is full. `i` is the number behind
+/// what the frame begins with.
+fn no_room(opened: &Opened, i: u32) -> Stop
+    ensures { IsDepth result }
+{
+    match opened {
+        Opened::Prefix(..) => Stop::TooDeep(i.saturating_sub(1)),
+        Opened::Left(..) => Stop::TooDeep(i.saturating_sub(1)),
+        Opened::Joined(..) => Stop::TooDeep(i.saturating_sub(1)),
+        Opened::Bracket(at, bracket) => match bracket {
+            Bracket::Parentheses => Stop::TooDeep(i.saturating_sub(1)),
+            Bracket::Emptiness => Stop::TooDeep(i.saturating_sub(1)),
+            Bracket::Restriction => Stop::TooDeepFrom(*at),
+            Bracket::Export(..) => Stop::TooDeepFrom(*at),
+        },
+        Opened::Listed(..) => Stop::TooDeep(i),
+        Opened::Domain(at, ..) => Stop::TooDeepFrom(*at),
+        Opened::Body(at, ..) => Stop::TooDeepFrom(*at),
+        Opened::Part(at, ..) => Stop::TooDeepFrom(*at),
+        Opened::Let(at, ..) => Stop::TooDeepFrom(*at),
+    }
+}
 
 /// Puts a frame on the stack, where the depth leaves room for an expression in it.
 pub fn enter(stack: &mut Vec<Frame>, frame: Frame, i: u32) -> Result<(Outcome, u32), Stop>
@@ -23,11 +46,11 @@ pub fn enter(stack: &mut Vec<Frame>, frame: Frame, i: u32) -> Result<(Outcome, u
         Took c file lexed (enter c (frame_of frame.opened) (stack_of stack.old.items) (behind file lexed i)) stack.new.items result }
 {
     if stack.len() >= 299 {
-        return Err(Stop::Refused(i));
+        return Err(no_room(&frame.opened, i));
     }
     let inside = frame.height.max(1);
     if stack.len() as u32 + 1 + inside > GREATEST_DEPTH {
-        return Err(Stop::Refused(i));
+        return Err(Stop::TooDeep(i.saturating_sub(1)));
     }
     push_frame(stack, frame)?;
     Ok((Outcome::Wanted, i))

@@ -64,7 +64,7 @@ fn begin_prefix(stack: &mut Vec<Frame>, at: At, op: Prefix, i: u32) -> Result<(O
         Took c file lexed (begin c (stack_of stack.old.items) at (prefix_operator op) (behind file lexed i)) stack.new.items result }
 {
     if need(stack) > level_of(op) {
-        return Err(Stop::Refused(i));
+        return Err(Stop::Refused(i.saturating_sub(1)));
     }
     let opened = Opened::Prefix(at, op);
     enter(stack, Frame { opened, height: 0 }, i)
@@ -82,7 +82,7 @@ fn begin_quantifier(
         Took c file lexed (begin c (stack_of stack.now) at (quantifier quant order) (behind file lexed i)) stack.now result }
 {
     if need(stack) > 4 {
-        return Err(Stop::Refused(i));
+        return Err(Stop::Refused(i.saturating_sub(1)));
     }
     let bounds = Bounds {
         list: List::new(alloc),
@@ -102,7 +102,7 @@ fn begin_let(
         Took c file lexed (begin c (stack_of stack.now) at (let_word order) (behind file lexed i)) stack.now result }
 {
     if need(stack) > 4 {
-        return Err(Stop::Refused(i));
+        return Err(Stop::Refused(i.saturating_sub(1)));
     }
     let parts = Parts {
         list: List::new(alloc),
@@ -139,7 +139,7 @@ fn begin_sign(
         Sign::Prefix(op) => begin_prefix(stack, at, op, i),
         Sign::Quantifier(quant, order) => begin_quantifier(alloc, stack, at, quant, order, i),
         Sign::Let(order) => begin_let(alloc, stack, at, order, i),
-        _ => Err(Stop::Refused(i)),
+        _ => Err(Stop::Refused(i.saturating_sub(1))),
     }
 }
 

@@ -82,7 +82,7 @@ fn behind_global(
         Sign::Where => begin_expression(stack, Context::Global(globals, at_name, name), i),
         Sign::Comma => another_global(globals, at_name, name, None, i),
         Sign::Semicolon => last_global(made, globals, at_name, name, None, i),
-        _ => Err(Stop::Refused(i)),
+        _ => Err(Stop::Refused(i.saturating_sub(1))),
     }
 }
 
@@ -126,6 +126,6 @@ pub fn end_global(
     match sign {
         Sign::Comma => another_global(globals, at_name, name, Some(domain), i),
         Sign::Semicolon => last_global(made, globals, at_name, name, Some(domain), i),
-        _ => Err(Stop::Refused(i)),
+        _ => Err(Stop::Refused(i.saturating_sub(1))),
     }
 }

@@ -63,7 +63,7 @@ fn settle_operator(
         Sign::Infix(op) => shift(stack, op, operand, i),
         Sign::Joining(op) => join(alloc, stack, op, operand, i),
         Sign::Shift(minus) => shift_int(alloc, tokens, file, stack, operand, minus, i),
-        _ => Err(Stop::Refused(i)),
+        _ => Err(Stop::Refused(i.saturating_sub(1))),
     }
 }
 
@@ -85,7 +85,7 @@ fn settle_frame(
         Sign::Comma => comma(alloc, stack, row_of(frame), operand, i),
         Sign::Colon => colon(alloc, stack, row_of(frame), operand, i),
         Sign::Infix(_) => end_parts(stack, row_of(frame), operand, i),
-        _ => Err(Stop::Refused(i)),
+        _ => Err(Stop::Refused(i.saturating_sub(1))),
     }
 }
 
@@ -103,7 +103,7 @@ fn end_formula(
     let Operand { expr, .. } = operand;
     match sign {
         Sign::Semicolon => declared(made, at, Decl::Formula(expr), i),
-        _ => Err(Stop::Refused(i)),
+        _ => Err(Stop::Refused(i.saturating_sub(1))),
     }
 }
 
@@ -131,7 +131,7 @@ fn end_predicate(
             let decl = Decl::Pred(is_pred, at_name, name, parameters, expr);
             declared(made, at, decl, i)
         }
-        _ => Err(Stop::Refused(i)),
+        _ => Err(Stop::Refused(i.saturating_sub(1))),
     }
 }
 
@@ -151,7 +151,7 @@ fn end_default(
     let Operand { expr, .. } = operand;
     match sign {
         Sign::Semicolon => declared(made, at, Decl::Default(order, name, expr), i),
-        _ => Err(Stop::Refused(i)),
+        _ => Err(Stop::Refused(i.saturating_sub(1))),
     }
 }
 

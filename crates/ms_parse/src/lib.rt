@@ -1,4 +1,4 @@
-//! The grammar of the language, both ways: a tree reads from tokens, and a tree is printed as a text.
+//! Reads the tokens of a source as the one tree that they make up, or refuses them.
 #![tactic(auto)]
 
 mod append;

@@ -124,7 +124,7 @@ fn behind_variable(
             let opened = Opened::Body(at, quant, order, list);
             enter(stack, Frame { opened, height }, i)
         }
-        _ => Err(Stop::Refused(i)),
+        _ => Err(Stop::Refused(i.saturating_sub(1))),
     }
 }
 

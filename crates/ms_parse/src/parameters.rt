@@ -109,7 +109,7 @@ fn behind_parameter(
                 tokens, file, stack, signature, order, at_name, name, None, i,
             )
         }
-        _ => Err(Stop::Refused(i)),
+        _ => Err(Stop::Refused(i.saturating_sub(1))),
     }
 }
 
@@ -203,6 +203,6 @@ pub fn end_parameter(
             Some(domain),
             i,
         ),
-        _ => Err(Stop::Refused(i)),
+        _ => Err(Stop::Refused(i.saturating_sub(1))),
     }
 }

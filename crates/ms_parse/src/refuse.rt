@@ -2,6 +2,7 @@ ghost use Rattle.std.specs.Prelude.{◌≡◌, ◌⊎◌, ◌↔◌, IsTrue};
 ghost use Rattle.ms_parse.specs.Refused.{IsGrammarFault, NamesFault, StopsAt};
 
 use crate::input::at_of;
+use crate::punctuation::{Punctuation, behind_mark};
 use crate::stop::Stop;
 use ms_edge::{Name, Refusal};
 use ms_text::{Kind, Tokens};
@@ -36,12 +37,48 @@ fn fault_at(alloc: Global, tokens: &Tokens, file: u32, i: u32) -> Refusal
     }
 }
 
+/// The refusal where an expression becomes too deep at the token with a number.
+fn depth_at(tokens: &Tokens, file: u32, i: u32) -> Refusal
+    ensures { NamesFault file tokens.now result }
+{
+    if i >= tokens.len() {
+        let at = at_of(file, tokens.end());
+        return Refusal::Grammar { at };
+    }
+    let token = tokens.get(i);
+    let at = at_of(file, token.place);
+    Refusal::Depth { at }
+}
+
+/// The number of the token that stands at a place, or how many tokens there are.
+fn number_of(tokens: &Tokens, place: u64) -> u32 {
+    for i in 0..tokens.len() {
+        if tokens.get(i).place == place {
+            return i;
+        }
+    }
+    tokens.len()
+}
+
+/// `ws1s` at the beginning may be the header, and what stands behind it may not.
+fn behind_ws1s(tokens: &Tokens, file: u32, i: u32) -> u32 {
+    if i > 0 {
+        return i;
+    }
+    match behind_mark(tokens, file, i, Punctuation::Ws1s) {
+        Some(next) => next,
+        None => i,
+    }
+}
+
 /// The refusal where the reading stops.
 pub fn refusal_of(alloc: Global, tokens: &Tokens, file: u32, stop: Stop) -> Refusal
     ensures { StopsAt file tokens.now stop → (result ≡ Refusal.Memory) ⊎ IsGrammarFault file tokens.now result }
 {
     match stop {
         Stop::Memory => Refusal::Memory,
-        Stop::Refused(i) => fault_at(alloc, tokens, file, i),
+        Stop::Refused(i) => fault_at(alloc, tokens, file, behind_ws1s(tokens, file, i)),
+        Stop::TooDeep(i) => depth_at(tokens, file, i),
+        Stop::TooDeepFrom(at) => depth_at(tokens, file, number_of(tokens, at.place)),
     }
 }

@@ -94,7 +94,7 @@ pub fn comma(
         Row::Part(at, order, parts, at_name, name) => {
             another_part(at, order, parts, at_name, name, operand, i)
         }
-        Row::Other => Err(Stop::Refused(i)),
+        Row::Other => Err(Stop::Refused(i.saturating_sub(1))),
     }
 }
 
@@ -135,9 +135,9 @@ pub fn colon(
                 alloc, stack, at, quant, order, bounds, at_name, name, operand, i,
             )
         }
-        Row::Listed(..) => Err(Stop::Refused(i)),
-        Row::Part(..) => Err(Stop::Refused(i)),
-        Row::Other => Err(Stop::Refused(i)),
+        Row::Listed(..) => Err(Stop::Refused(i.saturating_sub(1))),
+        Row::Part(..) => Err(Stop::Refused(i.saturating_sub(1))),
+        Row::Other => Err(Stop::Refused(i.saturating_sub(1))),
     }
 }
 
@@ -173,8 +173,8 @@ pub fn end_parts(
         Row::Part(at, order, parts, at_name, name) => {
             begin_scope(stack, at, order, parts, at_name, name, operand, i)
         }
-        Row::Listed(..) => Err(Stop::Refused(i)),
-        Row::Domain(..) => Err(Stop::Refused(i)),
-        Row::Other => Err(Stop::Refused(i)),
+        Row::Listed(..) => Err(Stop::Refused(i.saturating_sub(1))),
+        Row::Domain(..) => Err(Stop::Refused(i.saturating_sub(1))),
+        Row::Other => Err(Stop::Refused(i.saturating_sub(1))),
     }
 }

@@ -47,7 +47,7 @@ pub fn shift(
         Took c file lexed (shift c op (expression_of left.expr, stack_of stack.old.items) (behind file lexed i)) stack.new.items result }
 {
     if level(&left.expr) < least_left(op) {
-        return Err(Stop::Refused(i));
+        return Err(Stop::Refused(i.saturating_sub(1)));
     }
     let height = left.height;
     let frame = Frame {
@@ -69,7 +69,7 @@ pub fn join_new(
         Took c file lexed (join_new c op (expression_of first.expr) (stack_of stack.old.items) (behind file lexed i)) stack.new.items result }
 {
     if level(&first.expr) < least_operand(op) {
-        return Err(Stop::Refused(i));
+        return Err(Stop::Refused(i.saturating_sub(1)));
     }
     let height = first.height;
     let at = first.start;
@@ -118,7 +118,7 @@ pub fn shift_by(
         Took c file lexed (shift_by c (expression_of operand.expr) (stack_of stack.now) number (behind file lexed i)) stack.now result }
 {
     if !may_shift(stack, &operand) {
-        return Err(Stop::Refused(i));
+        return Err(Stop::TooDeep(i.saturating_sub(2)));
     }
     let Operand {
         expr,

@@ -1,11 +1,15 @@
-use ms_edge::NoMemory;
+use ms_edge::{At, NoMemory};
 
 /// Why an automaton's step is not taken.
 #[derive(Clone, Copy, Debug, PartialEq, Eq)]
 pub enum Stop {
     Memory,
-    /// No document begins so; with the number of a token at which the step ends.
+    /// The token with this number does not stand there, or the tokens end before it.
     Refused(u32),
+    /// At the token with this number an expression becomes too deep.
+    TooDeep(u32),
+    /// The expression that begins at this place is too deep, whatever follows.
+    TooDeepFrom(At),
 }
 
 impl From<NoMemory> for Stop {
