@@ -1,6 +1,6 @@
 use crate::{fits, print};
 use ms_edge::{At, Boxed, Bytes, List, Name, NoMemory};
-use ms_logic::{Bound, Decl, Expr, Form, Item, Mode, Order, Rel, Source};
+use ms_logic::{Bound, Decl, Expr, Form, Item, Mode, Order, Quant, Rel, Source};
 use std::alloc::Global;
 use std::test::Fail;
 
@@ -68,7 +68,7 @@ fn quantified(alloc: Global) -> Result<Form, NoMemory> {
         domain: None,
     };
     push(&mut bounds, bound)?;
-    Ok(Form::Bind(ms_logic::Quant::Ex, Order::One, bounds, body))
+    Ok(Form::Bind(Quant::Ex, Order::One, bounds, body))
 }
 
 fn bytes(alloc: Global, text: &str) -> Result<Bytes, NoMemory> {
