@@ -46,3 +46,6 @@ pub use examples::{
 pub use laws::one_document;
 pub use parser::{declarations, parse};
 pub use state::Parsed;
+
+#[cfg(test)]
+mod tests;
