@@ -14,4 +14,6 @@ pub use source::load;
 pub use text::load_bytes;
 
 #[cfg(test)]
+mod round_trip;
+#[cfg(test)]
 mod tests;
