@@ -14,6 +14,8 @@ pub use source::load;
 pub use text::load_bytes;
 
 #[cfg(test)]
+mod broken;
+#[cfg(test)]
 mod round_trip;
 #[cfg(test)]
 mod tests;
