@@ -22,6 +22,8 @@ fn told(answer: &Result<Loaded, Refusal>) -> (u32, u64, u64) {
     match answer {
         Ok(loaded) => (0, loaded.files.len() as u64, loaded.items.len() as u64),
         Err(Refusal::Word { at, .. }) => (10, u64::from(at.file), at.place),
+        Err(Refusal::Grammar { at }) => (12, u64::from(at.file), at.place),
+        Err(Refusal::LeftOut { at, .. }) => (26, u64::from(at.file), at.place),
         Err(Refusal::NotHere { at }) => (25, u64::from(at.file), at.place),
         Err(Refusal::FileMissing { at: Some(at), .. }) => (30, u64::from(at.file), at.place),
         Err(Refusal::FileMissing { at: None, .. }) => (30, 99, 99),
@@ -37,7 +39,7 @@ fn told(answer: &Result<Loaded, Refusal>) -> (u32, u64, u64) {
 fn files_are_loaded_or_refused(rt: HostRuntime) -> Result<(), Fail> {
     let alloc = rt.alloc();
     // The files, the reads that fail, what is answered.
-    let rows: [(&[(&str, &[u8])], &[u64], (u32, u64, u64)); 14] = [
+    let rows: [(&[(&str, &[u8])], &[u64], (u32, u64, u64)); 16] = [
         (&[("t", b"")], &[], (0, 1, 0)),
         (&[("t", b"ws1s; true; false;")], &[], (0, 1, 2)),
         (
@@ -71,6 +73,16 @@ fn files_are_loaded_or_refused(rt: HostRuntime) -> Result<(), Fail> {
             (25, 1, 1),
         ),
         (&[("t", b"include \"b\";"), ("b", b"\n@")], &[], (10, 1, 1)),
+        (
+            &[("t", b"include \"b\"; P sub;"), ("b", b"a; b")],
+            &[],
+            (12, 0, 18),
+        ),
+        (
+            &[("t", b"include \"b\";"), ("b", b"a; tree")],
+            &[],
+            (26, 1, 3),
+        ),
         (&[("t", b"true;")], &[0], (60, 99, 99)),
         (
             &[("t", b"include \"b\"; true;"), ("b", b"true;")],
