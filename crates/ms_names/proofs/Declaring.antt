@@ -1,28 +1,25 @@
 -- Declarations: constants, names of globals, predicates and default restrictions.
-use Rattle.std.proofs.Common.{◌≡◌, ℕ, ◌+◌, Bool, true, false, if◌then◌else◌, List, [], ◌∷◌, ◌++◌, append_assoc, length, drop, map, reverse, Option, Some, None, refl, sym, subst, ap, ◌∙◌}
+use Rattle.std.proofs.Common.{◌≡◌, ℕ, ◌+◌, Bool, true, false, if◌then◌else◌, List, [], ◌∷◌, ◌++◌, drop, Option, Some, None, refl, sym, ap, ◌∙◌}
 use Rattle.std.specs.Prelude.{bytes_eq, flat_map}
 use Rattle.std.specs.Option.{option_map}
-use Rattle.ms_edge.specs.declared.at.At.{At}
 use Rattle.ms_logic.specs.declared.mode.Order.{Order}
 use Rattle.ms_logic.specs.declared.source.PlacedInt.{PlacedInt}
 use Rattle.ms_logic.specs.Tree as tree
 use Rattle.ms_logic.specs.Tree.{Form, Restriction, Argument}
 use Rattle.ms_names.specs.declared.fault.Fault.{Fault}
 use Rattle.ms_names.specs.declared.meaning.Meaning.TheVariants.{Variable}
-use Rattle.ms_names.specs.declared.meaning.Reading.{Reading}
 use Rattle.ms_names.specs.Syntax.{Bytes, Expression, Bounds, no_bounds, more_bounds, Domain, unrestricted, restricted}
 use Rattle.ms_names.specs.Before.{Before, after, after_bounds, after_domain, with_names}
 use Rattle.ms_names.specs.Binder.{after_restrictions, restricted_variable, restricted_variables, restriction_in, unbound}
-use Rattle.ms_names.specs.Constant.{Sum, leaves_range, has_no_value, next_sum, sum_from, sum_in_range, sum_of_value, value_of}
+use Rattle.ms_names.specs.Constant.{leaves_range, has_no_value, next_sum, sum_from, sum_in_range, sum_of_value, value_of}
 use Rattle.ms_names.specs.Declaration.{predicate_with}
 use Rattle.ms_names.specs.Declarations.{occurrences_in_default, occurrences_in_predicate}
-use Rattle.ms_names.specs.Fault.{first_with}
 use Rattle.ms_names.specs.Occurrence.{occurrences, inside_bounds, formula_wanted}
 use Rattle.ms_names.specs.Rules.{faults_of_placed, is_name_among}
 use Rattle.ms_names.specs.Scope.{Scope, bind, count_of_bounds, under_bounds, without_exports}
 use Rattle.ms_names.specs.State.{State, with_faults, passed}
-use Rattle.ms_names.specs.Typed.{both, formula_in, typed, typed_domain, typed_restriction}
-use Rattle.ms_names.specs.TypedSource.{parameters_of_bounds, restriction_of_parameter, typed_default, typed_predicate}
+use Rattle.ms_names.specs.Typed.{both, formula_in, typed, typed_restriction}
+use Rattle.ms_names.specs.TypedSource.{parameters_of_bounds, typed_default, typed_predicate}
 use Rattle.ms_names.proofs.Exports.{domain-same, typed-same, under_bounds-same}
 use Rattle.ms_names.proofs.Lists.{parameters-all}
 use Rattle.ms_names.proofs.Repeats.{faults-faults}

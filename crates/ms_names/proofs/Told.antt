@@ -1,7 +1,8 @@
 -- A check after a declaration but for its exports.
-use Rattle.std.proofs.Common.{◌≡◌, ℕ, List, [], ◌∷◌, ◌++◌, append_assoc, length, refl, sym, subst, ap, ◌∙◌}
+use Rattle.std.proofs.Common.{◌≡◌, ℕ, List, [], ◌∷◌, ◌++◌, append_assoc, ◌≤◌, length, length-append, arith, drop, None, refl, sym, subst, ap, ◌∙◌}
 use Rattle.std.specs.Prelude.{flat_map}
 use Rattle.std.proofs.lemmas.List.{append-nil}
+use Rattle.std.proofs.Math.Seq.{drop-append_seam}
 use Rattle.ms_edge.specs.declared.at.At.{At}
 use Rattle.ms_logic.specs.declared.mode.Order.{Order}
 use Rattle.ms_logic.specs.declared.source.PlacedInt.{PlacedInt}
@@ -9,18 +10,19 @@ use Rattle.ms_names.specs.declared.fault.Fault.{Fault}
 use Rattle.ms_names.specs.declared.meaning.Meaning.TheVariants.{Constant, Predicate}
 use Rattle.ms_names.specs.declared.meaning.Reading.{Reading}
 use Rattle.ms_names.specs.Syntax.{Bytes, Expression, Bounds, Declaration, globals, constant, predicate, default, formula}
-use Rattle.ms_names.specs.Before.{Before, after, after_bounds, with_names}
+use Rattle.ms_names.specs.Before.{after, after_bounds, with_names}
 use Rattle.ms_names.specs.Binder.{after_restrictions}
 use Rattle.ms_names.specs.Constant.{sum_from, value_of_sum}
 use Rattle.ms_names.specs.Declaration.{Files, known_at, read_through, told}
-use Rattle.ms_names.specs.Declarations.{declared_names, faults_of_sum, next_predicate, occurrences_in_default, occurrences_in_predicate, orders_of_bounds}
+use Rattle.ms_names.specs.Declarations.{Known, after_declaration, declared_names, exports_in, faults_of_declaration, faults_of_sum, next_predicate, occurrences_in, occurrences_in_default, occurrences_in_predicate, orders_of_bounds}
 use Rattle.ms_names.specs.Fault.{first_with}
-use Rattle.ms_names.specs.Occurrence.{Occurrence, occurrences, inside_bounds, formula_wanted}
+use Rattle.ms_names.specs.Occurrence.{occurrences, inside_bounds, formula_wanted}
+use Rattle.ms_names.specs.Outcome.{declared_in}
 use Rattle.ms_names.specs.Reads.{readings_at}
-use Rattle.ms_names.specs.Rules.{faults_at, faults_of_bounds, faults_of_placed, faults_of_repeat}
-use Rattle.ms_names.specs.Scope.{Scope, bind, count_of_bounds, under_bounds, with_default}
+use Rattle.ms_names.specs.Rules.{faults_at, faults_of_bounds, faults_of_exports, faults_of_placed, faults_of_repeat}
+use Rattle.ms_names.specs.Scope.{bind, count_of_bounds, under_bounds, with_default}
 use Rattle.ms_names.specs.State.{State, with_faults, passed}
-use Rattle.ms_names.specs.Uses.{import_at, export_at}
+use Rattle.ms_names.specs.Uses.{import_at, export_at, with_files}
 use Rattle.ms_names.proofs.States.{first_with-append}
 
 kept-reads : (u v : State) → u ≡ v → u ≡ record v { reads = u.reads }
@@ -132,3 +134,50 @@ default-told s t u v count files o n e number empty within numbered noted_as hel
     ∙ (ap (λ (there : State). record there { scope = with_default o number there.scope }) noted_as
     ∙ (ap (λ k. record (read_through t) { scope = with_default o k (read_through t).scope }) numbered
     ∙ (ap N within ∙ ap F empty))))
+
+-- a declaration with its exports
+
+exports-here : (s t : State) (k : Known) (d : Declaration) (from : ℕ) (reads : List Reading) →
+    t ≡ told s k d reads → from ≡ length s.exports → drop from t.exports ≡ exports_in k d
+exports-here s t k d from reads found from_is =
+    ap (λ (there : State). drop from there.exports) found
+    ∙ (ap (λ n. drop n (s.exports ++ exports_in k d)) from_is ∙ drop-append_seam s.exports (exports_in k d))
+
+pub declared-files : (s r t : State) (count : ℕ) (files more : Files) (d : Declaration) (from : ℕ) →
+    r ≡ record s { first = None; reads = [] } →
+    from ≡ length r.exports →
+    t ≡ told r (known_at r count files) d t.reads →
+    more ≡ with_files files (drop from t.exports) →
+    more ≡ (after_declaration (known_at s count files) d).files
+declared-files s r t count files more d from begun from_is found checked =
+    checked ∙ (ap (with_files files) (exports-here r t (known_at r count files) d from t.reads found from_is)
+    ∙ ap (λ (there : State). with_files files (exports_in (known_at there count files) d)) begun)
+
+pub declared-all : (s r t u : State) (count : ℕ) (files : Files) (d : Declaration) (from : ℕ) →
+    r ≡ record s { first = None; reads = [] } →
+    from ≡ length r.exports →
+    t ≡ told r (known_at r count files) d t.reads →
+    u ≡ with_faults t (faults_of_exports files (drop from t.exports)) →
+    u ≡ declared_in s (known_at s count files) d u.reads
+declared-all s r t u count files d from begun from_is found checked =
+    let k = known_at s count files in
+    let fs = faults_of_declaration k d in
+    let gs = flat_map faults_at (occurrences_in k d) in
+    let hs = faults_of_exports files (exports_in k d) in
+    let start : State = record s { first = None; reads = [] } in
+    let end : State = told start k d t.reads in
+    let F : State → State = λ there. with_faults (told there (known_at there count files) d t.reads) (faults_of_exports files (exports_in (known_at there count files) d)) in
+    kept-reads u (record end { first = first_with None (fs ++ (gs ++ hs)) })
+    (checked
+    ∙ (ap (λ xs. with_faults t (faults_of_exports files xs)) (exports-here r t (known_at r count files) d from t.reads found from_is)
+    ∙ (ap (λ there. with_faults there (faults_of_exports files (exports_in (known_at r count files) d))) found
+    ∙ (ap F begun
+    ∙ ap (λ known. record end { first = known }) (sym (first_with-append None (fs ++ gs) hs) ∙ ap (first_with None) (append_assoc fs gs hs))))))
+
+pub from-within : (s t : State) (k : Known) (d : Declaration) (from : ℕ) (reads : List Reading) →
+    t ≡ told s k d reads → from ≡ length s.exports → from ≤ length t.exports
+from-within s t k d from reads found is =
+    let P : State → Type 0 = λ there. from ≤ length there.exports in
+    let e = length-append s.exports (exports_in k d) in
+    let within : from ≤ length (s.exports ++ exports_in k d) = omega (arith, e) in
+    subst P (sym found) within

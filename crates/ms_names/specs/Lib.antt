@@ -9,6 +9,7 @@ pub mod Free
 pub mod Lists
 pub mod Occurrence
 pub mod Order
+pub mod Outcome
 pub mod Reads
 pub mod Rules
 pub mod Scope

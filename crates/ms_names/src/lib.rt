@@ -18,6 +18,7 @@ mod memory;
 mod name;
 mod names;
 mod order;
+mod outcome;
 mod quantifier;
 mod repeat;
 mod scope;

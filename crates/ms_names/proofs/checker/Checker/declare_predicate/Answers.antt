@@ -1,4 +1,4 @@
-use Rattle.std.proofs.Common.{[], refl, ap, ◌∙◌}
+use Rattle.std.proofs.Common.{refl, ap, ◌∙◌}
 use Rattle.ms_names.specs.Declaration.{read_through}
 use Rattle.ms_names.specs.Declarations.{next_predicate, orders_of_bounds}
 use Rattle.ms_names.specs.State.{State}

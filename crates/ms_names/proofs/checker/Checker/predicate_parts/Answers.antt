@@ -1,4 +1,4 @@
-use Rattle.std.proofs.Common.{◌≡◌, false, length, map, sym, ap, ◌∙◌}
+use Rattle.std.proofs.Common.{length, map, sym, ◌∙◌}
 use Rattle.std.specs.Option.{option_map}
 use Rattle.ms_logic.specs.View.{argument_of, declaration_of}
 use Rattle.ms_names.specs.View.{bounds_of, expression_of}
