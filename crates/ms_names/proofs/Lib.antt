@@ -2,8 +2,11 @@ pub mod Declaring
 pub mod Exports
 pub mod FreeVariables
 pub mod Lists
+pub mod Makes
 pub mod Operands
+pub mod Orders
 pub mod Repeats
+pub mod Sources
 pub mod States
 pub mod Tables
 pub mod Told

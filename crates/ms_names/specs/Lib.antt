@@ -1,5 +1,6 @@
 pub mod Before
 pub mod Binder
+pub mod Checking
 pub mod Constant
 pub mod Declaration
 pub mod Declarations
@@ -10,6 +11,7 @@ pub mod Lists
 pub mod Occurrence
 pub mod Order
 pub mod Outcome
+pub mod Progress
 pub mod Reads
 pub mod Rules
 pub mod Scope

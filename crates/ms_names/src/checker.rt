@@ -1,6 +1,7 @@
+ghost use Rattle.ms_names.specs.Checking.{beginning};
 ghost use Rattle.ms_names.specs.Fault.{first_of_two};
 ghost use Rattle.ms_names.specs.Scope.{meaning_of};
-ghost use Rattle.std.specs.Prelude.{◌≡◌, ◌∷◌, [], option_copied};
+ghost use Rattle.std.specs.Prelude.{◌≡◌, ◌∷◌, [], None, option_copied};
 
 use crate::fault::Fault;
 use crate::meaning::{Meaning, Reading};
@@ -9,6 +10,7 @@ use ms_edge::{List, Name};
 use ms_logic::{ExportUse, ImportUse, Mode};
 use std::alloc::Global;
 use std::marker::Model;
+use std::mem;
 
 /// What the check of a declaration knows and has found so far.
 #[derive(Drop)]
@@ -53,11 +55,54 @@ impl Model for Checker {
 }
 
 impl Checker {
+    /// Before the first declaration, where bound names are numbered from a number on.
+    pub(crate) fn new(alloc: Global, mode: Mode, next: u32) -> Checker
+        ensures { result ≡ beginning mode next }
+    {
+        Checker {
+            alloc,
+            mode,
+            names: Names::new(alloc),
+            predicates: Vec::new(alloc),
+            default_of_numbers: None,
+            default_of_sets: None,
+            exports_allowed: true,
+            next,
+            import_count: 0,
+            export_count: 0,
+            first: None,
+            reads: List::new(alloc),
+            imports: List::new(alloc),
+            exports: Vec::new(alloc),
+        }
+    }
+
+    /// The imports and the exports.
+    pub(crate) fn into_uses(self) -> (List<ImportUse>, List<ExportUse>)
+        ensures imports { result.0 ≡ self.imports }
+        ensures exports { result.1 ≡ self.exports }
+    {
+        let Checker {
+            imports,
+            exports,
+            ..
+        } = self;
+        (imports, List::from(exports))
+    }
+
     /// What the name means here, if it is declared.
     pub(crate) fn meaning(&self, name: &Name) -> Option<&Meaning>
         ensures { option_copied result ≡ meaning_of self.now.scope name.now }
     {
         self.names.meaning(name)
+    }
+
+    /// The first fault, which is forgotten.
+    pub(crate) fn take_first(&mut self) -> Option<Fault>
+        ensures state { self.new ≡ record self.old { first = None } }
+        ensures value { result ≡ self.old.first }
+    {
+        mem::replace(&mut self.first, None)
     }
 
     /// One more fault.

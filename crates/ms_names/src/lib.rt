@@ -19,10 +19,12 @@ mod name;
 mod names;
 mod order;
 mod outcome;
+mod progress;
 mod quantifier;
 mod repeat;
 mod scope;
 mod seen;
+mod source;
 mod sum;
 mod value;
 mod wanted;
@@ -34,3 +36,4 @@ pub use examples::{
     worked_typed_names, worked_unknown_names, worked_uses,
 };
 pub use fault::Fault;
+pub use source::check;

@@ -1,0 +1,190 @@
+ghost use Rattle.ms_logic.specs.View.{declaration_of as parameter_of};
+ghost use Rattle.ms_names.specs.Declarations.{count_of_globals, globals_in};
+ghost use Rattle.ms_names.specs.Outcome.{outcome_of};
+ghost use Rattle.ms_names.specs.Progress.{IsAfter, IsBeginning, IsFirstOf, IsMade, IsNext, Keeps, bounds_in, globals_with, kept_globals, known};
+ghost use Rattle.ms_names.specs.View.{bounds_of, declaration_of, placed_of};
+ghost use Rattle.std.specs.Prelude.{◌≡◌, ◌+◌, ◌∷◌, ◌++◌, ◌⊎◌, [], map, IfErr, IfOk, OnOk};
+
+use crate::checker::Checker;
+use crate::memory::{copy_name, push};
+use crate::name::small;
+use crate::outcome::Outcome;
+use crate::seen::Seen;
+use ms_edge::{At, List, NoMemory, Refusal};
+use ms_logic::{Bound, Decl, Item, Mode, Param, Placed, Predicate};
+use std::alloc::Global;
+
+/// A check of a source that stands between two declarations: what it knows there, and what those before gave.
+#[derive(Drop)]
+pub(crate) struct Progress {
+    pub(crate) alloc: Global,
+    pub(crate) checker: Checker,
+    pub(crate) files: Seen,
+    pub(crate) count: u32,
+    pub(crate) item: u32,
+    pub(crate) globals: List<ms_logic::Global>,
+    pub(crate) predicates: List<Predicate>,
+    pub(crate) formulas: List<Placed>,
+}
+
+// The globals that a declaration declares.
+fn globals(decl: &Decl) -> &[Bound]
+    ensures { bounds_of result.now ≡ bounds_in (declaration_of decl.now) }
+{
+    match decl {
+        Decl::Vars(bounds) => bounds.slice(),
+        _ => &[],
+    }
+}
+
+// A count and so many more.
+fn more(count: u32, decl: &Decl) -> Result<u32, NoMemory>
+    ensures { IfOk result (λ sum. sum ≡ count + globals_in (declaration_of decl.now)) }
+{
+    let here = small(globals(decl).len())?;
+    match count.checked_add(here) {
+        Some(sum) => Ok(sum),
+        None => Err(NoMemory),
+    }
+}
+
+// How many globals the declarations have.
+fn count_globals(items: &[Item]) -> Result<u32, NoMemory>
+    ensures { IfOk result (λ count. count ≡ count_of_globals (map placed_of items.now)) }
+{
+    let mut count = 0;
+    for item in items {
+        count = more(count, &item.decl)?;
+    }
+    Ok(count)
+}
+
+// Globals behind others, with their restrictions.
+fn add_globals(
+    alloc: Global,
+    list: &mut List<ms_logic::Global>,
+    at: At,
+    item: u32,
+    bounds: &[Bound],
+    params: Vec<Param>,
+) -> Result<(), NoMemory>
+    ensures { OnOk result (kept_globals list.new
+        ≡ kept_globals list.old ++ globals_with at item (map parameter_of params.items) (bounds_of bounds.now)) }
+{
+    let mut params = params.into_iter();
+    for bound in bounds {
+        let Some(param) = params.next() else {
+            return Ok(());
+        };
+        let global = ms_logic::Global {
+            at,
+            item,
+            order: bound.order,
+            name: copy_name(alloc, &bound.name)?,
+            domain: param.domain,
+        };
+        push(list, global)?;
+    }
+    Ok(())
+}
+
+impl Progress {
+    /// Before the first declaration. Bound names are numbered after all globals.
+    pub(crate) fn begin(alloc: Global, mode: Mode, items: &[Item]) -> Result<Progress, NoMemory>
+        ensures { IfOk result (λ begun. IsBeginning begun mode (map placed_of items.now)) }
+    {
+        let next = count_globals(items)?;
+        Ok(Progress {
+            alloc,
+            checker: Checker::new(alloc, mode, next),
+            files: Seen::new(alloc),
+            count: 0,
+            item: 0,
+            globals: List::new(alloc),
+            predicates: List::new(alloc),
+            formulas: List::new(alloc),
+        })
+    }
+
+    // Keeps what a declaration gave.
+    fn keep(&mut self, item: &Item, made: Outcome) -> Result<(), NoMemory>
+        requires { IsMade (outcome_of made) }
+        ensures kept { OnOk result (Keeps self.old self.new (placed_of item.now) (outcome_of made)) }
+        ensures checker { OnOk result (self.new.checker ≡ self.old.checker) }
+        ensures files { OnOk result (self.new.files ≡ self.old.files) }
+        ensures count { OnOk result (self.new.count ≡ self.old.count) }
+        ensures item { OnOk result (self.new.item ≡ self.old.item) }
+    {
+        match made {
+            Outcome::Globals(Some(params)) => add_globals(
+                self.alloc,
+                &mut self.globals,
+                item.at,
+                self.item,
+                globals(&item.decl),
+                params,
+            ),
+            Outcome::Predicate(Some(predicate)) => push(&mut self.predicates, predicate),
+            Outcome::Formula(Some(formula)) => {
+                let placed = Placed {
+                    at: item.at,
+                    item: self.item,
+                    formula,
+                };
+                push(&mut self.formulas, placed)
+            }
+            Outcome::Nothing => Ok(()),
+            _ => unreachable!(),
+        }
+    }
+
+    // Counts a declaration and its globals.
+    fn pass(&mut self, decl: &Decl) -> Result<(), NoMemory>
+        ensures { OnOk result (self.new ≡ record self.old {
+          count = self.old.count + globals_in (declaration_of decl.now);
+          item = self.old.item + 1;
+        }) }
+    {
+        let count = more(self.count, decl)?;
+        let Some(item) = self.item.checked_add(1) else {
+            return Err(NoMemory);
+        };
+        self.count = count;
+        self.item = item;
+        Ok(())
+    }
+
+    // One more declaration, or its first fault.
+    fn declare(&mut self, item: &Item) -> Result<(), Refusal>
+        ensures next { OnOk result (IsNext self.old self.new (placed_of item.now)) }
+        ensures refused { IfErr result (λ refusal. (refusal ≡ Refusal.Memory) ⊎ IsFirstOf (known self.old) (placed_of item.now ∷ []) refusal) }
+    {
+        let Ok(made) = self
+            .checker
+            .declare(self.count, &mut self.files, &item.decl)
+        else {
+            return Err(Refusal::Memory);
+        };
+        if let Some(fault) = self.checker.take_first() {
+            return Err(fault.refusal());
+        }
+        let Ok(()) = self.keep(item, made) else {
+            return Err(Refusal::Memory);
+        };
+        let Ok(()) = self.pass(&item.decl) else {
+            return Err(Refusal::Memory);
+        };
+        Ok(())
+    }
+
+    /// More declarations, or the first fault of the first that has one.
+    pub(crate) fn declare_all(&mut self, items: &[Item]) -> Result<(), Refusal>
+        ensures after { OnOk result (IsAfter self.old self.new (map placed_of items.now)) }
+        ensures refused { IfErr result (λ refusal. (refusal ≡ Refusal.Memory) ⊎ IsFirstOf (known self.old) (map placed_of items.now) refusal) }
+    {
+        for item in items {
+            self.declare(item)?;
+        }
+        Ok(())
+    }
+}

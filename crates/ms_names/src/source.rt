@@ -1,0 +1,54 @@
+ghost use Rattle.ms_names.specs.Checking.{IsFirstFault};
+ghost use Rattle.ms_names.specs.Declarations.{first_fault_of};
+ghost use Rattle.ms_names.specs.TypedSource.{IsTyped};
+ghost use Rattle.ms_names.specs.View.{placed_of};
+ghost use Rattle.std.specs.Prelude.{◌≡◌, ◌⊎◌, None, map, IfErr, IfOk};
+
+use crate::memory::push;
+use crate::progress::Progress;
+use ms_edge::{List, NoMemory, Refusal, Text};
+use ms_logic::{Checked, Loaded};
+use std::alloc::Global;
+
+// Equal texts.
+fn copy_texts(alloc: Global, texts: &[Text]) -> Result<List<Text>, NoMemory>
+    ensures { IfOk result (λ made. made ≡ texts.now) }
+{
+    let mut made = List::new(alloc);
+    for text in texts {
+        push(&mut made, Text::new(alloc, text.text())?)?;
+    }
+    Ok(made)
+}
+
+/// The typed tree of a source whose names and orders are right, or its first fault.
+pub fn check(alloc: Global, loaded: &Loaded) -> Result<Checked, Refusal>
+    ensures accepted { IfOk result (λ checked. first_fault_of loaded.now.mode (map placed_of loaded.now.items) ≡ None) }
+    ensures typed { IfOk result (IsTyped loaded.now) }
+    ensures refused { IfErr result (λ refusal. (refusal ≡ Refusal.Memory) ⊎ IsFirstFault loaded.now refusal) }
+{
+    let Ok(mut progress) = Progress::begin(alloc, loaded.mode, loaded.items.slice()) else {
+        return Err(Refusal::Memory);
+    };
+    progress.declare_all(loaded.items.slice())?;
+    let Ok(files) = copy_texts(alloc, loaded.files.slice()) else {
+        return Err(Refusal::Memory);
+    };
+    let Progress {
+        checker,
+        globals,
+        predicates,
+        formulas,
+        ..
+    } = progress;
+    let (imports, exports) = checker.into_uses();
+    Ok(Checked {
+        mode: loaded.mode,
+        globals,
+        predicates,
+        imports,
+        exports,
+        formulas,
+        files,
+    })
+}
