@@ -1,10 +1,8 @@
 -- Where nothing is wrong with a declaration, it gives typed trees.
-use Rattle.std.proofs.Common.{◌≡◌, ℕ, ◌+◌, Bool, true, false, if◌then◌else◌, List, [], ◌∷◌, ◌++◌, Option, Some, None, refl, sym, subst, ap, ◌∙◌}
+use Rattle.std.proofs.Common.{◌≡◌, ℕ, ◌+◌, Bool, true, false, if◌then◌else◌, List, [], ◌∷◌, ◌++◌, Some, None, refl, sym, subst, ◌∙◌}
 use Rattle.std.specs.Prelude.{flat_map}
 use Rattle.std.specs.Option.{IsSome}
 use Rattle.ms_logic.specs.declared.mode.Order.{Order}
-use Rattle.ms_logic.specs.declared.mode.Order.TheVariants.{One}
-use Rattle.ms_logic.specs.Tree as tree
 use Rattle.ms_names.specs.declared.fault.Fault.{Fault}
 use Rattle.ms_names.specs.declared.meaning.Meaning.TheVariants.{Variable}
 use Rattle.ms_names.specs.Syntax.{Bytes, Expression, Bounds, no_bounds, more_bounds, Domain, unrestricted, restricted, Declaration, globals, constant, predicate, include, default, formula}

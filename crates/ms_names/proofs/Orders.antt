@@ -1,5 +1,5 @@
 -- Where nothing is wrong with an expression, it becomes a typed tree of its order.
-use Rattle.std.proofs.Common.{◌≡◌, ℕ, ◌+◌, ◌==◌, Bool, true, false, if◌then◌else◌, nat_lt, List, [], ◌∷◌, ◌++◌, length, Option, Some, None, refl, sym, subst, ap, ◌∙◌, arith}
+use Rattle.std.proofs.Common.{◌≡◌, ℕ, ◌+◌, ◌==◌, Bool, true, false, if◌then◌else◌, nat_lt, List, [], ◌∷◌, ◌++◌, length, Option, Some, None, refl, sym, subst, ◌∙◌, arith}
 use Rattle.std.specs.Prelude.{flat_map}
 use Rattle.std.specs.Option.{IsSome, option_map, option_and_then}
 use Rattle.std.proofs.lemmas.Bool.Decides.{nat_tests}
@@ -19,15 +19,15 @@ use Rattle.ms_names.specs.declared.meaning.Meaning.{Meaning}
 use Rattle.ms_names.specs.declared.meaning.Meaning.TheVariants as meaning
 use Rattle.ms_names.specs.declared.wanted.Wanted.{Wanted}
 use Rattle.ms_names.specs.declared.wanted.Wanted.TheVariants.{Exactly, NumberOrSet, Anything}
-use Rattle.ms_names.specs.Syntax.{Bytes, Expression, truth, falsity, whole, empty_set, name, number, pconst, brackets, literal, call, negation, conjunction, disjunction, implication, equivalence, relation, emptiness, union, intersection, difference, shift, minimum, maximum, quantified, where_let, restrict, imported, exported, place}
+use Rattle.ms_names.specs.Syntax.{Bytes, Expression, truth, falsity, whole, empty_set, name, number, pconst, brackets, literal, call, negation, conjunction, disjunction, implication, equivalence, relation, emptiness, union, intersection, difference, shift, minimum, maximum, quantified, where_let, restrict, imported, exported}
 use Rattle.ms_names.specs.Syntax.{Expressions, no_expressions, more_expressions, Bounds, no_bounds, more_bounds, Domain, unrestricted, restricted, Parts, no_parts, more_parts}
 use Rattle.ms_names.specs.Before.{Before, with_names, with_export, after, after_bounds, after_domain, after_parts}
 use Rattle.ms_names.specs.Constant.{value_of, value_of_int, value_of_meaning}
 use Rattle.ms_names.specs.Occurrence.{Occurrence, standing, occurrences, inside, inside_operands, inside_arguments, inside_bounds, inside_domain, inside_parts, formula_wanted, number_wanted, set_wanted}
 use Rattle.ms_names.specs.Order.{order_of, order_of_name, order_of_call, parameters_of, wanted_on_the_left, wanted_on_the_right, fits}
 use Rattle.ms_names.specs.Rules.{count, faults_at, faults_of_call, faults_of_constant, faults_of_form, faults_of_int, faults_of_name, faults_of_offset, faults_of_order, faults_of_placed, in_case}
-use Rattle.ms_names.specs.Scope.{Scope, bind, count_of_bounds, count_of_parts, meaning_of, default_of, under_bounds, under_parts, without_exports}
-use Rattle.ms_names.specs.Typed.{both, default_restriction, formula_in, number_in, set_in, of_order, quantifier, related, related_member, related_numbers, related_sets, shifted, typed, typed_arguments, typed_call, typed_domain, typed_formulas, typed_name, typed_numbers, typed_parts, typed_quantifiers, typed_relation, typed_restriction, typed_shift, variable_argument}
+use Rattle.ms_names.specs.Scope.{Scope, bind, count_of_bounds, count_of_parts, meaning_of, under_bounds, under_parts, without_exports}
+use Rattle.ms_names.specs.Typed.{both, formula_in, number_in, set_in, of_order, related_member, related_numbers, related_sets, typed, typed_arguments, typed_call, typed_domain, typed_formulas, typed_name, typed_numbers, typed_parts, typed_quantifiers, typed_relation, typed_shift, variable_argument}
 use Rattle.ms_names.proofs.Exports.{typed-same, under_parts-same}
 
 -- what an expression became has its order

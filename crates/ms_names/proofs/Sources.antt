@@ -1,5 +1,5 @@
 -- A check of a source, declaration by declaration: what is found and kept so far, and what the rest gives.
-use Rattle.std.proofs.Common.{◌≡◌, ℕ, ◌+◌, Bool, true, false, List, [], ◌∷◌, ◌++◌, append_assoc, ◌⊎◌, inl, inr, map, Option, Some, None, refl, sym, ap, ◌∙◌}
+use Rattle.std.proofs.Common.{◌≡◌, ℕ, ◌+◌, Bool, true, false, List, [], ◌∷◌, ◌++◌, append_assoc, ◌⊎◌, inl, inr, Option, Some, None, refl, sym, ap, ◌∙◌}
 use Rattle.std.specs.Prelude.{flat_map}
 use Rattle.std.specs.Option.{option_map}
 use Rattle.std.proofs.lemmas.List.{append-nil}
@@ -14,8 +14,8 @@ use Rattle.ms_names.specs.declared.meaning.Meaning.TheVariants.{Variable}
 use Rattle.ms_names.specs.declared.progress.Progress.{Progress}
 use Rattle.ms_names.specs.Before.{Before, after_domain}
 use Rattle.ms_names.specs.Binder.{restricted_variable, restricted_variables}
-use Rattle.ms_names.specs.Declarations.{Known, after_declaration, exports_in, faults_in, first_fault_from, globals_in, occurrences_in, or_later}
-use Rattle.ms_names.specs.Fault.{first_fault, refusal_of}
+use Rattle.ms_names.specs.Declarations.{Known, after_declaration, faults_in, first_fault_from, globals_in, occurrences_in, or_later}
+use Rattle.ms_names.specs.Fault.{first_fault}
 use Rattle.ms_names.specs.Outcome.{Made, made_globals, made_predicate, made_formula, made_nothing, made_in}
 use Rattle.ms_names.specs.Progress.{IsAfter, IsFirstOf, IsNext, Keeps, bounds_in, globals_with, kept_formulas, kept_globals, kept_predicates, known}
 use Rattle.ms_names.specs.Scope.{Scope, bind, count_of_bounds}

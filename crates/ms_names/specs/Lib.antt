@@ -8,6 +8,7 @@ pub mod Examples
 pub mod Fault
 pub mod Free
 pub mod Lists
+pub mod Numbers
 pub mod Occurrence
 pub mod Order
 pub mod Outcome

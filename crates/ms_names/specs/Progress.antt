@@ -12,7 +12,7 @@ use Rattle.ms_logic.specs.View.{predicate_of}
 use Rattle.ms_names.specs.declared.fault.Fault.{Fault}
 use Rattle.ms_names.specs.declared.progress.Progress.{Progress}
 use Rattle.ms_names.specs.Declaration.{known_at}
-use Rattle.ms_names.specs.Declarations.{Known, after_declaration, at_the_beginning, exports_in, faults_in, first_fault_from, globals_in, occurrences_in}
+use Rattle.ms_names.specs.Declarations.{Known, after_declaration, at_the_beginning, exports_in, faults_in, first_fault_from, occurrences_in}
 use Rattle.ms_names.specs.Fault.{first_fault, refusal_of}
 use Rattle.ms_names.specs.Outcome.{Made, made_globals, made_predicate, made_formula, made_nothing, made_in}
 use Rattle.ms_names.specs.Syntax.{Bounds, no_bounds, more_bounds, Declaration, globals, constant, predicate, include, default, formula, Placed}

@@ -1,5 +1,6 @@
 ghost use Rattle.ms_names.specs.Checking.{IsFirstFault};
 ghost use Rattle.ms_names.specs.Declarations.{first_fault_of};
+ghost use Rattle.ms_names.specs.Numbers.{IsWellNumbered};
 ghost use Rattle.ms_names.specs.TypedSource.{IsTyped};
 ghost use Rattle.ms_names.specs.View.{placed_of};
 ghost use Rattle.std.specs.Prelude.{◌≡◌, ◌⊎◌, None, map, IfErr, IfOk};
@@ -25,6 +26,7 @@ fn copy_texts(alloc: Global, texts: &[Text]) -> Result<List<Text>, NoMemory>
 pub fn check(alloc: Global, loaded: &Loaded) -> Result<Checked, Refusal>
     ensures accepted { IfOk result (λ checked. first_fault_of loaded.now.mode (map placed_of loaded.now.items) ≡ None) }
     ensures typed { IfOk result (IsTyped loaded.now) }
+    ensures numbered { IfOk result IsWellNumbered }
     ensures refused { IfErr result (λ refusal. (refusal ≡ Refusal.Memory) ⊎ IsFirstFault loaded.now refusal) }
 {
     let Ok(mut progress) = Progress::begin(alloc, loaded.mode, loaded.items.slice()) else {

@@ -1,5 +1,4 @@
 use Rattle.std.proofs.Common.{sym, subst, ap, ◌∙◌}
-use Rattle.ms_names.specs.Outcome.{Made}
 use Rattle.ms_names.specs.Progress.{IsMade, known}
 use Rattle.ms_names.specs.State.{State}
 use Rattle.ms_names.specs.View.{declaration_of}
