@@ -1,5 +1,5 @@
 -- Scopes whose numbers are those of variables that are seen and of predicates below a bound.
-use Rattle.std.proofs.Common.{ℕ, ◌+◌, ◌<◌, ◌≤◌, inl, inr, Bool, true, false, if◌then◌else◌, List, [], ◌∷◌, ◌++◌, Option, Some, None, refl, arith}
+use Rattle.std.proofs.Common.{ℕ, ◌+◌, ◌<◌, ◌≤◌, inl, inr, Bool, true, false, if◌then◌else◌, List, [], ◌∷◌, ◌++◌, Option, Some, None, refl, subst, arith}
 use Rattle.std.specs.Prelude.{bytes_eq}
 use Rattle.std.specs.Option.{option_map}
 use Rattle.ms_logic.specs.declared.mode.Order.{Order}
@@ -7,7 +7,7 @@ use Rattle.ms_logic.specs.declared.mode.Order.TheVariants.{One, Two}
 use Rattle.ms_logic.specs.Assignment.{Variable}
 use Rattle.ms_names.specs.declared.meaning.Meaning.{Meaning}
 use Rattle.ms_names.specs.declared.meaning.Meaning.TheVariants as meaning
-use Rattle.ms_names.specs.Numbers.{Tables, Each, HasParameters, IsDefault, IsNew, Sees, seeing}
+use Rattle.ms_names.specs.Numbers.{Tables, Each, Among, HasParameters, IsDefault, IsNew, Sees, seeing}
 use Rattle.ms_names.specs.Scope.{Scope, bind, count_of_bounds, count_of_parts, meaning_among, under_bounds, under_parts, without_exports}
 use Rattle.ms_names.specs.Syntax.{Bytes, Bounds, no_bounds, more_bounds, Parts, no_parts, more_parts}
 
@@ -87,20 +87,50 @@ MeaningFits tables bound seen (meaning.Predicate p parameters) = HasParameters t
 abbrev pub EntryFits : Tables → ℕ → List Variable → Bytes × Meaning → Type 0
 EntryFits tables bound seen entry = MeaningFits tables bound seen entry.1
 
--- a scope whose variables are seen, and whose predicates and default restrictions are those of the tables below a bound
+-- a variable among the names has a number below x
+abbrev pub IsBelow : ℕ → Bytes × Meaning → Type 0
+IsBelow x (n, meaning.Variable y o) = y < x
+IsBelow x (n, meaning.Constant value) = Unit {0}
+IsBelow x (n, meaning.Predicate p parameters) = Unit {0}
+
+-- the numbers of variables fall from the innermost outwards
+abbrev pub Falls : List (Bytes × Meaning) → Type 0
+Falls [] = Unit {0}
+Falls ((n, meaning.Variable x o) ∷ outer) = Each (IsBelow x) outer × Falls outer
+Falls ((n, meaning.Constant value) ∷ outer) = Falls outer
+Falls ((n, meaning.Predicate p parameters) ∷ outer) = Falls outer
+
+pub below-more : (x y : ℕ) → x ≤ y → (entry : Bytes × Meaning) → IsBelow x entry → IsBelow y entry
+below-more x y le (n, meaning.Variable z o) h = omega arith
+below-more x y le (n, meaning.Constant value) h = tt
+below-more x y le (n, meaning.Predicate p parameters) h = tt
+
+-- a scope whose variables are seen and have falling numbers, and whose predicates and default restrictions are those of the tables below a bound
 pub record Fits (tables : Tables) (bound : ℕ) (seen : List Variable) (s : Scope) : Type 0 where
   pub names : Each (EntryFits tables bound seen) s.names
   pub numbers : If (λ p. IsDefault tables bound p One) s.default_of_numbers
   pub sets : If (λ p. IsDefault tables bound p Two) s.default_of_sets
+  pub falls : Falls s.names
+
+sees-below : (seen : List Variable) (v : Variable) (x : ℕ) → Among seen v → IsNew seen x → v.name < x
+sees-below [] v x h new = absurd h
+sees-below (w ∷ seen) v x (inl is) new = subst (λ (u : Variable). u.name < x) is new.0
+sees-below (w ∷ seen) v x (inr h) new = sees-below seen v x h new.1
+
+entry-below : (tables : Tables) (bound : ℕ) (seen : List Variable) (x : ℕ) → IsNew seen x → (entry : Bytes × Meaning) →
+    EntryFits tables bound seen entry → IsBelow x entry
+entry-below tables bound seen x new (n, meaning.Variable y o) h = sees-below seen (record { name = y; order = o }) x h new
+entry-below tables bound seen x new (n, meaning.Constant value) h = tt
+entry-below tables bound seen x new (n, meaning.Predicate p parameters) h = tt
 
 meaning-more : (tables : Tables) (bound : ℕ) (seen : List Variable) (v : Variable) (m : Meaning) → MeaningFits tables bound seen m → MeaningFits tables bound (v ∷ seen) m
 meaning-more tables bound seen v (meaning.Variable x o) h = inr h
 meaning-more tables bound seen v (meaning.Constant value) h = tt
 meaning-more tables bound seen v (meaning.Predicate p parameters) h = h
 
-pub fits-bind : (tables : Tables) (bound : ℕ) (seen : List Variable) (s : Scope) (x : ℕ) (o : Order) (n : Bytes) →
+pub fits-bind : (tables : Tables) (bound : ℕ) (seen : List Variable) (s : Scope) (x : ℕ) (o : Order) (n : Bytes) → IsNew seen x →
     Fits tables bound seen s → Fits tables bound (seeing x o seen) (bind n (meaning.Variable x o) s)
-fits-bind tables bound seen s x o n fits = record {
+fits-bind tables bound seen s x o n new fits = record {
   names = (
     inl refl,
     each-weaker (EntryFits tables bound seen) (EntryFits tables bound (seeing x o seen)) s.names
@@ -108,22 +138,25 @@ fits-bind tables bound seen s x o n fits = record {
   );
   numbers = fits.numbers;
   sets = fits.sets;
+  falls = (each-weaker (EntryFits tables bound seen) (IsBelow x) s.names (entry-below tables bound seen x new) fits.names, fits.falls);
 }
 
 pub fits-without : (tables : Tables) (bound : ℕ) (seen : List Variable) (s : Scope) → Fits tables bound seen s → Fits tables bound seen (without_exports s)
-fits-without tables bound seen s fits = record { names = fits.names; numbers = fits.numbers; sets = fits.sets }
+fits-without tables bound seen s fits = record { names = fits.names; numbers = fits.numbers; sets = fits.sets; falls = fits.falls }
 
-pub fits-bounds : (tables : Tables) (bound : ℕ) (seen : List Variable) (s : Scope) (x : ℕ) (vs : Bounds) →
+pub fits-bounds : (tables : Tables) (bound : ℕ) (seen : List Variable) (s : Scope) (x : ℕ) (vs : Bounds) → IsNew seen x →
     Fits tables bound seen s → Fits tables bound (seeing_bounds x vs seen) (under_bounds s x vs)
-fits-bounds tables bound seen s x no_bounds fits = fits
-fits-bounds tables bound seen s x (more_bounds at o n d vs) fits =
-    fits-bounds tables bound (seeing x o seen) (bind n (meaning.Variable x o) s) (x + 1) vs (fits-bind tables bound seen s x o n fits)
+fits-bounds tables bound seen s x no_bounds new fits = fits
+fits-bounds tables bound seen s x (more_bounds at o n d vs) new fits =
+    fits-bounds tables bound (seeing x o seen) (bind n (meaning.Variable x o) s) (x + 1) vs (new-next seen x o new)
+    (fits-bind tables bound seen s x o n new fits)
 
-pub fits-parts : (tables : Tables) (bound : ℕ) (seen : List Variable) (s : Scope) (x : ℕ) (o : Order) (ps : Parts) →
+pub fits-parts : (tables : Tables) (bound : ℕ) (seen : List Variable) (s : Scope) (x : ℕ) (o : Order) (ps : Parts) → IsNew seen x →
     Fits tables bound seen s → Fits tables bound (seeing_parts x o ps seen) (under_parts s x o ps)
-fits-parts tables bound seen s x o no_parts fits = fits
-fits-parts tables bound seen s x o (more_parts at n e ps) fits =
-    fits-parts tables bound (seeing x o seen) (bind n (meaning.Variable x o) s) (x + 1) o ps (fits-bind tables bound seen s x o n fits)
+fits-parts tables bound seen s x o no_parts new fits = fits
+fits-parts tables bound seen s x o (more_parts at n e ps) new fits =
+    fits-parts tables bound (seeing x o seen) (bind n (meaning.Variable x o) s) (x + 1) o ps (new-next seen x o new)
+    (fits-bind tables bound seen s x o n new fits)
 
 meaning-chosen : (tables : Tables) (bound : ℕ) (seen : List Variable) (here : Bool) (m : Meaning) (outer : Option Meaning) →
     MeaningFits tables bound seen m → If (MeaningFits tables bound seen) outer → If (MeaningFits tables bound seen) (if here then Some m else outer)

@@ -1,11 +1,14 @@
 pub mod Declaring
+pub mod ExportedSource
 pub mod Exports
+pub mod ExportNumbers
 pub mod Fitting
 pub mod FreeVariables
 pub mod Growth
 pub mod Lists
 pub mod Makes
 pub mod Numbered
+pub mod NoExports
 pub mod NumberedChecked
 pub mod NumberedDeclarations
 pub mod NumberedSource

@@ -82,9 +82,13 @@ all-made k include h = tt
 all-made k (default o n e) h = default-all k.scope k.before o n e h
 all-made k (formula e) h = formula-here k.scope k.before e (ordered k.scope k.before e) h
 
-pub made-there : (k : Known) (d : Declaration) → first_fault (faults_in k d) ≡ None → IsMade (made_in k.scope k.globals k.before d)
-made-there k d e =
+-- nothing is wrong with the expressions of a declaration that has no first fault
+pub right-there : (k : Known) (d : Declaration) → first_fault (faults_in k d) ≡ None → AreRight (occurrences_in k d)
+right-there k d e =
     let others = flat_map faults_at (occurrences_in k d) in
     let last = faults_of_exports k.files (exports_in k d) in
     let empty : faults_of_declaration k d ++ (others ++ last) ≡ [] = no-fault (faults_in k d) e in
-    all-made k d (front-empty others last (back-empty (faults_of_declaration k d) (others ++ last) empty))
+    front-empty others last (back-empty (faults_of_declaration k d) (others ++ last) empty)
+
+pub made-there : (k : Known) (d : Declaration) → first_fault (faults_in k d) ≡ None → IsMade (made_in k.scope k.globals k.before d)
+made-there k d e = all-made k d (right-there k d e)

@@ -105,7 +105,7 @@ mutual
       if-one (IsNumbered tables bound seen) (IsNumberedArgument tables bound seen) (λ f. truth_argument f) (typed_quantifiers s b.next here q vs (formula_in (typed inner end e))) (λ f h. h)
       (quantifiers-all tables bound seen s b.next here q vs (formula_in (typed inner end e)) fits new (omega arith) (each-front (UsesStand tables) before within uses.1)
       (formula-numbered tables bound wide (typed inner end e)
-      (numbered tables bound wide inner end formula_wanted e (fits-bounds tables bound seen s b.next vs fits)
+      (numbered tables bound wide inner end formula_wanted e (fits-bounds tables bound seen s b.next vs new fits)
       (new-bounds b.next end.next vs seen new (grows-bounds here vs)) (each-back (UsesStand tables) before within uses.1))))
   numbered tables bound seen s b w (where_let at o ps e) fits new uses =
       let here = with_names b (count_of_parts ps) in
@@ -122,7 +122,7 @@ mutual
       (parts-all tables bound seen s here o ps fits (new-above seen b.next here.next new (omega arith)) (each-front (UsesStand tables) before within uses.1))
       (formula-numbered tables bound wide (typed plain end e)
       (subst (λ a. If (IsNumberedArgument tables bound wide) a) (typed-same inner plain end e (under_parts-same outer s b.next o ps refl))
-      (numbered tables bound wide inner end formula_wanted e (fits-parts tables bound seen outer b.next o ps (fits-without tables bound seen s fits))
+      (numbered tables bound wide inner end formula_wanted e (fits-parts tables bound seen outer b.next o ps new (fits-without tables bound seen s fits))
       (new-parts b.next end.next o ps seen new (grows-parts here ps)) (each-back (UsesStand tables) before within uses.1))))
   numbered tables bound seen s b w (restrict at e) fits new uses =
       if-one (IsNumbered tables bound seen) (IsNumberedArgument tables bound seen) (λ f. truth_argument (tree.restrict f)) (formula_in (typed s b e)) (λ f h. h)
@@ -190,9 +190,9 @@ mutual
       let more = grows-domain b d in
       if-two (IsNumberedRestriction tables bound wide) (IsNumbered tables bound wide) (IsNumbered tables bound seen) (λ r g. tree.quantified q o x r g)
       (typed_domain inner b o x d) (typed_quantifiers inner (x + 1) (after_domain b d) q vs f) (λ r g h k. (new, h, k))
-      (domain-all tables bound wide inner b o x d (fits-bind tables bound seen s x o n fits)
+      (domain-all tables bound wide inner b o x d (fits-bind tables bound seen s x o n new fits)
       (new-more seen x b.next o (new-above seen x b.next new (omega arith)) (omega arith)) (inl refl) (each-front (UsesStand tables) here rest uses))
-      (quantifiers-all tables bound wide inner (x + 1) (after_domain b d) q vs f (fits-bind tables bound seen s x o n fits) (new-next seen x o new) (omega arith)
+      (quantifiers-all tables bound wide inner (x + 1) (after_domain b d) q vs f (fits-bind tables bound seen s x o n new fits) (new-next seen x o new) (omega arith)
       (each-back (UsesStand tables) here rest uses) body)
 
   pub domain-all : (tables : Tables) (bound : ℕ) (seen : List Variable) (s : Scope) (b : Before) (o : Order) (x : ℕ) (d : Domain) → Fits tables bound seen s →

@@ -1,20 +1,23 @@
 -- A checked source that is typed is well numbered.
-use Rattle.std.proofs.Common.{◌≡◌, ℕ, zero, suc, ◌+◌, ◌≤◌, inl, inr, List, [], ◌∷◌, length, map, Some, refl, sym, subst, ap, ◌∙◌, arith, length-append}
+use Rattle.std.proofs.Common.{◌≡◌, ℕ, zero, suc, ◌+◌, ◌≤◌, inl, inr, List, [], ◌∷◌, length, map, Some, None, refl, sym, subst, ap, ◌∙◌, arith, length-append}
 use Rattle.std.proofs.lemmas.List.{length-map}
-use Rattle.std.specs.Prelude.{slice_get}
+use Rattle.std.specs.Prelude.{flat_map, slice_get}
 use Rattle.std.specs.Option.{option_map}
 use Rattle.ms_logic.specs.declared.checked.Checked.{Checked}
 use Rattle.ms_logic.specs.declared.checked.Global.{Global}
+use Rattle.ms_logic.specs.declared.checked.Placed as placed
 use Rattle.ms_logic.specs.declared.checked.Predicate as code
 use Rattle.ms_logic.specs.declared.source.Loaded.{Loaded}
 use Rattle.ms_logic.specs.Assignment.{Variable}
 use Rattle.ms_logic.specs.Tree.{Restriction}
 use Rattle.ms_logic.specs.View.{formula_of, globals_from, predicate_of, restriction}
-use Rattle.ms_names.specs.Declarations.{Known, after_declaration, at_the_beginning, count_of_globals, globals_in}
-use Rattle.ms_names.specs.Numbers.{Tables, Each, IsNew, Sees, IsNumbered, IsNumberedRestriction, AreNumberedPredicates, IsWellNumbered, globals_seen, tables_of}
+use Rattle.ms_names.specs.Declarations.{Known, after_declaration, at_the_beginning, count_of_globals, first_fault_of, globals_in}
+use Rattle.ms_names.specs.Numbers.{CountUp, exports_in, exports_in_predicate, exports_in_restriction, Tables, Each, IsNew, Sees, IsNumbered, IsNumberedRestriction, AreNumberedPredicates, IsWellNumbered, globals_seen, tables_of}
 use Rattle.ms_names.specs.Syntax.{Placed}
-use Rattle.ms_names.specs.TypedSource.{IsTyped, TypedFormula, TypedGlobal, collected, global_of, globals_of, placed_formula_of}
+use Rattle.ms_names.specs.TypedSource.{IsTyped, exports_of_source, TypedFormula, TypedGlobal, collected, global_of, globals_of, placed_formula_of}
 use Rattle.ms_names.specs.View.{placed_of}
+use Rattle.ms_names.proofs.ExportNumbers.{count-append}
+use Rattle.ms_names.proofs.ExportedSource.{FormulasCount, exported-rest}
 use Rattle.ms_names.proofs.Fitting.{If}
 use Rattle.ms_names.proofs.NumberedDeclarations.{AreSeen, EachPredicate, Ready}
 use Rattle.ms_names.proofs.NumberedSource.{Rest, all-numbered, globals-long}
@@ -74,10 +77,22 @@ collected-long k item (d ∷ ds) =
     ∙ (ap (λ n. n + length (collected (λ k item d. globals_of k d.at item d.declaration) (after_declaration k d.declaration) (item + 1) ds)) here
     ∙ ap (λ n. globals_in d.declaration + n) rest)
 
+formulas-kept : (n m : ℕ) (fs : List placed.Placed) → FormulasCount n (map (λ f. Some (placed_formula_of f)) fs) m →
+    CountUp n (flat_map (λ f. exports_in (formula_of f.formula)) fs) m
+formulas-kept n m [] h = h
+formulas-kept n m (f ∷ fs) h =
+    count-append n h.0 m (exports_in (formula_of f.formula)) (flat_map (λ f. exports_in (formula_of f.formula)) fs) h.1 (formulas-kept h.0 m fs h.2)
+
+none-kept : (ps : List code.Predicate) → Each (If (λ p. exports_in_predicate p ≡ [])) (map (λ q. Some (predicate_of q)) ps) →
+    Each (λ p. exports_in_predicate p ≡ []) (map predicate_of ps)
+none-kept [] h = tt
+none-kept (p ∷ ps) h = (h.0, none-kept ps h.1)
+
 -- the source
 
-pub well-numbered : (loaded : Loaded) (checked : Checked) → IsTyped loaded checked → IsWellNumbered checked
-well-numbered loaded checked typed =
+pub well-numbered : (loaded : Loaded) (checked : Checked) → IsTyped loaded checked →
+    first_fault_of loaded.mode (map placed_of loaded.items) ≡ None → IsWellNumbered checked
+well-numbered loaded checked typed right =
     let ds = map placed_of loaded.items in
     let k = at_the_beginning loaded.mode ds in
     let tables = tables_of checked in
@@ -88,8 +103,9 @@ well-numbered loaded checked typed =
     let count : length checked.globals ≡ count_of_globals ds =
     sym (length-map checked.globals (λ g. Some (global_of g))) ∙ (ap length typed.globals_are ∙ collected-long k 0 ds) in
     let ready : Ready tables seen k = record {
-      fits = record { names = tt; numbers = tt; sets = tt };
+      fits = record { names = tt; numbers = tt; sets = tt; falls = tt };
       new = from-below 0 (count_of_globals ds) checked.globals (omega arith);
+      below = tt;
       within = omega arith;
     } in
     let rest : Rest tables gs k 0 ds = record {
@@ -98,6 +114,9 @@ well-numbered loaded checked typed =
       imports_are = subst (λ xs. Stand checked.imports 0 xs) typed.imports_are (stand-all checked.imports);
       exports_are = subst (λ xs. Stand checked.exports 0 xs) typed.exports_are (stand-all checked.exports);
     } in
+    let exported = exported-rest k 0 ds right in
+    let uses = ap length typed.exports_are in
+    let many : 0 + length (exports_of_source loaded.mode ds) ≡ length checked.exports = omega (arith, uses) in
     let all = all-numbered tables gs seen k 0 ds (all-seen checked.globals) ready rest in
     record {
       predicates = predicates-kept tables 0 seen checked.predicates
@@ -107,4 +126,12 @@ well-numbered loaded checked typed =
           (subst (λ xs. Each (If (λ (g : TypedGlobal). IsNumberedRestriction tables (length tables.predicates) seen g.restriction)) xs) (sym typed.globals_are) all.globals_are));
       formulas = each-kept (λ (f : TypedFormula). IsNumbered tables (length tables.predicates) seen f.formula) placed_formula_of checked.formulas
           (subst (λ xs. Each (If (λ (f : TypedFormula). IsNumbered tables (length tables.predicates) seen f.formula)) xs) (sym typed.formulas_are) all.formulas_are);
+      exports = formulas-kept 0 (length checked.exports) checked.formulas
+          (subst (λ m. FormulasCount 0 (map (λ f. Some (placed_formula_of f)) checked.formulas) m) many
+          (subst (λ xs. FormulasCount 0 xs (0 + length (exports_of_source loaded.mode ds))) (sym typed.formulas_are) exported.formulas_are));
+      no_exports_in_predicates = none-kept checked.predicates
+          (subst (λ xs. Each (If (λ p. exports_in_predicate p ≡ [])) xs) (sym typed.predicates_are) exported.predicates_are);
+      no_exports_in_globals = restrictions-kept (λ r. exports_in_restriction r ≡ []) 0 checked.globals
+          (each-kept (λ (g : TypedGlobal). exports_in_restriction g.restriction ≡ []) global_of checked.globals
+          (subst (λ xs. Each (If (λ (g : TypedGlobal). exports_in_restriction g.restriction ≡ [])) xs) (sym typed.globals_are) exported.globals_are));
     }

@@ -23,7 +23,7 @@ use Rattle.ms_names.specs.TypedSource.{TypedFormula, TypedGlobal, formulas_of, g
 use Rattle.ms_names.specs.Uses.{export_at, import_at}
 use Rattle.ms_names.proofs.Declaring.{restricted-same}
 use Rattle.ms_names.proofs.Exports.{typed-same, under_bounds-same}
-use Rattle.ms_names.proofs.Fitting.{EntryFits, Fits, If, MeaningFits, each-back, each-front, each-weaker, fits-bind, fits-bounds, fits-without, if-one, if-weaker, new-above, new-bounds, new-more, new-next, seeing_bounds}
+use Rattle.ms_names.proofs.Fitting.{EntryFits, Fits, If, IsBelow, MeaningFits, below-more, each-back, each-front, each-weaker, fits-bind, fits-bounds, fits-without, if-one, if-weaker, new-above, new-bounds, new-more, new-next, seeing_bounds}
 use Rattle.ms_names.proofs.Growth.{Counts, counts, counts-append, counts-bounds, counts-names, grows-bounds, grows-domain}
 use Rattle.ms_names.proofs.Lists.{parameters-all}
 use Rattle.ms_names.proofs.Numbered.{domain-all, numbered}
@@ -38,6 +38,7 @@ AreSeen seen gs = (n : ℕ) (g : TypedGlobal) → slice_get gs n ≡ Some g → 
 pub record Ready (tables : Tables) (seen : List Variable) (k : Known) : Type 0 where
   pub fits : Fits tables (length k.scope.readings) seen k.scope
   pub new : IsNew seen k.before.next
+  pub below : Each (IsBelow k.globals) k.scope.names
   pub within : length k.scope.readings ≤ length tables.predicates
 
 -- what a declaration gives stands in the tables, and its globals among all globals
@@ -65,6 +66,7 @@ fits-weaker tables bound more seen s le fits = record {
   names = each-weaker (EntryFits tables bound seen) (EntryFits tables more seen) s.names (λ entry h. meaning-weaker tables bound more seen entry.1 le h) fits.names;
   numbers = if-weaker (λ p. IsDefault tables bound p One) (λ p. IsDefault tables more p One) s.default_of_numbers (default-weaker tables bound more One le) fits.numbers;
   sets = if-weaker (λ p. IsDefault tables bound p Two) (λ p. IsDefault tables more p Two) s.default_of_sets (default-weaker tables bound more Two le) fits.sets;
+  falls = fits.falls;
 }
 
 -- the imports and exports of a declaration
@@ -129,31 +131,49 @@ global-seen seen gs at item x o n (Some r) are h =
     let same : g ≡ found.0 = cc in
     subst (λ (there : TypedGlobal). Sees seen x there.order) (sym same) (are x found.0 found.1)
 
-pub globals-fit : (tables : Tables) (bound : ℕ) (seen : List Variable) (gs : List TypedGlobal) (at : At) (item : ℕ) (s : Scope) (x : ℕ) (b : Before) (vs : Bounds) → AreSeen seen gs →
-    Stand (map (λ g. Some g) gs) x (globals_of_bounds at item s x b vs) → Fits tables bound seen s → Fits tables bound seen (under_bounds s x vs)
-globals-fit tables bound seen gs at item s x b no_bounds are stand fits = fits
-globals-fit tables bound seen gs at item s x b (more_bounds name_at o n d vs) are stand fits =
-    let inner = bind n (meaning.Variable x o) s in
-    globals-fit tables bound seen gs at item inner (x + 1) (after_domain b d) vs are stand.1 (record {
-      names = (global-seen seen gs at item x o n (typed_domain inner b o x d) are stand.0, fits.names);
-      numbers = fits.numbers;
-      sets = fits.sets;
-    })
+-- with one more global, whose number is above all before it
+global-fits : (tables : Tables) (bound : ℕ) (seen : List Variable) (s : Scope) (x : ℕ) (o : Order) (n : Bytes) → Sees seen x o → Each (IsBelow x) s.names →
+    Fits tables bound seen s → Fits tables bound seen (bind n (meaning.Variable x o) s)
+global-fits tables bound seen s x o n sees below fits = record {
+  names = (sees, fits.names);
+  numbers = fits.numbers;
+  sets = fits.sets;
+  falls = (below, fits.falls);
+}
 
-bounds-numbered : (tables : Tables) (bound : ℕ) (seen : List Variable) (gs : List TypedGlobal) (at : At) (item : ℕ) (s : Scope) (x : ℕ) (b : Before) (vs : Bounds) → AreSeen seen gs →
-    Stand (map (λ g. Some g) gs) x (globals_of_bounds at item s x b vs) → Fits tables bound seen s → IsNew seen b.next → Each (UsesStand tables) (inside_bounds s x b vs) →
-    Each (If (λ (g : TypedGlobal). IsNumberedRestriction tables bound seen g.restriction)) (globals_of_bounds at item s x b vs)
-bounds-numbered tables bound seen gs at item s x b no_bounds are stand fits new uses = tt
-bounds-numbered tables bound seen gs at item s x b (more_bounds name_at o n d vs) are stand fits new uses =
+global-below : (s : Scope) (x : ℕ) (o : Order) (n : Bytes) → Each (IsBelow x) s.names → Each (IsBelow (x + 1)) (bind n (meaning.Variable x o) s).names
+global-below s x o n below = (omega arith, each-weaker (IsBelow x) (IsBelow (x + 1)) s.names (below-more x (x + 1) (omega arith)) below)
+
+pub globals-below : (s : Scope) (x : ℕ) (vs : Bounds) → Each (IsBelow x) s.names → Each (IsBelow (x + count_of_bounds vs)) (under_bounds s x vs).names
+globals-below s x no_bounds below = each-weaker (IsBelow x) (IsBelow (x + 0)) s.names (below-more x (x + 0) (omega arith)) below
+globals-below s x (more_bounds at o n d vs) below =
+    let inner = bind n (meaning.Variable x o) s in
+    let same : x + 1 + count_of_bounds vs ≡ x + count_of_bounds (more_bounds at o n d vs) = omega arith in
+    subst (λ y. Each (IsBelow y) (under_bounds inner (x + 1) vs).names) same (globals-below inner (x + 1) vs (global-below s x o n below))
+
+pub globals-fit : (tables : Tables) (bound : ℕ) (seen : List Variable) (gs : List TypedGlobal) (at : At) (item : ℕ) (s : Scope) (x : ℕ) (b : Before) (vs : Bounds) → AreSeen seen gs →
+    Stand (map (λ g. Some g) gs) x (globals_of_bounds at item s x b vs) → Each (IsBelow x) s.names → Fits tables bound seen s → Fits tables bound seen (under_bounds s x vs)
+globals-fit tables bound seen gs at item s x b no_bounds are stand below fits = fits
+globals-fit tables bound seen gs at item s x b (more_bounds name_at o n d vs) are stand below fits =
     let inner = bind n (meaning.Variable x o) s in
     let sees = global-seen seen gs at item x o n (typed_domain inner b o x d) are stand.0 in
-    let fit : Fits tables bound seen inner = record { names = (sees, fits.names); numbers = fits.numbers; sets = fits.sets } in
+    globals-fit tables bound seen gs at item inner (x + 1) (after_domain b d) vs are stand.1 (global-below s x o n below)
+    (global-fits tables bound seen s x o n sees below fits)
+
+bounds-numbered : (tables : Tables) (bound : ℕ) (seen : List Variable) (gs : List TypedGlobal) (at : At) (item : ℕ) (s : Scope) (x : ℕ) (b : Before) (vs : Bounds) → AreSeen seen gs →
+    Stand (map (λ g. Some g) gs) x (globals_of_bounds at item s x b vs) → Each (IsBelow x) s.names → Fits tables bound seen s → IsNew seen b.next → Each (UsesStand tables) (inside_bounds s x b vs) →
+    Each (If (λ (g : TypedGlobal). IsNumberedRestriction tables bound seen g.restriction)) (globals_of_bounds at item s x b vs)
+bounds-numbered tables bound seen gs at item s x b no_bounds are stand below fits new uses = tt
+bounds-numbered tables bound seen gs at item s x b (more_bounds name_at o n d vs) are stand below fits new uses =
+    let inner = bind n (meaning.Variable x o) s in
+    let sees = global-seen seen gs at item x o n (typed_domain inner b o x d) are stand.0 in
+    let fit = global-fits tables bound seen s x o n sees below fits in
     let here = inside_domain (without_exports inner) b d in
     let rest = inside_bounds inner (x + 1) (after_domain b d) vs in (
       if-one (IsNumberedRestriction tables bound seen) (λ (g : TypedGlobal). IsNumberedRestriction tables bound seen g.restriction)
           (λ restriction. record { at = at; item = item; order = o; name = n; restriction = restriction }) (typed_domain inner b o x d) (λ r h. h)
           (domain-all tables bound seen inner b o x d fit new sees (each-front (UsesStand tables) here rest uses)),
-      bounds-numbered tables bound seen gs at item inner (x + 1) (after_domain b d) vs are stand.1 fit
+      bounds-numbered tables bound seen gs at item inner (x + 1) (after_domain b d) vs are stand.1 (global-below s x o n below) fit
           (new-above seen b.next (after_domain b d).next new (grows-domain b d)) (each-back (UsesStand tables) here rest uses),
     )
 
@@ -161,7 +181,7 @@ pub globals-numbered : (tables : Tables) (gs : List TypedGlobal) (seen : List Va
     Ready tables seen k → Stands tables gs k at item d →
     Each (If (λ (g : TypedGlobal). IsNumberedRestriction tables (length tables.predicates) seen g.restriction)) (globals_of k at item d)
 globals-numbered tables gs seen k at item (globals vs) are ready here =
-    bounds-numbered tables (length tables.predicates) seen gs at item k.scope k.globals k.before vs are here.globals_are
+    bounds-numbered tables (length tables.predicates) seen gs at item k.scope k.globals k.before vs are here.globals_are ready.below
     (fits-weaker tables (length k.scope.readings) (length tables.predicates) seen k.scope ready.within ready.fits) ready.new
     (uses-here tables gs k at item (globals vs) here)
 globals-numbered tables gs seen k at item (constant name_at n is) are ready here = tt
@@ -195,9 +215,9 @@ parameters-numbered tables bound seen s x b (more_bounds at o n d vs) fits new l
     if-two (IsNumberedRestriction tables bound wide) (TakesBody tables bound wide (seeing_bounds (x + 1) vs wide)) (TakesBody tables bound seen (seeing_bounds (x + 1) vs wide))
     (λ r ps. restricted_variable x o r ∷ ps) (restriction_in false inner b o x d) (restricted_variables false inner (x + 1) (after_domain b d) vs)
     (λ r ps h k body there. (new, h, k body there))
-    (restriction-numbered tables bound wide inner b o x d (fits-bind tables bound seen s x o n fits)
+    (restriction-numbered tables bound wide inner b o x d (fits-bind tables bound seen s x o n new fits)
     (new-more seen x b.next o (new-above seen x b.next new (omega arith)) (omega arith)) (inl refl) (each-front (UsesStand tables) here rest uses))
-    (parameters-numbered tables bound wide inner (x + 1) (after_domain b d) vs (fits-bind tables bound seen s x o n fits) (new-next seen x o new) (omega arith)
+    (parameters-numbered tables bound wide inner (x + 1) (after_domain b d) vs (fits-bind tables bound seen s x o n new fits) (new-next seen x o new) (omega arith)
     (each-back (UsesStand tables) here rest uses))
 
 predicate-numbered : (tables : Tables) (bound : ℕ) (seen : List Variable) (s : Scope) (b : Before) (vs : Bounds) (e : Expression) →
@@ -220,7 +240,7 @@ predicate-numbered tables bound seen s b vs e fits new uses =
     (parameters-numbered tables bound seen outer b.next here vs (fits-without tables bound seen s fits) new (omega arith) (each-front (UsesStand tables) before within uses)))
     (formula-numbered tables bound wide (typed plain end e)
     (subst (λ a. If (IsNumberedArgument tables bound wide) a) (typed-same inner plain end e (under_bounds-same outer s b.next vs refl))
-    (numbered tables bound wide inner end formula_wanted e (fits-bounds tables bound seen outer b.next vs (fits-without tables bound seen s fits))
+    (numbered tables bound wide inner end formula_wanted e (fits-bounds tables bound seen outer b.next vs new (fits-without tables bound seen s fits))
     (new-bounds b.next end.next vs seen new (grows-bounds here vs)) (each-back (UsesStand tables) before within uses))))
 
 default-numbered : (tables : Tables) (bound : ℕ) (seen : List Variable) (s : Scope) (b : Before) (o : Order) (n : Bytes) (e : Expression) →
@@ -236,7 +256,7 @@ default-numbered tables bound seen s b o n e fits new uses =
     (predicate_with (restricted_variable b.next o tree.unrestricted ∷ [])) (formula_in (typed plain here e)) (λ body h. (new, tt, h))
     (formula-numbered tables bound wide (typed plain here e)
     (subst (λ a. If (IsNumberedArgument tables bound wide) a) (typed-same inner plain here e refl)
-    (numbered tables bound wide inner here formula_wanted e (fits-bind tables bound seen outer b.next o n (fits-without tables bound seen s fits)) (new-next seen b.next o new) uses)))
+    (numbered tables bound wide inner here formula_wanted e (fits-bind tables bound seen outer b.next o n new (fits-without tables bound seen s fits)) (new-next seen b.next o new) uses)))
 
 -- predicates from a number on
 abbrev pub EachPredicate : Tables → ℕ → List Variable → List (Option Predicate) → Type 0

@@ -9,6 +9,7 @@ use Rattle.ms_logic.specs.declared.mode.Order.TheVariants.{Zero, One, Two}
 use Rattle.ms_logic.specs.Assignment.{Variable}
 use Rattle.ms_logic.specs.Tree as tree
 use Rattle.ms_logic.specs.Tree.{Form, Restriction, Predicate}
+use Rattle.ms_names.specs.declared.meaning.Meaning.{Meaning}
 use Rattle.ms_names.specs.declared.meaning.Meaning.TheVariants as meaning
 use Rattle.ms_names.specs.Syntax.{Bytes, Expression, Bounds, no_bounds, more_bounds, Declaration, globals, constant, predicate, include, default, formula, Placed}
 use Rattle.ms_names.specs.Before.{Before, with_names, after, after_bounds, after_domain}
@@ -19,10 +20,10 @@ use Rattle.ms_names.specs.Scope.{Scope, bind, count_of_bounds, under_bounds, wit
 use Rattle.ms_names.specs.Typed.{formula_in, typed}
 use Rattle.ms_names.specs.TypedSource.{TypedFormula, TypedGlobal, collected, formulas_of, globals_of, globals_of_bounds, parameters_of_bounds, predicates_of, restriction_of_parameter, typed_default, typed_predicate}
 use Rattle.ms_names.specs.Uses.{export_at, import_at}
-use Rattle.ms_names.proofs.Fitting.{Fits, If, each-append, if-any, if-one, new-above}
+use Rattle.ms_names.proofs.Fitting.{Fits, If, IsBelow, below-more, each-append, each-weaker, if-any, if-one, new-above}
 use Rattle.ms_names.proofs.Growth.{grows, grows-bounds}
 use Rattle.ms_names.proofs.Numbering.{Stand, if-two}
-use Rattle.ms_names.proofs.NumberedDeclarations.{AreSeen, EachPredicate, Ready, Stands, counts-declaration, fits-weaker, formulas-numbered, globals-fit, globals-numbered, predicates-numbered}
+use Rattle.ms_names.proofs.NumberedDeclarations.{AreSeen, EachPredicate, Ready, Stands, counts-declaration, fits-weaker, formulas-numbered, globals-below, globals-fit, globals-numbered, predicates-numbered}
 use Rattle.ms_names.proofs.Standing.{counted, get-some, stand-back, stand-front}
 
 -- what a predicate and a default restriction take
@@ -88,13 +89,21 @@ declaration-grows b (formula e) = grows b e
 fits-default : (tables : Tables) (bound : ℕ) (seen : List Variable) (s : Scope) (o : Order) (p : ℕ) → Fits tables bound seen s → IsDefault tables bound p o →
     Fits tables bound seen (with_default o p s)
 fits-default tables bound seen s Zero p fits h = fits
-fits-default tables bound seen s One p fits h = record { names = fits.names; numbers = h; sets = fits.sets }
-fits-default tables bound seen s Two p fits h = record { names = fits.names; numbers = fits.numbers; sets = h }
+fits-default tables bound seen s One p fits h = record { names = fits.names; numbers = h; sets = fits.sets; falls = fits.falls }
+fits-default tables bound seen s Two p fits h = record { names = fits.names; numbers = fits.numbers; sets = h; falls = fits.falls }
 
 default-readings : (s : Scope) (o : Order) (p : ℕ) → (with_default o p s).readings ≡ s.readings
 default-readings s Zero p = refl
 default-readings s One p = refl
 default-readings s Two p = refl
+
+default-names : (s : Scope) (o : Order) (p : ℕ) → (with_default o p s).names ≡ s.names
+default-names s Zero p = refl
+default-names s One p = refl
+default-names s Two p = refl
+
+same-below : (x : ℕ) (names : List (Bytes × Meaning)) → Each (IsBelow x) names → Each (IsBelow (x + 0)) names
+same-below x names below = each-weaker (IsBelow x) (IsBelow (x + 0)) names (below-more x (x + 0) (omega arith)) below
 
 pub ready-next : (tables : Tables) (gs : List TypedGlobal) (seen : List Variable) (k : Known) (at : At) (item : ℕ) (d : Declaration) → AreSeen seen gs →
     Ready tables seen k → Stands tables gs k at item d → Ready tables seen (after_declaration k d)
@@ -102,13 +111,15 @@ ready-next tables gs seen k at item (globals vs) are ready here =
     let same = readings-same k.scope k.globals vs in
     record {
       fits = subst (λ rs. Fits tables (length rs) seen (under_bounds k.scope k.globals vs)) (sym same)
-          (globals-fit tables (length k.scope.readings) seen gs at item k.scope k.globals k.before vs are here.globals_are ready.fits);
+          (globals-fit tables (length k.scope.readings) seen gs at item k.scope k.globals k.before vs are here.globals_are ready.below ready.fits);
       new = new-above seen k.before.next (before_after k.before (globals vs)).next ready.new (declaration-grows k.before (globals vs));
+      below = globals-below k.scope k.globals vs ready.below;
       within = subst (λ rs. length rs ≤ length tables.predicates) (sym same) ready.within;
     }
 ready-next tables gs seen k at item (constant name_at n is) are ready here = record {
-  fits = record { names = (tt, ready.fits.names); numbers = ready.fits.numbers; sets = ready.fits.sets };
+  fits = record { names = (tt, ready.fits.names); numbers = ready.fits.numbers; sets = ready.fits.sets; falls = ready.fits.falls };
   new = ready.new;
+  below = (tt, same-below k.globals k.scope.names ready.below);
   within = ready.within;
 }
 ready-next tables gs seen k at item (predicate name_at n vs e) are ready here =
@@ -120,11 +131,17 @@ ready-next tables gs seen k at item (predicate name_at n vs e) are ready here =
     let plain = fits-weaker tables (length k.scope.readings) bound seen k.scope (omega arith) ready.fits in
     let own : HasParameters tables bound (length k.scope.readings) (orders_of_bounds vs) = (omega arith, there.1) in
     record {
-      fits = record { names = (own, plain.names); numbers = plain.numbers; sets = plain.sets };
+      fits = record { names = (own, plain.names); numbers = plain.numbers; sets = plain.sets; falls = plain.falls };
       new = new-above seen k.before.next (before_after k.before (predicate name_at n vs e)).next ready.new (declaration-grows k.before (predicate name_at n vs e));
+      below = (tt, same-below k.globals k.scope.names ready.below);
       within = omega arith;
     }
-ready-next tables gs seen k at item include are ready here = record { fits = ready.fits; new = ready.new; within = ready.within }
+ready-next tables gs seen k at item include are ready here = record {
+  fits = ready.fits;
+  new = ready.new;
+  below = same-below k.globals k.scope.names ready.below;
+  within = ready.within;
+}
 ready-next tables gs seen k at item (default o n e) are ready here =
     let there = found-predicate tables (length k.scope.readings) (λ p. IsOnePlain o p.parameters) (typed_default k.scope k.before o n e)
     here.predicates_are.0 (default-plain k.scope k.before o n e) in
@@ -132,19 +149,21 @@ ready-next tables gs seen k at item (default o n e) are ready here =
     let more = with_readings (occurrences_in k (default o n e)) k.scope in
     let bound = length more.readings in
     let plain = fits-weaker tables (length k.scope.readings) bound seen k.scope (omega arith) ready.fits in
-    let fit : Fits tables bound seen more = record { names = plain.names; numbers = plain.numbers; sets = plain.sets } in
+    let fit : Fits tables bound seen more = record { names = plain.names; numbers = plain.numbers; sets = plain.sets; falls = plain.falls } in
     let own : IsDefault tables bound (length k.scope.readings) o = (omega arith, there.1) in
     let same = default-readings more o (length k.scope.readings) in
-    let below : length more.readings ≤ length tables.predicates = omega arith in
+    let low : length more.readings ≤ length tables.predicates = omega arith in
     record {
       fits = subst (λ rs. Fits tables (length rs) seen (with_default o (length k.scope.readings) more)) (sym same)
           (fits-default tables bound seen more o (length k.scope.readings) fit own);
       new = new-above seen k.before.next (before_after k.before (default o n e)).next ready.new (declaration-grows k.before (default o n e));
-      within = subst (λ rs. length rs ≤ length tables.predicates) (sym same) below;
+      below = subst (λ names. Each (IsBelow (k.globals + 0)) names) (sym (default-names more o (length k.scope.readings))) (same-below k.globals k.scope.names ready.below);
+      within = subst (λ rs. length rs ≤ length tables.predicates) (sym same) low;
     }
 ready-next tables gs seen k at item (formula e) are ready here = record {
   fits = ready.fits;
   new = new-above seen k.before.next (before_after k.before (formula e)).next ready.new (declaration-grows k.before (formula e));
+  below = same-below k.globals k.scope.names ready.below;
   within = ready.within;
 }
 

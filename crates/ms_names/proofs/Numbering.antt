@@ -1,5 +1,5 @@
 -- The typed tree of an expression is well numbered, where its scope is and its imports and exports stand in the tables.
-use Rattle.std.proofs.Common.{◌≡◌, ℕ, ◌+◌, Bool, true, false, if◌then◌else◌, List, [], ◌∷◌, length, map, Option, Some, None, refl, sym, subst, ap, ◌∙◌, arith}
+use Rattle.std.proofs.Common.{◌≡◌, ℕ, ◌+◌, ◌<◌, Bool, true, false, if◌then◌else◌, List, [], ◌∷◌, ◌++◌, length, map, Option, Some, None, refl, sym, subst, ap, ◌∙◌, arith}
 use Rattle.std.specs.Prelude.{filter, slice_get}
 use Rattle.std.specs.Option.{option_and_then}
 use Rattle.ms_logic.specs.declared.checked.ExportUse.{ExportUse}
@@ -10,6 +10,7 @@ use Rattle.ms_logic.specs.declared.mode.Rel.{Rel}
 use Rattle.ms_logic.specs.declared.mode.Rel.TheVariants.{Equal, Differs, Less, AtMost, Greater, AtLeast, Member, NotMember, Sub}
 use Rattle.ms_logic.specs.declared.source.Rename.{Rename}
 use Rattle.ms_logic.specs.Assignment.{Variable}
+use Rattle.ms_logic.specs.FiniteSet.{IsRising}
 use Rattle.ms_logic.specs.Tree as tree
 use Rattle.ms_logic.specs.Tree.{Term, SetTerm, Terms, Form, Forms, Restriction, Argument, truth_argument, number_argument, set_argument, Arguments}
 use Rattle.ms_names.specs.declared.meaning.Meaning.{Meaning}
@@ -24,7 +25,7 @@ use Rattle.ms_names.specs.Reads.{free_variables}
 use Rattle.ms_names.specs.Scope.{Named, Scope, default_of, meaning_of, variables_among}
 use Rattle.ms_names.specs.Typed.{both, default_restriction, formula_in, number_in, set_in, numbers_of_parts, of_order, related_member, related_numbers, related_sets, typed_call, typed_name, typed_relation, typed_shift, variable_argument}
 use Rattle.ms_names.specs.Uses.{export_at, import_at, pair_of, pairs_of}
-use Rattle.ms_names.proofs.Fitting.{EntryFits, Fits, If, MeaningFits, each-append, if-one, meaning-fits, new-next, seeing_parts}
+use Rattle.ms_names.proofs.Fitting.{EntryFits, Falls, Fits, If, IsBelow, MeaningFits, each-append, if-one, meaning-fits, new-next, seeing_parts}
 
 -- a list stands in another from a place on
 abbrev pub Stand : {A : Type 0} → List A → ℕ → List A → Type 0
@@ -212,6 +213,43 @@ each-numbers : (P : ℕ → Type 0) (vs : List Named) → Each (λ (v : Named). 
 each-numbers P [] h = tt
 each-numbers P (v ∷ vs) h = (h.0, each-numbers P vs h.1)
 
+-- variables whose numbers rise, each below all that follow
+abbrev Rises : List Named → Type 0
+Rises [] = Unit {0}
+Rises (v ∷ vs) = Each (λ (w : Named). v.number < w.number) vs × Rises vs
+
+rises-behind : (vs : List Named) (v : Named) → Rises vs → Each (λ (w : Named). w.number < v.number) vs → Rises (vs ++ v ∷ [])
+rises-behind [] v h below = (tt, tt)
+rises-behind (w ∷ vs) v h below = (each-append (λ (u : Named). w.number < u.number) vs (v ∷ []) h.0 (below.0, tt), rises-behind vs v h.1 below.1)
+
+named-below : (x : ℕ) (names : List (Bytes × Meaning)) → Each (IsBelow x) names → Each (λ (w : Named). w.number < x) (variables_among names)
+named-below x [] h = tt
+named-below x ((n, meaning.Variable y o) ∷ outer) h =
+    each-append (λ (w : Named). w.number < x) (variables_among outer) (record { number = y; order = o; name = n } ∷ []) (named-below x outer h.1) (h.0, tt)
+named-below x ((n, meaning.Constant value) ∷ outer) h = named-below x outer h.1
+named-below x ((n, meaning.Predicate p parameters) ∷ outer) h = named-below x outer h.1
+
+named-rises : (names : List (Bytes × Meaning)) → Falls names → Rises (variables_among names)
+named-rises [] h = tt
+named-rises ((n, meaning.Variable x o) ∷ outer) h =
+    rises-behind (variables_among outer) (record { number = x; order = o; name = n }) (named-rises outer h.1) (named-below x outer h.0)
+named-rises ((n, meaning.Constant value) ∷ outer) h = named-rises outer h
+named-rises ((n, meaning.Predicate p parameters) ∷ outer) h = named-rises outer h
+
+rises-chosen : (here : Bool) (v : Named) (vs : List Named) → Each (λ (w : Named). v.number < w.number) vs → Rises vs → Rises (if here then v ∷ vs else vs)
+rises-chosen true v vs h k = (h, k)
+rises-chosen false v vs h k = k
+
+rises-filter : (test : Named → Bool) (vs : List Named) → Rises vs → Rises (filter test vs)
+rises-filter test [] h = tt
+rises-filter test (v ∷ vs) h =
+    rises-chosen (test v) v (filter test vs) (each-filter (λ (w : Named). v.number < w.number) test vs h.0) (rises-filter test vs h.1)
+
+rising-numbers : (vs : List Named) → Rises vs → IsRising (map (λ v. v.number) vs)
+rising-numbers [] h = tt
+rising-numbers (v ∷ []) h = (tt, tt)
+rising-numbers (v ∷ w ∷ vs) h = (h.0.0, rising-numbers (w ∷ vs) h.1)
+
 as-many : (vs : List Named) → length (map (λ v. v.name) vs) ≡ length (map (λ v. v.number) vs)
 as-many [] = refl
 as-many (v ∷ vs) = let rest = as-many vs in omega (arith, rest)
@@ -224,6 +262,7 @@ export-sees tables bound seen s b e used fits variables_are names_are =
       subst (λ xs. Each (λ x. (o : Order) × Sees seen x o) xs) (sym variables_are)
           (each-numbers (λ x. (o : Order) × Sees seen x o) free
           (each-filter (λ (v : Named). (o : Order) × Sees seen v.number o) _ (variables_among s.names) (named-seen tables bound seen s.names fits.names))),
+      subst (λ xs. IsRising xs) (sym variables_are) (rising-numbers free (rises-filter _ (variables_among s.names) (named-rises s.names fits.falls))),
       ap length names_are ∙ (as-many free ∙ ap length (sym variables_are)),
     )
 

@@ -1,5 +1,5 @@
 -- What the numbers in a checked source stand for: variables that are seen where they stand, predicates, imports and exports.
-use Rattle.std.specs.Prelude.{◌≡◌, ℕ, ◌+◌, ◌<◌, ◌⊎◌, List, [], ◌∷◌, length, map, slice_get}
+use Rattle.std.specs.Prelude.{◌≡◌, ℕ, ◌+◌, ◌<◌, ◌⊎◌, List, [], ◌∷◌, ◌++◌, length, flat_map, map, slice_get}
 use Rattle.std.specs.Option.{IsSomeAnd}
 use Rattle.ms_logic.specs.declared.checked.Checked.{Checked}
 use Rattle.ms_logic.specs.declared.checked.ExportUse.{ExportUse}
@@ -8,6 +8,7 @@ use Rattle.ms_logic.specs.declared.checked.MapPair.{MapPair}
 use Rattle.ms_logic.specs.declared.mode.Order.{Order}
 use Rattle.ms_logic.specs.declared.mode.Order.TheVariants.{Zero, One, Two}
 use Rattle.ms_logic.specs.Assignment.{Variable}
+use Rattle.ms_logic.specs.FiniteSet.{IsRising}
 use Rattle.ms_logic.specs.Tree.{Term, number_variable, numeral, plus, minus, minimum, maximum, SetTerm, set_variable, empty_set, whole, literal, pconst, union, intersection, difference, shift_up, shift_down, Terms, no_terms, more_terms}
 use Rattle.ms_logic.specs.Tree.{Form, truth, falsity, truth_variable, negation, conjunction, disjunction, implication, equivalence, comparison, set_comparison, membership, emptiness, quantified, where_let, call, restrict, imported, exported, default_at, Forms, no_forms, more_forms, Restriction, unrestricted, restricted, Argument, truth_argument, number_argument, set_argument, Arguments, no_arguments, more_arguments, Declaration, Predicate}
 use Rattle.ms_logic.specs.View.{formula_of, globals_from, predicate_of}
@@ -103,9 +104,10 @@ IsDefaultAt tables bound seen p x = (o : Order) × Sees seen x o × IsDefault ta
 abbrev pub ImportSees : List Variable → ImportUse → Type 0
 ImportSees seen used = Each (λ (pair : MapPair). Sees seen pair.variable pair.order) used.pairs
 
--- the variables of an export are seen, and each has a name
+-- the variables of an export are seen, their numbers rise, and each has a name
 abbrev pub ExportSees : List Variable → ExportUse → Type 0
-ExportSees seen used = Each (λ x. (o : Order) × Sees seen x o) used.variables × (length used.names ≡ length used.variables)
+ExportSees seen used =
+    Each (λ x. (o : Order) × Sees seen x o) used.variables × IsRising used.variables × (length used.names ≡ length used.variables)
 
 -- the names of a `let`, as many as its right sides, have numbers that rise above all that are seen
 abbrev pub AreNew : List Variable → List ℕ → Arguments → Type 0
@@ -180,6 +182,58 @@ AreNumberedPredicates tables p seen [] = Unit {0}
 AreNumberedPredicates tables p seen (known ∷ more) =
     AreNumberedParameters tables p seen known.parameters known.body × AreNumberedPredicates tables (p + 1) seen more
 
+-- the numbers of the exports in a formula, in the order of the text
+abbrev mutual
+  pub exports_in : Form → List ℕ
+  exports_in truth = []
+  exports_in falsity = []
+  exports_in (truth_variable x) = []
+  exports_in (negation f) = exports_in f
+  exports_in (conjunction fs) = exports_in_all fs
+  exports_in (disjunction fs) = exports_in_all fs
+  exports_in (implication f g) = exports_in f ++ exports_in g
+  exports_in (equivalence f g) = exports_in f ++ exports_in g
+  exports_in (comparison r t u) = []
+  exports_in (set_comparison r s t) = []
+  exports_in (membership positive t s) = []
+  exports_in (emptiness s) = []
+  exports_in (quantified q o x d f) = exports_in_restriction d ++ exports_in f
+  exports_in (where_let xs sides f) = exports_in_arguments sides ++ exports_in f
+  exports_in (call p given) = exports_in_arguments given
+  exports_in (restrict f) = exports_in f
+  exports_in (imported i) = []
+  exports_in (exported i f) = i ∷ exports_in f
+  exports_in (default_at p x) = []
+
+  pub exports_in_all : Forms → List ℕ
+  exports_in_all no_forms = []
+  exports_in_all (more_forms f fs) = exports_in f ++ exports_in_all fs
+
+  pub exports_in_restriction : Restriction → List ℕ
+  exports_in_restriction unrestricted = []
+  exports_in_restriction (restricted d) = exports_in d
+
+  pub exports_in_argument : Argument → List ℕ
+  exports_in_argument (truth_argument f) = exports_in f
+  exports_in_argument (number_argument t) = []
+  exports_in_argument (set_argument s) = []
+
+  pub exports_in_arguments : Arguments → List ℕ
+  exports_in_arguments no_arguments = []
+  exports_in_arguments (more_arguments a more) = exports_in_argument a ++ exports_in_arguments more
+
+abbrev pub exports_in_parameters : List Declaration → List ℕ
+exports_in_parameters [] = []
+exports_in_parameters (d ∷ ds) = exports_in_restriction d.restriction ++ exports_in_parameters ds
+
+abbrev pub exports_in_predicate : Predicate → List ℕ
+exports_in_predicate p = exports_in_parameters p.parameters ++ exports_in p.body
+
+-- the numbers from n on, one after the other, up to but without m
+abbrev pub CountUp : ℕ → List ℕ → ℕ → Type 0
+CountUp n [] m = n ≡ m
+CountUp n (x ∷ xs) m = (x ≡ n) × CountUp (n + 1) xs m
+
 -- the tables of a checked source
 abbrev pub tables_of : Checked → Tables
 tables_of checked = record { predicates = map predicate_of checked.predicates; imports = checked.imports; exports = checked.exports }
@@ -193,3 +247,7 @@ pub record IsWellNumbered (checked : Checked) : Type 0 where
   pub predicates : AreNumberedPredicates (tables_of checked) 0 (globals_seen checked) (tables_of checked).predicates
   pub globals : Each (λ d. IsNumberedRestriction (tables_of checked) (length (tables_of checked).predicates) (globals_seen checked) d.restriction) (globals_from 0 checked.globals)
   pub formulas : Each (λ placed. IsNumbered (tables_of checked) (length (tables_of checked).predicates) (globals_seen checked) (formula_of placed.formula)) checked.formulas
+  -- each export of the table stands in one place of one formula, in the order of the table, and none stands anywhere else
+  pub exports : CountUp 0 (flat_map (λ placed. exports_in (formula_of placed.formula)) checked.formulas) (length checked.exports)
+  pub no_exports_in_predicates : Each (λ p. exports_in_predicate p ≡ []) (tables_of checked).predicates
+  pub no_exports_in_globals : Each (λ d. exports_in_restriction d.restriction ≡ []) (globals_from 0 checked.globals)

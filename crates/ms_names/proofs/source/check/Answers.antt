@@ -1,7 +1,9 @@
-use Rattle.std.proofs.Common.{rules, arith}
+use Rattle.std.proofs.Common.{rules, ◌≡◌, map, None, arith}
 use Rattle.std.proofs.lemmas.Grind.{common_steps}
 use Rattle.ms_logic.specs.declared.checked.Checked.{Checked}
+use Rattle.ms_names.specs.Declarations.{first_fault_of}
 use Rattle.ms_names.specs.TypedSource.{IsTyped}
+use Rattle.ms_names.specs.View.{placed_of}
 use Rattle.ms_names.proofs.NumberedChecked.{well-numbered}
 use Rattle.ms_names.proofs.source.check.Goals as goal
 
@@ -17,4 +19,5 @@ returns-clause-numbered c =
       files = c.in-Ok-copy_texts.files;
     } in
     let is_typed : IsTyped c.args.loaded.now checked = first_of (search rules, grind (arith, common_steps)) in
-    well-numbered c.args.loaded.now checked is_typed
+    let right : first_fault_of c.args.loaded.now.mode (map placed_of c.args.loaded.now.items) ≡ None = first_of (search rules, grind (arith, common_steps)) in
+    well-numbered c.args.loaded.now checked is_typed right
