@@ -37,3 +37,6 @@ pub use examples::{
 };
 pub use fault::Fault;
 pub use source::check;
+
+#[cfg(test)]
+mod tests;
