@@ -4,6 +4,7 @@ pub mod Frames
 pub mod Headers
 pub mod Inputs
 pub mod Levels
+pub mod Limits
 pub mod OneTree
 pub mod Soundness
 pub mod Pushes

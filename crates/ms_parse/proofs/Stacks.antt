@@ -42,12 +42,12 @@ stack_on_length below (f ∷ fs) = omega (arith, stack_on_length (frame_of f.ope
 pub stack_length : (fs : List Frame) → length (stack_of fs) ≡ length fs
 stack_length fs = omega (arith, stack_on_length [] fs)
 
-pub enter_refused : (c : machine.Context) (f : machine.Frame) (st : List machine.Frame) (ts : List Placed) → 300 < suc (length st) + max 1 (machine.frame_depth f) → machine.enter c f st ts ≡ None
-enter_refused c f st ts deep = ap (λ b. cond b (Some (machine.wanted c (f ∷ st), ts)) None) (lt-leb (suc (length st) + max 1 (machine.frame_depth f)) 300 deep)
+pub enter_refused : (limit : ℕ) (c : machine.Context) (f : machine.Frame) (st : List machine.Frame) (ts : List Placed) → limit < suc (length st) + max 1 (machine.frame_depth f) → machine.enter limit c f st ts ≡ None
+enter_refused limit c f st ts deep = ap (λ b. cond b (Some (machine.wanted c (f ∷ st), ts)) None) (lt-leb (suc (length st) + max 1 (machine.frame_depth f)) limit deep)
 
-pub enter_taken : (c : machine.Context) (f : machine.Frame) (st new : List machine.Frame) (ts : List Placed) → suc (length st) + max 1 (machine.frame_depth f) ≤ 300 → new ≡ f ∷ st → machine.enter c f st ts ≡ Some (machine.wanted c new, ts)
-enter_taken c f st new ts small same =
-    ap (λ b. cond b (Some (machine.wanted c (f ∷ st), ts)) None) (le-leb (suc (length st) + max 1 (machine.frame_depth f)) 300 small) ∙ ap (λ s. Some (machine.wanted c s, ts)) (sym same)
+pub enter_taken : (limit : ℕ) (c : machine.Context) (f : machine.Frame) (st new : List machine.Frame) (ts : List Placed) → suc (length st) + max 1 (machine.frame_depth f) ≤ limit → new ≡ f ∷ st → machine.enter limit c f st ts ≡ Some (machine.wanted c new, ts)
+enter_taken limit c f st new ts small same =
+    ap (λ b. cond b (Some (machine.wanted c (f ∷ st), ts)) None) (le-leb (suc (length st) + max 1 (machine.frame_depth f)) limit small) ∙ ap (λ s. Some (machine.wanted c s, ts)) (sym same)
 
 -- the frames up to one of them, and that one on top
 pub stack_take : (fs : List Frame) (k : ℕ) (d : Frame) → k < length fs → stack_of (take (k + 1) fs) ≡ frame_of (get_or fs k d).opened ∷ stack_of (take k fs)
@@ -67,4 +67,3 @@ pub depth_refuses : (c : machine.Context) (file : ℕ) (lexed : Lexed) (next : m
 depth_refuses c file lexed next frames stops.Memory is none = absurd is
 depth_refuses c file lexed next frames (stops.Refused i) is none = absurd is
 depth_refuses c file lexed next frames (stops.TooDeep i) is none = none
-depth_refuses c file lexed next frames (stops.TooDeepFrom at) is none = none

@@ -59,4 +59,3 @@ pub collapse_stops : (top : Option machine.Top) (stop : Stop) (file : ℕ) (lexe
 collapse_stops top stops.Memory file lexed next made frames frames' collapses refuses = tt
 collapse_stops top (stops.Refused i) file lexed next made frames frames' collapses refuses = refuses collapses
 collapse_stops top (stops.TooDeep i) file lexed next made frames frames' collapses refuses = refuses collapses
-collapse_stops top (stops.TooDeepFrom at) file lexed next made frames frames' collapses refuses = refuses collapses

@@ -39,7 +39,6 @@ abbrev pub StopsAt : ℕ → Lexed → Stop → Type 0
 StopsAt file lexed stops.Memory = Unit {0}
 StopsAt file lexed (stops.Refused i) = ReadsNone file lexed
 StopsAt file lexed (stops.TooDeep i) = ReadsNone file lexed
-StopsAt file lexed (stops.TooDeepFrom at) = ReadsNone file lexed
 
 -- the refusal of the tokens of a text, which is the file with this number
 pub record IsGrammarFault (file : ℕ) (lexed : Lexed) (refusal : Refusal) : Type 0 where

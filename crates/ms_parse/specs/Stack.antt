@@ -4,7 +4,7 @@ use Rattle.std.specs.Prelude.{Ok, Err}
 use Rattle.ms_parse.specs.declared.frame.Frame.{Frame}
 use Rattle.ms_parse.specs.declared.operand.Operand.{Operand}
 use Rattle.ms_parse.specs.declared.stop.Stop.{Stop}
-use Rattle.ms_parse.specs.declared.stop.Stop.TheVariants.{Memory, Refused, TooDeep, TooDeepFrom}
+use Rattle.ms_parse.specs.declared.stop.Stop.TheVariants.{Memory, Refused, TooDeep}
 use Rattle.ms_grammar.specs.Grammar.{depth}
 use Rattle.ms_parse.specs.Machine as machine
 use Rattle.ms_parse.specs.Opened.{frame_of}
@@ -23,7 +23,6 @@ abbrev pub IsTooDeep : Expression → Stop → Type 0
 IsTooDeep e Memory = Unit {0}
 IsTooDeep e (Refused i) = ⊥
 IsTooDeep e (TooDeep i) = 300 < depth e
-IsTooDeep e (TooDeepFrom at) = ⊥
 
 -- what `collapse` gives, with the stack that it leaves
 abbrev pub CollapsesTo : Option machine.Top → Result Operand Stop → List Frame → Type 0
@@ -31,11 +30,9 @@ CollapsesTo top (Ok made) frames = top ≡ Some (expression_of made.expr, stack_
 CollapsesTo top (Err Memory) frames = Unit {0}
 CollapsesTo top (Err (Refused i)) frames = top ≡ None
 CollapsesTo top (Err (TooDeep i)) frames = top ≡ None
-CollapsesTo top (Err (TooDeepFrom at)) frames = top ≡ None
 
 -- the refusal of an expression that is too deep
 abbrev pub IsDepth : Stop → Type 0
 IsDepth Memory = ⊥
 IsDepth (Refused i) = ⊥
 IsDepth (TooDeep i) = Unit {0}
-IsDepth (TooDeepFrom at) = Unit {0}

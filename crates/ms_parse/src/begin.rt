@@ -1,14 +1,15 @@
 ghost use Rattle.std.specs.Prelude.{◌≡◌, ◌≤◌, ◌<◌, ℕ, List, length};
 ghost use Rattle.ms_grammar.specs.Grammar.{depth};
-ghost use Rattle.ms_parse.specs.Machine.{Context, begin_name, begin_empty, begin_literal, begin_restrict, begin_export, begin_import, begin_pconst};
+ghost use Rattle.ms_parse.specs.Machine.{Context, begin_name, begin_empty, begin_literal, begin_restrict, begin_export, begin_import, begin_pconst, with_room};
 ghost use Rattle.ms_parse.specs.Outcomes.{Took};
 ghost use Rattle.ms_grammar.specs.Reads.{place};
 ghost use Rattle.ms_parse.specs.Signs.{behind};
 ghost use Rattle.ms_parse.specs.Stack.{stack_of};
 ghost use Rattle.ms_grammar.specs.View.{form_of};
+ghost use Rattle.ms_grammar.specs.Grammar.{greatest_depth};
 
 use crate::complete::finish;
-use crate::enter::enter;
+use crate::enter::{enter, has_room};
 use crate::form::listed;
 use crate::frame::Frame;
 use crate::input::text_at;
@@ -34,7 +35,7 @@ pub fn begin_name(
     i: u32,
 ) -> Result<(Outcome, u32), Stop>
     ensures { (c : Context) →
-        Took c file tokens.now (begin_name c (stack_of stack.old.items) at name (behind file tokens.now i)) stack.new.items result }
+        Took c file tokens.now (begin_name greatest_depth c (stack_of stack.old.items) at name (behind file tokens.now i)) stack.new.items result }
 {
     let Some(inside) = behind_mark(tokens, file, i, Punctuation::OpenRound) else {
         let operand = finish(at, Form::Name(name), 0, i)?;
@@ -61,8 +62,11 @@ pub fn begin_restrict(
     i: u32,
 ) -> Result<(Outcome, u32), Stop>
     ensures { (c : Context) →
-        Took c file tokens.now (begin_restrict c (stack_of stack.old.items) at (behind file tokens.now i)) stack.new.items result }
+        Took c file tokens.now (with_room greatest_depth (stack_of stack.old.items) (begin_restrict greatest_depth c (stack_of stack.old.items) at (behind file tokens.now i))) stack.new.items result }
 {
+    if !has_room(stack) {
+        return Err(Stop::TooDeep(i.saturating_sub(1)));
+    }
     let Some(next) = behind_mark(tokens, file, i, Punctuation::OpenRound) else {
         return Err(Stop::Refused(i));
     };
@@ -82,7 +86,7 @@ pub fn begin_empty(
     i: u32,
 ) -> Result<(Outcome, u32), Stop>
     ensures { (c : Context) →
-        Took c file tokens.now (begin_empty c (stack_of stack.old.items) at (behind file tokens.now i)) stack.new.items result }
+        Took c file tokens.now (begin_empty greatest_depth c (stack_of stack.old.items) at (behind file tokens.now i)) stack.new.items result }
 {
     let Some(next) = behind_mark(tokens, file, i, Punctuation::OpenRound) else {
         let operand = finish(at, Form::EmptySet, 0, i)?;
@@ -105,7 +109,7 @@ pub fn begin_literal(
     i: u32,
 ) -> Result<(Outcome, u32), Stop>
     ensures { (c : Context) →
-        Took c file tokens.now (begin_literal c (stack_of stack.old.items) at (behind file tokens.now i)) stack.new.items result }
+        Took c file tokens.now (begin_literal greatest_depth c (stack_of stack.old.items) at (behind file tokens.now i)) stack.new.items result }
 {
     let list = List::new(alloc);
     if let Some(next) = behind_mark(tokens, file, i, Punctuation::CloseCurly) {
@@ -129,8 +133,11 @@ pub fn begin_export(
     i: u32,
 ) -> Result<(Outcome, u32), Stop>
     ensures { (c : Context) →
-        Took c file tokens.now (begin_export c (stack_of stack.old.items) at (behind file tokens.now i)) stack.new.items result }
+        Took c file tokens.now (with_room greatest_depth (stack_of stack.old.items) (begin_export greatest_depth c (stack_of stack.old.items) at (behind file tokens.now i))) stack.new.items result }
 {
+    if !has_room(stack) {
+        return Err(Stop::TooDeep(i.saturating_sub(1)));
+    }
     let Some(inside) = behind_mark(tokens, file, i, Punctuation::OpenRound) else {
         return Err(Stop::Refused(i));
     };

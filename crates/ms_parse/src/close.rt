@@ -7,6 +7,7 @@ ghost use Rattle.ms_parse.specs.Signs.{behind};
 ghost use Rattle.ms_parse.specs.Stack.{stack_of};
 ghost use Rattle.ms_grammar.specs.View.{expression_of};
 ghost use Rattle.ms_parse.specs.declared.frame.Frame.{Frame};
+ghost use Rattle.ms_grammar.specs.Grammar.{greatest_depth};
 
 use crate::complete::finish;
 use crate::form::{enclosed, listed};
@@ -22,7 +23,7 @@ use std::alloc::Global;
 /// `}` behind an expression, in a frame.
 pub fn close_curly(frame: Frame, operand: Operand, i: u32) -> Result<(Outcome, u32), Stop>
     ensures { (c : Context) (file : ℕ) (lexed : Lexed) (below : List Frame) →
-        Took c file lexed (close_curly_at c (expression_of operand.expr) (frame_of frame.opened ∷ stack_of below) (behind file lexed i)) below result }
+        Took c file lexed (close_curly_at greatest_depth c (expression_of operand.expr) (frame_of frame.opened ∷ stack_of below) (behind file lexed i)) below result }
 {
     let inside = frame.height.max(operand.height);
     let Frame { opened, .. } = frame;
@@ -55,7 +56,7 @@ pub fn close_round(
     i: u32,
 ) -> Result<(Outcome, u32), Stop>
     ensures { (c : Context) (file : ℕ) (lexed : Lexed) (below : List Frame) →
-        Took c file lexed (close_round_at c (expression_of operand.expr) (frame_of frame.opened ∷ stack_of below) (behind file lexed i)) below result }
+        Took c file lexed (close_round_at greatest_depth c (expression_of operand.expr) (frame_of frame.opened ∷ stack_of below) (behind file lexed i)) below result }
 {
     let height = operand.height;
     let inside = frame.height.max(height);

@@ -7,6 +7,7 @@ ghost use Rattle.ms_parse.specs.Signs.{behind};
 ghost use Rattle.ms_parse.specs.States.{Stepped, read_of};
 ghost use Rattle.ms_parse.specs.declared.frame.Frame.{Frame};
 ghost use Rattle.ms_parse.specs.declared.state.Parsed.{Parsed};
+ghost use Rattle.ms_grammar.specs.Grammar.{greatest_depth};
 
 use crate::context::{Context, Globals, Signature};
 use crate::declare::{begin_expression, declared, inside};
@@ -190,7 +191,7 @@ fn begin_formula(
     i: u32,
 ) -> Result<(State, u32), Stop>
     ensures { (made : Parsed) →
-        Stepped file tokens.now (step (wanted (in_formula (read_of made) at) []) (behind file tokens.now i)) made stack.new.items result }
+        Stepped file tokens.now (step greatest_depth (wanted (in_formula (read_of made) at) []) (behind file tokens.now i)) made stack.new.items result }
 {
     stack.clear();
     let taken = begin(alloc, tokens, file, stack, i);
@@ -215,7 +216,7 @@ pub fn begin_declaration(
     stack: &mut Vec<Frame>,
     i: u32,
 ) -> Result<(State, u32), Stop>
-    ensures { Stepped file tokens.now (step (outside (read_of made.old)) (behind file tokens.now i)) made.new stack.new.items result }
+    ensures { Stepped file tokens.now (step greatest_depth (outside (read_of made.old)) (behind file tokens.now i)) made.new stack.new.items result }
 {
     let Some((sign, at)) = sign_at(tokens, file, i) else {
         return Err(Stop::Refused(i));

@@ -1,4 +1,4 @@
-ghost use Rattle.std.specs.Prelude.{◌≡◌, ◌+◌, ℕ, List, length, vec_len};
+ghost use Rattle.std.specs.Prelude.{◌≡◌, ◌≤◌, ◌<◌, ◌+◌, ℕ, suc, false, List, length, vec_len, IsTrue};
 ghost use Rattle.ms_text.specs.TokenList.{Lexed};
 ghost use Rattle.ms_parse.specs.Machine.{Context, enter, need, in_part};
 ghost use Rattle.ms_grammar.specs.Grammar.{level};
@@ -7,6 +7,7 @@ ghost use Rattle.ms_parse.specs.Outcomes.{Took};
 ghost use Rattle.ms_parse.specs.Signs.{behind};
 ghost use Rattle.ms_parse.specs.Stack.{stack_of, IsDepth};
 ghost use Rattle.ms_grammar.specs.View.{expression_of};
+ghost use Rattle.ms_grammar.specs.Grammar.{greatest_depth};
 
 use crate::frame::Frame;
 use crate::opened::Opened;
@@ -14,36 +15,32 @@ use crate::operand::GREATEST_DEPTH;
 use crate::outcome::Outcome;
 use crate::stack::push_frame;
 use crate::stop::Stop;
-use ms_grammar::{Binary, Bracket, Junction, Prefix};
+use ms_grammar::{Binary, Junction, Prefix};
 use ms_logic::{Expr, Form};
 
-/// The first token at which an expression in this frame is too deep, where the stack is full. `i` is the number behind
-/// what the frame begins with.
+/// Whether the depth leaves room for an expression in a new frame.
+pub fn has_room(stack: &[Frame]) -> bool
+    ensures yes { IsTrue result → suc (suc (length (stack_of stack.now))) ≤ greatest_depth }
+    ensures no { result ≡ false → greatest_depth < suc (suc (length (stack_of stack.now))) }
+{
+    stack.len() < 299
+}
+
+/// The first token at which an expression in this frame is too deep, where the stack is full: the one that the frame
+/// begins with, or in a list, which may be empty, the next one, with the number `i`.
 fn no_room(opened: &Opened, i: u32) -> Stop
     ensures { IsDepth result }
 {
     match opened {
-        Opened::Prefix(..) => Stop::TooDeep(i.saturating_sub(1)),
-        Opened::Left(..) => Stop::TooDeep(i.saturating_sub(1)),
-        Opened::Joined(..) => Stop::TooDeep(i.saturating_sub(1)),
-        Opened::Bracket(at, bracket) => match bracket {
-            Bracket::Parentheses => Stop::TooDeep(i.saturating_sub(1)),
-            Bracket::Emptiness => Stop::TooDeep(i.saturating_sub(1)),
-            Bracket::Restriction => Stop::TooDeepFrom(*at),
-            Bracket::Export(..) => Stop::TooDeepFrom(*at),
-        },
         Opened::Listed(..) => Stop::TooDeep(i),
-        Opened::Domain(at, ..) => Stop::TooDeepFrom(*at),
-        Opened::Body(at, ..) => Stop::TooDeepFrom(*at),
-        Opened::Part(at, ..) => Stop::TooDeepFrom(*at),
-        Opened::Let(at, ..) => Stop::TooDeepFrom(*at),
+        _ => Stop::TooDeep(i.saturating_sub(1)),
     }
 }
 
 /// Puts a frame on the stack, where the depth leaves room for an expression in it.
 pub fn enter(stack: &mut Vec<Frame>, frame: Frame, i: u32) -> Result<(Outcome, u32), Stop>
     ensures { (c : Context) (file : ℕ) (lexed : Lexed) →
-        Took c file lexed (enter c (frame_of frame.opened) (stack_of stack.old.items) (behind file lexed i)) stack.new.items result }
+        Took c file lexed (enter greatest_depth c (frame_of frame.opened) (stack_of stack.old.items) (behind file lexed i)) stack.new.items result }
 {
     if stack.len() >= 299 {
         return Err(no_room(&frame.opened, i));

@@ -10,13 +10,14 @@ ghost use Rattle.ms_grammar.specs.Symbol.{prefix_operator, quantifier, let_word,
 ghost use Rattle.ms_grammar.specs.View.{form_of};
 ghost use Rattle.ms_parse.specs.declared.frame.Frame.{Frame};
 ghost use Rattle.ms_parse.specs.declared.sign.Sign.TheVariants as signs;
+ghost use Rattle.ms_grammar.specs.Grammar.{greatest_depth};
 
 use crate::begin::{
     begin_empty, begin_export, begin_import, begin_literal, begin_name, begin_pconst,
     begin_restrict,
 };
 use crate::complete::finish;
-use crate::enter::enter;
+use crate::enter::{enter, has_room};
 use crate::frame::Frame;
 use crate::input::{name_at, sign_at};
 use crate::opened::Opened;
@@ -43,7 +44,7 @@ fn begin_atom(at: At, form: Form, i: u32) -> Result<(Outcome, u32), Stop>
 
 fn begin_bracket(stack: &mut Vec<Frame>, at: At, i: u32) -> Result<(Outcome, u32), Stop>
     ensures { (c : Context) (file : ℕ) (lexed : Lexed) →
-        Took c file lexed (begin c (stack_of stack.old.items) at open_round (behind file lexed i)) stack.new.items result }
+        Took c file lexed (begin greatest_depth c (stack_of stack.old.items) at open_round (behind file lexed i)) stack.new.items result }
 {
     let opened = Opened::Bracket(at, Bracket::Parentheses);
     enter(stack, Frame { opened, height: 0 }, i)
@@ -61,7 +62,7 @@ fn level_of(op: Prefix) -> u32
 
 fn begin_prefix(stack: &mut Vec<Frame>, at: At, op: Prefix, i: u32) -> Result<(Outcome, u32), Stop>
     ensures { (c : Context) (file : ℕ) (lexed : Lexed) →
-        Took c file lexed (begin c (stack_of stack.old.items) at (prefix_operator op) (behind file lexed i)) stack.new.items result }
+        Took c file lexed (begin greatest_depth c (stack_of stack.old.items) at (prefix_operator op) (behind file lexed i)) stack.new.items result }
 {
     if need(stack) > level_of(op) {
         return Err(Stop::Refused(i.saturating_sub(1)));
@@ -79,10 +80,13 @@ fn begin_quantifier(
     i: u32,
 ) -> Result<(Outcome, u32), Stop>
     ensures { (c : Context) (file : ℕ) (lexed : Lexed) →
-        Took c file lexed (begin c (stack_of stack.now) at (quantifier quant order) (behind file lexed i)) stack.now result }
+        Took c file lexed (begin greatest_depth c (stack_of stack.now) at (quantifier quant order) (behind file lexed i)) stack.now result }
 {
     if need(stack) > 4 {
         return Err(Stop::Refused(i.saturating_sub(1)));
+    }
+    if !has_room(stack) {
+        return Err(Stop::TooDeep(i.saturating_sub(1)));
     }
     let bounds = Bounds {
         list: List::new(alloc),
@@ -99,10 +103,13 @@ fn begin_let(
     i: u32,
 ) -> Result<(Outcome, u32), Stop>
     ensures { (c : Context) (file : ℕ) (lexed : Lexed) →
-        Took c file lexed (begin c (stack_of stack.now) at (let_word order) (behind file lexed i)) stack.now result }
+        Took c file lexed (begin greatest_depth c (stack_of stack.now) at (let_word order) (behind file lexed i)) stack.now result }
 {
     if need(stack) > 4 {
         return Err(Stop::Refused(i.saturating_sub(1)));
+    }
+    if !has_room(stack) {
+        return Err(Stop::TooDeep(i.saturating_sub(1)));
     }
     let parts = Parts {
         list: List::new(alloc),
@@ -122,7 +129,7 @@ fn begin_sign(
     i: u32,
 ) -> Result<(Outcome, u32), Stop>
     ensures { (c : Context) (bytes : List ℕ) → sign ≢ signs.Name →
-        Took c file tokens.now (begin c (stack_of stack.old.items) at (symbol_with sign bytes) (behind file tokens.now i)) stack.new.items result }
+        Took c file tokens.now (begin greatest_depth c (stack_of stack.old.items) at (symbol_with sign bytes) (behind file tokens.now i)) stack.new.items result }
 {
     match sign {
         Sign::True => begin_atom(at, Form::True, i),
@@ -152,7 +159,7 @@ pub fn begin(
     i: u32,
 ) -> Result<(Outcome, u32), Stop>
     ensures { (c : Context) →
-        Took c file tokens.now (step (wanted c (stack_of stack.old.items)) (behind file tokens.now i)) stack.new.items result }
+        Took c file tokens.now (step greatest_depth (wanted c (stack_of stack.old.items)) (behind file tokens.now i)) stack.new.items result }
 {
     if let Some((name, at)) = name_at(alloc, tokens, file, i)? {
         return begin_name(alloc, tokens, file, stack, at, name, i + 1);

@@ -8,6 +8,7 @@ ghost use Rattle.ms_parse.specs.Signs.{behind, symbol_with};
 ghost use Rattle.ms_parse.specs.States.{Stepped, read_of};
 ghost use Rattle.ms_parse.specs.declared.frame.Frame.{Frame};
 ghost use Rattle.ms_parse.specs.declared.state.Parsed.{Parsed};
+ghost use Rattle.ms_grammar.specs.Grammar.{greatest_depth};
 
 use crate::context::{Context, Globals};
 use crate::declare::{begin_expression, declared};
@@ -119,7 +120,7 @@ pub fn end_global(
     i: u32,
 ) -> Result<(State, u32), Stop>
     ensures { (file : ℕ) (lexed : Lexed) (frames : List Frame) (bytes : List ℕ) (inside : Bool) → IsEnd inside (symbol_with sign bytes) →
-        Stepped file lexed (settle (in_global (read_of made.old) globals.at globals.order (variables_of globals.list) at_name name) (symbol_with sign bytes) inside (expression_of operand.expr, []) (behind file lexed i)) made.new frames result }
+        Stepped file lexed (settle greatest_depth (in_global (read_of made.old) globals.at globals.order (variables_of globals.list) at_name name) (symbol_with sign bytes) inside (expression_of operand.expr, []) (behind file lexed i)) made.new frames result }
 {
     let Operand { expr, .. } = operand;
     let domain = boxed(alloc, expr)?;

@@ -10,6 +10,7 @@ ghost use Rattle.ms_parse.specs.Signs.{behind, symbol_with};
 ghost use Rattle.ms_parse.specs.Stack.{stack_of};
 ghost use Rattle.ms_parse.specs.States.{Stepped, context_of, read_of};
 ghost use Rattle.ms_parse.specs.declared.frame.Frame.{Frame};
+ghost use Rattle.ms_grammar.specs.Grammar.{greatest_depth};
 
 use crate::bound::{bound, ends_part};
 use crate::close::{close_curly, close_round};
@@ -57,7 +58,7 @@ fn settle_operator(
     i: u32,
 ) -> Result<(Outcome, u32), Stop>
     ensures { (c : machine.Context) (bytes : List ℕ) (inside : Bool) → IsOperator inside (symbol_with sign bytes) →
-        Took c file tokens.now (settle c (symbol_with sign bytes) inside (expression_of operand.expr, stack_of stack.old.items) (behind file tokens.now i)) stack.new.items result }
+        Took c file tokens.now (settle greatest_depth c (symbol_with sign bytes) inside (expression_of operand.expr, stack_of stack.old.items) (behind file tokens.now i)) stack.new.items result }
 {
     match sign {
         Sign::Infix(op) => shift(stack, op, operand, i),
@@ -77,7 +78,7 @@ fn settle_frame(
     i: u32,
 ) -> Result<(Outcome, u32), Stop>
     ensures { (c : machine.Context) (file : ℕ) (lexed : Lexed) (bytes : List ℕ) (inside : Bool) → IsEnd inside (symbol_with sign bytes) →
-        Took c file lexed (settle c (symbol_with sign bytes) inside (expression_of operand.expr, frame_of frame.opened ∷ stack_of stack.old.items) (behind file lexed i)) stack.new.items result }
+        Took c file lexed (settle greatest_depth c (symbol_with sign bytes) inside (expression_of operand.expr, frame_of frame.opened ∷ stack_of stack.old.items) (behind file lexed i)) stack.new.items result }
 {
     match sign {
         Sign::CloseRound => close_round(alloc, frame, operand, i),
@@ -98,7 +99,7 @@ fn end_formula(
     i: u32,
 ) -> Result<(State, u32), Stop>
     ensures { (file : ℕ) (lexed : Lexed) (frames : List Frame) (bytes : List ℕ) (inside : Bool) → IsEnd inside (symbol_with sign bytes) →
-        Stepped file lexed (settle (in_formula (read_of made.old) at) (symbol_with sign bytes) inside (expression_of operand.expr, []) (behind file lexed i)) made.new frames result }
+        Stepped file lexed (settle greatest_depth (in_formula (read_of made.old) at) (symbol_with sign bytes) inside (expression_of operand.expr, []) (behind file lexed i)) made.new frames result }
 {
     let Operand { expr, .. } = operand;
     match sign {
@@ -116,7 +117,7 @@ fn end_predicate(
     i: u32,
 ) -> Result<(State, u32), Stop>
     ensures { (file : ℕ) (lexed : Lexed) (frames : List Frame) (bytes : List ℕ) (inside : Bool) → IsEnd inside (symbol_with sign bytes) →
-        Stepped file lexed (settle (in_predicate (read_of made.old) signature.at signature.is_pred signature.at_name signature.name (variables_of signature.parameters)) (symbol_with sign bytes) inside (expression_of operand.expr, []) (behind file lexed i)) made.new frames result }
+        Stepped file lexed (settle greatest_depth (in_predicate (read_of made.old) signature.at signature.is_pred signature.at_name signature.name (variables_of signature.parameters)) (symbol_with sign bytes) inside (expression_of operand.expr, []) (behind file lexed i)) made.new frames result }
 {
     let Signature {
         at,
@@ -146,7 +147,7 @@ fn end_default(
     i: u32,
 ) -> Result<(State, u32), Stop>
     ensures { (file : ℕ) (lexed : Lexed) (frames : List Frame) (bytes : List ℕ) (inside : Bool) → IsEnd inside (symbol_with sign bytes) →
-        Stepped file lexed (settle (in_default (read_of made.old) at order name) (symbol_with sign bytes) inside (expression_of operand.expr, []) (behind file lexed i)) made.new frames result }
+        Stepped file lexed (settle greatest_depth (in_default (read_of made.old) at order name) (symbol_with sign bytes) inside (expression_of operand.expr, []) (behind file lexed i)) made.new frames result }
 {
     let Operand { expr, .. } = operand;
     match sign {
@@ -168,7 +169,7 @@ fn end_expression(
     i: u32,
 ) -> Result<(State, u32), Stop>
     ensures { (bytes : List ℕ) (inside : Bool) → IsEnd inside (symbol_with sign bytes) →
-        Stepped file tokens.now (settle (context_of (read_of made.old) context) (symbol_with sign bytes) inside (expression_of operand.expr, []) (behind file tokens.now i)) made.new stack.new.items result }
+        Stepped file tokens.now (settle greatest_depth (context_of (read_of made.old) context) (symbol_with sign bytes) inside (expression_of operand.expr, []) (behind file tokens.now i)) made.new stack.new.items result }
 {
     match context {
         Context::Formula(at) => end_formula(made, at, operand, sign, i),
@@ -197,7 +198,7 @@ fn settle(
     i: u32,
 ) -> Result<(State, u32), Stop>
     ensures { (bytes : List ℕ) (inside : Bool) → is_end ≡ ends_part inside (symbol_with sign bytes) →
-        Stepped file tokens.now (settle (context_of (read_of made.old) context) (symbol_with sign bytes) inside (expression_of operand.expr, stack_of stack.old.items) (behind file tokens.now i)) made.new stack.new.items result }
+        Stepped file tokens.now (settle greatest_depth (context_of (read_of made.old) context) (symbol_with sign bytes) inside (expression_of operand.expr, stack_of stack.old.items) (behind file tokens.now i)) made.new stack.new.items result }
 {
     if is_operator(sign, is_end) {
         let taken = settle_operator(alloc, tokens, file, stack, operand, sign, i);
@@ -220,7 +221,7 @@ pub fn go_on(
     operand: Operand,
     i: u32,
 ) -> Result<(State, u32), Stop>
-    ensures { Stepped file tokens.now (step (holding (context_of (read_of made.old) context) (expression_of operand.expr) (stack_of stack.old.items)) (behind file tokens.now i)) made.new stack.new.items result }
+    ensures { Stepped file tokens.now (step greatest_depth (holding (context_of (read_of made.old) context) (expression_of operand.expr) (stack_of stack.old.items)) (behind file tokens.now i)) made.new stack.new.items result }
 {
     let Some((sign, _)) = sign_at(tokens, file, i) else {
         return Err(Stop::Refused(i));

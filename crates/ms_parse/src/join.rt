@@ -8,6 +8,7 @@ ghost use Rattle.ms_parse.specs.Opened.{frame_of};
 ghost use Rattle.ms_parse.specs.Outcomes.{Took};
 ghost use Rattle.ms_parse.specs.Signs.{behind};
 ghost use Rattle.ms_parse.specs.Stack.{stack_of};
+ghost use Rattle.ms_grammar.specs.Grammar.{greatest_depth};
 
 use crate::append::with_expression;
 use crate::enter::enter;
@@ -57,7 +58,7 @@ fn join_further(
     i: u32,
 ) -> Result<(Outcome, u32), Stop>
     ensures { (c : Context) (file : ℕ) (lexed : Lexed) →
-        Took c file lexed (enter c (joined_frame at op (and_expression (expressions_of operands.list) (expression_of operand.expr))) (stack_of stack.old.items) (behind file lexed i)) stack.new.items result }
+        Took c file lexed (enter greatest_depth c (joined_frame at op (and_expression (expressions_of operands.list) (expression_of operand.expr))) (stack_of stack.old.items) (behind file lexed i)) stack.new.items result }
 {
     let Operands { list, height } = with_expression(operands, operand)?;
     let opened = Opened::Joined(at, op, list);
@@ -73,7 +74,7 @@ pub fn join(
     i: u32,
 ) -> Result<(Outcome, u32), Stop>
     ensures { (c : Context) (file : ℕ) (lexed : Lexed) →
-        Took c file lexed (join c op (expression_of operand.expr) (stack_of stack.old.items) (behind file lexed i)) stack.new.items result }
+        Took c file lexed (join greatest_depth c op (expression_of operand.expr) (stack_of stack.old.items) (behind file lexed i)) stack.new.items result }
 {
     let Some(frame) = pop_frame(stack) else {
         return join_new(alloc, stack, op, operand, i);

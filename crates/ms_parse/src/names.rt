@@ -5,6 +5,7 @@ ghost use Rattle.ms_parse.specs.Signs.{symbol_with, behind};
 ghost use Rattle.ms_parse.specs.Stack.{stack_of};
 ghost use Rattle.ms_grammar.specs.View.{variables_of, parts_of};
 ghost use Rattle.ms_text.specs.TokenList.{Lexed};
+ghost use Rattle.ms_grammar.specs.Grammar.{greatest_depth};
 
 use crate::complete::finish;
 use crate::enter::enter;
@@ -35,7 +36,7 @@ pub fn next_part(
     i: u32,
 ) -> Result<(Outcome, u32), Stop>
     ensures { (c : Context) →
-        Took c file tokens.now (next_part c (stack_of stack.old.items) at order (parts_of parts.list) (behind file tokens.now i)) stack.new.items result }
+        Took c file tokens.now (next_part greatest_depth c (stack_of stack.old.items) at order (parts_of parts.list) (behind file tokens.now i)) stack.new.items result }
 {
     let Some((name, at_name)) = name_at(alloc, tokens, file, i)? else {
         return Err(Stop::Refused(i));
@@ -104,7 +105,7 @@ fn behind_variable(
     i: u32,
 ) -> Result<(Outcome, u32), Stop>
     ensures { (c : Context) (file : ℕ) (lexed : Lexed) (bytes : List ℕ) →
-        Took c file lexed (behind_variable c (stack_of stack.old.items) at quant order (variables_of bounds.list) at_name name (symbol_with sign bytes) (behind file lexed i)) stack.new.items result }
+        Took c file lexed (behind_variable greatest_depth c (stack_of stack.old.items) at quant order (variables_of bounds.list) at_name name (symbol_with sign bytes) (behind file lexed i)) stack.new.items result }
 {
     let Bounds { mut list, height } = bounds;
     match sign {
@@ -141,7 +142,7 @@ pub fn next_variable(
     i: u32,
 ) -> Result<(Outcome, u32), Stop>
     ensures { (c : Context) →
-        Took c file tokens.now (next_variable c (stack_of stack.old.items) at quant order (variables_of bounds.list) (behind file tokens.now i)) stack.new.items result }
+        Took c file tokens.now (next_variable greatest_depth c (stack_of stack.old.items) at quant order (variables_of bounds.list) (behind file tokens.now i)) stack.new.items result }
 {
     let Some((name, at_name)) = name_at(alloc, tokens, file, i)? else {
         return Err(Stop::Refused(i));

@@ -9,6 +9,7 @@ ghost use Rattle.ms_parse.specs.Signs.{behind, symbol_with};
 ghost use Rattle.ms_parse.specs.States.{Stepped, read_of};
 ghost use Rattle.ms_parse.specs.declared.frame.Frame.{Frame};
 ghost use Rattle.ms_parse.specs.declared.state.Parsed.{Parsed};
+ghost use Rattle.ms_grammar.specs.Grammar.{greatest_depth};
 
 use crate::context::{Context, Signature};
 use crate::declare::begin_expression;
@@ -186,7 +187,7 @@ pub fn end_parameter(
     i: u32,
 ) -> Result<(State, u32), Stop>
     ensures { (made : Parsed) (bytes : List ℕ) (inside : Bool) → IsEnd inside (symbol_with sign bytes) →
-        Stepped file tokens.now (settle (in_parameter (read_of made) signature.at signature.is_pred signature.at_name signature.name (variables_of signature.parameters) order at_name name) (symbol_with sign bytes) inside (expression_of operand.expr, []) (behind file tokens.now i)) made stack.new.items result }
+        Stepped file tokens.now (settle greatest_depth (in_parameter (read_of made) signature.at signature.is_pred signature.at_name signature.name (variables_of signature.parameters) order at_name name) (symbol_with sign bytes) inside (expression_of operand.expr, []) (behind file tokens.now i)) made stack.new.items result }
 {
     let Operand { expr, .. } = operand;
     let domain = boxed(alloc, expr)?;

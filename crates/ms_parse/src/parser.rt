@@ -8,6 +8,7 @@ ghost use Rattle.ms_parse.specs.Refused.{IsGrammarFault, StopsAt};
 ghost use Rattle.ms_parse.specs.Signs.{behind};
 ghost use Rattle.ms_parse.specs.Stack.{stack_of};
 ghost use Rattle.ms_parse.specs.States.{Stepped, context_of, read_of, source_of, state_of};
+ghost use Rattle.ms_grammar.specs.Grammar.{greatest_depth};
 
 use crate::context::Context;
 use crate::declaration::{begin_declaration, next_summand};
@@ -40,7 +41,7 @@ fn step_expression(
     outcome: Outcome,
     i: u32,
 ) -> Result<(State, u32), Stop>
-    ensures { Stepped file tokens.now (machine.step (outcome_of (context_of (read_of made.old) context) (stack_of stack.old.items) outcome) (behind file tokens.now i)) made.new stack.new.items result }
+    ensures { Stepped file tokens.now (machine.step greatest_depth (outcome_of (context_of (read_of made.old) context) (stack_of stack.old.items) outcome) (behind file tokens.now i)) made.new stack.new.items result }
 {
     match outcome {
         Outcome::Wanted => inside(context, begin(alloc, tokens, file, stack, i)),
@@ -72,7 +73,7 @@ fn step(
     state: State,
     i: u32,
 ) -> Result<(State, u32), Stop>
-    ensures { Stepped file tokens.now (machine.step (state_of (read_of made.old) (stack_of stack.old.items) state) (behind file tokens.now i)) made.new stack.new.items result }
+    ensures { Stepped file tokens.now (machine.step greatest_depth (state_of (read_of made.old) (stack_of stack.old.items) state) (behind file tokens.now i)) made.new stack.new.items result }
 {
     match state {
         State::Outside => begin_declaration(alloc, tokens, file, made, stack, i),

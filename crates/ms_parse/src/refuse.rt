@@ -50,16 +50,6 @@ fn depth_at(tokens: &Tokens, file: u32, i: u32) -> Refusal
     Refusal::Depth { at }
 }
 
-/// The number of the token that stands at a place, or how many tokens there are.
-fn number_of(tokens: &Tokens, place: u64) -> u32 {
-    for i in 0..tokens.len() {
-        if tokens.get(i).place == place {
-            return i;
-        }
-    }
-    tokens.len()
-}
-
 /// `ws1s` at the beginning may be the header, and what stands behind it may not.
 fn behind_ws1s(tokens: &Tokens, file: u32, i: u32) -> u32 {
     if i > 0 {
@@ -79,6 +69,5 @@ pub fn refusal_of(alloc: Global, tokens: &Tokens, file: u32, stop: Stop) -> Refu
         Stop::Memory => Refusal::Memory,
         Stop::Refused(i) => fault_at(alloc, tokens, file, behind_ws1s(tokens, file, i)),
         Stop::TooDeep(i) => depth_at(tokens, file, i),
-        Stop::TooDeepFrom(at) => depth_at(tokens, file, number_of(tokens, at.place)),
     }
 }

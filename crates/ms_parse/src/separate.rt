@@ -9,6 +9,7 @@ ghost use Rattle.ms_parse.specs.Stack.{stack_of};
 ghost use Rattle.ms_grammar.specs.Tree.{and_expression, and_variable, and_part, restricted};
 ghost use Rattle.ms_grammar.specs.View.{expression_of, expressions_of, variables_of, parts_of};
 ghost use Rattle.ms_parse.specs.declared.frame.Frame.{Frame};
+ghost use Rattle.ms_grammar.specs.Grammar.{greatest_depth};
 
 use crate::append::{with_expression, with_part, with_restricted};
 use crate::enter::enter;
@@ -32,7 +33,7 @@ fn another_expression(
     i: u32,
 ) -> Result<(Outcome, u32), Stop>
     ensures { (c : Context) (file : ℕ) (lexed : Lexed) →
-        Took c file lexed (enter c (list_frame at listing (and_expression (expressions_of operands.list) (expression_of operand.expr))) (stack_of stack.old.items) (behind file lexed i)) stack.new.items result }
+        Took c file lexed (enter greatest_depth c (list_frame at listing (and_expression (expressions_of operands.list) (expression_of operand.expr))) (stack_of stack.old.items) (behind file lexed i)) stack.new.items result }
 {
     let Operands { list, height } = with_expression(operands, operand)?;
     let opened = Opened::Listed(at, listing, list);
@@ -82,7 +83,7 @@ pub fn comma(
     i: u32,
 ) -> Result<(Outcome, u32), Stop>
     ensures { (c : Context) (file : ℕ) (lexed : Lexed) (top : machine.Frame) → IsRow row top →
-        Took c file lexed (comma_at c (expression_of operand.expr) (top ∷ stack_of stack.old.items) (behind file lexed i)) stack.new.items result }
+        Took c file lexed (comma_at greatest_depth c (expression_of operand.expr) (top ∷ stack_of stack.old.items) (behind file lexed i)) stack.new.items result }
 {
     match row {
         Row::Listed(at, listing, operands) => {
@@ -111,7 +112,7 @@ fn begin_body(
     i: u32,
 ) -> Result<(Outcome, u32), Stop>
     ensures { (c : Context) (file : ℕ) (lexed : Lexed) →
-        Took c file lexed (enter c (body_frame at quant order (and_variable (variables_of bounds.list) at_name order name (restricted (expression_of operand.expr)))) (stack_of stack.old.items) (behind file lexed i)) stack.new.items result }
+        Took c file lexed (enter greatest_depth c (body_frame at quant order (and_variable (variables_of bounds.list) at_name order name (restricted (expression_of operand.expr)))) (stack_of stack.old.items) (behind file lexed i)) stack.new.items result }
 {
     let Bounds { list, height } = with_restricted(alloc, bounds, at_name, order, name, operand)?;
     let opened = Opened::Body(at, quant, order, list);
@@ -127,7 +128,7 @@ pub fn colon(
     i: u32,
 ) -> Result<(Outcome, u32), Stop>
     ensures { (c : Context) (file : ℕ) (lexed : Lexed) (top : machine.Frame) → IsRow row top →
-        Took c file lexed (colon_at c (expression_of operand.expr) (top ∷ stack_of stack.old.items) (behind file lexed i)) stack.new.items result }
+        Took c file lexed (colon_at greatest_depth c (expression_of operand.expr) (top ∷ stack_of stack.old.items) (behind file lexed i)) stack.new.items result }
 {
     match row {
         Row::Domain(at, quant, order, bounds, at_name, name) => {
@@ -152,7 +153,7 @@ fn begin_scope(
     i: u32,
 ) -> Result<(Outcome, u32), Stop>
     ensures { (c : Context) (file : ℕ) (lexed : Lexed) →
-        Took c file lexed (enter c (let_frame at order (and_part (parts_of parts.list) at_name name (expression_of operand.expr))) (stack_of stack.old.items) (behind file lexed i)) stack.new.items result }
+        Took c file lexed (enter greatest_depth c (let_frame at order (and_part (parts_of parts.list) at_name name (expression_of operand.expr))) (stack_of stack.old.items) (behind file lexed i)) stack.new.items result }
 {
     let Parts { list, height } = with_part(parts, at_name, name, operand)?;
     let opened = Opened::Let(at, order, list);
@@ -167,7 +168,7 @@ pub fn end_parts(
     i: u32,
 ) -> Result<(Outcome, u32), Stop>
     ensures { (c : Context) (file : ℕ) (lexed : Lexed) (top : machine.Frame) → IsRow row top →
-        Took c file lexed (in_at c (expression_of operand.expr) (top ∷ stack_of stack.old.items) (behind file lexed i)) stack.new.items result }
+        Took c file lexed (in_at greatest_depth c (expression_of operand.expr) (top ∷ stack_of stack.old.items) (behind file lexed i)) stack.new.items result }
 {
     match row {
         Row::Part(at, order, parts, at_name, name) => {

@@ -6,6 +6,7 @@ ghost use Rattle.ms_parse.specs.Outcomes.{Took};
 ghost use Rattle.ms_parse.specs.Signs.{behind};
 ghost use Rattle.ms_parse.specs.Stack.{stack_of};
 ghost use Rattle.ms_grammar.specs.View.{expression_of};
+ghost use Rattle.ms_grammar.specs.Grammar.{greatest_depth};
 
 use crate::complete::finish;
 use crate::enter::{enter, level};
@@ -44,7 +45,7 @@ pub fn shift(
     i: u32,
 ) -> Result<(Outcome, u32), Stop>
     ensures { (c : Context) (file : ℕ) (lexed : Lexed) →
-        Took c file lexed (shift c op (expression_of left.expr, stack_of stack.old.items) (behind file lexed i)) stack.new.items result }
+        Took c file lexed (shift greatest_depth c op (expression_of left.expr, stack_of stack.old.items) (behind file lexed i)) stack.new.items result }
 {
     if level(&left.expr) < least_left(op) {
         return Err(Stop::Refused(i.saturating_sub(1)));
@@ -66,7 +67,7 @@ pub fn join_new(
     i: u32,
 ) -> Result<(Outcome, u32), Stop>
     ensures { (c : Context) (file : ℕ) (lexed : Lexed) →
-        Took c file lexed (join_new c op (expression_of first.expr) (stack_of stack.old.items) (behind file lexed i)) stack.new.items result }
+        Took c file lexed (join_new greatest_depth c op (expression_of first.expr) (stack_of stack.old.items) (behind file lexed i)) stack.new.items result }
 {
     if level(&first.expr) < least_operand(op) {
         return Err(Stop::Refused(i.saturating_sub(1)));
@@ -115,7 +116,7 @@ pub fn shift_by(
     i: u32,
 ) -> Result<(Outcome, u32), Stop>
     ensures { (c : Context) (file : ℕ) (lexed : Lexed) →
-        Took c file lexed (shift_by c (expression_of operand.expr) (stack_of stack.now) number (behind file lexed i)) stack.now result }
+        Took c file lexed (shift_by greatest_depth c (expression_of operand.expr) (stack_of stack.now) number (behind file lexed i)) stack.now result }
 {
     if !may_shift(stack, &operand) {
         return Err(Stop::TooDeep(i.saturating_sub(2)));
@@ -141,7 +142,7 @@ pub fn shift_int(
     i: u32,
 ) -> Result<(Outcome, u32), Stop>
     ensures { (c : Context) →
-        Took c file tokens.now (shift_int c minus (expression_of operand.expr) (stack_of stack.now) (behind file tokens.now i)) stack.now result }
+        Took c file tokens.now (shift_int greatest_depth c minus (expression_of operand.expr) (stack_of stack.now) (behind file tokens.now i)) stack.now result }
 {
     let Some((number, next)) = int_at(alloc, tokens, file, i, minus)? else {
         return Err(Stop::Refused(i));

@@ -6,12 +6,13 @@ use Rattle.ms_grammar.specs.declared.operator.Listing.TheVariants.{Literal}
 use Rattle.ms_grammar.specs.View.{expressions_of}
 use Rattle.ms_parse.proofs.Begins.{as_taken, literal_entered}
 use Rattle.ms_parse.proofs.begin.begin_literal.Goals as goal
+use Rattle.ms_grammar.specs.Grammar.{greatest_depth}
 
 pub returns : goal.returns
 returns c context =
     let st = stack_of c.args.stack.now.items in
     let ts = behind c.args.file c.args.tokens.now c.args.i in
-    as_taken context c.args.file c.args.tokens.now (begin_literal context st c.args.at ts) (enter context (list_frame c.args.at Literal (expressions_of c.new-list.result)) st ts)
+    as_taken context c.args.file c.args.tokens.now (begin_literal greatest_depth context st c.args.at ts) (enter greatest_depth context (list_frame c.args.at Literal (expressions_of c.new-list.result)) st ts)
     c.enter.new.stack.items c.enter.result
-    (literal_entered context st c.args.at ts c.in_default.ensures.none ∙ ap (λ es. enter context (list_frame c.args.at Literal (expressions_of es)) st ts) (sym c.new-list.ensures))
+    (literal_entered greatest_depth context st c.args.at ts c.in_default.ensures.none ∙ ap (λ es. enter greatest_depth context (list_frame c.args.at Literal (expressions_of es)) st ts) (sym c.new-list.ensures))
     (c.enter.ensures context c.args.file c.args.tokens.now)

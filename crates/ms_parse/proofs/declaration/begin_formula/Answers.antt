@@ -5,6 +5,7 @@ use Rattle.ms_parse.specs.Stack.{stack_of}
 use Rattle.ms_parse.specs.States.{read_of}
 use Rattle.ms_parse.proofs.Stepping.{as_stepped}
 use Rattle.ms_parse.proofs.declaration.begin_formula.Goals as goal
+use Rattle.ms_grammar.specs.Grammar.{greatest_depth}
 
 pub returns : goal.returns
 returns c made =
@@ -13,6 +14,6 @@ returns c made =
     let ts = behind file lexed c.args.i in
     let context = in_formula (read_of made) c.args.at in
     let cleared = c.clear.new.self.items in
-    as_stepped file lexed (step (wanted context []) ts) (step (wanted context (stack_of cleared)) ts) made c.begin-taken.new.stack.items c.inside.result
-    (ap (λ x. step (wanted context (stack_of x)) ts) (sym c.clear.ensures.items))
-    (c.inside.ensures file lexed (step (wanted context (stack_of cleared)) ts) made c.begin-taken.new.stack.items (c.begin-taken.ensures context))
+    as_stepped file lexed (step greatest_depth (wanted context []) ts) (step greatest_depth (wanted context (stack_of cleared)) ts) made c.begin-taken.new.stack.items c.inside.result
+    (ap (λ x. step greatest_depth (wanted context (stack_of x)) ts) (sym c.clear.ensures.items))
+    (c.inside.ensures file lexed (step greatest_depth (wanted context (stack_of cleared)) ts) made c.begin-taken.new.stack.items (c.begin-taken.ensures context))

@@ -7,6 +7,7 @@ use Rattle.ms_grammar.specs.Symbol.{prefix_operator}
 use Rattle.ms_parse.proofs.Begins.{as_taken}
 use Rattle.ms_parse.proofs.Expressions.{prefix_entered}
 use Rattle.ms_parse.proofs.expression.begin_prefix.Goals as goal
+use Rattle.ms_grammar.specs.Grammar.{greatest_depth}
 
 pub returns : goal.returns
 returns c context file lexed =
@@ -14,5 +15,5 @@ returns c context file lexed =
     let ts = behind file lexed c.args.i in
     let least : c.need.result ≡ need st = c.need.ensures ∙ ap (λ x. need (stack_of x)) c.deref.ensures.value in
     let low : need st ≤ prefix_level c.args.op = omega (arith, c.level_of.ensures) in
-    as_taken context file lexed (begin context st c.args.at (prefix_operator c.args.op) ts) (enter context (prefix_frame c.args.at c.args.op) st ts) c.enter.new.stack.items c.enter.result
-    (prefix_entered context c.args.op c.args.at st ts low) (c.enter.ensures context file lexed)
+    as_taken context file lexed (begin greatest_depth context st c.args.at (prefix_operator c.args.op) ts) (enter greatest_depth context (prefix_frame c.args.at c.args.op) st ts) c.enter.new.stack.items c.enter.result
+    (prefix_entered greatest_depth context c.args.op c.args.at st ts low) (c.enter.ensures context file lexed)

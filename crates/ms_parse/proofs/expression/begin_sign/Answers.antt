@@ -9,77 +9,78 @@ use Rattle.ms_parse.proofs.Begins.{as_taken}
 use Rattle.ms_parse.proofs.Expressions.{begun, begun_on}
 use Rattle.ms_grammar.proofs.Views.{form_of-True, form_of-False, form_of-Whole, form_of-Number}
 use Rattle.ms_parse.proofs.expression.begin_sign.Goals as goal
+use Rattle.ms_grammar.specs.Grammar.{greatest_depth}
 
 pub returns-in-True : goal.returns-in-True
 returns-in-True c context bytes other =
     let st = stack_of c.args.stack.now.items in
     let ts = behind c.args.file c.args.tokens.now c.args.i in
-    begun context c.args.file c.args.tokens.now c.args.stack.now.items c.args.at c.args.sign signs.True bytes c.args.i c.args.stack.now.items c.begin_atom.result c.in-True.is
-    (as_taken context c.args.file c.args.tokens.now (begin context st c.args.at (symbol_with signs.True bytes) ts) (Some (holding context (form_of forms.True c.args.at) st, ts)) c.args.stack.now.items c.begin_atom.result
+    begun greatest_depth context c.args.file c.args.tokens.now c.args.stack.now.items c.args.at c.args.sign signs.True bytes c.args.i c.args.stack.now.items c.begin_atom.result c.in-True.is
+    (as_taken context c.args.file c.args.tokens.now (begin greatest_depth context st c.args.at (symbol_with signs.True bytes) ts) (Some (holding context (form_of forms.True c.args.at) st, ts)) c.args.stack.now.items c.begin_atom.result
     (ap (λ e. Some (holding context e st, ts)) (sym (form_of-True c.args.at))) (c.begin_atom.ensures context c.args.file c.args.tokens.now c.args.stack.now.items))
 
 pub returns-in-False : goal.returns-in-False
 returns-in-False c context bytes other =
     let st = stack_of c.args.stack.now.items in
     let ts = behind c.args.file c.args.tokens.now c.args.i in
-    begun context c.args.file c.args.tokens.now c.args.stack.now.items c.args.at c.args.sign signs.False bytes c.args.i c.args.stack.now.items c.begin_atom-in-False.result c.in-False.is
-    (as_taken context c.args.file c.args.tokens.now (begin context st c.args.at (symbol_with signs.False bytes) ts) (Some (holding context (form_of forms.False c.args.at) st, ts)) c.args.stack.now.items c.begin_atom-in-False.result
+    begun greatest_depth context c.args.file c.args.tokens.now c.args.stack.now.items c.args.at c.args.sign signs.False bytes c.args.i c.args.stack.now.items c.begin_atom-in-False.result c.in-False.is
+    (as_taken context c.args.file c.args.tokens.now (begin greatest_depth context st c.args.at (symbol_with signs.False bytes) ts) (Some (holding context (form_of forms.False c.args.at) st, ts)) c.args.stack.now.items c.begin_atom-in-False.result
     (ap (λ e. Some (holding context e st, ts)) (sym (form_of-False c.args.at))) (c.begin_atom-in-False.ensures context c.args.file c.args.tokens.now c.args.stack.now.items))
 
 pub returns-in-Dollar : goal.returns-in-Dollar
 returns-in-Dollar c context bytes other =
     let st = stack_of c.args.stack.now.items in
     let ts = behind c.args.file c.args.tokens.now c.args.i in
-    begun context c.args.file c.args.tokens.now c.args.stack.now.items c.args.at c.args.sign signs.Dollar bytes c.args.i c.args.stack.now.items c.begin_atom-in-Dollar.result c.in-Dollar.is
-    (as_taken context c.args.file c.args.tokens.now (begin context st c.args.at (symbol_with signs.Dollar bytes) ts) (Some (holding context (form_of forms.Whole c.args.at) st, ts)) c.args.stack.now.items c.begin_atom-in-Dollar.result
+    begun greatest_depth context c.args.file c.args.tokens.now c.args.stack.now.items c.args.at c.args.sign signs.Dollar bytes c.args.i c.args.stack.now.items c.begin_atom-in-Dollar.result c.in-Dollar.is
+    (as_taken context c.args.file c.args.tokens.now (begin greatest_depth context st c.args.at (symbol_with signs.Dollar bytes) ts) (Some (holding context (form_of forms.Whole c.args.at) st, ts)) c.args.stack.now.items c.begin_atom-in-Dollar.result
     (ap (λ e. Some (holding context e st, ts)) (sym (form_of-Whole c.args.at))) (c.begin_atom-in-Dollar.ensures context c.args.file c.args.tokens.now c.args.stack.now.items))
 
 pub returns-in-Number : goal.returns-in-Number
 returns-in-Number c context bytes other =
     let st = stack_of c.args.stack.now.items in
     let ts = behind c.args.file c.args.tokens.now c.args.i in
-    begun context c.args.file c.args.tokens.now c.args.stack.now.items c.args.at c.args.sign (signs.Number c.in-Number.number) bytes c.args.i c.args.stack.now.items c.begin_atom-in-Number.result c.in-Number.is
-    (as_taken context c.args.file c.args.tokens.now (begin context st c.args.at (symbol_with (signs.Number c.in-Number.number) bytes) ts) (Some (holding context (form_of (forms.Number c.in-Number.number) c.args.at) st, ts)) c.args.stack.now.items c.begin_atom-in-Number.result
+    begun greatest_depth context c.args.file c.args.tokens.now c.args.stack.now.items c.args.at c.args.sign (signs.Number c.in-Number.number) bytes c.args.i c.args.stack.now.items c.begin_atom-in-Number.result c.in-Number.is
+    (as_taken context c.args.file c.args.tokens.now (begin greatest_depth context st c.args.at (symbol_with (signs.Number c.in-Number.number) bytes) ts) (Some (holding context (form_of (forms.Number c.in-Number.number) c.args.at) st, ts)) c.args.stack.now.items c.begin_atom-in-Number.result
     (ap (λ e. Some (holding context e st, ts)) (sym (form_of-Number c.in-Number.number c.args.at))) (c.begin_atom-in-Number.ensures context c.args.file c.args.tokens.now c.args.stack.now.items))
 
 pub returns-in-Empty : goal.returns-in-Empty
 returns-in-Empty c context bytes other =
-    begun context c.args.file c.args.tokens.now c.args.stack.now.items c.args.at c.args.sign signs.Empty bytes c.args.i c.begin_empty.new.stack.items c.begin_empty.result c.in-Empty.is (c.begin_empty.ensures context)
+    begun greatest_depth context c.args.file c.args.tokens.now c.args.stack.now.items c.args.at c.args.sign signs.Empty bytes c.args.i c.begin_empty.new.stack.items c.begin_empty.result c.in-Empty.is (c.begin_empty.ensures context)
 
 pub returns-in-Pconst : goal.returns-in-Pconst
 returns-in-Pconst c context bytes other =
-    begun context c.args.file c.args.tokens.now c.args.stack.now.items c.args.at c.args.sign signs.Pconst bytes c.args.i c.begin_pconst.new.stack.items c.begin_pconst.result c.in-Pconst.is (c.begin_pconst.ensures context)
+    begun greatest_depth context c.args.file c.args.tokens.now c.args.stack.now.items c.args.at c.args.sign signs.Pconst bytes c.args.i c.begin_pconst.new.stack.items c.begin_pconst.result c.in-Pconst.is (c.begin_pconst.ensures context)
 
 pub returns-in-Import : goal.returns-in-Import
 returns-in-Import c context bytes other =
-    begun context c.args.file c.args.tokens.now c.args.stack.now.items c.args.at c.args.sign signs.Import bytes c.args.i c.begin_import.new.stack.items c.begin_import.result c.in-Import.is (c.begin_import.ensures context)
+    begun greatest_depth context c.args.file c.args.tokens.now c.args.stack.now.items c.args.at c.args.sign signs.Import bytes c.args.i c.begin_import.new.stack.items c.begin_import.result c.in-Import.is (c.begin_import.ensures context)
 
 pub returns-in-Restrict : goal.returns-in-Restrict
 returns-in-Restrict c context bytes other =
-    begun context c.args.file c.args.tokens.now c.args.stack.now.items c.args.at c.args.sign signs.Restrict bytes c.args.i c.begin_restrict.new.stack.items c.begin_restrict.result c.in-Restrict.is (c.begin_restrict.ensures context)
+    begun greatest_depth context c.args.file c.args.tokens.now c.args.stack.now.items c.args.at c.args.sign signs.Restrict bytes c.args.i c.begin_restrict.new.stack.items c.begin_restrict.result c.in-Restrict.is (c.begin_restrict.ensures context)
 
 pub returns-in-Export : goal.returns-in-Export
 returns-in-Export c context bytes other =
-    begun context c.args.file c.args.tokens.now c.args.stack.now.items c.args.at c.args.sign signs.Export bytes c.args.i c.begin_export.new.stack.items c.begin_export.result c.in-Export.is (c.begin_export.ensures context)
+    begun greatest_depth context c.args.file c.args.tokens.now c.args.stack.now.items c.args.at c.args.sign signs.Export bytes c.args.i c.begin_export.new.stack.items c.begin_export.result c.in-Export.is (c.begin_export.ensures context)
 
 pub returns-in-OpenCurly : goal.returns-in-OpenCurly
 returns-in-OpenCurly c context bytes other =
-    begun context c.args.file c.args.tokens.now c.args.stack.now.items c.args.at c.args.sign signs.OpenCurly bytes c.args.i c.begin_literal.new.stack.items c.begin_literal.result c.in-OpenCurly.is (c.begin_literal.ensures context)
+    begun greatest_depth context c.args.file c.args.tokens.now c.args.stack.now.items c.args.at c.args.sign signs.OpenCurly bytes c.args.i c.begin_literal.new.stack.items c.begin_literal.result c.in-OpenCurly.is (c.begin_literal.ensures context)
 
 pub returns-in-OpenRound : goal.returns-in-OpenRound
 returns-in-OpenRound c context bytes other =
-    begun context c.args.file c.args.tokens.now c.args.stack.now.items c.args.at c.args.sign signs.OpenRound bytes c.args.i c.begin_bracket.new.stack.items c.begin_bracket.result c.in-OpenRound.is (c.begin_bracket.ensures context c.args.file c.args.tokens.now)
+    begun greatest_depth context c.args.file c.args.tokens.now c.args.stack.now.items c.args.at c.args.sign signs.OpenRound bytes c.args.i c.begin_bracket.new.stack.items c.begin_bracket.result c.in-OpenRound.is (c.begin_bracket.ensures context c.args.file c.args.tokens.now)
 
 pub returns-in-Prefix : goal.returns-in-Prefix
 returns-in-Prefix c context bytes other =
-    begun context c.args.file c.args.tokens.now c.args.stack.now.items c.args.at c.args.sign (signs.Prefix c.in-Prefix.op) bytes c.args.i c.begin_prefix.new.stack.items c.begin_prefix.result c.in-Prefix.is (c.begin_prefix.ensures context c.args.file c.args.tokens.now)
+    begun greatest_depth context c.args.file c.args.tokens.now c.args.stack.now.items c.args.at c.args.sign (signs.Prefix c.in-Prefix.op) bytes c.args.i c.begin_prefix.new.stack.items c.begin_prefix.result c.in-Prefix.is (c.begin_prefix.ensures context c.args.file c.args.tokens.now)
 
 pub returns-in-Quantifier : goal.returns-in-Quantifier
 returns-in-Quantifier c context bytes other =
-    begun_on context c.args.file c.args.tokens.now c.deref.result.now c.args.stack.now.items c.args.at c.args.sign (signs.Quantifier c.in-Quantifier.quant c.in-Quantifier.order) bytes c.args.i c.begin_quantifier.result c.in-Quantifier.is c.deref.ensures.value
+    begun_on greatest_depth context c.args.file c.args.tokens.now c.deref.result.now c.args.stack.now.items c.args.at c.args.sign (signs.Quantifier c.in-Quantifier.quant c.in-Quantifier.order) bytes c.args.i c.begin_quantifier.result c.in-Quantifier.is c.deref.ensures.value
     (c.begin_quantifier.ensures context c.args.file c.args.tokens.now)
 
 pub returns-in-Let : goal.returns-in-Let
 returns-in-Let c context bytes other =
-    begun_on context c.args.file c.args.tokens.now c.deref-in-Let.result.now c.args.stack.now.items c.args.at c.args.sign (signs.Let c.in-Let.order) bytes c.args.i c.begin_let.result c.in-Let.is c.deref-in-Let.ensures.value
+    begun_on greatest_depth context c.args.file c.args.tokens.now c.deref-in-Let.result.now c.args.stack.now.items c.args.at c.args.sign (signs.Let c.in-Let.order) bytes c.args.i c.begin_let.result c.in-Let.is c.deref-in-Let.ensures.value
     (c.begin_let.ensures context c.args.file c.args.tokens.now)

@@ -8,6 +8,7 @@ use Rattle.ms_parse.specs.Signs.{behind, symbol_with}
 use Rattle.ms_parse.specs.States.{read_of}
 use Rattle.ms_parse.proofs.Stepping.{as_stepped, stepped_by}
 use Rattle.ms_parse.proofs.globals.end_global.Goals as goal
+use Rattle.ms_grammar.specs.Grammar.{greatest_depth}
 
 pub returns-in-Comma : goal.returns-in-Comma
 returns-in-Comma c file lexed frames bytes inside is =
@@ -17,8 +18,8 @@ returns-in-Comma c file lexed frames bytes inside is =
     let e = expression_of c.args.operand.expr in
     let ts = behind file lexed c.args.i in
     let context = in_global d g.at g.order vs c.args.at_name c.args.name in
-    stepped_by file lexed (λ s. settle context (symbol_with s bytes) inside (e, []) ts) c.args.sign signs.Comma c.args.made.now frames c.another_global.result c.in-Comma.is
-    (as_stepped file lexed (settle context comma inside (e, []) ts)
+    stepped_by file lexed (λ s. settle greatest_depth context (symbol_with s bytes) inside (e, []) ts) c.args.sign signs.Comma c.args.made.now frames c.another_global.result c.in-Comma.is
+    (as_stepped file lexed (settle greatest_depth context comma inside (e, []) ts)
     (Some (global_wanted d g.at g.order (and_variable vs c.args.at_name g.order c.args.name (restricted (expression_of c.in_ok-domain.domain))), ts)) c.args.made.now frames c.another_global.result
     (ap (λ x. Some (global_wanted d g.at g.order (and_variable vs c.args.at_name g.order c.args.name (restricted (expression_of x))), ts)) (sym c.in_ok-domain.ensures.ok))
     (c.another_global.ensures file lexed c.args.made.now frames))
@@ -31,8 +32,8 @@ returns-in-Semicolon c file lexed frames bytes inside is =
     let e = expression_of c.args.operand.expr in
     let ts = behind file lexed c.args.i in
     let context = in_global d g.at g.order vs c.args.at_name c.args.name in
-    stepped_by file lexed (λ s. settle context (symbol_with s bytes) inside (e, []) ts) c.args.sign signs.Semicolon c.last_global.new.made frames c.last_global.result c.in-Semicolon.is
-    (as_stepped file lexed (settle context semicolon inside (e, []) ts)
+    stepped_by file lexed (λ s. settle greatest_depth context (symbol_with s bytes) inside (e, []) ts) c.args.sign signs.Semicolon c.last_global.new.made frames c.last_global.result c.in-Semicolon.is
+    (as_stepped file lexed (settle greatest_depth context semicolon inside (e, []) ts)
     (Some (outside (declare d g.at (variables (and_variable vs c.args.at_name g.order c.args.name (restricted (expression_of c.in_ok-domain.domain))))), ts)) c.last_global.new.made frames c.last_global.result
     (ap (λ x. Some (outside (declare d g.at (variables (and_variable vs c.args.at_name g.order c.args.name (restricted (expression_of x))))), ts)) (sym c.in_ok-domain.ensures.ok))
     (c.last_global.ensures file lexed frames))

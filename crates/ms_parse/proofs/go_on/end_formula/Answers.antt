@@ -6,9 +6,10 @@ use Rattle.ms_parse.specs.Signs.{behind, symbol_with}
 use Rattle.ms_parse.specs.States.{read_of}
 use Rattle.ms_parse.proofs.Stepping.{stepped_by}
 use Rattle.ms_parse.proofs.go_on.end_formula.Goals as goal
+use Rattle.ms_grammar.specs.Grammar.{greatest_depth}
 
 pub returns-in-Semicolon : goal.returns-in-Semicolon
 returns-in-Semicolon c file lexed frames bytes inside is =
     let d = read_of c.args.made.now in
-    stepped_by file lexed (λ s. settle (in_formula d c.args.at) (symbol_with s bytes) inside (expression_of c.args.operand.expr, []) (behind file lexed c.args.i)) c.args.sign signs.Semicolon c.declared.new.made frames c.declared.result c.in-Semicolon.is
+    stepped_by file lexed (λ s. settle greatest_depth (in_formula d c.args.at) (symbol_with s bytes) inside (expression_of c.args.operand.expr, []) (behind file lexed c.args.i)) c.args.sign signs.Semicolon c.declared.new.made frames c.declared.result c.in-Semicolon.is
     (c.declared.ensures file lexed frames)

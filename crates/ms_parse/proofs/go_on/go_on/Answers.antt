@@ -8,6 +8,7 @@ use Rattle.ms_parse.specs.States.{context_of, read_of}
 use Rattle.ms_parse.proofs.Ending.{held_settled}
 use Rattle.ms_parse.proofs.Stepping.{as_stepped}
 use Rattle.ms_parse.proofs.go_on.go_on.Goals as goal
+use Rattle.ms_grammar.specs.Grammar.{greatest_depth}
 
 pub returns : goal.returns
 returns c =
@@ -25,6 +26,6 @@ returns c =
     let same : c.ends_part-is_end.result ≡ ends_part (in_part st) s = c.ends_part-is_end.ensures next.0 ∙ ap (λ x. ends_part (in_part (stack_of x)) s) c.deref.ensures.value in
     let e' = expression_of c.in_ok-operand.operand.expr in
     let st' = stack_of c.collapse.new.stack.items in
-    as_stepped file lexed (step (holding context e st) (behind file lexed i)) (settle context s (in_part st) (e', st') (behind file lexed (i + 1))) c.settle.new.made c.settle.new.stack.items c.settle.result
-    (held_settled context e e' st st' s (behind file lexed i) (behind file lexed (suc i)) (behind file lexed (i + 1)) at c.bound.result next.1 (ap (behind file lexed) one) (c.bound.ensures next.0 (in_part st) same) c.in_ok-operand.ensures)
+    as_stepped file lexed (step greatest_depth (holding context e st) (behind file lexed i)) (settle greatest_depth context s (in_part st) (e', st') (behind file lexed (i + 1))) c.settle.new.made c.settle.new.stack.items c.settle.result
+    (held_settled greatest_depth context e e' st st' s (behind file lexed i) (behind file lexed (suc i)) (behind file lexed (i + 1)) at c.bound.result next.1 (ap (behind file lexed) one) (c.bound.ensures next.0 (in_part st) same) c.in_ok-operand.ensures)
     (c.settle.ensures next.0 (in_part st) same)

@@ -7,6 +7,7 @@ use Rattle.ms_parse.specs.Stack.{stack_of}
 use Rattle.ms_parse.specs.States.{context_of, read_of}
 use Rattle.ms_parse.proofs.Stepping.{as_stepped}
 use Rattle.ms_parse.proofs.go_on.settle.Goals as goal
+use Rattle.ms_grammar.specs.Grammar.{greatest_depth}
 
 pub returns-then-is_operator : goal.returns-then-is_operator
 returns-then-is_operator c bytes inside same =
@@ -15,7 +16,7 @@ returns-then-is_operator c bytes inside same =
     let context = context_of (read_of c.args.made.now) c.args.context in
     let e = expression_of c.args.operand.expr in
     let ts = behind file lexed c.args.i in
-    c.inside.ensures file lexed (settle context (symbol_with c.args.sign bytes) inside (e, stack_of c.args.stack.now.items) ts) c.args.made.now c.settle_operator-taken.new.stack.items
+    c.inside.ensures file lexed (settle greatest_depth context (symbol_with c.args.sign bytes) inside (e, stack_of c.args.stack.now.items) ts) c.args.made.now c.settle_operator-taken.new.stack.items
     (c.settle_operator-taken.ensures context bytes inside (c.is_operator.ensures.yes bytes inside same c.if-is_operator.true))
 
 pub returns-in-Some : goal.returns-in-Some
@@ -27,9 +28,9 @@ returns-in-Some c bytes inside same =
     let s = symbol_with c.args.sign bytes in
     let ts = behind file lexed c.args.i in
     let st = frame_of c.in-Some.frame.opened ∷ stack_of c.pop_frame.new.stack.items in
-    as_stepped file lexed (settle context s inside (e, stack_of c.args.stack.now.items) ts) (settle context s inside (e, st) ts) c.args.made.now c.settle_frame.new.stack.items c.inside-in-Some.result
-    (ap (λ x. settle context s inside (e, x) ts) c.in-Some.ensures.top)
-    (c.inside-in-Some.ensures file lexed (settle context s inside (e, st) ts) c.args.made.now c.settle_frame.new.stack.items
+    as_stepped file lexed (settle greatest_depth context s inside (e, stack_of c.args.stack.now.items) ts) (settle greatest_depth context s inside (e, st) ts) c.args.made.now c.settle_frame.new.stack.items c.inside-in-Some.result
+    (ap (λ x. settle greatest_depth context s inside (e, x) ts) c.in-Some.ensures.top)
+    (c.inside-in-Some.ensures file lexed (settle greatest_depth context s inside (e, st) ts) c.args.made.now c.settle_frame.new.stack.items
     (c.settle_frame.ensures context file lexed bytes inside (c.is_operator.ensures.no bytes inside same c.if-is_operator.false)))
 
 pub returns-in-None : goal.returns-in-None
@@ -40,6 +41,6 @@ returns-in-None c bytes inside same =
     let e = expression_of c.args.operand.expr in
     let s = symbol_with c.args.sign bytes in
     let ts = behind file lexed c.args.i in
-    as_stepped file lexed (settle context s inside (e, stack_of c.args.stack.now.items) ts) (settle context s inside (e, []) ts) c.end_expression.new.made c.end_expression.new.stack.items c.end_expression.result
-    (ap (λ x. settle context s inside (e, x) ts) c.in-None.ensures.top)
+    as_stepped file lexed (settle greatest_depth context s inside (e, stack_of c.args.stack.now.items) ts) (settle greatest_depth context s inside (e, []) ts) c.end_expression.new.made c.end_expression.new.stack.items c.end_expression.result
+    (ap (λ x. settle greatest_depth context s inside (e, x) ts) c.in-None.ensures.top)
     (c.end_expression.ensures bytes inside (c.is_operator.ensures.no bytes inside same c.if-is_operator.false))

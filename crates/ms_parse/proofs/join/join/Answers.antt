@@ -9,13 +9,14 @@ use Rattle.ms_parse.proofs.Begins.{as_taken}
 use Rattle.ms_parse.proofs.Joins.{first_joined, other_joined}
 use Rattle.ms_parse.proofs.Moves.{further_joined}
 use Rattle.ms_parse.proofs.join.join.Goals as goal
+use Rattle.ms_grammar.specs.Grammar.{greatest_depth}
 
 pub returns-in_default : goal.returns-in_default
 returns-in_default c context file lexed =
     let e = expression_of c.args.operand.expr in
     let ts = behind file lexed c.args.i in
-    as_taken context file lexed (join context c.args.op e (stack_of c.args.stack.now.items) ts) (join_new context c.args.op e (stack_of c.pop_frame.new.stack.items) ts) c.join_new.new.stack.items c.join_new.result
-    (ap (λ x. join context c.args.op e x ts) c.in_default.ensures.top ∙ first_joined context c.args.op e ts ∙ ap (λ x. join_new context c.args.op e x ts) (sym c.in_default.ensures.none))
+    as_taken context file lexed (join greatest_depth context c.args.op e (stack_of c.args.stack.now.items) ts) (join_new greatest_depth context c.args.op e (stack_of c.pop_frame.new.stack.items) ts) c.join_new.new.stack.items c.join_new.result
+    (ap (λ x. join greatest_depth context c.args.op e x ts) c.in_default.ensures.top ∙ first_joined greatest_depth context c.args.op e ts ∙ ap (λ x. join_new greatest_depth context c.args.op e x ts) (sym c.in_default.ensures.none))
     (c.join_new.ensures context file lexed)
 
 pub returns-in-Further : goal.returns-in-Further
@@ -24,8 +25,8 @@ returns-in-Further c context file lexed =
     let ts = behind file lexed c.args.i in
     let below = stack_of c.pop_frame.new.stack.items in
     let es = expressions_of c.in-Further.operands.list in
-    as_taken context file lexed (join context c.args.op e (stack_of c.args.stack.now.items) ts) (enter context (joined_frame c.in-Further.at c.args.op (and_expression es e)) below ts) c.join_further.new.stack.items c.join_further.result
-    (ap (λ x. join context c.args.op e x ts) (c.in-Some.ensures.top ∙ ap (λ f. f ∷ below) c.in-Further.ensures) ∙ further_joined context c.args.op c.in-Further.at es e below ts)
+    as_taken context file lexed (join greatest_depth context c.args.op e (stack_of c.args.stack.now.items) ts) (enter greatest_depth context (joined_frame c.in-Further.at c.args.op (and_expression es e)) below ts) c.join_further.new.stack.items c.join_further.result
+    (ap (λ x. join greatest_depth context c.args.op e x ts) (c.in-Some.ensures.top ∙ ap (λ f. f ∷ below) c.in-Further.ensures) ∙ further_joined greatest_depth context c.args.op c.in-Further.at es e below ts)
     (c.join_further.ensures context file lexed)
 
 pub returns-in_ok-push_frame-in-Other : goal.returns-in_ok-push_frame-in-Other
@@ -34,7 +35,7 @@ returns-in_ok-push_frame-in-Other c context file lexed =
     let ts = behind file lexed c.args.i in
     let below = stack_of c.pop_frame.new.stack.items in
     let f = frame_of c.in-Some.frame.opened in
-    as_taken context file lexed (join context c.args.op e (stack_of c.args.stack.now.items) ts) (join_new context c.args.op e (stack_of c.push_frame.new.stack.items) ts) c.join_new-in-Other.new.stack.items c.join_new-in-Other.result
-    (ap (λ x. join context c.args.op e x ts) c.in-Some.ensures.top ∙ other_joined context c.args.op e f below ts c.in-Other.ensures.1
-    ∙ ap (λ x. join_new context c.args.op e x ts) (sym (c.in_ok-push_frame-in-Other.ensures.ok ∙ ap (λ g. g ∷ below) c.in-Other.ensures.0)))
+    as_taken context file lexed (join greatest_depth context c.args.op e (stack_of c.args.stack.now.items) ts) (join_new greatest_depth context c.args.op e (stack_of c.push_frame.new.stack.items) ts) c.join_new-in-Other.new.stack.items c.join_new-in-Other.result
+    (ap (λ x. join greatest_depth context c.args.op e x ts) c.in-Some.ensures.top ∙ other_joined greatest_depth context c.args.op e f below ts c.in-Other.ensures.1
+    ∙ ap (λ x. join_new greatest_depth context c.args.op e x ts) (sym (c.in_ok-push_frame-in-Other.ensures.ok ∙ ap (λ g. g ∷ below) c.in-Other.ensures.0)))
     (c.join_new-in-Other.ensures context file lexed)

@@ -6,6 +6,7 @@ use Rattle.ms_grammar.specs.Symbol.{name}
 use Rattle.ms_grammar.specs.View.{parts_of}
 use Rattle.ms_parse.proofs.Begins.{as_taken, part_entered}
 use Rattle.ms_parse.proofs.names.next_part.Goals as goal
+use Rattle.ms_grammar.specs.Grammar.{greatest_depth}
 
 pub returns : goal.returns
 returns c context =
@@ -16,8 +17,8 @@ returns c context =
     let ts = behind file lexed c.in-Some-behind_mark.next in
     let names : IsNext file lexed c.args.i (name c.in-Some.name) c.in-Some.at_name = search rules in
     let next_number : suc c.args.i ≡ c.args.i + 1 = omega arith in
-    as_taken context file lexed (next_part context st c.args.at c.args.order (parts_of c.args.parts.list) from) (enter context (part_frame c.args.at c.args.order (parts_of c.args.parts.list) c.in-Some.at_name c.in-Some.name) st ts)
+    as_taken context file lexed (next_part greatest_depth context st c.args.at c.args.order (parts_of c.args.parts.list) from) (enter greatest_depth context (part_frame c.args.at c.args.order (parts_of c.args.parts.list) c.in-Some.at_name c.in-Some.name) st ts)
     c.enter.new.stack.items c.enter.result
-    (part_entered context st c.args.at c.in-Some.at_name c.args.order (parts_of c.args.parts.list) c.in-Some.name from (behind file lexed (suc c.args.i)) (behind file lexed (c.args.i + 1)) ts
+    (part_entered greatest_depth context st c.args.at c.in-Some.at_name c.args.order (parts_of c.args.parts.list) c.in-Some.name from (behind file lexed (suc c.args.i)) (behind file lexed (c.args.i + 1)) ts
     names (ap (behind file lexed) next_number) c.in-Some-behind_mark.ensures.some)
     (c.enter.ensures context file lexed)

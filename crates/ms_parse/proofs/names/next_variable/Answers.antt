@@ -7,6 +7,7 @@ use Rattle.ms_grammar.specs.View.{variables_of}
 use Rattle.ms_parse.proofs.Begins.{as_taken}
 use Rattle.ms_parse.proofs.Wanting.{variable_read}
 use Rattle.ms_parse.proofs.names.next_variable.Goals as goal
+use Rattle.ms_grammar.specs.Grammar.{greatest_depth}
 
 pub returns : goal.returns
 returns c context =
@@ -19,9 +20,9 @@ returns c context =
     let next : (bytes : List ℕ) × IsNext file lexed (i + 1) (symbol_with c.in-Some-sign_at.sign bytes) c.in-Some-sign_at.field-0-1 = search rules in
     let one : suc i ≡ i + 1 = omega arith in
     let two : suc (i + 1) ≡ i + 2 = omega arith in
-    as_taken context file lexed (next_variable context st c.args.at c.args.quant c.args.order vs (behind file lexed i))
-    (behind_variable context st c.args.at c.args.quant c.args.order vs c.in-Some.at_name c.in-Some.name (symbol_with c.in-Some-sign_at.sign next.0) (behind file lexed (i + 2)))
+    as_taken context file lexed (next_variable greatest_depth context st c.args.at c.args.quant c.args.order vs (behind file lexed i))
+    (behind_variable greatest_depth context st c.args.at c.args.quant c.args.order vs c.in-Some.at_name c.in-Some.name (symbol_with c.in-Some-sign_at.sign next.0) (behind file lexed (i + 2)))
     c.behind_variable.new.stack.items c.behind_variable.result
-    (variable_read context st c.args.at c.args.quant c.args.order vs c.in-Some.name c.in-Some.at_name c.in-Some-sign_at.field-0-1 (symbol_with c.in-Some-sign_at.sign next.0) (behind file lexed i) (behind file lexed (suc i)) (behind file lexed (i + 1)) (behind file lexed (suc (i + 1))) (behind file lexed (i + 2))
+    (variable_read greatest_depth context st c.args.at c.args.quant c.args.order vs c.in-Some.name c.in-Some.at_name c.in-Some-sign_at.field-0-1 (symbol_with c.in-Some-sign_at.sign next.0) (behind file lexed i) (behind file lexed (suc i)) (behind file lexed (i + 1)) (behind file lexed (suc (i + 1))) (behind file lexed (i + 2))
     names (ap (behind file lexed) one) next.1 (ap (behind file lexed) two))
     (c.behind_variable.ensures context file lexed next.0)

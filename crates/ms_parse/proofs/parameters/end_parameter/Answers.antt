@@ -8,6 +8,7 @@ use Rattle.ms_parse.specs.Signs.{behind, symbol_with}
 use Rattle.ms_parse.specs.States.{read_of}
 use Rattle.ms_parse.proofs.Stepping.{as_stepped, stepped_by}
 use Rattle.ms_parse.proofs.parameters.end_parameter.Goals as goal
+use Rattle.ms_grammar.specs.Grammar.{greatest_depth}
 
 pub returns-in-Comma : goal.returns-in-Comma
 returns-in-Comma c made bytes inside is =
@@ -19,8 +20,8 @@ returns-in-Comma c made bytes inside is =
     let e = expression_of c.args.operand.expr in
     let ts = behind file lexed c.args.i in
     let context = in_parameter d s.at s.is_pred s.at_name s.name vs c.args.order c.args.at_name c.args.name in
-    stepped_by file lexed (λ x. settle context (symbol_with x bytes) inside (e, []) ts) c.args.sign signs.Comma made c.args.stack.now.items c.another_parameter.result c.in-Comma.is
-    (as_stepped file lexed (settle context comma inside (e, []) ts)
+    stepped_by file lexed (λ x. settle greatest_depth context (symbol_with x bytes) inside (e, []) ts) c.args.sign signs.Comma made c.args.stack.now.items c.another_parameter.result c.in-Comma.is
+    (as_stepped file lexed (settle greatest_depth context comma inside (e, []) ts)
     (Some (parameter_wanted d s.at s.is_pred s.at_name s.name (and_variable vs c.args.at_name c.args.order c.args.name (restricted (expression_of c.in_ok-domain.domain))), ts)) made c.args.stack.now.items c.another_parameter.result
     (ap (λ x. Some (parameter_wanted d s.at s.is_pred s.at_name s.name (and_variable vs c.args.at_name c.args.order c.args.name (restricted (expression_of x))), ts)) (sym c.in_ok-domain.ensures.ok))
     (c.another_parameter.ensures file lexed made c.args.stack.now.items))
@@ -35,8 +36,8 @@ returns-in-CloseRound c made bytes inside is =
     let e = expression_of c.args.operand.expr in
     let ts = behind file lexed c.args.i in
     let context = in_parameter d s.at s.is_pred s.at_name s.name vs c.args.order c.args.at_name c.args.name in
-    stepped_by file lexed (λ x. settle context (symbol_with x bytes) inside (e, []) ts) c.args.sign signs.CloseRound made c.last_parameter.new.stack.items c.last_parameter.result c.in-CloseRound.is
-    (as_stepped file lexed (settle context close_round inside (e, []) ts)
+    stepped_by file lexed (λ x. settle greatest_depth context (symbol_with x bytes) inside (e, []) ts) c.args.sign signs.CloseRound made c.last_parameter.new.stack.items c.last_parameter.result c.in-CloseRound.is
+    (as_stepped file lexed (settle greatest_depth context close_round inside (e, []) ts)
     (body_of d s.at s.is_pred s.at_name s.name (and_variable vs c.args.at_name c.args.order c.args.name (restricted (expression_of c.in_ok-domain.domain))) ts) made c.last_parameter.new.stack.items c.last_parameter.result
     (ap (λ x. body_of d s.at s.is_pred s.at_name s.name (and_variable vs c.args.at_name c.args.order c.args.name (restricted (expression_of x))) ts) (sym c.in_ok-domain.ensures.ok))
     (c.last_parameter.ensures made))

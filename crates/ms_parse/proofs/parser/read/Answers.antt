@@ -6,10 +6,11 @@ use Rattle.ms_parse.specs.States.{read_of, state_of}
 use Rattle.ms_parse.proofs.Loops.{starts_here, runs_on, reads_made, stops_at}
 use Rattle.ms_parse.proofs.Takes.{step_shortens}
 use Rattle.ms_parse.proofs.parser.read.Goals as goal
+use Rattle.ms_grammar.specs.Grammar.{greatest_depth}
 
 pub steps-init : goal.steps-init
 steps-init c =
-    starts_here (symbols c.args.file c.args.tokens.now) (behind c.args.file c.args.tokens.now c.start-made.result.1) (read_of c.start-made.result.0) c.start-made.ensures
+    starts_here greatest_depth (symbols c.args.file c.args.tokens.now) (behind c.args.file c.args.tokens.now c.start-made.result.1) (read_of c.start-made.result.0) c.start-made.ensures
 
 pub steps-preserved : goal.steps-preserved
 steps-preserved c =
@@ -18,14 +19,14 @@ steps-preserved c =
     let begun = start (symbols file lexed) in
     let s = state_of (read_of c.steps.made) (stack_of c.steps.stack.items) c.steps.state in
     let s' = state_of (read_of c.step.new.made) (stack_of c.step.new.stack.items) c.in-Ok.next in
-    runs_on (outside begun.0) s s' begun.1 (behind file lexed c.steps.i) (behind file lexed c.in-Ok.behind) c.steps.invariant
+    runs_on greatest_depth (outside begun.0) s s' begun.1 (behind file lexed c.steps.i) (behind file lexed c.in-Ok.behind) c.steps.invariant
     (c.is_finished.ensures.no (read_of c.steps.made) (stack_of c.steps.stack.items) c.steps-test.true) c.in-Ok.ensures
 
 pub steps-smaller : goal.steps-smaller
 steps-smaller c =
     let file = c.args.file in
     let lexed = c.args.tokens.now in
-    step_shortens (state_of (read_of c.steps.made) (stack_of c.steps.stack.items) c.steps.state) (state_of (read_of c.step.new.made) (stack_of c.step.new.stack.items) c.in-Ok.next)
+    step_shortens greatest_depth (state_of (read_of c.steps.made) (stack_of c.steps.stack.items) c.steps.state) (state_of (read_of c.step.new.made) (stack_of c.step.new.stack.items) c.in-Ok.next)
     (behind file lexed c.steps.i) (behind file lexed c.in-Ok.behind) c.in-Ok.ensures
 
 pub returns-in-Err-clause-err : goal.returns-in-Err-clause-err

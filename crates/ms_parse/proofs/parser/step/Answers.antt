@@ -5,13 +5,14 @@ use Rattle.ms_parse.specs.Stack.{stack_of}
 use Rattle.ms_parse.specs.States.{read_of, state_of}
 use Rattle.ms_parse.proofs.Stepping.{stepped_by}
 use Rattle.ms_parse.proofs.parser.step.Goals as goal
+use Rattle.ms_grammar.specs.Grammar.{greatest_depth}
 
 pub returns-in-Parameter : goal.returns-in-Parameter
 returns-in-Parameter c =
-    stepped_by c.args.file c.args.tokens.now (λ s. step (state_of (read_of c.args.made.now) (stack_of c.args.stack.now.items) s) (behind c.args.file c.args.tokens.now c.args.i))
+    stepped_by c.args.file c.args.tokens.now (λ s. step greatest_depth (state_of (read_of c.args.made.now) (stack_of c.args.stack.now.items) s) (behind c.args.file c.args.tokens.now c.args.i))
     c.args.state (states.Parameter c.in-Parameter.signature) c.args.made.now c.next_parameter.new.stack.items c.next_parameter.result c.in-Parameter.is (c.next_parameter.ensures c.args.made.now)
 
 pub returns-in-Summand : goal.returns-in-Summand
 returns-in-Summand c =
-    stepped_by c.args.file c.args.tokens.now (λ s. step (state_of (read_of c.args.made.now) (stack_of c.args.stack.now.items) s) (behind c.args.file c.args.tokens.now c.args.i))
+    stepped_by c.args.file c.args.tokens.now (λ s. step greatest_depth (state_of (read_of c.args.made.now) (stack_of c.args.stack.now.items) s) (behind c.args.file c.args.tokens.now c.args.i))
     c.args.state (states.Summand c.in-Summand.at c.in-Summand.at_name c.in-Summand.name c.in-Summand.sum) c.next_summand.new.made c.args.stack.now.items c.next_summand.result c.in-Summand.is (c.next_summand.ensures c.args.stack.now.items)

@@ -6,11 +6,12 @@ use Rattle.ms_grammar.specs.Tree.{and_part}
 use Rattle.ms_grammar.specs.View.{expression_of, parts_of}
 use Rattle.ms_parse.proofs.Begins.{as_taken}
 use Rattle.ms_parse.proofs.separate.begin_scope.Goals as goal
+use Rattle.ms_grammar.specs.Grammar.{greatest_depth}
 
 pub returns : goal.returns
 returns c context file lexed =
     let st = stack_of c.args.stack.now.items in
     let ts = behind file lexed c.args.i in
     let more = and_part (parts_of c.args.parts.list) c.args.at_name c.args.name (expression_of c.args.operand.expr) in
-    as_taken context file lexed (enter context (let_frame c.args.at c.args.order more) st ts) (enter context (let_frame c.args.at c.args.order (parts_of c.in_ok-list.field-0.list)) st ts) c.enter.new.stack.items c.enter.result
-    (ap (λ x. enter context (let_frame c.args.at c.args.order x) st ts) (sym c.in_ok-list.ensures.ok)) (c.enter.ensures context file lexed)
+    as_taken context file lexed (enter greatest_depth context (let_frame c.args.at c.args.order more) st ts) (enter greatest_depth context (let_frame c.args.at c.args.order (parts_of c.in_ok-list.field-0.list)) st ts) c.enter.new.stack.items c.enter.result
+    (ap (λ x. enter greatest_depth context (let_frame c.args.at c.args.order x) st ts) (sym c.in_ok-list.ensures.ok)) (c.enter.ensures context file lexed)

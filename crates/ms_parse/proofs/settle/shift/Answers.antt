@@ -6,6 +6,7 @@ use Rattle.ms_parse.specs.Stack.{stack_of}
 use Rattle.ms_grammar.specs.View.{expression_of}
 use Rattle.ms_parse.proofs.Begins.{as_taken, shift_entered}
 use Rattle.ms_parse.proofs.settle.shift.Goals as goal
+use Rattle.ms_grammar.specs.Grammar.{greatest_depth}
 
 pub returns : goal.returns
 returns c context file lexed =
@@ -13,5 +14,5 @@ returns c context file lexed =
     let e = expression_of c.args.left.expr in
     let ts = behind file lexed c.args.i in
     let high : left_level c.args.op ≤ level e = omega (arith, c.level.ensures, c.least_left.ensures) in
-    as_taken context file lexed (shift context c.args.op (e, st) ts) (enter context (left_frame c.args.op e) st ts) c.enter.new.stack.items c.enter.result
-    (shift_entered context c.args.op e st ts high) (c.enter.ensures context file lexed)
+    as_taken context file lexed (shift greatest_depth context c.args.op (e, st) ts) (enter greatest_depth context (left_frame c.args.op e) st ts) c.enter.new.stack.items c.enter.result
+    (shift_entered greatest_depth context c.args.op e st ts high) (c.enter.ensures context file lexed)

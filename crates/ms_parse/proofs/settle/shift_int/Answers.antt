@@ -7,6 +7,7 @@ use Rattle.ms_parse.specs.Stack.{stack_of}
 use Rattle.ms_parse.proofs.Begins.{as_taken}
 use Rattle.ms_parse.proofs.Joins.{int_shifted}
 use Rattle.ms_parse.proofs.settle.shift_int.Goals as goal
+use Rattle.ms_grammar.specs.Grammar.{greatest_depth}
 
 pub returns : goal.returns
 returns c context =
@@ -19,5 +20,5 @@ returns c context =
     let ts = behind file lexed c.in-Some.next in
     let starts : Starts true (int_symbol number.value) number.at from ts = search rules in
     let minus : number.minus ≡ c.args.minus = search rules in
-    as_taken context file lexed (shift_int context c.args.minus e st from) (shift_by context e st number ts) c.args.stack.now c.shift_by.result
-    (int_shifted context c.args.minus e st number from ts starts minus) (c.shift_by.ensures context file lexed)
+    as_taken context file lexed (shift_int greatest_depth context c.args.minus e st from) (shift_by greatest_depth context e st number ts) c.args.stack.now c.shift_by.result
+    (int_shifted greatest_depth context c.args.minus e st number from ts starts minus) (c.shift_by.ensures context file lexed)
