@@ -1,15 +1,6 @@
 -- The automaton's runs, step by step.
 use Rattle.std.proofs.Common.{arith, ◌≡◌, ℕ, zero, suc, true, List, Some, None, refl, sym, ap, ◌∙◌, subst}
-use Rattle.ms_text.specs.TokenList.{Lexed}
-use Rattle.std.specs.Prelude.{Err}
-use Rattle.ms_grammar.specs.Symbol.{Placed, symbols}
-use Rattle.ms_grammar.specs.View.{document_of}
-use Rattle.ms_parse.specs.declared.frame.Frame.{Frame}
-use Rattle.ms_parse.specs.declared.state.Parsed.{Parsed}
-use Rattle.ms_parse.specs.declared.stop.Stop.{Stop}
-use Rattle.ms_parse.specs.declared.stop.Stop.TheVariants as stops
-use Rattle.ms_parse.specs.Refused.{StopsAt}
-use Rattle.ms_parse.specs.States.{Stepped}
+use Rattle.ms_grammar.specs.Symbol.{Placed}
 use Rattle.ms_grammar.specs.Tree.{Document}
 use Rattle.ms_grammar.specs.Declarations.{Reads}
 use Rattle.ms_parse.specs.Machine.{State, outside, start, step, finished, goes_on, run, Runs}
@@ -50,10 +41,3 @@ reads_made all s ts d same done = of_grammar all d (runs_read greatest_depth (om
 -- the beginning
 pub starts_here : (limit : ℕ) (all ts : List Placed) (d : Document) → start all ≡ (d, ts) → SameRuns limit (outside (start all).0) (start all).1 (outside d) ts
 starts_here limit all ts d same = subst (λ (x : Document × List Placed). SameRuns limit (outside (start all).0) (start all).1 (outside x.0) x.1) same (same_runs limit (outside (start all).0) (start all).1)
-
--- where the code stops
-pub stops_at : (file : ℕ) (lexed : Lexed) (s : State) (ts : List Placed) (made : Parsed) (frames : List Frame) (stop : Stop) → SameRuns greatest_depth (outside (start (symbols file lexed)).0) (start (symbols file lexed)).1 s ts → finished s ts ≡ None
-    → Stepped file lexed (step greatest_depth s ts) made frames (Err stop) → StopsAt file lexed stop
-stops_at file lexed s ts made frames stops.Memory same more stepped = tt
-stops_at file lexed s ts made frames (stops.Refused i) same more stepped = λ source reads. reads_none (symbols file lexed) s ts same more stepped (document_of source) reads
-stops_at file lexed s ts made frames (stops.TooDeep i) same more stepped = λ source reads. reads_none (symbols file lexed) s ts same more stepped (document_of source) reads

@@ -1,16 +1,17 @@
 -- A number added to an expression, as the code takes it.
-use Rattle.std.proofs.Common.{◌≡◌, suc, ◌+◌, ◌<◌, ◌≤◌, leb, Bool, true, false, cond, ◌&&◌, ◌⊎◌, inl, inr, List, length, Some, None, refl, sym, ap, ◌∙◌, arith}
+use Rattle.std.proofs.Common.{◌≡◌, suc, ◌+◌, ◌<◌, ◌≤◌, leb, Bool, true, false, cond, ◌&&◌, ◌⊎◌, inl, inr, List, length, Some, None, refl, sym, ap, ◌∙◌, arith, [], ◌∷◌}
 use Rattle.std.proofs.lemmas.Bool.{le-leb, lt-leb}
 use Rattle.ms_logic.specs.declared.source.PlacedInt.{PlacedInt}
 use Rattle.ms_parse.specs.declared.frame.Frame.{Frame}
 use Rattle.ms_grammar.specs.Grammar.{level, depth}
-use Rattle.ms_parse.specs.Machine.{Context, Next, holding, shift_by}
+use Rattle.ms_parse.specs.Machine.{Context, Next, holding, shift_by, shift_int}
 use Rattle.ms_grammar.specs.Reads.{place}
 use Rattle.ms_parse.specs.Stack.{stack_of}
-use Rattle.ms_grammar.specs.Symbol.{Placed}
+use Rattle.ms_grammar.specs.Symbol.{Placed, placed, number, name}
 use Rattle.ms_grammar.specs.Tree.{Expression, shifted}
 use Rattle.ms_parse.proofs.Stacks.{stack_length}
 use Rattle.std.specs.Prelude.{ℕ}
+use Rattle.ms_logic.specs.declared.source.Int.TheVariants.{Number, Constant}
 
 and_none : (x : Next) (b : Bool) → cond (b && false) x None ≡ None
 and_none x true = refl
@@ -31,3 +32,10 @@ shift_taken limit c e made fs n ts (high, small) same =
     ap (λ b. cond (b && leb (length (stack_of fs) + suc (depth e)) limit) (Some (holding c (shifted (place e) e n) (stack_of fs), ts)) None) (le-leb 9 (level e) high)
     ∙ ap (λ b. cond b (Some (holding c (shifted (place e) e n) (stack_of fs), ts)) None) (le-leb (length (stack_of fs) + suc (depth e)) limit room)
     ∙ ap (λ x. Some (holding c x (stack_of fs), ts)) (sym same)
+
+-- an expression to which nothing can be added
+pub sum_refused : (limit : ℕ) (c : Context) (minus : Bool) (e : Expression) (fs : List Frame) (ts : List Placed) → (level e < 9) ⊎ (limit < length fs + suc (depth e)) → shift_int limit c minus e (stack_of fs) ts ≡ None
+sum_refused limit c minus e fs [] cannot = refl
+sum_refused limit c minus e fs (placed (number n) a ∷ ts) cannot = shift_refused limit c e fs (record { at = a; value = Number n; minus = minus }) ts cannot
+sum_refused limit c minus e fs (placed (name n) a ∷ ts) cannot = shift_refused limit c e fs (record { at = a; value = Constant n; minus = minus }) ts cannot
+sum_refused limit c minus e fs (placed _ a ∷ ts) cannot = refl

@@ -1,7 +1,7 @@
 -- The stack of the code with one more frame.
 use Rattle.ms_grammar.specs.Symbol.{Placed}
 use Rattle.std.proofs.lemmas.Bool.{le-leb, lt-leb}
-use Rattle.std.proofs.Common.{◌≡◌, ℕ, ◌+◌, List, [], ◌∷◌, ◌++◌, length, Option, Some, None, refl, sym, ap, ◌∙◌, arith, suc, max, ◌<◌, ◌≤◌, cond, take, get_or}
+use Rattle.std.proofs.Common.{◌≡◌, ◌≢◌, ℕ, ◌+◌, List, [], ◌∷◌, ◌++◌, length, Option, Some, None, refl, sym, ap, ◌∙◌, arith, suc, max, ◌<◌, ◌≤◌, cond, take, get_or}
 use Rattle.std.proofs.lemmas.List.{take_more}
 use Rattle.std.proofs.Math.Seq.{take-length}
 use Rattle.std.specs.Prelude.{MatchOption, option_to_list}
@@ -13,7 +13,7 @@ use Rattle.std.specs.Prelude.{Err}
 use Rattle.ms_parse.specs.declared.stop.Stop.{Stop}
 use Rattle.ms_parse.specs.declared.stop.Stop.TheVariants as stops
 use Rattle.ms_parse.specs.Outcomes.{Took}
-use Rattle.ms_parse.specs.Stack.{stack_on, stack_of, IsDepth}
+use Rattle.ms_parse.specs.Stack.{stack_on, stack_of}
 
 stack_push_on : (below : List machine.Frame) (fs : List Frame) (f : Frame) → stack_on below (fs ++ f ∷ []) ≡ frame_of f.opened ∷ stack_on below fs
 stack_push_on below [] f = refl
@@ -62,8 +62,14 @@ stack_frame fs n k d next within = ap (λ m. stack_of (take m fs)) next ∙ stac
 pub stack_top : (fs : List Frame) (k : ℕ) (d : Frame) → k + 1 ≡ length fs → stack_of fs ≡ frame_of (get_or fs k d).opened ∷ stack_of (take k fs)
 stack_top fs k d whole = stack_whole fs (k + 1) whole ∙ stack_frame fs (k + 1) k d refl (omega arith)
 
--- a refusal for the depth
-pub depth_refuses : (c : machine.Context) (file : ℕ) (lexed : Lexed) (next : machine.Next) (frames : List Frame) (stop : Stop) → IsDepth stop → next ≡ None → Took c file lexed next frames (Err stop)
-depth_refuses c file lexed next frames stops.Memory is none = absurd is
-depth_refuses c file lexed next frames (stops.Refused i) is none = absurd is
-depth_refuses c file lexed next frames (stops.TooDeep i) is none = none
+-- a step that is not taken
+pub none_taken : (c : machine.Context) (file : ℕ) (lexed : Lexed) (next : machine.Next) (frames : List Frame) (stop : Stop) → next ≡ None → Took c file lexed next frames (Err stop)
+none_taken c file lexed next frames stops.Memory none = tt
+none_taken c file lexed next frames (stops.Refused i) none = none
+none_taken c file lexed next frames (stops.TooDeep i) none = none
+
+-- a step that fails for something else than memory is not taken
+pub failed_taken : (c : machine.Context) (file : ℕ) (lexed : Lexed) (next : machine.Next) (frames : List Frame) (stop : Stop) → (stop ≢ stops.Memory → next ≡ None) → Took c file lexed next frames (Err stop)
+failed_taken c file lexed next frames stops.Memory none = tt
+failed_taken c file lexed next frames (stops.Refused i) none = none (λ same. let never : ⊥ = cc in never)
+failed_taken c file lexed next frames (stops.TooDeep i) none = none (λ same. let never : ⊥ = cc in never)

@@ -49,7 +49,7 @@ pub fn collapse(
     bound: u32,
     i: u32,
 ) -> Result<Operand, Stop>
-    ensures { CollapsesTo (collapse greatest_depth bound (expression_of operand.expr) (stack_of stack.old.items)) result stack.new.items }
+    ensures { CollapsesTo (collapse greatest_depth bound (expression_of operand.expr) (stack_of stack.old.items)) i result stack.new.items }
 {
     let mut held = operand;
     while let Some(frame) = pop_frame(stack) {
