@@ -1,3 +1,4 @@
+pub mod Continuation
 pub mod Declarations
 pub mod Grammar
 pub mod Reads

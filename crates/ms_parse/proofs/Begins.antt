@@ -26,63 +26,63 @@ use Rattle.ms_grammar.specs.declared.operator.Bracket.TheVariants.{Restriction, 
 use Rattle.ms_grammar.specs.declared.operator.Listing.TheVariants.{Call, Literal}
 use Rattle.ms_grammar.specs.Tree.{named, atom, listed, no_expressions, Parts, Expression, Expressions, and_expression}
 
-pub restrict_refused : (c : Context) (st : List machine.Frame) (at : At) (ts : List Placed) → IsNot open_round ts → begin_restrict c st at ts ≡ None
-restrict_refused c st at [] other = refl
-restrict_refused c st at (placed open_round a ∷ ts) other = absurd (other refl)
-restrict_refused c st at (placed _ a ∷ ts) other = refl
+pub restrict_refused : (limit : ℕ) (c : Context) (st : List machine.Frame) (at : At) (ts : List Placed) → IsNot open_round ts → begin_restrict limit c st at ts ≡ None
+restrict_refused limit c st at [] other = refl
+restrict_refused limit c st at (placed open_round a ∷ ts) other = absurd (other refl)
+restrict_refused limit c st at (placed _ a ∷ ts) other = refl
 
 -- another form of the same step
 pub as_taken : (c : Context) (file : ℕ) (lexed : Lexed) (next next' : machine.Next) (frames : List Frame) (r : Result (Outcome × ℕ) Stop) → next ≡ next' → Took c file lexed next' frames r → Took c file lexed next frames r
 as_taken c file lexed next next' frames r same took = subst (λ x. Took c file lexed x frames r) (sym same) took
 
-pub restrict_entered : (c : Context) (st : List machine.Frame) (at : At) (ts ts' : List Placed) → Follows open_round ts ts' → begin_restrict c st at ts ≡ enter c (bracket_frame at Restriction) st ts'
-restrict_entered c st at ts ts' follows = ap (begin_restrict c st at) follows.1
+pub restrict_entered : (limit : ℕ) (c : Context) (st : List machine.Frame) (at : At) (ts ts' : List Placed) → Follows open_round ts ts' → begin_restrict limit c st at ts ≡ enter limit c (bracket_frame at Restriction) st ts'
+restrict_entered limit c st at ts ts' follows = ap (begin_restrict limit c st at) follows.1
 
-pub name_stands : (c : Context) (st : List machine.Frame) (at : At) (n : List ℕ) (ts : List Placed) → IsNot open_round ts → begin_name c st at n ts ≡ Some (holding c (atom at (named n)) st, ts)
-name_stands c st at n [] other = refl
-name_stands c st at n (placed open_round a ∷ ts) other = absurd (other refl)
-name_stands c st at n (placed _ a ∷ ts) other = refl
+pub name_stands : (limit : ℕ) (c : Context) (st : List machine.Frame) (at : At) (n : List ℕ) (ts : List Placed) → IsNot open_round ts → begin_name limit c st at n ts ≡ Some (holding c (atom at (named n)) st, ts)
+name_stands limit c st at n [] other = refl
+name_stands limit c st at n (placed open_round a ∷ ts) other = absurd (other refl)
+name_stands limit c st at n (placed _ a ∷ ts) other = refl
 
-pub call_empty : (c : Context) (st : List machine.Frame) (at : At) (n : List ℕ) (ts f ts' : List Placed) → Follows open_round ts f → Follows close_round f ts' → begin_name c st at n ts ≡ Some (holding c (listed at (Call n) no_expressions) st, ts')
-call_empty c st at n ts f ts' opens closes = ap (begin_name c st at n) (opens.1 ∙ ap (λ x. placed open_round opens.0 ∷ x) closes.1)
+pub call_empty : (limit : ℕ) (c : Context) (st : List machine.Frame) (at : At) (n : List ℕ) (ts f ts' : List Placed) → Follows open_round ts f → Follows close_round f ts' → begin_name limit c st at n ts ≡ Some (holding c (listed at (Call n) no_expressions) st, ts')
+call_empty limit c st at n ts f ts' opens closes = ap (begin_name limit c st at n) (opens.1 ∙ ap (λ x. placed open_round opens.0 ∷ x) closes.1)
 
-call_more : (c : Context) (st : List machine.Frame) (at : At) (n : List ℕ) (a : At) (ts : List Placed) → IsNot close_round ts → begin_name c st at n (placed open_round a ∷ ts) ≡ enter c (list_frame at (Call n) no_expressions) st ts
-call_more c st at n a [] other = refl
-call_more c st at n a (placed close_round x ∷ ts) other = absurd (other refl)
-call_more c st at n a (placed _ x ∷ ts) other = refl
+call_more : (limit : ℕ) (c : Context) (st : List machine.Frame) (at : At) (n : List ℕ) (a : At) (ts : List Placed) → IsNot close_round ts → begin_name limit c st at n (placed open_round a ∷ ts) ≡ enter limit c (list_frame at (Call n) no_expressions) st ts
+call_more limit c st at n a [] other = refl
+call_more limit c st at n a (placed close_round x ∷ ts) other = absurd (other refl)
+call_more limit c st at n a (placed _ x ∷ ts) other = refl
 
-pub call_entered : (c : Context) (st : List machine.Frame) (at : At) (n : List ℕ) (ts f : List Placed) → Follows open_round ts f → IsNot close_round f → begin_name c st at n ts ≡ enter c (list_frame at (Call n) no_expressions) st f
-call_entered c st at n ts f opens other = ap (begin_name c st at n) opens.1 ∙ call_more c st at n opens.0 f other
+pub call_entered : (limit : ℕ) (c : Context) (st : List machine.Frame) (at : At) (n : List ℕ) (ts f : List Placed) → Follows open_round ts f → IsNot close_round f → begin_name limit c st at n ts ≡ enter limit c (list_frame at (Call n) no_expressions) st f
+call_entered limit c st at n ts f opens other = ap (begin_name limit c st at n) opens.1 ∙ call_more limit c st at n opens.0 f other
 
-pub empty_entered : (c : Context) (st : List machine.Frame) (at : At) (ts ts' : List Placed) → Follows open_round ts ts' → begin_empty c st at ts ≡ enter c (bracket_frame at Emptiness) st ts'
-empty_entered c st at ts ts' follows = ap (begin_empty c st at) follows.1
+pub empty_entered : (limit : ℕ) (c : Context) (st : List machine.Frame) (at : At) (ts ts' : List Placed) → Follows open_round ts ts' → begin_empty limit c st at ts ≡ enter limit c (bracket_frame at Emptiness) st ts'
+empty_entered limit c st at ts ts' follows = ap (begin_empty limit c st at) follows.1
 
-pub literal_entered : (c : Context) (st : List machine.Frame) (at : At) (ts : List Placed) → IsNot close_curly ts → begin_literal c st at ts ≡ enter c (list_frame at Literal no_expressions) st ts
-literal_entered c st at [] other = refl
-literal_entered c st at (placed close_curly a ∷ ts) other = absurd (other refl)
-literal_entered c st at (placed _ a ∷ ts) other = refl
+pub literal_entered : (limit : ℕ) (c : Context) (st : List machine.Frame) (at : At) (ts : List Placed) → IsNot close_curly ts → begin_literal limit c st at ts ≡ enter limit c (list_frame at Literal no_expressions) st ts
+literal_entered limit c st at [] other = refl
+literal_entered limit c st at (placed close_curly a ∷ ts) other = absurd (other refl)
+literal_entered limit c st at (placed _ a ∷ ts) other = refl
 
-pub export_entered : (c : Context) (st : List machine.Frame) (at at_text : At) (file : List ℕ) (ts f g g' ts' : List Placed) → Follows open_round ts f → f ≡ placed (text file) at_text ∷ g → g ≡ g' → Follows comma g' ts'
-    → begin_export c st at ts ≡ enter c (bracket_frame at (Export at_text file)) st ts'
-export_entered c st at at_text file ts f g g' ts' opens texts same follows =
-    ap (begin_export c st at) (opens.1 ∙ ap (λ x. placed open_round opens.0 ∷ x) (texts ∙ ap (λ x. placed (text file) at_text ∷ x) (same ∙ follows.1)))
+pub export_entered : (limit : ℕ) (c : Context) (st : List machine.Frame) (at at_text : At) (file : List ℕ) (ts f g g' ts' : List Placed) → Follows open_round ts f → f ≡ placed (text file) at_text ∷ g → g ≡ g' → Follows comma g' ts'
+    → begin_export limit c st at ts ≡ enter limit c (bracket_frame at (Export at_text file)) st ts'
+export_entered limit c st at at_text file ts f g g' ts' opens texts same follows =
+    ap (begin_export limit c st at) (opens.1 ∙ ap (λ x. placed open_round opens.0 ∷ x) (texts ∙ ap (λ x. placed (text file) at_text ∷ x) (same ∙ follows.1)))
 
-no_comma : (c : Context) (st : List machine.Frame) (at at_text a : At) (file : List ℕ) (ts : List Placed) → IsNot comma ts → begin_export c st at (placed open_round a ∷ placed (text file) at_text ∷ ts) ≡ None
-no_comma c st at at_text a file [] other = refl
-no_comma c st at at_text a file (placed comma x ∷ ts) other = absurd (other refl)
-no_comma c st at at_text a file (placed _ x ∷ ts) other = refl
+no_comma : (limit : ℕ) (c : Context) (st : List machine.Frame) (at at_text a : At) (file : List ℕ) (ts : List Placed) → IsNot comma ts → begin_export limit c st at (placed open_round a ∷ placed (text file) at_text ∷ ts) ≡ None
+no_comma limit c st at at_text a file [] other = refl
+no_comma limit c st at at_text a file (placed comma x ∷ ts) other = absurd (other refl)
+no_comma limit c st at at_text a file (placed _ x ∷ ts) other = refl
 
-pub export_refused : (c : Context) (st : List machine.Frame) (at at_text : At) (file : List ℕ) (ts f g g' : List Placed) → Follows open_round ts f → f ≡ placed (text file) at_text ∷ g → g ≡ g' → IsNot comma g' → begin_export c st at ts ≡ None
-export_refused c st at at_text file ts f g g' opens texts same other =
-    ap (begin_export c st at) (opens.1 ∙ ap (λ x. placed open_round opens.0 ∷ x) (texts ∙ ap (λ x. placed (text file) at_text ∷ x) same)) ∙ no_comma c st at at_text opens.0 file g' other
+pub export_refused : (limit : ℕ) (c : Context) (st : List machine.Frame) (at at_text : At) (file : List ℕ) (ts f g g' : List Placed) → Follows open_round ts f → f ≡ placed (text file) at_text ∷ g → g ≡ g' → IsNot comma g' → begin_export limit c st at ts ≡ None
+export_refused limit c st at at_text file ts f g g' opens texts same other =
+    ap (begin_export limit c st at) (opens.1 ∙ ap (λ x. placed open_round opens.0 ∷ x) (texts ∙ ap (λ x. placed (text file) at_text ∷ x) same)) ∙ no_comma limit c st at at_text opens.0 file g' other
 
-no_text_export : (c : Context) (st : List machine.Frame) (at a : At) (ts : List Placed) → NoText ts → begin_export c st at (placed open_round a ∷ ts) ≡ None
-no_text_export c st at a [] other = refl
-no_text_export c st at a (placed (text t) x ∷ ts) other = absurd other
-no_text_export c st at a (placed _ x ∷ ts) other = refl
+no_text_export : (limit : ℕ) (c : Context) (st : List machine.Frame) (at a : At) (ts : List Placed) → NoText ts → begin_export limit c st at (placed open_round a ∷ ts) ≡ None
+no_text_export limit c st at a [] other = refl
+no_text_export limit c st at a (placed (text t) x ∷ ts) other = absurd other
+no_text_export limit c st at a (placed _ x ∷ ts) other = refl
 
-pub export_without : (c : Context) (st : List machine.Frame) (at : At) (ts f : List Placed) → Follows open_round ts f → NoText f → begin_export c st at ts ≡ None
-export_without c st at ts f opens other = ap (begin_export c st at) opens.1 ∙ no_text_export c st at opens.0 f other
+pub export_without : (limit : ℕ) (c : Context) (st : List machine.Frame) (at : At) (ts f : List Placed) → Follows open_round ts f → NoText f → begin_export limit c st at ts ≡ None
+export_without limit c st at ts f opens other = ap (begin_export limit c st at) opens.1 ∙ no_text_export limit c st at opens.0 f other
 
 no_text_import : (c : Context) (st : List machine.Frame) (at a : At) (ts : List Placed) → NoText ts → begin_import c st at (placed open_round a ∷ ts) ≡ None
 no_text_import c st at a [] other = refl
@@ -97,13 +97,13 @@ pub import_begun : (c : Context) (st : List machine.Frame) (at at_text : At) (fi
 import_begun c st at at_text file ts f g g' opens texts same =
     ap (begin_import c st at) (opens.1 ∙ ap (λ x. placed open_round opens.0 ∷ x) (texts ∙ ap (λ x. placed (text file) at_text ∷ x) same))
 
-pub part_entered : (c : Context) (st : List machine.Frame) (at at_n : At) (o : Order) (parts : Parts) (n : List ℕ) (ts g g' ts' : List Placed) → ts ≡ placed (name n) at_n ∷ g → g ≡ g' → Follows (infix_operator (Relation Equal)) g' ts'
-    → next_part c st at o parts ts ≡ enter c (part_frame at o parts at_n n) st ts'
-part_entered c st at at_n o parts n ts g g' ts' names same follows =
-    ap (next_part c st at o parts) (names ∙ ap (λ x. placed (name n) at_n ∷ x) (same ∙ follows.1))
+pub part_entered : (limit : ℕ) (c : Context) (st : List machine.Frame) (at at_n : At) (o : Order) (parts : Parts) (n : List ℕ) (ts g g' ts' : List Placed) → ts ≡ placed (name n) at_n ∷ g → g ≡ g' → Follows (infix_operator (Relation Equal)) g' ts'
+    → next_part limit c st at o parts ts ≡ enter limit c (part_frame at o parts at_n n) st ts'
+part_entered limit c st at at_n o parts n ts g g' ts' names same follows =
+    ap (next_part limit c st at o parts) (names ∙ ap (λ x. placed (name n) at_n ∷ x) (same ∙ follows.1))
 
-pub shift_entered : (c : Context) (op : Binary) (e : Expression) (st : List machine.Frame) (ts : List Placed) → left_level op ≤ level e → machine.shift c op (e, st) ts ≡ enter c (machine.left_frame op e) st ts
-shift_entered c op e st ts high = ap (λ b. cond b (enter c (machine.left_frame op e) st ts) None) (le-leb (left_level op) (level e) high)
+pub shift_entered : (limit : ℕ) (c : Context) (op : Binary) (e : Expression) (st : List machine.Frame) (ts : List Placed) → left_level op ≤ level e → machine.shift limit c op (e, st) ts ≡ enter limit c (machine.left_frame op e) st ts
+shift_entered limit c op e st ts high = ap (λ b. cond b (enter limit c (machine.left_frame op e) st ts) None) (le-leb (left_level op) (level e) high)
 
 -- `, left -> right`
 pub pair_read : (c : Context) (st : List machine.Frame) (at : At) (file : List ℕ) (pairs new : List Rename) (p : Rename) (ts f1 f2 f2' f3 f4 f4' : List Placed) → Follows comma ts f1 → f1 ≡ placed (name p.left) p.at ∷ f2 → f2 ≡ f2' → Follows arrow f2' f3
@@ -123,12 +123,12 @@ pub pair_without : (c : Context) (st : List machine.Frame) (at a2 : At) (file l 
 pair_without c st at a2 file l pairs ts f1 f2 f2' f3 commas left same arrows other =
     ap (next_pair c st at file pairs) (commas.1 ∙ ap (λ x. placed comma commas.0 ∷ x) (left ∙ ap (λ x. placed (name l) a2 ∷ x) (same ∙ arrows.1))) ∙ no_right c st at commas.0 a2 arrows.0 file l pairs f3 other
 
-pub join_entered : (c : Context) (op : Junction) (at : At) (es : Expressions) (e : Expression) (st : List machine.Frame) (ts : List Placed) → suc (junction_level op) ≤ level e → at ≡ place e → es ≡ and_expression no_expressions e
-    → machine.join_new c op e st ts ≡ enter c (machine.joined_frame at op es) st ts
-join_entered c op at es e st ts high begins pushed =
-    ap (λ b. cond b (enter c (machine.joined_frame (place e) op (and_expression no_expressions e)) st ts) None) (le-leb (suc (junction_level op)) (level e) high)
-    ∙ ap (λ x. enter c (machine.joined_frame x op (and_expression no_expressions e)) st ts) (sym begins)
-    ∙ ap (λ x. enter c (machine.joined_frame at op x) st ts) (sym pushed)
+pub join_entered : (limit : ℕ) (c : Context) (op : Junction) (at : At) (es : Expressions) (e : Expression) (st : List machine.Frame) (ts : List Placed) → suc (junction_level op) ≤ level e → at ≡ place e → es ≡ and_expression no_expressions e
+    → machine.join_new limit c op e st ts ≡ enter limit c (machine.joined_frame at op es) st ts
+join_entered limit c op at es e st ts high begins pushed =
+    ap (λ b. cond b (enter limit c (machine.joined_frame (place e) op (and_expression no_expressions e)) st ts) None) (le-leb (suc (junction_level op)) (level e) high)
+    ∙ ap (λ x. enter limit c (machine.joined_frame x op (and_expression no_expressions e)) st ts) (sym begins)
+    ∙ ap (λ x. enter limit c (machine.joined_frame at op x) st ts) (sym pushed)
 
 -- a step in a frame that is known
 pub in_frame : (c : Context) (file : ℕ) (lexed : Lexed) (next : Opened → machine.Next) (opened is : Opened) (frames : List Frame) (r : Result (Outcome × ℕ) Stop) → opened ≡ is → Took c file lexed (next is) frames r

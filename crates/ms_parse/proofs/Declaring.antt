@@ -152,16 +152,16 @@ other_word signs.Include kinds const predicates include defaults = include refl
 other_word (signs.Default o) kinds const predicates include defaults = defaults o refl
 other_word _ kinds const predicates include defaults = tt
 
-formula_by : (d : Document) (at : At) (s : Sign) (bytes : List ℕ) (ts : List Placed) → IsOtherWord s → step (outside d) (placed (symbol_with s bytes) at ∷ ts) ≡ step (wanted (in_formula d at) []) (placed (symbol_with s bytes) at ∷ ts)
-formula_by d at (signs.Variables o) bytes ts other = absurd other
-formula_by d at signs.Const bytes ts other = absurd other
-formula_by d at (signs.Predicate is_pred) bytes ts other = absurd other
-formula_by d at signs.Include bytes ts other = absurd other
-formula_by d at (signs.Default o) bytes ts other = absurd other
-formula_by d at _ bytes ts other = refl
+formula_by : (limit : ℕ) (d : Document) (at : At) (s : Sign) (bytes : List ℕ) (ts : List Placed) → IsOtherWord s → step limit (outside d) (placed (symbol_with s bytes) at ∷ ts) ≡ step limit (wanted (in_formula d at) []) (placed (symbol_with s bytes) at ∷ ts)
+formula_by limit d at (signs.Variables o) bytes ts other = absurd other
+formula_by limit d at signs.Const bytes ts other = absurd other
+formula_by limit d at (signs.Predicate is_pred) bytes ts other = absurd other
+formula_by limit d at signs.Include bytes ts other = absurd other
+formula_by limit d at (signs.Default o) bytes ts other = absurd other
+formula_by limit d at _ bytes ts other = refl
 
-pub formula_begun : (d : Document) (at : At) (s : Sign) (bytes : List ℕ) (ts g : List Placed) → IsOtherWord s → ts ≡ placed (symbol_with s bytes) at ∷ g → step (outside d) ts ≡ step (wanted (in_formula d at) []) ts
-formula_begun d at s bytes ts g other next = ap (step (outside d)) next ∙ formula_by d at s bytes g other ∙ sym (ap (step (wanted (in_formula d at) [])) next)
+pub formula_begun : (limit : ℕ) (d : Document) (at : At) (s : Sign) (bytes : List ℕ) (ts g : List Placed) → IsOtherWord s → ts ≡ placed (symbol_with s bytes) at ∷ g → step limit (outside d) ts ≡ step limit (wanted (in_formula d at) []) ts
+formula_begun limit d at s bytes ts g other next = ap (step limit (outside d)) next ∙ formula_by limit d at s bytes g other ∙ sym (ap (step limit (wanted (in_formula d at) [])) next)
 
-pub declaration_read : (d : Document) (at : At) (s is : Sign) (bytes : List ℕ) (ts g g' : List Placed) → s ≡ is → ts ≡ placed (symbol_with s bytes) at ∷ g → g ≡ g' → step (outside d) ts ≡ step (outside d) (placed (symbol_with is bytes) at ∷ g')
-declaration_read d at s is bytes ts g g' same next here = ap (step (outside d)) (next ∙ ap (λ x. placed (symbol_with x bytes) at ∷ g) same ∙ ap (λ x. placed (symbol_with is bytes) at ∷ x) here)
+pub declaration_read : (limit : ℕ) (d : Document) (at : At) (s is : Sign) (bytes : List ℕ) (ts g g' : List Placed) → s ≡ is → ts ≡ placed (symbol_with s bytes) at ∷ g → g ≡ g' → step limit (outside d) ts ≡ step limit (outside d) (placed (symbol_with is bytes) at ∷ g')
+declaration_read limit d at s is bytes ts g g' same next here = ap (step limit (outside d)) (next ∙ ap (λ x. placed (symbol_with x bytes) at ∷ g) same ∙ ap (λ x. placed (symbol_with is bytes) at ∷ x) here)

@@ -9,8 +9,9 @@ use Rattle.ms_grammar.specs.Symbol.{name, infix_operator, sign, kind, comma, sem
 use Rattle.ms_grammar.specs.declared.operator.Binary.TheVariants.{Relation}
 use Rattle.ms_grammar.specs.Tree.{Expression, Expressions, no_expressions, and_expression, Variables, no_variables, and_variable, Domain, unrestricted, Parts, no_parts, and_part, Declared}
 use Rattle.ms_grammar.specs.Reads.{Starts, Follows, ReadsInt, ReadsPairs, ReadsExpression, ReadsList, ReadsDomain, ReadsVariables, ReadsParts}
-use Rattle.ms_grammar.specs.Declarations.{ReadsKind, ReadsParameters, ReadsFurther, ReadsSum, ReadsDeclaration, BeginsAt, ReadsDeclarations, AreDomains, IsDeclaration, AreDeclarations}
+use Rattle.ms_grammar.specs.Declarations.{ReadsKind, ReadsParameters, ReadsFurther, ReadsSum, ReadsDeclaration, BeginsAt, ReadsDeclarations}
 use Rattle.ms_parse.proofs.Frames.{EntriesSoFar, VariablesSoFar, PartsSoFar}
+use Rattle.ms_parse.proofs.Limits.{AreDomainsWithin, IsDeclarationWithin, AreDeclarationsWithin}
 
 pub entries_extended : (es : Expressions) (e : Expression) (from m ts : List Placed) → EntriesSoFar es from m → ReadsExpression true e m ts → ReadsList true (and_expression es e) from ts
 entries_extended no_expressions e from m ts so_far reads = subst (λ f. ReadsExpression true e f ts) (sym so_far) reads
@@ -40,8 +41,8 @@ pub parameters_extended : (vs : Variables) (at : At) (o : Order) (n : List ℕ) 
 parameters_extended no_variables at o n d from g h i ts so_far kinds starts reads = (h, i, subst (λ f. Follows (kind o) f h) (sym so_far) kinds, starts, reads)
 parameters_extended (and_variable vs at' o' n' d') at o n d from g h i ts (f, read_vs, follow) kinds starts reads = (f, g, h, i, read_vs, follow, kinds, starts, reads)
 
-pub domains_extended : (vs : Variables) (at : At) (o : Order) (n : List ℕ) → AreDomains vs → AreDomains (and_variable vs at o n unrestricted)
-domains_extended vs at o n good = good
+pub domains_extended : (limit : ℕ) (vs : Variables) (at : At) (o : Order) (n : List ℕ) → AreDomainsWithin limit vs → AreDomainsWithin limit (and_variable vs at o n unrestricted)
+domains_extended limit vs at o n good = good
 
 pub pairs_extended : (pairs : List Rename) (p : Rename) (from f1 f2 f3 f4 ts : List Placed) → ReadsPairs true pairs from f1 → Follows comma f1 f2 → Starts true (name p.left) p.at f2 f3
     → Follows arrow f3 f4 → Starts true (name p.right) p.at_right f4 ts → ReadsPairs true (pairs ++ p ∷ []) from ts
@@ -64,6 +65,6 @@ declarations_extended [] d from f1 f2 ts so_far begins reads ends =
 declarations_extended (x ∷ xs) d from f1 f2 ts (g1, g2, a, b, c, further) begins reads ends =
     (g1, g2, a, b, c, declarations_extended xs d g2 f1 f2 ts further begins reads ends)
 
-pub all_declared : (ds : List Declared) (d : Declared) → AreDeclarations ds → IsDeclaration d.declaration → AreDeclarations (ds ++ d ∷ [])
-all_declared [] d good is = (is, tt)
-all_declared (x ∷ xs) d good is = (good.0, all_declared xs d good.1 is)
+pub all_declared : (limit : ℕ) (ds : List Declared) (d : Declared) → AreDeclarationsWithin limit ds → IsDeclarationWithin limit d.declaration → AreDeclarationsWithin limit (ds ++ d ∷ [])
+all_declared limit [] d good is = (is, tt)
+all_declared limit (x ∷ xs) d good is = (good.0, all_declared limit xs d good.1 is)

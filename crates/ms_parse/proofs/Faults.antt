@@ -18,7 +18,10 @@ use Rattle.ms_text.specs.TokenList.{Lexed, slice_of}
 use Rattle.ms_grammar.specs.Symbol.{Symbol, name, left_out, symbol_of, word_symbol, mark_symbol, Placed, placed, symbols}
 use Rattle.ms_parse.specs.Punctuations.{IsNot}
 use Rattle.ms_parse.specs.Signs.{behind, IsNext, NoName}
-use Rattle.ms_parse.specs.Refused.{StandsAt, IsLanguage}
+use Rattle.ms_parse.specs.Refused.{IsMisplaced, IsTooDeepAt, IsLanguage, end_of, EndsEarly}
+use Rattle.ms_parse.specs.Stops.{Misplaces, Deepens, MisplacesAt, DeepensAt}
+use Rattle.ms_grammar.specs.Continuation.{CanFollow}
+use Rattle.std.proofs.lemmas.List.{append-nil}
 use Rattle.ms_parse.proofs.Inputs.{of_token, name_is_utf8, sign_next}
 
 pub not_named : (n : List ℕ) (ts : List Placed) → NoName ts → IsNot (name n) ts
@@ -34,7 +37,7 @@ pub left_out_symbol : (lexed : Lexed) (i : ℕ) (token : Token) (bytes made : Li
 left_out_symbol lexed i token bytes made found is sliced same =
     ap (λ k. symbol_of k (slice_of lexed token)) is ∙ ap left_out (sym (same ∙ of_token lexed i token (λ t. bytes ≡ slice_of lexed t) found sliced))
 
-cut : (xs : List Placed) (i : ℕ) → xs ≡ take i xs ++ drop i xs
+pub cut : (xs : List Placed) (i : ℕ) → xs ≡ take i xs ++ drop i xs
 cut [] zero = refl
 cut [] (suc i) = refl
 cut (x ∷ xs) zero = refl
@@ -63,17 +66,49 @@ in_language (kinds.Number n) slice other = tt
 in_language kinds.Text slice other = tt
 in_language (kinds.Mark m) slice other = no_left_mark m
 
--- a token of the language stands there
-pub language_stands : (file : ℕ) (lexed : Lexed) (i : ℕ) (token : Token) (at : At) → slice_get lexed.tokens i ≡ Some token → token.kind ≢ kinds.LeftOut → at ≡ record { file = file; place = token.place }
-    → (s : Symbol) × StandsAt file lexed s at × IsLanguage s
-language_stands file lexed i token at found other here =
-    let s = symbol_of token.kind (slice_of lexed token) in
-    (s, (take i (symbols file lexed), behind file lexed (suc i), stands_among file lexed i s at (sign_next file lexed i token s at found refl here)), in_language token.kind (slice_of lexed token) other)
+-- the symbol of a token
+abbrev pub symbol_at : Lexed → Token → Symbol
+symbol_at lexed token = symbol_of token.kind (slice_of lexed token)
 
-pub token_stands : (file : ℕ) (lexed : Lexed) (i : ℕ) (token : Token) (at : At) → slice_get lexed.tokens i ≡ Some token → at ≡ record { file = file; place = token.place } → (s : Symbol) × StandsAt file lexed s at
-token_stands file lexed i token at found here =
-    let s = symbol_of token.kind (slice_of lexed token) in
-    (s, (take i (symbols file lexed), behind file lexed (suc i), stands_among file lexed i s at (sign_next file lexed i token s at found refl here)))
+pub token_next : (file : ℕ) (lexed : Lexed) (i : ℕ) (token : Token) (at : At) → slice_get lexed.tokens i ≡ Some token → at ≡ record { file = file; place = token.place } → IsNext file lexed i (symbol_at lexed token) at
+token_next file lexed i token at found here = sign_next file lexed i token (symbol_at lexed token) at found refl here
+
+-- the symbol of the token with this number cannot stand there
+pub misplaced_at : (file : ℕ) (lexed : Lexed) (i : ℕ) (s : Symbol) (at : At) → IsNext file lexed i s at → MisplacesAt file lexed i → IsMisplaced file lexed s at
+misplaced_at file lexed i s at next is =
+    let facts = subst (Misplaces (take i (symbols file lexed))) next is in
+    record { before = take i (symbols file lexed); stands = (behind file lexed (suc i), stands_among file lexed i s at next); can_follow = facts.0; cannot_follow = facts.1 }
+
+-- a token of the language
+pub language_misplaced : (file : ℕ) (lexed : Lexed) (i : ℕ) (token : Token) (at : At) → slice_get lexed.tokens i ≡ Some token → token.kind ≢ kinds.LeftOut → at ≡ record { file = file; place = token.place }
+    → MisplacesAt file lexed i → (s : Symbol) × IsMisplaced file lexed s at × IsLanguage s
+language_misplaced file lexed i token at found other here is =
+    (symbol_at lexed token, misplaced_at file lexed i (symbol_at lexed token) at (token_next file lexed i token at found here) is, in_language token.kind (slice_of lexed token) other)
+
+-- no token is left
+pub ends_early : (file : ℕ) (lexed : Lexed) (i : ℕ) (at : At) → behind file lexed i ≡ [] → at ≡ end_of file lexed → MisplacesAt file lexed i → EndsEarly file lexed at
+ends_early file lexed i at nothing here is =
+    let whole : symbols file lexed ≡ take i (symbols file lexed) = cut (symbols file lexed) i ∙ ap (λ l. take i (symbols file lexed) ++ l) nothing ∙ append-nil (take i (symbols file lexed)) in
+    record { is_end = here; can_follow = subst CanFollow (sym whole) (subst (Misplaces (take i (symbols file lexed))) nothing is) }
+
+-- an expression is too deep with the symbol of the token with this number
+pub too_deep_at : (file : ℕ) (lexed : Lexed) (i : ℕ) (token : Token) (at : At) → slice_get lexed.tokens i ≡ Some token → at ≡ record { file = file; place = token.place } → DeepensAt file lexed i → (s : Symbol) × IsTooDeepAt file lexed s at
+too_deep_at file lexed i token at found here is =
+    let next = token_next file lexed i token at found here in
+    let facts = subst (Deepens (take i (symbols file lexed))) next is in (
+      symbol_at lexed token,
+      record {
+        before = take i (symbols file lexed);
+        stands = (behind file lexed (suc i), stands_among file lexed i (symbol_at lexed token) at next);
+        can_follow = facts.0;
+        cannot_follow = facts.1;
+        can_follow_deeper = facts.2;
+      },
+    )
+
+-- with none left it is not
+pub end_not_deep : (file : ℕ) (lexed : Lexed) (i : ℕ) → behind file lexed i ≡ [] → DeepensAt file lexed i → ⊥
+end_not_deep file lexed i nothing is = subst (Deepens (take i (symbols file lexed))) nothing is
 
 left_out_utf8 : (w : LeftOutWord) → IsUtf8 (left_out_spelling w)
 left_out_utf8 others.Ws2s = name_is_utf8 (codes "ws2s") refl

@@ -55,18 +55,18 @@ FrameGood st (part_frame at o parts at_n n) = (need st ≤ 4) × HaveGrammatical
 FrameGood st (let_frame at o parts) = (need st ≤ 4) × HaveGrammaticalValues parts × IsPartList parts
 
 -- the symbols of the whole stack
-abbrev pub InFrames : List Frame → List Placed → List Placed → Type 0
-InFrames [] from ts = from ≡ ts
-InFrames (f ∷ st) from ts = (m : List Placed) × InFrames st from m × FrameReads f m ts × FrameGood st f × (suc (length st) + frame_depth f ≤ 300)
+abbrev pub InFrames : ℕ → List Frame → List Placed → List Placed → Type 0
+InFrames limit [] from ts = from ≡ ts
+InFrames limit (f ∷ st) from ts = (m : List Placed) × InFrames limit st from m × FrameReads f m ts × FrameGood st f × (suc (length st) + frame_depth f ≤ limit)
 
 -- an expression has been read on the stack
-pub record Held (e : Expression) (st : List Frame) (from ts : List Placed) : Type 0 where
+pub record Held (limit : ℕ) (e : Expression) (st : List Frame) (from ts : List Placed) : Type 0 where
   pub middle : List Placed
-  pub frames : InFrames st from middle
+  pub frames : InFrames limit st from middle
   pub reads : ReadsExpression true e middle ts
   pub grammatical : IsGrammatical e
   pub needs : need st ≤ level e
-  pub deep : length st + depth e ≤ 300
+  pub deep : length st + depth e ≤ limit
   pub quiet : in_part st ≡ true → has_bare_in e ≡ false
 
 pub both_false : (a b : Bool) → a ≡ false → b ≡ false → (a || b) ≡ false
@@ -78,11 +78,11 @@ values_quiet no_parts good = refl
 values_quiet (and_part parts at n value) good = both_false (part_bare_in parts) (has_bare_in value) (values_quiet parts good.0) good.1
 
 -- a frame that ends is completed
-completed_held : (b : ℕ) (f : Frame) (e : Expression) (st : List Frame) (from ts : List Placed) → ends b f ≡ true → Held e (f ∷ st) from ts → Held (completed f e) st from ts
-completed_held b (prefix_frame at op) e st from ts is held =
+completed_held : (limit : ℕ) (b : ℕ) (f : Frame) (e : Expression) (st : List Frame) (from ts : List Placed) → ends b f ≡ true → Held limit e (f ∷ st) from ts → Held limit (completed f e) st from ts
+completed_held limit b (prefix_frame at op) e st from ts is held =
     let (m, below, starts, low, deep) = held.frames in
     record { middle = m; frames = below; reads = (held.middle, starts, held.reads); grammatical = (held.needs, held.grammatical); needs = low; deep = omega (arith, held.deep); quiet = held.quiet }
-completed_held b (left_frame op l) e st from ts is held =
+completed_held limit b (left_frame op l) e st from ts is held =
     let (m, below, reads, good, deep) = held.frames in
     record {
       middle = m;
@@ -93,8 +93,8 @@ completed_held b (left_frame op l) e st from ts is held =
       deep = omega (arith, held.deep, deep);
       quiet = λ p. both_false (is_in op || has_bare_in l) (has_bare_in e) (good.4 p) (held.quiet p);
     }
-completed_held b (joined_frame at op no_expressions) e st from ts is held = absurd (held.frames.2.2)
-completed_held b (joined_frame at op (and_expression es x)) e st from ts is held =
+completed_held limit b (joined_frame at op no_expressions) e st from ts is held = absurd (held.frames.2.2)
+completed_held limit b (joined_frame at op (and_expression es x)) e st from ts is held =
     let (m, below, reads, good, deep) = held.frames in
     record {
       middle = m;
@@ -105,10 +105,10 @@ completed_held b (joined_frame at op (and_expression es x)) e st from ts is held
       deep = omega (arith, held.deep, deep);
       quiet = λ p. both_false (some_bare_in (and_expression es x)) (has_bare_in e) (good.3 p) (held.quiet p);
     }
-completed_held b (bracket_frame at x) e st from ts is held = absurd (false≢true is)
-completed_held b (list_frame at l es) e st from ts is held = absurd (false≢true is)
-completed_held b (domain_frame at q o vs at_v n) e st from ts is held = absurd (false≢true is)
-completed_held b (body_frame at q o vs) e st from ts is held =
+completed_held limit b (bracket_frame at x) e st from ts is held = absurd (false≢true is)
+completed_held limit b (list_frame at l es) e st from ts is held = absurd (false≢true is)
+completed_held limit b (domain_frame at q o vs at_v n) e st from ts is held = absurd (false≢true is)
+completed_held limit b (body_frame at q o vs) e st from ts is held =
     let (m, below, reads, good, deep) = held.frames in
     record {
       middle = m;
@@ -119,8 +119,8 @@ completed_held b (body_frame at q o vs) e st from ts is held =
       deep = omega (arith, held.deep, deep);
       quiet = λ p. both_false (domain_bare_in vs) (has_bare_in e) (good.3 p) (held.quiet p);
     }
-completed_held b (part_frame at o parts at_n n) e st from ts is held = absurd (false≢true is)
-completed_held b (let_frame at o parts) e st from ts is held =
+completed_held limit b (part_frame at o parts at_n n) e st from ts is held = absurd (false≢true is)
+completed_held limit b (let_frame at o parts) e st from ts is held =
     let (m, below, reads, good, deep) = held.frames in
     record {
       middle = m;
@@ -159,8 +159,8 @@ abbrev pub Stands : ℕ → List Frame → Type 0
 Stands b [] = Unit {0}
 Stands b (f ∷ st) = ends b f ≡ false
 
-pub record Collapsed (b : ℕ) (inside : Bool) (top : Expression × List Frame) (from ts : List Placed) : Type 0 where
-  pub held : Held top.0 top.1 from ts
+pub record Collapsed (limit : ℕ) (b : ℕ) (inside : Bool) (top : Expression × List Frame) (from ts : List Placed) : Type 0 where
+  pub held : Held limit top.0 top.1 from ts
   pub closed : 1 ≤ b → ends_open top.0 ≡ false
   pub stands : Stands b top.1
   pub same_part : in_part top.1 ≡ inside
@@ -171,16 +171,16 @@ chosen P true x y one other = one refl
 chosen P false x y one other = other refl
 
 -- what has been completed, if it is not too deep
-abbrev pub CollapsedTo : ℕ → Bool → Option Top → List Placed → List Placed → Type 0
-CollapsedTo b inside None from ts = Unit {0}
-CollapsedTo b inside (Some top) from ts = Collapsed b inside top from ts
+abbrev pub CollapsedTo : ℕ → ℕ → Bool → Option Top → List Placed → List Placed → Type 0
+CollapsedTo limit b inside None from ts = Unit {0}
+CollapsedTo limit b inside (Some top) from ts = Collapsed limit b inside top from ts
 
-pub collapsed : (b : ℕ) (st : List Frame) (e : Expression) (from ts : List Placed) → Held e st from ts → (1 ≤ b → ends_open e ≡ false) → CollapsedTo b (in_part st) (collapse b e st) from ts
-collapsed b [] e from ts held closed = record { held = held; closed = closed; stands = tt; same_part = refl }
-collapsed b (f ∷ st) e from ts held closed =
-    chosen (λ top. CollapsedTo b (in_part (f ∷ st)) top from ts) (ends b f) (cond (leb (depth (completed f e)) 300) (collapse b (completed f e) st) None) (Some (e, f ∷ st))
-    (λ is. chosen (λ top. CollapsedTo b (in_part (f ∷ st)) top from ts) (leb (depth (completed f e)) 300) (collapse b (completed f e) st) None
-    (λ small. subst (λ p. CollapsedTo b p (collapse b (completed f e) st) from ts) (sym (below_part b f st is))
-    (collapsed b st (completed f e) from ts (completed_held b f e st from ts is held) (λ some. completed_closed b f e is some (closed some))))
+pub collapsed : (limit : ℕ) (b : ℕ) (st : List Frame) (e : Expression) (from ts : List Placed) → Held limit e st from ts → (1 ≤ b → ends_open e ≡ false) → CollapsedTo limit b (in_part st) (collapse limit b e st) from ts
+collapsed limit b [] e from ts held closed = record { held = held; closed = closed; stands = tt; same_part = refl }
+collapsed limit b (f ∷ st) e from ts held closed =
+    chosen (λ top. CollapsedTo limit b (in_part (f ∷ st)) top from ts) (ends b f) (cond (leb (depth (completed f e)) limit) (collapse limit b (completed f e) st) None) (Some (e, f ∷ st))
+    (λ is. chosen (λ top. CollapsedTo limit b (in_part (f ∷ st)) top from ts) (leb (depth (completed f e)) limit) (collapse limit b (completed f e) st) None
+    (λ small. subst (λ p. CollapsedTo limit b p (collapse limit b (completed f e) st) from ts) (sym (below_part b f st is))
+    (collapsed limit b st (completed f e) from ts (completed_held limit b f e st from ts is held) (λ some. completed_closed b f e is some (closed some))))
     (λ large. tt))
     (λ is_not. record { held = held; closed = closed; stands = is_not; same_part = refl })

@@ -7,11 +7,12 @@ use Rattle.ms_logic.specs.declared.mode.Mode.{Mode}
 use Rattle.ms_logic.specs.declared.mode.Mode.TheVariants.{Ws1s, M2lStr}
 use Rattle.ms_grammar.specs.Symbol.{Symbol, name, sign, word_ws1s, semicolon, Placed, placed}
 use Rattle.ms_grammar.specs.Tree.{Declaration, variables, constant, predicate, included, default_restriction, formula, Declared, Document}
-use Rattle.ms_grammar.specs.Declarations.{ReadsDeclaration, ReadsDeclarations, ReadsString, ReadsHeader, Reads}
+use Rattle.ms_grammar.specs.Declarations.{ReadsDeclaration, ReadsDeclarations, ReadsString, ReadsHeader}
 use Rattle.ms_parse.specs.Machine.{outside, headed, start, Runs}
 use Rattle.ms_parse.proofs.Moves.{starter, begins}
 use Rattle.ms_parse.proofs.Steps.{at_start}
 use Rattle.ms_parse.proofs.Sources.{declarations_read}
+use Rattle.ms_parse.proofs.Limits.{ReadsWithin}
 
 -- a declaration does not begin with `ws1s`
 abbrev pub is_header_word : List Placed → Bool
@@ -79,9 +80,9 @@ header_read (Some (at, M2lStr)) all f (f1, f2, f3, starts, minus, third, ends) f
     (minus.1 ∙ ap (λ x. placed (sign true) minus.0 ∷ x) (third.1 ∙ ap (λ x. placed (name (codes "str")) third.0 ∷ x) ends.1)))
 
 -- the automaton reads each document that the grammar reads
-pub document_read : (all : List Placed) (d : Document) → Reads true all d → Runs (outside (start all).0) (start all).1 d
-document_read all d reads =
+pub document_read : (limit : ℕ) (all : List Placed) (d : Document) → ReadsWithin limit all d → Runs limit (outside (start all).0) (start all).1 d
+document_read limit all d reads =
     let f = reads.read.0 in
     let begun = header_read d.header all f reads.read.1 (declarations_start d.declarations f reads.read.2) in
-    subst (λ (x : Document × List Placed). Runs (outside x.0) x.1 d) (sym begun)
-    (declarations_read d.declarations (record { header = d.header; declarations = [] }) f reads.declarations reads.read.2)
+    subst (λ (x : Document × List Placed). Runs limit (outside x.0) x.1 d) (sym begun)
+    (declarations_read limit d.declarations (record { header = d.header; declarations = [] }) f reads.declarations reads.read.2)

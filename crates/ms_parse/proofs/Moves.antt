@@ -78,17 +78,17 @@ left_high Intersection = omega arith
 left_high Difference = omega arith
 
 -- an operator that is as loose as what is wanted ends no frame
-pub stays : (n : ℕ) (e : Expression) (st : List Frame) → need st ≤ n → collapse (suc n) e st ≡ Some (e, st)
-stays n e [] low = refl
-stays n e (prefix_frame at op ∷ st) low = ap (λ b. cond b (cond (leb (depth (prefixed at op e)) 300) (collapse (suc n) (prefixed at op e) st) None) (Some (e, prefix_frame at op ∷ st))) (lt-leb (suc n) (operand_level op) (omega arith))
-stays n e (left_frame op l ∷ st) low = ap (λ b. cond b (cond (leb (depth (binary (place l) op l e)) 300) (collapse (suc n) (binary (place l) op l e) st) None) (Some (e, left_frame op l ∷ st))) (lt-leb (suc n) (right_level op) (omega arith))
-stays n e (joined_frame at op es ∷ st) low = ap (λ b. cond b (cond (leb (depth (joined at op (and_expression es e))) 300) (collapse (suc n) (joined at op (and_expression es e)) st) None) (Some (e, joined_frame at op es ∷ st))) (lt-leb (suc n) (junction_level op) (omega arith))
-stays n e (bracket_frame at b ∷ st) low = refl
-stays n e (list_frame at l es ∷ st) low = refl
-stays n e (domain_frame at q o vs at_v v ∷ st) low = refl
-stays n e (body_frame at q o vs ∷ st) low = ap (λ b. cond b (cond (leb (depth (quantified at q o vs e)) 300) (collapse (suc n) (quantified at q o vs e) st) None) (Some (e, body_frame at q o vs ∷ st))) (lt-leb (suc n) 0 (omega arith))
-stays n e (part_frame at o parts at_n v ∷ st) low = refl
-stays n e (let_frame at o parts ∷ st) low = ap (λ b. cond b (cond (leb (depth (let_in at o parts e)) 300) (collapse (suc n) (let_in at o parts e) st) None) (Some (e, let_frame at o parts ∷ st))) (lt-leb (suc n) 0 (omega arith))
+pub stays : (limit : ℕ) (n : ℕ) (e : Expression) (st : List Frame) → need st ≤ n → collapse limit (suc n) e st ≡ Some (e, st)
+stays limit n e [] low = refl
+stays limit n e (prefix_frame at op ∷ st) low = ap (λ b. cond b (cond (leb (depth (prefixed at op e)) limit) (collapse limit (suc n) (prefixed at op e) st) None) (Some (e, prefix_frame at op ∷ st))) (lt-leb (suc n) (operand_level op) (omega arith))
+stays limit n e (left_frame op l ∷ st) low = ap (λ b. cond b (cond (leb (depth (binary (place l) op l e)) limit) (collapse limit (suc n) (binary (place l) op l e) st) None) (Some (e, left_frame op l ∷ st))) (lt-leb (suc n) (right_level op) (omega arith))
+stays limit n e (joined_frame at op es ∷ st) low = ap (λ b. cond b (cond (leb (depth (joined at op (and_expression es e))) limit) (collapse limit (suc n) (joined at op (and_expression es e)) st) None) (Some (e, joined_frame at op es ∷ st))) (lt-leb (suc n) (junction_level op) (omega arith))
+stays limit n e (bracket_frame at b ∷ st) low = refl
+stays limit n e (list_frame at l es ∷ st) low = refl
+stays limit n e (domain_frame at q o vs at_v v ∷ st) low = refl
+stays limit n e (body_frame at q o vs ∷ st) low = ap (λ b. cond b (cond (leb (depth (quantified at q o vs e)) limit) (collapse limit (suc n) (quantified at q o vs e) st) None) (Some (e, body_frame at q o vs ∷ st))) (lt-leb (suc n) 0 (omega arith))
+stays limit n e (part_frame at o parts at_n v ∷ st) low = refl
+stays limit n e (let_frame at o parts ∷ st) low = ap (λ b. cond b (cond (leb (depth (let_in at o parts e)) limit) (collapse limit (suc n) (let_in at o parts e) st) None) (Some (e, let_frame at o parts ∷ st))) (lt-leb (suc n) 0 (omega arith))
 
 -- what an expression begins with
 mutual
@@ -127,82 +127,82 @@ list_begins exact no_expressions e from behind reads = begins exact e from behin
 list_begins exact (and_expression es d) e from behind reads = list_begins exact es d from reads.0 reads.2
 
 -- a name that no bracket follows, and the word `empty`
-pub name_alone : (c : Context) (st : List Frame) (at : At) (n : List ℕ) (s : Symbol) (a : At) (more : List Placed) → follower s ≡ true
-    → begin_name c st at n (placed s a ∷ more) ≡ Some (holding c (atom at (named n)) st, placed s a ∷ more)
-name_alone c st at n open_round a more follows = absurd (false≢true follows)
-name_alone c st at n _ a more follows = refl
+pub name_alone : (limit : ℕ) (c : Context) (st : List Frame) (at : At) (n : List ℕ) (s : Symbol) (a : At) (more : List Placed) → follower s ≡ true
+    → begin_name limit c st at n (placed s a ∷ more) ≡ Some (holding c (atom at (named n)) st, placed s a ∷ more)
+name_alone limit c st at n open_round a more follows = absurd (false≢true follows)
+name_alone limit c st at n _ a more follows = refl
 
-pub empty_alone : (c : Context) (st : List Frame) (at : At) (s : Symbol) (a : At) (more : List Placed) → follower s ≡ true
-    → begin_empty c st at (placed s a ∷ more) ≡ Some (holding c (atom at empty_set) st, placed s a ∷ more)
-empty_alone c st at open_round a more follows = absurd (false≢true follows)
-empty_alone c st at _ a more follows = refl
+pub empty_alone : (limit : ℕ) (c : Context) (st : List Frame) (at : At) (s : Symbol) (a : At) (more : List Placed) → follower s ≡ true
+    → begin_empty limit c st at (placed s a ∷ more) ≡ Some (holding c (atom at empty_set) st, placed s a ∷ more)
+empty_alone limit c st at open_round a more follows = absurd (false≢true follows)
+empty_alone limit c st at _ a more follows = refl
 
 -- brackets with something in them
-pub literal_filled : (c : Context) (st : List Frame) (at : At) (s : Symbol) (a : At) (more : List Placed) → starter s ≡ true
-    → begin_literal c st at (placed s a ∷ more) ≡ enter c (list_frame at Literal no_expressions) st (placed s a ∷ more)
-literal_filled c st at close_curly a more starts = absurd (false≢true starts)
-literal_filled c st at _ a more starts = refl
+pub literal_filled : (limit : ℕ) (c : Context) (st : List Frame) (at : At) (s : Symbol) (a : At) (more : List Placed) → starter s ≡ true
+    → begin_literal limit c st at (placed s a ∷ more) ≡ enter limit c (list_frame at Literal no_expressions) st (placed s a ∷ more)
+literal_filled limit c st at close_curly a more starts = absurd (false≢true starts)
+literal_filled limit c st at _ a more starts = refl
 
-pub call_filled : (c : Context) (st : List Frame) (at : At) (n : List ℕ) (x : At) (s : Symbol) (a : At) (more : List Placed) → starter s ≡ true
-    → begin_name c st at n (placed open_round x ∷ placed s a ∷ more) ≡ enter c (list_frame at (Call n) no_expressions) st (placed s a ∷ more)
-call_filled c st at n x close_round a more starts = absurd (false≢true starts)
-call_filled c st at n x _ a more starts = refl
+pub call_filled : (limit : ℕ) (c : Context) (st : List Frame) (at : At) (n : List ℕ) (x : At) (s : Symbol) (a : At) (more : List Placed) → starter s ≡ true
+    → begin_name limit c st at n (placed open_round x ∷ placed s a ∷ more) ≡ enter limit c (list_frame at (Call n) no_expressions) st (placed s a ∷ more)
+call_filled limit c st at n x close_round a more starts = absurd (false≢true starts)
+call_filled limit c st at n x _ a more starts = refl
 
 -- an operator behind a left operand
-pub infix_step : (c : Context) (op : Binary) (l : Expression) (st : List Frame) (x : At) (ts : List Placed) → need st ≤ binary_level op
-    → (in_part st && is_in op) ≡ false → left_level op ≤ level l → suc (suc (length st)) ≤ 300 → suc (length st) + depth l ≤ 300
-    → step (holding c l st) (placed (infix_operator op) x ∷ ts) ≡ Some (wanted c (left_frame op l ∷ st), ts)
-infix_step c op l st x ts low no_let high room deep =
-    ap (λ b. on_top (λ top. cond b (in_at c top.0 top.1 ts) (shift c op top ts)) (collapse (cond b 0 (suc (binary_level op))) l st)) no_let
-    ∙ ap (on_top (λ top. shift c op top ts)) (stays (binary_level op) l st low)
-    ∙ ap (λ b. cond b (enter c (left_frame op l) st ts) None) (le-leb (left_level op) (level l) high)
-    ∙ entered c (left_frame op l) st ts room deep
+pub infix_step : (limit : ℕ) (c : Context) (op : Binary) (l : Expression) (st : List Frame) (x : At) (ts : List Placed) → need st ≤ binary_level op
+    → (in_part st && is_in op) ≡ false → left_level op ≤ level l → suc (suc (length st)) ≤ limit → suc (length st) + depth l ≤ limit
+    → step limit (holding c l st) (placed (infix_operator op) x ∷ ts) ≡ Some (wanted c (left_frame op l ∷ st), ts)
+infix_step limit c op l st x ts low no_let high room deep =
+    ap (λ b. on_top (λ top. cond b (in_at limit c top.0 top.1 ts) (shift limit c op top ts)) (collapse limit (cond b 0 (suc (binary_level op))) l st)) no_let
+    ∙ ap (on_top (λ top. shift limit c op top ts)) (stays limit (binary_level op) l st low)
+    ∙ ap (λ b. cond b (enter limit c (left_frame op l) st ts) None) (le-leb (left_level op) (level l) high)
+    ∙ entered limit c (left_frame op l) st ts room deep
 
 -- `+` or `-` and an int behind an operand
-pub int_read : (c : Context) (minus : Bool) (e : Expression) (st : List Frame) (v : Int) (a : At) (ts : List Placed)
-    → shift_int c minus e st (placed (int_symbol v) a ∷ ts) ≡ shift_by c e st (record { at = a; value = v; minus = minus }) ts
-int_read c minus e st (Number n) a ts = refl
-int_read c minus e st (Constant n) a ts = refl
+pub int_read : (limit : ℕ) (c : Context) (minus : Bool) (e : Expression) (st : List Frame) (v : Int) (a : At) (ts : List Placed)
+    → shift_int limit c minus e st (placed (int_symbol v) a ∷ ts) ≡ shift_by limit c e st (record { at = a; value = v; minus = minus }) ts
+int_read limit c minus e st (Number n) a ts = refl
+int_read limit c minus e st (Constant n) a ts = refl
 
-pub sign_step : (c : Context) (e : Expression) (n : PlacedInt) (st : List Frame) (x : At) (ts : List Placed) → need st ≤ 9 → 9 ≤ level e → length st + suc (depth e) ≤ 300
-    → step (holding c e st) (placed (sign n.minus) x ∷ placed (int_symbol n.value) n.at ∷ ts) ≡ Some (holding c (shifted (place e) e n) st, ts)
-sign_step c e n st x ts low high deep =
-    ap (on_top (λ top. shift_int c n.minus top.0 top.1 (placed (int_symbol n.value) n.at ∷ ts))) (stays 9 e st low)
-    ∙ int_read c n.minus e st n.value n.at ts
-    ∙ ap (λ b. cond (b && leb (length st + suc (depth e)) 300) (Some (holding c (shifted (place e) e n) st, ts)) None) (le-leb 9 (level e) high)
-    ∙ ap (λ b. cond b (Some (holding c (shifted (place e) e n) st, ts)) None) (le-leb (length st + suc (depth e)) 300 deep)
+pub sign_step : (limit : ℕ) (c : Context) (e : Expression) (n : PlacedInt) (st : List Frame) (x : At) (ts : List Placed) → need st ≤ 9 → 9 ≤ level e → length st + suc (depth e) ≤ limit
+    → step limit (holding c e st) (placed (sign n.minus) x ∷ placed (int_symbol n.value) n.at ∷ ts) ≡ Some (holding c (shifted (place e) e n) st, ts)
+sign_step limit c e n st x ts low high deep =
+    ap (on_top (λ top. shift_int limit c n.minus top.0 top.1 (placed (int_symbol n.value) n.at ∷ ts))) (stays limit 9 e st low)
+    ∙ int_read limit c n.minus e st n.value n.at ts
+    ∙ ap (λ b. cond (b && leb (length st + suc (depth e)) limit) (Some (holding c (shifted (place e) e n) st, ts)) None) (le-leb 9 (level e) high)
+    ∙ ap (λ b. cond b (Some (holding c (shifted (place e) e n) st, ts)) None) (le-leb (length st + suc (depth e)) limit deep)
 
 -- a second operand of `&` or `|`
-first_joined : (c : Context) (op : Junction) (e : Expression) (st : List Frame) (ts : List Placed) → need st ≤ junction_level op → join c op e st ts ≡ join_new c op e st ts
-first_joined c Conjunction e [] ts low = refl
-first_joined c Disjunction e [] ts low = refl
-first_joined c Conjunction e (joined_frame at Conjunction es ∷ st) ts low = absurd (omega arith)
-first_joined c Conjunction e (joined_frame at Disjunction es ∷ st) ts low = refl
-first_joined c Disjunction e (joined_frame at Conjunction es ∷ st) ts low = refl
-first_joined c Disjunction e (joined_frame at Disjunction es ∷ st) ts low = absurd (omega arith)
-first_joined c Conjunction e (_ ∷ st) ts low = refl
-first_joined c Disjunction e (_ ∷ st) ts low = refl
+first_joined : (limit : ℕ) (c : Context) (op : Junction) (e : Expression) (st : List Frame) (ts : List Placed) → need st ≤ junction_level op → join limit c op e st ts ≡ join_new limit c op e st ts
+first_joined limit c Conjunction e [] ts low = refl
+first_joined limit c Disjunction e [] ts low = refl
+first_joined limit c Conjunction e (joined_frame at Conjunction es ∷ st) ts low = absurd (omega arith)
+first_joined limit c Conjunction e (joined_frame at Disjunction es ∷ st) ts low = refl
+first_joined limit c Disjunction e (joined_frame at Conjunction es ∷ st) ts low = refl
+first_joined limit c Disjunction e (joined_frame at Disjunction es ∷ st) ts low = absurd (omega arith)
+first_joined limit c Conjunction e (_ ∷ st) ts low = refl
+first_joined limit c Disjunction e (_ ∷ st) ts low = refl
 
-pub join_first : (c : Context) (op : Junction) (e : Expression) (st : List Frame) (x : At) (ts : List Placed) → need st ≤ junction_level op → suc (junction_level op) ≤ level e
-    → suc (suc (length st)) ≤ 300 → suc (length st) + depth e ≤ 300
-    → step (holding c e st) (placed (joining op) x ∷ ts) ≡ Some (wanted c (joined_frame (place e) op (and_expression no_expressions e) ∷ st), ts)
-join_first c op e st x ts low high room deep =
-    ap (on_top (λ top. join c op top.0 top.1 ts)) (stays (junction_level op) e st low)
-    ∙ first_joined c op e st ts low
-    ∙ ap (λ b. cond b (enter c (joined_frame (place e) op (and_expression no_expressions e)) st ts) None) (le-leb (suc (junction_level op)) (level e) high)
-    ∙ entered c (joined_frame (place e) op (and_expression no_expressions e)) st ts room (omega arith)
+pub join_first : (limit : ℕ) (c : Context) (op : Junction) (e : Expression) (st : List Frame) (x : At) (ts : List Placed) → need st ≤ junction_level op → suc (junction_level op) ≤ level e
+    → suc (suc (length st)) ≤ limit → suc (length st) + depth e ≤ limit
+    → step limit (holding c e st) (placed (joining op) x ∷ ts) ≡ Some (wanted c (joined_frame (place e) op (and_expression no_expressions e) ∷ st), ts)
+join_first limit c op e st x ts low high room deep =
+    ap (on_top (λ top. join limit c op top.0 top.1 ts)) (stays limit (junction_level op) e st low)
+    ∙ first_joined limit c op e st ts low
+    ∙ ap (λ b. cond b (enter limit c (joined_frame (place e) op (and_expression no_expressions e)) st ts) None) (le-leb (suc (junction_level op)) (level e) high)
+    ∙ entered limit c (joined_frame (place e) op (and_expression no_expressions e)) st ts room (omega arith)
 
 -- a further operand
-pub further_joined : (c : Context) (op : Junction) (at : At) (es : Expressions) (e : Expression) (st : List Frame) (ts : List Placed)
-    → join c op e (joined_frame at op es ∷ st) ts ≡ enter c (joined_frame at op (and_expression es e)) st ts
-further_joined c Conjunction at es e st ts = refl
-further_joined c Disjunction at es e st ts = refl
+pub further_joined : (limit : ℕ) (c : Context) (op : Junction) (at : At) (es : Expressions) (e : Expression) (st : List Frame) (ts : List Placed)
+    → join limit c op e (joined_frame at op es ∷ st) ts ≡ enter limit c (joined_frame at op (and_expression es e)) st ts
+further_joined limit c Conjunction at es e st ts = refl
+further_joined limit c Disjunction at es e st ts = refl
 
-pub join_further : (c : Context) (op : Junction) (at : At) (es : Expressions) (e : Expression) (st : List Frame) (x : At) (ts : List Placed)
-    → suc (suc (length st)) ≤ 300 → suc (length st) + depth_of_all (and_expression es e) ≤ 300
-    → step (holding c e (joined_frame at op es ∷ st)) (placed (joining op) x ∷ ts) ≡ Some (wanted c (joined_frame at op (and_expression es e) ∷ st), ts)
-join_further c op at es e st x ts room deep =
-    ap (λ b. on_top (λ top. join c op top.0 top.1 ts) (cond b (cond (leb (depth (joined at op (and_expression es e))) 300) (collapse (suc (junction_level op)) (joined at op (and_expression es e)) st) None) (Some (e, joined_frame at op es ∷ st))))
+pub join_further : (limit : ℕ) (c : Context) (op : Junction) (at : At) (es : Expressions) (e : Expression) (st : List Frame) (x : At) (ts : List Placed)
+    → suc (suc (length st)) ≤ limit → suc (length st) + depth_of_all (and_expression es e) ≤ limit
+    → step limit (holding c e (joined_frame at op es ∷ st)) (placed (joining op) x ∷ ts) ≡ Some (wanted c (joined_frame at op (and_expression es e) ∷ st), ts)
+join_further limit c op at es e st x ts room deep =
+    ap (λ b. on_top (λ top. join limit c op top.0 top.1 ts) (cond b (cond (leb (depth (joined at op (and_expression es e))) limit) (collapse limit (suc (junction_level op)) (joined at op (and_expression es e)) st) None) (Some (e, joined_frame at op es ∷ st))))
     (lt-leb (suc (junction_level op)) (junction_level op) (omega arith))
-    ∙ further_joined c op at es e st ts
-    ∙ entered c (joined_frame at op (and_expression es e)) st ts room deep
+    ∙ further_joined limit c op at es e st ts
+    ∙ entered limit c (joined_frame at op (and_expression es e)) st ts room deep

@@ -4,24 +4,26 @@ use Rattle.ms_grammar.specs.Symbol.{Placed}
 use Rattle.ms_grammar.specs.Tree.{Document}
 use Rattle.ms_grammar.specs.Declarations.{Reads}
 use Rattle.ms_parse.specs.Machine.{State, outside, wanted, holding, variable_wanted, part_wanted, pair_wanted, global_wanted, parameter_wanted, summand_wanted, Next, start, step, finished, goes_on, run}
+use Rattle.ms_grammar.specs.Grammar.{greatest_depth}
+use Rattle.ms_parse.proofs.Limits.{within}
 use Rattle.ms_parse.proofs.Headers.{document_read}
 
 -- where nothing is left, no step is taken
-finished_stops : (s : State) (ts : List Placed) (d : Document) → finished s ts ≡ Some d → step s ts ≡ None
-finished_stops (outside d0) [] d done = refl
-finished_stops (outside d0) (t ∷ ts) d done = let never : ⊥ = cc in absurd never
-finished_stops (wanted c st) ts d done = let never : ⊥ = cc in absurd never
-finished_stops (holding c e st) ts d done = let never : ⊥ = cc in absurd never
-finished_stops (variable_wanted c st at q o vs) ts d done = let never : ⊥ = cc in absurd never
-finished_stops (part_wanted c st at o parts) ts d done = let never : ⊥ = cc in absurd never
-finished_stops (pair_wanted c st at file pairs) ts d done = let never : ⊥ = cc in absurd never
-finished_stops (global_wanted d0 at o vs) ts d done = let never : ⊥ = cc in absurd never
-finished_stops (parameter_wanted d0 at is_pred at_p p vs) ts d done = let never : ⊥ = cc in absurd never
-finished_stops (summand_wanted d0 at at_n n sum) ts d done = let never : ⊥ = cc in absurd never
+finished_stops : (limit : ℕ) (s : State) (ts : List Placed) (d : Document) → finished s ts ≡ Some d → step limit s ts ≡ None
+finished_stops limit (outside d0) [] d done = refl
+finished_stops limit (outside d0) (t ∷ ts) d done = let never : ⊥ = cc in absurd never
+finished_stops limit (wanted c st) ts d done = let never : ⊥ = cc in absurd never
+finished_stops limit (holding c e st) ts d done = let never : ⊥ = cc in absurd never
+finished_stops limit (variable_wanted c st at q o vs) ts d done = let never : ⊥ = cc in absurd never
+finished_stops limit (part_wanted c st at o parts) ts d done = let never : ⊥ = cc in absurd never
+finished_stops limit (pair_wanted c st at file pairs) ts d done = let never : ⊥ = cc in absurd never
+finished_stops limit (global_wanted d0 at o vs) ts d done = let never : ⊥ = cc in absurd never
+finished_stops limit (parameter_wanted d0 at is_pred at_p p vs) ts d done = let never : ⊥ = cc in absurd never
+finished_stops limit (summand_wanted d0 at at_n n sum) ts d done = let never : ⊥ = cc in absurd never
 
-stuck : (s : State) (ts : List Placed) (d d' : Document) (n : ℕ) → finished s ts ≡ Some d → run (suc n) s ts ≡ Some d' → ⊥
-stuck s ts d d' n done read =
-    let nothing : None ≡ Some d' = sym (ap (goes_on (run n)) (finished_stops s ts d done)) ∙ read in
+stuck : (limit : ℕ) (s : State) (ts : List Placed) (d d' : Document) (n : ℕ) → finished s ts ≡ Some d → run limit (suc n) s ts ≡ Some d' → ⊥
+stuck limit s ts d d' n done read =
+    let nothing : None ≡ Some d' = sym (ap (goes_on (run limit n)) (finished_stops limit s ts d done)) ∙ read in
     let never : ⊥ = cc in never
 
 one_next : (r r' : State → List Placed → Option Document) → ((s : State) (ts : List Placed) (d d' : Document) → r s ts ≡ Some d → r' s ts ≡ Some d' → d ≡ d')
@@ -29,15 +31,15 @@ one_next : (r r' : State → List Placed → Option Document) → ((s : State) (
 one_next r r' same None d d' read read' = let never : ⊥ = cc in absurd never
 one_next r r' same (Some x) d d' read read' = same x.0 x.1 d d' read read'
 
-pub one_run : (m n : ℕ) (s : State) (ts : List Placed) (d d' : Document) → run m s ts ≡ Some d → run n s ts ≡ Some d' → d ≡ d'
-one_run zero zero s ts d d' read read' = let both : Some d ≡ Some d' = sym read ∙ read' in let same : d ≡ d' = cc in same
-one_run zero (suc n) s ts d d' read read' = absurd (stuck s ts d d' n read read')
-one_run (suc m) zero s ts d d' read read' = absurd (stuck s ts d' d m read' read)
-one_run (suc m) (suc n) s ts d d' read read' =
-    one_next (run m) (run n) (λ s' ts' e e' r r'. one_run m n s' ts' e e' r r') (step s ts) d d' read read'
+pub one_run : (limit : ℕ) (m n : ℕ) (s : State) (ts : List Placed) (d d' : Document) → run limit m s ts ≡ Some d → run limit n s ts ≡ Some d' → d ≡ d'
+one_run limit zero zero s ts d d' read read' = let both : Some d ≡ Some d' = sym read ∙ read' in let same : d ≡ d' = cc in same
+one_run limit zero (suc n) s ts d d' read read' = absurd (stuck limit s ts d d' n read read')
+one_run limit (suc m) zero s ts d d' read read' = absurd (stuck limit s ts d' d m read' read)
+one_run limit (suc m) (suc n) s ts d d' read read' =
+    one_next (run limit m) (run limit n) (λ s' ts' e e' r r'. one_run limit m n s' ts' e e' r r') (step limit s ts) d d' read read'
 
 pub one_document : (all : List Placed) (d d' : Document) → Reads true all d → Reads true all d' → d ≡ d'
 one_document all d d' reads reads' =
-    let first = document_read all d reads in
-    let second = document_read all d' reads' in
-    one_run first.0 second.0 (outside (start all).0) (start all).1 d d' first.1 second.1
+    let first = document_read greatest_depth all d (within all d reads) in
+    let second = document_read greatest_depth all d' (within all d' reads') in
+    one_run greatest_depth first.0 second.0 (outside (start all).0) (start all).1 d d' first.1 second.1

@@ -14,7 +14,8 @@ use Rattle.ms_parse.specs.declared.state.State.{State}
 use Rattle.ms_parse.specs.declared.outcome.Outcome.{Outcome}
 use Rattle.ms_parse.specs.declared.stop.Stop.{Stop}
 use Rattle.ms_parse.specs.declared.stop.Stop.TheVariants as stops
-use Rattle.ms_parse.specs.Outcomes.{Took}
+use Rattle.ms_parse.specs.Faults.{Fault, deep_at}
+use Rattle.ms_parse.specs.Outcomes.{Says, Took}
 use Rattle.ms_parse.specs.Stack.{CollapsesTo}
 use Rattle.ms_parse.specs.Machine as machine
 use Rattle.ms_parse.specs.Machine.{declare, outside, next_global, behind_global}
@@ -54,9 +55,15 @@ pub lent_taken : (c : machine.Context) (file : ℕ) (lexed : Lexed) (next : List
 lent_taken c file lexed next lent old r whole took = subst (λ x. Took c file lexed (next x) x r) whole took
 
 -- frames that could not be completed
-pub collapse_stops : (top : Option machine.Top) (stop : Stop) (file : ℕ) (lexed : Lexed) (next : machine.Next) (made : Parsed) (frames frames' : List Frame) → CollapsesTo top (Err stop) frames → (top ≡ None → next ≡ None)
+pub collapse_stops : (top : Option machine.Top) (i : ℕ) (stop : Stop) (file : ℕ) (lexed : Lexed) (next : machine.Next) (made : Parsed) (frames frames' : List Frame) → CollapsesTo top i (Err stop) frames → (top ≡ None → next ≡ None)
     → Stepped file lexed next made frames' (Err stop)
-collapse_stops top stops.Memory file lexed next made frames frames' collapses refuses = tt
-collapse_stops top (stops.Refused i) file lexed next made frames frames' collapses refuses = refuses collapses
-collapse_stops top (stops.TooDeep i) file lexed next made frames frames' collapses refuses = refuses collapses
-collapse_stops top (stops.TooDeepFrom at) file lexed next made frames frames' collapses refuses = refuses collapses
+collapse_stops top i stops.Memory file lexed next made frames frames' collapses refuses = tt
+collapse_stops top i (stops.Refused j) file lexed next made frames frames' collapses refuses = absurd collapses
+collapse_stops top i (stops.TooDeep j) file lexed next made frames frames' collapses refuses = refuses collapses.0
+
+-- the fault that they make
+pub collapse_says : (top : Option machine.Top) (i : ℕ) (stop : Stop) (file : ℕ) (lexed : Lexed) (fault : Fault) (frames : List Frame) → CollapsesTo top i (Err stop) frames → (top ≡ None → fault ≡ deep_at (behind file lexed i))
+    → Says file lexed fault stop
+collapse_says top i stops.Memory file lexed fault frames collapses deep = tt
+collapse_says top i (stops.Refused j) file lexed fault frames collapses deep = absurd collapses
+collapse_says top i (stops.TooDeep j) file lexed fault frames collapses deep = deep collapses.0 ∙ ap (λ n. deep_at (behind file lexed n)) (sym collapses.1)

@@ -1,5 +1,6 @@
 pub mod Ends
 pub mod Examples
+pub mod Faults
 pub mod Headers
 pub mod Kinds
 pub mod Links
@@ -12,3 +13,4 @@ pub mod Rows
 pub mod Signs
 pub mod Stack
 pub mod States
+pub mod Stops

@@ -22,7 +22,7 @@ use Rattle.ms_grammar.specs.declared.operator.Listing.TheVariants.{Literal, Call
 use Rattle.ms_grammar.specs.Tree.{truth, falsity, whole, empty_set, named, numeral, pconst, imported}
 use Rattle.ms_grammar.specs.Tree.{Expression, atom, prefixed, binary, joined, shifted, enclosed, listed, quantified, let_in, Expressions, no_expressions, and_expression, Variables, no_variables, and_variable, unrestricted, restricted, Parts, no_parts, and_part}
 use Rattle.ms_grammar.specs.Tree.{Declaration, variables, constant, predicate, included, default_restriction, formula, Document}
-use Rattle.ms_grammar.specs.Grammar.{binary_level, left_level, right_level, prefix_level, operand_level, junction_level, level, is_in, depth, depth_of_all, depth_of_domains, depth_of_values, greatest_depth}
+use Rattle.ms_grammar.specs.Grammar.{binary_level, left_level, right_level, prefix_level, operand_level, junction_level, level, is_in, depth, depth_of_all, depth_of_domains, depth_of_values}
 use Rattle.ms_grammar.specs.Reads.{place}
 
 -- an expression that has been begun
@@ -108,8 +108,8 @@ frame_depth (part_frame at o parts at_n n) = depth_of_values parts
 frame_depth (let_frame at o parts) = depth_of_values parts
 
 -- an expression is wanted in a new frame, where the depth leaves room for it
-abbrev pub enter : Context → Frame → List Frame → List Placed → Next
-enter c f st ts = cond (leb (suc (length st) + max 1 (frame_depth f)) greatest_depth) (Some (wanted c (f ∷ st), ts)) None
+abbrev pub enter : ℕ → Context → Frame → List Frame → List Placed → Next
+enter limit c f st ts = cond (leb (suc (length st) + max 1 (frame_depth f)) limit) (Some (wanted c (f ∷ st), ts)) None
 
 -- The frame ends where an operator follows that binds this loosely; with 0 it ends before any symbol that is no operator.
 abbrev pub ends : ℕ → Frame → Bool
@@ -140,9 +140,9 @@ abbrev pub Top : Type 0
 Top = Expression × List Frame
 
 -- the frames on top that end there, completed, where no expression is too deep
-abbrev pub collapse : ℕ → Expression → List Frame → Option Top
-collapse b e [] = Some (e, [])
-collapse b e (f ∷ st) = cond (ends b f) (cond (leb (depth (completed f e)) greatest_depth) (collapse b (completed f e) st) None) (Some (e, f ∷ st))
+abbrev pub collapse : ℕ → ℕ → Expression → List Frame → Option Top
+collapse limit b e [] = Some (e, [])
+collapse limit b e (f ∷ st) = cond (ends b f) (cond (leb (depth (completed f e)) limit) (collapse limit b (completed f e) st) None) (Some (e, f ∷ st))
 
 abbrev pub on_top : (Top → Next) → Option Top → Next
 on_top further None = None
@@ -155,20 +155,24 @@ bound inside (joining op) = suc (junction_level op)
 bound inside (sign minus) = 10
 bound inside _ = 0
 
+-- the step is taken where the depth leaves room for an expression in a new frame
+abbrev pub with_room : ℕ → List Frame → Next → Next
+with_room limit st next = cond (leb (suc (suc (length st))) limit) next None
+
 -- an expression begins
 
-abbrev pub begin_name : Context → List Frame → At → List ℕ → List Placed → Next
-begin_name c st at n (placed open_round a1 ∷ placed close_round a2 ∷ ts) = Some (holding c (listed at (Call n) no_expressions) st, ts)
-begin_name c st at n (placed open_round a1 ∷ ts) = enter c (list_frame at (Call n) no_expressions) st ts
-begin_name c st at n ts = Some (holding c (atom at (named n)) st, ts)
+abbrev pub begin_name : ℕ → Context → List Frame → At → List ℕ → List Placed → Next
+begin_name limit c st at n (placed open_round a1 ∷ placed close_round a2 ∷ ts) = Some (holding c (listed at (Call n) no_expressions) st, ts)
+begin_name limit c st at n (placed open_round a1 ∷ ts) = enter limit c (list_frame at (Call n) no_expressions) st ts
+begin_name limit c st at n ts = Some (holding c (atom at (named n)) st, ts)
 
-abbrev pub begin_empty : Context → List Frame → At → List Placed → Next
-begin_empty c st at (placed open_round a1 ∷ ts) = enter c (bracket_frame at Emptiness) st ts
-begin_empty c st at ts = Some (holding c (atom at empty_set) st, ts)
+abbrev pub begin_empty : ℕ → Context → List Frame → At → List Placed → Next
+begin_empty limit c st at (placed open_round a1 ∷ ts) = enter limit c (bracket_frame at Emptiness) st ts
+begin_empty limit c st at ts = Some (holding c (atom at empty_set) st, ts)
 
-abbrev pub begin_literal : Context → List Frame → At → List Placed → Next
-begin_literal c st at (placed close_curly a1 ∷ ts) = Some (holding c (listed at Literal no_expressions) st, ts)
-begin_literal c st at ts = enter c (list_frame at Literal no_expressions) st ts
+abbrev pub begin_literal : ℕ → Context → List Frame → At → List Placed → Next
+begin_literal limit c st at (placed close_curly a1 ∷ ts) = Some (holding c (listed at Literal no_expressions) st, ts)
+begin_literal limit c st at ts = enter limit c (list_frame at Literal no_expressions) st ts
 
 abbrev pub begin_pconst : Context → List Frame → At → List Placed → Next
 begin_pconst c st at (placed open_round a1 ∷ placed (number n) a2 ∷ placed close_round a3 ∷ ts) =
@@ -181,53 +185,53 @@ abbrev pub begin_import : Context → List Frame → At → List Placed → Next
 begin_import c st at (placed open_round a1 ∷ placed (text file) a2 ∷ ts) = Some (pair_wanted c st at file [], ts)
 begin_import c st at _ = None
 
-abbrev pub begin_restrict : Context → List Frame → At → List Placed → Next
-begin_restrict c st at (placed open_round a1 ∷ ts) = enter c (bracket_frame at Restriction) st ts
-begin_restrict c st at _ = None
+abbrev pub begin_restrict : ℕ → Context → List Frame → At → List Placed → Next
+begin_restrict limit c st at (placed open_round a1 ∷ ts) = enter limit c (bracket_frame at Restriction) st ts
+begin_restrict limit c st at _ = None
 
-abbrev pub begin_export : Context → List Frame → At → List Placed → Next
-begin_export c st at (placed open_round a1 ∷ placed (text file) a2 ∷ placed comma a3 ∷ ts) = enter c (bracket_frame at (Export a2 file)) st ts
-begin_export c st at _ = None
+abbrev pub begin_export : ℕ → Context → List Frame → At → List Placed → Next
+begin_export limit c st at (placed open_round a1 ∷ placed (text file) a2 ∷ placed comma a3 ∷ ts) = enter limit c (bracket_frame at (Export a2 file)) st ts
+begin_export limit c st at _ = None
 
-abbrev pub begin : Context → List Frame → At → Symbol → List Placed → Next
-begin c st at word_true ts = Some (holding c (atom at truth) st, ts)
-begin c st at word_false ts = Some (holding c (atom at falsity) st, ts)
-begin c st at dollar ts = Some (holding c (atom at whole) st, ts)
-begin c st at (number n) ts = Some (holding c (atom at (numeral n)) st, ts)
-begin c st at (name n) ts = begin_name c st at n ts
-begin c st at word_empty ts = begin_empty c st at ts
-begin c st at word_pconst ts = begin_pconst c st at ts
-begin c st at word_import ts = begin_import c st at ts
-begin c st at word_restrict ts = begin_restrict c st at ts
-begin c st at word_export ts = begin_export c st at ts
-begin c st at open_round ts = enter c (bracket_frame at Parentheses) st ts
-begin c st at open_curly ts = begin_literal c st at ts
-begin c st at (prefix_operator op) ts = cond (leb (need st) (prefix_level op)) (enter c (prefix_frame at op) st ts) None
-begin c st at (quantifier q o) ts = cond (leb (need st) 4) (Some (variable_wanted c st at q o no_variables, ts)) None
-begin c st at (let_word o) ts = cond (leb (need st) 4) (Some (part_wanted c st at o no_parts, ts)) None
-begin c st at _ ts = None
+abbrev pub begin : ℕ → Context → List Frame → At → Symbol → List Placed → Next
+begin limit c st at word_true ts = Some (holding c (atom at truth) st, ts)
+begin limit c st at word_false ts = Some (holding c (atom at falsity) st, ts)
+begin limit c st at dollar ts = Some (holding c (atom at whole) st, ts)
+begin limit c st at (number n) ts = Some (holding c (atom at (numeral n)) st, ts)
+begin limit c st at (name n) ts = begin_name limit c st at n ts
+begin limit c st at word_empty ts = begin_empty limit c st at ts
+begin limit c st at word_pconst ts = begin_pconst c st at ts
+begin limit c st at word_import ts = begin_import c st at ts
+begin limit c st at word_restrict ts = with_room limit st (begin_restrict limit c st at ts)
+begin limit c st at word_export ts = with_room limit st (begin_export limit c st at ts)
+begin limit c st at open_round ts = enter limit c (bracket_frame at Parentheses) st ts
+begin limit c st at open_curly ts = begin_literal limit c st at ts
+begin limit c st at (prefix_operator op) ts = cond (leb (need st) (prefix_level op)) (enter limit c (prefix_frame at op) st ts) None
+begin limit c st at (quantifier q o) ts = cond (leb (need st) 4) (with_room limit st (Some (variable_wanted c st at q o no_variables, ts))) None
+begin limit c st at (let_word o) ts = cond (leb (need st) 4) (with_room limit st (Some (part_wanted c st at o no_parts, ts))) None
+begin limit c st at _ ts = None
 
 -- an expression goes on, or ends
 
-abbrev pub shift : Context → Binary → Top → List Placed → Next
-shift c op (e, st) ts = cond (leb (left_level op) (level e)) (enter c (left_frame op e) st ts) None
+abbrev pub shift : ℕ → Context → Binary → Top → List Placed → Next
+shift limit c op (e, st) ts = cond (leb (left_level op) (level e)) (enter limit c (left_frame op e) st ts) None
 
-abbrev pub join_new : Context → Junction → Expression → List Frame → List Placed → Next
-join_new c op e st ts = cond (leb (suc (junction_level op)) (level e)) (enter c (joined_frame (place e) op (and_expression no_expressions e)) st ts) None
+abbrev pub join_new : ℕ → Context → Junction → Expression → List Frame → List Placed → Next
+join_new limit c op e st ts = cond (leb (suc (junction_level op)) (level e)) (enter limit c (joined_frame (place e) op (and_expression no_expressions e)) st ts) None
 
-abbrev pub join : Context → Junction → Expression → List Frame → List Placed → Next
-join c Conjunction e (joined_frame at Conjunction es ∷ st) ts = enter c (joined_frame at Conjunction (and_expression es e)) st ts
-join c Disjunction e (joined_frame at Disjunction es ∷ st) ts = enter c (joined_frame at Disjunction (and_expression es e)) st ts
-join c op e st ts = join_new c op e st ts
+abbrev pub join : ℕ → Context → Junction → Expression → List Frame → List Placed → Next
+join limit c Conjunction e (joined_frame at Conjunction es ∷ st) ts = enter limit c (joined_frame at Conjunction (and_expression es e)) st ts
+join limit c Disjunction e (joined_frame at Disjunction es ∷ st) ts = enter limit c (joined_frame at Disjunction (and_expression es e)) st ts
+join limit c op e st ts = join_new limit c op e st ts
 
-abbrev pub shift_by : Context → Expression → List Frame → PlacedInt → List Placed → Next
-shift_by c e st n ts =
-    cond (leb 9 (level e) && leb (length st + suc (depth e)) greatest_depth) (Some (holding c (shifted (place e) e n) st, ts)) None
+abbrev pub shift_by : ℕ → Context → Expression → List Frame → PlacedInt → List Placed → Next
+shift_by limit c e st n ts =
+    cond (leb 9 (level e) && leb (length st + suc (depth e)) limit) (Some (holding c (shifted (place e) e n) st, ts)) None
 
-abbrev pub shift_int : Context → Bool → Expression → List Frame → List Placed → Next
-shift_int c minus e st (placed (number n) a ∷ ts) = shift_by c e st (record { at = a; value = Number n; minus = minus }) ts
-shift_int c minus e st (placed (name n) a ∷ ts) = shift_by c e st (record { at = a; value = Constant n; minus = minus }) ts
-shift_int c minus e st _ = None
+abbrev pub shift_int : ℕ → Context → Bool → Expression → List Frame → List Placed → Next
+shift_int limit c minus e st (placed (number n) a ∷ ts) = shift_by limit c e st (record { at = a; value = Number n; minus = minus }) ts
+shift_int limit c minus e st (placed (name n) a ∷ ts) = shift_by limit c e st (record { at = a; value = Constant n; minus = minus }) ts
+shift_int limit c minus e st _ = None
 
 abbrev pub declare : Document → At → Declaration → Document
 declare d at x = record { header = d.header; declarations = d.declarations ++ record { at = at; declaration = x } ∷ [] }
@@ -238,34 +242,34 @@ body_of d at is_pred at_p p vs (placed (infix_operator (Relation Equal)) a ∷ t
 body_of d at is_pred at_p p vs _ = None
 
 -- an expression that a bracket has ended
-abbrev pub hold : Context → Expression → List Frame → List Placed → Next
-hold c e st ts = cond (leb (depth e) greatest_depth) (Some (holding c e st, ts)) None
+abbrev pub hold : ℕ → Context → Expression → List Frame → List Placed → Next
+hold limit c e st ts = cond (leb (depth e) limit) (Some (holding c e st, ts)) None
 
-abbrev pub close_round_at : Context → Expression → List Frame → List Placed → Next
-close_round_at c e (bracket_frame at b ∷ st) ts = hold c (enclosed at b e) st ts
-close_round_at c e (list_frame at (Call p) es ∷ st) ts = hold c (listed at (Call p) (and_expression es e)) st ts
-close_round_at (in_parameter d at is_pred at_p p vs o at_v n) e [] ts = body_of d at is_pred at_p p (and_variable vs at_v o n (restricted e)) ts
-close_round_at c e _ ts = None
+abbrev pub close_round_at : ℕ → Context → Expression → List Frame → List Placed → Next
+close_round_at limit c e (bracket_frame at b ∷ st) ts = hold limit c (enclosed at b e) st ts
+close_round_at limit c e (list_frame at (Call p) es ∷ st) ts = hold limit c (listed at (Call p) (and_expression es e)) st ts
+close_round_at limit (in_parameter d at is_pred at_p p vs o at_v n) e [] ts = body_of d at is_pred at_p p (and_variable vs at_v o n (restricted e)) ts
+close_round_at limit c e _ ts = None
 
-abbrev pub close_curly_at : Context → Expression → List Frame → List Placed → Next
-close_curly_at c e (list_frame at Literal es ∷ st) ts = hold c (listed at Literal (and_expression es e)) st ts
-close_curly_at c e _ ts = None
+abbrev pub close_curly_at : ℕ → Context → Expression → List Frame → List Placed → Next
+close_curly_at limit c e (list_frame at Literal es ∷ st) ts = hold limit c (listed at Literal (and_expression es e)) st ts
+close_curly_at limit c e _ ts = None
 
-abbrev pub comma_at : Context → Expression → List Frame → List Placed → Next
-comma_at c e (list_frame at l es ∷ st) ts = enter c (list_frame at l (and_expression es e)) st ts
-comma_at c e (domain_frame at q o vs at_v n ∷ st) ts = Some (variable_wanted c st at q o (and_variable vs at_v o n (restricted e)), ts)
-comma_at c e (part_frame at o parts at_n n ∷ st) ts = Some (part_wanted c st at o (and_part parts at_n n e), ts)
-comma_at (in_global d at o vs at_v n) e [] ts = Some (global_wanted d at o (and_variable vs at_v o n (restricted e)), ts)
-comma_at (in_parameter d at is_pred at_p p vs o at_v n) e [] ts = Some (parameter_wanted d at is_pred at_p p (and_variable vs at_v o n (restricted e)), ts)
-comma_at c e _ ts = None
+abbrev pub comma_at : ℕ → Context → Expression → List Frame → List Placed → Next
+comma_at limit c e (list_frame at l es ∷ st) ts = enter limit c (list_frame at l (and_expression es e)) st ts
+comma_at limit c e (domain_frame at q o vs at_v n ∷ st) ts = Some (variable_wanted c st at q o (and_variable vs at_v o n (restricted e)), ts)
+comma_at limit c e (part_frame at o parts at_n n ∷ st) ts = Some (part_wanted c st at o (and_part parts at_n n e), ts)
+comma_at limit (in_global d at o vs at_v n) e [] ts = Some (global_wanted d at o (and_variable vs at_v o n (restricted e)), ts)
+comma_at limit (in_parameter d at is_pred at_p p vs o at_v n) e [] ts = Some (parameter_wanted d at is_pred at_p p (and_variable vs at_v o n (restricted e)), ts)
+comma_at limit c e _ ts = None
 
-abbrev pub colon_at : Context → Expression → List Frame → List Placed → Next
-colon_at c e (domain_frame at q o vs at_v n ∷ st) ts = enter c (body_frame at q o (and_variable vs at_v o n (restricted e))) st ts
-colon_at c e _ ts = None
+abbrev pub colon_at : ℕ → Context → Expression → List Frame → List Placed → Next
+colon_at limit c e (domain_frame at q o vs at_v n ∷ st) ts = enter limit c (body_frame at q o (and_variable vs at_v o n (restricted e))) st ts
+colon_at limit c e _ ts = None
 
-abbrev pub in_at : Context → Expression → List Frame → List Placed → Next
-in_at c e (part_frame at o parts at_n n ∷ st) ts = enter c (let_frame at o (and_part parts at_n n e)) st ts
-in_at c e _ ts = None
+abbrev pub in_at : ℕ → Context → Expression → List Frame → List Placed → Next
+in_at limit c e (part_frame at o parts at_n n ∷ st) ts = enter limit c (let_frame at o (and_part parts at_n n e)) st ts
+in_at limit c e _ ts = None
 
 abbrev pub semicolon_at : Context → Expression → List Frame → List Placed → Next
 semicolon_at (in_formula d at) e [] ts = Some (outside (declare d at (formula e)), ts)
@@ -274,32 +278,32 @@ semicolon_at (in_predicate d at is_pred at_p p vs) e [] ts = Some (outside (decl
 semicolon_at (in_default d at o n) e [] ts = Some (outside (declare d at (default_restriction o n e)), ts)
 semicolon_at c e _ ts = None
 
-abbrev pub settle : Context → Symbol → Bool → Top → List Placed → Next
-settle c (infix_operator op) inside top ts = cond (inside && is_in op) (in_at c top.0 top.1 ts) (shift c op top ts)
-settle c (joining op) inside top ts = join c op top.0 top.1 ts
-settle c (sign minus) inside top ts = shift_int c minus top.0 top.1 ts
-settle c close_round inside top ts = close_round_at c top.0 top.1 ts
-settle c close_curly inside top ts = close_curly_at c top.0 top.1 ts
-settle c comma inside top ts = comma_at c top.0 top.1 ts
-settle c colon inside top ts = colon_at c top.0 top.1 ts
-settle c semicolon inside top ts = semicolon_at c top.0 top.1 ts
-settle c _ inside top ts = None
+abbrev pub settle : ℕ → Context → Symbol → Bool → Top → List Placed → Next
+settle limit c (infix_operator op) inside top ts = cond (inside && is_in op) (in_at limit c top.0 top.1 ts) (shift limit c op top ts)
+settle limit c (joining op) inside top ts = join limit c op top.0 top.1 ts
+settle limit c (sign minus) inside top ts = shift_int limit c minus top.0 top.1 ts
+settle limit c close_round inside top ts = close_round_at limit c top.0 top.1 ts
+settle limit c close_curly inside top ts = close_curly_at limit c top.0 top.1 ts
+settle limit c comma inside top ts = comma_at limit c top.0 top.1 ts
+settle limit c colon inside top ts = colon_at limit c top.0 top.1 ts
+settle limit c semicolon inside top ts = semicolon_at c top.0 top.1 ts
+settle limit c _ inside top ts = None
 
 -- names and what stands between them
 
-abbrev pub behind_variable : Context → List Frame → At → Quant → Order → Variables → At → List ℕ → Symbol → List Placed → Next
-behind_variable c st at q o vs at_v n word_where ts = enter c (domain_frame at q o vs at_v n) st ts
-behind_variable c st at q o vs at_v n comma ts = Some (variable_wanted c st at q o (and_variable vs at_v o n unrestricted), ts)
-behind_variable c st at q o vs at_v n colon ts = enter c (body_frame at q o (and_variable vs at_v o n unrestricted)) st ts
-behind_variable c st at q o vs at_v n _ ts = None
+abbrev pub behind_variable : ℕ → Context → List Frame → At → Quant → Order → Variables → At → List ℕ → Symbol → List Placed → Next
+behind_variable limit c st at q o vs at_v n word_where ts = enter limit c (domain_frame at q o vs at_v n) st ts
+behind_variable limit c st at q o vs at_v n comma ts = Some (variable_wanted c st at q o (and_variable vs at_v o n unrestricted), ts)
+behind_variable limit c st at q o vs at_v n colon ts = enter limit c (body_frame at q o (and_variable vs at_v o n unrestricted)) st ts
+behind_variable limit c st at q o vs at_v n _ ts = None
 
-abbrev pub next_variable : Context → List Frame → At → Quant → Order → Variables → List Placed → Next
-next_variable c st at q o vs (placed (name n) at_v ∷ placed s a ∷ ts) = behind_variable c st at q o vs at_v n s ts
-next_variable c st at q o vs _ = None
+abbrev pub next_variable : ℕ → Context → List Frame → At → Quant → Order → Variables → List Placed → Next
+next_variable limit c st at q o vs (placed (name n) at_v ∷ placed s a ∷ ts) = behind_variable limit c st at q o vs at_v n s ts
+next_variable limit c st at q o vs _ = None
 
-abbrev pub next_part : Context → List Frame → At → Order → Parts → List Placed → Next
-next_part c st at o parts (placed (name n) at_n ∷ placed (infix_operator (Relation Equal)) a ∷ ts) = enter c (part_frame at o parts at_n n) st ts
-next_part c st at o parts _ = None
+abbrev pub next_part : ℕ → Context → List Frame → At → Order → Parts → List Placed → Next
+next_part limit c st at o parts (placed (name n) at_n ∷ placed (infix_operator (Relation Equal)) a ∷ ts) = enter limit c (part_frame at o parts at_n n) st ts
+next_part limit c st at o parts _ = None
 
 abbrev pub next_pair : Context → List Frame → At → List ℕ → List Rename → List Placed → Next
 next_pair c st at file pairs (placed close_round a ∷ ts) = Some (holding c (atom at (imported file pairs)) st, ts)
@@ -364,26 +368,26 @@ begin_default d at o (placed open_round a1 ∷ placed (name n) a2 ∷ placed clo
     Some (wanted (in_default d at o n) [], ts)
 begin_default d at o _ = None
 
-abbrev pub begin_declaration : Document → At → Symbol → List Placed → Next
-begin_declaration d at (kind o) ts = Some (global_wanted d at o no_variables, ts)
-begin_declaration d at word_const ts = begin_constant d at ts
-begin_declaration d at (predicate_word is_pred) ts = begin_predicate d at is_pred ts
-begin_declaration d at word_include ts = begin_include d at ts
-begin_declaration d at (default_word o) ts = begin_default d at o ts
-begin_declaration d at s ts = begin (in_formula d at) [] at s ts
+abbrev pub begin_declaration : ℕ → Document → At → Symbol → List Placed → Next
+begin_declaration limit d at (kind o) ts = Some (global_wanted d at o no_variables, ts)
+begin_declaration limit d at word_const ts = begin_constant d at ts
+begin_declaration limit d at (predicate_word is_pred) ts = begin_predicate d at is_pred ts
+begin_declaration limit d at word_include ts = begin_include d at ts
+begin_declaration limit d at (default_word o) ts = begin_default d at o ts
+begin_declaration limit d at s ts = begin limit (in_formula d at) [] at s ts
 
 -- one step; each takes a symbol at least
-abbrev pub step : State → List Placed → Next
-step (outside d) (placed s at ∷ ts) = begin_declaration d at s ts
-step (wanted c st) (placed s at ∷ ts) = begin c st at s ts
-step (holding c e st) (placed s at ∷ ts) = on_top (λ top. settle c s (in_part st) top ts) (collapse (bound (in_part st) s) e st)
-step (variable_wanted c st at q o vs) ts = next_variable c st at q o vs ts
-step (part_wanted c st at o parts) ts = next_part c st at o parts ts
-step (pair_wanted c st at file pairs) ts = next_pair c st at file pairs ts
-step (global_wanted d at o vs) ts = next_global d at o vs ts
-step (parameter_wanted d at is_pred at_p p vs) ts = next_parameter d at is_pred at_p p vs ts
-step (summand_wanted d at at_n n sum) ts = next_summand d at at_n n sum ts
-step s [] = None
+abbrev pub step : ℕ → State → List Placed → Next
+step limit (outside d) (placed s at ∷ ts) = begin_declaration limit d at s ts
+step limit (wanted c st) (placed s at ∷ ts) = begin limit c st at s ts
+step limit (holding c e st) (placed s at ∷ ts) = on_top (λ top. settle limit c s (in_part st) top ts) (collapse limit (bound (in_part st) s) e st)
+step limit (variable_wanted c st at q o vs) ts = next_variable limit c st at q o vs ts
+step limit (part_wanted c st at o parts) ts = next_part limit c st at o parts ts
+step limit (pair_wanted c st at file pairs) ts = next_pair c st at file pairs ts
+step limit (global_wanted d at o vs) ts = next_global d at o vs ts
+step limit (parameter_wanted d at is_pred at_p p vs) ts = next_parameter d at is_pred at_p p vs ts
+step limit (summand_wanted d at at_n n sum) ts = next_summand d at at_n n sum ts
+step limit s [] = None
 
 -- the header, and the symbols behind it
 abbrev pub headed : List ℕ → List ℕ → At → List Placed → List Placed → Document × List Placed
@@ -406,10 +410,10 @@ goes_on further None = None
 goes_on further (Some next) = further next.0 next.1
 
 -- what so many steps read
-abbrev pub run : ℕ → State → List Placed → Option Document
-run zero s ts = finished s ts
-run (suc n) s ts = goes_on (run n) (step s ts)
+abbrev pub run : ℕ → ℕ → State → List Placed → Option Document
+run limit zero s ts = finished s ts
+run limit (suc n) s ts = goes_on (run limit n) (step limit s ts)
 
 -- from this state the symbols are read as the document
-abbrev pub Runs : State → List Placed → Document → Type 0
-Runs s ts d = (n : ℕ) × (run n s ts ≡ Some d)
+abbrev pub Runs : ℕ → State → List Placed → Document → Type 0
+Runs limit s ts d = (n : ℕ) × (run limit n s ts ≡ Some d)

@@ -5,7 +5,8 @@ use Rattle.ms_parse.specs.declared.frame.Frame.{Frame}
 use Rattle.ms_parse.specs.declared.outcome.Outcome.{Outcome}
 use Rattle.ms_parse.specs.declared.outcome.Outcome.TheVariants as outcomes
 use Rattle.ms_parse.specs.declared.stop.Stop.{Stop}
-use Rattle.ms_parse.specs.declared.stop.Stop.TheVariants.{Memory, Refused, TooDeep, TooDeepFrom}
+use Rattle.ms_parse.specs.declared.stop.Stop.TheVariants.{Memory, Refused, TooDeep}
+use Rattle.ms_parse.specs.Faults.{Fault, refused_at, deep_at}
 use Rattle.ms_parse.specs.Machine as machine
 use Rattle.ms_parse.specs.Signs.{behind}
 use Rattle.ms_parse.specs.Stack.{stack_of}
@@ -24,4 +25,9 @@ Took c file lexed next frames (Ok (o, i)) = next ≡ Some (outcome_of c (stack_o
 Took c file lexed next frames (Err Memory) = Unit {0}
 Took c file lexed next frames (Err (Refused i)) = next ≡ None
 Took c file lexed next frames (Err (TooDeep i)) = next ≡ None
-Took c file lexed next frames (Err (TooDeepFrom at)) = next ≡ None
+
+-- the stop says where the fault is
+abbrev pub Says : ℕ → Lexed → Fault → Stop → Type 0
+Says file lexed fault Memory = Unit {0}
+Says file lexed fault (Refused i) = fault ≡ refused_at (behind file lexed i)
+Says file lexed fault (TooDeep i) = fault ≡ deep_at (behind file lexed i)

@@ -9,7 +9,7 @@ use Rattle.ms_parse.specs.declared.state.Parsed.{Parsed}
 use Rattle.ms_parse.specs.declared.state.State.{State}
 use Rattle.ms_parse.specs.declared.state.State.TheVariants as states
 use Rattle.ms_parse.specs.declared.stop.Stop.{Stop}
-use Rattle.ms_parse.specs.declared.stop.Stop.TheVariants.{Memory, Refused, TooDeep, TooDeepFrom}
+use Rattle.ms_parse.specs.declared.stop.Stop.TheVariants.{Memory, Refused, TooDeep}
 use Rattle.ms_parse.specs.Machine as machine
 use Rattle.ms_parse.specs.Outcomes.{outcome_of}
 use Rattle.ms_parse.specs.Signs.{behind}
@@ -45,4 +45,3 @@ Stepped file lexed next made frames (Ok (s, i)) = next ≡ Some (state_of (read_
 Stepped file lexed next made frames (Err Memory) = Unit {0}
 Stepped file lexed next made frames (Err (Refused i)) = next ≡ None
 Stepped file lexed next made frames (Err (TooDeep i)) = next ≡ None
-Stepped file lexed next made frames (Err (TooDeepFrom at)) = next ≡ None

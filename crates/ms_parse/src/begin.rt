@@ -1,14 +1,15 @@
-ghost use Rattle.std.specs.Prelude.{◌≡◌, ◌≤◌, ◌<◌, ℕ, List, length};
-ghost use Rattle.ms_grammar.specs.Grammar.{depth};
-ghost use Rattle.ms_parse.specs.Machine.{Context, begin_name, begin_empty, begin_literal, begin_restrict, begin_export, begin_import, begin_pconst};
-ghost use Rattle.ms_parse.specs.Outcomes.{Took};
+ghost use Rattle.std.specs.Prelude.{◌≡◌, ◌≤◌, ◌<◌, ℕ, List, length, IfErr, ◌-◌};
+ghost use Rattle.ms_grammar.specs.Grammar.{depth, greatest_depth};
+ghost use Rattle.ms_parse.specs.Machine.{Context, begin_name, begin_empty, begin_literal, begin_restrict, begin_export, begin_import, begin_pconst, with_room};
+ghost use Rattle.ms_parse.specs.Outcomes.{Took, Says};
 ghost use Rattle.ms_grammar.specs.Reads.{place};
 ghost use Rattle.ms_parse.specs.Signs.{behind};
 ghost use Rattle.ms_parse.specs.Stack.{stack_of};
 ghost use Rattle.ms_grammar.specs.View.{form_of};
+ghost use Rattle.ms_parse.specs.Faults.{empty_fault, export_fault, import_fault, literal_fault, name_fault, pconst_fault, restrict_fault, room_fault};
 
 use crate::complete::finish;
-use crate::enter::enter;
+use crate::enter::{enter, has_room, stop_inside};
 use crate::form::listed;
 use crate::frame::Frame;
 use crate::input::text_at;
@@ -33,8 +34,9 @@ pub fn begin_name(
     name: Name,
     i: u32,
 ) -> Result<(Outcome, u32), Stop>
-    ensures { (c : Context) →
-        Took c file tokens.now (begin_name c (stack_of stack.old.items) at name (behind file tokens.now i)) stack.new.items result }
+    ensures step { (c : Context) →
+        Took c file tokens.now (begin_name greatest_depth c (stack_of stack.old.items) at name (behind file tokens.now i)) stack.new.items result }
+    ensures fault { IfErr result (Says file tokens.now (name_fault greatest_depth (stack_of stack.old.items) (behind file tokens.now i))) }
 {
     let Some(inside) = behind_mark(tokens, file, i, Punctuation::OpenRound) else {
         let operand = finish(at, Form::Name(name), 0, i)?;
@@ -49,7 +51,7 @@ pub fn begin_name(
         opened: Opened::Listed(at, Listing::Call(name), list),
         height: 0,
     };
-    enter(stack, frame, inside)
+    enter(stack, frame, inside, stop_inside(tokens, file, inside))
 }
 
 /// `restrict` begins an expression.
@@ -60,9 +62,13 @@ pub fn begin_restrict(
     at: At,
     i: u32,
 ) -> Result<(Outcome, u32), Stop>
-    ensures { (c : Context) →
-        Took c file tokens.now (begin_restrict c (stack_of stack.old.items) at (behind file tokens.now i)) stack.new.items result }
+    ensures step { (c : Context) →
+        Took c file tokens.now (with_room greatest_depth (stack_of stack.old.items) (begin_restrict greatest_depth c (stack_of stack.old.items) at (behind file tokens.now i))) stack.new.items result }
+    ensures fault { IfErr result (Says file tokens.now (room_fault greatest_depth (stack_of stack.old.items) (behind file tokens.now (i - 1)) (restrict_fault (behind file tokens.now i)))) }
 {
+    if !has_room(stack) {
+        return Err(Stop::TooDeep(i.saturating_sub(1)));
+    }
     let Some(next) = behind_mark(tokens, file, i, Punctuation::OpenRound) else {
         return Err(Stop::Refused(i));
     };
@@ -70,7 +76,7 @@ pub fn begin_restrict(
         opened: Opened::Bracket(at, Bracket::Restriction),
         height: 0,
     };
-    enter(stack, frame, next)
+    enter(stack, frame, next, Stop::TooDeep(i.saturating_sub(1)))
 }
 
 /// `empty` begins an expression: the formula, where a bracket follows.
@@ -81,8 +87,9 @@ pub fn begin_empty(
     at: At,
     i: u32,
 ) -> Result<(Outcome, u32), Stop>
-    ensures { (c : Context) →
-        Took c file tokens.now (begin_empty c (stack_of stack.old.items) at (behind file tokens.now i)) stack.new.items result }
+    ensures step { (c : Context) →
+        Took c file tokens.now (begin_empty greatest_depth c (stack_of stack.old.items) at (behind file tokens.now i)) stack.new.items result }
+    ensures fault { IfErr result (Says file tokens.now (empty_fault greatest_depth (stack_of stack.old.items) (behind file tokens.now i))) }
 {
     let Some(next) = behind_mark(tokens, file, i, Punctuation::OpenRound) else {
         let operand = finish(at, Form::EmptySet, 0, i)?;
@@ -92,7 +99,7 @@ pub fn begin_empty(
         opened: Opened::Bracket(at, Bracket::Emptiness),
         height: 0,
     };
-    enter(stack, frame, next)
+    enter(stack, frame, next, Stop::TooDeep(i))
 }
 
 /// `{` begins an expression.
@@ -104,8 +111,9 @@ pub fn begin_literal(
     at: At,
     i: u32,
 ) -> Result<(Outcome, u32), Stop>
-    ensures { (c : Context) →
-        Took c file tokens.now (begin_literal c (stack_of stack.old.items) at (behind file tokens.now i)) stack.new.items result }
+    ensures step { (c : Context) →
+        Took c file tokens.now (begin_literal greatest_depth c (stack_of stack.old.items) at (behind file tokens.now i)) stack.new.items result }
+    ensures fault { IfErr result (Says file tokens.now (literal_fault greatest_depth (stack_of stack.old.items) (behind file tokens.now i))) }
 {
     let list = List::new(alloc);
     if let Some(next) = behind_mark(tokens, file, i, Punctuation::CloseCurly) {
@@ -116,7 +124,7 @@ pub fn begin_literal(
         opened: Opened::Listed(at, Listing::Literal, list),
         height: 0,
     };
-    enter(stack, frame, i)
+    enter(stack, frame, i, stop_inside(tokens, file, i))
 }
 
 /// `export` begins an expression.
@@ -128,9 +136,13 @@ pub fn begin_export(
     at: At,
     i: u32,
 ) -> Result<(Outcome, u32), Stop>
-    ensures { (c : Context) →
-        Took c file tokens.now (begin_export c (stack_of stack.old.items) at (behind file tokens.now i)) stack.new.items result }
+    ensures step { (c : Context) →
+        Took c file tokens.now (with_room greatest_depth (stack_of stack.old.items) (begin_export greatest_depth c (stack_of stack.old.items) at (behind file tokens.now i))) stack.new.items result }
+    ensures fault { IfErr result (Says file tokens.now (room_fault greatest_depth (stack_of stack.old.items) (behind file tokens.now (i - 1)) (export_fault (behind file tokens.now i)))) }
 {
+    if !has_room(stack) {
+        return Err(Stop::TooDeep(i.saturating_sub(1)));
+    }
     let Some(inside) = behind_mark(tokens, file, i, Punctuation::OpenRound) else {
         return Err(Stop::Refused(i));
     };
@@ -144,7 +156,7 @@ pub fn begin_export(
         opened: Opened::Bracket(at, Bracket::Export(at_text, text)),
         height: 0,
     };
-    enter(stack, frame, next)
+    enter(stack, frame, next, Stop::TooDeep(i.saturating_sub(1)))
 }
 
 /// `import` begins an expression.
@@ -156,8 +168,9 @@ pub fn begin_import(
     at: At,
     i: u32,
 ) -> Result<(Outcome, u32), Stop>
-    ensures { (c : Context) →
+    ensures step { (c : Context) →
         Took c file tokens.now (begin_import c (stack_of stack.old.items) at (behind file tokens.now i)) stack.new.items result }
+    ensures fault { IfErr result (Says file tokens.now (import_fault (behind file tokens.now i))) }
 {
     let Some(inside) = behind_mark(tokens, file, i, Punctuation::OpenRound) else {
         return Err(Stop::Refused(i));
@@ -177,8 +190,9 @@ pub fn begin_pconst(
     at: At,
     i: u32,
 ) -> Result<(Outcome, u32), Stop>
-    ensures { (c : Context) →
+    ensures step { (c : Context) →
         Took c file tokens.now (begin_pconst c (stack_of stack.old.items) at (behind file tokens.now i)) stack.new.items result }
+    ensures fault { IfErr result (Says file tokens.now (pconst_fault (behind file tokens.now i))) }
 {
     let Some(inside) = behind_mark(tokens, file, i, Punctuation::OpenRound) else {
         return Err(Stop::Refused(i));

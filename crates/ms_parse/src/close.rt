@@ -1,12 +1,14 @@
-ghost use Rattle.std.specs.Prelude.{◌≡◌, ◌∷◌, ℕ, List};
+ghost use Rattle.std.specs.Prelude.{◌≡◌, ◌∷◌, ℕ, List, IfErr, ◌-◌};
 ghost use Rattle.ms_text.specs.TokenList.{Lexed};
 ghost use Rattle.ms_parse.specs.Machine.{Context, close_curly_at, close_round_at};
 ghost use Rattle.ms_parse.specs.Opened.{frame_of};
-ghost use Rattle.ms_parse.specs.Outcomes.{Took};
+ghost use Rattle.ms_parse.specs.Outcomes.{Took, Says};
 ghost use Rattle.ms_parse.specs.Signs.{behind};
 ghost use Rattle.ms_parse.specs.Stack.{stack_of};
 ghost use Rattle.ms_grammar.specs.View.{expression_of};
 ghost use Rattle.ms_parse.specs.declared.frame.Frame.{Frame};
+ghost use Rattle.ms_grammar.specs.Grammar.{greatest_depth};
+ghost use Rattle.ms_parse.specs.Faults.{close_curly_fault, close_round_fault};
 
 use crate::complete::finish;
 use crate::form::{enclosed, listed};
@@ -21,8 +23,9 @@ use std::alloc::Global;
 
 /// `}` behind an expression, in a frame.
 pub fn close_curly(frame: Frame, operand: Operand, i: u32) -> Result<(Outcome, u32), Stop>
-    ensures { (c : Context) (file : ℕ) (lexed : Lexed) (below : List Frame) →
-        Took c file lexed (close_curly_at c (expression_of operand.expr) (frame_of frame.opened ∷ stack_of below) (behind file lexed i)) below result }
+    ensures step { (c : Context) (file : ℕ) (lexed : Lexed) (below : List Frame) →
+        Took c file lexed (close_curly_at greatest_depth c (expression_of operand.expr) (frame_of frame.opened ∷ stack_of below) (behind file lexed i)) below result }
+    ensures fault { (file : ℕ) (lexed : Lexed) (below : List Frame) → IfErr result (Says file lexed (close_curly_fault greatest_depth (expression_of operand.expr) (frame_of frame.opened ∷ stack_of below) (behind file lexed (i - 1)))) }
 {
     let inside = frame.height.max(operand.height);
     let Frame { opened, .. } = frame;
@@ -31,7 +34,12 @@ pub fn close_curly(frame: Frame, operand: Operand, i: u32) -> Result<(Outcome, u
         Opened::Listed(at, listing, mut list) => match listing {
             Listing::Literal => {
                 push_expression(&mut list, expr)?;
-                let made = finish(at, listed(Listing::Literal, list), inside, i)?;
+                let made = finish(
+                    at,
+                    listed(Listing::Literal, list),
+                    inside,
+                    i.saturating_sub(1),
+                )?;
                 Ok((Outcome::Holding(made), i))
             }
             Listing::Call(_) => Err(Stop::Refused(i.saturating_sub(1))),
@@ -54,8 +62,9 @@ pub fn close_round(
     operand: Operand,
     i: u32,
 ) -> Result<(Outcome, u32), Stop>
-    ensures { (c : Context) (file : ℕ) (lexed : Lexed) (below : List Frame) →
-        Took c file lexed (close_round_at c (expression_of operand.expr) (frame_of frame.opened ∷ stack_of below) (behind file lexed i)) below result }
+    ensures step { (c : Context) (file : ℕ) (lexed : Lexed) (below : List Frame) →
+        Took c file lexed (close_round_at greatest_depth c (expression_of operand.expr) (frame_of frame.opened ∷ stack_of below) (behind file lexed i)) below result }
+    ensures fault { (c : Context) (file : ℕ) (lexed : Lexed) (below : List Frame) → IfErr result (Says file lexed (close_round_fault greatest_depth c (expression_of operand.expr) (frame_of frame.opened ∷ stack_of below) (behind file lexed (i - 1)) (behind file lexed i))) }
 {
     let height = operand.height;
     let inside = frame.height.max(height);
@@ -63,13 +72,23 @@ pub fn close_round(
     let Operand { expr, .. } = operand;
     match opened {
         Opened::Bracket(at, bracket) => {
-            let made = finish(at, enclosed(alloc, bracket, expr)?, height, i)?;
+            let made = finish(
+                at,
+                enclosed(alloc, bracket, expr)?,
+                height,
+                i.saturating_sub(1),
+            )?;
             Ok((Outcome::Holding(made), i))
         }
         Opened::Listed(at, listing, mut list) => match listing {
             Listing::Call(name) => {
                 push_expression(&mut list, expr)?;
-                let made = finish(at, listed(Listing::Call(name), list), inside, i)?;
+                let made = finish(
+                    at,
+                    listed(Listing::Call(name), list),
+                    inside,
+                    i.saturating_sub(1),
+                )?;
                 Ok((Outcome::Holding(made), i))
             }
             Listing::Literal => Err(Stop::Refused(i.saturating_sub(1))),

@@ -25,7 +25,7 @@ pub fn finish(at: At, form: Form, inside: u32, i: u32) -> Result<Operand, Stop>
     requires measured { depth (form_of form at) ≡ inside + 1 }
     requires begins { place (form_of form at) ≡ at }
     ensures ok { IfOk result (λ made. expression_of made.expr ≡ form_of form at) }
-    ensures err { IfErr result (IsTooDeep (form_of form at)) }
+    ensures err { IfErr result (IsTooDeep (form_of form at) i) }
 {
     let height = inside + 1;
     if height > GREATEST_DEPTH {
@@ -96,7 +96,7 @@ fn complete_left(
     i: u32,
 ) -> Result<Operand, Stop>
     ensures ok { IfOk result (λ made. expression_of made.expr ≡ binary (place (expression_of left.expr)) op (expression_of left.expr) (expression_of right.expr)) }
-    ensures err { IfErr result (IsTooDeep (binary (place (expression_of left.expr)) op (expression_of left.expr) (expression_of right.expr))) }
+    ensures err { IfErr result (IsTooDeep (binary (place (expression_of left.expr)) op (expression_of left.expr) (expression_of right.expr)) i) }
 {
     let inside = left.height.max(right.height);
     let at = left.start;
@@ -113,7 +113,7 @@ fn complete_prefix(
     i: u32,
 ) -> Result<Operand, Stop>
     ensures ok { IfOk result (λ made. expression_of made.expr ≡ prefixed at op (expression_of operand.expr)) }
-    ensures err { IfErr result (IsTooDeep (prefixed at op (expression_of operand.expr))) }
+    ensures err { IfErr result (IsTooDeep (prefixed at op (expression_of operand.expr)) i) }
 {
     let inside = operand.height;
     let Operand { expr, .. } = operand;
@@ -123,7 +123,7 @@ fn complete_prefix(
 /// The expression of a frame that ends with the operand.
 pub fn complete(alloc: Global, frame: Frame, operand: Operand, i: u32) -> Result<Operand, Stop>
     ensures ok { IfOk result (λ made. expression_of made.expr ≡ completed (frame_of frame.opened) (expression_of operand.expr)) }
-    ensures err { IfErr result (IsTooDeep (completed (frame_of frame.opened) (expression_of operand.expr))) }
+    ensures err { IfErr result (IsTooDeep (completed (frame_of frame.opened) (expression_of operand.expr)) i) }
 {
     let inside = frame.height.max(operand.height);
     let Frame { opened, .. } = frame;
@@ -155,7 +155,7 @@ fn complete_joined(
     requires bounded { inside ≤ 300 }
     requires measured { inside ≡ max (depth_of_all (expressions_of list)) (depth (expression_of operand.expr)) }
     ensures ok { IfOk result (λ made. expression_of made.expr ≡ joined at op (and_expression (expressions_of list) (expression_of operand.expr))) }
-    ensures err { IfErr result (IsTooDeep (joined at op (and_expression (expressions_of list) (expression_of operand.expr)))) }
+    ensures err { IfErr result (IsTooDeep (joined at op (and_expression (expressions_of list) (expression_of operand.expr))) i) }
 {
     let Operand { expr, .. } = operand;
     push_expression(&mut list, expr)?;
@@ -175,7 +175,7 @@ fn complete_body(
     requires bounded { inside ≤ 300 }
     requires measured { inside ≡ max (depth_of_domains (variables_of bounds)) (depth (expression_of operand.expr)) }
     ensures ok { IfOk result (λ made. expression_of made.expr ≡ quantified at quant order (variables_of bounds) (expression_of operand.expr)) }
-    ensures err { IfErr result (IsTooDeep (quantified at quant order (variables_of bounds) (expression_of operand.expr))) }
+    ensures err { IfErr result (IsTooDeep (quantified at quant order (variables_of bounds) (expression_of operand.expr)) i) }
 {
     let Operand { expr, .. } = operand;
     let body = boxed(alloc, expr)?;
@@ -194,7 +194,7 @@ fn complete_let(
     requires bounded { inside ≤ 300 }
     requires measured { inside ≡ max (depth_of_values (parts_of parts)) (depth (expression_of operand.expr)) }
     ensures ok { IfOk result (λ made. expression_of made.expr ≡ let_in at order (parts_of parts) (expression_of operand.expr)) }
-    ensures err { IfErr result (IsTooDeep (let_in at order (parts_of parts) (expression_of operand.expr))) }
+    ensures err { IfErr result (IsTooDeep (let_in at order (parts_of parts) (expression_of operand.expr)) i) }
 {
     let Operand { expr, .. } = operand;
     let body = boxed(alloc, expr)?;

@@ -1,56 +1,86 @@
-ghost use Rattle.std.specs.Prelude.{◌≡◌, ◌+◌, ℕ, List, length, vec_len};
+ghost use Rattle.std.specs.Prelude.{◌≡◌, ◌≤◌, ◌<◌, ◌+◌, ℕ, suc, false, List, length, vec_len, IfErr, IsTrue};
 ghost use Rattle.ms_text.specs.TokenList.{Lexed};
-ghost use Rattle.ms_parse.specs.Machine.{Context, enter, need, in_part};
-ghost use Rattle.ms_grammar.specs.Grammar.{level};
+ghost use Rattle.ms_parse.specs.Faults.{Fault, enter_fault, inside_fault, starter};
+ghost use Rattle.ms_parse.specs.Machine.{Context, enter, frame_depth};
+ghost use Rattle.ms_grammar.specs.Grammar.{level, greatest_depth};
 ghost use Rattle.ms_parse.specs.Opened.{frame_of};
-ghost use Rattle.ms_parse.specs.Outcomes.{Took};
-ghost use Rattle.ms_parse.specs.Signs.{behind};
-ghost use Rattle.ms_parse.specs.Stack.{stack_of, IsDepth};
+ghost use Rattle.ms_parse.specs.Outcomes.{Says, Took};
+ghost use Rattle.ms_parse.specs.Signs.{symbol_with, behind};
+ghost use Rattle.ms_parse.specs.Stack.{stack_of};
 ghost use Rattle.ms_grammar.specs.View.{expression_of};
 
 use crate::frame::Frame;
-use crate::opened::Opened;
+use crate::input::sign_at;
 use crate::operand::GREATEST_DEPTH;
 use crate::outcome::Outcome;
+use crate::sign::Sign;
 use crate::stack::push_frame;
 use crate::stop::Stop;
-use ms_grammar::{Binary, Bracket, Junction, Prefix};
 use ms_logic::{Expr, Form};
+use ms_text::Tokens;
 
-/// The first token at which an expression in this frame is too deep, where the stack is full. `i` is the number behind
-/// what the frame begins with.
-fn no_room(opened: &Opened, i: u32) -> Stop
-    ensures { IsDepth result }
+/// Whether the depth leaves room for an expression in a new frame.
+pub fn has_room(stack: &[Frame]) -> bool
+    ensures yes { IsTrue result → suc (suc (length (stack_of stack.now))) ≤ greatest_depth }
+    ensures no { result ≡ false → greatest_depth < suc (suc (length (stack_of stack.now))) }
 {
-    match opened {
-        Opened::Prefix(..) => Stop::TooDeep(i.saturating_sub(1)),
-        Opened::Left(..) => Stop::TooDeep(i.saturating_sub(1)),
-        Opened::Joined(..) => Stop::TooDeep(i.saturating_sub(1)),
-        Opened::Bracket(at, bracket) => match bracket {
-            Bracket::Parentheses => Stop::TooDeep(i.saturating_sub(1)),
-            Bracket::Emptiness => Stop::TooDeep(i.saturating_sub(1)),
-            Bracket::Restriction => Stop::TooDeepFrom(*at),
-            Bracket::Export(..) => Stop::TooDeepFrom(*at),
-        },
-        Opened::Listed(..) => Stop::TooDeep(i),
-        Opened::Domain(at, ..) => Stop::TooDeepFrom(*at),
-        Opened::Body(at, ..) => Stop::TooDeepFrom(*at),
-        Opened::Part(at, ..) => Stop::TooDeepFrom(*at),
-        Opened::Let(at, ..) => Stop::TooDeepFrom(*at),
+    stack.len() < 299
+}
+
+fn may_begin(sign: Sign) -> bool
+    ensures { (bytes : List ℕ) → result ≡ starter (symbol_with sign bytes) }
+{
+    match sign {
+        Sign::Name => true,
+        Sign::Number(_) => true,
+        Sign::Prefix(_) => true,
+        Sign::Quantifier(..) => true,
+        Sign::Let(_) => true,
+        Sign::True => true,
+        Sign::False => true,
+        Sign::Dollar => true,
+        Sign::Empty => true,
+        Sign::Pconst => true,
+        Sign::Import => true,
+        Sign::Export => true,
+        Sign::Restrict => true,
+        Sign::OpenRound => true,
+        Sign::OpenCurly => true,
+        _ => false,
     }
 }
 
-/// Puts a frame on the stack, where the depth leaves room for an expression in it.
-pub fn enter(stack: &mut Vec<Frame>, frame: Frame, i: u32) -> Result<(Outcome, u32), Stop>
-    ensures { (c : Context) (file : ℕ) (lexed : Lexed) →
-        Took c file lexed (enter c (frame_of frame.opened) (stack_of stack.old.items) (behind file lexed i)) stack.new.items result }
+/// Why the first token in a list cannot stand there, where the depth leaves no room for an expression.
+pub fn stop_inside(tokens: &Tokens, file: u32, i: u32) -> Stop
+    ensures { Says file tokens.now (inside_fault (behind file tokens.now i)) result }
 {
-    if stack.len() >= 299 {
-        return Err(no_room(&frame.opened, i));
+    let Some((sign, _)) = sign_at(tokens, file, i) else {
+        return Stop::Refused(i);
+    };
+    if may_begin(sign) {
+        return Stop::TooDeep(i);
+    }
+    Stop::Refused(i)
+}
+
+/// Puts a frame on the stack, where the depth leaves room for an expression in it, and else stops.
+pub fn enter(
+    stack: &mut Vec<Frame>,
+    frame: Frame,
+    i: u32,
+    otherwise: Stop,
+) -> Result<(Outcome, u32), Stop>
+    ensures step { (c : Context) (file : ℕ) (lexed : Lexed) →
+        Took c file lexed (enter greatest_depth c (frame_of frame.opened) (stack_of stack.old.items) (behind file lexed i)) stack.new.items result }
+    ensures fault { (file : ℕ) (lexed : Lexed) (fault : Fault) → Says file lexed fault otherwise →
+        IfErr result (Says file lexed (enter_fault greatest_depth (frame_depth (frame_of frame.opened)) (stack_of stack.old.items) fault)) }
+{
+    if !has_room(stack) {
+        return Err(otherwise);
     }
     let inside = frame.height.max(1);
     if stack.len() as u32 + 1 + inside > GREATEST_DEPTH {
-        return Err(Stop::TooDeep(i.saturating_sub(1)));
+        return Err(otherwise);
     }
     push_frame(stack, frame)?;
     Ok((Outcome::Wanted, i))

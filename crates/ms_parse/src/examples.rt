@@ -4,16 +4,16 @@ ghost use Rattle.ms_logic.specs.declared.mode.Order.TheVariants.{One, Two, Zero}
 ghost use Rattle.ms_logic.specs.declared.mode.Quant.TheVariants.{Ex};
 ghost use Rattle.ms_logic.specs.declared.mode.Rel.TheVariants.{Equal, Member};
 ghost use Rattle.ms_logic.specs.declared.source.Int.TheVariants.{Number, Constant};
+ghost use Rattle.ms_grammar.specs.Continuation.{CanFollow, CanFollowAtAnyDepth};
 ghost use Rattle.ms_grammar.specs.Declarations.{Reads};
-ghost use Rattle.ms_parse.specs.Examples.{bracketed, brackets, at, row, a, b, c, x, y, P, p, a_at, b_at, c_at, x_at, y_at, P_at, one, two, three, ex1_x, only, says};
+ghost use Rattle.ms_parse.specs.Examples.{bracketed, brackets, at, row, a, b, c, x, y, P, p, a_at, b_at, c_at, x_at, y_at, P_at, one, two, three, ex1_x, only, says, repeated};
 ghost use Rattle.ms_grammar.specs.Symbol.{name, number, prefix_operator, infix_operator, joining, sign, quantifier, let_word, kind, predicate_word, word_true, word_where, word_empty, word_ws1s, left_out, open_round, close_round, open_curly, close_curly, comma, colon, semicolon, word_const, word_include, text, default_word, word_import, arrow, word_export, word_pconst, word_restrict, dollar};
 ghost use Rattle.ms_grammar.specs.declared.operator.Prefix.TheVariants.{Negation, Minimum};
 ghost use Rattle.ms_grammar.specs.declared.operator.Binary.TheVariants.{Implication, Equivalence, Relation, Union, Difference};
 ghost use Rattle.ms_grammar.specs.declared.operator.Junction.TheVariants.{Conjunction, Disjunction};
 ghost use Rattle.ms_grammar.specs.declared.operator.Bracket.TheVariants.{Parentheses, Emptiness, Export, Restriction};
 ghost use Rattle.ms_grammar.specs.declared.operator.Listing.TheVariants.{Literal, Call};
-ghost use Rattle.ms_grammar.specs.Tree.{truth, empty_set, named, prefixed, binary, joined, shifted, enclosed, listed, let_in, quantified, atom, no_expressions, no_variables, and_variable, unrestricted, restricted, no_parts, and_part, predicate, variables, formula, constant, included, default_restriction, imported, pconst, whole};
-ghost use Rattle.ms_grammar.specs.Tree.{Document};
+ghost use Rattle.ms_grammar.specs.Tree.{truth, empty_set, named, prefixed, binary, joined, shifted, enclosed, listed, let_in, quantified, atom, no_expressions, no_variables, and_variable, unrestricted, restricted, no_parts, and_part, predicate, variables, formula, constant, included, default_restriction, imported, pconst, whole, Document};
 
 /// Rows of symbols and their trees: how operators group, and how far a body reaches.
 pub fn example_operators()
@@ -101,4 +101,25 @@ pub fn example_refusals()
     ensures no_semicolon { (d : Document) → ¬ (Reads true (row (a ∷ [])) d) }
     ensures negated_term { (d : Document) → ¬ (Reads true (row (x ∷ infix_operator (Relation Equal) ∷ prefix_operator Negation ∷ y ∷ semicolon ∷ [])) d) }
     ensures word_alone { (d : Document) → ¬ (Reads true (row (left_out (codes "tree") ∷ semicolon ∷ [])) d) }
+{}
+
+/// What can follow rows of symbols, and what cannot.
+pub fn example_continuations()
+    ensures at_the_beginning { CanFollow (row []) }
+    ensures behind_a_comma { CanFollow (row (open_curly ∷ x ∷ comma ∷ [])) }
+    ensures bracket_behind_a_comma { ¬ (CanFollowAtAnyDepth (row (open_curly ∷ x ∷ comma ∷ close_curly ∷ []))) }
+    ensures behind_a_relation { CanFollow (row (a ∷ infix_operator (Relation Equal) ∷ b ∷ [])) }
+    ensures second_relation { ¬ (CanFollowAtAnyDepth (row (a ∷ infix_operator (Relation Equal) ∷ b ∷ infix_operator (Relation Equal) ∷ []))) }
+    ensures without_semicolon { CanFollow (row (word_true ∷ [])) }
+    ensures word_left_out { ¬ (CanFollowAtAnyDepth (row (left_out (codes "tree") ∷ []))) }
+    ensures behind_the_mode { CanFollow (row (word_ws1s ∷ [])) }
+    ensures mode_without_semicolon { ¬ (CanFollowAtAnyDepth (row (word_ws1s ∷ word_true ∷ []))) }
+    ensures string_mode { CanFollow (row (name (codes "m2l") ∷ sign true ∷ name (codes "str") ∷ [])) }
+    ensures deepest_bracket { CanFollow (row (repeated 299 open_round [])) }
+    ensures bracket_too_deep { ¬ (CanFollow (row (repeated 300 open_round []))) }
+    ensures bracket_at_any_depth { CanFollowAtAnyDepth (row (repeated 300 open_round [])) }
+    ensures empty_call_at_the_depth { CanFollow (row (repeated 299 open_round (p ∷ open_round ∷ []))) }
+    ensures argument_too_deep { ¬ (CanFollow (row (repeated 299 open_round (p ∷ open_round ∷ x ∷ [])))) }
+    ensures argument_at_any_depth { CanFollowAtAnyDepth (row (repeated 299 open_round (p ∷ open_round ∷ x ∷ []))) }
+    ensures no_argument_at_any_depth { ¬ (CanFollowAtAnyDepth (row (repeated 299 open_round (p ∷ open_round ∷ comma ∷ [])))) }
 {}

@@ -1,8 +1,8 @@
-ghost use Rattle.std.specs.Prelude.{◌≡◌, ◌≢◌, ◌≤◌, ℕ, List, Some};
+ghost use Rattle.std.specs.Prelude.{◌≡◌, ◌≢◌, ◌≤◌, ℕ, List, Some, IfErr, ◌-◌};
 ghost use Rattle.ms_text.specs.TokenList.{Lexed};
-ghost use Rattle.ms_grammar.specs.Grammar.{depth, prefix_level};
+ghost use Rattle.ms_grammar.specs.Grammar.{depth, prefix_level, greatest_depth};
 ghost use Rattle.ms_parse.specs.Machine.{Context, wanted, holding, begin, step};
-ghost use Rattle.ms_parse.specs.Outcomes.{Took};
+ghost use Rattle.ms_parse.specs.Outcomes.{Took, Says};
 ghost use Rattle.ms_grammar.specs.Reads.{place};
 ghost use Rattle.ms_parse.specs.Signs.{symbol_with, behind};
 ghost use Rattle.ms_parse.specs.Stack.{stack_of};
@@ -10,13 +10,15 @@ ghost use Rattle.ms_grammar.specs.Symbol.{prefix_operator, quantifier, let_word,
 ghost use Rattle.ms_grammar.specs.View.{form_of};
 ghost use Rattle.ms_parse.specs.declared.frame.Frame.{Frame};
 ghost use Rattle.ms_parse.specs.declared.sign.Sign.TheVariants as signs;
+ghost use Rattle.ms_parse.specs.Faults.{begin_fault, step_fault};
+ghost use Rattle.ms_parse.specs.declared.stop.Stop.TheVariants.{Memory};
 
 use crate::begin::{
     begin_empty, begin_export, begin_import, begin_literal, begin_name, begin_pconst,
     begin_restrict,
 };
 use crate::complete::finish;
-use crate::enter::enter;
+use crate::enter::{enter, has_room};
 use crate::frame::Frame;
 use crate::input::{name_at, sign_at};
 use crate::opened::Opened;
@@ -34,19 +36,26 @@ use std::alloc::Global;
 fn begin_atom(at: At, form: Form, i: u32) -> Result<(Outcome, u32), Stop>
     requires measured { depth (form_of form at) ≡ 1 }
     requires begins { place (form_of form at) ≡ at }
-    ensures { (c : Context) (file : ℕ) (lexed : Lexed) (frames : List Frame) →
+    ensures step { (c : Context) (file : ℕ) (lexed : Lexed) (frames : List Frame) →
         Took c file lexed (Some (holding c (form_of form at) (stack_of frames), behind file lexed i)) frames result }
+    ensures fault { IfErr result (λ stop. stop ≡ Memory) }
 {
     let operand = finish(at, form, 0, i)?;
     Ok((Outcome::Holding(operand), i))
 }
 
 fn begin_bracket(stack: &mut Vec<Frame>, at: At, i: u32) -> Result<(Outcome, u32), Stop>
-    ensures { (c : Context) (file : ℕ) (lexed : Lexed) →
-        Took c file lexed (begin c (stack_of stack.old.items) at open_round (behind file lexed i)) stack.new.items result }
+    ensures step { (c : Context) (file : ℕ) (lexed : Lexed) →
+        Took c file lexed (begin greatest_depth c (stack_of stack.old.items) at open_round (behind file lexed i)) stack.new.items result }
+    ensures fault { (file : ℕ) (lexed : Lexed) → IfErr result (Says file lexed (begin_fault greatest_depth (stack_of stack.old.items) open_round (behind file lexed (i - 1)) (behind file lexed i))) }
 {
     let opened = Opened::Bracket(at, Bracket::Parentheses);
-    enter(stack, Frame { opened, height: 0 }, i)
+    enter(
+        stack,
+        Frame { opened, height: 0 },
+        i,
+        Stop::TooDeep(i.saturating_sub(1)),
+    )
 }
 
 fn level_of(op: Prefix) -> u32
@@ -60,14 +69,20 @@ fn level_of(op: Prefix) -> u32
 }
 
 fn begin_prefix(stack: &mut Vec<Frame>, at: At, op: Prefix, i: u32) -> Result<(Outcome, u32), Stop>
-    ensures { (c : Context) (file : ℕ) (lexed : Lexed) →
-        Took c file lexed (begin c (stack_of stack.old.items) at (prefix_operator op) (behind file lexed i)) stack.new.items result }
+    ensures step { (c : Context) (file : ℕ) (lexed : Lexed) →
+        Took c file lexed (begin greatest_depth c (stack_of stack.old.items) at (prefix_operator op) (behind file lexed i)) stack.new.items result }
+    ensures fault { (file : ℕ) (lexed : Lexed) → IfErr result (Says file lexed (begin_fault greatest_depth (stack_of stack.old.items) (prefix_operator op) (behind file lexed (i - 1)) (behind file lexed i))) }
 {
     if need(stack) > level_of(op) {
         return Err(Stop::Refused(i.saturating_sub(1)));
     }
     let opened = Opened::Prefix(at, op);
-    enter(stack, Frame { opened, height: 0 }, i)
+    enter(
+        stack,
+        Frame { opened, height: 0 },
+        i,
+        Stop::TooDeep(i.saturating_sub(1)),
+    )
 }
 
 fn begin_quantifier(
@@ -78,11 +93,15 @@ fn begin_quantifier(
     order: Order,
     i: u32,
 ) -> Result<(Outcome, u32), Stop>
-    ensures { (c : Context) (file : ℕ) (lexed : Lexed) →
-        Took c file lexed (begin c (stack_of stack.now) at (quantifier quant order) (behind file lexed i)) stack.now result }
+    ensures step { (c : Context) (file : ℕ) (lexed : Lexed) →
+        Took c file lexed (begin greatest_depth c (stack_of stack.now) at (quantifier quant order) (behind file lexed i)) stack.now result }
+    ensures fault { (file : ℕ) (lexed : Lexed) → IfErr result (Says file lexed (begin_fault greatest_depth (stack_of stack.now) (quantifier quant order) (behind file lexed (i - 1)) (behind file lexed i))) }
 {
     if need(stack) > 4 {
         return Err(Stop::Refused(i.saturating_sub(1)));
+    }
+    if !has_room(stack) {
+        return Err(Stop::TooDeep(i.saturating_sub(1)));
     }
     let bounds = Bounds {
         list: List::new(alloc),
@@ -98,11 +117,15 @@ fn begin_let(
     order: Order,
     i: u32,
 ) -> Result<(Outcome, u32), Stop>
-    ensures { (c : Context) (file : ℕ) (lexed : Lexed) →
-        Took c file lexed (begin c (stack_of stack.now) at (let_word order) (behind file lexed i)) stack.now result }
+    ensures step { (c : Context) (file : ℕ) (lexed : Lexed) →
+        Took c file lexed (begin greatest_depth c (stack_of stack.now) at (let_word order) (behind file lexed i)) stack.now result }
+    ensures fault { (file : ℕ) (lexed : Lexed) → IfErr result (Says file lexed (begin_fault greatest_depth (stack_of stack.now) (let_word order) (behind file lexed (i - 1)) (behind file lexed i))) }
 {
     if need(stack) > 4 {
         return Err(Stop::Refused(i.saturating_sub(1)));
+    }
+    if !has_room(stack) {
+        return Err(Stop::TooDeep(i.saturating_sub(1)));
     }
     let parts = Parts {
         list: List::new(alloc),
@@ -121,8 +144,9 @@ fn begin_sign(
     sign: Sign,
     i: u32,
 ) -> Result<(Outcome, u32), Stop>
-    ensures { (c : Context) (bytes : List ℕ) → sign ≢ signs.Name →
-        Took c file tokens.now (begin c (stack_of stack.old.items) at (symbol_with sign bytes) (behind file tokens.now i)) stack.new.items result }
+    ensures step { (c : Context) (bytes : List ℕ) → sign ≢ signs.Name →
+        Took c file tokens.now (begin greatest_depth c (stack_of stack.old.items) at (symbol_with sign bytes) (behind file tokens.now i)) stack.new.items result }
+    ensures fault { (bytes : List ℕ) → sign ≢ signs.Name → IfErr result (Says file tokens.now (begin_fault greatest_depth (stack_of stack.old.items) (symbol_with sign bytes) (behind file tokens.now (i - 1)) (behind file tokens.now i))) }
 {
     match sign {
         Sign::True => begin_atom(at, Form::True, i),
@@ -151,8 +175,9 @@ pub fn begin(
     stack: &mut Vec<Frame>,
     i: u32,
 ) -> Result<(Outcome, u32), Stop>
-    ensures { (c : Context) →
-        Took c file tokens.now (step (wanted c (stack_of stack.old.items)) (behind file tokens.now i)) stack.new.items result }
+    ensures step { (c : Context) →
+        Took c file tokens.now (step greatest_depth (wanted c (stack_of stack.old.items)) (behind file tokens.now i)) stack.new.items result }
+    ensures fault { (c : Context) → IfErr result (Says file tokens.now (step_fault greatest_depth (wanted c (stack_of stack.old.items)) (behind file tokens.now i))) }
 {
     if let Some((name, at)) = name_at(alloc, tokens, file, i)? {
         return begin_name(alloc, tokens, file, stack, at, name, i + 1);

@@ -1,4 +1,4 @@
-ghost use Rattle.std.specs.Prelude.{◌≡◌, [], ℕ, Bool, List, Some};
+ghost use Rattle.std.specs.Prelude.{◌≡◌, [], ℕ, Bool, List, Some, IfErr, ◌-◌};
 ghost use Rattle.ms_text.specs.TokenList.{Lexed};
 ghost use Rattle.ms_grammar.specs.Tree.{and_variable, variables};
 ghost use Rattle.ms_grammar.specs.View.{domain_of, expression_of, variables_of};
@@ -8,6 +8,10 @@ ghost use Rattle.ms_parse.specs.Signs.{behind, symbol_with};
 ghost use Rattle.ms_parse.specs.States.{Stepped, read_of};
 ghost use Rattle.ms_parse.specs.declared.frame.Frame.{Frame};
 ghost use Rattle.ms_parse.specs.declared.state.Parsed.{Parsed};
+ghost use Rattle.ms_grammar.specs.Grammar.{greatest_depth};
+ghost use Rattle.ms_parse.specs.Faults.{behind_global_fault, next_global_fault, settle_fault};
+ghost use Rattle.ms_parse.specs.Outcomes.{Says};
+ghost use Rattle.ms_parse.specs.declared.stop.Stop.TheVariants.{Memory};
 
 use crate::context::{Context, Globals};
 use crate::declare::{begin_expression, declared};
@@ -32,8 +36,9 @@ fn another_global(
     domain: Option<Boxed<Expr>>,
     i: u32,
 ) -> Result<(State, u32), Stop>
-    ensures { (file : ℕ) (lexed : Lexed) (made : Parsed) (frames : List Frame) →
+    ensures step { (file : ℕ) (lexed : Lexed) (made : Parsed) (frames : List Frame) →
         Stepped file lexed (Some (global_wanted (read_of made) globals.at globals.order (and_variable (variables_of globals.list) at_name globals.order name (domain_of domain)), behind file lexed i)) made frames result }
+    ensures fault { IfErr result (λ stop. stop ≡ Memory) }
 {
     let Globals {
         at,
@@ -53,8 +58,9 @@ fn last_global(
     domain: Option<Boxed<Expr>>,
     i: u32,
 ) -> Result<(State, u32), Stop>
-    ensures { (file : ℕ) (lexed : Lexed) (frames : List Frame) →
+    ensures step { (file : ℕ) (lexed : Lexed) (frames : List Frame) →
         Stepped file lexed (Some (outside (declare (read_of made.old) globals.at (variables (and_variable (variables_of globals.list) at_name globals.order name (domain_of domain)))), behind file lexed i)) made.new frames result }
+    ensures fault { IfErr result (λ stop. stop ≡ Memory) }
 {
     let Globals {
         at,
@@ -75,8 +81,9 @@ fn behind_global(
     sign: Sign,
     i: u32,
 ) -> Result<(State, u32), Stop>
-    ensures { (file : ℕ) (lexed : Lexed) (bytes : List ℕ) →
+    ensures step { (file : ℕ) (lexed : Lexed) (bytes : List ℕ) →
         Stepped file lexed (behind_global (read_of made.old) globals.at globals.order (variables_of globals.list) at_name name (symbol_with sign bytes) (behind file lexed i)) made.new stack.new.items result }
+    ensures fault { (file : ℕ) (lexed : Lexed) (bytes : List ℕ) → IfErr result (Says file lexed (behind_global_fault (symbol_with sign bytes) (behind file lexed (i - 1)) (behind file lexed i))) }
 {
     match sign {
         Sign::Where => begin_expression(stack, Context::Global(globals, at_name, name), i),
@@ -96,7 +103,8 @@ pub fn next_global(
     globals: Globals,
     i: u32,
 ) -> Result<(State, u32), Stop>
-    ensures { Stepped file tokens.now (next_global (read_of made.old) globals.at globals.order (variables_of globals.list) (behind file tokens.now i)) made.new stack.new.items result }
+    ensures step { Stepped file tokens.now (next_global (read_of made.old) globals.at globals.order (variables_of globals.list) (behind file tokens.now i)) made.new stack.new.items result }
+    ensures fault { IfErr result (Says file tokens.now (next_global_fault (behind file tokens.now i))) }
 {
     let Some((name, at_name)) = name_at(alloc, tokens, file, i)? else {
         return Err(Stop::Refused(i));
@@ -118,8 +126,9 @@ pub fn end_global(
     sign: Sign,
     i: u32,
 ) -> Result<(State, u32), Stop>
-    ensures { (file : ℕ) (lexed : Lexed) (frames : List Frame) (bytes : List ℕ) (inside : Bool) → IsEnd inside (symbol_with sign bytes) →
-        Stepped file lexed (settle (in_global (read_of made.old) globals.at globals.order (variables_of globals.list) at_name name) (symbol_with sign bytes) inside (expression_of operand.expr, []) (behind file lexed i)) made.new frames result }
+    ensures step { (file : ℕ) (lexed : Lexed) (frames : List Frame) (bytes : List ℕ) (inside : Bool) → IsEnd inside (symbol_with sign bytes) →
+        Stepped file lexed (settle greatest_depth (in_global (read_of made.old) globals.at globals.order (variables_of globals.list) at_name name) (symbol_with sign bytes) inside (expression_of operand.expr, []) (behind file lexed i)) made.new frames result }
+    ensures fault { (file : ℕ) (lexed : Lexed) (bytes : List ℕ) (inside : Bool) → IsEnd inside (symbol_with sign bytes) → IfErr result (Says file lexed (settle_fault greatest_depth (in_global (read_of made.old) globals.at globals.order (variables_of globals.list) at_name name) (symbol_with sign bytes) inside ((expression_of operand.expr), []) (behind file lexed (i - 1)) (behind file lexed i))) }
 {
     let Operand { expr, .. } = operand;
     let domain = boxed(alloc, expr)?;

@@ -1,15 +1,18 @@
-ghost use Rattle.std.specs.Prelude.{◌≡◌, ◌∷◌, [], ℕ, Bool, List, false, IsTrue};
+ghost use Rattle.std.specs.Prelude.{◌≡◌, ◌∷◌, [], ℕ, Bool, List, false, IsTrue, IfErr, ◌-◌};
 ghost use Rattle.ms_text.specs.TokenList.{Lexed};
 ghost use Rattle.ms_grammar.specs.View.{expression_of, variables_of};
 ghost use Rattle.ms_parse.specs.Ends.{ends_part, IsEnd, IsOperator};
 ghost use Rattle.ms_parse.specs.Machine as machine;
 ghost use Rattle.ms_parse.specs.Machine.{holding, in_default, in_formula, in_predicate, settle, step};
 ghost use Rattle.ms_parse.specs.Opened.{frame_of};
-ghost use Rattle.ms_parse.specs.Outcomes.{Took};
+ghost use Rattle.ms_parse.specs.Outcomes.{Took, Says};
 ghost use Rattle.ms_parse.specs.Signs.{behind, symbol_with};
 ghost use Rattle.ms_parse.specs.Stack.{stack_of};
 ghost use Rattle.ms_parse.specs.States.{Stepped, context_of, read_of};
 ghost use Rattle.ms_parse.specs.declared.frame.Frame.{Frame};
+ghost use Rattle.ms_grammar.specs.Grammar.{greatest_depth};
+ghost use Rattle.ms_parse.specs.Faults.{settle_fault, step_fault};
+ghost use Rattle.ms_grammar.specs.Tree.{Document};
 
 use crate::bound::{bound, ends_part};
 use crate::close::{close_curly, close_round};
@@ -56,8 +59,9 @@ fn settle_operator(
     sign: Sign,
     i: u32,
 ) -> Result<(Outcome, u32), Stop>
-    ensures { (c : machine.Context) (bytes : List ℕ) (inside : Bool) → IsOperator inside (symbol_with sign bytes) →
-        Took c file tokens.now (settle c (symbol_with sign bytes) inside (expression_of operand.expr, stack_of stack.old.items) (behind file tokens.now i)) stack.new.items result }
+    ensures step { (c : machine.Context) (bytes : List ℕ) (inside : Bool) → IsOperator inside (symbol_with sign bytes) →
+        Took c file tokens.now (settle greatest_depth c (symbol_with sign bytes) inside (expression_of operand.expr, stack_of stack.old.items) (behind file tokens.now i)) stack.new.items result }
+    ensures fault { (c : machine.Context) (bytes : List ℕ) (inside : Bool) → IsOperator inside (symbol_with sign bytes) → IfErr result (Says file tokens.now (settle_fault greatest_depth c (symbol_with sign bytes) inside ((expression_of operand.expr), stack_of stack.old.items) (behind file tokens.now (i - 1)) (behind file tokens.now i))) }
 {
     match sign {
         Sign::Infix(op) => shift(stack, op, operand, i),
@@ -76,8 +80,9 @@ fn settle_frame(
     sign: Sign,
     i: u32,
 ) -> Result<(Outcome, u32), Stop>
-    ensures { (c : machine.Context) (file : ℕ) (lexed : Lexed) (bytes : List ℕ) (inside : Bool) → IsEnd inside (symbol_with sign bytes) →
-        Took c file lexed (settle c (symbol_with sign bytes) inside (expression_of operand.expr, frame_of frame.opened ∷ stack_of stack.old.items) (behind file lexed i)) stack.new.items result }
+    ensures step { (c : machine.Context) (file : ℕ) (lexed : Lexed) (bytes : List ℕ) (inside : Bool) → IsEnd inside (symbol_with sign bytes) →
+        Took c file lexed (settle greatest_depth c (symbol_with sign bytes) inside (expression_of operand.expr, frame_of frame.opened ∷ stack_of stack.old.items) (behind file lexed i)) stack.new.items result }
+    ensures fault { (c : machine.Context) (file : ℕ) (lexed : Lexed) (bytes : List ℕ) (inside : Bool) → IsEnd inside (symbol_with sign bytes) → IfErr result (Says file lexed (settle_fault greatest_depth c (symbol_with sign bytes) inside ((expression_of operand.expr), frame_of frame.opened ∷ stack_of stack.old.items) (behind file lexed (i - 1)) (behind file lexed i))) }
 {
     match sign {
         Sign::CloseRound => close_round(alloc, frame, operand, i),
@@ -97,8 +102,9 @@ fn end_formula(
     sign: Sign,
     i: u32,
 ) -> Result<(State, u32), Stop>
-    ensures { (file : ℕ) (lexed : Lexed) (frames : List Frame) (bytes : List ℕ) (inside : Bool) → IsEnd inside (symbol_with sign bytes) →
-        Stepped file lexed (settle (in_formula (read_of made.old) at) (symbol_with sign bytes) inside (expression_of operand.expr, []) (behind file lexed i)) made.new frames result }
+    ensures step { (file : ℕ) (lexed : Lexed) (frames : List Frame) (bytes : List ℕ) (inside : Bool) → IsEnd inside (symbol_with sign bytes) →
+        Stepped file lexed (settle greatest_depth (in_formula (read_of made.old) at) (symbol_with sign bytes) inside (expression_of operand.expr, []) (behind file lexed i)) made.new frames result }
+    ensures fault { (d : Document) (file : ℕ) (lexed : Lexed) (bytes : List ℕ) (inside : Bool) → IsEnd inside (symbol_with sign bytes) → IfErr result (Says file lexed (settle_fault greatest_depth (in_formula d at) (symbol_with sign bytes) inside ((expression_of operand.expr), []) (behind file lexed (i - 1)) (behind file lexed i))) }
 {
     let Operand { expr, .. } = operand;
     match sign {
@@ -115,8 +121,9 @@ fn end_predicate(
     sign: Sign,
     i: u32,
 ) -> Result<(State, u32), Stop>
-    ensures { (file : ℕ) (lexed : Lexed) (frames : List Frame) (bytes : List ℕ) (inside : Bool) → IsEnd inside (symbol_with sign bytes) →
-        Stepped file lexed (settle (in_predicate (read_of made.old) signature.at signature.is_pred signature.at_name signature.name (variables_of signature.parameters)) (symbol_with sign bytes) inside (expression_of operand.expr, []) (behind file lexed i)) made.new frames result }
+    ensures step { (file : ℕ) (lexed : Lexed) (frames : List Frame) (bytes : List ℕ) (inside : Bool) → IsEnd inside (symbol_with sign bytes) →
+        Stepped file lexed (settle greatest_depth (in_predicate (read_of made.old) signature.at signature.is_pred signature.at_name signature.name (variables_of signature.parameters)) (symbol_with sign bytes) inside (expression_of operand.expr, []) (behind file lexed i)) made.new frames result }
+    ensures fault { (d : Document) (file : ℕ) (lexed : Lexed) (bytes : List ℕ) (inside : Bool) → IsEnd inside (symbol_with sign bytes) → IfErr result (Says file lexed (settle_fault greatest_depth (in_predicate d signature.at signature.is_pred signature.at_name signature.name (variables_of signature.parameters)) (symbol_with sign bytes) inside ((expression_of operand.expr), []) (behind file lexed (i - 1)) (behind file lexed i))) }
 {
     let Signature {
         at,
@@ -145,8 +152,9 @@ fn end_default(
     sign: Sign,
     i: u32,
 ) -> Result<(State, u32), Stop>
-    ensures { (file : ℕ) (lexed : Lexed) (frames : List Frame) (bytes : List ℕ) (inside : Bool) → IsEnd inside (symbol_with sign bytes) →
-        Stepped file lexed (settle (in_default (read_of made.old) at order name) (symbol_with sign bytes) inside (expression_of operand.expr, []) (behind file lexed i)) made.new frames result }
+    ensures step { (file : ℕ) (lexed : Lexed) (frames : List Frame) (bytes : List ℕ) (inside : Bool) → IsEnd inside (symbol_with sign bytes) →
+        Stepped file lexed (settle greatest_depth (in_default (read_of made.old) at order name) (symbol_with sign bytes) inside (expression_of operand.expr, []) (behind file lexed i)) made.new frames result }
+    ensures fault { (d : Document) (file : ℕ) (lexed : Lexed) (bytes : List ℕ) (inside : Bool) → IsEnd inside (symbol_with sign bytes) → IfErr result (Says file lexed (settle_fault greatest_depth (in_default d at order name) (symbol_with sign bytes) inside ((expression_of operand.expr), []) (behind file lexed (i - 1)) (behind file lexed i))) }
 {
     let Operand { expr, .. } = operand;
     match sign {
@@ -167,8 +175,9 @@ fn end_expression(
     sign: Sign,
     i: u32,
 ) -> Result<(State, u32), Stop>
-    ensures { (bytes : List ℕ) (inside : Bool) → IsEnd inside (symbol_with sign bytes) →
-        Stepped file tokens.now (settle (context_of (read_of made.old) context) (symbol_with sign bytes) inside (expression_of operand.expr, []) (behind file tokens.now i)) made.new stack.new.items result }
+    ensures step { (bytes : List ℕ) (inside : Bool) → IsEnd inside (symbol_with sign bytes) →
+        Stepped file tokens.now (settle greatest_depth (context_of (read_of made.old) context) (symbol_with sign bytes) inside (expression_of operand.expr, []) (behind file tokens.now i)) made.new stack.new.items result }
+    ensures fault { (bytes : List ℕ) (inside : Bool) → IsEnd inside (symbol_with sign bytes) → IfErr result (Says file tokens.now (settle_fault greatest_depth (context_of (read_of made.old) context) (symbol_with sign bytes) inside ((expression_of operand.expr), []) (behind file tokens.now (i - 1)) (behind file tokens.now i))) }
 {
     match context {
         Context::Formula(at) => end_formula(made, at, operand, sign, i),
@@ -196,8 +205,9 @@ fn settle(
     is_end: bool,
     i: u32,
 ) -> Result<(State, u32), Stop>
-    ensures { (bytes : List ℕ) (inside : Bool) → is_end ≡ ends_part inside (symbol_with sign bytes) →
-        Stepped file tokens.now (settle (context_of (read_of made.old) context) (symbol_with sign bytes) inside (expression_of operand.expr, stack_of stack.old.items) (behind file tokens.now i)) made.new stack.new.items result }
+    ensures step { (bytes : List ℕ) (inside : Bool) → is_end ≡ ends_part inside (symbol_with sign bytes) →
+        Stepped file tokens.now (settle greatest_depth (context_of (read_of made.old) context) (symbol_with sign bytes) inside (expression_of operand.expr, stack_of stack.old.items) (behind file tokens.now i)) made.new stack.new.items result }
+    ensures fault { (bytes : List ℕ) (inside : Bool) → is_end ≡ ends_part inside (symbol_with sign bytes) → IfErr result (Says file tokens.now (settle_fault greatest_depth (context_of (read_of made.old) context) (symbol_with sign bytes) inside ((expression_of operand.expr), stack_of stack.old.items) (behind file tokens.now (i - 1)) (behind file tokens.now i))) }
 {
     if is_operator(sign, is_end) {
         let taken = settle_operator(alloc, tokens, file, stack, operand, sign, i);
@@ -220,7 +230,8 @@ pub fn go_on(
     operand: Operand,
     i: u32,
 ) -> Result<(State, u32), Stop>
-    ensures { Stepped file tokens.now (step (holding (context_of (read_of made.old) context) (expression_of operand.expr) (stack_of stack.old.items)) (behind file tokens.now i)) made.new stack.new.items result }
+    ensures step { Stepped file tokens.now (step greatest_depth (holding (context_of (read_of made.old) context) (expression_of operand.expr) (stack_of stack.old.items)) (behind file tokens.now i)) made.new stack.new.items result }
+    ensures fault { IfErr result (Says file tokens.now (step_fault greatest_depth (holding (context_of (read_of made.old) context) (expression_of operand.expr) (stack_of stack.old.items)) (behind file tokens.now i))) }
 {
     let Some((sign, _)) = sign_at(tokens, file, i) else {
         return Err(Stop::Refused(i));

@@ -1,13 +1,15 @@
-ghost use Rattle.std.specs.Prelude.{◌≡◌, ℕ};
+ghost use Rattle.std.specs.Prelude.{◌≡◌, ℕ, IfErr, ◌-◌};
 ghost use Rattle.ms_text.specs.TokenList.{Lexed};
 ghost use Rattle.ms_grammar.specs.Tree.{and_expression};
 ghost use Rattle.ms_grammar.specs.View.{expression_of, expressions_of};
 ghost use Rattle.ms_parse.specs.Links.{IsLink};
 ghost use Rattle.ms_parse.specs.Machine.{Context, enter, join, joined_frame};
 ghost use Rattle.ms_parse.specs.Opened.{frame_of};
-ghost use Rattle.ms_parse.specs.Outcomes.{Took};
+ghost use Rattle.ms_parse.specs.Outcomes.{Took, Says};
 ghost use Rattle.ms_parse.specs.Signs.{behind};
 ghost use Rattle.ms_parse.specs.Stack.{stack_of};
+ghost use Rattle.ms_grammar.specs.Grammar.{greatest_depth, depth_of_all};
+ghost use Rattle.ms_parse.specs.Faults.{deep_at, enter_fault, join_fault};
 
 use crate::append::with_expression;
 use crate::enter::enter;
@@ -56,12 +58,18 @@ fn join_further(
     operand: Operand,
     i: u32,
 ) -> Result<(Outcome, u32), Stop>
-    ensures { (c : Context) (file : ℕ) (lexed : Lexed) →
-        Took c file lexed (enter c (joined_frame at op (and_expression (expressions_of operands.list) (expression_of operand.expr))) (stack_of stack.old.items) (behind file lexed i)) stack.new.items result }
+    ensures step { (c : Context) (file : ℕ) (lexed : Lexed) →
+        Took c file lexed (enter greatest_depth c (joined_frame at op (and_expression (expressions_of operands.list) (expression_of operand.expr))) (stack_of stack.old.items) (behind file lexed i)) stack.new.items result }
+    ensures fault { (file : ℕ) (lexed : Lexed) → IfErr result (Says file lexed (enter_fault greatest_depth (depth_of_all (and_expression (expressions_of operands.list) (expression_of operand.expr))) (stack_of stack.old.items) (deep_at (behind file lexed (i - 1))))) }
 {
     let Operands { list, height } = with_expression(operands, operand)?;
     let opened = Opened::Joined(at, op, list);
-    enter(stack, Frame { opened, height }, i)
+    enter(
+        stack,
+        Frame { opened, height },
+        i,
+        Stop::TooDeep(i.saturating_sub(1)),
+    )
 }
 
 /// `&` or `|` behind an operand.
@@ -72,8 +80,9 @@ pub fn join(
     operand: Operand,
     i: u32,
 ) -> Result<(Outcome, u32), Stop>
-    ensures { (c : Context) (file : ℕ) (lexed : Lexed) →
-        Took c file lexed (join c op (expression_of operand.expr) (stack_of stack.old.items) (behind file lexed i)) stack.new.items result }
+    ensures step { (c : Context) (file : ℕ) (lexed : Lexed) →
+        Took c file lexed (join greatest_depth c op (expression_of operand.expr) (stack_of stack.old.items) (behind file lexed i)) stack.new.items result }
+    ensures fault { (file : ℕ) (lexed : Lexed) → IfErr result (Says file lexed (join_fault greatest_depth op (expression_of operand.expr) (stack_of stack.old.items) (behind file lexed (i - 1)))) }
 {
     let Some(frame) = pop_frame(stack) else {
         return join_new(alloc, stack, op, operand, i);

@@ -41,7 +41,8 @@ mod stop;
 mod top;
 
 pub use examples::{
-    example_declarations, example_depths, example_documents, example_operators, example_refusals,
+    example_continuations, example_declarations, example_depths, example_documents,
+    example_operators, example_refusals,
 };
 pub use laws::one_document;
 pub use parser::{declarations, parse};

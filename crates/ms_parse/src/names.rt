@@ -1,10 +1,12 @@
-ghost use Rattle.std.specs.Prelude.{◌≡◌, ◌++◌, ◌∷◌, [], ℕ, List};
+ghost use Rattle.std.specs.Prelude.{◌≡◌, ◌++◌, ◌∷◌, [], ℕ, List, IfErr, ◌-◌};
 ghost use Rattle.ms_parse.specs.Machine.{Context, behind_variable, next_variable, next_part, next_pair};
-ghost use Rattle.ms_parse.specs.Outcomes.{Took};
+ghost use Rattle.ms_parse.specs.Outcomes.{Took, Says};
 ghost use Rattle.ms_parse.specs.Signs.{symbol_with, behind};
 ghost use Rattle.ms_parse.specs.Stack.{stack_of};
 ghost use Rattle.ms_grammar.specs.View.{variables_of, parts_of};
 ghost use Rattle.ms_text.specs.TokenList.{Lexed};
+ghost use Rattle.ms_grammar.specs.Grammar.{greatest_depth};
+ghost use Rattle.ms_parse.specs.Faults.{behind_variable_fault, next_pair_fault, next_part_fault, next_variable_fault};
 
 use crate::complete::finish;
 use crate::enter::enter;
@@ -34,8 +36,9 @@ pub fn next_part(
     parts: Parts,
     i: u32,
 ) -> Result<(Outcome, u32), Stop>
-    ensures { (c : Context) →
-        Took c file tokens.now (next_part c (stack_of stack.old.items) at order (parts_of parts.list) (behind file tokens.now i)) stack.new.items result }
+    ensures step { (c : Context) →
+        Took c file tokens.now (next_part greatest_depth c (stack_of stack.old.items) at order (parts_of parts.list) (behind file tokens.now i)) stack.new.items result }
+    ensures fault { IfErr result (Says file tokens.now (next_part_fault greatest_depth (stack_of stack.old.items) (parts_of parts.list) (behind file tokens.now i))) }
 {
     let Some((name, at_name)) = name_at(alloc, tokens, file, i)? else {
         return Err(Stop::Refused(i));
@@ -48,7 +51,7 @@ pub fn next_part(
         opened: Opened::Part(at, order, list, at_name, name),
         height,
     };
-    enter(stack, frame, next)
+    enter(stack, frame, next, Stop::TooDeep(i + 1))
 }
 
 /// A pair of an import or its end, where these are wanted.
@@ -62,8 +65,9 @@ pub fn next_pair(
     mut pairs: List<Rename>,
     i: u32,
 ) -> Result<(Outcome, u32), Stop>
-    ensures { (c : Context) →
+    ensures step { (c : Context) →
         Took c file tokens.now (next_pair c (stack_of stack.old.items) at text pairs (behind file tokens.now i)) stack.new.items result }
+    ensures fault { IfErr result (Says file tokens.now (next_pair_fault (behind file tokens.now i))) }
 {
     if let Some(next) = behind_mark(tokens, file, i, Punctuation::CloseRound) {
         let operand = finish(at, Form::Import(text, pairs), 0, i)?;
@@ -103,14 +107,20 @@ fn behind_variable(
     sign: Sign,
     i: u32,
 ) -> Result<(Outcome, u32), Stop>
-    ensures { (c : Context) (file : ℕ) (lexed : Lexed) (bytes : List ℕ) →
-        Took c file lexed (behind_variable c (stack_of stack.old.items) at quant order (variables_of bounds.list) at_name name (symbol_with sign bytes) (behind file lexed i)) stack.new.items result }
+    ensures step { (c : Context) (file : ℕ) (lexed : Lexed) (bytes : List ℕ) →
+        Took c file lexed (behind_variable greatest_depth c (stack_of stack.old.items) at quant order (variables_of bounds.list) at_name name (symbol_with sign bytes) (behind file lexed i)) stack.new.items result }
+    ensures fault { (file : ℕ) (lexed : Lexed) (bytes : List ℕ) → IfErr result (Says file lexed (behind_variable_fault greatest_depth (stack_of stack.old.items) (variables_of bounds.list) (symbol_with sign bytes) (behind file lexed (i - 1)) (behind file lexed i))) }
 {
     let Bounds { mut list, height } = bounds;
     match sign {
         Sign::Where => {
             let opened = Opened::Domain(at, quant, order, list, at_name, name);
-            enter(stack, Frame { opened, height }, i)
+            enter(
+                stack,
+                Frame { opened, height },
+                i,
+                Stop::TooDeep(i.saturating_sub(1)),
+            )
         }
         Sign::Comma => {
             push_variable(&mut list, at_name, order, name, None)?;
@@ -122,7 +132,12 @@ fn behind_variable(
         Sign::Colon => {
             push_variable(&mut list, at_name, order, name, None)?;
             let opened = Opened::Body(at, quant, order, list);
-            enter(stack, Frame { opened, height }, i)
+            enter(
+                stack,
+                Frame { opened, height },
+                i,
+                Stop::TooDeep(i.saturating_sub(1)),
+            )
         }
         _ => Err(Stop::Refused(i.saturating_sub(1))),
     }
@@ -140,8 +155,9 @@ pub fn next_variable(
     bounds: Bounds,
     i: u32,
 ) -> Result<(Outcome, u32), Stop>
-    ensures { (c : Context) →
-        Took c file tokens.now (next_variable c (stack_of stack.old.items) at quant order (variables_of bounds.list) (behind file tokens.now i)) stack.new.items result }
+    ensures step { (c : Context) →
+        Took c file tokens.now (next_variable greatest_depth c (stack_of stack.old.items) at quant order (variables_of bounds.list) (behind file tokens.now i)) stack.new.items result }
+    ensures fault { IfErr result (Says file tokens.now (next_variable_fault greatest_depth (stack_of stack.old.items) (variables_of bounds.list) (behind file tokens.now i))) }
 {
     let Some((name, at_name)) = name_at(alloc, tokens, file, i)? else {
         return Err(Stop::Refused(i));

@@ -1,4 +1,4 @@
-ghost use Rattle.std.specs.Prelude.{◌≡◌, [], ℕ, Bool, List, Option, Some, IfSome, IfNone};
+ghost use Rattle.std.specs.Prelude.{◌≡◌, [], ℕ, Bool, List, Option, Some, IfSome, IfNone, IfErr, ◌-◌};
 ghost use Rattle.ms_text.specs.TokenList.{Lexed};
 ghost use Rattle.ms_grammar.specs.Tree.{and_variable};
 ghost use Rattle.ms_grammar.specs.View.{domain_of, expression_of, variables_of};
@@ -9,6 +9,10 @@ ghost use Rattle.ms_parse.specs.Signs.{behind, symbol_with};
 ghost use Rattle.ms_parse.specs.States.{Stepped, read_of};
 ghost use Rattle.ms_parse.specs.declared.frame.Frame.{Frame};
 ghost use Rattle.ms_parse.specs.declared.state.Parsed.{Parsed};
+ghost use Rattle.ms_grammar.specs.Grammar.{greatest_depth};
+ghost use Rattle.ms_parse.specs.Faults.{behind_parameter_fault, body_fault, next_parameter_fault, settle_fault};
+ghost use Rattle.ms_parse.specs.Outcomes.{Says};
+ghost use Rattle.ms_parse.specs.declared.stop.Stop.TheVariants.{Memory};
 
 use crate::context::{Context, Signature};
 use crate::declare::begin_expression;
@@ -34,8 +38,9 @@ pub fn body_of(
     signature: Signature,
     i: u32,
 ) -> Result<(State, u32), Stop>
-    ensures { (made : Parsed) →
+    ensures step { (made : Parsed) →
         Stepped file tokens.now (body_of (read_of made) signature.at signature.is_pred signature.at_name signature.name (variables_of signature.parameters) (behind file tokens.now i)) made stack.new.items result }
+    ensures fault { IfErr result (Says file tokens.now (body_fault (behind file tokens.now i))) }
 {
     let Some(next) = behind_mark(tokens, file, i, Punctuation::Equal) else {
         return Err(Stop::Refused(i));
@@ -52,8 +57,9 @@ fn another_parameter(
     domain: Option<Boxed<Expr>>,
     i: u32,
 ) -> Result<(State, u32), Stop>
-    ensures { (file : ℕ) (lexed : Lexed) (made : Parsed) (frames : List Frame) →
+    ensures step { (file : ℕ) (lexed : Lexed) (made : Parsed) (frames : List Frame) →
         Stepped file lexed (Some (parameter_wanted (read_of made) signature.at signature.is_pred signature.at_name signature.name (and_variable (variables_of signature.parameters) at_name order name (domain_of domain)), behind file lexed i)) made frames result }
+    ensures fault { IfErr result (λ stop. stop ≡ Memory) }
 {
     let mut signature = signature;
     push_variable(&mut signature.parameters, at_name, order, name, domain)?;
@@ -72,8 +78,9 @@ fn last_parameter(
     domain: Option<Boxed<Expr>>,
     i: u32,
 ) -> Result<(State, u32), Stop>
-    ensures { (made : Parsed) →
+    ensures step { (made : Parsed) →
         Stepped file tokens.now (body_of (read_of made) signature.at signature.is_pred signature.at_name signature.name (and_variable (variables_of signature.parameters) at_name order name (domain_of domain)) (behind file tokens.now i)) made stack.new.items result }
+    ensures fault { IfErr result (Says file tokens.now (body_fault (behind file tokens.now i))) }
 {
     let mut signature = signature;
     push_variable(&mut signature.parameters, at_name, order, name, domain)?;
@@ -92,8 +99,9 @@ fn behind_parameter(
     sign: Sign,
     i: u32,
 ) -> Result<(State, u32), Stop>
-    ensures { (made : Parsed) (bytes : List ℕ) →
+    ensures step { (made : Parsed) (bytes : List ℕ) →
         Stepped file tokens.now (behind_parameter (read_of made) signature.at signature.is_pred signature.at_name signature.name (variables_of signature.parameters) order at_name name (symbol_with sign bytes) (behind file tokens.now i)) made stack.new.items result }
+    ensures fault { (bytes : List ℕ) → IfErr result (Says file tokens.now (behind_parameter_fault (symbol_with sign bytes) (behind file tokens.now (i - 1)) (behind file tokens.now i))) }
 {
     match sign {
         Sign::Where => {
@@ -146,8 +154,9 @@ pub fn next_parameter(
     signature: Signature,
     i: u32,
 ) -> Result<(State, u32), Stop>
-    ensures { (made : Parsed) →
+    ensures step { (made : Parsed) →
         Stepped file tokens.now (next_parameter (read_of made) signature.at signature.is_pred signature.at_name signature.name (variables_of signature.parameters) (behind file tokens.now i)) made stack.new.items result }
+    ensures fault { IfErr result (Says file tokens.now (next_parameter_fault (variables_of signature.parameters) (behind file tokens.now i))) }
 {
     let Some((order, from)) = kind_at(tokens, file, &signature.parameters, i) else {
         return Err(Stop::Refused(i));
@@ -185,8 +194,9 @@ pub fn end_parameter(
     sign: Sign,
     i: u32,
 ) -> Result<(State, u32), Stop>
-    ensures { (made : Parsed) (bytes : List ℕ) (inside : Bool) → IsEnd inside (symbol_with sign bytes) →
-        Stepped file tokens.now (settle (in_parameter (read_of made) signature.at signature.is_pred signature.at_name signature.name (variables_of signature.parameters) order at_name name) (symbol_with sign bytes) inside (expression_of operand.expr, []) (behind file tokens.now i)) made stack.new.items result }
+    ensures step { (made : Parsed) (bytes : List ℕ) (inside : Bool) → IsEnd inside (symbol_with sign bytes) →
+        Stepped file tokens.now (settle greatest_depth (in_parameter (read_of made) signature.at signature.is_pred signature.at_name signature.name (variables_of signature.parameters) order at_name name) (symbol_with sign bytes) inside (expression_of operand.expr, []) (behind file tokens.now i)) made stack.new.items result }
+    ensures fault { (made : Parsed) (bytes : List ℕ) (inside : Bool) → IsEnd inside (symbol_with sign bytes) → IfErr result (Says file tokens.now (settle_fault greatest_depth (in_parameter (read_of made) signature.at signature.is_pred signature.at_name signature.name (variables_of signature.parameters) order at_name name) (symbol_with sign bytes) inside ((expression_of operand.expr), []) (behind file tokens.now (i - 1)) (behind file tokens.now i))) }
 {
     let Operand { expr, .. } = operand;
     let domain = boxed(alloc, expr)?;

@@ -3,11 +3,14 @@ ghost use Rattle.ms_grammar.specs.Declarations.{ReadsAs};
 ghost use Rattle.ms_grammar.specs.Tree.{Document};
 ghost use Rattle.ms_parse.specs.Machine as machine;
 ghost use Rattle.ms_parse.specs.Machine.{finished};
-ghost use Rattle.ms_parse.specs.Outcomes.{outcome_of};
-ghost use Rattle.ms_parse.specs.Refused.{IsGrammarFault, StopsAt};
+ghost use Rattle.ms_parse.specs.Outcomes.{outcome_of, Says};
+ghost use Rattle.ms_parse.specs.Refused.{IsGrammarFault};
+ghost use Rattle.ms_parse.specs.Stops.{StopsAt};
 ghost use Rattle.ms_parse.specs.Signs.{behind};
 ghost use Rattle.ms_parse.specs.Stack.{stack_of};
 ghost use Rattle.ms_parse.specs.States.{Stepped, context_of, read_of, source_of, state_of};
+ghost use Rattle.ms_grammar.specs.Grammar.{greatest_depth};
+ghost use Rattle.ms_parse.specs.Faults.{step_fault};
 
 use crate::context::Context;
 use crate::declaration::{begin_declaration, next_summand};
@@ -40,7 +43,8 @@ fn step_expression(
     outcome: Outcome,
     i: u32,
 ) -> Result<(State, u32), Stop>
-    ensures { Stepped file tokens.now (machine.step (outcome_of (context_of (read_of made.old) context) (stack_of stack.old.items) outcome) (behind file tokens.now i)) made.new stack.new.items result }
+    ensures step { Stepped file tokens.now (machine.step greatest_depth (outcome_of (context_of (read_of made.old) context) (stack_of stack.old.items) outcome) (behind file tokens.now i)) made.new stack.new.items result }
+    ensures fault { IfErr result (Says file tokens.now (step_fault greatest_depth (outcome_of (context_of (read_of made.old) context) (stack_of stack.old.items) outcome) (behind file tokens.now i))) }
 {
     match outcome {
         Outcome::Wanted => inside(context, begin(alloc, tokens, file, stack, i)),
@@ -72,7 +76,8 @@ fn step(
     state: State,
     i: u32,
 ) -> Result<(State, u32), Stop>
-    ensures { Stepped file tokens.now (machine.step (state_of (read_of made.old) (stack_of stack.old.items) state) (behind file tokens.now i)) made.new stack.new.items result }
+    ensures step { Stepped file tokens.now (machine.step greatest_depth (state_of (read_of made.old) (stack_of stack.old.items) state) (behind file tokens.now i)) made.new stack.new.items result }
+    ensures fault { IfErr result (Says file tokens.now (step_fault greatest_depth (state_of (read_of made.old) (stack_of stack.old.items) state) (behind file tokens.now i))) }
 {
     match state {
         State::Outside => begin_declaration(alloc, tokens, file, made, stack, i),

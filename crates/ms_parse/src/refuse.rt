@@ -1,10 +1,12 @@
 ghost use Rattle.std.specs.Prelude.{◌≡◌, ◌⊎◌, ◌↔◌, IsTrue};
-ghost use Rattle.ms_parse.specs.Refused.{IsGrammarFault, NamesFault, StopsAt};
+ghost use Rattle.ms_grammar.specs.Symbol.{symbols};
+ghost use Rattle.ms_parse.specs.Refused.{IsGrammarFault, NamesFault, end_of};
+ghost use Rattle.ms_parse.specs.Stops.{MisplacesAt, DeepensAt, StopsAt, behind_word};
 
 use crate::input::at_of;
 use crate::punctuation::{Punctuation, behind_mark};
 use crate::stop::Stop;
-use ms_edge::{Name, Refusal};
+use ms_edge::{At, Name, Refusal};
 use ms_text::{Kind, Tokens};
 use std::alloc::Global;
 use std::str;
@@ -15,12 +17,19 @@ fn is_left_out(kind: Kind) -> bool
     matches!(kind, Kind::LeftOut)
 }
 
+/// The place of the end of the file.
+fn end_at(tokens: &Tokens, file: u32) -> At
+    ensures { result ≡ end_of file tokens.now }
+{
+    at_of(file, tokens.end())
+}
+
 /// The refusal at the token with a number, or at the end of the file where there is none.
 fn fault_at(alloc: Global, tokens: &Tokens, file: u32, i: u32) -> Refusal
-    ensures { (result ≡ Refusal.Memory) ⊎ NamesFault file tokens.now result }
+    ensures { MisplacesAt file tokens.now i → (result ≡ Refusal.Memory) ⊎ NamesFault file tokens.now result }
 {
     if i >= tokens.len() {
-        let at = at_of(file, tokens.end());
+        let at = end_at(tokens, file);
         return Refusal::Grammar { at };
     }
     let token = tokens.get(i);
@@ -39,10 +48,10 @@ fn fault_at(alloc: Global, tokens: &Tokens, file: u32, i: u32) -> Refusal
 
 /// The refusal where an expression becomes too deep at the token with a number.
 fn depth_at(tokens: &Tokens, file: u32, i: u32) -> Refusal
-    ensures { NamesFault file tokens.now result }
+    ensures { DeepensAt file tokens.now i → NamesFault file tokens.now result }
 {
     if i >= tokens.len() {
-        let at = at_of(file, tokens.end());
+        let at = end_at(tokens, file);
         return Refusal::Grammar { at };
     }
     let token = tokens.get(i);
@@ -50,24 +59,16 @@ fn depth_at(tokens: &Tokens, file: u32, i: u32) -> Refusal
     Refusal::Depth { at }
 }
 
-/// The number of the token that stands at a place, or how many tokens there are.
-fn number_of(tokens: &Tokens, place: u64) -> u32 {
-    for i in 0..tokens.len() {
-        if tokens.get(i).place == place {
-            return i;
-        }
-    }
-    tokens.len()
-}
-
 /// `ws1s` at the beginning may be the header, and what stands behind it may not.
-fn behind_ws1s(tokens: &Tokens, file: u32, i: u32) -> u32 {
+fn behind_ws1s(tokens: &Tokens, file: u32, i: u32) -> u32
+    ensures { result ≡ behind_word (symbols file tokens.now) i }
+{
     if i > 0 {
         return i;
     }
-    match behind_mark(tokens, file, i, Punctuation::Ws1s) {
-        Some(next) => next,
-        None => i,
+    match behind_mark(tokens, file, 0, Punctuation::Ws1s) {
+        Some(_) => 1,
+        None => 0,
     }
 }
 
@@ -79,6 +80,5 @@ pub fn refusal_of(alloc: Global, tokens: &Tokens, file: u32, stop: Stop) -> Refu
         Stop::Memory => Refusal::Memory,
         Stop::Refused(i) => fault_at(alloc, tokens, file, behind_ws1s(tokens, file, i)),
         Stop::TooDeep(i) => depth_at(tokens, file, i),
-        Stop::TooDeepFrom(at) => depth_at(tokens, file, number_of(tokens, at.place)),
     }
 }

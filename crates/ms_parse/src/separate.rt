@@ -1,14 +1,17 @@
-ghost use Rattle.std.specs.Prelude.{◌≡◌, ◌∷◌, ℕ, List, Some};
+ghost use Rattle.std.specs.Prelude.{◌≡◌, ◌∷◌, ℕ, List, Some, IfErr, ◌-◌};
 ghost use Rattle.ms_text.specs.TokenList.{Lexed};
 ghost use Rattle.ms_parse.specs.Machine as machine;
 ghost use Rattle.ms_parse.specs.Machine.{Context, list_frame, body_frame, let_frame, variable_wanted, part_wanted, enter, comma_at, colon_at, in_at};
-ghost use Rattle.ms_parse.specs.Outcomes.{Took};
+ghost use Rattle.ms_parse.specs.Outcomes.{Took, Says};
 ghost use Rattle.ms_parse.specs.Rows.{IsRow};
 ghost use Rattle.ms_parse.specs.Signs.{behind};
 ghost use Rattle.ms_parse.specs.Stack.{stack_of};
 ghost use Rattle.ms_grammar.specs.Tree.{and_expression, and_variable, and_part, restricted};
 ghost use Rattle.ms_grammar.specs.View.{expression_of, expressions_of, variables_of, parts_of};
 ghost use Rattle.ms_parse.specs.declared.frame.Frame.{Frame};
+ghost use Rattle.ms_grammar.specs.Grammar.{greatest_depth, depth_of_all, depth_of_domains, depth_of_values};
+ghost use Rattle.ms_parse.specs.Faults.{colon_fault, comma_fault, deep_at, enter_fault, in_fault};
+ghost use Rattle.ms_parse.specs.declared.stop.Stop.TheVariants.{Memory};
 
 use crate::append::{with_expression, with_part, with_restricted};
 use crate::enter::enter;
@@ -31,12 +34,18 @@ fn another_expression(
     operand: Operand,
     i: u32,
 ) -> Result<(Outcome, u32), Stop>
-    ensures { (c : Context) (file : ℕ) (lexed : Lexed) →
-        Took c file lexed (enter c (list_frame at listing (and_expression (expressions_of operands.list) (expression_of operand.expr))) (stack_of stack.old.items) (behind file lexed i)) stack.new.items result }
+    ensures step { (c : Context) (file : ℕ) (lexed : Lexed) →
+        Took c file lexed (enter greatest_depth c (list_frame at listing (and_expression (expressions_of operands.list) (expression_of operand.expr))) (stack_of stack.old.items) (behind file lexed i)) stack.new.items result }
+    ensures fault { (file : ℕ) (lexed : Lexed) → IfErr result (Says file lexed (enter_fault greatest_depth (depth_of_all (and_expression (expressions_of operands.list) (expression_of operand.expr))) (stack_of stack.old.items) (deep_at (behind file lexed (i - 1))))) }
 {
     let Operands { list, height } = with_expression(operands, operand)?;
     let opened = Opened::Listed(at, listing, list);
-    enter(stack, Frame { opened, height }, i)
+    enter(
+        stack,
+        Frame { opened, height },
+        i,
+        Stop::TooDeep(i.saturating_sub(1)),
+    )
 }
 
 fn another_variable(
@@ -50,8 +59,9 @@ fn another_variable(
     operand: Operand,
     i: u32,
 ) -> Result<(Outcome, u32), Stop>
-    ensures { (c : Context) (file : ℕ) (lexed : Lexed) (frames : List Frame) →
+    ensures step { (c : Context) (file : ℕ) (lexed : Lexed) (frames : List Frame) →
         Took c file lexed (Some (variable_wanted c (stack_of frames) at quant order (and_variable (variables_of bounds.list) at_name order name (restricted (expression_of operand.expr))), behind file lexed i)) frames result }
+    ensures fault { IfErr result (λ stop. stop ≡ Memory) }
 {
     let more = with_restricted(alloc, bounds, at_name, order, name, operand)?;
     Ok((Outcome::Variable(at, quant, order, more), i))
@@ -66,8 +76,9 @@ fn another_part(
     operand: Operand,
     i: u32,
 ) -> Result<(Outcome, u32), Stop>
-    ensures { (c : Context) (file : ℕ) (lexed : Lexed) (frames : List Frame) →
+    ensures step { (c : Context) (file : ℕ) (lexed : Lexed) (frames : List Frame) →
         Took c file lexed (Some (part_wanted c (stack_of frames) at order (and_part (parts_of parts.list) at_name name (expression_of operand.expr)), behind file lexed i)) frames result }
+    ensures fault { IfErr result (λ stop. stop ≡ Memory) }
 {
     let more = with_part(parts, at_name, name, operand)?;
     Ok((Outcome::Part(at, order, more), i))
@@ -81,8 +92,9 @@ pub fn comma(
     operand: Operand,
     i: u32,
 ) -> Result<(Outcome, u32), Stop>
-    ensures { (c : Context) (file : ℕ) (lexed : Lexed) (top : machine.Frame) → IsRow row top →
-        Took c file lexed (comma_at c (expression_of operand.expr) (top ∷ stack_of stack.old.items) (behind file lexed i)) stack.new.items result }
+    ensures step { (c : Context) (file : ℕ) (lexed : Lexed) (top : machine.Frame) → IsRow row top →
+        Took c file lexed (comma_at greatest_depth c (expression_of operand.expr) (top ∷ stack_of stack.old.items) (behind file lexed i)) stack.new.items result }
+    ensures fault { (c : Context) (file : ℕ) (lexed : Lexed) (top : machine.Frame) → IsRow row top → IfErr result (Says file lexed (comma_fault greatest_depth c (expression_of operand.expr) (top ∷ stack_of stack.old.items) (behind file lexed (i - 1)))) }
 {
     match row {
         Row::Listed(at, listing, operands) => {
@@ -110,12 +122,18 @@ fn begin_body(
     operand: Operand,
     i: u32,
 ) -> Result<(Outcome, u32), Stop>
-    ensures { (c : Context) (file : ℕ) (lexed : Lexed) →
-        Took c file lexed (enter c (body_frame at quant order (and_variable (variables_of bounds.list) at_name order name (restricted (expression_of operand.expr)))) (stack_of stack.old.items) (behind file lexed i)) stack.new.items result }
+    ensures step { (c : Context) (file : ℕ) (lexed : Lexed) →
+        Took c file lexed (enter greatest_depth c (body_frame at quant order (and_variable (variables_of bounds.list) at_name order name (restricted (expression_of operand.expr)))) (stack_of stack.old.items) (behind file lexed i)) stack.new.items result }
+    ensures fault { (file : ℕ) (lexed : Lexed) → IfErr result (Says file lexed (enter_fault greatest_depth (depth_of_domains (and_variable (variables_of bounds.list) at_name order name (restricted (expression_of operand.expr)))) (stack_of stack.old.items) (deep_at (behind file lexed (i - 1))))) }
 {
     let Bounds { list, height } = with_restricted(alloc, bounds, at_name, order, name, operand)?;
     let opened = Opened::Body(at, quant, order, list);
-    enter(stack, Frame { opened, height }, i)
+    enter(
+        stack,
+        Frame { opened, height },
+        i,
+        Stop::TooDeep(i.saturating_sub(1)),
+    )
 }
 
 /// `:` behind an expression, in the row that stood on top of the stack.
@@ -126,8 +144,9 @@ pub fn colon(
     operand: Operand,
     i: u32,
 ) -> Result<(Outcome, u32), Stop>
-    ensures { (c : Context) (file : ℕ) (lexed : Lexed) (top : machine.Frame) → IsRow row top →
-        Took c file lexed (colon_at c (expression_of operand.expr) (top ∷ stack_of stack.old.items) (behind file lexed i)) stack.new.items result }
+    ensures step { (c : Context) (file : ℕ) (lexed : Lexed) (top : machine.Frame) → IsRow row top →
+        Took c file lexed (colon_at greatest_depth c (expression_of operand.expr) (top ∷ stack_of stack.old.items) (behind file lexed i)) stack.new.items result }
+    ensures fault { (file : ℕ) (lexed : Lexed) (top : machine.Frame) → IsRow row top → IfErr result (Says file lexed (colon_fault greatest_depth (expression_of operand.expr) (top ∷ stack_of stack.old.items) (behind file lexed (i - 1)))) }
 {
     match row {
         Row::Domain(at, quant, order, bounds, at_name, name) => {
@@ -151,12 +170,18 @@ fn begin_scope(
     operand: Operand,
     i: u32,
 ) -> Result<(Outcome, u32), Stop>
-    ensures { (c : Context) (file : ℕ) (lexed : Lexed) →
-        Took c file lexed (enter c (let_frame at order (and_part (parts_of parts.list) at_name name (expression_of operand.expr))) (stack_of stack.old.items) (behind file lexed i)) stack.new.items result }
+    ensures step { (c : Context) (file : ℕ) (lexed : Lexed) →
+        Took c file lexed (enter greatest_depth c (let_frame at order (and_part (parts_of parts.list) at_name name (expression_of operand.expr))) (stack_of stack.old.items) (behind file lexed i)) stack.new.items result }
+    ensures fault { (file : ℕ) (lexed : Lexed) → IfErr result (Says file lexed (enter_fault greatest_depth (depth_of_values (and_part (parts_of parts.list) at_name name (expression_of operand.expr))) (stack_of stack.old.items) (deep_at (behind file lexed (i - 1))))) }
 {
     let Parts { list, height } = with_part(parts, at_name, name, operand)?;
     let opened = Opened::Let(at, order, list);
-    enter(stack, Frame { opened, height }, i)
+    enter(
+        stack,
+        Frame { opened, height },
+        i,
+        Stop::TooDeep(i.saturating_sub(1)),
+    )
 }
 
 /// `in` behind a right side of a `let`, in the row that stood on top of the stack.
@@ -166,8 +191,9 @@ pub fn end_parts(
     operand: Operand,
     i: u32,
 ) -> Result<(Outcome, u32), Stop>
-    ensures { (c : Context) (file : ℕ) (lexed : Lexed) (top : machine.Frame) → IsRow row top →
-        Took c file lexed (in_at c (expression_of operand.expr) (top ∷ stack_of stack.old.items) (behind file lexed i)) stack.new.items result }
+    ensures step { (c : Context) (file : ℕ) (lexed : Lexed) (top : machine.Frame) → IsRow row top →
+        Took c file lexed (in_at greatest_depth c (expression_of operand.expr) (top ∷ stack_of stack.old.items) (behind file lexed i)) stack.new.items result }
+    ensures fault { (file : ℕ) (lexed : Lexed) (top : machine.Frame) → IsRow row top → IfErr result (Says file lexed (in_fault greatest_depth (expression_of operand.expr) (top ∷ stack_of stack.old.items) (behind file lexed (i - 1)))) }
 {
     match row {
         Row::Part(at, order, parts, at_name, name) => {

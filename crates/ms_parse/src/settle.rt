@@ -1,11 +1,14 @@
-ghost use Rattle.std.specs.Prelude.{◌≡◌, ◌≤◌, ◌<◌, ◌+◌, ◌⊎◌, ℕ, suc, false, List, length, IsTrue};
+ghost use Rattle.std.specs.Prelude.{◌≡◌, ◌≤◌, ◌<◌, ◌+◌, ◌⊎◌, ℕ, suc, true, false, List, length, IsTrue, IfErr, IfOk, None, ◌-◌, ◌≢◌};
 ghost use Rattle.ms_text.specs.TokenList.{Lexed};
-ghost use Rattle.ms_grammar.specs.Grammar.{left_level, junction_level, level, depth};
+ghost use Rattle.ms_grammar.specs.Grammar.{left_level, junction_level, level, depth, greatest_depth};
 ghost use Rattle.ms_parse.specs.Machine.{Context, shift, join_new, shift_by, shift_int};
-ghost use Rattle.ms_parse.specs.Outcomes.{Took};
+ghost use Rattle.ms_parse.specs.Outcomes.{Took, Says};
+ghost use Rattle.ms_grammar.specs.Reads.{int_symbol, Starts};
 ghost use Rattle.ms_parse.specs.Signs.{behind};
 ghost use Rattle.ms_parse.specs.Stack.{stack_of};
 ghost use Rattle.ms_grammar.specs.View.{expression_of};
+ghost use Rattle.ms_parse.specs.Faults.{join_new_fault, shift_fault, shift_int_fault};
+ghost use Rattle.ms_parse.specs.declared.stop.Stop.TheVariants.{Memory};
 
 use crate::complete::finish;
 use crate::enter::{enter, level};
@@ -43,8 +46,9 @@ pub fn shift(
     left: Operand,
     i: u32,
 ) -> Result<(Outcome, u32), Stop>
-    ensures { (c : Context) (file : ℕ) (lexed : Lexed) →
-        Took c file lexed (shift c op (expression_of left.expr, stack_of stack.old.items) (behind file lexed i)) stack.new.items result }
+    ensures step { (c : Context) (file : ℕ) (lexed : Lexed) →
+        Took c file lexed (shift greatest_depth c op (expression_of left.expr, stack_of stack.old.items) (behind file lexed i)) stack.new.items result }
+    ensures fault { (file : ℕ) (lexed : Lexed) → IfErr result (Says file lexed (shift_fault greatest_depth op (expression_of left.expr) (stack_of stack.old.items) (behind file lexed (i - 1)))) }
 {
     if level(&left.expr) < least_left(op) {
         return Err(Stop::Refused(i.saturating_sub(1)));
@@ -54,7 +58,7 @@ pub fn shift(
         opened: Opened::Left(op, left),
         height,
     };
-    enter(stack, frame, i)
+    enter(stack, frame, i, Stop::TooDeep(i.saturating_sub(1)))
 }
 
 /// The first operand of `&` or `|`, with the operator behind it.
@@ -65,8 +69,9 @@ pub fn join_new(
     first: Operand,
     i: u32,
 ) -> Result<(Outcome, u32), Stop>
-    ensures { (c : Context) (file : ℕ) (lexed : Lexed) →
-        Took c file lexed (join_new c op (expression_of first.expr) (stack_of stack.old.items) (behind file lexed i)) stack.new.items result }
+    ensures step { (c : Context) (file : ℕ) (lexed : Lexed) →
+        Took c file lexed (join_new greatest_depth c op (expression_of first.expr) (stack_of stack.old.items) (behind file lexed i)) stack.new.items result }
+    ensures fault { (file : ℕ) (lexed : Lexed) → IfErr result (Says file lexed (join_new_fault greatest_depth op (expression_of first.expr) (stack_of stack.old.items) (behind file lexed (i - 1)))) }
 {
     if level(&first.expr) < least_operand(op) {
         return Err(Stop::Refused(i.saturating_sub(1)));
@@ -80,7 +85,7 @@ pub fn join_new(
         opened: Opened::Joined(at, op, list),
         height,
     };
-    enter(stack, frame, i)
+    enter(stack, frame, i, Stop::TooDeep(i.saturating_sub(1)))
 }
 
 fn least_operand(op: Junction) -> u32
@@ -92,14 +97,11 @@ fn least_operand(op: Junction) -> u32
     }
 }
 
-/// Whether a number may be added to the expression: it binds tightly enough, and the depth leaves room.
+/// Whether the depth leaves room for a sum of the expression and a number.
 fn may_shift(stack: &[Frame], operand: &Operand) -> bool
-    ensures yes { IsTrue result → (9 ≤ level (expression_of operand.now.expr)) × (length stack.now + suc (depth (expression_of operand.now.expr)) ≤ 300) }
-    ensures no { result ≡ false → (level (expression_of operand.now.expr) < 9) ⊎ (300 < length stack.now + suc (depth (expression_of operand.now.expr))) }
+    ensures yes { IsTrue result → length stack.now + suc (depth (expression_of operand.now.expr)) ≤ 300 }
+    ensures no { result ≡ false → 300 < length stack.now + suc (depth (expression_of operand.now.expr)) }
 {
-    if level(&operand.expr) < 9 {
-        return false;
-    }
     if stack.len() >= 300 {
         return false;
     }
@@ -107,19 +109,19 @@ fn may_shift(stack: &[Frame], operand: &Operand) -> bool
 }
 
 /// `+` or `-` and its number behind an expression.
-pub fn shift_by(
+fn shift_by(
     alloc: Global,
     stack: &[Frame],
     operand: Operand,
     number: PlacedInt,
     i: u32,
 ) -> Result<(Outcome, u32), Stop>
-    ensures { (c : Context) (file : ℕ) (lexed : Lexed) →
-        Took c file lexed (shift_by c (expression_of operand.expr) (stack_of stack.now) number (behind file lexed i)) stack.now result }
+    requires high { 9 ≤ level (expression_of operand.expr) }
+    requires room { length stack.now + suc (depth (expression_of operand.expr)) ≤ 300 }
+    ensures step { (c : Context) (file : ℕ) (lexed : Lexed) →
+        Took c file lexed (shift_by greatest_depth c (expression_of operand.expr) (stack_of stack.now) number (behind file lexed i)) stack.now result }
+    ensures fault { IfErr result (λ stop. stop ≡ Memory) }
 {
-    if !may_shift(stack, &operand) {
-        return Err(Stop::TooDeep(i.saturating_sub(2)));
-    }
     let Operand {
         expr,
         start,
@@ -128,6 +130,35 @@ pub fn shift_by(
     let form = Form::Shift(boxed(alloc, expr)?, number);
     let made = finish(start, form, height, i)?;
     Ok((Outcome::Holding(made), i))
+}
+
+/// The number behind `+` or `-`, which can be added to the expression.
+fn summand_at(
+    alloc: Global,
+    tokens: &Tokens,
+    file: u32,
+    stack: &[Frame],
+    operand: &Operand,
+    minus: bool,
+    i: u32,
+) -> Result<(PlacedInt, u32), Stop>
+    ensures high { IfOk result (λ found. 9 ≤ level (expression_of operand.now.expr)) }
+    ensures room { IfOk result (λ found. length stack.now + suc (depth (expression_of operand.now.expr)) ≤ 300) }
+    ensures next { IfOk result (λ found. Starts true (int_symbol found.0.value) found.0.at (behind file tokens.now i) (behind file tokens.now found.1)) }
+    ensures minus { IfOk result (λ found. found.0.minus ≡ minus) }
+    ensures none { IfErr result (λ stop. stop ≢ Memory → (c : Context) → shift_int greatest_depth c minus (expression_of operand.now.expr) (stack_of stack.now) (behind file tokens.now i) ≡ None) }
+    ensures fault { IfErr result (Says file tokens.now (shift_int_fault greatest_depth (expression_of operand.now.expr) (stack_of stack.now) (behind file tokens.now (i - 1)) (behind file tokens.now i))) }
+{
+    if level(&operand.expr) < 9 {
+        return Err(Stop::Refused(i.saturating_sub(1)));
+    }
+    if !may_shift(stack, operand) {
+        return Err(Stop::TooDeep(i.saturating_sub(1)));
+    }
+    match int_at(alloc, tokens, file, i, minus)? {
+        Some(found) => Ok(found),
+        None => Err(Stop::Refused(i)),
+    }
 }
 
 /// `+` or `-` behind an expression.
@@ -140,11 +171,10 @@ pub fn shift_int(
     minus: bool,
     i: u32,
 ) -> Result<(Outcome, u32), Stop>
-    ensures { (c : Context) →
-        Took c file tokens.now (shift_int c minus (expression_of operand.expr) (stack_of stack.now) (behind file tokens.now i)) stack.now result }
+    ensures step { (c : Context) →
+        Took c file tokens.now (shift_int greatest_depth c minus (expression_of operand.expr) (stack_of stack.now) (behind file tokens.now i)) stack.now result }
+    ensures fault { IfErr result (Says file tokens.now (shift_int_fault greatest_depth (expression_of operand.expr) (stack_of stack.now) (behind file tokens.now (i - 1)) (behind file tokens.now i))) }
 {
-    let Some((number, next)) = int_at(alloc, tokens, file, i, minus)? else {
-        return Err(Stop::Refused(i));
-    };
+    let (number, next) = summand_at(alloc, tokens, file, stack, &operand, minus, i)?;
     shift_by(alloc, stack, operand, number, next)
 }

@@ -4,6 +4,7 @@ ghost use Rattle.ms_parse.specs.Opened.{frame_of};
 ghost use Rattle.ms_parse.specs.Stack.{stack_of, CollapsesTo};
 ghost use Rattle.ms_grammar.specs.View.{expression_of};
 ghost use Rattle.ms_parse.specs.declared.stop.Stop.TheVariants.{Memory};
+ghost use Rattle.ms_grammar.specs.Grammar.{greatest_depth};
 
 use crate::complete::{complete, ends};
 use crate::frame::Frame;
@@ -48,7 +49,7 @@ pub fn collapse(
     bound: u32,
     i: u32,
 ) -> Result<Operand, Stop>
-    ensures { CollapsesTo (collapse bound (expression_of operand.expr) (stack_of stack.old.items)) result stack.new.items }
+    ensures { CollapsesTo (collapse greatest_depth bound (expression_of operand.expr) (stack_of stack.old.items)) i result stack.new.items }
 {
     let mut held = operand;
     while let Some(frame) = pop_frame(stack) {

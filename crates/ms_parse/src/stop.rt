@@ -1,4 +1,4 @@
-use ms_edge::{At, NoMemory};
+use ms_edge::NoMemory;
 
 /// Why an automaton's step is not taken.
 #[derive(Clone, Copy, Debug, PartialEq, Eq)]
@@ -8,8 +8,6 @@ pub enum Stop {
     Refused(u32),
     /// At the token with this number an expression becomes too deep.
     TooDeep(u32),
-    /// The expression that begins at this place is too deep, whatever follows.
-    TooDeepFrom(At),
 }
 
 impl From<NoMemory> for Stop {

@@ -1,14 +1,19 @@
-use Rattle.std.proofs.Common.{rules, ◌≡◌, ◌+◌, suc, ap, arith}
-use Rattle.ms_parse.specs.Machine.{bracket_frame, enter, begin_export}
+use Rattle.std.proofs.Common.{rules, ◌≡◌, ◌≤◌, ◌+◌, suc, length, ap, ◌∙◌, subst, arith, refl, sym, ◌-◌}
+use Rattle.ms_parse.specs.Machine.{bracket_frame, enter, begin_export, with_room}
 use Rattle.ms_parse.specs.Signs.{behind, IsNext}
 use Rattle.ms_parse.specs.Stack.{stack_of}
-use Rattle.ms_grammar.specs.Symbol.{text}
+use Rattle.ms_grammar.specs.Symbol.{text, comma}
 use Rattle.ms_grammar.specs.declared.operator.Bracket.TheVariants.{Export}
 use Rattle.ms_parse.proofs.Begins.{as_taken, export_entered}
+use Rattle.ms_parse.proofs.Steps.{roomy}
+use Rattle.ms_parse.specs.Faults.{enter_fault, room_fault, mark_then, text_then, accepted, export_fault, refused_at}
+use Rattle.ms_parse.proofs.Faulting.{as_fault, mark_found, text_found, has_room, room_within}
+use Rattle.ms_parse.specs.declared.punctuation.Punctuation.TheVariants as marks
 use Rattle.ms_parse.proofs.begin.begin_export.Goals as goal
+use Rattle.ms_grammar.specs.Grammar.{greatest_depth}
 
-pub returns : goal.returns
-returns c context =
+pub returns-clause-step : goal.returns-clause-step
+returns-clause-step c context =
     let st = stack_of c.args.stack.now.items in
     let file = c.args.file in
     let lexed = c.args.tokens.now in
@@ -17,8 +22,27 @@ returns c context =
     let ts = behind file lexed c.in-Some-behind_mark.next in
     let texts : IsNext file lexed inside (text c.in-Some-2.text) c.in-Some-2.at_text = search rules in
     let next_number : suc inside ≡ inside + 1 = omega arith in
-    as_taken context file lexed (begin_export context st c.args.at from) (enter context (bracket_frame c.args.at (Export c.in-Some-2.at_text c.in-Some-2.text)) st ts)
+    let room : suc (suc (length st)) ≤ greatest_depth = subst (λ x. suc (suc (length (stack_of x))) ≤ greatest_depth) c.deref.ensures.value (c.has_room.ensures.yes (search rules)) in
+    as_taken context file lexed (with_room greatest_depth st (begin_export greatest_depth context st c.args.at from)) (enter greatest_depth context (bracket_frame c.args.at (Export c.in-Some-2.at_text c.in-Some-2.text)) st ts)
     c.enter.new.stack.items c.enter.result
-    (export_entered context st c.args.at c.in-Some-2.at_text c.in-Some-2.text from (behind file lexed inside) (behind file lexed (suc inside)) (behind file lexed (inside + 1)) ts
+    (roomy greatest_depth st (begin_export greatest_depth context st c.args.at from) room ∙ export_entered greatest_depth context st c.args.at c.in-Some-2.at_text c.in-Some-2.text from (behind file lexed inside) (behind file lexed (suc inside)) (behind file lexed (inside + 1)) ts
     c.in-Some.ensures.some texts (ap (behind file lexed) next_number) c.in-Some-behind_mark.ensures.some)
-    (c.enter.ensures context file lexed)
+    (c.enter.ensures.step context file lexed)
+
+pub returns-clause-fault : goal.returns-clause-fault
+returns-clause-fault c =
+    let file = c.args.file in
+    let lexed = c.args.tokens.now in
+    let i = c.args.i in
+    let st = stack_of c.args.stack.now.items in
+    let from = behind file lexed (i - 1) in
+    let ts = behind file lexed i in
+    let inside = c.in-Some.inside in
+    let texts : IsNext file lexed inside (text c.in-Some-2.text) c.in-Some-2.at_text = search rules in
+    let room : suc (suc (length st)) ≤ greatest_depth = subst (λ x. suc (suc (length (stack_of x))) ≤ greatest_depth) c.deref.ensures.value (c.has_room.ensures.yes (search rules)) in
+    as_fault file lexed (room_fault greatest_depth st from (export_fault ts)) (enter_fault greatest_depth 0 st _) c.enter.result
+    (room_within greatest_depth st from (export_fault ts) room ∙ mark_found marks.OpenRound (text_then (mark_then comma accepted)) refused_at ts (behind file lexed inside) c.in-Some.ensures.some
+    ∙ text_found (mark_then comma accepted) file lexed inside c.in-Some-2.text c.in-Some-2.at_text texts
+    ∙ mark_found marks.Comma accepted refused_at (behind file lexed (inside + 1)) (behind file lexed c.in-Some-behind_mark.next) c.in-Some-behind_mark.ensures.some
+    ∙ sym (has_room greatest_depth 0 st _ (omega arith)))
+    (c.enter.ensures.fault file lexed _ refl)

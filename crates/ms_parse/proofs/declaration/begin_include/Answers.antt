@@ -1,15 +1,18 @@
-use Rattle.std.proofs.Common.{rules, ◌≡◌, ◌+◌, Some, suc, ap, arith}
-use Rattle.ms_grammar.specs.Symbol.{text}
+use Rattle.std.proofs.Common.{rules, ◌≡◌, ◌+◌, Some, suc, ap, arith, ◌∙◌}
+use Rattle.ms_grammar.specs.Symbol.{text, semicolon}
 use Rattle.ms_grammar.specs.Tree.{included}
 use Rattle.ms_parse.specs.Machine.{begin_include, declare, outside}
-use Rattle.ms_parse.specs.Signs.{behind, IsNext}
+use Rattle.ms_parse.specs.Signs.{behind, IsNext, NoText}
 use Rattle.ms_parse.specs.States.{read_of}
 use Rattle.ms_parse.proofs.Declaring.{include_read}
 use Rattle.ms_parse.proofs.Stepping.{as_stepped}
+use Rattle.ms_parse.specs.Faults.{mark_then, accepted, include_fault, refused_at}
+use Rattle.ms_parse.proofs.Faulting.{only_memory, mark_missing, text_found, text_missing}
+use Rattle.ms_parse.specs.declared.punctuation.Punctuation.TheVariants as marks
 use Rattle.ms_parse.proofs.declaration.begin_include.Goals as goal
 
-pub returns : goal.returns
-returns c frames =
+pub returns-clause-step : goal.returns-clause-step
+returns-clause-step c frames =
     let file = c.args.file in
     let lexed = c.args.tokens.now in
     let i = c.args.i in
@@ -19,4 +22,27 @@ returns c frames =
     let one : suc i ≡ i + 1 = omega arith in
     as_stepped file lexed (begin_include d c.args.at (behind file lexed i)) (Some (outside (declare d c.args.at (included c.in-Some.at_text c.in-Some.text)), next)) c.declared.new.made frames c.declared.result
     (include_read d c.args.at c.in-Some.at_text c.in-Some.text (behind file lexed i) (behind file lexed (suc i)) (behind file lexed (i + 1)) next texts (ap (behind file lexed) one) c.in-Some-behind_mark.ensures.some)
-    (c.declared.ensures file lexed frames)
+    (c.declared.ensures.step file lexed frames)
+
+pub returns-in_default-clause-fault : goal.returns-in_default-clause-fault
+returns-in_default-clause-fault c =
+    let file = c.args.file in
+    let lexed = c.args.tokens.now in
+    let i = c.args.i in
+    let none : NoText (behind file lexed i) = search rules in
+    text_missing (mark_then semicolon accepted) (behind file lexed i) none
+
+pub returns-in_default-behind_mark-clause-fault : goal.returns-in_default-behind_mark-clause-fault
+returns-in_default-behind_mark-clause-fault c =
+    let file = c.args.file in
+    let lexed = c.args.tokens.now in
+    let i = c.args.i in
+    let texts : IsNext file lexed i (text c.in-Some.text) c.in-Some.at_text = search rules in
+    text_found (mark_then semicolon accepted) file lexed i c.in-Some.text c.in-Some.at_text texts ∙ mark_missing marks.Semicolon accepted refused_at (behind file lexed (i + 1)) c.in_default-behind_mark.ensures.none
+
+pub returns-clause-fault : goal.returns-clause-fault
+returns-clause-fault c =
+    let file = c.args.file in
+    let lexed = c.args.tokens.now in
+    let i = c.args.i in
+    only_memory file lexed (include_fault (behind file lexed i)) c.declared.result c.declared.ensures.fault

@@ -1,4 +1,4 @@
-use Rattle.std.proofs.Common.{rules, ◌≡◌, ◌+◌, ℕ, List, true, suc, ap, ◌∙◌, ◌∷◌, arith}
+use Rattle.std.proofs.Common.{rules, ◌≡◌, ◌+◌, ℕ, List, true, suc, ap, ◌∙◌, ◌∷◌, arith, []}
 use Rattle.ms_grammar.specs.Reads.{int_symbol, Starts}
 use Rattle.ms_grammar.specs.Symbol.{placed, semicolon, sign}
 use Rattle.ms_parse.specs.Machine.{next_summand}
@@ -6,10 +6,12 @@ use Rattle.ms_parse.specs.Signs.{behind, symbol_with, IsNext, NoInt}
 use Rattle.ms_parse.specs.States.{read_of}
 use Rattle.ms_parse.proofs.Declaring.{summand_read, summand_without, summands_end}
 use Rattle.ms_parse.proofs.Stepping.{as_stepped}
+use Rattle.ms_parse.specs.Faults.{accepted, summand_fault, next_summand_fault}
+use Rattle.ms_parse.proofs.Faulting.{only_memory, int_missing, sign_found, sign_missing}
 use Rattle.ms_parse.proofs.declaration.next_summand.Goals as goal
 
-pub returns-in-Semicolon : goal.returns-in-Semicolon
-returns-in-Semicolon c frames =
+pub returns-in-Semicolon-clause-step : goal.returns-in-Semicolon-clause-step
+returns-in-Semicolon-clause-step c frames =
     let file = c.args.file in
     let lexed = c.args.tokens.now in
     let i = c.args.i in
@@ -20,10 +22,10 @@ returns-in-Semicolon c frames =
     as_stepped file lexed (next_summand d c.args.at c.args.at_name c.args.name c.args.sum (behind file lexed i)) (next_summand d c.args.at c.args.at_name c.args.name c.args.sum (placed semicolon c.in-Some.field-0-1 ∷ behind file lexed (i + 1)))
     c.declared.new.made frames c.declared.result
     (summands_end d c.args.at c.args.at_name c.args.name c.args.sum c.in-Some.field-0-1 (behind file lexed i) (behind file lexed (suc i)) (behind file lexed (i + 1)) ends (ap (behind file lexed) one))
-    (c.declared.ensures file lexed frames)
+    (c.declared.ensures.step file lexed frames)
 
-pub returns-in_default-2 : goal.returns-in_default-2
-returns-in_default-2 c frames =
+pub returns-in_default-2-clause-step : goal.returns-in_default-2-clause-step
+returns-in_default-2-clause-step c frames =
     let file = c.args.file in
     let lexed = c.args.tokens.now in
     let i = c.args.i in
@@ -34,8 +36,8 @@ returns-in_default-2 c frames =
     let other : NoInt (behind file lexed (i + 1)) = search rules in
     summand_without (read_of c.args.made.now) c.args.at c.args.at_name c.args.name c.args.sum minus c.in-Some.field-0-1 (behind file lexed i) (behind file lexed (suc i)) (behind file lexed (i + 1)) signed (ap (behind file lexed) one) other
 
-pub returns-in_ok-push-in-Shift : goal.returns-in_ok-push-in-Shift
-returns-in_ok-push-in-Shift c frames =
+pub returns-in_ok-push-in-Shift-clause-step : goal.returns-in_ok-push-in-Shift-clause-step
+returns-in_ok-push-in-Shift-clause-step c frames =
     let file = c.args.file in
     let lexed = c.args.tokens.now in
     let i = c.args.i in
@@ -49,3 +51,29 @@ returns-in_ok-push-in-Shift c frames =
     let is : number.minus ≡ minus = search rules in
     summand_read (read_of c.args.made.now) c.args.at c.args.at_name c.args.name c.args.sum c.push.new.list minus c.in-Some.field-0-1 number (behind file lexed i) (behind file lexed (suc i)) (behind file lexed (i + 1)) behind_it
     signed (ap (behind file lexed) one) starts is c.in_ok-push-in-Shift.ensures.ok
+
+pub returns-in_default-clause-fault : goal.returns-in_default-clause-fault
+returns-in_default-clause-fault c =
+    let file = c.args.file in
+    let lexed = c.args.tokens.now in
+    let i = c.args.i in
+    let none : behind file lexed i ≡ [] = search rules in
+    sign_missing summand_fault (behind file lexed i) none
+
+pub returns-in-Semicolon-clause-fault : goal.returns-in-Semicolon-clause-fault
+returns-in-Semicolon-clause-fault c =
+    let file = c.args.file in
+    let lexed = c.args.tokens.now in
+    let i = c.args.i in
+    only_memory file lexed (next_summand_fault (behind file lexed i)) c.declared.result c.declared.ensures.fault
+
+pub returns-in_default-2-clause-fault : goal.returns-in_default-2-clause-fault
+returns-in_default-2-clause-fault c =
+    let file = c.args.file in
+    let lexed = c.args.tokens.now in
+    let i = c.args.i in
+    let minus = c.in-Shift.minus in
+    let next : (bytes : List ℕ) × IsNext file lexed i (symbol_with c.in-Some.sign bytes) c.in-Some.field-0-1 = search rules in
+    let other : NoInt (behind file lexed (i + 1)) = search rules in
+    sign_found summand_fault file lexed i (symbol_with c.in-Some.sign next.0) c.in-Some.field-0-1 next.1
+    ∙ ap (λ s. summand_fault (symbol_with s next.0) (behind file lexed i) (behind file lexed (i + 1))) c.in-Shift.is ∙ int_missing accepted (behind file lexed (i + 1)) other

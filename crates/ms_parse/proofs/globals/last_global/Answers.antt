@@ -8,12 +8,12 @@ use Rattle.ms_parse.specs.States.{read_of}
 use Rattle.ms_parse.proofs.Stepping.{as_stepped}
 use Rattle.ms_parse.proofs.globals.last_global.Goals as goal
 
-pub returns : goal.returns
-returns c file lexed frames =
+pub returns-clause-step : goal.returns-clause-step
+returns-clause-step c file lexed frames =
     let d = read_of c.args.made.now in
     let ts = behind file lexed c.args.i in
     let g = c.args.globals in
     as_stepped file lexed (Some (outside (declare d g.at (variables (and_variable (variables_of g.list) c.args.at_name g.order c.args.name (domain_of c.args.domain)))), ts))
     (Some (outside (declare d g.at (declaration_of (decls.Vars c.push_variable.new.list))), ts)) c.declared.new.made frames c.declared.result
     (ap (λ vs. Some (outside (declare d g.at (variables vs)), ts)) (sym c.in_ok-push_variable.ensures.ok))
-    (c.declared.ensures file lexed frames)
+    (c.declared.ensures.step file lexed frames)

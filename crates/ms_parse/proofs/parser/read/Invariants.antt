@@ -1,17 +1,14 @@
 use Rattle.std.proofs.Common.{length}
 use Rattle.ms_grammar.specs.Symbol.{symbols}
-use Rattle.ms_parse.specs.Machine.{outside, start}
 use Rattle.ms_parse.specs.Signs.{behind}
 use Rattle.ms_parse.specs.Stack.{stack_of}
 use Rattle.ms_parse.specs.States.{read_of, state_of}
-use Rattle.ms_parse.proofs.Loops.{SameRuns}
+use Rattle.ms_parse.proofs.Stopping.{Comes}
 use Rattle.ms_parse.proofs.parser.read.Given as goal
 
--- from here the same documents are read as from the beginning
+-- the automaton has come here, and reads from here what it reads from the beginning
 abbrev pub invariant-steps : goal.invariant-steps
-invariant-steps l =
-    let begun = start (symbols l.file l.tokens) in
-    SameRuns (outside begun.0) begun.1 (state_of (read_of l.made) (stack_of l.stack.items) l.state) (behind l.file l.tokens l.i)
+invariant-steps l = Comes (symbols l.file l.tokens) (state_of (read_of l.made) (stack_of l.stack.items) l.state) (behind l.file l.tokens l.i)
 
 abbrev pub decreases-steps : goal.decreases-steps
 decreases-steps l = length (behind l.file l.tokens l.i)

@@ -1,12 +1,10 @@
-use Rattle.std.proofs.Common.{◌≡◌, inl, ap, ◌∙◌}
-use Rattle.ms_edge.specs.declared.at.At.{At}
-use Rattle.ms_parse.proofs.Faults.{token_stands}
+use Rattle.std.proofs.Common.{arith}
+use Rattle.ms_parse.proofs.Faults.{end_not_deep, too_deep_at}
+use Rattle.ms_parse.proofs.Inputs.{at_end}
 use Rattle.ms_parse.proofs.refuse.depth_at.Goals as goal
 
 pub returns-then-i-len : goal.returns-then-i-len
-returns-then-i-len c =
-    let end : c.at_of-at.result ≡ record { file = c.args.file; place = c.end.result } = c.at_of-at.ensures in
-    inl (end ∙ ap (λ n. let at : At = record { file = c.args.file; place = n } in at) c.end.ensures.end)
+returns-then-i-len c is = absurd (end_not_deep c.args.file c.args.tokens.now c.args.i (at_end c.args.file c.args.tokens.now c.args.i (omega arith)) is)
 
 pub returns : goal.returns
-returns c = token_stands c.args.file c.args.tokens.now c.args.i c.get-token.result c.at_of-at-2.result c.get-token.ensures.token c.at_of-at-2.ensures
+returns c is = too_deep_at c.args.file c.args.tokens.now c.args.i c.get-token.result c.at_of-at.result c.get-token.ensures.token c.at_of-at.ensures is
