@@ -15,12 +15,15 @@ use Rattle.ms_logic.specs.Content.{StateOf, IsFollowed, IsClosed, HasValueAt, is
 use Rattle.ms_dfa.specs.declared.sign.Sign.{Sign}
 use Rattle.ms_dfa.specs.declared.sign.Sign.TheVariants.{Yes, No, Outside}
 use Rattle.ms_dfa.specs.Automaton.{IsAutomaton}
-use Rattle.ms_app.specs.Inclusion.{two_sets, inclusion_of, inclusion_content}
+use Rattle.ms_logic.specs.Truth.{Given}
+use Rattle.ms_app.specs.Claim.{problem_with}
+use Rattle.ms_app.specs.declared.claim.Claim.TheVariants.{Inclusion}
+use Rattle.ms_app.specs.Inclusion.{two_sets, inclusion_content}
 use Rattle.ms_app.specs.HasValue.{HasMainValue}
 use Rattle.ms_app.proofs.Excess.{tests_leaf}
 use Rattle.ms_app.proofs.InclusionRun.{IsExcess, exceeds, sign_by_letters}
 use Rattle.ms_app.proofs.InclusionValue.{is_included, sign_by_sets, yes_included, no_included}
-use Rattle.ms_app.proofs.InclusionWords.{each_word_encodes}
+use Rattle.ms_app.proofs.SetWords.{each_word_encodes}
 
 -- a leaf that is a state is followed by any part of a word
 leaf_followed : (nodes : List Node) (excess : Ref) (has_value : Order → Bool) (state : ℕ) → state < 2
@@ -95,7 +98,7 @@ module _ (nodes : List Node) (left right : ℕ) (in_left : left < 2) (in_right :
     few_states = omega arith;
     encodings = λ word over. (
       λ encodes outside. never_outside (list_any (exceeds left right) word.letters) (sym (sign_by_letters nodes left right excess function word) ∙ outside),
-      λ inside. each_word_encodes word over,
+      λ inside. each_word_encodes 2 word over,
     );
     settled = λ mode word over encodes.
         sign_by_letters nodes left right excess function (with_zero_letter two_sets word)
@@ -106,16 +109,16 @@ module _ (nodes : List Node) (left right : ℕ) (in_left : left < 2) (in_right :
   sign_of_word : (word : Word) (e : Env) → Encodes two_sets word e → sign_of (inclusion_content nodes excess) word ≡ Some (if is_included left right e then Yes else No)
   sign_of_word = sign_by_sets nodes left right in_left in_right excess function
 
-  pub has_main_value : HasMainValue (inclusion_of left right) (inclusion_content nodes excess)
-  has_main_value = record {
+  pub has_main_value : (given : Given) → HasMainValue (problem_with given 2 (Inclusion left right)) (inclusion_content nodes excess)
+  has_main_value given = record {
     mode = refl;
     variables = refl;
     yes = λ word e assignment encodes. (
-      λ signed. (yes_included left right e).0 (sign_yes (is_included left right e) (sym (sign_of_word word e encodes) ∙ signed)),
-      λ holds. sign_of_word word e encodes ∙ rw ((yes_included left right e).1 holds),
+      λ signed. (yes_included given left right e).0 (sign_yes (is_included left right e) (sym (sign_of_word word e encodes) ∙ signed)),
+      λ holds. sign_of_word word e encodes ∙ rw ((yes_included given left right e).1 holds),
     );
     no = λ word e assignment encodes. (
-      λ signed. (no_included left right e).0 (sign_no (is_included left right e) (sym (sign_of_word word e encodes) ∙ signed)),
-      λ fails. sign_of_word word e encodes ∙ rw ((no_included left right e).1 fails),
+      λ signed. (no_included given left right e).0 (sign_no (is_included left right e) (sym (sign_of_word word e encodes) ∙ signed)),
+      λ fails. sign_of_word word e encodes ∙ rw ((no_included given left right e).1 fails),
     );
   }

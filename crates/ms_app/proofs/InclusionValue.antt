@@ -10,7 +10,10 @@ use Rattle.ms_logic.specs.Word.{letter_at, letters_below, bound_of, bound_of_set
 use Rattle.ms_logic.specs.Content.{sign_of}
 use Rattle.ms_logic.specs.Verdict.{MainYes, MainNo}
 use Rattle.ms_dfa.specs.declared.sign.Sign.TheVariants.{Yes, No}
-use Rattle.ms_app.specs.Inclusion.{two_sets, inclusion_of, inclusion_content}
+use Rattle.ms_logic.specs.Truth.{Given}
+use Rattle.ms_app.specs.Claim.{problem_with}
+use Rattle.ms_app.specs.declared.claim.Claim.TheVariants.{Inclusion}
+use Rattle.ms_app.specs.Inclusion.{two_sets, inclusion_content}
 use Rattle.ms_app.proofs.Subsets.{is_in_first_alone, some_alone}
 use Rattle.ms_app.proofs.InclusionRun.{IsExcess, exceeds, sign_by_letters}
 
@@ -52,8 +55,8 @@ module _ (nodes : List Node) (left right : ℕ) (in_left : left < 2) (in_right :
       ∙ (elim (is_included left right e) as (λ test. Some (if not test then No else Yes) ≡ Some (if test then Yes else No)) [ true ↦ refl | false ↦ refl ])
 
 -- the main value
-pub yes_included : (left right : ℕ) (e : Env) → is_included left right e ≡ true ↔ MainYes (inclusion_of left right) e
-yes_included left right e = ((λ included. ((tt, (tt, tt)), (included, tt))), λ holds. holds.1.0)
+pub yes_included : (given : Given) (left right : ℕ) (e : Env) → is_included left right e ≡ true ↔ MainYes (problem_with given 2 (Inclusion left right)) e
+yes_included given left right e = ((λ included. ((tt, (tt, tt)), (included, tt))), λ holds. holds.1.0)
 
 -- what is not true is false
 not_true : (test : Bool) → (test ≡ true → ⊥) → test ≡ false
@@ -64,8 +67,8 @@ not_true false never = refl
 false_is_not_true : (test : Bool) → test ≡ false → test ≡ true → ⊥
 false_is_not_true test is_false is_true = cc
 
-pub no_included : (left right : ℕ) (e : Env) → is_included left right e ≡ false ↔ MainNo (inclusion_of left right) e
-no_included left right e = (
+pub no_included : (given : Given) (left right : ℕ) (e : Env) → is_included left right e ≡ false ↔ MainNo (problem_with given 2 (Inclusion left right)) e
+no_included given left right e = (
   (λ outside. ((tt, (tt, tt)), ((inr (false_is_not_true (is_included left right e) outside), tt), inl (false_is_not_true (is_included left right e) outside)))),
   λ holds. not_true (is_included left right e) (elim holds.1.1 as (λ _. is_included left right e ≡ true → ⊥) [ inl outside ↦ outside | inr never ↦ absurd never ]),
 )

@@ -1,9 +1,15 @@
+pub mod Always
+pub mod Beyond
+pub mod Building
+pub mod Claims
+pub mod Deciding
 pub mod Excess
 pub mod FirstAssignments
 pub mod InclusionAutomaton
 pub mod InclusionRun
 pub mod InclusionValue
-pub mod InclusionWords
 pub mod Members
-pub mod Splitting
+pub mod PlainGlobals
+pub mod Results
+pub mod SetWords
 pub mod Subsets

@@ -1,5 +1,5 @@
 -- How a run is to end and what it is to print, by its words and by what the files hold.
-use Rattle.std.specs.Prelude.{◌≡◌, ℕ, ◌<◌, ◌≤◌, ◌⊎◌, List, [], ◌∷◌, ◌++◌, length, take, codes, Option, Some, None}
+use Rattle.std.specs.Prelude.{◌≡◌, ℕ, ◌<◌, ◌⊎◌, List, [], ◌∷◌, ◌++◌, length, map, take, codes, Option, Some, None}
 use Rattle.ms_edge.specs.declared.at.At.{At}
 use Rattle.ms_edge.specs.declared.refusal.Refusal.{Refusal}
 use Rattle.ms_edge.specs.declared.refusal.Refusal.TheVariants.{Word, NumberTooLarge, Grammar, Unclosed, UnknownName, Twice, WrongOrder, Arity, ConstRange, NotHere, LeftOut, NotBuilt, VarsDiffer, FileMissing, IncludeCycle, ImportMissing, ImportText, ImportMode, ImportVars, ImportOpen, FileSize, Includes, Depth, CoreSize, Nodes, ReadFault, WriteFault, Memory}
@@ -8,33 +8,26 @@ use Rattle.ms_edge.specs.declared.refusal.Status.{Status}
 use Rattle.ms_edge.specs.declared.refusal.Status.TheVariants.{Done, Usage, Refused, Limit, FileFault, NoMemory}
 use Rattle.ms_edge.specs.declared.refusal.Status.TheVariants as statuses
 use Rattle.ms_edge.specs.Counts.{Rose}
-use Rattle.ms_edge.specs.Files.{Holding, Holds, Lacks, HoldsMoreThan}
 use Rattle.ms_edge.specs.Sink.{grown}
+use Rattle.ms_logic.specs.View.{problem_of}
+use Rattle.ms_logic.specs.declared.checked.Checked.{Checked}
+use Rattle.ms_logic.specs.declared.source.Loaded.{Loaded}
+use Rattle.ms_include.specs.Load.{files_of, IsLoaded, IsRefusedLoad}
+use Rattle.ms_include.specs.Seen.{Seen}
+use Rattle.ms_names.specs.Checking.{IsFirstFault}
+use Rattle.ms_names.specs.Declarations.{first_fault_of}
+use Rattle.ms_names.specs.TypedSource.{IsTyped}
+use Rattle.ms_names.specs.View.{placed_of}
 use Rattle.ms_report.specs.declared.found.Found.{Found}
 use Rattle.ms_report.specs.Line.{line_of}
 use Rattle.ms_report.specs.Report.{report_of}
+use Rattle.ms_app.specs.Built.{first_beyond}
 use Rattle.ms_app.specs.Decision.{IsFound}
-use Rattle.ms_app.specs.Inclusion.{inclusion_of}
-use Rattle.ms_app.specs.Statement.{IsStatement}
 
 -- a status, and the text that goes with it
 pub record Answer : Type 0 where
   pub status : Status
   pub text : List ℕ
-
--- what is known of the files in a run: what they held, and how their counts moved
-pub record Seen : Type 0 where
-  pub held : Option Holding
-  pub faults_before : ℕ
-  pub faults_after : ℕ
-  pub absences_before : ℕ
-  pub absences_after : ℕ
-  pub overlongs_before : ℕ
-  pub overlongs_after : ℕ
-
--- the most bytes of a source file
-abbrev pub source_limit : ℕ
-source_limit = 1048576
 
 -- the answer to words that are no command
 abbrev pub usage : Answer
@@ -57,37 +50,35 @@ status_of refusal = Refused
 abbrev pub answer_of : Refusal → List (List ℕ) → Answer
 answer_of refusal files = record { status = status_of refusal; text = line_of refusal files }
 
--- the beginning of the first file
-abbrev pub beginning : At
-beginning = record { file = 0; place = 0 }
+-- the source has no fault, and goes beyond what is built at this place
+pub record IsNotBuilt (loaded : Loaded) (refusal : Refusal) : Type 0 where
+  pub accepted : first_fault_of loaded.mode (map placed_of loaded.items) ≡ None
+  pub place : At
+  pub beyond : first_beyond loaded.mode (map placed_of loaded.items) ≡ Some place
+  pub is : refusal ≡ NotBuilt place
 
--- the refusal is right for the file of this name, and these are the files that it may number
-abbrev pub IsRefused : List ℕ → Seen → Refusal → List (List ℕ) → Type 0
-IsRefused name seen (FileMissing at missing) files =
-    (at ≡ None) × (missing ≡ name) × Lacks seen.held name × Rose seen.absences_before seen.absences_after
-IsRefused name seen (FileSize long limit) files =
-    (long ≡ name) × (limit ≡ source_limit) × HoldsMoreThan seen.held name source_limit × Rose seen.overlongs_before seen.overlongs_after
-IsRefused name seen (ReadFault unread) files = (unread ≡ name) × Rose seen.faults_before seen.faults_after
--- the file was read, and is not of the form that is decided
-IsRefused name seen (NotBuilt at) files =
-    (at ≡ beginning) × (files ≡ name ∷ [])
-    × ((bytes : List ℕ) × Holds seen.held name bytes × (length bytes ≤ source_limit)
-    × ((first second : List ℕ) (left right : ℕ) → ¬ IsStatement bytes first second left right))
--- want of memory needs no cause
-IsRefused name seen Memory files = Unit {0}
-IsRefused name seen refusal files = ⊥
+-- The file of this name, with its includes put in place, is refused, and these are the files that the refusal may number.
+pub data IsRefused (name : List ℕ) (seen : Seen) (refusal : Refusal) (files : List (List ℕ)) : Type 0 where
+  -- it cannot be loaded
+  not_loaded : (why : IsRefusedLoad (files_of seen 0) name refusal files) → IsRefused name seen refusal files
+  -- it is loaded, and has a fault of names, orders, numbers or places, of which this is the first
+  faulty : (loaded : Loaded) (is_loaded : IsLoaded (files_of seen 0) name loaded) (read : files ≡ loaded.files) (why : IsFirstFault loaded refusal)
+      → IsRefused name seen refusal files
+  -- it is loaded, has no fault, and goes beyond what is built
+  not_built : (loaded : Loaded) (is_loaded : IsLoaded (files_of seen 0) name loaded) (read : files ≡ loaded.files) (why : IsNotBuilt loaded refusal)
+      → IsRefused name seen refusal files
+  -- want of memory needs no cause
+  no_memory : (why : refusal ≡ Memory) → IsRefused name seen refusal files
 
--- the file of this name states an inclusion, and what was found is true of it
-pub record IsDecided (name : List ℕ) (held : Option Holding) (found : Found) : Type 0 where
-  pub bytes : List ℕ
-  pub first : List ℕ
-  pub second : List ℕ
-  pub left : ℕ
-  pub right : ℕ
-  pub holds : Holds held name bytes
-  pub within : length bytes ≤ source_limit
-  pub states : IsStatement bytes first second left right
-  pub is_found : IsFound (inclusion_of left right) (first ∷ second ∷ []) found
+-- the file of this name is loaded, has no fault, and is built; and what was found is true of the source that it is
+pub record IsDecided (name : List ℕ) (seen : Seen) (found : Found) : Type 0 where
+  pub loaded : Loaded
+  pub checked : Checked
+  pub is_loaded : IsLoaded (files_of seen 0) name loaded
+  pub accepted : first_fault_of loaded.mode (map placed_of loaded.items) ≡ None
+  pub built : first_beyond loaded.mode (map placed_of loaded.items) ≡ None
+  pub typed : IsTyped loaded checked
+  pub is_found : IsFound (problem_of checked []) (map (λ g. g.name) checked.globals) found
 
 -- the answer with a report
 abbrev pub report_answer : Found → Answer
@@ -106,11 +97,11 @@ abbrev pub IsAnswered : Option (List ℕ) → Option (List ℕ) → ℕ → ℕ 
 IsAnswered taken_before taken_after faults_before faults_after None seen status =
     Prints taken_before taken_after faults_before faults_after usage status
 IsAnswered taken_before taken_after faults_before faults_after (Some name) seen status =
-    ((found : Found) × IsDecided name seen.held found × Prints taken_before taken_after faults_before faults_after (report_answer found) status)
+    ((found : Found) × IsDecided name seen found × Prints taken_before taken_after faults_before faults_after (report_answer found) status)
     ⊎ ((refusal : Refusal) × (names : List (List ℕ)) × IsRefused name seen refusal names
     × Prints taken_before taken_after faults_before faults_after (answer_of refusal names) status)
 
 -- a run that is done decided its file, and the sink took the report on it
 abbrev pub IsDone : Option (List ℕ) → Option (List ℕ) → Option (List ℕ) → Seen → Type 0
 IsDone taken_before taken_after asked seen =
-    (name : List ℕ) × (found : Found) × (asked ≡ Some name) × IsDecided name seen.held found × (taken_after ≡ grown taken_before (report_of found))
+    (name : List ℕ) × (found : Found) × (asked ≡ Some name) × IsDecided name seen found × (taken_after ≡ grown taken_before (report_of found))

@@ -1,6 +1,8 @@
+pub mod Answer
+pub mod Built
+pub mod Claim
 pub mod Command
 pub mod Decision
-pub mod Answer
-pub mod Inclusion
-pub mod Statement
 pub mod HasValue
+pub mod Import
+pub mod Inclusion

@@ -3,9 +3,12 @@ ghost use Rattle.ms_arena.specs.Diagram.{Bits, leaf_of, IsValid};
 ghost use Rattle.ms_arena.specs.Reach.{TestsOnly};
 ghost use Rattle.ms_diagram.specs.Store.{IsStore};
 ghost use Rattle.ms_dfa.specs.Automaton.{variables_of, states_of};
-ghost use Rattle.ms_app.specs.Inclusion.{two_sets, inclusion_of, inclusion_content};
+ghost use Rattle.ms_logic.specs.Truth.{Given};
+ghost use Rattle.ms_app.specs.Claim.{problem_with};
+ghost use Rattle.ms_app.specs.Inclusion.{two_sets, inclusion_content};
 ghost use Rattle.ms_app.specs.HasValue.{HasMainValue, OnFewNodes};
 
+use crate::claim::Claim;
 use ms_arena::Ref;
 use ms_dfa::{Automaton, Sign, State, Track};
 use ms_diagram::Store;
@@ -78,7 +81,7 @@ pub fn inclusion(alloc: Global, left: u32, right: u32, limit: u64) -> Result<Aut
     requires right { right < 2 }
     requires some { 1 ≤ limit }
     requires small { limit ≤ 4000000000 }
-    ensures value { IfOk result (HasMainValue (inclusion_of left right)) }
+    ensures value { IfOk result (λ made. (given : Given) → HasMainValue (problem_with given 2 (Claim.Inclusion left right)) made) }
     ensures nodes { OnFewNodes result (limit < 2) }
 {
     let mut store = Store::new(alloc, limit);

@@ -1,8 +1,9 @@
-ghost use Rattle.std.specs.Prelude.{◌≡◌, ◌⊎◌, [], ◌<◌, ◌≤◌};
+ghost use Rattle.std.specs.Prelude.{◌≡◌, ◌⊎◌, ◌↔◌, [], IsTrue};
+ghost use Rattle.ms_edge.specs.Counts.{Rose};
 ghost use Rattle.ms_report.specs.Line.{HasLine, IsPlaced, place_of};
 ghost use Rattle.ms_app.specs.Answer.{Prints, status_of, answer_of, report_answer};
 
-use ms_edge::{List, Refusal, Sink, Status, Text, write_all};
+use ms_edge::{At, List, Refusal, Sink, Status, Text, write_all};
 use ms_report::{Found, refusal_line, report};
 use std::alloc::Global;
 
@@ -55,16 +56,74 @@ fn status(refusal: &Refusal) -> Status
     }
 }
 
+/// The place of a refusal, where it has one.
+fn place(refusal: &Refusal) -> Option<At>
+    ensures { result ≡ place_of refusal.now }
+{
+    match refusal {
+        Refusal::Word { at, .. }
+        | Refusal::NumberTooLarge { at }
+        | Refusal::Grammar { at }
+        | Refusal::Unclosed { at }
+        | Refusal::UnknownName { at, .. }
+        | Refusal::Twice { at, .. }
+        | Refusal::WrongOrder { at }
+        | Refusal::Arity { at, .. }
+        | Refusal::NotHere { at }
+        | Refusal::LeftOut { at, .. }
+        | Refusal::NotBuilt { at }
+        | Refusal::IncludeCycle { at, .. }
+        | Refusal::ImportMissing { at, .. }
+        | Refusal::ImportText { at, .. }
+        | Refusal::ImportMode { at, .. }
+        | Refusal::ImportVars { at, .. }
+        | Refusal::ImportOpen { at, .. }
+        | Refusal::Includes { at, .. }
+        | Refusal::Depth { at } => Some(*at),
+        Refusal::ConstRange { at } | Refusal::FileMissing { at, .. } => *at,
+        Refusal::VarsDiffer
+        | Refusal::FileSize { .. }
+        | Refusal::CoreSize
+        | Refusal::Nodes { .. }
+        | Refusal::ReadFault { .. }
+        | Refusal::WriteFault { .. }
+        | Refusal::SinkFault { .. }
+        | Refusal::Memory => None,
+    }
+}
+
+/// Whether a line of the refusal can be written over these files: it is no fault of the sink, and its place is in one of them.
+fn has_line(refusal: &Refusal, files: &List<Text>) -> bool
+    ensures { IsTrue result ↔ (HasLine refusal.now × IsPlaced (place_of refusal.now) files.now) }
+{
+    if matches!(refusal, Refusal::SinkFault { .. }) {
+        return false;
+    }
+    match place(refusal) {
+        None => true,
+        Some(at) => (at.file as usize) < files.len(),
+    }
+}
+
+/// Prints that there is no memory, which takes none.
+fn out_of_memory<S: Sink>(out: &mut S) -> Status
+    ensures { Prints (S.taken out.old) (S.taken out.new) (S.faults out.old) (S.faults out.new) (answer_of Refusal.Memory []) result }
+{
+    print(out, Status::NoMemory, OUT_OF_MEMORY)
+}
+
 /// Prints the line of a refusal, or that there is no memory for it.
 pub fn refuse<S: Sink>(alloc: Global, refusal: &Refusal, files: &List<Text>, out: &mut S) -> Status
-    requires has_line { HasLine refusal.now }
-    requires is_placed { IsPlaced (place_of refusal.now) files.now }
-    ensures { Prints (S.taken out.old) (S.taken out.new) (S.faults out.old) (S.faults out.new) (answer_of refusal.now files.now) result
+    ensures printed { Prints (S.taken out.old) (S.taken out.new) (S.faults out.old) (S.faults out.new) (answer_of refusal.now files.now) result
         ⊎ Prints (S.taken out.old) (S.taken out.new) (S.faults out.old) (S.faults out.new) (answer_of Refusal.Memory []) result }
+    ensures sink_only { result ≡ Status.SinkFault → Rose (S.faults out.old) (S.faults out.new) }
 {
+    if !has_line(refusal, files) {
+        return out_of_memory(out);
+    }
     match refusal_line(alloc, refusal, files) {
         Ok(line) => print(out, status(refusal), line.slice()),
-        Err(_) => print(out, Status::NoMemory, OUT_OF_MEMORY),
+        Err(_) => out_of_memory(out),
     }
 }
 
@@ -75,6 +134,6 @@ pub fn tell<S: Sink>(alloc: Global, found: &Found, out: &mut S) -> Status
 {
     match report(alloc, found) {
         Ok(text) => print(out, Status::Done, text.slice()),
-        Err(_) => print(out, Status::NoMemory, OUT_OF_MEMORY),
+        Err(_) => out_of_memory(out),
     }
 }

@@ -1,15 +1,16 @@
-ghost use Rattle.std.specs.Prelude.{◌≡◌, ◌⊎◌, ◌<◌, ◌∷◌, [], IfOk};
+ghost use Rattle.std.specs.Prelude.{◌≡◌, ◌⊎◌, [], map, IfOk};
 ghost use Rattle.ms_logic.specs.Verdict.{Problem};
+ghost use Rattle.ms_logic.specs.View.{problem_of};
+ghost use Rattle.ms_app.specs.Claim.{IsBuilt};
 ghost use Rattle.ms_app.specs.Decision.{MainIs, ShowsFirst, IsFound, verdict_by};
 ghost use Rattle.ms_app.specs.HasValue.{HasMainValue};
-ghost use Rattle.ms_app.specs.Inclusion.{inclusion_of};
 
-use crate::inclusion::inclusion;
-use crate::statement::Statement;
+use crate::automaton::automaton;
+use crate::claim::claim_of;
 use ms_best::{assignment, first};
 use ms_dfa::{Automaton, Sign};
 use ms_edge::{List, Name, NoMemory, StepFault};
-use ms_logic::Assignment;
+use ms_logic::{Assignment, Checked};
 use ms_report::{Found, Verdict};
 use std::alloc::Global;
 
@@ -57,19 +58,35 @@ fn found(alloc: Global, automaton: &Automaton, globals: List<Name>) -> Result<Fo
     })
 }
 
-/// What is found of a source that states an inclusion.
-pub fn solve(alloc: Global, statement: Statement) -> Result<Found, NoMemory>
-    requires left { statement.left < 2 }
-    requires right { statement.right < 2 }
-    ensures { IfOk result (IsFound (inclusion_of statement.left statement.right) (statement.first ∷ statement.second ∷ [])) }
+/// The names of the globals.
+fn names(alloc: Global, globals: &[ms_logic::Global]) -> Result<List<Name>, NoMemory>
+    ensures { IfOk result (λ names. names ≡ map (λ g. g.name) globals.now) }
 {
-    let automaton = match inclusion(alloc, statement.left, statement.right, NODE_LIMIT) {
+    let mut names = List::new(alloc);
+    for global in globals {
+        let name = Name::new(alloc, global.name.text())?;
+        match names.push(name) {
+            Ok(()) => {}
+            Err(_) => return Err(NoMemory),
+        }
+    }
+    Ok(names)
+}
+
+/// What is found of a source that is built.
+pub fn solve(alloc: Global, checked: &Checked) -> Result<Found, NoMemory>
+    requires { IsBuilt checked.now }
+    ensures { IfOk result (IsFound (problem_of checked.now []) (map (λ g. g.name) checked.now.globals)) }
+{
+    let Some(claim) = claim_of(checked.formulas.slice()) else {
+        unreachable!()
+    };
+    let count = checked.globals.len() as u32;
+    let automaton = match automaton(alloc, count, claim, NODE_LIMIT) {
         Ok(automaton) => automaton,
         Err(StepFault::Memory) => return Err(NoMemory),
         Err(StepFault::Nodes { .. }) => unreachable!(),
     };
-    let Ok(globals) = vec![in alloc; statement.first, statement.second] else {
-        return Err(NoMemory);
-    };
-    found(alloc, &automaton, List::from(globals))
+    let names = names(alloc, checked.globals.slice())?;
+    found(alloc, &automaton, names)
 }

@@ -8,7 +8,7 @@ use ms_logic::Mode;
 use std::alloc::Global;
 use std::test::Fail;
 
-fn words(alloc: Global, all: &[&str]) -> Result<Words, NoMemory> {
+pub fn words(alloc: Global, all: &[&str]) -> Result<Words, NoMemory> {
     let mut words = Words::new(alloc);
     for word in all {
         words.push(word)?;
@@ -24,6 +24,15 @@ fn files(alloc: Global, bytes: &[u8], failing: &[u64]) -> Result<MemFiles, NoMem
     let mut files = MemFiles::new(alloc, 0, 0, List::from(failing), List::new(alloc))?;
     files.put("t.mona", bytes)?;
     Ok(files)
+}
+
+/// What `decide t.mona` prints of a source.
+pub fn answer(alloc: Global, source: &[u8]) -> Result<MemSink, NoMemory> {
+    let words = words(alloc, &["decide", "t.mona"])?;
+    let mut files = files(alloc, source, &[])?;
+    let mut sink = MemSink::new(alloc, 999, 999, List::new(alloc))?;
+    let _ = run(alloc, &words, &mut files, &mut sink);
+    Ok(sink)
 }
 
 #[test]
@@ -72,10 +81,9 @@ fn each_request_has_its_line_and_its_status(rt: HostRuntime) -> Result<(), Fail>
 }
 
 #[test]
-fn a_source_is_decided_or_not_built(rt: HostRuntime) -> Result<(), Fail> {
+fn a_source_is_decided_or_refused(rt: HostRuntime) -> Result<(), Fail> {
     let alloc = rt.alloc();
     let words = words(alloc, &["decide", "t.mona"])?;
-    let unbuilt = b"27 not built at t.mona:0\n".as_slice();
     // The source, what is printed, the status.
     let rows: [(&[u8], &[u8], Status); 8] = [
         (
@@ -93,11 +101,15 @@ fn a_source_is_decided_or_not_built(rt: HostRuntime) -> Result<(), Fail> {
             b"valid\nexample length 0\nP = {}\nQ = {}\nno counterexample\n",
             Status::Done,
         ),
-        (b"ws1s; var2 P, P; P sub P;", unbuilt, Status::Refused),
-        (b"ws1s; var2 P, in; P sub P;", unbuilt, Status::Refused),
-        (b"ws1s; var2 P, Q; P sub R;", unbuilt, Status::Refused),
-        (b"ws1s; var2 P,Q; P sub Q;", unbuilt, Status::Refused),
-        (b"ws1s; var2 P, Q; P sub Q;\n", unbuilt, Status::Refused),
+        (
+            b"ws1s; var2 P, Q; P sub R;",
+            b"20 unknown name at t.mona:23: R\n",
+            Status::Refused,
+        ),
+        (b"ws2s; true;", b"26 left out at t.mona:0: ws2s\n", Status::Refused),
+        (b"var1 x; x < 1;", b"27 not built at t.mona:5\n", Status::Refused),
+        (b"true", b"12 grammar at t.mona:4\n", Status::Refused),
+        (b"@", b"10 unexpected byte at t.mona:0: 40\n", Status::Refused),
     ];
     for (source, text, status) in rows {
         let mut files = files(alloc, source, &[])?;
@@ -118,7 +130,11 @@ fn a_file_is_read_up_to_its_limit(rt: HostRuntime) -> Result<(), Fail> {
     let words = words(alloc, &["decide", "t.mona"])?;
     let blanks = vec![in alloc; b' '; 1_048_577]?;
     let rows: [(usize, &[u8], Status); 2] = [
-        (1_048_576, b"27 not built at t.mona:0\n", Status::Refused),
+        (
+            1_048_576,
+            b"valid\nexample length 0\nno counterexample\n",
+            Status::Done,
+        ),
         (1_048_577, b"50 file too long: t.mona\n", Status::Limit),
     ];
     for (length, line, status) in rows {

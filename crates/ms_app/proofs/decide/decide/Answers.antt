@@ -1,12 +1,32 @@
-use Rattle.std.proofs.Common.{◌≡◌, ◌++◌, ◌∷◌, [], ℕ, List, refl, ap, subst, ◌∙◌}
-use Rattle.std.proofs.lemmas.Option.{MatchOption-at_none}
-use Rattle.ms_app.specs.Statement.{IsStatement}
+use Rattle.std.proofs.Common.{sym}
+use Rattle.ms_app.proofs.Building.{is_built}
+use Rattle.ms_app.proofs.Deciding.{load_refused, check_refused, beyond_refused, loaded_here}
 use Rattle.ms_app.proofs.decide.decide.Goals as goal
 
-pub returns-in-Ok-None-clause-refused : goal.returns-in-Ok-None-clause-refused
-returns-in-Ok-None-clause-refused g c =
-    let names : c.push.new.self ≡ c.args.name.now ∷ []
-    = c.in-Ok-push.ensures.ok ∙ ap (λ l. l ++ c.in-Ok.copy ∷ []) c.requires ∙ ap (λ n. n ∷ []) (c.in-Ok.ensures ∙ c.text.ensures) in
-    let P : List ℕ → Type 0 = λ bytes. (first second : List ℕ) (left right : ℕ) → ¬ IsStatement bytes first second left right in
-    let unbuilt = subst P c.slice.ensures (MatchOption-at_none _ _ c.in-Ok-None.field-0-is c.in-Ok-None.ensures.unbuilt) in
-    (refl, names, (c.in_ok-bytes.bytes, c.in_ok-bytes.ensures.bytes, c.in_ok-bytes.ensures.within, unbuilt))
+pub returns-in-Err-clause-refused : goal.returns-in-Err-clause-refused
+returns-in-Err-clause-refused g c =
+    load_refused c.args.name.now c.text.result.now _ c.args.names.now c.load.new.names c.text.ensures c.requires c.in-Err.refusal c.in-Err.ensures.refused
+
+pub returns-in-Err-check-clause-refused : goal.returns-in-Err-check-clause-refused
+returns-in-Err-check-clause-refused g c =
+    check_refused c.args.name.now c.text.result.now _ c.args.names.now c.load.new.names c.text.ensures c.requires c.in-Ok.loaded c.in-Err-check.refusal
+    c.in-Ok.ensures.loaded c.in-Ok.ensures.names c.in-Err-check.ensures.refused
+
+pub returns-in-Some-clause-refused : goal.returns-in-Some-clause-refused
+returns-in-Some-clause-refused g c =
+    beyond_refused c.args.name.now c.text.result.now _ c.args.names.now c.load.new.names c.text.ensures c.requires c.in-Ok.loaded c.in-Some.at
+    c.in-Ok.ensures.loaded c.in-Ok.ensures.names c.in-Ok-check.ensures.accepted (sym c.in-Some.ensures)
+
+pub solve-requires : goal.solve-requires
+solve-requires g c = is_built c.in-Ok.loaded c.in-Ok-check.checked c.in-Ok-check.ensures.typed (sym c.in-None.ensures)
+
+pub returns-in-Ok-solve-clause-decided : goal.returns-in-Ok-solve-clause-decided
+returns-in-Ok-solve-clause-decided g c = record {
+  loaded = c.in-Ok.loaded;
+  checked = c.in-Ok-check.checked;
+  is_loaded = loaded_here c.args.name.now c.text.result.now _ c.args.names.now c.load.new.names c.text.ensures c.requires c.in-Ok.loaded c.in-Ok.ensures.loaded;
+  accepted = c.in-Ok-check.ensures.accepted;
+  built = sym c.in-None.ensures;
+  typed = c.in-Ok-check.ensures.typed;
+  is_found = c.in-Ok-solve.ensures;
+}

@@ -1,5 +1,6 @@
-use Rattle.std.proofs.Common.{◌≡◌, [], ℕ, List, Some, inl, inr, sym}
+use Rattle.std.proofs.Common.{◌≡◌, [], ℕ, List, Some, inl, inr, refl, sym}
 use Rattle.ms_edge.specs.declared.refusal.Refusal.TheVariants.{Memory}
+use Rattle.ms_app.specs.Answer.{no_memory}
 use Rattle.ms_app.specs.Command.{file_of}
 use Rattle.ms_app.proofs.top.run.Goals as goal
 
@@ -9,14 +10,14 @@ returns-in-Ok-clause-answered g c =
     rw asked
     (elim c.tell.ensures [
       | inl whole ↦ inl (c.in-Ok.found, c.in-Ok.ensures.decided, whole)
-      | inr short ↦ inr (Memory, [], tt, short)
+      | inr short ↦ inr (Memory, [], no_memory refl, short)
     ])
 
 pub returns-clause-answered : goal.returns-clause-answered
 returns-clause-answered g c =
     let asked : file_of c.args.words.now ≡ Some c.in-Some.name.now = sym c.in-Some.ensures in
     rw asked
-    (elim c.refuse.ensures [
+    (elim c.refuse.ensures.printed [
       | inl whole ↦ inr (c.in-Err.refusal, c.decide.new.names, c.in-Err.ensures.refused, whole)
-      | inr short ↦ inr (Memory, [], tt, short)
+      | inr short ↦ inr (Memory, [], no_memory refl, short)
     ])
