@@ -47,13 +47,15 @@ plain_bounds no_bounds begun at item s x b free none = tt
 plain_bounds (more_bounds name_at o n d vs) begun at item s x b free none =
     let parts = not_then (is_beyond begun o d) name_at (first_global_beyond (with_globals begun 1) vs) none in
     let here = within begun o d parts.0 in
-    let domain = plain_domain (bind n (Variable x o) s) b o x d here.order here.domain (free here.free) in
-    (record {
-      global = record { at = at; item = item; order = o; name = n; restriction = tree.unrestricted };
-      is = ap (λ given. option_map (λ restriction. record { at = at; item = item; order = o; name = n; restriction = restriction }) given) domain;
-      order = here.order;
-      restriction = refl;
-    }, plain_bounds vs (with_globals begun 1) at item (bind n (Variable x o) s) (x + 1) (after_domain b d) free parts.1)
+    let domain = plain_domain (bind n (Variable x o) s) b o x d here.order here.domain (free here.free) in (
+      record {
+        global = record { at = at; item = item; order = o; name = n; restriction = tree.unrestricted };
+        is = ap (λ given. option_map (λ restriction. record { at = at; item = item; order = o; name = n; restriction = restriction }) given) domain;
+        order = here.order;
+        restriction = refl;
+      },
+      plain_bounds vs (with_globals begun 1) at item (bind n (Variable x o) s) (x + 1) (after_domain b d) free parts.1,
+    )
 
 plain_in : (begun : Begun) (k : Known) (at : At) (item : ℕ) (d : Declaration) → Agrees begun k → first_beyond_in begun at d ≡ None → ArePlain (globals_of k at item d)
 plain_in begun k at item (globals vs) agrees none = plain_bounds vs begun at item k.scope k.globals k.before agrees.free none
@@ -109,8 +111,10 @@ pub plain_sets : (gs : List Global) → ArePlain (map (λ g. Some (global_of g))
 plain_sets [] plain = tt
 plain_sets (g ∷ gs) plain =
     let is : Some (global_of g) ≡ Some (plain.0).global = (plain.0).is in
-    let same : global_of g ≡ (plain.0).global = cc in
-    (record {
-      order = ap (λ t. t.order) same ∙ (plain.0).order;
-      domain = unmapped formula_of g.domain (no_domain (option_map formula_of g.domain) (ap (λ t. t.restriction) same ∙ (plain.0).restriction));
-    }, plain_sets gs plain.1)
+    let same : global_of g ≡ (plain.0).global = cc in (
+      record {
+        order = ap (λ t. t.order) same ∙ (plain.0).order;
+        domain = unmapped formula_of g.domain (no_domain (option_map formula_of g.domain) (ap (λ t. t.restriction) same ∙ (plain.0).restriction));
+      },
+      plain_sets gs plain.1,
+    )

@@ -28,10 +28,8 @@ pub fn first_import(e: &Expr) -> Option<At>
         | Form::Max(inner)
         | Form::Restrict(inner)
         | Form::Export(_, _, inner) => first_import(inner.get()),
-        Form::Literal(inner)
-        | Form::Call(_, inner)
-        | Form::And(inner)
-        | Form::Or(inner) => first_import_among(inner.slice()),
+        Form::Literal(inner) | Form::Call(_, inner) | Form::And(inner) | Form::Or(inner) =>
+            first_import_among(inner.slice()),
         Form::Implies(left, right)
         | Form::Iff(left, right)
         | Form::Relation(_, left, right)

@@ -106,10 +106,22 @@ fn a_source_is_decided_or_refused(rt: HostRuntime) -> Result<(), Fail> {
             b"20 unknown name at t.mona:23: R\n",
             Status::Refused,
         ),
-        (b"ws2s; true;", b"26 left out at t.mona:0: ws2s\n", Status::Refused),
-        (b"var1 x; x < 1;", b"27 not built at t.mona:5\n", Status::Refused),
+        (
+            b"ws2s; true;",
+            b"26 left out at t.mona:0: ws2s\n",
+            Status::Refused,
+        ),
+        (
+            b"var1 x; x < 1;",
+            b"27 not built at t.mona:5\n",
+            Status::Refused,
+        ),
         (b"true", b"12 grammar at t.mona:4\n", Status::Refused),
-        (b"@", b"10 unexpected byte at t.mona:0: 40\n", Status::Refused),
+        (
+            b"@",
+            b"10 unexpected byte at t.mona:0: 40\n",
+            Status::Refused,
+        ),
     ];
     for (source, text, status) in rows {
         let mut files = files(alloc, source, &[])?;

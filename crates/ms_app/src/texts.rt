@@ -30,7 +30,10 @@ fn texts_that_are_refused(rt: HostRuntime) -> Result<(), Fail> {
         (b"import(\"f\" a -> b);", b"12 grammar at t.mona:11\n"),
         (b"var2 P; P sub P", b"12 grammar at t.mona:15\n"),
         (b"include \"a\nb\";", b"13 unclosed at t.mona:8\n"),
-        (b"include \"\xff\";", b"10 unexpected byte at t.mona:8: 22\n"),
+        (
+            b"include \"\xff\";",
+            b"10 unexpected byte at t.mona:8: 22\n",
+        ),
         (b"a\xff;", b"10 unexpected byte at t.mona:1: ff\n"),
         (b"true; /*/ true;", b"13 unclosed at t.mona:6\n"),
         (b"true & & true;", b"12 grammar at t.mona:7\n"),
@@ -109,12 +112,16 @@ fn answer_over(alloc: Global, files: &mut MemFiles) -> Result<(MemSink, Status),
 #[test]
 fn sources_of_several_files(rt: HostRuntime) -> Result<(), Fail> {
     let alloc = rt.alloc();
-    let inclusion = b"contingent\nexample length 0\nP = {}\nQ = {}\ncounterexample length 1\nP = {0}\nQ = {}\n".as_slice();
+    let inclusion =
+        b"contingent\nexample length 0\nP = {}\nQ = {}\ncounterexample length 1\nP = {0}\nQ = {}\n".as_slice();
     // The files, the reads that fail, what is printed, the status.
     let rows: [(&[(&str, &[u8])], &[u64], &[u8], Status); 14] = [
         (
             &[
-                ("t.mona", b"include \"v.mona\"; include \"v.mona\"; P sub Q;"),
+                (
+                    "t.mona",
+                    b"include \"v.mona\"; include \"v.mona\"; P sub Q;",
+                ),
                 ("v.mona", b"var2 P, Q;"),
             ],
             &[],
@@ -166,7 +173,10 @@ fn sources_of_several_files(rt: HostRuntime) -> Result<(), Fail> {
             Status::Refused,
         ),
         (
-            &[("t.mona", b"include \"b\"; var2 P; P sub Q;"), ("b", b"var2 Q, P;")],
+            &[
+                ("t.mona", b"include \"b\"; var2 P; P sub Q;"),
+                ("b", b"var2 Q, P;"),
+            ],
             &[],
             b"21 named twice at t.mona:18: P\n",
             Status::Refused,
@@ -184,7 +194,10 @@ fn sources_of_several_files(rt: HostRuntime) -> Result<(), Fail> {
             Status::Refused,
         ),
         (
-            &[("t.mona", b"pred p = true; include \"b\";"), ("b", b"p; var1 x;")],
+            &[
+                ("t.mona", b"pred p = true; include \"b\";"),
+                ("b", b"p; var1 x;"),
+            ],
             &[],
             b"27 not built at b:0\n",
             Status::Refused,
@@ -234,7 +247,10 @@ fn includes_stand_up_to_sixteen_deep(rt: HostRuntime) -> Result<(), Fail> {
     assert_eq!(rt; sink.bytes(), VALID);
     assert_eq!(rt; status, Status::Done);
     let (sink, status) = answer_over(alloc, &mut chain(alloc, 17)?)?;
-    assert_eq!(rt; sink.bytes(), b"51 too many includes at f16:8: 16\n".as_slice());
+    assert_eq!(rt;
+        sink.bytes(),
+        b"51 too many includes at f16:8: 16\n".as_slice()
+    );
     assert_eq!(rt; status, Status::Limit);
     Ok(())
 }
@@ -264,7 +280,10 @@ fn a_source_has_up_to_sixty_four_files(rt: HostRuntime) -> Result<(), Fail> {
     assert_eq!(rt; sink.bytes(), VALID);
     assert_eq!(rt; status, Status::Done);
     let (sink, status) = answer_over(alloc, &mut fan(alloc, 64)?)?;
-    assert_eq!(rt; sink.bytes(), b"51 too many includes at t.mona:1205: 64\n".as_slice());
+    assert_eq!(rt;
+        sink.bytes(),
+        b"51 too many includes at t.mona:1205: 64\n".as_slice()
+    );
     assert_eq!(rt; status, Status::Limit);
     Ok(())
 }
