@@ -142,7 +142,7 @@ fn repeated(
 fn deep_texts_are_refused_where_they_are_too_deep(rt: HostRuntime) -> Result<(), Fail> {
     let alloc = rt.alloc();
     // The front, a piece, how often it stands there, the rest; the number and the place.
-    let rows: [(&str, &str, u32, &str, (u32, u64)); 30] = [
+    let rows: [(&str, &str, u32, &str, (u32, u64)); 32] = [
         ("", "(", 300, "a", (52, 299)),
         ("", "~", 300, "a;", (52, 299)),
         ("", "~", 299, "a", (12, 300)),
@@ -164,6 +164,8 @@ fn deep_texts_are_refused_where_they_are_too_deep(rt: HostRuntime) -> Result<(),
         ("", "(", 299, "{x}", (52, 300)),
         ("", "(", 299, "p(x)", (52, 301)),
         ("", "(", 299, "p()", (12, 302)),
+        ("", "(", 299, "p(&", (12, 301)),
+        ("", "(", 299, "{tree", (26, 300)),
         ("", "(", 299, "restrict(a)", (52, 299)),
         ("", "(", 299, "empty(P)", (52, 304)),
         ("", "(", 299, "min P", (52, 299)),
