@@ -3,6 +3,7 @@ pub mod Built
 pub mod Claim
 pub mod Command
 pub mod Decision
+pub mod Examples
 pub mod HasValue
 pub mod Import
 pub mod Inclusion

@@ -82,6 +82,7 @@ pub fn inclusion(alloc: Global, left: u32, right: u32, limit: u64) -> Result<Aut
     requires some { 1 ≤ limit }
     requires small { limit ≤ 4000000000 }
     ensures value { IfOk result (λ made. (given : Given) → HasMainValue (problem_with given 2 (Claim.Inclusion left right)) made) }
+    ensures over { IfOk result (λ made. made.variables ≡ two_sets) }
     ensures nodes { OnFewNodes result (limit < 2) }
 {
     let mut store = Store::new(alloc, limit);

@@ -7,12 +7,14 @@ mod built;
 mod claim;
 mod command;
 mod decide;
+mod examples;
 mod import;
 mod inclusion;
 mod print;
 mod solve;
 mod top;
 
+pub use examples::worked_beyond;
 pub use top::run;
 
 #[cfg(test)]
