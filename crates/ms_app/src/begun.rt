@@ -1,5 +1,5 @@
 /// What a source has declared so far.
-#[derive(Clone, Copy, Debug)]
+#[derive(Clone, Copy)]
 pub struct Begun {
     /// How many globals.
     pub globals: u32,

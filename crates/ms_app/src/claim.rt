@@ -6,7 +6,7 @@ use crate::built::is_inclusion;
 use ms_logic::{Formula, Placed, Term2};
 
 /// What the formulas of a source say that is built.
-#[derive(Clone, Copy, Debug)]
+#[derive(Clone, Copy)]
 pub enum Claim {
     /// There is no formula.
     Nothing,

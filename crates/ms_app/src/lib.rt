@@ -16,10 +16,3 @@ mod top;
 
 pub use examples::worked_beyond;
 pub use top::run;
-
-#[cfg(test)]
-mod names;
-#[cfg(test)]
-mod tests;
-#[cfg(test)]
-mod texts;

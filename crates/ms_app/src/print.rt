@@ -1,10 +1,9 @@
-ghost use Rattle.std.specs.Prelude.{◌≡◌, ◌⊎◌, ◌↔◌, [], IsTrue};
+ghost use Rattle.std.specs.Prelude.{◌≡◌, ◌⊎◌, []};
 ghost use Rattle.ms_edge.specs.Counts.{Rose};
-ghost use Rattle.ms_report.specs.Line.{HasLine, IsPlaced, place_of};
 ghost use Rattle.ms_app.specs.Answer.{Prints, status_of, answer_of, report_answer};
 
-use ms_edge::{At, List, Refusal, Sink, Status, Text, write_all};
-use ms_report::{Found, refusal_line, report};
+use ms_edge::{List, Refusal, Sink, Status, Text, write_all};
+use ms_report::{Found, has_line, refusal_line, report};
 use std::alloc::Global;
 
 /// The line of the refusal for want of memory, which takes none.
@@ -53,55 +52,6 @@ fn status(refusal: &Refusal) -> Status
         | Refusal::ImportMode { .. }
         | Refusal::ImportVars { .. }
         | Refusal::ImportOpen { .. } => Status::Refused,
-    }
-}
-
-/// The place of a refusal, where it has one.
-fn place(refusal: &Refusal) -> Option<At>
-    ensures { result ≡ place_of refusal.now }
-{
-    match refusal {
-        Refusal::Word { at, .. }
-        | Refusal::NumberTooLarge { at }
-        | Refusal::Grammar { at }
-        | Refusal::Unclosed { at }
-        | Refusal::UnknownName { at, .. }
-        | Refusal::Twice { at, .. }
-        | Refusal::WrongOrder { at }
-        | Refusal::Arity { at, .. }
-        | Refusal::NotHere { at }
-        | Refusal::LeftOut { at, .. }
-        | Refusal::NotBuilt { at }
-        | Refusal::IncludeCycle { at, .. }
-        | Refusal::ImportMissing { at, .. }
-        | Refusal::ImportText { at, .. }
-        | Refusal::ImportMode { at, .. }
-        | Refusal::ImportVars { at, .. }
-        | Refusal::ImportOpen { at, .. }
-        | Refusal::Includes { at, .. }
-        | Refusal::Depth { at } => Some(*at),
-        Refusal::ConstRange { at } | Refusal::FileMissing { at, .. } => *at,
-        Refusal::VarsDiffer
-        | Refusal::FileSize { .. }
-        | Refusal::CoreSize
-        | Refusal::Nodes { .. }
-        | Refusal::ReadFault { .. }
-        | Refusal::WriteFault { .. }
-        | Refusal::SinkFault { .. }
-        | Refusal::Memory => None,
-    }
-}
-
-/// Whether a line of the refusal can be written over these files: it is no fault of the sink, and its place is in one of them.
-fn has_line(refusal: &Refusal, files: &List<Text>) -> bool
-    ensures { IsTrue result ↔ (HasLine refusal.now × IsPlaced (place_of refusal.now) files.now) }
-{
-    if matches!(refusal, Refusal::SinkFault { .. }) {
-        return false;
-    }
-    match place(refusal) {
-        None => true,
-        Some(at) => (at.file as usize) < files.len(),
     }
 }
 

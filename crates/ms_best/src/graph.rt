@@ -6,7 +6,7 @@ use std::alloc::Global;
 
 /// A vertex of a graph in which letters are read: a goal; one from which a letter leads to another vertex; or one
 /// from which a bit leads to one of two others. Vertices go by their places.
-#[derive(Clone, Copy, Debug, PartialEq, Eq)]
+#[derive(Clone, Copy, PartialEq, Eq)]
 pub enum Vertex {
     Goal,
     Letter(usize),

@@ -15,6 +15,3 @@ pub use plain::{FileSign, FileState, FileVar, Plain};
 pub use sign::Sign;
 pub use state::State;
 pub use track::Track;
-
-#[cfg(test)]
-mod tests;

@@ -4,7 +4,7 @@ ghost use Rattle.ms_dfa.specs.Part.{has_value};
 use ms_logic::Order;
 
 /// The two parts of a word: the truth values, for the variables of order 0, and the letters, for all others.
-#[derive(Clone, Copy, Debug, PartialEq, Eq)]
+#[derive(Clone, Copy, PartialEq, Eq)]
 pub enum Part {
     Truth,
     Letters,

@@ -6,7 +6,7 @@ use ms_logic::{Mode, Order};
 use std::alloc::Global;
 
 /// The sign of a state in an automaton file: `+`, `-` or `0`.
-#[derive(Clone, Copy, Debug, PartialEq, Eq, Hash)]
+#[derive(Clone, Copy, PartialEq, Eq)]
 pub enum FileSign {
     Plus,
     Minus,
@@ -14,21 +14,21 @@ pub enum FileSign {
 }
 
 /// A variable of an automaton file.
-#[derive(Debug, Drop)]
+#[derive(Drop)]
 pub struct FileVar {
     pub order: Order,
     pub name: Name,
 }
 
 /// A state of an automaton file.
-#[derive(Clone, Copy, Debug, PartialEq, Eq)]
+#[derive(Clone, Copy, PartialEq, Eq)]
 pub struct FileState {
     pub sign: FileSign,
     pub next: Ref,
 }
 
 /// The content of an automaton file.
-#[derive(Debug, Drop)]
+#[derive(Drop)]
 pub struct Plain {
     pub mode: Mode,
     pub variables: List<FileVar>,

@@ -2,7 +2,7 @@ use crate::sign::Sign;
 use ms_arena::Ref;
 
 /// A state: the sign of the words that end in it, and the diagram that leads on from it.
-#[derive(Clone, Copy, Debug, PartialEq, Eq)]
+#[derive(Clone, Copy, PartialEq, Eq)]
 pub struct State {
     pub sign: Sign,
     pub next: Ref,

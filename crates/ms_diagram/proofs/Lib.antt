@@ -15,4 +15,3 @@ pub mod RootLemmas
 pub mod SetLemmas
 pub mod StoreLemmas
 pub mod TableLemmas
-pub mod TestLemmas

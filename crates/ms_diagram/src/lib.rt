@@ -20,6 +20,3 @@ mod table;
 pub use pairs::Pairs;
 pub use sets::Sets;
 pub use store::Store;
-
-#[cfg(test)]
-mod tests;

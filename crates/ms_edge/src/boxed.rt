@@ -5,7 +5,7 @@ use std::marker::Model;
 
 /// A value on the heap that contracts see as the value itself: two boxes of equal values are equal,
 /// wherever they lie. Trees are built with it.
-#[derive(Debug, Drop)]
+#[derive(Drop)]
 pub struct Boxed<T> {
     inner: Box<T>,
 }

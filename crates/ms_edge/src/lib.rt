@@ -11,6 +11,7 @@ mod list;
 mod log;
 mod mem_files;
 mod mem_sink;
+mod memory;
 mod name;
 mod refusal;
 mod sink;
@@ -26,12 +27,10 @@ pub use files::{Files, ReadAnswer, WriteFailed};
 pub use list::{Bytes, List};
 pub use mem_files::MemFiles;
 pub use mem_sink::MemSink;
+pub use memory::{let_go, on_heap, push};
 pub use name::Name;
 pub use refusal::{Refusal, Status, Word};
 pub use sink::{Sink, SinkFailed, SinkStop, write_all};
 pub use stdout::StdSink;
 pub use text::Text;
 pub use words::Words;
-
-#[cfg(test)]
-mod tests;

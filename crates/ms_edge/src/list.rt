@@ -5,7 +5,7 @@ use std::marker::Model;
 
 /// A growing list that contracts see as the list of its items: two lists of the same items are equal,
 /// wherever they lie. A type may hold a list of itself.
-#[derive(Debug, Drop)]
+#[derive(Drop)]
 pub struct List<T> {
     items: Vec<T>,
 }

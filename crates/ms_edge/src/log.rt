@@ -4,7 +4,7 @@ ghost use Rattle.ms_edge.specs.FilesInMemory.{held_under};
 ghost use Rattle.ms_edge.specs.Span.{IsWithin, entries_in};
 
 /// Where a name and its bytes lie in one buffer, the bytes behind the name.
-#[derive(Clone, Copy, Debug)]
+#[derive(Clone, Copy)]
 pub struct Span {
     pub start: usize,
     pub middle: usize,

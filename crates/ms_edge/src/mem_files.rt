@@ -12,7 +12,7 @@ use std::alloc::Global;
 use std::marker::Model;
 
 /// Files in memory that fail at the listed calls. Reads and writes are counted apart, from 0.
-#[derive(Debug, Drop)]
+#[derive(Drop)]
 pub struct MemFiles {
     buffer: Vec<u8>,
     spans: Vec<Span>,

@@ -11,7 +11,7 @@ use std::marker::Model;
 
 /// A sink in memory that takes so many bytes in a call and at all, and fails at the listed calls,
 /// which are counted from 0.
-#[derive(Debug, Drop)]
+#[derive(Drop)]
 pub struct MemSink {
     taken: Vec<u8>,
     piece: u64,

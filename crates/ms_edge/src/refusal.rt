@@ -5,14 +5,14 @@ use crate::text::Text;
 
 /// A word over a list of variables: the truth values of the variables of order 0, and letters with
 /// one bit for each other variable.
-#[derive(Debug, Drop)]
+#[derive(Drop)]
 pub struct Word {
     pub truth: List<bool>,
     pub letters: List<List<bool>>,
 }
 
 /// Why a request is refused. Each variant has a number and a line of its own (docs/FORMATS.md).
-#[derive(Debug, Drop)]
+#[derive(Drop)]
 pub enum Refusal {
     /// 10: no token, blank or comment begins at this byte, or a text is no UTF-8.
     Word {
@@ -146,8 +146,49 @@ pub enum Refusal {
     Memory,
 }
 
+impl Refusal {
+    ghost use Rattle.std.specs.Prelude.{◌≡◌};
+    ghost use Rattle.ms_edge.specs.Refusal.{place_of};
+
+    /// The place in a source, where the refusal has one.
+    pub fn place(&self) -> Option<At>
+        ensures { result ≡ place_of self.now }
+    {
+        match self {
+            Refusal::Word { at, .. }
+            | Refusal::NumberTooLarge { at }
+            | Refusal::Grammar { at }
+            | Refusal::Unclosed { at }
+            | Refusal::UnknownName { at, .. }
+            | Refusal::Twice { at, .. }
+            | Refusal::WrongOrder { at }
+            | Refusal::Arity { at, .. }
+            | Refusal::NotHere { at }
+            | Refusal::LeftOut { at, .. }
+            | Refusal::NotBuilt { at }
+            | Refusal::IncludeCycle { at, .. }
+            | Refusal::ImportMissing { at, .. }
+            | Refusal::ImportText { at, .. }
+            | Refusal::ImportMode { at, .. }
+            | Refusal::ImportVars { at, .. }
+            | Refusal::ImportOpen { at, .. }
+            | Refusal::Includes { at, .. }
+            | Refusal::Depth { at } => Some(*at),
+            Refusal::ConstRange { at } | Refusal::FileMissing { at, .. } => *at,
+            Refusal::VarsDiffer
+            | Refusal::FileSize { .. }
+            | Refusal::CoreSize
+            | Refusal::Nodes { .. }
+            | Refusal::ReadFault { .. }
+            | Refusal::WriteFault { .. }
+            | Refusal::SinkFault { .. }
+            | Refusal::Memory => None,
+        }
+    }
+}
+
 /// How a run of the program ended.
-#[derive(Clone, Copy, Debug, PartialEq, Eq, Hash)]
+#[derive(Clone, Copy, PartialEq, Eq)]
 pub enum Status {
     Done,
     Usage,

@@ -10,7 +10,7 @@ use thiserror::Error;
 pub struct SinkFailed;
 
 /// A sink failed after it had taken so many bytes of a text.
-#[derive(Clone, Copy, Debug, PartialEq, Eq)]
+#[derive(Clone, Copy, PartialEq, Eq)]
 pub struct SinkStop {
     pub taken: u64,
 }

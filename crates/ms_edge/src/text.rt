@@ -5,7 +5,7 @@ use std::alloc::Global;
 use std::marker::Model;
 
 /// UTF-8 text that contracts see as its bytes.
-#[derive(Debug, Drop)]
+#[derive(Drop)]
 pub struct Text {
     inner: String,
 }

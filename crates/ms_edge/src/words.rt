@@ -7,7 +7,7 @@ use std::alloc::Global;
 use std::marker::Model;
 
 /// The words after the program's name on the command line.
-#[derive(Debug, Drop)]
+#[derive(Drop)]
 pub struct Words {
     alloc: Global,
     words: List<Text>,

@@ -2,7 +2,7 @@ use ms_edge::{At, Name, Text};
 use ms_logic::Rel;
 
 /// An operator before its operand: `~`, `min` or `max`.
-#[derive(Clone, Copy, Debug, PartialEq, Eq)]
+#[derive(Clone, Copy, PartialEq, Eq)]
 pub enum Prefix {
     Negation,
     Minimum,
@@ -10,7 +10,7 @@ pub enum Prefix {
 }
 
 /// An operator between two operands.
-#[derive(Clone, Copy, Debug, PartialEq, Eq)]
+#[derive(Clone, Copy, PartialEq, Eq)]
 pub enum Binary {
     Implication,
     Equivalence,
@@ -21,14 +21,14 @@ pub enum Binary {
 }
 
 /// An operator between two or more operands: `&` or `|`.
-#[derive(Clone, Copy, Debug, PartialEq, Eq)]
+#[derive(Clone, Copy, PartialEq, Eq)]
 pub enum Junction {
     Conjunction,
     Disjunction,
 }
 
 /// Brackets around one expression, with what stands before it.
-#[derive(Debug, Drop)]
+#[derive(Drop)]
 pub enum Bracket {
     Parentheses,
     /// `empty ( .. )`
@@ -40,7 +40,7 @@ pub enum Bracket {
 }
 
 /// Brackets around a list: `{ .. }`, or a call with the name before them.
-#[derive(Debug, Drop)]
+#[derive(Drop)]
 pub enum Listing {
     Literal,
     Call(Name),

@@ -5,7 +5,7 @@ use ms_edge::{List, NoMemory, Text};
 use std::alloc::Global;
 
 /// A file whose loading has begun and not ended: its number, and its name.
-#[derive(Debug, Drop)]
+#[derive(Drop)]
 pub struct Begun {
     pub number: u32,
     pub name: Text,

@@ -12,10 +12,3 @@ pub use begun::Begun;
 pub use examples::{example_loads, example_refused_loads};
 pub use source::load;
 pub use text::load_bytes;
-
-#[cfg(test)]
-mod broken;
-#[cfg(test)]
-mod round_trip;
-#[cfg(test)]
-mod tests;

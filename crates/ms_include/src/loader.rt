@@ -18,7 +18,7 @@ const MOST_FILES: usize = 64;
 pub const GREATEST_DEPTH: u32 = 16;
 
 /// A source that is being loaded.
-#[derive(Debug, Drop)]
+#[derive(Drop)]
 pub struct Loader {
     pub alloc: Global,
     /// The number of its first file.

@@ -1,7 +1,7 @@
 use ms_edge::List;
 
 /// The value of a variable, by its order.
-#[derive(Debug, Drop)]
+#[derive(Drop)]
 pub enum Value {
     Truth(bool),
     Number(u64),
@@ -9,7 +9,7 @@ pub enum Value {
 }
 
 /// A value for each global, in the order of the globals, and the length of the whole.
-#[derive(Debug, Drop)]
+#[derive(Drop)]
 pub struct Assignment {
     pub length: u64,
     pub values: List<Value>,

@@ -3,7 +3,7 @@ use crate::mode::{Mode, Order};
 use ms_edge::{At, List, Name, Text};
 
 /// A parameter with its restriction.
-#[derive(Debug, Drop)]
+#[derive(Drop)]
 pub struct Param {
     pub order: Order,
     pub variable: u32,
@@ -11,7 +11,7 @@ pub struct Param {
 }
 
 /// A predicate, a macro or a default restriction. Its body calls those with smaller numbers alone.
-#[derive(Debug, Drop)]
+#[derive(Drop)]
 pub struct Predicate {
     pub params: List<Param>,
     pub body: Formula,
@@ -19,7 +19,7 @@ pub struct Predicate {
 
 /// A global with its restriction, its own or the default. Its number as a variable is its place among
 /// the globals.
-#[derive(Debug, Drop)]
+#[derive(Drop)]
 pub struct Global {
     pub at: At,
     /// The number of its declaration.
@@ -30,7 +30,7 @@ pub struct Global {
 }
 
 /// A variable of an automaton file, by its name, and the variable that it stands for.
-#[derive(Debug, Drop)]
+#[derive(Drop)]
 pub struct MapPair {
     pub name: Name,
     pub variable: u32,
@@ -38,7 +38,7 @@ pub struct MapPair {
 }
 
 /// One `import` of the source.
-#[derive(Debug, Drop)]
+#[derive(Drop)]
 pub struct ImportUse {
     pub at: At,
     pub name: Text,
@@ -46,7 +46,7 @@ pub struct ImportUse {
 }
 
 /// One `export` of the source, with the free variables of its formula and their names.
-#[derive(Debug, Drop)]
+#[derive(Drop)]
 pub struct ExportUse {
     pub at: At,
     pub name: Text,
@@ -55,7 +55,7 @@ pub struct ExportUse {
 }
 
 /// A formula declaration.
-#[derive(Debug, Drop)]
+#[derive(Drop)]
 pub struct Placed {
     pub at: At,
     /// The number of its declaration.
@@ -64,7 +64,7 @@ pub struct Placed {
 }
 
 /// A source whose names and orders are checked.
-#[derive(Debug, Drop)]
+#[derive(Drop)]
 pub struct Checked {
     pub mode: Mode,
     pub globals: List<Global>,

@@ -1,12 +1,8 @@
-ghost use Rattle.std.specs.Prelude.{◌≡◌, IfOk};
-
-use crate::memory::{boxed, copy_numbers, push};
 use crate::mode::{Mode, Order, Quant};
-use ms_edge::{Boxed, List, NoMemory};
-use std::alloc::Global;
+use ms_edge::{Boxed, List};
 
 /// A relation between variables alone. Every atom is made of these.
-#[derive(Clone, Copy, Debug, PartialEq, Eq, Hash)]
+#[derive(Clone, Copy)]
 pub enum Basic {
     /// `a` is true.
     Truth(u32),
@@ -39,7 +35,6 @@ pub enum Basic {
 }
 
 /// A formula without terms, calls and defaults.
-#[derive(Debug, Drop)]
 pub enum Core {
     True,
     False,
@@ -57,14 +52,14 @@ pub enum Core {
 }
 
 /// A formula with a rising list of variables, its free ones among them.
-#[derive(Debug, Drop)]
+#[derive(Drop)]
 pub struct Root {
     pub variables: List<u32>,
     pub core: Core,
 }
 
 /// A source as core formulas: root 0 is its main formula, and the others are its exports.
-#[derive(Debug, Drop)]
+#[derive(Drop)]
 pub struct Lowered {
     pub mode: Mode,
     pub size: u64,
@@ -74,57 +69,33 @@ pub struct Lowered {
     pub orders: List<Order>,
 }
 
-impl Core {
-    /// An equal tree of its own.
-    #[cycle(core_copy)]
-    pub fn copy(&self, alloc: Global) -> Result<Core, NoMemory>
-        ensures { IfOk result (λ made. made ≡ self.now) }
-    {
-        match self {
-            Core::True => Ok(Core::True),
-            Core::False => Ok(Core::False),
-            Core::Basic(basic) => Ok(Core::Basic(*basic)),
-            Core::Not(body) => Ok(Core::Not(boxed(alloc, body.get().copy(alloc)?)?)),
-            Core::And(operands) => Ok(Core::And(copy_all(alloc, operands.slice())?)),
-            Core::Or(operands) => Ok(Core::Or(copy_all(alloc, operands.slice())?)),
-            Core::Implies(left, right) => {
-                let left = boxed(alloc, left.get().copy(alloc)?)?;
-                Ok(Core::Implies(left, boxed(alloc, right.get().copy(alloc)?)?))
-            }
-            Core::Iff(left, right) => {
-                let left = boxed(alloc, left.get().copy(alloc)?)?;
-                Ok(Core::Iff(left, boxed(alloc, right.get().copy(alloc)?)?))
-            }
-            Core::Restrict(body) => Ok(Core::Restrict(boxed(alloc, body.get().copy(alloc)?)?)),
-            Core::Import(import, variables) => {
-                Ok(Core::Import(*import, copy_numbers(alloc, variables.slice())?))
-            }
-            Core::Bind(quant, order, variable, domain, body) => {
-                let domain = copy_domain(alloc, domain)?;
-                let body = boxed(alloc, body.get().copy(alloc)?)?;
-                Ok(Core::Bind(*quant, *order, *variable, domain, body))
+// What is last in a formula is let go in the same call, so a list of variables takes no stack.
+impl Drop for Core {
+    #[cycle(core_drop)]
+    fn drop(mut self) {
+        loop {
+            match self {
+                Core::Not(body) => self = body.into_inner(),
+                Core::Restrict(body) => self = body.into_inner(),
+                Core::Implies(left, right) => {
+                    drop(left);
+                    self = right.into_inner();
+                }
+                Core::Iff(left, right) => {
+                    drop(left);
+                    self = right.into_inner();
+                }
+                Core::Bind(_, _, _, domain, body) => {
+                    drop(domain);
+                    self = body.into_inner();
+                }
+                Core::And(operands) => return drop(operands),
+                Core::Or(operands) => return drop(operands),
+                Core::Import(_, variables) => return drop(variables),
+                Core::Basic(_) => return,
+                Core::True => return,
+                Core::False => return,
             }
         }
-    }
-}
-
-#[cycle(core_copy)]
-fn copy_all(alloc: Global, operands: &[Core]) -> Result<List<Core>, NoMemory>
-    ensures { IfOk result (λ made. made ≡ operands.now) }
-{
-    let mut made = List::new(alloc);
-    for operand in operands {
-        push(&mut made, operand.copy(alloc)?)?;
-    }
-    Ok(made)
-}
-
-#[cycle(core_copy)]
-fn copy_domain(alloc: Global, domain: &Option<Boxed<Core>>) -> Result<Option<Boxed<Core>>, NoMemory>
-    ensures { IfOk result (λ made. made ≡ domain.now) }
-{
-    match domain {
-        None => Ok(None),
-        Some(formula) => Ok(Some(boxed(alloc, formula.get().copy(alloc)?)?)),
     }
 }

@@ -7,15 +7,10 @@ mod core_formula;
 mod examples;
 mod formula;
 mod laws;
-mod memory;
 mod mode;
-mod same;
-mod same_term;
 mod source;
 mod spread_laws;
 mod term;
-#[cfg(test)]
-mod tests;
 
 pub use assignment::{Assignment, Value};
 pub use checked::{Checked, ExportUse, Global, ImportUse, MapPair, Param, Placed, Predicate};
@@ -30,7 +25,6 @@ pub use examples::{
 pub use formula::{Arg, Binding, Formula};
 pub use laws::{laws_of_order, laws_of_sets, laws_of_truth, laws_of_words};
 pub use mode::{Mode, Order, Quant, Rel};
-pub use same::same_formula;
 pub use source::{Bound, Decl, Expr, Form, Int, Item, LetPart, Loaded, PlacedInt, Rename, Source};
 pub use spread_laws::laws_of_spread;
 pub use term::{Term1, Term2};

@@ -2,14 +2,14 @@ use crate::mode::{Mode, Order, Quant, Rel};
 use ms_edge::{At, Boxed, List, Name, Text};
 
 /// A number or the name of a constant.
-#[derive(Debug, Drop)]
+#[derive(Drop)]
 pub enum Int {
     Number(u64),
     Constant(Name),
 }
 
 /// A number or a constant with its place, and whether `-` stands before it.
-#[derive(Debug, Drop)]
+#[derive(Drop)]
 pub struct PlacedInt {
     pub at: At,
     pub value: Int,
@@ -18,7 +18,7 @@ pub struct PlacedInt {
 
 /// A variable where it is declared or bound, with its restriction.
 #[cycle(expressions)]
-#[derive(Debug, Drop)]
+#[derive(Drop)]
 pub struct Bound {
     pub at: At,
     pub order: Order,
@@ -28,7 +28,7 @@ pub struct Bound {
 
 /// A name of a `let` with its right side.
 #[cycle(expressions)]
-#[derive(Debug, Drop)]
+#[derive(Drop)]
 pub struct LetPart {
     pub at: At,
     pub name: Name,
@@ -36,7 +36,7 @@ pub struct LetPart {
 }
 
 /// `left -> right` of an import.
-#[derive(Debug, Drop)]
+#[derive(Drop)]
 pub struct Rename {
     pub at: At,
     pub left: Name,
@@ -46,14 +46,13 @@ pub struct Rename {
 
 /// An expression as it is written, with the place of its first token.
 #[cycle(expressions)]
-#[derive(Debug, Drop)]
+#[derive(Drop)]
 pub struct Expr {
     pub at: At,
     pub form: Form,
 }
 
 #[cycle(expressions)]
-#[derive(Debug, Drop)]
 pub enum Form {
     True,
     False,
@@ -88,7 +87,82 @@ pub enum Form {
     Export(At, Text, Boxed<Expr>),
 }
 
-#[derive(Debug, Drop)]
+// What is last in an expression is let go in the same call, so nested brackets take no stack.
+impl Drop for Form {
+    #[cycle(form_drop)]
+    fn drop(mut self) {
+        loop {
+            match self {
+                Form::Paren(body) => self = body.into_inner().form,
+                Form::Not(body) => self = body.into_inner().form,
+                Form::IsEmpty(body) => self = body.into_inner().form,
+                Form::Min(body) => self = body.into_inner().form,
+                Form::Max(body) => self = body.into_inner().form,
+                Form::Restrict(body) => self = body.into_inner().form,
+                Form::Implies(left, right) => {
+                    drop(left);
+                    self = right.into_inner().form;
+                }
+                Form::Iff(left, right) => {
+                    drop(left);
+                    self = right.into_inner().form;
+                }
+                Form::Union(left, right) => {
+                    drop(left);
+                    self = right.into_inner().form;
+                }
+                Form::Inter(left, right) => {
+                    drop(left);
+                    self = right.into_inner().form;
+                }
+                Form::Minus(left, right) => {
+                    drop(left);
+                    self = right.into_inner().form;
+                }
+                Form::Relation(_, left, right) => {
+                    drop(left);
+                    self = right.into_inner().form;
+                }
+                Form::Shift(body, by) => {
+                    drop(by);
+                    self = body.into_inner().form;
+                }
+                Form::Bind(_, _, bounds, body) => {
+                    drop(bounds);
+                    self = body.into_inner().form;
+                }
+                Form::Let(_, parts, body) => {
+                    drop(parts);
+                    self = body.into_inner().form;
+                }
+                Form::Export(_, name, body) => {
+                    drop(name);
+                    self = body.into_inner().form;
+                }
+                Form::Literal(elements) => return drop(elements),
+                Form::And(operands) => return drop(operands),
+                Form::Or(operands) => return drop(operands),
+                Form::Call(name, arguments) => {
+                    drop(name);
+                    return drop(arguments);
+                }
+                Form::Import(name, pairs) => {
+                    drop(name);
+                    return drop(pairs);
+                }
+                Form::Name(name) => return drop(name),
+                Form::Pconst(number) => return drop(number),
+                Form::Number(_) => return,
+                Form::True => return,
+                Form::False => return,
+                Form::Whole => return,
+                Form::EmptySet => return,
+            }
+        }
+    }
+}
+
+#[derive(Drop)]
 pub enum Decl {
     Vars(List<Bound>),
     Const(At, Name, List<PlacedInt>),
@@ -101,21 +175,21 @@ pub enum Decl {
 }
 
 /// A declaration with its place.
-#[derive(Debug, Drop)]
+#[derive(Drop)]
 pub struct Item {
     pub at: At,
     pub decl: Decl,
 }
 
 /// A file as it is written.
-#[derive(Debug, Drop)]
+#[derive(Drop)]
 pub struct Source {
     pub header: Option<(At, Mode)>,
     pub items: List<Item>,
 }
 
 /// A source with its includes put in place, and the names of the files that were loaded, in order.
-#[derive(Debug, Drop)]
+#[derive(Drop)]
 pub struct Loaded {
     pub mode: Mode,
     pub items: List<Item>,

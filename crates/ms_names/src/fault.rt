@@ -4,7 +4,7 @@ ghost use Rattle.std.specs.Prelude.{◌≡◌};
 use ms_edge::{At, Name, Refusal, Text};
 
 /// What can be wrong with names and orders.
-#[derive(Debug, Drop)]
+#[derive(Drop)]
 pub enum Fault {
     UnknownName(At, Name),
     NamedTwice(At, Text),

@@ -37,6 +37,3 @@ pub use examples::{
 };
 pub use fault::Fault;
 pub use source::check;
-
-#[cfg(test)]
-mod tests;

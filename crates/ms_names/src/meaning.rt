@@ -2,7 +2,7 @@ use ms_edge::List;
 use ms_logic::Order;
 
 /// What a name stands for.
-#[derive(Debug, Drop)]
+#[derive(Drop)]
 pub enum Meaning {
     /// A variable: its number and its order.
     Variable(u32, Order),
@@ -13,7 +13,7 @@ pub enum Meaning {
 }
 
 /// What an expression reads: the variable with a number, or what the predicate or default restriction with a number reads.
-#[derive(Clone, Copy, Debug, PartialEq, Eq)]
+#[derive(Clone, Copy, PartialEq, Eq)]
 pub enum Reading {
     Variable(u32),
     Predicate(u32),

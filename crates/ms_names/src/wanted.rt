@@ -1,7 +1,7 @@
 use ms_logic::Order;
 
 /// The order that a place wants.
-#[derive(Clone, Copy, Debug, PartialEq, Eq)]
+#[derive(Clone, Copy, PartialEq, Eq)]
 pub enum Wanted {
     Exactly(Order),
     NumberOrSet,

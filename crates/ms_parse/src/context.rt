@@ -2,7 +2,7 @@ use ms_edge::{At, List, Name};
 use ms_logic::{Bound, Order};
 
 /// A declaration of variables that has been begun: the place of its word, and the variables so far.
-#[derive(Debug, Drop)]
+#[derive(Drop)]
 pub struct Globals {
     pub at: At,
     pub order: Order,
@@ -10,7 +10,7 @@ pub struct Globals {
 }
 
 /// A predicate or a macro that has been begun: the place of its word, its name, and its parameters so far.
-#[derive(Debug, Drop)]
+#[derive(Drop)]
 pub struct Signature {
     pub at: At,
     pub is_pred: bool,
@@ -20,7 +20,7 @@ pub struct Signature {
 }
 
 /// A declaration of which an expression has been begun.
-#[derive(Debug, Drop)]
+#[derive(Drop)]
 pub enum Context {
     Formula(At),
     /// The restriction of a variable, with its name.

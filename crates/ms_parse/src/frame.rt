@@ -5,7 +5,7 @@ ghost use Rattle.ms_parse.specs.Opened.{frame_of};
 use crate::opened::Opened;
 
 /// An entry of the stack, and the greatest depth of what it holds.
-#[derive(Debug, Drop)]
+#[derive(Drop)]
 pub struct Frame {
     pub opened: Opened,
     pub height: u32,

@@ -25,7 +25,7 @@ use ms_grammar::Junction;
 use std::alloc::Global;
 
 /// What stands before an operand of `&` or `|`.
-#[derive(Debug, Drop)]
+#[derive(Drop)]
 pub enum Link {
     /// Operands with the same operator behind each of them.
     Further(At, Operands),

@@ -47,6 +47,3 @@ pub use examples::{
 pub use laws::one_document;
 pub use parser::{declarations, parse};
 pub use state::Parsed;
-
-#[cfg(test)]
-mod tests;

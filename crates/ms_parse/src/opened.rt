@@ -4,7 +4,7 @@ use ms_grammar::{Binary, Bracket, Junction, Listing, Prefix};
 use ms_logic::{Bound, Expr, LetPart, Order, Quant};
 
 /// An expression that has been begun, up to the part that follows.
-#[derive(Debug, Drop)]
+#[derive(Drop)]
 pub enum Opened {
     Prefix(At, Prefix),
     Left(Binary, Operand),

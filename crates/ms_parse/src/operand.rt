@@ -10,7 +10,7 @@ use ms_logic::{Bound, Expr, LetPart};
 pub const GREATEST_DEPTH: u32 = 300;
 
 /// An expression, its place and its depth.
-#[derive(Debug, Drop)]
+#[derive(Drop)]
 pub struct Operand {
     pub expr: Expr,
     pub start: At,
@@ -21,7 +21,7 @@ pub struct Operand {
 }
 
 /// Expressions and the greatest of their depths.
-#[derive(Debug, Drop)]
+#[derive(Drop)]
 pub struct Operands {
     pub list: List<Expr>,
     pub height: u32,
@@ -30,7 +30,7 @@ pub struct Operands {
 }
 
 /// Variables and the greatest depth of their restrictions.
-#[derive(Debug, Drop)]
+#[derive(Drop)]
 pub struct Bounds {
     pub list: List<Bound>,
     pub height: u32,
@@ -39,7 +39,7 @@ pub struct Bounds {
 }
 
 /// Parts of a `let` and the greatest depth of their right sides.
-#[derive(Debug, Drop)]
+#[derive(Drop)]
 pub struct Parts {
     pub list: List<LetPart>,
     pub height: u32,

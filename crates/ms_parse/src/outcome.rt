@@ -3,7 +3,7 @@ use ms_edge::{At, List, Text};
 use ms_logic::{Order, Quant, Rename};
 
 /// Where an expression stands after a step.
-#[derive(Debug, Drop)]
+#[derive(Drop)]
 pub enum Outcome {
     /// An expression is wanted.
     Wanted,

@@ -9,7 +9,7 @@ use ms_grammar::Listing;
 use ms_logic::{Order, Quant};
 
 /// Parts that marks separate, in which a comma, a colon or `in` may stand.
-#[derive(Debug, Drop)]
+#[derive(Drop)]
 pub enum Row {
     Listed(At, Listing, Operands),
     Domain(At, Quant, Order, Bounds, At, Name),

@@ -4,14 +4,14 @@ use ms_edge::{At, List, Name};
 use ms_logic::{Item, Mode, PlacedInt};
 
 /// What has been read of a source: its header and its declarations.
-#[derive(Debug, Drop)]
+#[derive(Drop)]
 pub struct Parsed {
     pub header: Option<(At, Mode)>,
     pub items: Vec<Item>,
 }
 
 /// Where the reading of a source stands.
-#[derive(Debug, Drop)]
+#[derive(Drop)]
 pub enum State {
     /// Between two declarations.
     Outside,

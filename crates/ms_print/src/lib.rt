@@ -15,6 +15,3 @@ mod token;
 pub use laws::read_sources_fit;
 pub use source_fit::fits;
 pub use text::print;
-
-#[cfg(test)]
-mod tests;

@@ -2,7 +2,7 @@ use ms_edge::{List, Name};
 use ms_logic::Assignment;
 
 /// What a source comes to: whether some assignment makes it Yes, and whether some makes it No.
-#[derive(Clone, Copy, Debug, PartialEq, Eq, Hash)]
+#[derive(Clone, Copy, PartialEq, Eq)]
 pub enum Verdict {
     Valid,
     Unsatisfiable,
@@ -11,7 +11,7 @@ pub enum Verdict {
 }
 
 /// Counts of a source and of the canonical automaton of its main value.
-#[derive(Clone, Copy, Debug, PartialEq, Eq)]
+#[derive(Clone, Copy, PartialEq, Eq)]
 pub struct Stats {
     pub files: u32,
     pub size: u64,
@@ -21,7 +21,7 @@ pub struct Stats {
 }
 
 /// What was found of a source.
-#[derive(Debug, Drop)]
+#[derive(Drop)]
 pub struct Found {
     pub verdict: Verdict,
     pub globals: List<Name>,

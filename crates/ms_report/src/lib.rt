@@ -7,8 +7,5 @@ mod refusal_text;
 mod report_text;
 
 pub use found::{Found, Stats, Verdict};
-pub use refusal_text::refusal_line;
+pub use refusal_text::{has_line, refusal_line};
 pub use report_text::report;
-
-#[cfg(test)]
-mod tests;

@@ -1,9 +1,24 @@
-ghost use Rattle.std.specs.Prelude.{◌≡◌, ◌++◌, ◌∷◌, [], ◌<◌, ◌/◌, ◌%◌, IfOk, OnOk, Some, string_bytes};
-ghost use Rattle.ms_report.specs.Line.{words_of, place_of, detail_of, hex_digit, place_text, detail_text, line_of, IsPlaced, HasLine};
+ghost use Rattle.std.specs.Prelude.{◌≡◌, ◌↔◌, ◌++◌, ◌∷◌, [], ◌<◌, ◌/◌, ◌%◌, IfOk, OnOk, IsTrue, Some, string_bytes};
+ghost use Rattle.ms_edge.specs.Refusal.{IsPlaced, place_of};
+ghost use Rattle.ms_report.specs.Line.{words_of, detail_of, hex_digit, place_text, detail_text, line_of, HasLine};
 
 use crate::number::push_number;
 use ms_edge::{At, Bytes, List, NoMemory, Refusal, Text};
 use std::alloc::{AllocError, Global};
+
+/// Whether a line of the refusal can be written over these files: it is no fault of the sink, and its place is in one of
+/// them.
+pub fn has_line(refusal: &Refusal, files: &List<Text>) -> bool
+    ensures { IsTrue result ↔ (HasLine refusal.now × IsPlaced (place_of refusal.now) files.now) }
+{
+    if matches!(refusal, Refusal::SinkFault { .. }) {
+        return false;
+    }
+    match refusal.place() {
+        None => true,
+        Some(at) => (at.file as usize) < files.len(),
+    }
+}
 
 /// The line of a refusal, with a line feed at its end.
 pub fn refusal_line(alloc: Global, refusal: &Refusal, files: &List<Text>) -> Result<Bytes, NoMemory>
@@ -22,7 +37,7 @@ fn line(alloc: Global, refusal: &Refusal, files: &List<Text>) -> Result<String, 
     ensures { IfOk result (λ line. string_bytes line ≡ line_of refusal.now files.now) }
 {
     let mut line = String::from_str(alloc, words(refusal))?;
-    push_place(&mut line, place(refusal), files)?;
+    push_place(&mut line, refusal.place(), files)?;
     push_detail(&mut line, refusal)?;
     line.push_str("\n")?;
     Ok(line)
@@ -62,42 +77,6 @@ fn words(refusal: &Refusal) -> &'static str
         Refusal::WriteFault { .. } => "61 write fault",
         Refusal::SinkFault { .. } => "",
         Refusal::Memory => "70 out of memory",
-    }
-}
-
-/// The place, where there is one.
-fn place(refusal: &Refusal) -> Option<At>
-    ensures { result ≡ place_of refusal.now }
-{
-    match refusal {
-        Refusal::Word { at, .. }
-        | Refusal::NumberTooLarge { at }
-        | Refusal::Grammar { at }
-        | Refusal::Unclosed { at }
-        | Refusal::UnknownName { at, .. }
-        | Refusal::Twice { at, .. }
-        | Refusal::WrongOrder { at }
-        | Refusal::Arity { at, .. }
-        | Refusal::NotHere { at }
-        | Refusal::LeftOut { at, .. }
-        | Refusal::NotBuilt { at }
-        | Refusal::IncludeCycle { at, .. }
-        | Refusal::ImportMissing { at, .. }
-        | Refusal::ImportText { at, .. }
-        | Refusal::ImportMode { at, .. }
-        | Refusal::ImportVars { at, .. }
-        | Refusal::ImportOpen { at, .. }
-        | Refusal::Includes { at, .. }
-        | Refusal::Depth { at } => Some(*at),
-        Refusal::ConstRange { at } | Refusal::FileMissing { at, .. } => *at,
-        Refusal::VarsDiffer
-        | Refusal::FileSize { .. }
-        | Refusal::CoreSize
-        | Refusal::Nodes { .. }
-        | Refusal::ReadFault { .. }
-        | Refusal::WriteFault { .. }
-        | Refusal::SinkFault { .. }
-        | Refusal::Memory => None,
     }
 }
 

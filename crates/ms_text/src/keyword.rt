@@ -3,7 +3,7 @@ ghost use Rattle.ms_text.specs.Spelling.{word_spelling, left_out_spelling, IsLef
 ghost use Rattle.ms_text.specs.declared.keyword.Keyword.{Keyword};
 
 /// A word of the language.
-#[derive(Clone, Copy, Debug, PartialEq, Eq)]
+#[derive(Clone, Copy, PartialEq, Eq)]
 pub enum Keyword {
     Ws1s,
     Var0,
@@ -42,7 +42,7 @@ pub enum Keyword {
 }
 
 /// A word of MONA that this language leaves out.
-#[derive(Clone, Copy, Debug, PartialEq, Eq)]
+#[derive(Clone, Copy, PartialEq, Eq)]
 pub enum LeftOutWord {
     Ws2s,
     Tree,

@@ -22,6 +22,3 @@ pub use mark::Mark;
 pub use scan::{is_name, name_length};
 pub use token::{Kind, Token};
 pub use token_list::{MAX_BYTES, Tokens};
-
-#[cfg(test)]
-mod tests;

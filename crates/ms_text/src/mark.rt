@@ -3,7 +3,7 @@ ghost use Rattle.ms_text.specs.Spelling.{mark_spelling};
 ghost use Rattle.ms_text.specs.declared.mark.Mark.{Mark};
 
 /// A mark.
-#[derive(Clone, Copy, Debug, PartialEq, Eq)]
+#[derive(Clone, Copy, PartialEq, Eq)]
 pub enum Mark {
     Semicolon,
     Comma,

@@ -2,7 +2,7 @@ use crate::keyword::Keyword;
 use crate::mark::Mark;
 
 /// What a token is.
-#[derive(Clone, Copy, Debug, PartialEq, Eq)]
+#[derive(Clone, Copy, PartialEq, Eq)]
 pub enum Kind {
     Name,
     Word(Keyword),
@@ -14,7 +14,7 @@ pub enum Kind {
 }
 
 /// A token: what it is, and where its bytes stand.
-#[derive(Clone, Copy, Debug, PartialEq, Eq)]
+#[derive(Clone, Copy, PartialEq, Eq)]
 pub struct Token {
     pub kind: Kind,
     /// The place of its first byte, from 0.

@@ -10,7 +10,7 @@ use std::marker::Model;
 pub const MAX_BYTES: usize = 67_108_864;
 
 /// A source's bytes and its tokens.
-#[derive(Debug, Drop)]
+#[derive(Drop)]
 pub struct Tokens {
     pub(crate) bytes: Bytes,
     pub(crate) tokens: List<Token>,

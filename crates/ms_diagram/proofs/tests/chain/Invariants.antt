@@ -1,8 +1,0 @@
-use Rattle.ms_diagram.proofs.TestLemmas.{IsChain}
-use Rattle.ms_diagram.proofs.tests.chain.Given as goal
-
-abbrev pub invariant-loop-var : goal.invariant-loop-var
-invariant-loop-var l = IsChain l.store.nodes l.count l.var l.root
-
-abbrev pub decreases-loop-var : goal.decreases-loop-var
-decreases-loop-var l = l.var

@@ -1,8 +1,0 @@
-use Rattle.ms_diagram.proofs.TestLemmas.{AreParities}
-use Rattle.ms_diagram.proofs.tests.parity.Given as goal
-
-abbrev pub invariant-loop-var : goal.invariant-loop-var
-invariant-loop-var l = AreParities l.store.nodes l.var l.even l.odd
-
-abbrev pub decreases-loop-var : goal.decreases-loop-var
-decreases-loop-var l = l.var
