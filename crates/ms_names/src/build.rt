@@ -8,8 +8,7 @@ ghost use Rattle.ms_names.specs.Typed.{both, formula_in, formula_of_one, number_
 ghost use Rattle.std.specs.Option.{option_map};
 ghost use Rattle.std.specs.Prelude.{◌≡◌, IfOk};
 
-use crate::memory::{boxed, push};
-use ms_edge::{Boxed, List, NoMemory};
+use ms_edge::{Boxed, List, NoMemory, on_heap, push};
 use ms_logic::{Arg, Formula, Rel, Term1, Term2};
 use std::alloc::Global;
 
@@ -33,7 +32,7 @@ pub(crate) fn boxed_formula(
 {
     match formula_in(value) {
         None => Ok(None),
-        Some(formula) => Ok(Some(boxed(alloc, formula)?)),
+        Some(formula) => Ok(Some(on_heap(alloc, formula)?)),
     }
 }
 
@@ -65,7 +64,7 @@ pub(crate) fn negation(alloc: Global, body: Option<Arg>) -> Result<Option<Arg>, 
     let Some(body) = formula_in(body) else {
         return Ok(None);
     };
-    Ok(Some(Arg::Zero(Formula::Not(boxed(alloc, body)?))))
+    Ok(Some(Arg::Zero(Formula::Not(on_heap(alloc, body)?))))
 }
 
 pub(crate) fn restriction(alloc: Global, body: Option<Arg>) -> Result<Option<Arg>, NoMemory>
@@ -74,7 +73,7 @@ pub(crate) fn restriction(alloc: Global, body: Option<Arg>) -> Result<Option<Arg
     let Some(body) = formula_in(body) else {
         return Ok(None);
     };
-    Ok(Some(Arg::Zero(Formula::Restrict(boxed(alloc, body)?))))
+    Ok(Some(Arg::Zero(Formula::Restrict(on_heap(alloc, body)?))))
 }
 
 pub(crate) fn implication(
@@ -129,7 +128,7 @@ pub(crate) fn minimum(alloc: Global, body: Option<Arg>) -> Result<Option<Arg>, N
     let Some(body) = set_in(body) else {
         return Ok(None);
     };
-    Ok(Some(Arg::One(Term1::Min(boxed(alloc, body)?))))
+    Ok(Some(Arg::One(Term1::Min(on_heap(alloc, body)?))))
 }
 
 pub(crate) fn maximum(alloc: Global, body: Option<Arg>) -> Result<Option<Arg>, NoMemory>
@@ -138,7 +137,7 @@ pub(crate) fn maximum(alloc: Global, body: Option<Arg>) -> Result<Option<Arg>, N
     let Some(body) = set_in(body) else {
         return Ok(None);
     };
-    Ok(Some(Arg::One(Term1::Max(boxed(alloc, body)?))))
+    Ok(Some(Arg::One(Term1::Max(on_heap(alloc, body)?))))
 }
 
 // A set on the heap.
@@ -147,7 +146,7 @@ pub(crate) fn boxed_set(alloc: Global, value: Option<Arg>) -> Result<Option<Boxe
 {
     match set_in(value) {
         None => Ok(None),
-        Some(set) => Ok(Some(boxed(alloc, set)?)),
+        Some(set) => Ok(Some(on_heap(alloc, set)?)),
     }
 }
 
@@ -281,7 +280,7 @@ fn shifted(alloc: Global, minus: bool, by: u64, body: Arg) -> Result<Option<Arg>
     match body {
         Arg::Zero(_) => Ok(None),
         Arg::One(number) => {
-            let number = boxed(alloc, number)?;
+            let number = on_heap(alloc, number)?;
             if minus {
                 Ok(Some(Arg::One(Term1::Minus(number, by))))
             } else {
@@ -289,7 +288,7 @@ fn shifted(alloc: Global, minus: bool, by: u64, body: Arg) -> Result<Option<Arg>
             }
         }
         Arg::Two(set) => {
-            let set = boxed(alloc, set)?;
+            let set = on_heap(alloc, set)?;
             if minus {
                 Ok(Some(Arg::Two(Term2::Down(set, by))))
             } else {

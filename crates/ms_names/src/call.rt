@@ -14,10 +14,9 @@ ghost use Rattle.std.specs.Prelude.{◌≡◌, ◌∷◌, ◌++◌, ◌+◌, [],
 use crate::build::{formula_in, number_in, set_in};
 use crate::checker::Checker;
 use crate::meaning::Meaning;
-use crate::memory::push;
 use crate::name::small;
 use crate::wanted::Wanted;
-use ms_edge::{At, List, Name, NoMemory};
+use ms_edge::{At, List, Name, NoMemory, push};
 use ms_logic::{Arg, Formula, Order, Term1, Term2};
 use std::alloc::Global;
 

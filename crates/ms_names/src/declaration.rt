@@ -16,11 +16,10 @@ ghost use Rattle.std.specs.Prelude.{◌≡◌, ◌∷◌, ◌++◌, [], map, IfO
 use crate::build::formula_in;
 use crate::checker::Checker;
 use crate::meaning::Meaning;
-use crate::memory::push;
 use crate::name::small;
 use crate::seen::Seen;
 use crate::wanted::Wanted;
-use ms_edge::{At, List, Name, NoMemory};
+use ms_edge::{At, List, Name, NoMemory, push};
 use ms_logic::{Arg, Bound, Expr, Order, Param, Predicate};
 use std::alloc::Global;
 use std::mem;

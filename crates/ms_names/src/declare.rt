@@ -13,9 +13,8 @@ ghost use Rattle.std.specs.Prelude.{◌≡◌, [], ℕ, true, map, IfOk, OnOk};
 use crate::build::formula_in;
 use crate::checker::Checker;
 use crate::meaning::Meaning;
-use crate::memory::push;
 use crate::wanted::Wanted;
-use ms_edge::{At, List, Name, NoMemory};
+use ms_edge::{At, List, Name, NoMemory, push};
 use ms_logic::{Bound, Expr, Formula, Order, Param, PlacedInt, Predicate};
 use std::alloc::Global;
 

@@ -9,8 +9,7 @@ ghost use Rattle.std.specs.Prelude.{◌≡◌, [], IfOk, OnOk};
 
 use crate::checker::Checker;
 use crate::meaning::Reading;
-use crate::memory::push;
-use ms_edge::NoMemory;
+use ms_edge::{NoMemory, push};
 use ms_logic::{Bound, Order};
 
 impl Checker {

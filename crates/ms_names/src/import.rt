@@ -12,9 +12,9 @@ ghost use Rattle.std.specs.Prelude.{◌≡◌, ◌++◌, [], IfOk, OnOk};
 use crate::checker::Checker;
 use crate::fault::Fault;
 use crate::meaning::{Meaning, Reading};
-use crate::memory::{copy_name, push};
+use crate::memory::copy_name;
 use crate::seen::Seen;
-use ms_edge::{At, List, NoMemory, Text};
+use ms_edge::{At, List, NoMemory, Text, push};
 use ms_logic::{Arg, Formula, ImportUse, MapPair, Rename};
 
 impl Checker {

@@ -10,8 +10,8 @@ ghost use Rattle.std.specs.Prelude.{◌≡◌, IfOk, OnOk};
 use crate::checker::Checker;
 use crate::fault::Fault;
 use crate::meaning::{Meaning, Reading};
-use crate::memory::{copy_name, push};
-use ms_edge::{At, List, Name, NoMemory};
+use crate::memory::copy_name;
+use ms_edge::{At, List, Name, NoMemory, push};
 use ms_logic::{Arg, Formula, Mode, Order, Term1, Term2};
 
 // A number of the program as it stands in trees and refusals.

@@ -6,9 +6,8 @@ ghost use Rattle.std.specs.Prelude.{◌≡◌, [], ◌∷◌, ◌++◌, drop, le
 
 use crate::free::Read;
 use crate::meaning::Meaning;
-use crate::memory::push;
 use indexmap::IndexMap;
-use ms_edge::{List, Name, NoMemory};
+use ms_edge::{List, Name, NoMemory, push};
 use std::alloc::Global;
 use std::marker::Model;
 

@@ -6,11 +6,11 @@ ghost use Rattle.ms_names.specs.View.{bounds_of, declaration_of, placed_of};
 ghost use Rattle.std.specs.Prelude.{◌≡◌, ◌+◌, ◌∷◌, ◌++◌, ◌⊎◌, [], map, IfErr, IfOk, OnOk};
 
 use crate::checker::Checker;
-use crate::memory::{copy_name, push};
+use crate::memory::copy_name;
 use crate::name::small;
 use crate::outcome::Outcome;
 use crate::seen::Seen;
-use ms_edge::{At, List, NoMemory, Refusal};
+use ms_edge::{At, List, NoMemory, Refusal, push};
 use ms_logic::{Bound, Decl, Item, Mode, Param, Placed, Predicate};
 use std::alloc::Global;
 

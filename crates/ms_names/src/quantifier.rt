@@ -9,8 +9,7 @@ ghost use Rattle.std.specs.Prelude.{◌≡◌, ◌∷◌, ◌++◌, [], Some, ma
 use crate::build::formula_in;
 use crate::call::in_order;
 use crate::checker::Checker;
-use crate::memory::{boxed, push};
-use ms_edge::{Boxed, List, NoMemory};
+use ms_edge::{Boxed, List, NoMemory, on_heap, push};
 use ms_logic::{Arg, Binding, Formula, Order, Param, Quant, Term2};
 use std::alloc::Global;
 
@@ -73,7 +72,7 @@ fn boxed_domain(alloc: Global, domain: Option<Formula>) -> Result<Option<Boxed<F
 {
     match domain {
         None => Ok(None),
-        Some(formula) => Ok(Some(boxed(alloc, formula)?)),
+        Some(formula) => Ok(Some(on_heap(alloc, formula)?)),
     }
 }
 
@@ -86,7 +85,7 @@ fn quantifier(alloc: Global, quant: Quant, param: Param, body: Formula) -> Resul
         domain,
     } = param;
     let domain = boxed_domain(alloc, domain)?;
-    Ok(Formula::Bind(quant, order, variable, domain, boxed(alloc, body)?))
+    Ok(Formula::Bind(quant, order, variable, domain, on_heap(alloc, body)?))
 }
 
 fn quantifiers(
@@ -159,7 +158,7 @@ pub(crate) fn where_let(
     let Some(body) = formula_in(body) else {
         return Ok(None);
     };
-    Ok(Some(Arg::Zero(Formula::Let(bindings, boxed(alloc, body)?))))
+    Ok(Some(Arg::Zero(Formula::Let(bindings, on_heap(alloc, body)?))))
 }
 
 /// An export with its number, by what its formula became.
@@ -173,7 +172,7 @@ pub(crate) fn exported(
     let Some(body) = formula_in(body) else {
         return Ok(None);
     };
-    Ok(Some(Arg::Zero(Formula::Export(number, boxed(alloc, body)?))))
+    Ok(Some(Arg::Zero(Formula::Export(number, on_heap(alloc, body)?))))
 }
 
 /// The set of the places of the one bits of a constant, if it has a value.

@@ -5,9 +5,8 @@ ghost use Rattle.ms_names.specs.TypedSource.{IsTyped};
 ghost use Rattle.ms_names.specs.View.{placed_of};
 ghost use Rattle.std.specs.Prelude.{◌≡◌, ◌⊎◌, None, map, IfErr, IfOk};
 
-use crate::memory::push;
 use crate::progress::Progress;
-use ms_edge::{List, NoMemory, Refusal, Text};
+use ms_edge::{List, NoMemory, Refusal, Text, push};
 use ms_logic::{Checked, Loaded};
 use std::alloc::Global;
 
