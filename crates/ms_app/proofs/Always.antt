@@ -14,8 +14,8 @@ use Rattle.ms_logic.specs.FiniteSet.{is_member}
 use Rattle.ms_logic.specs.Truth.{Given}
 use Rattle.ms_logic.specs.Content.{StateOf, IsFollowed, is_truth_value, is_in_letters, truth_bits, letter_bits, state_after, sign_of, with_zero_letter}
 use Rattle.ms_logic.specs.Verdict.{MeetsRestrictions, MainYes, MainNo}
-use Rattle.ms_dfa.specs.declared.sign.Sign.{Sign}
-use Rattle.ms_dfa.specs.declared.sign.Sign.TheVariants.{Yes, No, Outside}
+use Rattle.ms_logic.specs.declared.sign.Sign.{Sign}
+use Rattle.ms_logic.specs.declared.sign.Sign.TheVariants.{Yes, No, Outside}
 use Rattle.ms_dfa.specs.Automaton.{IsAutomaton}
 use Rattle.ms_app.specs.Claim.{problem_with}
 use Rattle.ms_app.specs.declared.claim.Claim.{Claim}

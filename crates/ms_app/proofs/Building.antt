@@ -11,7 +11,7 @@ use Rattle.ms_logic.specs.Tree.{Form, Declaration}
 use Rattle.ms_logic.specs.Content.{Content}
 use Rattle.ms_logic.specs.Truth.{Given}
 use Rattle.ms_logic.specs.Verdict.{Problem}
-use Rattle.ms_dfa.specs.declared.sign.Sign.{Sign}
+use Rattle.ms_logic.specs.declared.sign.Sign.{Sign}
 use Rattle.ms_logic.specs.View.{formula_of, forms, restriction, globals_from, problem_of}
 use Rattle.ms_names.specs.Declarations.{at_the_beginning, count_of_globals}
 use Rattle.ms_names.specs.Syntax.{Placed}

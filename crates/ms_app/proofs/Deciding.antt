@@ -1,11 +1,11 @@
 -- What comes of a file, by what comes of its load and its check.
 use Rattle.std.proofs.Common.{◌≡◌, ◌⊎◌, inl, inr, ℕ, List, [], ◌++◌, length, map, None, Some, refl, ap, sym, subst, ◌∙◌}
+use Rattle.ms_edge.specs.Files.{Seen}
 use Rattle.ms_edge.specs.declared.at.At.{At}
 use Rattle.ms_edge.specs.declared.refusal.Refusal.{Refusal}
 use Rattle.ms_edge.specs.declared.refusal.Refusal.TheVariants.{Memory, NotBuilt}
 use Rattle.ms_logic.specs.declared.source.Loaded.{Loaded}
 use Rattle.ms_include.specs.Load.{files_of, IsLoaded, IsRefusedLoad}
-use Rattle.ms_include.specs.Seen.{Seen}
 use Rattle.ms_names.specs.Checking.{IsFirstFault}
 use Rattle.ms_names.specs.Declarations.{first_fault_of}
 use Rattle.ms_names.specs.View.{placed_of}

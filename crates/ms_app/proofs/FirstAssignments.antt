@@ -13,8 +13,8 @@ use Rattle.ms_logic.specs.First.{length_of, bits_of, IsLower, IsBefore, IsFirst,
 use Rattle.ms_logic.specs.Verdict.{Problem, variables_of, Assigns}
 use Rattle.ms_logic.specs.Word.{Encodes, IsEncoding, truth_values_of, letter_at, letters_below}
 use Rattle.ms_logic.proofs.WordLaws.{encoding_is_over, length_is_least}
-use Rattle.ms_dfa.specs.declared.sign.Sign.{Sign}
-use Rattle.ms_dfa.specs.declared.sign.Sign.TheVariants.{Yes, No, Undefined, Outside}
+use Rattle.ms_logic.specs.declared.sign.Sign.{Sign}
+use Rattle.ms_logic.specs.declared.sign.Sign.TheVariants.{Yes, No, Undefined, Outside}
 use Rattle.ms_dfa.specs.Automaton.{IsAutomaton}
 use Rattle.ms_best.specs.FirstWord.{bits_of_word, IsWordBefore, IsFirstWord, NoWordHas}
 use Rattle.ms_app.specs.Decision.{MainIs, ShowsFirst}

@@ -12,8 +12,8 @@ use Rattle.ms_logic.specs.declared.mode.Order.{Order}
 use Rattle.ms_logic.specs.Assignment.{Env}
 use Rattle.ms_logic.specs.Word.{Encodes}
 use Rattle.ms_logic.specs.Content.{StateOf, IsFollowed, IsClosed, HasValueAt, is_truth_value, is_in_letters, sign_of, zero_letter, with_zero_letter}
-use Rattle.ms_dfa.specs.declared.sign.Sign.{Sign}
-use Rattle.ms_dfa.specs.declared.sign.Sign.TheVariants.{Yes, No, Outside}
+use Rattle.ms_logic.specs.declared.sign.Sign.{Sign}
+use Rattle.ms_logic.specs.declared.sign.Sign.TheVariants.{Yes, No, Outside}
 use Rattle.ms_dfa.specs.Automaton.{IsAutomaton}
 use Rattle.ms_logic.specs.Truth.{Given}
 use Rattle.ms_app.specs.Claim.{problem_with}

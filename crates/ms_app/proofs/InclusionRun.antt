@@ -8,7 +8,7 @@ use Rattle.ms_arena.specs.declared.node.Node.{Node}
 use Rattle.ms_arena.specs.Diagram.{Bits, leaf_of}
 use Rattle.ms_arena.proofs.Paths.{leaf_of-leaf}
 use Rattle.ms_logic.specs.Content.{truth_bits, letter_bits, state_after, sign_at, sign_of}
-use Rattle.ms_dfa.specs.declared.sign.Sign.TheVariants.{Yes, No}
+use Rattle.ms_logic.specs.declared.sign.Sign.TheVariants.{Yes, No}
 use Rattle.ms_app.specs.Inclusion.{two_sets, inclusion_content}
 
 -- the function of the diagram: 1 where the left bit is 1 and the right bit is 0

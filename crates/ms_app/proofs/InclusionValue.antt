@@ -9,7 +9,7 @@ use Rattle.ms_logic.specs.FiniteSet.{is_member, numbers_below}
 use Rattle.ms_logic.specs.Word.{letter_at, letters_below, bound_of, bound_of_set, Encodes}
 use Rattle.ms_logic.specs.Content.{sign_of}
 use Rattle.ms_logic.specs.Verdict.{MainYes, MainNo}
-use Rattle.ms_dfa.specs.declared.sign.Sign.TheVariants.{Yes, No}
+use Rattle.ms_logic.specs.declared.sign.Sign.TheVariants.{Yes, No}
 use Rattle.ms_logic.specs.Truth.{Given}
 use Rattle.ms_app.specs.Claim.{problem_with}
 use Rattle.ms_app.specs.declared.claim.Claim.TheVariants.{Inclusion}

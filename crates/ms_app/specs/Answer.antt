@@ -8,12 +8,12 @@ use Rattle.ms_edge.specs.declared.refusal.Status.{Status}
 use Rattle.ms_edge.specs.declared.refusal.Status.TheVariants.{Done, Usage, Refused, Limit, FileFault, NoMemory}
 use Rattle.ms_edge.specs.declared.refusal.Status.TheVariants as statuses
 use Rattle.ms_edge.specs.Counts.{Rose}
-use Rattle.ms_edge.specs.Sink.{grown}
+use Rattle.ms_edge.specs.Files.{Seen}
+use Rattle.ms_edge.specs.Sink.{SinkTold, grown}
 use Rattle.ms_logic.specs.View.{problem_of}
 use Rattle.ms_logic.specs.declared.checked.Checked.{Checked}
 use Rattle.ms_logic.specs.declared.source.Loaded.{Loaded}
 use Rattle.ms_include.specs.Load.{files_of, IsLoaded, IsRefusedLoad}
-use Rattle.ms_include.specs.Seen.{Seen}
 use Rattle.ms_names.specs.Checking.{IsFirstFault}
 use Rattle.ms_names.specs.Declarations.{first_fault_of}
 use Rattle.ms_names.specs.TypedSource.{IsTyped}
@@ -85,23 +85,21 @@ abbrev pub report_answer : Found → Answer
 report_answer found = record { status = Done; text = report_of found }
 
 -- the run ended so, and the sink took the whole text; or the sink failed, and took less than the text
-abbrev pub Prints : Option (List ℕ) → Option (List ℕ) → ℕ → ℕ → Answer → Status → Type 0
-Prints taken_before taken_after faults_before faults_after answer status =
-    ((status ≡ answer.status) × (taken_after ≡ grown taken_before answer.text))
-    ⊎ ((status ≡ statuses.SinkFault) × Rose faults_before faults_after
-    × ((count : ℕ) × (count < length answer.text) × (taken_after ≡ grown taken_before (take count answer.text))))
+abbrev pub Prints : SinkTold → SinkTold → Answer → Status → Type 0
+Prints before after answer status =
+    ((status ≡ answer.status) × (after.taken ≡ grown before.taken answer.text))
+    ⊎ ((status ≡ statuses.SinkFault) × Rose before.faults after.faults
+    × ((count : ℕ) × (count < length answer.text) × (after.taken ≡ grown before.taken (take count answer.text))))
 
 -- what the run of a command that asks for a file, or of words that are no command, comes to: words that are no command
 -- are answered so; a file is decided and the report on it is printed, or it is refused for a cause and its line is printed
-abbrev pub IsAnswered : Option (List ℕ) → Option (List ℕ) → ℕ → ℕ → Option (List ℕ) → Seen → Status → Type 0
-IsAnswered taken_before taken_after faults_before faults_after None seen status =
-    Prints taken_before taken_after faults_before faults_after usage status
-IsAnswered taken_before taken_after faults_before faults_after (Some name) seen status =
-    ((found : Found) × IsDecided name seen found × Prints taken_before taken_after faults_before faults_after (report_answer found) status)
-    ⊎ ((refusal : Refusal) × (names : List (List ℕ)) × IsRefused name seen refusal names
-    × Prints taken_before taken_after faults_before faults_after (answer_of refusal names) status)
+abbrev pub IsAnswered : SinkTold → SinkTold → Option (List ℕ) → Seen → Status → Type 0
+IsAnswered before after None seen status = Prints before after usage status
+IsAnswered before after (Some name) seen status =
+    ((found : Found) × IsDecided name seen found × Prints before after (report_answer found) status)
+    ⊎ ((refusal : Refusal) × (names : List (List ℕ)) × IsRefused name seen refusal names × Prints before after (answer_of refusal names) status)
 
 -- a run that is done decided its file, and the sink took the report on it
-abbrev pub IsDone : Option (List ℕ) → Option (List ℕ) → Option (List ℕ) → Seen → Type 0
-IsDone taken_before taken_after asked seen =
-    (name : List ℕ) × (found : Found) × (asked ≡ Some name) × IsDecided name seen found × (taken_after ≡ grown taken_before (report_of found))
+abbrev pub IsDone : SinkTold → SinkTold → Option (List ℕ) → Seen → Type 0
+IsDone before after asked seen =
+    (name : List ℕ) × (found : Found) × (asked ≡ Some name) × IsDecided name seen found × (after.taken ≡ grown before.taken (report_of found))

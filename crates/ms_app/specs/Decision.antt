@@ -4,8 +4,8 @@ use Rattle.ms_logic.specs.declared.assignment.Assignment.{Assignment}
 use Rattle.ms_logic.specs.Assignment.{Env}
 use Rattle.ms_logic.specs.First.{IsFirst, assignment_of}
 use Rattle.ms_logic.specs.Verdict.{Problem, variables_of, Assigns, MainYes, MainNo, IsValid, IsUnsatisfiable, IsContingent, IsVacuous}
-use Rattle.ms_dfa.specs.declared.sign.Sign.{Sign}
-use Rattle.ms_dfa.specs.declared.sign.Sign.TheVariants.{Yes, No, Undefined, Outside}
+use Rattle.ms_logic.specs.declared.sign.Sign.{Sign}
+use Rattle.ms_logic.specs.declared.sign.Sign.TheVariants.{Yes, No, Undefined, Outside}
 use Rattle.ms_report.specs.declared.found.Verdict.{Verdict}
 use Rattle.ms_report.specs.declared.found.Verdict.TheVariants.{Valid, Unsatisfiable, Contingent, Vacuous}
 use Rattle.ms_report.specs.declared.found.Found.{Found}

@@ -7,8 +7,8 @@ use Rattle.ms_logic.specs.Assignment.{Env, IsAssignment}
 use Rattle.ms_logic.specs.Word.{Encodes}
 use Rattle.ms_logic.specs.Content.{Content, sign_of}
 use Rattle.ms_logic.specs.Verdict.{Problem, variables_of, MainYes, MainNo}
-use Rattle.ms_dfa.specs.declared.sign.Sign.{Sign}
-use Rattle.ms_dfa.specs.declared.sign.Sign.TheVariants.{Yes, No}
+use Rattle.ms_logic.specs.declared.sign.Sign.{Sign}
+use Rattle.ms_logic.specs.declared.sign.Sign.TheVariants.{Yes, No}
 
 -- the signs of the words that encode an assignment of the globals are the main value at it
 pub record HasMainValue (problem : Problem) (content : Content Sign) : Type 0 where

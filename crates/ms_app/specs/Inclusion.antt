@@ -7,8 +7,8 @@ use Rattle.ms_logic.specs.Verdict.{variables_of}
 use Rattle.ms_arena.specs.declared.node.Ref.{Ref}
 use Rattle.ms_arena.specs.declared.node.Ref.TheVariants.{Leaf}
 use Rattle.ms_arena.specs.declared.node.Node.{Node}
-use Rattle.ms_dfa.specs.declared.sign.Sign.{Sign}
-use Rattle.ms_dfa.specs.declared.sign.Sign.TheVariants.{Yes, No}
+use Rattle.ms_logic.specs.declared.sign.Sign.{Sign}
+use Rattle.ms_logic.specs.declared.sign.Sign.TheVariants.{Yes, No}
 use Rattle.ms_app.specs.Claim.{set_globals}
 use Rattle.ms_app.specs.declared.claim.Claim.{Claim}
 use Rattle.ms_app.specs.declared.claim.Claim.TheVariants.{Nothing, Inclusion}

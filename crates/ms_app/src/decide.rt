@@ -1,4 +1,5 @@
 ghost use Rattle.std.specs.Prelude.{◌≡◌, [], IfOk, IfErr};
+ghost use Rattle.ms_edge.specs.Files.{between};
 ghost use Rattle.ms_app.specs.Answer.{IsRefused, IsDecided};
 
 use crate::built::first_beyond;
@@ -17,25 +18,9 @@ pub fn decide<F: Files>(
     names: &mut List<Text>,
 ) -> Result<Found, Refusal>
     requires { names.old ≡ [] }
-    ensures decided { IfOk result (IsDecided name.now (record {
-      held = F.held files.old;
-      faults_before = F.faults files.old;
-      faults_after = F.faults files.new;
-      absences_before = F.absences files.old;
-      absences_after = F.absences files.new;
-      overlongs_before = F.overlongs files.old;
-      overlongs_after = F.overlongs files.new;
-    })) }
-    ensures refused { IfErr result (λ refusal. IsRefused name.now (record {
-      held = F.held files.old;
-      faults_before = F.faults files.old;
-      faults_after = F.faults files.new;
-      absences_before = F.absences files.old;
-      absences_after = F.absences files.new;
-      overlongs_before = F.overlongs files.old;
-      overlongs_after = F.overlongs files.new;
-    }) refusal names.new) }
-    ensures kept { F.held files.new ≡ F.held files.old }
+    ensures decided { IfOk result (IsDecided name.now (between (F.told files.old) (F.told files.new))) }
+    ensures refused { IfErr result (λ refusal. IsRefused name.now (between (F.told files.old) (F.told files.new)) refusal names.new) }
+    ensures kept { (F.told files.new).held ≡ (F.told files.old).held }
 {
     let loaded = match load(alloc, files, name.text(), names) {
         Ok(loaded) => loaded,

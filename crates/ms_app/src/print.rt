@@ -11,7 +11,7 @@ const OUT_OF_MEMORY: &[u8] = b"70 out of memory\n";
 
 /// Prints the text, and ends with the status that goes with it.
 pub fn print<S: Sink>(out: &mut S, status: Status, text: &[u8]) -> Status
-    ensures { Prints (S.taken out.old) (S.taken out.new) (S.faults out.old) (S.faults out.new) (record { status = status; text = text.now }) result }
+    ensures { Prints (S.told out.old) (S.told out.new) (record { status = status; text = text.now }) result }
 {
     match write_all(out, text) {
         Ok(()) => status,
@@ -57,16 +57,16 @@ fn status(refusal: &Refusal) -> Status
 
 /// Prints that there is no memory, which takes none.
 fn out_of_memory<S: Sink>(out: &mut S) -> Status
-    ensures { Prints (S.taken out.old) (S.taken out.new) (S.faults out.old) (S.faults out.new) (answer_of Refusal.Memory []) result }
+    ensures { Prints (S.told out.old) (S.told out.new) (answer_of Refusal.Memory []) result }
 {
     print(out, Status::NoMemory, OUT_OF_MEMORY)
 }
 
 /// Prints the line of a refusal, or that there is no memory for it.
 pub fn refuse<S: Sink>(alloc: Global, refusal: &Refusal, files: &List<Text>, out: &mut S) -> Status
-    ensures printed { Prints (S.taken out.old) (S.taken out.new) (S.faults out.old) (S.faults out.new) (answer_of refusal.now files.now) result
-        ⊎ Prints (S.taken out.old) (S.taken out.new) (S.faults out.old) (S.faults out.new) (answer_of Refusal.Memory []) result }
-    ensures sink_only { result ≡ Status.SinkFault → Rose (S.faults out.old) (S.faults out.new) }
+    ensures printed { Prints (S.told out.old) (S.told out.new) (answer_of refusal.now files.now) result
+        ⊎ Prints (S.told out.old) (S.told out.new) (answer_of Refusal.Memory []) result }
+    ensures sink_only { result ≡ Status.SinkFault → Rose (S.told out.old).faults (S.told out.new).faults }
 {
     if !has_line(refusal, files) {
         return out_of_memory(out);
@@ -79,8 +79,8 @@ pub fn refuse<S: Sink>(alloc: Global, refusal: &Refusal, files: &List<Text>, out
 
 /// Prints the report, or that there is no memory for it.
 pub fn tell<S: Sink>(alloc: Global, found: &Found, out: &mut S) -> Status
-    ensures { Prints (S.taken out.old) (S.taken out.new) (S.faults out.old) (S.faults out.new) (report_answer found.now) result
-        ⊎ Prints (S.taken out.old) (S.taken out.new) (S.faults out.old) (S.faults out.new) (answer_of Refusal.Memory []) result }
+    ensures { Prints (S.told out.old) (S.told out.new) (report_answer found.now) result
+        ⊎ Prints (S.told out.old) (S.told out.new) (answer_of Refusal.Memory []) result }
 {
     match report(alloc, found) {
         Ok(text) => print(out, Status::Done, text.slice()),

@@ -1,5 +1,6 @@
 ghost use Rattle.std.specs.Prelude.{◌≡◌, None};
 ghost use Rattle.ms_edge.specs.Counts.{Rose};
+ghost use Rattle.ms_edge.specs.Files.{between};
 ghost use Rattle.ms_app.specs.Command.{file_of};
 ghost use Rattle.ms_app.specs.Answer.{IsAnswered, IsDone};
 
@@ -15,32 +16,16 @@ use std::alloc::Global;
 pub fn run<F: Files, S: Sink>(alloc: Global, words: &Words, files: &mut F, out: &mut S) -> Status
     // Words that are no command are answered so. A file is decided, and the report on it is printed; or it is refused for
     // a cause, and its line is printed.
-    ensures answered { IsAnswered (S.taken out.old) (S.taken out.new) (S.faults out.old) (S.faults out.new) (file_of words.now) (record {
-      held = F.held files.old;
-      faults_before = F.faults files.old;
-      faults_after = F.faults files.new;
-      absences_before = F.absences files.old;
-      absences_after = F.absences files.new;
-      overlongs_before = F.overlongs files.old;
-      overlongs_after = F.overlongs files.new;
-    }) result }
+    ensures answered { IsAnswered (S.told out.old) (S.told out.new) (file_of words.now) (between (F.told files.old) (F.told files.new)) result }
 
     // Done comes only with the report on the file, which states what is decided; usage only where the words are no
     // command; and a fault of the sink only where the sink's faults rose.
-    ensures done { result ≡ Status.Done → IsDone (S.taken out.old) (S.taken out.new) (file_of words.now) (record {
-      held = F.held files.old;
-      faults_before = F.faults files.old;
-      faults_after = F.faults files.new;
-      absences_before = F.absences files.old;
-      absences_after = F.absences files.new;
-      overlongs_before = F.overlongs files.old;
-      overlongs_after = F.overlongs files.new;
-    }) }
+    ensures done { result ≡ Status.Done → IsDone (S.told out.old) (S.told out.new) (file_of words.now) (between (F.told files.old) (F.told files.new)) }
     ensures usage_only { result ≡ Status.Usage → file_of words.now ≡ None }
-    ensures sink_only { result ≡ Status.SinkFault → Rose (S.faults out.old) (S.faults out.new) }
+    ensures sink_only { result ≡ Status.SinkFault → Rose (S.told out.old).faults (S.told out.new).faults }
 
     // No file is written.
-    ensures kept { F.held files.new ≡ F.held files.old }
+    ensures kept { (F.told files.new).held ≡ (F.told files.old).held }
 {
     let Some(name) = file(words) else {
         return print(

@@ -1,5 +1,6 @@
 pub mod Bits
 pub mod Diagram
 pub mod Halves
+pub mod Leaves
 pub mod Reach
 pub mod Target

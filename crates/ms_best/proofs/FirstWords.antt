@@ -9,7 +9,7 @@ use Rattle.ms_arena.proofs.Lists.{slice_get-held}
 use Rattle.ms_logic.specs.declared.mode.Order.{Order}
 use Rattle.ms_logic.specs.First.{IsLower}
 use Rattle.ms_logic.specs.Content.{StateOf, Content, AreLetters, IsFollowed, is_truth_value, is_in_letters, count_of, spread, bits_at, truth_bits, first_state, next_state, state_after, sign_at}
-use Rattle.ms_dfa.specs.declared.sign.Sign.{Sign}
+use Rattle.ms_logic.specs.declared.sign.Sign.{Sign}
 use Rattle.ms_dfa.specs.Automaton.{IsAutomaton}
 use Rattle.ms_best.specs.Automaton.{is_sign, distance_of, AreDistancesFrom}
 use Rattle.ms_best.specs.FirstWord.{IsFirstWord, NoWordHas}

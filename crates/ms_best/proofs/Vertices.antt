@@ -10,7 +10,7 @@ use Rattle.ms_arena.specs.declared.node.Node.{Node}
 use Rattle.ms_arena.specs.Diagram.{IsBefore}
 use Rattle.ms_arena.proofs.Paths.{IsBefore-later}
 use Rattle.ms_logic.specs.Content.{StateOf, Content}
-use Rattle.ms_dfa.specs.declared.sign.Sign.{Sign}
+use Rattle.ms_logic.specs.declared.sign.Sign.{Sign}
 use Rattle.ms_dfa.specs.Automaton.{IsAutomaton}
 use Rattle.ms_best.specs.declared.graph.Vertex.{Vertex}
 use Rattle.ms_best.specs.declared.graph.Vertex.TheVariants.{Goal, Letter}

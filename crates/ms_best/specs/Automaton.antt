@@ -4,8 +4,8 @@ use Rattle.ms_arena.specs.declared.node.Ref.{Ref}
 use Rattle.ms_arena.specs.declared.node.Ref.TheVariants.{Leaf, Inner}
 use Rattle.ms_arena.specs.declared.node.Node.{Node}
 use Rattle.ms_logic.specs.Content.{StateOf, Content}
-use Rattle.ms_dfa.specs.declared.sign.Sign.{Sign}
-use Rattle.ms_dfa.specs.declared.sign.Sign.TheVariants.{Yes, No, Undefined, Outside}
+use Rattle.ms_logic.specs.declared.sign.Sign.{Sign}
+use Rattle.ms_logic.specs.declared.sign.Sign.TheVariants.{Yes, No, Undefined, Outside}
 use Rattle.ms_best.specs.declared.graph.Vertex.{Vertex}
 use Rattle.ms_best.specs.declared.graph.Vertex.TheVariants.{Goal, Letter, Choice}
 use Rattle.ms_best.specs.Graph.{AreDistances}

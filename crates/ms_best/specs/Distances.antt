@@ -1,7 +1,7 @@
 -- What is kept of the distances of an automaton.
 use Rattle.std.specs.Prelude.{◌≡◌, length}
 use Rattle.ms_logic.specs.Content.{Content}
-use Rattle.ms_dfa.specs.declared.sign.Sign.{Sign}
+use Rattle.ms_logic.specs.declared.sign.Sign.{Sign}
 use Rattle.ms_best.specs.declared.distances.Distances.{Distances}
 use Rattle.ms_best.specs.Automaton.{AreDistancesFrom}
 

@@ -8,7 +8,7 @@ use Rattle.ms_arena.specs.Halves.{half_of}
 use Rattle.ms_logic.specs.declared.mode.Order.{Order}
 use Rattle.ms_logic.specs.Assignment.{Variable}
 use Rattle.ms_logic.specs.Content.{StateOf, Content, is_truth_value, is_in_letters, first_state, next_state}
-use Rattle.ms_dfa.specs.declared.sign.Sign.{Sign}
+use Rattle.ms_logic.specs.declared.sign.Sign.{Sign}
 use Rattle.ms_best.specs.Automaton.{distance_of}
 
 -- whether the bit 0 of a variable leads farther than need be

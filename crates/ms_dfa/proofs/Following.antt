@@ -12,7 +12,7 @@ use Rattle.ms_logic.specs.Assignment.{Variable}
 use Rattle.ms_logic.specs.Content.{count_of, spread, head_bit, tail_bits, bits_at, HasValueAt}
 use Rattle.std.proofs.lemmas.List.{take-map, length-map}
 use Rattle.ms_logic.specs.Content.{Content}
-use Rattle.ms_dfa.specs.declared.sign.Sign.{Sign}
+use Rattle.ms_logic.specs.declared.sign.Sign.{Sign}
 use Rattle.ms_dfa.specs.declared.track.Track.{Track}
 use Rattle.ms_dfa.specs.Automaton.{variable_of, variables_of}
 use Rattle.ms_dfa.proofs.Ranks.{counted}

@@ -6,13 +6,12 @@ ghost use Rattle.ms_dfa.specs.Part.{has_value};
 
 use crate::count::count_in;
 use crate::part::Part;
-use crate::sign::Sign;
 use crate::state::State;
 use crate::track::Track;
 use ms_arena::Ref;
 use ms_diagram::Store;
 use ms_edge::List;
-use ms_logic::Mode;
+use ms_logic::{Mode, Sign};
 use std::marker::Model;
 
 /// An automaton over tracks, seen as its content.
@@ -27,7 +26,7 @@ pub struct Automaton {
 
 impl Model for Automaton {
     ghost use Rattle.ms_logic.specs.Content.{Content};
-    ghost use Rattle.ms_dfa.specs.declared.sign.Sign.{Sign};
+    ghost use Rattle.ms_logic.specs.declared.sign.Sign.{Sign};
 
     ghost Value = { Content Sign };
 

@@ -5,13 +5,12 @@ mod automaton;
 mod count;
 mod part;
 mod plain;
-mod sign;
 mod state;
 mod track;
 
 pub use automaton::Automaton;
+pub use ms_logic::Sign;
 pub use part::{Part, is_in};
 pub use plain::{FileSign, FileState, FileVar, Plain};
-pub use sign::Sign;
 pub use state::State;
 pub use track::Track;

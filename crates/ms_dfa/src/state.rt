@@ -1,5 +1,5 @@
-use crate::sign::Sign;
 use ms_arena::Ref;
+use ms_logic::Sign;
 
 /// A state: the sign of the words that end in it, and the diagram that leads on from it.
 #[derive(Clone, Copy, PartialEq, Eq)]

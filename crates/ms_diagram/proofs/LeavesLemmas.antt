@@ -10,7 +10,8 @@ use Rattle.ms_arena.specs.declared.node.Node.{Node}
 use Rattle.ms_arena.specs.Diagram.{IsBefore, IsOrdered}
 use Rattle.ms_arena.proofs.Lists.{slice_get-held}
 use Rattle.ms_arena.proofs.Paths.{IsBefore-later}
-use Rattle.ms_diagram.specs.Leaves.{leaves_behind, leaves_within, noted, KnowsAll, KnowsPlaces}
+use Rattle.ms_arena.specs.Leaves.{leaves_behind, leaves_within}
+use Rattle.ms_diagram.specs.Leaves.{noted, KnowsAll, KnowsPlaces}
 
 module _ (nodes : List Node) (ordered : IsOrdered nodes) where
   -- more steps than the place find no more leaves

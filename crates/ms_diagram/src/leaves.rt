@@ -7,7 +7,8 @@ use ms_arena::Ref;
 use ms_edge::{List, NoMemory};
 
 impl Store {
-    ghost use Rattle.ms_diagram.specs.Leaves.{KnowsPlaces, leaves_of, leaves_within, noted};
+    ghost use Rattle.ms_arena.specs.Leaves.{leaves_within};
+    ghost use Rattle.ms_diagram.specs.Leaves.{KnowsPlaces, leaves_of, noted};
 
     /// The different leaves of the diagram by first sight, the low end of each node first.
     pub fn leaves_in_order(&self, root: Ref) -> Result<List<u32>, NoMemory>

@@ -4,6 +4,7 @@ use Rattle.std.specs.Str.{bytes_eq}
 use Rattle.ms_edge.specs.declared.files.ReadAnswer.{ReadAnswer}
 use Rattle.ms_edge.specs.declared.files.ReadAnswer.TheVariants.{Missing, Failed, TooLong, NoMemory}
 use Rattle.ms_edge.specs.Counts.{counted}
+use Rattle.ms_edge.specs.Files.{FilesTold}
 
 -- a name and the bytes under it
 abbrev pub Entry : Type 0
@@ -31,6 +32,15 @@ held_after name held entry = if bytes_eq entry.0 name then Some entry.1 else hel
 -- what is held under a name: the bytes of its last entry
 abbrev pub held_under : List Entry → List ℕ → Option (List ℕ)
 held_under entries name = fold (held_after name) None entries
+
+-- what files in memory tell, which is all
+abbrev pub told_of : FilesInMemory → FilesTold
+told_of files = record {
+  held = Some (held_under files.entries);
+  faults = files.faults;
+  absences = files.absences;
+  overlongs = files.overlongs;
+}
 
 -- the next write of these bytes under the name fails: by its number, or for want of room
 abbrev pub WriteFails : FilesInMemory → List ℕ → List ℕ → Type 0

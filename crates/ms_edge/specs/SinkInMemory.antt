@@ -1,6 +1,7 @@
 -- A sink in memory, and what one call of it does.
-use Rattle.std.specs.Prelude.{◌≡◌, ℕ, ◌-◌, List, length, ◌++◌, take, min, ◌⊎◌, Contains}
+use Rattle.std.specs.Prelude.{◌≡◌, ℕ, ◌-◌, List, length, ◌++◌, take, min, Some, ◌⊎◌, Contains}
 use Rattle.ms_edge.specs.Counts.{counted}
+use Rattle.ms_edge.specs.Sink.{SinkTold}
 
 -- what the sink has taken, the most that it takes in one call and at all, the numbers of the calls that fail,
 -- the number of the next call, and how often it has failed
@@ -11,6 +12,10 @@ pub record SinkInMemory : Type 0 where
   pub failing : List ℕ
   pub calls : ℕ
   pub faults : ℕ
+
+-- what a sink in memory tells, which is all
+abbrev pub told_of : SinkInMemory → SinkTold
+told_of sink = record { taken = Some sink.taken; faults = sink.faults }
 
 -- the next call fails: its number is listed, or no room is left
 abbrev pub Fails : SinkInMemory → Type 0

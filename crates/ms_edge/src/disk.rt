@@ -81,13 +81,12 @@ fn read_up_to<F: Read>(
 }
 
 impl<R: Runtime> Files for DiskFiles<R> {
-    ghost held = { λ _. None };
-
-    ghost faults = { λ files. files.faults };
-
-    ghost absences = { λ files. files.absences };
-
-    ghost overlongs = { λ files. files.overlongs };
+    ghost told = { λ files. record {
+      held = None;
+      faults = files.faults;
+      absences = files.absences;
+      overlongs = files.overlongs;
+    } };
 
     fn read(&mut self, alloc: Global, name: &str, limit: u64) -> Result<Bytes, ReadAnswer> {
         let answer = self.load(alloc, name, limit);

@@ -1,6 +1,6 @@
-ghost use Rattle.std.specs.Prelude.{◌≡◌, ℕ, ◌≤◌, length, Option, IfOk, OnOk, OnErr, IsErrOf};
+ghost use Rattle.std.specs.Prelude.{◌≡◌, ◌≤◌, length, IfOk, IfErr, OnOk, OnErr};
 ghost use Rattle.ms_edge.specs.Counts.{Rose};
-ghost use Rattle.ms_edge.specs.Files.{Holding, Holds, Lacks, HoldsMoreThan, KeepsOthers};
+ghost use Rattle.ms_edge.specs.Files.{FilesTold, Holds, IsCauseOfRead, KeepsOthers, NoCountFell, OnlyRead};
 
 use crate::list::Bytes;
 use std::alloc::Global;
@@ -26,40 +26,21 @@ pub struct WriteFailed;
 
 /// Files by name.
 pub trait Files {
-    // What is held under each name, where that is told.
-    ghost held: { Self → Option Holding };
-
-    // How often a read or a write has failed, a file was not there, a file was too long.
-    ghost faults: { Self → ℕ };
-
-    ghost absences: { Self → ℕ };
-
-    ghost overlongs: { Self → ℕ };
+    // What is held under each name, where that is told, and how often a read or a write has failed, a file was not there,
+    // a file was too long.
+    ghost told: { Self → FilesTold };
 
     /// The bytes of a file, of which there are at most so many.
     fn read(&mut self, alloc: Global, name: &str, limit: u64) -> Result<Bytes, ReadAnswer>
-        ensures bytes { IfOk result (λ bytes. Holds (held self.old) name.now bytes) }
+        ensures bytes { IfOk result (λ bytes. Holds (told self.old).held name.now bytes) }
         ensures within { IfOk result (λ bytes. length bytes ≤ limit) }
-
-        // Each answer but `NoMemory` has its cause.
-        ensures missing { IsErrOf result ReadAnswer.Missing → Lacks (held self.old) name.now }
-        ensures missing_cause { IsErrOf result ReadAnswer.Missing → Rose (absences self.old) (absences self.new) }
-        ensures too_long { IsErrOf result ReadAnswer.TooLong → HoldsMoreThan (held self.old) name.now limit }
-        ensures too_long_cause { IsErrOf result ReadAnswer.TooLong → Rose (overlongs self.old) (overlongs self.new) }
-        ensures failed_cause { IsErrOf result ReadAnswer.Failed → Rose (faults self.old) (faults self.new) }
-
-        ensures held_stays { held self.new ≡ held self.old }
-        ensures faults_last { faults self.old ≤ faults self.new }
-        ensures absences_last { absences self.old ≤ absences self.new }
-        ensures overlongs_last { overlongs self.old ≤ overlongs self.new };
+        ensures cause { IfErr result (IsCauseOfRead (told self.old) (told self.new) name.now limit) }
+        ensures only_read { OnlyRead (told self.old) (told self.new) };
 
     /// Makes the name hold the bytes. After a failure the named file may hold anything.
     fn write(&mut self, name: &str, bytes: &[u8]) -> Result<(), WriteFailed>
-        ensures written { OnOk result (Holds (held self.new) name.now bytes.now) }
-        ensures cause { OnErr result (Rose (faults self.old) (faults self.new)) }
-        ensures others { KeepsOthers (held self.old) (held self.new) name.now }
-
-        ensures faults_last { faults self.old ≤ faults self.new }
-        ensures absences_last { absences self.old ≤ absences self.new }
-        ensures overlongs_last { overlongs self.old ≤ overlongs self.new };
+        ensures written { OnOk result (Holds (told self.new).held name.now bytes.now) }
+        ensures cause { OnErr result (Rose (told self.old).faults (told self.new).faults) }
+        ensures others { KeepsOthers (told self.old).held (told self.new).held name.now }
+        ensures counts { NoCountFell (told self.old) (told self.new) };
 }

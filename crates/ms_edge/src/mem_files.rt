@@ -1,8 +1,8 @@
-ghost use Rattle.std.specs.Prelude.{◌≡◌, ◌+◌, ◌-◌, ◌<◌, ◌≤◌, ◌↔◌, [], ◌∷◌, ◌++◌, ℕ, length, Contains, Option, Some, None, IfOk, OnOk, OnErr, IsErr, IsErrOf};
+ghost use Rattle.std.specs.Prelude.{◌≡◌, ◌+◌, ◌-◌, ◌<◌, ◌≤◌, ◌↔◌, [], ◌∷◌, ◌++◌, ℕ, length, Contains, Option, Some, None, IfErr, IfOk, OnOk, OnErr, IsErr, IsErrOf};
 ghost use Rattle.std.specs.Option.{option_copied};
 ghost use Rattle.ms_edge.specs.Counts.{Rose, counted};
-ghost use Rattle.ms_edge.specs.Files.{Holding, Holds, Lacks, HoldsMoreThan, KeepsOthers};
-ghost use Rattle.ms_edge.specs.FilesInMemory.{held_under, WriteFails, with_entry, after_writing, after_failing, noted, after_reading};
+ghost use Rattle.ms_edge.specs.Files.{HoldsMoreThan, IsCauseOfRead, KeepsOthers, NoCountFell, OnlyRead};
+ghost use Rattle.ms_edge.specs.FilesInMemory.{held_under, told_of, WriteFails, with_entry, after_writing, after_failing, noted, after_reading};
 
 use crate::fault::NoMemory;
 use crate::files::{Files, ReadAnswer, WriteFailed};
@@ -160,26 +160,13 @@ impl MemFiles {
 }
 
 impl Files for MemFiles {
-    ghost held = { λ files. Some (held_under files.entries) };
-
-    ghost faults = { λ files. files.faults };
-
-    ghost absences = { λ files. files.absences };
-
-    ghost overlongs = { λ files. files.overlongs };
+    ghost told = { told_of };
 
     fn read(&mut self, alloc: Global, name: &str, limit: u64) -> Result<Bytes, ReadAnswer>
         ensures bytes { IfOk result (λ bytes. held_under self.old.entries name.now ≡ Some bytes) }
         ensures within { IfOk result (λ bytes. length bytes ≤ limit) }
-        ensures missing { IsErrOf result ReadAnswer.Missing → held_under self.old.entries name.now ≡ None }
-        ensures missing_cause { IsErrOf result ReadAnswer.Missing → Rose self.old.absences self.new.absences }
-        ensures too_long { IsErrOf result ReadAnswer.TooLong → HoldsMoreThan (Some (held_under self.old.entries)) name.now limit }
-        ensures too_long_cause { IsErrOf result ReadAnswer.TooLong → Rose self.old.overlongs self.new.overlongs }
-        ensures failed_cause { IsErrOf result ReadAnswer.Failed → Rose self.old.faults self.new.faults }
-        ensures held_stays { Some (held_under self.new.entries) ≡ Some (held_under self.old.entries) }
-        ensures faults_last { self.old.faults ≤ self.new.faults }
-        ensures absences_last { self.old.absences ≤ self.new.absences }
-        ensures overlongs_last { self.old.overlongs ≤ self.new.overlongs }
+        ensures cause { IfErr result (IsCauseOfRead (told_of self.old) (told_of self.new) name.now limit) }
+        ensures only_read { OnlyRead (told_of self.old) (told_of self.new) }
 
         ensures failed { IsErrOf result ReadAnswer.Failed ↔ Contains self.old.failing_reads self.old.reads }
         ensures after { self.new ≡ after_reading result self.old }
@@ -201,9 +188,7 @@ impl Files for MemFiles {
         ensures written { OnOk result (held_under self.new.entries name.now ≡ Some bytes.now) }
         ensures cause { OnErr result (Rose self.old.faults self.new.faults) }
         ensures others { KeepsOthers (Some (held_under self.old.entries)) (Some (held_under self.new.entries)) name.now }
-        ensures faults_last { self.old.faults ≤ self.new.faults }
-        ensures absences_last { self.old.absences ≤ self.new.absences }
-        ensures overlongs_last { self.old.overlongs ≤ self.new.overlongs }
+        ensures counts { NoCountFell (told_of self.old) (told_of self.new) }
 
         ensures fails { IsErr result ↔ WriteFails self.old name.now bytes.now }
         ensures after { OnOk result (self.new ≡ after_writing self.old name.now bytes.now) }

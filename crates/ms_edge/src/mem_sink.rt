@@ -1,7 +1,7 @@
 ghost use Rattle.std.specs.Prelude.{◌≡◌, [], ◌<◌, ◌≤◌, ◌↔◌, length, take, IfOk, IsErr, OnErr, Some};
 ghost use Rattle.ms_edge.specs.Counts.{Rose};
 ghost use Rattle.ms_edge.specs.Sink.{grown};
-ghost use Rattle.ms_edge.specs.SinkInMemory.{Fails, part_taken, after_taking, after_failing};
+ghost use Rattle.ms_edge.specs.SinkInMemory.{Fails, told_of, part_taken, after_taking, after_failing};
 
 use crate::fault::NoMemory;
 use crate::list::List;
@@ -65,9 +65,7 @@ impl MemSink {
 }
 
 impl Sink for MemSink {
-    ghost taken = { λ sink. Some sink.taken };
-
-    ghost faults = { λ sink. sink.faults };
+    ghost told = { told_of };
 
     fn write(&mut self, piece: &[u8]) -> Result<usize, SinkFailed>
         requires { 0 < length piece.now }

@@ -1,6 +1,6 @@
-ghost use Rattle.std.specs.Prelude.{◌≡◌, ℕ, ◌<◌, ◌≤◌, List, length, take, Option, IfOk, OnOk, OnErr, IfErr};
+ghost use Rattle.std.specs.Prelude.{◌≡◌, ◌<◌, ◌≤◌, length, take, IfOk, OnOk, OnErr, IfErr};
 ghost use Rattle.ms_edge.specs.Counts.{Rose};
-ghost use Rattle.ms_edge.specs.Sink.{grown};
+ghost use Rattle.ms_edge.specs.Sink.{grown, SinkTold};
 
 use thiserror::Error;
 
@@ -17,32 +17,29 @@ pub struct SinkStop {
 
 /// Where the report goes, as standard output.
 pub trait Sink {
-    // The bytes taken so far, where they are told.
-    ghost taken: { Self → Option (List ℕ) };
-
-    // How often the sink has failed.
-    ghost faults: { Self → ℕ };
+    // The bytes taken so far, where they are told, and how often the sink has failed.
+    ghost told: { Self → SinkTold };
 
     /// Takes some first bytes of the piece, at least one, and says how many.
     fn write(&mut self, piece: &[u8]) -> Result<usize, SinkFailed>
         requires { 0 < length piece.now }
         ensures some { IfOk result (λ count. 0 < count) }
         ensures within { IfOk result (λ count. count ≤ length piece.now) }
-        ensures took { IfOk result (λ count. taken self.new ≡ grown (taken self.old) (take count piece.now)) }
+        ensures took { IfOk result (λ count. (told self.new).taken ≡ grown (told self.old).taken (take count piece.now)) }
 
-        ensures cause { OnErr result (Rose (faults self.old) (faults self.new)) }
-        ensures kept { OnErr result (taken self.new ≡ taken self.old) }
+        ensures cause { OnErr result (Rose (told self.old).faults (told self.new).faults) }
+        ensures kept { OnErr result ((told self.new).taken ≡ (told self.old).taken) }
 
-        ensures faults_last { faults self.old ≤ faults self.new };
+        ensures faults_last { (told self.old).faults ≤ (told self.new).faults };
 }
 
 /// Writes all the bytes, piece after piece. It takes no memory.
 pub fn write_all<S: Sink>(out: &mut S, bytes: &[u8]) -> Result<(), SinkStop>
-    ensures all { OnOk result (S.taken out.new ≡ grown (S.taken out.old) bytes.now) }
-    ensures front { IfErr result (λ stop. S.taken out.new ≡ grown (S.taken out.old) (take stop.taken bytes.now)) }
+    ensures all { OnOk result ((S.told out.new).taken ≡ grown (S.told out.old).taken bytes.now) }
+    ensures front { IfErr result (λ stop. (S.told out.new).taken ≡ grown (S.told out.old).taken (take stop.taken bytes.now)) }
     ensures fewer { IfErr result (λ stop. stop.taken < length bytes.now) }
-    ensures cause { OnErr result (Rose (S.faults out.old) (S.faults out.new)) }
-    ensures faults_last { S.faults out.old ≤ S.faults out.new }
+    ensures cause { OnErr result (Rose (S.told out.old).faults (S.told out.new).faults) }
+    ensures faults_last { (S.told out.old).faults ≤ (S.told out.new).faults }
 {
     let mut done = 0;
     while done < bytes.len() {

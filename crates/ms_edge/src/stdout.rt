@@ -21,9 +21,7 @@ impl<R: Runtime> StdSink<R> {
 }
 
 impl<R: Runtime> Sink for StdSink<R> {
-    ghost taken = { λ _. None };
-
-    ghost faults = { λ sink. sink.faults };
+    ghost told = { λ sink. record { taken = None; faults = sink.faults } };
 
     fn write(&mut self, piece: &[u8]) -> Result<usize, SinkFailed> {
         match io::writer(&self.rt).write(piece) {

@@ -2,7 +2,7 @@
 use Rattle.std.proofs.Common.{◌≡◌, ℕ, zero, suc, ◌+◌, ◌*◌, ◌<◌, ◌≤◌, inl, inr, true, List, [], ◌∷◌, ◌++◌, length, map, Option, Some, None, refl, sym, ap, ◌∙◌, subst, arith}
 use Rattle.std.proofs.lemmas.List.{length-append, map-append}
 use Rattle.std.proofs.Math.ListN.{length-map}
-use Rattle.ms_edge.specs.Files.{Holding}
+use Rattle.ms_edge.specs.Files.{Holding, Seen}
 use Rattle.ms_edge.specs.declared.at.At.{At}
 use Rattle.ms_text.specs.declared.token.Token.{Token}
 use Rattle.ms_text.specs.Spelling.{IsToken}
@@ -20,7 +20,6 @@ use Rattle.ms_include.specs.declared.begun.Begun.{Begun}
 use Rattle.ms_include.specs.File.{IsSource, source_limit}
 use Rattle.ms_include.specs.Include.{Files, Loading, Becomes, AllBecome, Loads, and_next, include_of, greatest_depth, most_files}
 use Rattle.ms_include.specs.Load.{files_of, IsLoaded}
-use Rattle.ms_include.specs.Seen.{Seen}
 
 -- a text has no more tokens than bytes
 tokens-within : (place : ℕ) (bytes : List ℕ) (tokens : List Token) → IsTokenList place bytes tokens → length tokens ≤ length bytes
@@ -78,9 +77,9 @@ loads-within request base zero chain read name after items loads = absurd loads
 loads-within request base (suc deeper) chain read name after items (source, few, is, header, become) =
     let inner = all-within (Loads (files_of request base) deeper) (λ c r n a i. loads-within request base deeper c r n a i) (and_next (files_of request base) chain read name) (read ++ name ∷ []) source.items after items become in
     let longer : length (read ++ name ∷ []) ≡ length read + 1 = length-append read (name ∷ []) in
-    (omega (arith, inner.0, longer, source-within request.held (base + length read) name source is), λ all. inner.1 (omega (arith, few, longer)))
+    (omega (arith, inner.0, longer, source-within request.before.held (base + length read) name source is), λ all. inner.1 (omega (arith, few, longer)))
 
 pub loaded-within : (request : Seen) (base : ℕ) (name : List ℕ) (loaded : Loaded) → IsLoaded (files_of request base) name loaded → size_of_items loaded.items ≤ 67108864
 loaded-within request base name loaded is =
     let inner = all-within (Loads (files_of request base) greatest_depth) (λ c r n a i. loads-within request base greatest_depth c r n a i) (and_next (files_of request base) [] [] name) (name ∷ []) is.source.items loaded.files loaded.items is.items in
-    omega (arith, inner.0, inner.1 (omega arith), source-within request.held base name is.source is.is)
+    omega (arith, inner.0, inner.1 (omega arith), source-within request.before.held base name is.source is.is)

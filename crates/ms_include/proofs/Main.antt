@@ -1,7 +1,7 @@
 -- The main file of a load.
 use Rattle.std.proofs.Common.{rules, ◌≡◌, ℕ, ◌+◌, ◌≤◌, ◌⊎◌, inl, inr, List, [], ◌∷◌, ◌++◌, append_assoc, length, drop, Option, Some, None, refl, sym, ap, ◌∙◌, subst, arith}
 use Rattle.std.proofs.Math.Seq.{drop-append_seam}
-use Rattle.ms_edge.specs.Files.{Holding}
+use Rattle.ms_edge.specs.Files.{Holding, Seen}
 use Rattle.ms_edge.specs.declared.refusal.Refusal.{Refusal}
 use Rattle.ms_edge.specs.declared.refusal.Refusal.TheVariants.{Memory}
 use Rattle.ms_logic.specs.declared.source.Item.{Item}
@@ -11,7 +11,6 @@ use Rattle.ms_include.specs.declared.begun.Begun.{Begun}
 use Rattle.ms_include.specs.File.{IsSource, IsNoSource, IsUnread}
 use Rattle.ms_include.specs.Include.{and_next, AllBecome, Loads, OneStops, IsRefused, greatest_depth}
 use Rattle.ms_include.specs.Load.{mode_of, files_of, IsLoaded, IsRefusedLoad}
-use Rattle.ms_include.specs.Seen.{Seen}
 
 -- the names that a load added
 only-read : (before after read : List (List ℕ)) → after ≡ before ++ read → drop (length before) after ≡ read
@@ -25,12 +24,12 @@ main-chain request base number chain chain' name numbered empty longer =
 
 pub main-loaded : (request : Seen) (base base' number : ℕ) (chain chain' : List Begun) (before between after read : List (List ℕ)) (name : List ℕ) (source : Source) (loaded : Loaded) (items items' made : List Item) →
     base ≡ length before → base' ≡ base → number ≡ base → chain ≡ [] → chain' ≡ chain ++ record { number = number; name = name } ∷ [] → between ≡ before ++ name ∷ [] →
-    IsSource request.held number name source → loaded.mode ≡ mode_of source.header → loaded.files ≡ drop base after → loaded.items ≡ items' → items ≡ [] → items' ≡ items ++ made →
+    IsSource request.before.held number name source → loaded.mode ≡ mode_of source.header → loaded.files ≡ drop base after → loaded.items ≡ items' → items ≡ [] → items' ≡ items ++ made →
     AllBecome (Loads (files_of request base') greatest_depth) chain' (drop base' between) source.items (drop base' after) made →
     IsLoaded (files_of request (length before)) name loaded
 main-loaded request base base' number chain chain' before between after read name source loaded items items' made based same numbered empty longer noted is mode names items_are none grown become = record {
   source = source;
-  is = subst (λ n. IsSource request.held n name source) (numbered ∙ based) is;
+  is = subst (λ n. IsSource request.before.held n name source) (numbered ∙ based) is;
   mode = mode;
   items =
       let made_is : made ≡ loaded.items = sym (items_are ∙ (grown ∙ ap (λ l. l ++ made) none)) in
@@ -46,17 +45,17 @@ main-loaded request base base' number chain chain' before between after read nam
 
 -- the main file itself is refused
 pub main-unopened : (request : Seen) (base number : ℕ) (before after : List (List ℕ)) (name : List ℕ) (refusal : Refusal) → base ≡ length before → number ≡ base →
-    (refusal ≡ Memory) ⊎ (IsUnread request None name refusal × (after ≡ before)) ⊎ (IsNoSource request.held number name refusal × (after ≡ before ++ name ∷ [])) →
+    (refusal ≡ Memory) ⊎ (IsUnread request None name refusal × (after ≡ before)) ⊎ (IsNoSource request.before.held number name refusal × (after ≡ before ++ name ∷ [])) →
     (refusal ≡ Memory) ⊎ ((read : List (List ℕ)) × (after ≡ before ++ read) × IsRefusedLoad (files_of request (length before)) name refusal read)
 main-unopened request base number before after name refusal based numbered (inl memory) = inl memory
 main-unopened request base number before after name refusal based numbered (inr (inl (unread, kept))) = inr ([], kept ∙ sym (search rules), inl (unread, refl))
 main-unopened request base number before after name refusal based numbered (inr (inr (none, noted))) =
-    inr (name ∷ [], noted, inr (inl (subst (λ n. IsNoSource request.held n name refusal) (numbered ∙ based) none, refl)))
+    inr (name ∷ [], noted, inr (inl (subst (λ n. IsNoSource request.before.held n name refusal) (numbered ∙ based) none, refl)))
 
 -- a declaration of it is refused
 pub main-stopped : (request : Seen) (base base' number : ℕ) (chain chain' : List Begun) (before between after added : List (List ℕ)) (name : List ℕ) (source : Source) (refusal : Refusal) →
     base ≡ length before → base' ≡ base → number ≡ base → chain ≡ [] → chain' ≡ chain ++ record { number = number; name = name } ∷ [] → between ≡ before ++ name ∷ [] → after ≡ before ++ added →
-    IsSource request.held number name source →
+    IsSource request.before.held number name source →
     (refusal ≡ Memory) ⊎ OneStops (Loads (files_of request base') greatest_depth) (IsRefused (files_of request base') greatest_depth) chain' (drop base' between) source.items refusal (drop base' after) →
     (refusal ≡ Memory) ⊎ ((read : List (List ℕ)) × (after ≡ before ++ read) × IsRefusedLoad (files_of request (length before)) name refusal read)
 main-stopped request base base' number chain chain' before between after added name source refusal based same numbered empty longer noted grown is (inl memory) = inl memory
@@ -69,7 +68,7 @@ main-stopped request base base' number chain chain' before between after added n
       grown,
       inr (inr (
         source,
-        subst (λ n. IsSource request.held n name source) (numbered ∙ based) is,
+        subst (λ n. IsSource request.before.held n name source) (numbered ∙ based) is,
         subst (λ b. OneStops (Loads (files_of request b) greatest_depth) (IsRefused (files_of request b) greatest_depth) (and_next (files_of request (length before)) [] [] name) (name ∷ []) source.items refusal added) (same ∙ based)
             (subst (λ c. OneStops (Loads (files_of request base') greatest_depth) (IsRefused (files_of request base') greatest_depth) c (name ∷ []) source.items refusal added) chain_is
             (subst (λ r. OneStops (Loads (files_of request base') greatest_depth) (IsRefused (files_of request base') greatest_depth) chain' r source.items refusal added) read_is

@@ -1,7 +1,7 @@
 -- A new file, and what becomes of its declarations.
 use Rattle.std.proofs.Common.{◌≡◌, ℕ, zero, suc, ◌+◌, ◌-◌, ◌<◌, ◌≤◌, ◌⊎◌, inl, inr, true, false, List, [], ◌∷◌, ◌++◌, append_assoc, length, drop, Option, Some, None, Result, Ok, Err, IfErr, OnOk, refl, sym, ap, ◌∙◌, subst, arith}
 use Rattle.std.proofs.lemmas.List.{drop-append-le, length-drop}
-use Rattle.ms_edge.specs.Files.{Holding}
+use Rattle.ms_edge.specs.Files.{Holding, Seen}
 use Rattle.ms_edge.specs.declared.at.At.{At}
 use Rattle.ms_edge.specs.declared.refusal.Refusal.{Refusal}
 use Rattle.ms_edge.specs.declared.refusal.Refusal.TheVariants.{NotHere, Memory}
@@ -14,7 +14,6 @@ use Rattle.ms_include.specs.declared.begun.Begun.{Begun}
 use Rattle.ms_include.specs.File.{IsSource, IsNoSource, IsUnread}
 use Rattle.ms_include.specs.Include.{Files, Loading, Stopping, most_files, and_next, Becomes, AllBecome, Loads, Stops, OneStops, IsHeaderFault, IsRefused, include_of}
 use Rattle.ms_include.specs.Load.{files_of}
-use Rattle.ms_include.specs.Seen.{Seen}
 use Rattle.ms_include.proofs.Placing.{and-one, then-stops}
 
 -- the number of the next file
@@ -28,7 +27,7 @@ noted : (base : ℕ) (before after : List (List ℕ)) (name : List ℕ) → base
 noted base before after name begun is = ap (drop base) is ∙ drop-append-le base before (name ∷ []) begun
 
 pub open-refused : (request : Seen) (held : Option Holding) (base room number : ℕ) (chain : List Begun) (before after : List (List ℕ)) (at : At) (name : List ℕ) (refusal : Refusal) →
-    0 < room → base ≤ length before → number ≡ length before → length before < base + most_files → held ≡ request.held →
+    0 < room → base ≤ length before → number ≡ length before → length before < base + most_files → held ≡ request.before.held →
     (refusal ≡ Memory) ⊎ (IsUnread request (Some at) name refusal × (after ≡ before)) ⊎ (IsNoSource held number name refusal × (after ≡ before ++ name ∷ [])) →
     (refusal ≡ Memory) ⊎ IsRefused (files_of request base) room chain (drop base before) at name refusal (drop base after)
 open-refused request held base zero number chain before after at name refusal positive begun numbered few same what = absurd (omega (arith, positive))
@@ -39,22 +38,22 @@ open-refused request held base (suc deeper) number chain before after at name re
     inr (inr (
       few-is base before few begun,
       inr (inl (
-        subst (λ n. IsNoSource request.held n name refusal) (number-is base number before begun numbered) (subst (λ h. IsNoSource h number name refusal) same none),
+        subst (λ n. IsNoSource request.before.held n name refusal) (number-is base number before begun numbered) (subst (λ h. IsNoSource h number name refusal) same none),
         noted base before after name begun grown,
       )),
     ))
 
 -- the file that was opened
-opened : (request : Seen) (held : Option Holding) (base number : ℕ) (before : List (List ℕ)) (name : List ℕ) (source : Source) → base ≤ length before → number ≡ length before → held ≡ request.held →
-    IsSource held number name source → IsSource request.held (base + length (drop base before)) name source
+opened : (request : Seen) (held : Option Holding) (base number : ℕ) (before : List (List ℕ)) (name : List ℕ) (source : Source) → base ≤ length before → number ≡ length before → held ≡ request.before.held →
+    IsSource held number name source → IsSource request.before.held (base + length (drop base before)) name source
 opened request held base number before name source begun numbered same is =
-    subst (λ n. IsSource request.held n name source) (number-is base number before begun numbered) (subst (λ h. IsSource h number name source) same is)
+    subst (λ n. IsSource request.before.held n name source) (number-is base number before begun numbered) (subst (λ h. IsSource h number name source) same is)
 
 header-fault : (header : Option (At × Mode)) (at : At) (mode : Mode) → header ≡ Some (at, mode) → IsHeaderFault header (NotHere at)
 header-fault header at mode is = subst (λ h. IsHeaderFault h (NotHere at)) (sym is) refl
 
 pub header-refused : (request : Seen) (held : Option Holding) (base room number : ℕ) (chain : List Begun) (before after : List (List ℕ)) (at : At) (name : List ℕ) (source : Source) (at_header : At) (mode : Mode) →
-    0 < room → base ≤ length before → number ≡ length before → length before < base + most_files → held ≡ request.held →
+    0 < room → base ≤ length before → number ≡ length before → length before < base + most_files → held ≡ request.before.held →
     IsSource held number name source → source.header ≡ Some (at_header, mode) → after ≡ before ++ name ∷ [] →
     (NotHere at_header ≡ Memory) ⊎ IsRefused (files_of request base) room chain (drop base before) at name (NotHere at_header) (drop base after)
 header-refused request held base zero number chain before after at name source at_header mode positive begun numbered few same is header grown = absurd (omega (arith, positive))
@@ -78,7 +77,7 @@ one-less : (less deeper : ℕ) → less ≡ suc deeper - 1 → less ≡ deeper
 one-less less deeper is = omega (arith, is)
 
 loaded-same : (request : Seen) (held : Option Holding) (base room less number : ℕ) (chain longer : List Begun) (before between after : List (List ℕ)) (name : List ℕ) (source : Source) (made : List Item) →
-    0 < room → less ≡ room - 1 → base ≤ length before → number ≡ length before → length before < base + most_files → held ≡ request.held →
+    0 < room → less ≡ room - 1 → base ≤ length before → number ≡ length before → length before < base + most_files → held ≡ request.before.held →
     IsSource held number name source → source.header ≡ None → between ≡ before ++ name ∷ [] → longer ≡ chain ++ record { number = number; name = name } ∷ [] →
     AllBecome (Loads (files_of request base) less) longer (drop base between) source.items (drop base after) made →
     Loads (files_of request base) room chain (drop base before) name (drop base after) made
@@ -94,7 +93,7 @@ loaded-same request held base (suc deeper) less number chain longer before betwe
 )
 
 inner-refused-same : (request : Seen) (held : Option Holding) (base room less number : ℕ) (chain longer : List Begun) (before between after : List (List ℕ)) (at : At) (name : List ℕ) (source : Source) (refusal : Refusal) →
-    0 < room → less ≡ room - 1 → base ≤ length before → number ≡ length before → length before < base + most_files → held ≡ request.held →
+    0 < room → less ≡ room - 1 → base ≤ length before → number ≡ length before → length before < base + most_files → held ≡ request.before.held →
     IsSource held number name source → source.header ≡ None → between ≡ before ++ name ∷ [] → longer ≡ chain ++ record { number = number; name = name } ∷ [] →
     (refusal ≡ Memory) ⊎ OneStops (Loads (files_of request base) less) (IsRefused (files_of request base) less) longer (drop base between) source.items refusal (drop base after) →
     (refusal ≡ Memory) ⊎ IsRefused (files_of request base) room chain (drop base before) at name refusal (drop base after)
@@ -117,7 +116,7 @@ inner-refused-same request held base (suc deeper) less number chain longer befor
 
 -- the same where the loader is known to have the same base
 pub loaded : (request : Seen) (held : Option Holding) (base base' room less number : ℕ) (chain longer : List Begun) (before between after : List (List ℕ)) (name : List ℕ) (source : Source) (items_before items_between items_after made : List Item) → base' ≡ base →
-    0 < room → less ≡ room - 1 → base ≤ length before → number ≡ length before → length before < base + most_files → held ≡ request.held →
+    0 < room → less ≡ room - 1 → base ≤ length before → number ≡ length before → length before < base + most_files → held ≡ request.before.held →
     IsSource held number name source → source.header ≡ None → between ≡ before ++ name ∷ [] → longer ≡ chain ++ record { number = number; name = name } ∷ [] → items_between ≡ items_before →
     items_after ≡ items_between ++ made → AllBecome (Loads (files_of request base') less) longer (drop base' between) source.items (drop base' after) made →
     (x : List Item) × (items_after ≡ items_before ++ x) × Loads (files_of request base) room chain (drop base before) name (drop base after) x
@@ -129,7 +128,7 @@ loaded request held base base' room less number chain longer before between afte
 )
 
 pub inner-refused : (request : Seen) (held : Option Holding) (base base' room less number : ℕ) (chain longer : List Begun) (before between after : List (List ℕ)) (at : At) (name : List ℕ) (source : Source) (refusal : Refusal) → base' ≡ base →
-    0 < room → less ≡ room - 1 → base ≤ length before → number ≡ length before → length before < base + most_files → held ≡ request.held →
+    0 < room → less ≡ room - 1 → base ≤ length before → number ≡ length before → length before < base + most_files → held ≡ request.before.held →
     IsSource held number name source → source.header ≡ None → between ≡ before ++ name ∷ [] → longer ≡ chain ++ record { number = number; name = name } ∷ [] →
     (refusal ≡ Memory) ⊎ OneStops (Loads (files_of request base') less) (IsRefused (files_of request base') less) longer (drop base' between) source.items refusal (drop base' after) →
     (refusal ≡ Memory) ⊎ IsRefused (files_of request base) room chain (drop base before) at name refusal (drop base after)

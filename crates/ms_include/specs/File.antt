@@ -1,7 +1,7 @@
 -- One file of a source: what it reads as, or why it is refused.
 use Rattle.std.specs.Prelude.{◌≡◌, ℕ, ◌≤◌, ◌⊎◌, true, List, length, Option}
 use Rattle.ms_edge.specs.Counts.{Rose}
-use Rattle.ms_edge.specs.Files.{Holding, Holds, Lacks, HoldsMoreThan}
+use Rattle.ms_edge.specs.Files.{Holding, Holds, Lacks, HoldsMoreThan, Seen}
 use Rattle.ms_edge.specs.declared.at.At.{At}
 use Rattle.ms_edge.specs.declared.refusal.Refusal.{Refusal}
 use Rattle.ms_edge.specs.declared.refusal.Refusal.TheVariants.{FileMissing, FileSize, ReadFault}
@@ -11,7 +11,6 @@ use Rattle.ms_text.specs.TokenList.{IsTokenList}
 use Rattle.ms_logic.specs.declared.source.Source.{Source}
 use Rattle.ms_grammar.specs.Declarations.{ReadsAs}
 use Rattle.ms_parse.specs.Refused.{IsGrammarFault}
-use Rattle.ms_include.specs.Seen.{Seen}
 
 -- the most bytes of a source file
 abbrev pub source_limit : ℕ
@@ -45,8 +44,8 @@ IsNoSource held number name refusal = (bytes : List ℕ) × AreBytes held name b
 -- the file of this name, which is named at this place, was not read
 abbrev pub IsUnread : Seen → Option At → List ℕ → Refusal → Type 0
 IsUnread seen named name (FileMissing at missing) =
-    (at ≡ named) × (missing ≡ name) × Lacks seen.held name × Rose seen.absences_before seen.absences_after
+    (at ≡ named) × (missing ≡ name) × Lacks seen.before.held name × Rose seen.before.absences seen.after.absences
 IsUnread seen named name (FileSize long limit) =
-    (long ≡ name) × (limit ≡ source_limit) × HoldsMoreThan seen.held name source_limit × Rose seen.overlongs_before seen.overlongs_after
-IsUnread seen named name (ReadFault unread) = (unread ≡ name) × Rose seen.faults_before seen.faults_after
+    (long ≡ name) × (limit ≡ source_limit) × HoldsMoreThan seen.before.held name source_limit × Rose seen.before.overlongs seen.after.overlongs
+IsUnread seen named name (ReadFault unread) = (unread ≡ name) × Rose seen.before.faults seen.after.faults
 IsUnread seen named name refusal = ⊥

@@ -1,5 +1,6 @@
 -- A source of several files as one list of declarations, or why it is refused.
 use Rattle.std.specs.Prelude.{◌≡◌, ℕ, ◌⊎◌, List, [], ◌∷◌, Option, Some, None}
+use Rattle.ms_edge.specs.Files.{Seen}
 use Rattle.ms_edge.specs.declared.at.At.{At}
 use Rattle.ms_edge.specs.declared.refusal.Refusal.{Refusal}
 use Rattle.ms_edge.specs.declared.refusal.Refusal.TheVariants.{NotHere}
@@ -10,7 +11,6 @@ use Rattle.ms_logic.specs.declared.source.Source.{Source}
 use Rattle.ms_logic.specs.declared.source.Item.{Item}
 use Rattle.ms_include.specs.File.{ReadAs, ReadAsNone, IsSource, IsNoSource, IsUnread}
 use Rattle.ms_include.specs.Include.{Files, include_of, and_next, AllBecome, Loads, OneStops, IsRefused, greatest_depth}
-use Rattle.ms_include.specs.Seen.{Seen}
 
 -- the mode of a source is that of its header, and else WS1S
 abbrev pub mode_of : Option (At × Mode) → Mode
@@ -19,7 +19,7 @@ mode_of (Some (at, mode)) = mode
 
 -- the files as they were seen in a request
 abbrev pub files_of : Seen → ℕ → Files
-files_of seen base = record { base = base; Is = IsSource seen.held; IsUnread = IsUnread seen; IsNoSource = IsNoSource seen.held }
+files_of seen base = record { base = base; Is = IsSource seen.before.held; IsUnread = IsUnread seen; IsNoSource = IsNoSource seen.before.held }
 
 -- the main file of this name, with its includes put in place
 pub record IsLoaded (files : Files) (name : List ℕ) (loaded : Loaded) : Type 0 where

@@ -1,6 +1,7 @@
 ghost use Rattle.std.specs.Prelude.{◌≡◌, ◌≤◌, ◌⊎◌, ◌++◌, ◌∷◌, [], List, ℕ, length, IfOk, IfErr, OnOk, OnErr};
+ghost use Rattle.ms_edge.specs.Files.{OnlyRead, Seen, between};
 ghost use Rattle.ms_include.specs.File.{AreBytes, ReadAs, ReadAsNone, IsSource, IsNoSource, IsUnread, source_limit};
-ghost use Rattle.ms_include.specs.Seen.{Seen, IsPart};
+ghost use Rattle.ms_include.specs.Seen.{IsPart};
 
 use ms_edge::{At, Bytes, Files, List, ReadAnswer, Refusal, Text};
 use ms_parse::{Parsed, declarations};
@@ -17,22 +18,11 @@ fn read<F: Files>(
     named: Option<At>,
     name: &Text,
 ) -> Result<Bytes, Refusal>
-    ensures read { IfOk result (AreBytes (F.held files.old) name.now) }
-    ensures refused { (request : Seen) → IsPart (record {
-      held = F.held files.old;
-      faults_before = F.faults files.old;
-      faults_after = F.faults files.new;
-      absences_before = F.absences files.old;
-      absences_after = F.absences files.new;
-      overlongs_before = F.overlongs files.old;
-      overlongs_after = F.overlongs files.new;
-    }) request →
+    ensures read { IfOk result (AreBytes (F.told files.old).held name.now) }
+    ensures refused { (request : Seen) → IsPart (between (F.told files.old) (F.told files.new)) request →
         IfErr result (λ refusal. (refusal ≡ Refusal.Memory) ⊎ IsUnread request named name.now refusal) }
 
-    ensures kept { F.held files.new ≡ F.held files.old }
-    ensures faults_last { F.faults files.old ≤ F.faults files.new }
-    ensures absences_last { F.absences files.old ≤ F.absences files.new }
-    ensures overlongs_last { F.overlongs files.old ≤ F.overlongs files.new }
+    ensures only_read { OnlyRead (F.told files.old) (F.told files.new) }
 {
     let answer = match files.read(alloc, name.text(), SOURCE_LIMIT) {
         Ok(bytes) => return Ok(bytes),
@@ -86,26 +76,15 @@ pub fn open<F: Files>(
     name: &Text,
     number: u32,
 ) -> Result<Parsed, Refusal>
-    ensures read { IfOk result (λ read. IsSource (F.held files.old) number name.now (record { header = read.header; items = read.items.items })) }
+    ensures read { IfOk result (λ read. IsSource (F.told files.old).held number name.now (record { header = read.header; items = read.items.items })) }
     ensures noted { OnOk result (names.new ≡ names.old ++ name.now ∷ []) }
-    ensures refused { (request : Seen) → IsPart (record {
-      held = F.held files.old;
-      faults_before = F.faults files.old;
-      faults_after = F.faults files.new;
-      absences_before = F.absences files.old;
-      absences_after = F.absences files.new;
-      overlongs_before = F.overlongs files.old;
-      overlongs_after = F.overlongs files.new;
-    }) request →
+    ensures refused { (request : Seen) → IsPart (between (F.told files.old) (F.told files.new)) request →
         IfErr result (λ refusal. (refusal ≡ Refusal.Memory)
         ⊎ (IsUnread request named name.now refusal × (names.new ≡ names.old))
-        ⊎ (IsNoSource (F.held files.old) number name.now refusal × (names.new ≡ names.old ++ name.now ∷ []))) }
+        ⊎ (IsNoSource (F.told files.old).held number name.now refusal × (names.new ≡ names.old ++ name.now ∷ []))) }
     ensures grown { (added : List (List ℕ)) × (names.new ≡ names.old ++ added) }
 
-    ensures kept { F.held files.new ≡ F.held files.old }
-    ensures faults_last { F.faults files.old ≤ F.faults files.new }
-    ensures absences_last { F.absences files.old ≤ F.absences files.new }
-    ensures overlongs_last { F.overlongs files.old ≤ F.overlongs files.new }
+    ensures only_read { OnlyRead (F.told files.old) (F.told files.new) }
 {
     let bytes = match read(alloc, files, named, name) {
         Ok(bytes) => bytes,

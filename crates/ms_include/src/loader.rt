@@ -1,9 +1,10 @@
 ghost use Rattle.std.specs.Prelude.{◌≡◌, ◌≤◌, ◌⊎◌, ◌++◌, ◌∷◌, [], List, ℕ, length, drop, IfOk, IfErr, OnOk};
 ghost use Rattle.ms_logic.specs.declared.source.Item.{Item};
+ghost use Rattle.ms_edge.specs.Files.{OnlyRead, Seen, between};
 ghost use Rattle.ms_edge.specs.declared.refusal.Refusal.TheVariants.{IncludeCycle};
 ghost use Rattle.ms_include.specs.Include.{numbers, Becomes, AllBecome, Loads, Stops, OneStops, IsRefused, include_of, is_among, names};
 ghost use Rattle.ms_include.specs.Load.{files_of};
-ghost use Rattle.ms_include.specs.Seen.{Seen, IsPart};
+ghost use Rattle.ms_include.specs.Seen.{IsPart};
 
 use crate::begun::{Begun, is_in_chain, is_read, numbers};
 use crate::file::open;
@@ -64,35 +65,16 @@ impl Loader {
     ) -> Result<(), Refusal>
         requires base { self.old.base ≤ 4294967231 }
         requires begun { self.old.base ≤ length names.old }
-        ensures put { (request : Seen) → IsPart (record {
-          held = F.held files.old;
-          faults_before = F.faults files.old;
-          faults_after = F.faults files.new;
-          absences_before = F.absences files.old;
-          absences_after = F.absences files.new;
-          overlongs_before = F.overlongs files.old;
-          overlongs_after = F.overlongs files.new;
-        }) request →
+        ensures put { (request : Seen) → IsPart (between (F.told files.old) (F.told files.new)) request →
             OnOk result ((made : List Item) × (self.new.items.items ≡ self.old.items.items ++ made)
             × Loads (files_of request self.old.base) room self.old.chain.items (drop self.old.base names.old) name (drop self.old.base names.new) made) }
-        ensures refused { (request : Seen) → IsPart (record {
-          held = F.held files.old;
-          faults_before = F.faults files.old;
-          faults_after = F.faults files.new;
-          absences_before = F.absences files.old;
-          absences_after = F.absences files.new;
-          overlongs_before = F.overlongs files.old;
-          overlongs_after = F.overlongs files.new;
-        }) request →
+        ensures refused { (request : Seen) → IsPart (between (F.told files.old) (F.told files.new)) request →
             IfErr result (λ refusal. (refusal ≡ Refusal.Memory) ⊎ IsRefused (files_of request self.old.base) room self.old.chain.items (drop self.old.base names.old) at name refusal (drop self.old.base names.new)) }
 
         ensures base { self.new.base ≡ self.old.base }
         ensures chain { OnOk result (self.new.chain.items ≡ self.old.chain.items) }
         ensures grown { (added : List (List ℕ)) × (names.new ≡ names.old ++ added) }
-        ensures kept { F.held files.new ≡ F.held files.old }
-        ensures faults_last { F.faults files.old ≤ F.faults files.new }
-        ensures absences_last { F.absences files.old ≤ F.absences files.new }
-        ensures overlongs_last { F.overlongs files.old ≤ F.overlongs files.new }
+        ensures only_read { OnlyRead (F.told files.old) (F.told files.new) }
     {
         if room == 0 {
             return Err(Refusal::Includes {
@@ -133,35 +115,16 @@ impl Loader {
     ) -> Result<(), Refusal>
         requires base { self.old.base ≤ 4294967231 }
         requires begun { self.old.base ≤ length names.old }
-        ensures put { (request : Seen) → IsPart (record {
-          held = F.held files.old;
-          faults_before = F.faults files.old;
-          faults_after = F.faults files.new;
-          absences_before = F.absences files.old;
-          absences_after = F.absences files.new;
-          overlongs_before = F.overlongs files.old;
-          overlongs_after = F.overlongs files.new;
-        }) request →
+        ensures put { (request : Seen) → IsPart (between (F.told files.old) (F.told files.new)) request →
             OnOk result ((made : List Item) × (self.new.items.items ≡ self.old.items.items ++ made)
             × Becomes (Loads (files_of request self.old.base) room) self.old.chain.items (drop self.old.base names.old) item (include_of item.decl) (drop self.old.base names.new) made) }
-        ensures refused { (request : Seen) → IsPart (record {
-          held = F.held files.old;
-          faults_before = F.faults files.old;
-          faults_after = F.faults files.new;
-          absences_before = F.absences files.old;
-          absences_after = F.absences files.new;
-          overlongs_before = F.overlongs files.old;
-          overlongs_after = F.overlongs files.new;
-        }) request →
+        ensures refused { (request : Seen) → IsPart (between (F.told files.old) (F.told files.new)) request →
             IfErr result (λ refusal. (refusal ≡ Refusal.Memory) ⊎ Stops (IsRefused (files_of request self.old.base) room) self.old.chain.items (drop self.old.base names.old) (include_of item.decl) refusal (drop self.old.base names.new)) }
 
         ensures base { self.new.base ≡ self.old.base }
         ensures chain { OnOk result (self.new.chain.items ≡ self.old.chain.items) }
         ensures grown { (added : List (List ℕ)) × (names.new ≡ names.old ++ added) }
-        ensures kept { F.held files.new ≡ F.held files.old }
-        ensures faults_last { F.faults files.old ≤ F.faults files.new }
-        ensures absences_last { F.absences files.old ≤ F.absences files.new }
-        ensures overlongs_last { F.overlongs files.old ≤ F.overlongs files.new }
+        ensures only_read { OnlyRead (F.told files.old) (F.told files.new) }
     {
         let Item { at: place, decl } = item;
         match decl {
@@ -200,35 +163,16 @@ impl Loader {
     ) -> Result<(), Refusal>
         requires base { self.old.base ≤ 4294967231 }
         requires begun { self.old.base ≤ length names.old }
-        ensures put { (request : Seen) → IsPart (record {
-          held = F.held files.old;
-          faults_before = F.faults files.old;
-          faults_after = F.faults files.new;
-          absences_before = F.absences files.old;
-          absences_after = F.absences files.new;
-          overlongs_before = F.overlongs files.old;
-          overlongs_after = F.overlongs files.new;
-        }) request →
+        ensures put { (request : Seen) → IsPart (between (F.told files.old) (F.told files.new)) request →
             OnOk result ((made : List Item) × (self.new.items.items ≡ self.old.items.items ++ made)
             × AllBecome (Loads (files_of request self.old.base) room) self.old.chain.items (drop self.old.base names.old) items.items (drop self.old.base names.new) made) }
-        ensures refused { (request : Seen) → IsPart (record {
-          held = F.held files.old;
-          faults_before = F.faults files.old;
-          faults_after = F.faults files.new;
-          absences_before = F.absences files.old;
-          absences_after = F.absences files.new;
-          overlongs_before = F.overlongs files.old;
-          overlongs_after = F.overlongs files.new;
-        }) request →
+        ensures refused { (request : Seen) → IsPart (between (F.told files.old) (F.told files.new)) request →
             IfErr result (λ refusal. (refusal ≡ Refusal.Memory) ⊎ OneStops (Loads (files_of request self.old.base) room) (IsRefused (files_of request self.old.base) room) self.old.chain.items (drop self.old.base names.old) items.items refusal (drop self.old.base names.new)) }
 
         ensures base { self.new.base ≡ self.old.base }
         ensures chain { OnOk result (self.new.chain.items ≡ self.old.chain.items) }
         ensures grown { (added : List (List ℕ)) × (names.new ≡ names.old ++ added) }
-        ensures kept { F.held files.new ≡ F.held files.old }
-        ensures faults_last { F.faults files.old ≤ F.faults files.new }
-        ensures absences_last { F.absences files.old ≤ F.absences files.new }
-        ensures overlongs_last { F.overlongs files.old ≤ F.overlongs files.new }
+        ensures only_read { OnlyRead (F.told files.old) (F.told files.new) }
     {
         for item in items {
             if let Err(refusal) = self.put(files, names, room, item) {
@@ -250,35 +194,16 @@ impl Loader {
     ) -> Result<(), Refusal>
         requires base { self.old.base ≤ 4294967231 }
         requires begun { self.old.base ≤ length names.old }
-        ensures put { (request : Seen) → IsPart (record {
-          held = F.held files.old;
-          faults_before = F.faults files.old;
-          faults_after = F.faults files.new;
-          absences_before = F.absences files.old;
-          absences_after = F.absences files.new;
-          overlongs_before = F.overlongs files.old;
-          overlongs_after = F.overlongs files.new;
-        }) request → (item : Item) →
+        ensures put { (request : Seen) → IsPart (between (F.told files.old) (F.told files.new)) request → (item : Item) →
             OnOk result ((made : List Item) × (self.new.items.items ≡ self.old.items.items ++ made)
             × Becomes (Loads (files_of request self.old.base) room) self.old.chain.items (drop self.old.base names.old) item (Some (at, name)) (drop self.old.base names.new) made) }
-        ensures refused { (request : Seen) → IsPart (record {
-          held = F.held files.old;
-          faults_before = F.faults files.old;
-          faults_after = F.faults files.new;
-          absences_before = F.absences files.old;
-          absences_after = F.absences files.new;
-          overlongs_before = F.overlongs files.old;
-          overlongs_after = F.overlongs files.new;
-        }) request →
+        ensures refused { (request : Seen) → IsPart (between (F.told files.old) (F.told files.new)) request →
             IfErr result (λ refusal. (refusal ≡ Refusal.Memory) ⊎ Stops (IsRefused (files_of request self.old.base) room) self.old.chain.items (drop self.old.base names.old) (Some (at, name)) refusal (drop self.old.base names.new)) }
 
         ensures base { self.new.base ≡ self.old.base }
         ensures chain { OnOk result (self.new.chain.items ≡ self.old.chain.items) }
         ensures grown { (added : List (List ℕ)) × (names.new ≡ names.old ++ added) }
-        ensures kept { F.held files.new ≡ F.held files.old }
-        ensures faults_last { F.faults files.old ≤ F.faults files.new }
-        ensures absences_last { F.absences files.old ≤ F.absences files.new }
-        ensures overlongs_last { F.overlongs files.old ≤ F.overlongs files.new }
+        ensures only_read { OnlyRead (F.told files.old) (F.told files.new) }
     {
         if is_in_chain(&name, self.chain.as_slice()) {
             return Err(self.cycle(at, name));

@@ -1,7 +1,7 @@
 ghost use Rattle.std.specs.Prelude.{◌≡◌, ◌≤◌, ◌⊎◌, ◌++◌, List, ℕ, length, drop, IfOk, IfErr};
+ghost use Rattle.ms_edge.specs.Files.{OnlyRead, between};
 ghost use Rattle.ms_grammar.specs.Size.{size_of_items};
 ghost use Rattle.ms_include.specs.Load.{mode_of, files_of, IsLoaded, IsRefusedLoad};
-ghost use Rattle.ms_include.specs.Seen.{Seen};
 
 use crate::file::{note, open};
 use crate::loader::{GREATEST_DEPTH, Loader};
@@ -50,34 +50,15 @@ pub fn load<F: Files>(
     names: &mut List<Text>,
 ) -> Result<Loaded, Refusal>
     requires { length names.old ≤ 4294967231 }
-    ensures loaded { IfOk result (IsLoaded (files_of (record {
-      held = F.held files.old;
-      faults_before = F.faults files.old;
-      faults_after = F.faults files.new;
-      absences_before = F.absences files.old;
-      absences_after = F.absences files.new;
-      overlongs_before = F.overlongs files.old;
-      overlongs_after = F.overlongs files.new;
-    }) (length names.old)) name.now) }
+    ensures loaded { IfOk result (IsLoaded (files_of (between (F.told files.old) (F.told files.new)) (length names.old)) name.now) }
     ensures bounded { IfOk result (λ loaded. size_of_items loaded.items ≤ 67108864) }
     ensures names { IfOk result (λ loaded. names.new ≡ names.old ++ loaded.files) }
 
     // The files that a refusal numbers were read before it.
     ensures refused { IfErr result (λ refusal. (refusal ≡ Refusal.Memory) ⊎ ((read : List (List ℕ)) × (names.new ≡ names.old ++ read)
-        × IsRefusedLoad (files_of (record {
-          held = F.held files.old;
-          faults_before = F.faults files.old;
-          faults_after = F.faults files.new;
-          absences_before = F.absences files.old;
-          absences_after = F.absences files.new;
-          overlongs_before = F.overlongs files.old;
-          overlongs_after = F.overlongs files.new;
-        }) (length names.old)) name.now refusal read)) }
+        × IsRefusedLoad (files_of (between (F.told files.old) (F.told files.new)) (length names.old)) name.now refusal read)) }
     ensures grown { (read : List (List ℕ)) × (names.new ≡ names.old ++ read) }
-    ensures kept { F.held files.new ≡ F.held files.old }
-    ensures faults_last { F.faults files.old ≤ F.faults files.new }
-    ensures absences_last { F.absences files.old ≤ F.absences files.new }
-    ensures overlongs_last { F.overlongs files.old ≤ F.overlongs files.new }
+    ensures only_read { OnlyRead (F.told files.old) (F.told files.new) }
 {
     let base = names.len();
     let Ok(main) = Text::new(alloc, name) else {

@@ -7,6 +7,8 @@ use Rattle.ms_arena.specs.declared.node.Node.{Node}
 use Rattle.ms_arena.specs.Diagram.{leaf_of}
 use Rattle.ms_arena.specs.Reach.{TestsOnly}
 use Rattle.ms_edge.specs.declared.refusal.Word.{Word}
+use Rattle.ms_logic.specs.declared.sign.Sign.{Sign}
+use Rattle.ms_logic.specs.declared.sign.Sign.TheVariants as sign
 use Rattle.ms_logic.specs.declared.mode.Mode.TheVariants.{Ws1s}
 use Rattle.ms_logic.specs.declared.core_formula.Basic.TheVariants.{Sub}
 use Rattle.ms_logic.specs.BudgetExamples.{full_subset_content, encodings_content}
@@ -14,7 +16,7 @@ use Rattle.ms_logic.specs.Canonical.{IsCanonical}
 use Rattle.ms_logic.specs.Content.{StateOf, IsContent, NamesPart, IsWordOver, AreLetters, HasValueAt, is_in_letters, first_state, next_state, state_after, last_state, sign_at, sign_of}
 use Rattle.ms_logic.specs.CoreForm.{basic, truth}
 use Rattle.ms_logic.specs.Examples.{set_P_and_Q, word}
-use Rattle.ms_logic.specs.FullContent.{WordValue, word_yes, word_no, HasValueOn, IsFullContent}
+use Rattle.ms_logic.specs.FullContent.{HasValueOn, IsFullContent}
 use Rattle.ms_logic.proofs.SetTracks.{is_within, sets_of, sets_assign, sets_encoded, sets_within}
 use Rattle.ms_logic.proofs.SubsetContent.{subset_content_canonical, leaf_reaches}
 
@@ -54,21 +56,21 @@ last_of_subset w over = ap (λ s. state_after full_subset_content s w.letters) (
 
 module _ (w : Word) (over : IsWordOver set_P_and_Q w) where
   abbrev HasItsValue : Type 0
-  HasItsValue = (value : WordValue) × (sign_of full_subset_content w ≡ Some value) × HasValueOn [] Ws1s set_P_and_Q (basic (Sub 0 1)) w value
+  HasItsValue = (value : Sign) × (sign_of full_subset_content w ≡ Some value) × HasValueOn [] Ws1s set_P_and_Q (basic (Sub 0 1)) w value
 
   by_test : (within : Bool) → is_within w.letters ≡ within → HasItsValue
   by_test true is =
-      (word_yes, ap (sign_at full_subset_content) (last_of_subset w over ∙ ap (λ b. cond b 0 1) is), (sets_of w.letters, sets_assign w.letters, sets_encoded w over, sets_within w.letters ∙ is))
+      (sign.Yes, ap (sign_at full_subset_content) (last_of_subset w over ∙ ap (λ b. cond b 0 1) is), (sets_of w.letters, sets_assign w.letters, sets_encoded w over, sets_within w.letters ∙ is))
   by_test false is =
-      (word_no, ap (sign_at full_subset_content) (last_of_subset w over ∙ ap (λ b. cond b 0 1) is), (sets_of w.letters, sets_assign w.letters, sets_encoded w over, λ holds. false≢true (sym is ∙ (sym (sets_within w.letters) ∙ holds))))
+      (sign.No, ap (sign_at full_subset_content) (last_of_subset w over ∙ ap (λ b. cond b 0 1) is), (sets_of w.letters, sets_assign w.letters, sets_encoded w over, λ holds. false≢true (sym is ∙ (sym (sets_within w.letters) ∙ holds))))
 
-yes_is_not_no : word_yes ≡ word_no → ⊥
+yes_is_not_no : sign.Yes ≡ sign.No → ⊥
 yes_is_not_no same = grind arith
 
 -- P sub Q over P and Q
 pub full_subset : IsFullContent [] Ws1s set_P_and_Q (basic (Sub 0 1)) full_subset_content
 full_subset = record {
-  canonical = subset_content_canonical word_yes word_no yes_is_not_no;
+  canonical = subset_content_canonical sign.Yes sign.No yes_is_not_no;
   same_mode = refl;
   same_variables = refl;
   values = λ w over. by_test w over (is_within w.letters) refl;
@@ -84,9 +86,9 @@ pub last_of_true : (w : Word) → last_state encodings_content w ≡ 0
 unfolding leaf_of
 last_of_true w = after_only w.letters
 
-only_state : (P : ℕ → StateOf WordValue → Type 0) → P 0 (record { sign = word_yes; next = Leaf 0 }) →
-    (place : ℕ) (state : StateOf WordValue) → slice_get encodings_content.states place ≡ Some state → P place state
-only_state P holds zero state held = subst (P 0) (same_Some (record { sign = word_yes; next = Leaf 0 }) state held) holds
+only_state : (P : ℕ → StateOf Sign → Type 0) → P 0 (record { sign = sign.Yes; next = Leaf 0 }) →
+    (place : ℕ) (state : StateOf Sign) → slice_get encodings_content.states place ≡ Some state → P place state
+only_state P holds zero state held = subst (P 0) (same_Some (record { sign = sign.Yes; next = Leaf 0 }) state held) holds
 only_state P holds (suc place) state held = absurd (none-some state held)
 
 no_node : (P : ℕ → Node → Type 0) → (place : ℕ) (node : Node) → slice_get {X = Node} [] place ≡ Some node → P place node
@@ -131,5 +133,5 @@ full_true = record {
   canonical = canonical_of_true;
   same_mode = refl;
   same_variables = refl;
-  values = λ w over. (word_yes, ap (sign_at encodings_content) (last_of_true w), (sets_of w.letters, sets_assign w.letters, sets_encoded w over, tt));
+  values = λ w over. (sign.Yes, ap (sign_at encodings_content) (last_of_true w), (sets_of w.letters, sets_assign w.letters, sets_encoded w over, tt));
 }

@@ -1,6 +1,8 @@
 -- Contents and sources for the worked examples of steps, starts and budgets.
 use Rattle.std.specs.Prelude.{ℕ, [], ◌∷◌}
 use Rattle.ms_arena.specs.declared.node.Ref.TheVariants.{Leaf}
+use Rattle.ms_logic.specs.declared.sign.Sign.{Sign}
+use Rattle.ms_logic.specs.declared.sign.Sign.TheVariants as sign
 use Rattle.ms_logic.specs.declared.mode.Mode.TheVariants.{Ws1s}
 use Rattle.ms_logic.specs.declared.mode.Order.TheVariants.{Two}
 use Rattle.ms_logic.specs.declared.core_formula.Basic.TheVariants.{Sub, Truth}
@@ -8,7 +10,6 @@ use Rattle.ms_logic.specs.Budgets.{Measured}
 use Rattle.ms_logic.specs.Content.{Content, variables_by_place}
 use Rattle.ms_logic.specs.CoreForm.{CoreForm, basic}
 use Rattle.ms_logic.specs.Examples.{subset_content_with}
-use Rattle.ms_logic.specs.FullContent.{WordValue, word_yes, word_no}
 use Rattle.ms_logic.specs.SpreadExamples.{subset_source}
 use Rattle.ms_logic.specs.Truth.{Answer, answer_yes, answer_no}
 
@@ -26,16 +27,16 @@ open_content = record {
 }
 
 -- the full content of P sub Q over P and Q: every word encodes an assignment
-abbrev pub full_subset_content : Content WordValue
-full_subset_content = subset_content_with word_yes word_no
+abbrev pub full_subset_content : Content Sign
+full_subset_content = subset_content_with sign.Yes sign.No
 
 -- the full content of `true` over P and Q
-abbrev pub encodings_content : Content WordValue
+abbrev pub encodings_content : Content Sign
 encodings_content = record {
   mode = Ws1s;
   variables = variables_by_place (Two ∷ Two ∷ []);
   start = Leaf 0;
-  states = record { sign = word_yes; next = Leaf 0 } ∷ [];
+  states = record { sign = sign.Yes; next = Leaf 0 } ∷ [];
   nodes = [];
 }
 

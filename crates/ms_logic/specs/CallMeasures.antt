@@ -4,6 +4,7 @@ use Rattle.std.specs.List.{zip}
 use Rattle.ms_edge.specs.declared.refusal.Word.{Word}
 use Rattle.ms_arena.specs.declared.node.Ref.TheVariants.{Leaf}
 use Rattle.ms_arena.specs.Diagram.{Bits}
+use Rattle.ms_logic.specs.declared.sign.Sign.{Sign}
 use Rattle.ms_logic.specs.declared.mode.Mode.{Mode}
 use Rattle.ms_logic.specs.declared.mode.Order.{Order}
 use Rattle.ms_logic.specs.declared.mode.Order.TheVariants.{Zero, One, Two}
@@ -12,7 +13,7 @@ use Rattle.ms_logic.specs.declared.core_formula.Basic.TheVariants.{Truth, Number
 use Rattle.ms_logic.specs.Assignment.{Variable}
 use Rattle.ms_logic.specs.Content.{Content, variables_by_place}
 use Rattle.ms_logic.specs.CoreForm.{basic}
-use Rattle.ms_logic.specs.FullContent.{WordValue, HasPartCount, part_count}
+use Rattle.ms_logic.specs.FullContent.{HasPartCount, part_count}
 use Rattle.ms_logic.specs.Starts.{Start, some_truth_values, whole_word, part_of_letter, IsStartOver, left_by}
 use Rattle.ms_logic.specs.Steps.{joined, without, variables_of_basic}
 
@@ -110,7 +111,7 @@ pub record IsRenameMeasure {Sign : Type 0} (content : Content Sign) (numbers : L
 
 -- of a file, whose variables go by the places of their pairs: the pairs of what a start in the order of the pairs leaves of the file and
 -- of the full content of `true`, which tells the words that encode assignments
-pub record IsAdoptMeasure {Sign : Type 0} (file : Content Sign) (encodings : Content WordValue) (m r : ℕ) : Type 0 where
+pub record IsAdoptMeasure {FileSign : Type 0} (file : Content FileSign) (encodings : Content Sign) (m r : ℕ) : Type 0 where
   pub made : LeadToPairs file encodings encodings.variables m
   pub read : r ≡ part_count file + part_count encodings
 

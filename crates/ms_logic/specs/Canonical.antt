@@ -5,6 +5,7 @@ use Rattle.std.specs.List.{flat_map, list_any}
 use Rattle.std.specs.Option.{option_map_or}
 use Rattle.ms_edge.specs.declared.refusal.Word.{Word}
 use Rattle.ms_arena.specs.Diagram.{IsReduced}
+use Rattle.ms_arena.specs.Leaves.{leaves_within}
 use Rattle.ms_arena.specs.declared.node.Node.{Node}
 use Rattle.ms_arena.specs.declared.node.Ref.{Ref}
 use Rattle.ms_arena.specs.declared.node.Ref.TheVariants.{Leaf, Inner}
@@ -20,13 +21,6 @@ unseen_of seen (n ∷ more) = if list_any (λ s. s == n) seen then unseen_of see
 abbrev pub first_sights_of : List ℕ → List ℕ
 first_sights_of numbers = unseen_of [] numbers
 
--- the leaves that a walk sees from a reference, low ends before high ends, where paths have at most so many nodes
-abbrev pub leaves_within : ℕ → List Node → Ref → List ℕ
-leaves_within depth nodes (Leaf value) = value ∷ []
-leaves_within zero nodes (Inner place) = []
-leaves_within (suc depth) nodes (Inner place) =
-    option_map_or (λ node. leaves_within depth nodes node.low ++ leaves_within depth nodes node.high) (slice_get nodes place) []
-
 -- the nodes that a walk sees: those behind the low end, those behind the high end, and then the node itself
 abbrev pub nodes_within : ℕ → List Node → Ref → List ℕ
 nodes_within depth nodes (Leaf value) = []
@@ -38,8 +32,8 @@ module _ {Sign : Type 0} (content : Content Sign) where
   -- a walk of the start and then of each state's reference, in the order of the states; a path passes no node twice
   abbrev pub seen_leaves : List ℕ
   seen_leaves =
-      leaves_within (length content.nodes) content.nodes content.start
-      ++ flat_map (λ state. leaves_within (length content.nodes) content.nodes state.next) content.states
+      leaves_within content.nodes (length content.nodes) content.start
+      ++ flat_map (λ state. leaves_within content.nodes (length content.nodes) state.next) content.states
 
   abbrev pub seen_nodes : List ℕ
   seen_nodes =

@@ -2,6 +2,8 @@
 -- that encode no assignment from the others. By Myhill and Nerode there is exactly one.
 use Rattle.std.specs.Prelude.{◌≡◌, ℕ, ◌+◌, List, length, Some}
 use Rattle.ms_edge.specs.declared.refusal.Word.{Word}
+use Rattle.ms_logic.specs.declared.sign.Sign.{Sign}
+use Rattle.ms_logic.specs.declared.sign.Sign.TheVariants as sign
 use Rattle.ms_logic.specs.declared.mode.Mode.{Mode}
 use Rattle.ms_logic.specs.Assignment.{Variable}
 use Rattle.ms_logic.specs.Canonical.{IsCanonical}
@@ -10,31 +12,23 @@ use Rattle.ms_logic.specs.CoreForm.{CoreForm, CoreYes, CoreNo}
 use Rattle.ms_logic.specs.Truth.{Import}
 use Rattle.ms_logic.specs.WordSign.{EncodesSome, IsOutside}
 
--- the value of a formula on a word
-pub data WordValue : Type 0 where
-  word_yes : WordValue
-  word_no : WordValue
-  word_undefined : WordValue
-  -- the word encodes no assignment
-  word_outside : WordValue
-
 -- the formula has the value on the word
-abbrev pub HasValueOn : List Import → Mode → List Variable → CoreForm → Word → WordValue → Type 0
-HasValueOn imports mode variables f word word_yes = EncodesSome mode variables (CoreYes imports f) word
-HasValueOn imports mode variables f word word_no = EncodesSome mode variables (CoreNo imports f) word
-HasValueOn imports mode variables f word word_undefined =
+abbrev pub HasValueOn : List Import → Mode → List Variable → CoreForm → Word → Sign → Type 0
+HasValueOn imports mode variables f word sign.Yes = EncodesSome mode variables (CoreYes imports f) word
+HasValueOn imports mode variables f word sign.No = EncodesSome mode variables (CoreNo imports f) word
+HasValueOn imports mode variables f word sign.Undefined =
     EncodesSome mode variables (λ e. (¬ CoreYes imports f e) × (¬ CoreNo imports f e)) word
-HasValueOn imports mode variables f word word_outside = IsOutside mode variables word
+HasValueOn imports mode variables f word sign.Outside = IsOutside mode variables word
 
 -- the full content of a formula over a list of variables, its free ones among them
-pub record IsFullContent (imports : List Import) (mode : Mode) (variables : List Variable) (f : CoreForm) (content : Content WordValue) : Type 0 where
+pub record IsFullContent (imports : List Import) (mode : Mode) (variables : List Variable) (f : CoreForm) (content : Content Sign) : Type 0 where
   pub canonical : IsCanonical content
   pub same_mode : content.mode ≡ mode
   pub same_variables : content.variables ≡ variables
   -- the sign of each word is the value of the formula on it
   pub values :
       (word : Word) → IsWordOver variables word
-      → (value : WordValue) × (sign_of content word ≡ Some value) × HasValueOn imports mode variables f word value
+      → (value : Sign) × (sign_of content word ≡ Some value) × HasValueOn imports mode variables f word value
 
 -- the states and nodes of a content
 abbrev pub part_count : {Sign : Type 0} → Content Sign → ℕ
@@ -43,4 +37,4 @@ part_count content = length content.states + length content.nodes
 -- the formula has so many states and nodes: its full content over the variables has
 abbrev pub HasPartCount : List Import → Mode → List Variable → CoreForm → ℕ → Type 0
 HasPartCount imports mode variables f n =
-    (content : Content WordValue) × IsFullContent imports mode variables f content × (n ≡ part_count content)
+    (content : Content Sign) × IsFullContent imports mode variables f content × (n ≡ part_count content)

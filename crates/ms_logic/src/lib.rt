@@ -8,6 +8,7 @@ mod examples;
 mod formula;
 mod laws;
 mod mode;
+mod sign;
 mod source;
 mod spread_laws;
 mod term;
@@ -25,6 +26,7 @@ pub use examples::{
 pub use formula::{Arg, Binding, Formula};
 pub use laws::{laws_of_order, laws_of_sets, laws_of_truth, laws_of_words};
 pub use mode::{Mode, Order, Quant, Rel};
+pub use sign::Sign;
 pub use source::{Bound, Decl, Expr, Form, Int, Item, LetPart, Loaded, PlacedInt, Rename, Source};
 pub use spread_laws::laws_of_spread;
 pub use term::{Term1, Term2};

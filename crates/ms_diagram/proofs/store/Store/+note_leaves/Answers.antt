@@ -1,6 +1,7 @@
 use Rattle.std.proofs.Common.{[], ◌∷◌, length, fold, subst, sym, ap, ◌∙◌}
 use Rattle.ms_arena.specs.declared.node.Ref.TheVariants.{Inner}
-use Rattle.ms_diagram.specs.Leaves.{leaves_within, noted, KnowsAll, KnowsPlaces}
+use Rattle.ms_arena.specs.Leaves.{leaves_within}
+use Rattle.ms_diagram.specs.Leaves.{noted, KnowsAll, KnowsPlaces}
 use Rattle.ms_diagram.proofs.LeavesLemmas.{leaves_within-node, noted-append, noted-known, KnowsAll-noted, KnowsPlaces-kept, KnowsPlaces-insert, KnowsPlaces-there}
 use Rattle.ms_diagram.proofs.store.Store.+note_leaves.Goals as goal
 

@@ -1,5 +1,6 @@
 use Rattle.std.proofs.Common.{length, fold, ap, ◌∙◌}
-use Rattle.ms_diagram.specs.Leaves.{leaves_within, noted, leaves_of}
+use Rattle.ms_arena.specs.Leaves.{leaves_within}
+use Rattle.ms_diagram.specs.Leaves.{noted, leaves_of}
 use Rattle.ms_diagram.proofs.store.Store.leaves_in_order.Goals as goal
 
 pub returns : goal.returns

@@ -6,7 +6,7 @@ use Rattle.ms_include.proofs.Opening.{open-refused, header-refused, loaded, inne
 use Rattle.ms_include.proofs.Placing.{split}
 use Rattle.std.proofs.lemmas.Iterator.Adapters.{YieldsList-from_vec}
 use Rattle.std.proofs.lemmas.Iterator.Consumers.{YieldsList-so_far, YieldsList-turn}
-use Rattle.ms_include.proofs.Parts.{first-part, second-part}
+use Rattle.ms_include.proofs.Parts.{first-part, later-read, second-part}
 use Rattle.ms_include.proofs.loader.Loader.+includes.Goals as goal
 
 pub include-returns-in-Err-clause-refused : goal.include-returns-in-Err-clause-refused
@@ -22,14 +22,14 @@ pub load-returns-in-Err-clause-refused : goal.load-returns-in-Err-clause-refused
 load-returns-in-Err-clause-refused g t c = λ request part.
     let positive : 0 < c.args.room = omega arith in
     let few : length c.args.names.now < c.args.self.now.base + most_files = omega arith in
-    open-refused request (g.F.Files.held c.args.files.now) c.args.self.now.base c.args.room c.len-number.result c.args.self.now.chain.items c.args.names.now c.open.new.names c.args.at c.args.name c.in-Err.refusal
+    open-refused request (g.F.Files.told c.args.files.now).held c.args.self.now.base c.args.room c.len-number.result c.args.self.now.chain.items c.args.names.now c.open.new.names c.args.at c.args.name c.in-Err.refusal
     positive c.requires.begun c.len-number.ensures few part.held (c.in-Err.ensures.refused request part)
 
 pub load-returns-in-Some-clause-refused : goal.load-returns-in-Some-clause-refused
 load-returns-in-Some-clause-refused g t c = λ request part.
     let positive : 0 < c.args.room = omega arith in
     let few : length c.args.names.now < c.args.self.now.base + most_files = omega arith in
-    header-refused request (g.F.Files.held c.args.files.now) c.args.self.now.base c.args.room c.len-number.result c.args.self.now.chain.items c.args.names.now c.open.new.names c.args.at c.args.name
+    header-refused request (g.F.Files.told c.args.files.now).held c.args.self.now.base c.args.room c.len-number.result c.args.self.now.chain.items c.args.names.now c.open.new.names c.args.at c.args.name
     (record { header = c.in-Ok.parsed.header; items = c.in-Ok.parsed.items.items }) c.in-Some.at c.in-Some.field-0-1
     positive c.requires.begun c.len-number.ensures few part.held c.in-Ok.ensures.read c.in-Some.is c.in-Ok.ensures.noted
 
@@ -37,8 +37,8 @@ pub load-returns-in-Err-put_all-clause-refused : goal.load-returns-in-Err-put_al
 load-returns-in-Err-put_all-clause-refused g t c = λ request part.
     let positive : 0 < c.args.room = omega arith in
     let few : length c.args.names.now < c.args.self.now.base + most_files = omega arith in
-    let later = (second-part (g.F.Files.held c.args.files.now) (g.F.Files.held c.open.new.files) (g.F.Files.faults c.args.files.now) (g.F.Files.faults c.open.new.files) (g.F.Files.faults c.put_all.new.files) (g.F.Files.absences c.args.files.now) (g.F.Files.absences c.open.new.files) (g.F.Files.absences c.put_all.new.files) (g.F.Files.overlongs c.args.files.now) (g.F.Files.overlongs c.open.new.files) (g.F.Files.overlongs c.put_all.new.files) request part c.in-Ok.ensures.kept c.in-Ok.ensures.faults_last c.in-Err-put_all.ensures.faults_last c.in-Ok.ensures.absences_last c.in-Err-put_all.ensures.absences_last c.in-Ok.ensures.overlongs_last c.in-Err-put_all.ensures.overlongs_last) in
-    inner-refused request (g.F.Files.held c.args.files.now) c.args.self.now.base c.begin.new.self.base c.args.room (c.args.room - 1) c.len-number.result c.args.self.now.chain.items c.begin.new.self.chain.items c.args.names.now c.open.new.names c.put_all.new.names c.args.at c.args.name
+    let later = (second-part (g.F.Files.told c.args.files.now) (g.F.Files.told c.open.new.files) (g.F.Files.told c.put_all.new.files) request part c.in-Ok.ensures.only_read c.in-Err-put_all.ensures.only_read) in
+    inner-refused request (g.F.Files.told c.args.files.now).held c.args.self.now.base c.begin.new.self.base c.args.room (c.args.room - 1) c.len-number.result c.args.self.now.chain.items c.begin.new.self.chain.items c.args.names.now c.open.new.names c.put_all.new.names c.args.at c.args.name
     (record { header = c.in-Ok.parsed.header; items = c.in-Ok.parsed.items.items }) c.in-Err-put_all.refusal
     c.in_ok-begin.ensures.base positive refl c.requires.begun c.len-number.ensures few part.held c.in-Ok.ensures.read c.in_default.is c.in-Ok.ensures.noted c.in_ok-begin.ensures.chain
     (c.in-Err-put_all.ensures.refused request later)
@@ -47,9 +47,9 @@ pub load-returns-clause-put : goal.load-returns-clause-put
 load-returns-clause-put g t c = λ request part.
     let positive : 0 < c.args.room = omega arith in
     let few : length c.args.names.now < c.args.self.now.base + most_files = omega arith in
-    let later = (second-part (g.F.Files.held c.args.files.now) (g.F.Files.held c.open.new.files) (g.F.Files.faults c.args.files.now) (g.F.Files.faults c.open.new.files) (g.F.Files.faults c.put_all.new.files) (g.F.Files.absences c.args.files.now) (g.F.Files.absences c.open.new.files) (g.F.Files.absences c.put_all.new.files) (g.F.Files.overlongs c.args.files.now) (g.F.Files.overlongs c.open.new.files) (g.F.Files.overlongs c.put_all.new.files) request part c.in-Ok.ensures.kept c.in-Ok.ensures.faults_last c.in_default-put_all.ensures.faults_last c.in-Ok.ensures.absences_last c.in_default-put_all.ensures.absences_last c.in-Ok.ensures.overlongs_last c.in_default-put_all.ensures.overlongs_last) in
+    let later = (second-part (g.F.Files.told c.args.files.now) (g.F.Files.told c.open.new.files) (g.F.Files.told c.put_all.new.files) request part c.in-Ok.ensures.only_read c.in_default-put_all.ensures.only_read) in
     let put = c.in_default-put_all.ensures.put request later in
-    loaded request (g.F.Files.held c.args.files.now) c.args.self.now.base c.begin.new.self.base c.args.room (c.args.room - 1) c.len-number.result c.args.self.now.chain.items c.begin.new.self.chain.items c.args.names.now c.open.new.names c.put_all.new.names c.args.name
+    loaded request (g.F.Files.told c.args.files.now).held c.args.self.now.base c.begin.new.self.base c.args.room (c.args.room - 1) c.len-number.result c.args.self.now.chain.items c.begin.new.self.chain.items c.args.names.now c.open.new.names c.put_all.new.names c.args.name
     (record { header = c.in-Ok.parsed.header; items = c.in-Ok.parsed.items.items }) c.args.self.now.items.items c.begin.new.self.items.items c.put_all.new.self.items.items put.0
     c.in_ok-begin.ensures.base positive refl c.requires.begun c.len-number.ensures few part.held c.in-Ok.ensures.read c.in_default.is c.in-Ok.ensures.noted c.in_ok-begin.ensures.chain c.in_ok-begin.ensures.items put.1 put.2
 
@@ -59,9 +59,9 @@ put-returns-in-Include-clause-put g t c = λ request part.
 
 pub put_all-returns-in-Err-clause-refused : goal.put_all-returns-in-Err-clause-refused
 put_all-returns-in-Err-clause-refused g t c = λ request part.
-    let earlier = (first-part (g.F.Files.held c.args.files.now) (g.F.Files.faults c.args.files.now) (g.F.Files.faults c.loop-item.files) (g.F.Files.faults c.put.new.files) (g.F.Files.absences c.args.files.now) (g.F.Files.absences c.loop-item.files) (g.F.Files.absences c.put.new.files) (g.F.Files.overlongs c.args.files.now) (g.F.Files.overlongs c.loop-item.files) (g.F.Files.overlongs c.put.new.files) request part c.loop-item.invariant.4 c.in-Err.ensures.faults_last c.loop-item.invariant.5 c.in-Err.ensures.absences_last c.loop-item.invariant.6 c.in-Err.ensures.overlongs_last) in
-    let later = (second-part (g.F.Files.held c.args.files.now) (g.F.Files.held c.loop-item.files) (g.F.Files.faults c.args.files.now) (g.F.Files.faults c.loop-item.files) (g.F.Files.faults c.put.new.files) (g.F.Files.absences c.args.files.now) (g.F.Files.absences c.loop-item.files) (g.F.Files.absences c.put.new.files) (g.F.Files.overlongs c.args.files.now) (g.F.Files.overlongs c.loop-item.files) (g.F.Files.overlongs c.put.new.files) request part c.loop-item.invariant.3 c.loop-item.invariant.4 c.in-Err.ensures.faults_last c.loop-item.invariant.5 c.in-Err.ensures.absences_last c.loop-item.invariant.6 c.in-Err.ensures.overlongs_last) in
-    let before = c.loop-item.invariant.7 request earlier in
+    let earlier = (first-part (g.F.Files.told c.args.files.now) (g.F.Files.told c.loop-item.files) (g.F.Files.told c.put.new.files) request part c.loop-item.invariant.3 c.in-Err.ensures.only_read) in
+    let later = (second-part (g.F.Files.told c.args.files.now) (g.F.Files.told c.loop-item.files) (g.F.Files.told c.put.new.files) request part c.loop-item.invariant.3 c.in-Err.ensures.only_read) in
+    let before = c.loop-item.invariant.4 request earlier in
     let road = YieldsList-from_vec {s = c.into_iter-item-iterator.result} c.args.items.items c.into_iter-item-iterator.ensures.into_iter_gives.0 (omega (arith, c.into_iter-item-iterator.ensures.into_iter_gives.1, c.args.items.ok)) in
     next-refused request c.args.self.now.base c.loop-item.self.base c.args.room c.args.self.now.chain.items c.loop-item.self.chain.items c.args.names.now c.loop-item.names c.put.new.names c.loop-item.yielded c.args.items.items c.in-Some.item _ before.0 c.in-Err.refusal c.loop-item.invariant.0 c.loop-item.invariant.1
     (split c.args.items.items c.loop-item.yielded c.in-Some.item (YieldsList-so_far road c.loop-item.yielded c.loop-item.item-iterator c.loop-item.yielded_by) (YieldsList-turn road c.loop-item.yielded c.loop-item.item-iterator c.loop-item.yielded_by c.next.result c.next.new.self c.in-Some.item c.in-Some.is c.next.ensures.steps)) before.2
@@ -72,14 +72,11 @@ put_all-loop-item-preserved g t c = (
   c.in_default.ensures.base ∙ c.loop-item.invariant.0,
   c.in_default.ensures.chain ∙ c.loop-item.invariant.1,
   grown-more c.args.names.now c.loop-item.names c.put.new.names c.loop-item.invariant.2 c.in_default.ensures.grown,
-  c.in_default.ensures.kept ∙ c.loop-item.invariant.3,
-  omega (arith, c.loop-item.invariant.4, c.in_default.ensures.faults_last),
-  omega (arith, c.loop-item.invariant.5, c.in_default.ensures.absences_last),
-  omega (arith, c.loop-item.invariant.6, c.in_default.ensures.overlongs_last),
+  later-read (g.F.Files.told c.args.files.now) (g.F.Files.told c.loop-item.files) (g.F.Files.told c.put.new.files) c.loop-item.invariant.3 c.in_default.ensures.only_read,
   λ request part.
-      let earlier = (first-part (g.F.Files.held c.args.files.now) (g.F.Files.faults c.args.files.now) (g.F.Files.faults c.loop-item.files) (g.F.Files.faults c.put.new.files) (g.F.Files.absences c.args.files.now) (g.F.Files.absences c.loop-item.files) (g.F.Files.absences c.put.new.files) (g.F.Files.overlongs c.args.files.now) (g.F.Files.overlongs c.loop-item.files) (g.F.Files.overlongs c.put.new.files) request part c.loop-item.invariant.4 c.in_default.ensures.faults_last c.loop-item.invariant.5 c.in_default.ensures.absences_last c.loop-item.invariant.6 c.in_default.ensures.overlongs_last) in
-      let later = (second-part (g.F.Files.held c.args.files.now) (g.F.Files.held c.loop-item.files) (g.F.Files.faults c.args.files.now) (g.F.Files.faults c.loop-item.files) (g.F.Files.faults c.put.new.files) (g.F.Files.absences c.args.files.now) (g.F.Files.absences c.loop-item.files) (g.F.Files.absences c.put.new.files) (g.F.Files.overlongs c.args.files.now) (g.F.Files.overlongs c.loop-item.files) (g.F.Files.overlongs c.put.new.files) request part c.loop-item.invariant.3 c.loop-item.invariant.4 c.in_default.ensures.faults_last c.loop-item.invariant.5 c.in_default.ensures.absences_last c.loop-item.invariant.6 c.in_default.ensures.overlongs_last) in
-      let before = c.loop-item.invariant.7 request earlier in
+      let earlier = (first-part (g.F.Files.told c.args.files.now) (g.F.Files.told c.loop-item.files) (g.F.Files.told c.put.new.files) request part c.loop-item.invariant.3 c.in_default.ensures.only_read) in
+      let later = (second-part (g.F.Files.told c.args.files.now) (g.F.Files.told c.loop-item.files) (g.F.Files.told c.put.new.files) request part c.loop-item.invariant.3 c.in_default.ensures.only_read) in
+      let before = c.loop-item.invariant.4 request earlier in
       let put = c.in_default.ensures.put request later in
       next-put request c.args.self.now.base c.loop-item.self.base c.args.room c.args.self.now.chain.items c.loop-item.self.chain.items c.args.names.now c.loop-item.names c.put.new.names c.loop-item.yielded c.in-Some.item
       c.args.self.now.items.items c.loop-item.self.items.items c.put.new.self.items.items before.0 put.0 c.loop-item.invariant.0 c.loop-item.invariant.1 before.1 before.2 put.1 put.2,
