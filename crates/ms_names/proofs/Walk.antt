@@ -1,5 +1,5 @@
 -- An expression after what is inside it.
-use Rattle.std.proofs.Common.{◌≡◌, ℕ, ◌+◌, Bool, List, [], ◌∷◌, ◌++◌, append_assoc, length, drop, Result, Ok, Err, OnOk, refl, sym, subst, ap, ◌∙◌}
+use Rattle.std.proofs.Common.{◌≡◌, ℕ, ◌+◌, Bool, List, [], ◌∷◌, ◌++◌, append_assoc, length, drop, Option, Result, Ok, Err, IfOk, OnOk, refl, sym, subst, ap, ◌∙◌}
 use Rattle.std.specs.Prelude.{flat_map, not}
 use Rattle.std.specs.List.{insert}
 use Rattle.std.proofs.lemmas.List.{drop-drop}
@@ -7,6 +7,7 @@ use Rattle.std.proofs.Math.Seq.{drop-append_seam, take-append_seam}
 use Rattle.ms_edge.specs.declared.at.At.{At}
 use Rattle.ms_logic.specs.declared.mode.Order.{Order}
 use Rattle.ms_logic.specs.declared.mode.Quant.{Quant}
+use Rattle.ms_logic.specs.Tree as tree
 use Rattle.ms_names.specs.declared.fault.Fault.{Fault}
 use Rattle.ms_names.specs.declared.fault.Fault.TheVariants.{NotHere}
 use Rattle.ms_names.specs.declared.meaning.Meaning.{Meaning}
@@ -24,6 +25,7 @@ use Rattle.ms_names.specs.Reads.{readings_at, readings_of_bounds, readings_of_ca
 use Rattle.ms_names.specs.Rules.{count, faults_at, faults_of_bounds, faults_of_call, faults_of_form, faults_of_order, faults_of_parts, in_case}
 use Rattle.ms_names.specs.Scope.{Scope, bind, count_of_bounds, count_of_parts, meaning_of, under_bounds, under_parts, without_exports}
 use Rattle.ms_names.specs.State.{State, with_faults, passed, noted, formed}
+use Rattle.ms_names.specs.Typed.{both, typed}
 use Rattle.ms_names.specs.Uses.{import_at, export_at}
 use Rattle.ms_names.proofs.States.{first_with-append, passed-passed}
 
@@ -206,3 +208,15 @@ export-formed s r t u at text_at file e entry from begun within entry_is from_is
 pub on_ok : {T E P : Type 0} (r : Result T E) → P → OnOk r P
 on_ok (Ok value) here = here
 on_ok (Err e) here = tt
+
+-- what is made of two expressions, the second behind the first, by what they became
+pub two-made : {A M E : Type 0} (result : Result M E) (argument : M → Option tree.Argument) (into : Option tree.Argument → Option A) (G : A → A → tree.Argument)
+    (s r : State) (os : List Occurrence) (e f whole : Expression) (left right : Option tree.Argument)
+    → left ≡ typed s.scope s.before e → r ≡ passed s os (after s.before e) → right ≡ typed r.scope r.before f
+    → both G (into (typed s.scope s.before e)) (into (typed s.scope (after s.before e) f)) ≡ typed s.scope s.before whole
+    → IfOk result (λ made. argument made ≡ both G (into left) (into right)) → IfOk result (λ made. argument made ≡ typed s.scope s.before whole)
+two-made result argument into G s r os e f whole left right first after_first second shape made =
+    let right_is : right ≡ typed s.scope (after s.before e) f = second ∙ ap (λ (x : State). typed x.scope x.before f) after_first in
+    let whole_is : both G (into left) (into right) ≡ typed s.scope s.before whole =
+    ap (λ v. both G (into v) (into right)) first ∙ (ap (λ v. both G (into (typed s.scope s.before e)) (into v)) right_is ∙ shape) in
+    subst (λ there. IfOk result (λ made. argument made ≡ there)) whole_is made

@@ -24,10 +24,7 @@ pub(crate) fn formula_in(value: Option<Arg>) -> Option<Formula>
 }
 
 // A formula on the heap.
-pub(crate) fn boxed_formula(
-    alloc: Global,
-    value: Option<Arg>,
-) -> Result<Option<Boxed<Formula>>, NoMemory>
+fn boxed_formula(alloc: Global, value: Option<Arg>) -> Result<Option<Boxed<Formula>>, NoMemory>
     ensures { IfOk result (λ made. option_map formula_of made ≡ formula_in (option_map argument_of value)) }
 {
     match formula_in(value) {
@@ -77,9 +74,18 @@ pub(crate) fn restriction(alloc: Global, body: Option<Arg>) -> Result<Option<Arg
 }
 
 pub(crate) fn implication(
-    left: Option<Boxed<Formula>>,
-    right: Option<Boxed<Formula>>,
-) -> Option<Arg>
+    alloc: Global,
+    left: Option<Arg>,
+    right: Option<Arg>,
+) -> Result<Option<Arg>, NoMemory>
+    ensures { IfOk result (λ made. option_map argument_of made ≡ both (λ f g. tree.truth_argument (tree.implication f g)) (formula_in (option_map argument_of left)) (formula_in (option_map argument_of right))) }
+{
+    let left = boxed_formula(alloc, left)?;
+    let right = boxed_formula(alloc, right)?;
+    Ok(implication_of(left, right))
+}
+
+fn implication_of(left: Option<Boxed<Formula>>, right: Option<Boxed<Formula>>) -> Option<Arg>
     ensures { option_map argument_of result ≡ both (λ f g. tree.truth_argument (tree.implication f g)) (option_map formula_of left) (option_map formula_of right) }
 {
     let left = left?;
@@ -88,9 +94,18 @@ pub(crate) fn implication(
 }
 
 pub(crate) fn equivalence(
-    left: Option<Boxed<Formula>>,
-    right: Option<Boxed<Formula>>,
-) -> Option<Arg>
+    alloc: Global,
+    left: Option<Arg>,
+    right: Option<Arg>,
+) -> Result<Option<Arg>, NoMemory>
+    ensures { IfOk result (λ made. option_map argument_of made ≡ both (λ f g. tree.truth_argument (tree.equivalence f g)) (formula_in (option_map argument_of left)) (formula_in (option_map argument_of right))) }
+{
+    let left = boxed_formula(alloc, left)?;
+    let right = boxed_formula(alloc, right)?;
+    Ok(equivalence_of(left, right))
+}
+
+fn equivalence_of(left: Option<Boxed<Formula>>, right: Option<Boxed<Formula>>) -> Option<Arg>
     ensures { option_map argument_of result ≡ both (λ f g. tree.truth_argument (tree.equivalence f g)) (option_map formula_of left) (option_map formula_of right) }
 {
     let left = left?;
@@ -98,7 +113,19 @@ pub(crate) fn equivalence(
     Some(Arg::Zero(Formula::Iff(left, right)))
 }
 
-pub(crate) fn union(left: Option<Boxed<Term2>>, right: Option<Boxed<Term2>>) -> Option<Arg>
+pub(crate) fn union(
+    alloc: Global,
+    left: Option<Arg>,
+    right: Option<Arg>,
+) -> Result<Option<Arg>, NoMemory>
+    ensures { IfOk result (λ made. option_map argument_of made ≡ both (λ s t. tree.set_argument (tree.union s t)) (set_in (option_map argument_of left)) (set_in (option_map argument_of right))) }
+{
+    let left = boxed_set(alloc, left)?;
+    let right = boxed_set(alloc, right)?;
+    Ok(union_of(left, right))
+}
+
+fn union_of(left: Option<Boxed<Term2>>, right: Option<Boxed<Term2>>) -> Option<Arg>
     ensures { option_map argument_of result ≡ both (λ s t. tree.set_argument (tree.union s t)) (option_map set_term_of left) (option_map set_term_of right) }
 {
     let left = left?;
@@ -106,7 +133,19 @@ pub(crate) fn union(left: Option<Boxed<Term2>>, right: Option<Boxed<Term2>>) -> 
     Some(Arg::Two(Term2::Union(left, right)))
 }
 
-pub(crate) fn intersection(left: Option<Boxed<Term2>>, right: Option<Boxed<Term2>>) -> Option<Arg>
+pub(crate) fn intersection(
+    alloc: Global,
+    left: Option<Arg>,
+    right: Option<Arg>,
+) -> Result<Option<Arg>, NoMemory>
+    ensures { IfOk result (λ made. option_map argument_of made ≡ both (λ s t. tree.set_argument (tree.intersection s t)) (set_in (option_map argument_of left)) (set_in (option_map argument_of right))) }
+{
+    let left = boxed_set(alloc, left)?;
+    let right = boxed_set(alloc, right)?;
+    Ok(intersection_of(left, right))
+}
+
+fn intersection_of(left: Option<Boxed<Term2>>, right: Option<Boxed<Term2>>) -> Option<Arg>
     ensures { option_map argument_of result ≡ both (λ s t. tree.set_argument (tree.intersection s t)) (option_map set_term_of left) (option_map set_term_of right) }
 {
     let left = left?;
@@ -114,7 +153,19 @@ pub(crate) fn intersection(left: Option<Boxed<Term2>>, right: Option<Boxed<Term2
     Some(Arg::Two(Term2::Inter(left, right)))
 }
 
-pub(crate) fn difference(left: Option<Boxed<Term2>>, right: Option<Boxed<Term2>>) -> Option<Arg>
+pub(crate) fn difference(
+    alloc: Global,
+    left: Option<Arg>,
+    right: Option<Arg>,
+) -> Result<Option<Arg>, NoMemory>
+    ensures { IfOk result (λ made. option_map argument_of made ≡ both (λ s t. tree.set_argument (tree.difference s t)) (set_in (option_map argument_of left)) (set_in (option_map argument_of right))) }
+{
+    let left = boxed_set(alloc, left)?;
+    let right = boxed_set(alloc, right)?;
+    Ok(difference_of(left, right))
+}
+
+fn difference_of(left: Option<Boxed<Term2>>, right: Option<Boxed<Term2>>) -> Option<Arg>
     ensures { option_map argument_of result ≡ both (λ s t. tree.set_argument (tree.difference s t)) (option_map set_term_of left) (option_map set_term_of right) }
 {
     let left = left?;
@@ -141,7 +192,7 @@ pub(crate) fn maximum(alloc: Global, body: Option<Arg>) -> Result<Option<Arg>, N
 }
 
 // A set on the heap.
-pub(crate) fn boxed_set(alloc: Global, value: Option<Arg>) -> Result<Option<Boxed<Term2>>, NoMemory>
+fn boxed_set(alloc: Global, value: Option<Arg>) -> Result<Option<Boxed<Term2>>, NoMemory>
     ensures { IfOk result (λ made. option_map set_term_of made ≡ set_in (option_map argument_of value)) }
 {
     match set_in(value) {

@@ -12,9 +12,9 @@ ghost use Rattle.std.specs.Option.{option_map};
 ghost use Rattle.std.specs.Prelude.{◌≡◌, map, IfOk, OnOk};
 
 use crate::build::{
-    boxed_formula, boxed_set, conjunction, difference, disjunction, emptiness, equivalence,
-    implication, intersection, literal, maximum, minimum, more_formulas, more_numbers, negation,
-    relation, restriction, shift, union,
+    conjunction, difference, disjunction, emptiness, equivalence, implication, intersection,
+    literal, maximum, minimum, more_formulas, more_numbers, negation, relation, restriction, shift,
+    union,
 };
 use crate::call::{more_arguments, parameter_at};
 use crate::checker::Checker;
@@ -81,14 +81,14 @@ impl Checker {
             Form::And(operands) => Ok(conjunction(self.formulas(operands.slice())?)),
             Form::Or(operands) => Ok(disjunction(self.formulas(operands.slice())?)),
             Form::Implies(left, right) => {
-                let left = boxed_formula(self.alloc, self.expression(FORMULA, left.get())?)?;
-                let right = boxed_formula(self.alloc, self.expression(FORMULA, right.get())?)?;
-                Ok(implication(left, right))
+                let left = self.expression(FORMULA, left.get())?;
+                let right = self.expression(FORMULA, right.get())?;
+                implication(self.alloc, left, right)
             }
             Form::Iff(left, right) => {
-                let left = boxed_formula(self.alloc, self.expression(FORMULA, left.get())?)?;
-                let right = boxed_formula(self.alloc, self.expression(FORMULA, right.get())?)?;
-                Ok(equivalence(left, right))
+                let left = self.expression(FORMULA, left.get())?;
+                let right = self.expression(FORMULA, right.get())?;
+                equivalence(self.alloc, left, right)
             }
             Form::Relation(rel, left, right) => {
                 let order = self.order(left.get());
@@ -98,19 +98,19 @@ impl Checker {
             }
             Form::IsEmpty(inner) => Ok(emptiness(self.expression(SET, inner.get())?)),
             Form::Union(left, right) => {
-                let left = boxed_set(self.alloc, self.expression(SET, left.get())?)?;
-                let right = boxed_set(self.alloc, self.expression(SET, right.get())?)?;
-                Ok(union(left, right))
+                let left = self.expression(SET, left.get())?;
+                let right = self.expression(SET, right.get())?;
+                union(self.alloc, left, right)
             }
             Form::Inter(left, right) => {
-                let left = boxed_set(self.alloc, self.expression(SET, left.get())?)?;
-                let right = boxed_set(self.alloc, self.expression(SET, right.get())?)?;
-                Ok(intersection(left, right))
+                let left = self.expression(SET, left.get())?;
+                let right = self.expression(SET, right.get())?;
+                intersection(self.alloc, left, right)
             }
             Form::Minus(left, right) => {
-                let left = boxed_set(self.alloc, self.expression(SET, left.get())?)?;
-                let right = boxed_set(self.alloc, self.expression(SET, right.get())?)?;
-                Ok(difference(left, right))
+                let left = self.expression(SET, left.get())?;
+                let right = self.expression(SET, right.get())?;
+                difference(self.alloc, left, right)
             }
             Form::Shift(inner, int) => {
                 self.check_int(int)?;

@@ -11,6 +11,6 @@ returns c =
     let made : option_map forms_of c.args.made ≡ Some (forms_of c.in-Some.list) = ap (option_map forms_of) c.in-Some.is in
     let value : Some (formula_of c.in-Some-formula_in.formula) ≡ formula_in (option_map argument_of c.args.value) =
     ap (option_map formula_of) (sym c.in-Some-formula_in.is) ∙ c.formula_in.ensures in
-    ap Some (ap forms_of c.in_ok-push.ensures ∙ forms_of-more c.in-Some.list c.in-Some-formula_in.formula)
+    ap Some (ap forms_of c.in_ok-push.ensures.ok ∙ forms_of-more c.in-Some.list c.in-Some-formula_in.formula)
     ∙ (ap (λ v. both formula_behind (Some (forms_of c.in-Some.list)) v) value
     ∙ ap (λ m. both formula_behind m (formula_in (option_map argument_of c.args.value))) (sym made))

@@ -18,7 +18,7 @@ loop-bound-preserved c =
     let v = c.bound-item.result in
     let rest = orders_of_bounds (bounds_of (drop (i + 1) vs)) in
     let order : (out-Bound v).order ≡ (bound_of v).order = search (rules, the_lemmas) in
-    ap (λ there. there ++ rest) (c.in_ok-push.ensures ∙ ap (λ o. made ++ o ∷ []) order)
+    ap (λ there. there ++ rest) (c.in_ok-push.ensures.ok ∙ ap (λ o. made ++ o ∷ []) order)
     ∙ (append_assoc made ((bound_of v).order ∷ []) rest
     ∙ (ap (λ there. made ++ orders_of_bounds there) (sym (bounds-split vs i v (omega arith) c.bound-item.is)) ∙ c.loop-bound.invariant))
 

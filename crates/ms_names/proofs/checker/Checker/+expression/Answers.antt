@@ -19,14 +19,14 @@ use Rattle.ms_names.specs.Reads.{readings_of_bounds, readings_of_call}
 use Rattle.ms_names.specs.Rules.{faults_of_bounds, faults_of_call, faults_of_parts}
 use Rattle.ms_names.specs.Scope.{count_of_bounds, meaning_of, under_parts}
 use Rattle.ms_names.specs.State.{State, with_faults, passed, noted, formed}
-use Rattle.ms_names.specs.Typed.{both, typed, typed_arguments, typed_formulas, typed_numbers}
+use Rattle.ms_names.specs.Typed.{both, formula_in, set_in, typed, typed_arguments, typed_formulas, typed_numbers}
 use Rattle.ms_names.specs.View.{bound_of, bounds_of, expression_of, part_of, parts_of}
 use Rattle.ms_names.proofs.Lists.{arguments-end, arguments-next, arguments-short, arguments-typed, count_of_bounds-length, count_of_parts-length, count-length, found-sides, found-variables, in_front, later-drop, made-arguments, made-sides, none-first, bounds-split, parts-split, parts-passed, parts-typed, restrictions-next, restrictions-typed, sides_behind}
 use Rattle.ms_names.proofs.Operands.{formulas-more, numbers-more, operands-more, taken-more}
 use Rattle.ms_names.proofs.Repeats.{next}
 use Rattle.ms_names.proofs.States.{passed-none, two-passed}
 use Rattle.ms_names.proofs.Values.{call-value, let-value, quantified-value, restriction-value}
-use Rattle.ms_names.proofs.Walk.{call-formed, export-formed, formed-passed, let-formed, on_ok, quantified-formed}
+use Rattle.ms_names.proofs.Walk.{call-formed, export-formed, formed-passed, let-formed, on_ok, quantified-formed, two-made}
 use Rattle.ms_names.proofs.checker.Checker.+expression.Goals as goal
 
 pub expression-returns-clause-state : goal.expression-returns-clause-state
@@ -370,8 +370,8 @@ form-returns-in_ok-right-in-Implies-clause-state t c =
     let e = expression_of c.get-in-Implies.result.now in
     let f = expression_of c.get-in-Implies-2.result.now in
     let shape : implication (out-Expr c.args.e.now).at e f ≡ expression_of c.args.e.now = search (rules, the_lemmas) in
-    two-passed s c.expression-in-Implies.new.self c.expression-in-Implies-2.new.self formula_wanted formula_wanted e f c.in_ok-expression-in-Implies.ensures.state c.in_ok-expression-in-Implies-2.ensures.state
-    ∙ ap (formed s) shape
+    on_ok c.implication.result (two-passed s c.expression-in-Implies.new.self c.expression-in-Implies-2.new.self formula_wanted formula_wanted e f c.in_ok-left-in-Implies.ensures.state c.in_ok-right-in-Implies.ensures.state
+    ∙ ap (formed s) shape)
 
 pub form-returns-in_ok-right-in-Iff-clause-state : goal.form-returns-in_ok-right-in-Iff-clause-state
 form-returns-in_ok-right-in-Iff-clause-state t c =
@@ -379,8 +379,8 @@ form-returns-in_ok-right-in-Iff-clause-state t c =
     let e = expression_of c.get-in-Iff.result.now in
     let f = expression_of c.get-in-Iff-2.result.now in
     let shape : equivalence (out-Expr c.args.e.now).at e f ≡ expression_of c.args.e.now = search (rules, the_lemmas) in
-    two-passed s c.expression-in-Iff.new.self c.expression-in-Iff-2.new.self formula_wanted formula_wanted e f c.in_ok-expression-in-Iff.ensures.state c.in_ok-expression-in-Iff-2.ensures.state
-    ∙ ap (formed s) shape
+    on_ok c.equivalence.result (two-passed s c.expression-in-Iff.new.self c.expression-in-Iff-2.new.self formula_wanted formula_wanted e f c.in_ok-left-in-Iff.ensures.state c.in_ok-right-in-Iff.ensures.state
+    ∙ ap (formed s) shape)
 
 pub form-returns-in_ok-right-in-Union-clause-state : goal.form-returns-in_ok-right-in-Union-clause-state
 form-returns-in_ok-right-in-Union-clause-state t c =
@@ -388,8 +388,8 @@ form-returns-in_ok-right-in-Union-clause-state t c =
     let e = expression_of c.get-in-Union.result.now in
     let f = expression_of c.get-in-Union-2.result.now in
     let shape : union (out-Expr c.args.e.now).at e f ≡ expression_of c.args.e.now = search (rules, the_lemmas) in
-    two-passed s c.expression-in-Union.new.self c.expression-in-Union-2.new.self set_wanted set_wanted e f c.in_ok-expression-in-Union.ensures.state c.in_ok-expression-in-Union-2.ensures.state
-    ∙ ap (formed s) shape
+    on_ok c.union.result (two-passed s c.expression-in-Union.new.self c.expression-in-Union-2.new.self set_wanted set_wanted e f c.in_ok-left-in-Union.ensures.state c.in_ok-right-in-Union.ensures.state
+    ∙ ap (formed s) shape)
 
 pub form-returns-in_ok-right-in-Inter-clause-state : goal.form-returns-in_ok-right-in-Inter-clause-state
 form-returns-in_ok-right-in-Inter-clause-state t c =
@@ -397,8 +397,8 @@ form-returns-in_ok-right-in-Inter-clause-state t c =
     let e = expression_of c.get-in-Inter.result.now in
     let f = expression_of c.get-in-Inter-2.result.now in
     let shape : intersection (out-Expr c.args.e.now).at e f ≡ expression_of c.args.e.now = search (rules, the_lemmas) in
-    two-passed s c.expression-in-Inter.new.self c.expression-in-Inter-2.new.self set_wanted set_wanted e f c.in_ok-expression-in-Inter.ensures.state c.in_ok-expression-in-Inter-2.ensures.state
-    ∙ ap (formed s) shape
+    on_ok c.intersection.result (two-passed s c.expression-in-Inter.new.self c.expression-in-Inter-2.new.self set_wanted set_wanted e f c.in_ok-left-in-Inter.ensures.state c.in_ok-right-in-Inter.ensures.state
+    ∙ ap (formed s) shape)
 
 pub form-returns-in_ok-right-in-Minus-clause-state : goal.form-returns-in_ok-right-in-Minus-clause-state
 form-returns-in_ok-right-in-Minus-clause-state t c =
@@ -406,8 +406,8 @@ form-returns-in_ok-right-in-Minus-clause-state t c =
     let e = expression_of c.get-in-Minus.result.now in
     let f = expression_of c.get-in-Minus-2.result.now in
     let shape : difference (out-Expr c.args.e.now).at e f ≡ expression_of c.args.e.now = search (rules, the_lemmas) in
-    two-passed s c.expression-in-Minus.new.self c.expression-in-Minus-2.new.self set_wanted set_wanted e f c.in_ok-expression-in-Minus.ensures.state c.in_ok-expression-in-Minus-2.ensures.state
-    ∙ ap (formed s) shape
+    on_ok c.difference.result (two-passed s c.expression-in-Minus.new.self c.expression-in-Minus-2.new.self set_wanted set_wanted e f c.in_ok-left-in-Minus.ensures.state c.in_ok-right-in-Minus.ensures.state
+    ∙ ap (formed s) shape)
 
 pub form-returns-in_ok-second-in-Relation-clause-state : goal.form-returns-in_ok-second-in-Relation-clause-state
 form-returns-in_ok-second-in-Relation-clause-state t c =
@@ -532,3 +532,58 @@ form-returns-in_ok-note_export-in-Export-clause-state t c =
     c.in_ok-begun-in-Export.ensures.state c.in_ok-body-in-Export.ensures.state c.in_ok-begun-in-Export.ensures.exports c.in_ok-begun-in-Export.ensures.reads
     c.in_ok-note_export-in-Export.ensures
     ∙ ap (formed s) shape)
+
+pub form-returns-in_ok-right-in-Implies-clause-value : goal.form-returns-in_ok-right-in-Implies-clause-value
+form-returns-in_ok-right-in-Implies-clause-value t c =
+    let s = c.args.self.now in
+    let e = expression_of c.get-in-Implies.result.now in
+    let f = expression_of c.get-in-Implies-2.result.now in
+    let shape : implication (out-Expr c.args.e.now).at e f ≡ expression_of c.args.e.now = search (rules, the_lemmas) in
+    two-made c.implication.result (option_map argument_of) formula_in (λ f g. tree.truth_argument (tree.implication f g)) s c.expression-in-Implies.new.self (occurrences s.scope s.before formula_wanted e) e f (expression_of c.args.e.now)
+    (option_map argument_of c.in_ok-left-in-Implies.left) (option_map argument_of c.in_ok-right-in-Implies.right)
+    c.in_ok-left-in-Implies.ensures.value c.in_ok-left-in-Implies.ensures.state c.in_ok-right-in-Implies.ensures.value
+    (ap (typed s.scope s.before) shape) c.implication.ensures
+
+pub form-returns-in_ok-right-in-Iff-clause-value : goal.form-returns-in_ok-right-in-Iff-clause-value
+form-returns-in_ok-right-in-Iff-clause-value t c =
+    let s = c.args.self.now in
+    let e = expression_of c.get-in-Iff.result.now in
+    let f = expression_of c.get-in-Iff-2.result.now in
+    let shape : equivalence (out-Expr c.args.e.now).at e f ≡ expression_of c.args.e.now = search (rules, the_lemmas) in
+    two-made c.equivalence.result (option_map argument_of) formula_in (λ f g. tree.truth_argument (tree.equivalence f g)) s c.expression-in-Iff.new.self (occurrences s.scope s.before formula_wanted e) e f (expression_of c.args.e.now)
+    (option_map argument_of c.in_ok-left-in-Iff.left) (option_map argument_of c.in_ok-right-in-Iff.right)
+    c.in_ok-left-in-Iff.ensures.value c.in_ok-left-in-Iff.ensures.state c.in_ok-right-in-Iff.ensures.value
+    (ap (typed s.scope s.before) shape) c.equivalence.ensures
+
+pub form-returns-in_ok-right-in-Union-clause-value : goal.form-returns-in_ok-right-in-Union-clause-value
+form-returns-in_ok-right-in-Union-clause-value t c =
+    let s = c.args.self.now in
+    let e = expression_of c.get-in-Union.result.now in
+    let f = expression_of c.get-in-Union-2.result.now in
+    let shape : union (out-Expr c.args.e.now).at e f ≡ expression_of c.args.e.now = search (rules, the_lemmas) in
+    two-made c.union.result (option_map argument_of) set_in (λ f g. tree.set_argument (tree.union f g)) s c.expression-in-Union.new.self (occurrences s.scope s.before set_wanted e) e f (expression_of c.args.e.now)
+    (option_map argument_of c.in_ok-left-in-Union.left) (option_map argument_of c.in_ok-right-in-Union.right)
+    c.in_ok-left-in-Union.ensures.value c.in_ok-left-in-Union.ensures.state c.in_ok-right-in-Union.ensures.value
+    (ap (typed s.scope s.before) shape) c.union.ensures
+
+pub form-returns-in_ok-right-in-Inter-clause-value : goal.form-returns-in_ok-right-in-Inter-clause-value
+form-returns-in_ok-right-in-Inter-clause-value t c =
+    let s = c.args.self.now in
+    let e = expression_of c.get-in-Inter.result.now in
+    let f = expression_of c.get-in-Inter-2.result.now in
+    let shape : intersection (out-Expr c.args.e.now).at e f ≡ expression_of c.args.e.now = search (rules, the_lemmas) in
+    two-made c.intersection.result (option_map argument_of) set_in (λ f g. tree.set_argument (tree.intersection f g)) s c.expression-in-Inter.new.self (occurrences s.scope s.before set_wanted e) e f (expression_of c.args.e.now)
+    (option_map argument_of c.in_ok-left-in-Inter.left) (option_map argument_of c.in_ok-right-in-Inter.right)
+    c.in_ok-left-in-Inter.ensures.value c.in_ok-left-in-Inter.ensures.state c.in_ok-right-in-Inter.ensures.value
+    (ap (typed s.scope s.before) shape) c.intersection.ensures
+
+pub form-returns-in_ok-right-in-Minus-clause-value : goal.form-returns-in_ok-right-in-Minus-clause-value
+form-returns-in_ok-right-in-Minus-clause-value t c =
+    let s = c.args.self.now in
+    let e = expression_of c.get-in-Minus.result.now in
+    let f = expression_of c.get-in-Minus-2.result.now in
+    let shape : difference (out-Expr c.args.e.now).at e f ≡ expression_of c.args.e.now = search (rules, the_lemmas) in
+    two-made c.difference.result (option_map argument_of) set_in (λ f g. tree.set_argument (tree.difference f g)) s c.expression-in-Minus.new.self (occurrences s.scope s.before set_wanted e) e f (expression_of c.args.e.now)
+    (option_map argument_of c.in_ok-left-in-Minus.left) (option_map argument_of c.in_ok-right-in-Minus.right)
+    c.in_ok-left-in-Minus.ensures.value c.in_ok-left-in-Minus.ensures.state c.in_ok-right-in-Minus.ensures.value
+    (ap (typed s.scope s.before) shape) c.difference.ensures

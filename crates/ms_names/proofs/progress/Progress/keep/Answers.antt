@@ -33,7 +33,7 @@ returns-in-Predicate-Some-clause-kept c =
     on_ok_weaker c.push.result
     (λ added. subst P (ap (λ made. outcome_of (Predicate made)) (sym c.in-Predicate-Some.field-0-is) ∙ ap outcome_of (sym c.in-Predicate-Some.is))
     (keeps-predicate old new d (predicate_of p) (ap kept_predicates added ∙ map-append (λ q. Some (predicate_of q)) old.predicates (p ∷ [])) refl refl))
-    c.push.ensures
+    c.push.ensures.ok
 
 pub returns-in-Formula-Some-clause-kept : goal.returns-in-Formula-Some-clause-kept
 returns-in-Formula-Some-clause-kept c =
@@ -46,7 +46,7 @@ returns-in-Formula-Some-clause-kept c =
     (λ added. subst P (ap (λ made. outcome_of (Formula made)) (sym c.in-Formula-Some.field-0-is) ∙ ap outcome_of (sym c.in-Formula-Some.is))
     (keeps-formula old new d (formula_of f)
     (ap kept_formulas added ∙ map-append (λ g. Some (placed_formula_of g)) old.formulas (record { at = d.at; item = old.item; formula = f } ∷ [])) refl refl))
-    c.push-in-Formula-Some.ensures
+    c.push-in-Formula-Some.ensures.ok
 
 pub returns-in-Nothing-clause-kept : goal.returns-in-Nothing-clause-kept
 returns-in-Nothing-clause-kept c =
