@@ -1,6 +1,10 @@
 //! The program: `monastr decide FILE`.
 #![tactic(auto)]
 
+ghost use Rattle.ms_edge.specs.declared.refusal.Status.TheVariants as statuses;
+ghost use Rattle.monastr.specs.Exit.{exit_of, exit_without_words};
+ghost use Rattle.std.specs.Prelude.{◌≡◌, ◌⊎◌, IfErr};
+
 use ms_app::run;
 use ms_edge::{DiskFiles, Status, StdSink, Words};
 use std::env::{self, Env};
@@ -25,7 +29,9 @@ fn main(rt: HostRuntime) -> ExitCode {
 }
 
 /// The words after the program's name, or the exit status where there are none to be had.
-fn words(rt: &(impl Env + AllocGlobal)) -> Result<Words, u8> {
+fn words(rt: &(impl Env + AllocGlobal)) -> Result<Words, u8>
+    ensures { IfErr result (λ status. (status ≡ exit_of statuses.NoMemory) ⊎ (status ≡ exit_without_words)) }
+{
     let arguments = match env::args(rt) {
         Ok(arguments) => arguments,
         Err(error) if error.kind() == ErrorKind::OutOfMemory => return Err(NO_MEMORY),
@@ -41,7 +47,9 @@ fn words(rt: &(impl Env + AllocGlobal)) -> Result<Words, u8> {
 }
 
 /// The exit status of a status.
-fn code(status: Status) -> u8 {
+fn code(status: Status) -> u8
+    ensures { result ≡ exit_of status }
+{
     match status {
         Status::Done => 0,
         Status::Usage => 1,
