@@ -1,8 +1,8 @@
 -- Following a diagram by the values of one part of a word.
-use Rattle.std.proofs.Common.{◌≡◌, ℕ, zero, suc, ◌+◌, ◌<◌, ◌≤◌, Bool, true, false, IsTrue, if◌then◌else◌, List, [], ◌∷◌, length, take, slice_get, slice_index_or, Some, refl, ap, sym, subst, ◌∙◌, arith, add-one}
+use Rattle.std.proofs.Common.{◌≡◌, ℕ, zero, suc, ◌<◌, Bool, true, false, IsTrue, if◌then◌else◌, List, [], ◌∷◌, length, take, slice_get, slice_index_or, Some, refl, ap, sym, subst, ◌∙◌, arith, add-one}
 use Rattle.std.proofs.lemmas.Option.{slice_get_within}
 use Rattle.ms_arena.specs.declared.node.Ref.{Ref}
-use Rattle.ms_arena.specs.declared.node.Ref.TheVariants.{Leaf, Inner}
+use Rattle.ms_arena.specs.declared.node.Ref.TheVariants.{Inner}
 use Rattle.ms_arena.specs.declared.node.Node.{Node}
 use Rattle.ms_arena.specs.Diagram.{Bits, leaf_of, end_at, IsValid, IsBefore, IsOrdered}
 use Rattle.ms_arena.specs.Reach.{here, through_low, through_high, TestsOnly}

@@ -1,5 +1,5 @@
 -- A state of an automaton, by its place.
-use Rattle.std.proofs.Common.{◌≡◌, ℕ, ◌<◌, All, Bool, List, length, slice_get, slice_index_or, Some, ap, subst, ◌∙◌, sym}
+use Rattle.std.proofs.Common.{◌≡◌, ℕ, All, Bool, List, slice_get, Some, ap, subst, ◌∙◌, sym}
 use Rattle.std.proofs.lemmas.Option.{slice_get-map, slice_get_within, get_or_from_slice_get}
 use Rattle.std.specs.Option.{option_map}
 use Rattle.ms_arena.specs.Diagram.{leaf_of}

@@ -6,11 +6,10 @@ use Rattle.ms_arena.specs.declared.node.Node.{Node}
 use Rattle.ms_arena.specs.Diagram.{IsOrdered, IsReduced}
 use Rattle.ms_logic.specs.declared.mode.Mode.{Mode}
 use Rattle.ms_logic.specs.declared.mode.Mode.TheVariants.{Ws1s}
-use Rattle.ms_logic.specs.declared.mode.Order.{Order}
 use Rattle.ms_logic.specs.Assignment.{Variable}
 use Rattle.ms_logic.specs.Roots.{AreRising}
 use Rattle.ms_logic.specs.Word.{IsEncoding}
-use Rattle.ms_logic.specs.Content.{StateOf, Content, IsWordOver, IsClosed, sign_of, with_zero_letter, is_truth_value, is_in_letters}
+use Rattle.ms_logic.specs.Content.{StateOf, Content, IsWordOver, IsClosed, sign_of, with_zero_letter}
 use Rattle.ms_logic.specs.declared.sign.Sign.{Sign}
 use Rattle.ms_logic.specs.declared.sign.Sign.TheVariants.{Outside}
 use Rattle.ms_dfa.specs.declared.track.Track.{Track}

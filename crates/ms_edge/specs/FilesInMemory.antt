@@ -1,5 +1,5 @@
 -- Files in memory, and what one call of them does.
-use Rattle.std.specs.Prelude.{◌≡◌, ℕ, ◌+◌, ◌-◌, ◌<◌, ◌≤◌, List, [], ◌∷◌, ◌++◌, length, ◌⊎◌, Contains, fold, if◌then◌else◌, Option, Some, None, Result, Ok, Err}
+use Rattle.std.specs.Prelude.{ℕ, ◌+◌, ◌-◌, ◌<◌, ◌≤◌, List, [], ◌∷◌, ◌++◌, length, ◌⊎◌, Contains, fold, if◌then◌else◌, Option, Some, None, Result, Ok, Err}
 use Rattle.std.specs.Str.{bytes_eq}
 use Rattle.ms_edge.specs.declared.files.ReadAnswer.{ReadAnswer}
 use Rattle.ms_edge.specs.declared.files.ReadAnswer.TheVariants.{Missing, Failed, TooLong, NoMemory}

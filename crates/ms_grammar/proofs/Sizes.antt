@@ -1,5 +1,5 @@
 -- A tree has no more parts than symbols.
-use Rattle.std.proofs.Common.{◌≡◌, ℕ, suc, ◌+◌, ◌≤◌, Bool, inl, inr, ◌⊎◌, List, [], ◌∷◌, length, Option, Some, None, refl, sym, ap, ◌∙◌, arith}
+use Rattle.std.proofs.Common.{◌≡◌, ℕ, suc, ◌+◌, ◌≤◌, Bool, inl, inr, List, [], ◌∷◌, length, Option, Some, None, ap, arith}
 use Rattle.ms_edge.specs.declared.at.At.{At}
 use Rattle.ms_logic.specs.declared.mode.Mode.{Mode}
 use Rattle.ms_logic.specs.declared.mode.Mode.TheVariants.{Ws1s, M2lStr}
@@ -10,13 +10,13 @@ use Rattle.ms_grammar.specs.declared.operator.Bracket.{Bracket}
 use Rattle.ms_grammar.specs.declared.operator.Bracket.TheVariants.{Parentheses, Emptiness, Restriction, Export}
 use Rattle.ms_grammar.specs.declared.operator.Listing.{Listing}
 use Rattle.ms_grammar.specs.declared.operator.Listing.TheVariants.{Literal, Call}
-use Rattle.ms_grammar.specs.Symbol.{Symbol, Placed, placed}
+use Rattle.ms_grammar.specs.Symbol.{Symbol, Placed}
 use Rattle.ms_grammar.specs.Tree.{Atom, truth, falsity, whole, empty_set, named, numeral, pconst, imported}
-use Rattle.ms_grammar.specs.Tree.{Expression, atom, prefixed, binary, joined, shifted, enclosed, listed, quantified, let_in, Expressions, no_expressions, and_expression, Variables, no_variables, and_variable, Domain, unrestricted, restricted, Parts, no_parts, and_part}
+use Rattle.ms_grammar.specs.Tree.{Expression, atom, prefixed, binary, joined, shifted, enclosed, listed, quantified, let_in, Expressions, no_expressions, and_expression, Variables, no_variables, and_variable, unrestricted, restricted, Parts, no_parts, and_part}
 use Rattle.ms_grammar.specs.Tree.{Declaration, variables, constant, predicate, included, default_restriction, formula, Declared, Document}
-use Rattle.ms_grammar.specs.Grammar.{IsGrammatical, AreGrammatical, AreOperands, HasTwo, HaveGrammaticalDomains, HaveGrammaticalValues}
-use Rattle.ms_grammar.specs.Reads.{Starts, Follows, ReadsInt, ReadsPairs, ReadsAtom, ReadsOpening, ReadsListOpening, ReadsExpression, ReadsSeparated, ReadsList, ReadsDomain, ReadsVariables, ReadsParts}
-use Rattle.ms_grammar.specs.Declarations.{ReadsKind, ReadsParameters, ReadsParameterList, ReadsFurther, ReadsSum, ReadsDeclaration, ReadsDeclarations, ReadsString, ReadsHeader, ReadsDocument, Reads, AreDomains, IsDeclaration, AreDeclarations}
+use Rattle.ms_grammar.specs.Grammar.{IsGrammatical, AreGrammatical, AreOperands, HaveGrammaticalDomains, HaveGrammaticalValues}
+use Rattle.ms_grammar.specs.Reads.{Starts, Follows, ReadsPairs, ReadsAtom, ReadsOpening, ReadsListOpening, ReadsExpression, ReadsSeparated, ReadsList, ReadsDomain, ReadsVariables, ReadsParts}
+use Rattle.ms_grammar.specs.Declarations.{ReadsKind, ReadsParameters, ReadsParameterList, ReadsFurther, ReadsSum, ReadsDeclaration, ReadsDeclarations, ReadsHeader, Reads, AreDomains, IsDeclaration, AreDeclarations}
 use Rattle.ms_grammar.specs.Size.{size, pairs_in, size_of_all, size_of_variables, size_of_parts, size_of_declaration, size_of_declarations}
 
 starts : (exact : Bool) (s : Symbol) (at : At) (from behind : List Placed) → Starts exact s at from behind → length from ≡ suc (length behind)

@@ -1,6 +1,6 @@
 -- How many parts a tree has: declarations, expressions, names in lists of variables, parameters and parts of a `let`, and
 -- pairs of imports.
-use Rattle.std.specs.Prelude.{ℕ, zero, suc, ◌+◌, List, [], ◌∷◌, length, map}
+use Rattle.std.specs.Prelude.{ℕ, suc, ◌+◌, List, [], ◌∷◌, length, map}
 use Rattle.ms_logic.specs.declared.source.Item.{Item}
 use Rattle.ms_grammar.specs.Tree.{Atom, truth, falsity, whole, empty_set, named, numeral, pconst, imported}
 use Rattle.ms_grammar.specs.Tree.{Expression, atom, prefixed, binary, joined, shifted, enclosed, listed, quantified, let_in, Expressions, no_expressions, and_expression, Variables, no_variables, and_variable, unrestricted, restricted, Parts, no_parts, and_part}

@@ -1,5 +1,5 @@
 -- Laws of words and the assignments that they encode.
-use Rattle.std.specs.Prelude.{◌≡◌, ℕ, ◌≤◌, List, length, None}
+use Rattle.std.specs.Prelude.{◌≡◌, ◌≤◌, List, length, None}
 use Rattle.ms_edge.specs.declared.refusal.Word.{Word}
 use Rattle.ms_logic.specs.declared.mode.Mode.{Mode}
 use Rattle.ms_logic.specs.Assignment.{Env, Variable, IsAssignment}

@@ -1,4 +1,4 @@
-use Rattle.std.proofs.Common.{ℕ, ◌≤◌}
+use Rattle.std.proofs.Common.{◌≤◌}
 use Rattle.ms_logic.proofs.term.Term1.TheLaws.{the_size as number_size}
 use Rattle.ms_logic.proofs.term.Term2.TheLaws.{the_size as set_size}
 use Rattle.ms_logic.proofs.term.+term_drop.Given as goal

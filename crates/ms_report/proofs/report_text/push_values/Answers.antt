@@ -1,4 +1,4 @@
-use Rattle.std.proofs.Common.{◌≡◌, ◌<◌, ◌++◌, length, string_bytes, refl, arith, add-one, ap, ◌∙◌}
+use Rattle.std.proofs.Common.{◌<◌, ◌++◌, length, string_bytes, refl, arith, add-one, ap, ◌∙◌}
 use Rattle.std.proofs.lemmas.List.{append_assoc}
 use Rattle.std.proofs.lemmas.Option.{slice_get_read}
 use Rattle.ms_report.proofs.Values.{values_text-more, values_text-cut}

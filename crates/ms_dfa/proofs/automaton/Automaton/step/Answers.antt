@@ -1,7 +1,4 @@
-use Rattle.std.proofs.Common.{◌≡◌, ◌<◌, ℕ, length, slice_get, Some, subst, sym, ◌∙◌}
-use Rattle.ms_logic.specs.Content.{Content}
-use Rattle.ms_logic.specs.declared.sign.Sign.{Sign}
-use Rattle.ms_dfa.specs.Automaton.{state_of, states_of}
+use Rattle.std.proofs.Common.{◌<◌, ℕ, length, subst, sym, ◌∙◌}
 use Rattle.ms_dfa.proofs.States.{state_in, next_is_followed, next_state_at}
 use Rattle.ms_dfa.proofs.automaton.Automaton.step.Goals as goal
 

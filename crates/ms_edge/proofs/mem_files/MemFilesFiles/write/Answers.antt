@@ -1,4 +1,4 @@
-use Rattle.std.proofs.Common.{◌≡◌, ap, ◌∙◌}
+use Rattle.std.proofs.Common.{ap, ◌∙◌}
 use Rattle.ms_edge.specs.FilesInMemory.{FilesInMemory, held_under}
 use Rattle.ms_edge.specs.Span.{entries_in}
 use Rattle.ms_edge.proofs.Holding.{held_under-named, held_under-other}

@@ -1,4 +1,4 @@
-use Rattle.std.proofs.Common.{ℕ, ◌≤◌}
+use Rattle.std.proofs.Common.{◌≤◌}
 use Rattle.ms_logic.proofs.core_formula.Core.TheLaws.{the_size}
 use Rattle.ms_logic.proofs.core_formula.Core.+core_drop.Given as goal
 
