@@ -211,12 +211,12 @@ on_ok (Err e) here = tt
 
 -- what is made of two expressions, the second behind the first, by what they became
 pub two-made : {A M E : Type 0} (result : Result M E) (argument : M → Option tree.Argument) (into : Option tree.Argument → Option A) (G : A → A → tree.Argument)
-    (s r : State) (os : List Occurrence) (e f whole : Expression) (left right : Option tree.Argument)
+    (s r : State) (os : List Occurrence) (e f outer : Expression) (left right : Option tree.Argument)
     → left ≡ typed s.scope s.before e → r ≡ passed s os (after s.before e) → right ≡ typed r.scope r.before f
-    → both G (into (typed s.scope s.before e)) (into (typed s.scope (after s.before e) f)) ≡ typed s.scope s.before whole
-    → IfOk result (λ made. argument made ≡ both G (into left) (into right)) → IfOk result (λ made. argument made ≡ typed s.scope s.before whole)
-two-made result argument into G s r os e f whole left right first after_first second shape made =
+    → both G (into (typed s.scope s.before e)) (into (typed s.scope (after s.before e) f)) ≡ typed s.scope s.before outer
+    → IfOk result (λ made. argument made ≡ both G (into left) (into right)) → IfOk result (λ made. argument made ≡ typed s.scope s.before outer)
+two-made result argument into G s r os e f outer left right first after_first second shape made =
     let right_is : right ≡ typed s.scope (after s.before e) f = second ∙ ap (λ (x : State). typed x.scope x.before f) after_first in
-    let whole_is : both G (into left) (into right) ≡ typed s.scope s.before whole =
+    let whole_is : both G (into left) (into right) ≡ typed s.scope s.before outer =
     ap (λ v. both G (into v) (into right)) first ∙ (ap (λ v. both G (into (typed s.scope s.before e)) (into v)) right_is ∙ shape) in
     subst (λ there. IfOk result (λ made. argument made ≡ there)) whole_is made
