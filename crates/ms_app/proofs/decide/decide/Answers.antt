@@ -1,4 +1,5 @@
 use Rattle.std.proofs.Common.{sym}
+use Rattle.ms_edge.specs.Files.{between}
 use Rattle.ms_app.proofs.Building.{is_built}
 use Rattle.ms_app.proofs.Deciding.{load_refused, check_refused, beyond_refused, loaded_here}
 use Rattle.ms_app.proofs.decide.decide.Goals as goal
@@ -24,7 +25,7 @@ pub returns-in-Ok-solve-clause-decided : goal.returns-in-Ok-solve-clause-decided
 returns-in-Ok-solve-clause-decided g c = record {
   loaded = c.in-Ok.loaded;
   checked = c.in-Ok-check.checked;
-  is_loaded = loaded_here c.args.name.now c.text.result.now _ c.args.names.now c.load.new.names c.text.ensures c.requires c.in-Ok.loaded c.in-Ok.ensures.loaded;
+  is_loaded = loaded_here c.args.name.now c.text.result.now (between (g.F.Files.told c.args.files.now) (g.F.Files.told c.load.new.files)) c.args.names.now c.load.new.names c.text.ensures c.requires c.in-Ok.loaded c.in-Ok.ensures.loaded;
   accepted = c.in-Ok-check.ensures.accepted;
   built = sym c.in-None.ensures;
   typed = c.in-Ok-check.ensures.typed;
