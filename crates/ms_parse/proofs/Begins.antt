@@ -81,6 +81,11 @@ no_text_export limit c st at a [] other = refl
 no_text_export limit c st at a (placed (text t) x ∷ ts) other = absurd other
 no_text_export limit c st at a (placed _ x ∷ ts) other = refl
 
+pub export_unopened : (limit : ℕ) (c : Context) (st : List machine.Frame) (at : At) (ts : List Placed) → IsNot open_round ts → begin_export limit c st at ts ≡ None
+export_unopened limit c st at [] other = refl
+export_unopened limit c st at (placed open_round a ∷ ts) other = absurd (other refl)
+export_unopened limit c st at (placed _ a ∷ ts) other = refl
+
 pub export_without : (limit : ℕ) (c : Context) (st : List machine.Frame) (at : At) (ts f : List Placed) → Follows open_round ts f → NoText f → begin_export limit c st at ts ≡ None
 export_without limit c st at ts f opens other = ap (begin_export limit c st at) opens.1 ∙ no_text_export limit c st at opens.0 f other
 
@@ -104,24 +109,6 @@ part_entered limit c st at at_n o parts n ts g g' ts' names same follows =
 
 pub shift_entered : (limit : ℕ) (c : Context) (op : Binary) (e : Expression) (st : List machine.Frame) (ts : List Placed) → left_level op ≤ level e → machine.shift limit c op (e, st) ts ≡ enter limit c (machine.left_frame op e) st ts
 shift_entered limit c op e st ts high = ap (λ b. cond b (enter limit c (machine.left_frame op e) st ts) None) (le-leb (left_level op) (level e) high)
-
--- `, left -> right`
-pub pair_read : (c : Context) (st : List machine.Frame) (at : At) (file : List ℕ) (pairs new : List Rename) (p : Rename) (ts f1 f2 f2' f3 f4 f4' : List Placed) → Follows comma ts f1 → f1 ≡ placed (name p.left) p.at ∷ f2 → f2 ≡ f2' → Follows arrow f2' f3
-    → f3 ≡ placed (name p.right) p.at_right ∷ f4 → f4 ≡ f4' → new ≡ pairs ++ p ∷ [] → next_pair c st at file pairs ts ≡ Some (pair_wanted c st at file new, f4')
-pair_read c st at file pairs new p ts f1 f2 f2' f3 f4 f4' commas left same arrows right same' pushed =
-    ap (next_pair c st at file pairs) (commas.1 ∙ ap (λ x. placed comma commas.0 ∷ x) (left ∙ ap (λ x. placed (name p.left) p.at ∷ x) (same ∙ arrows.1 ∙ ap (λ x. placed arrow arrows.0 ∷ x)
-    (right ∙ ap (λ x. placed (name p.right) p.at_right ∷ x) same'))))
-    ∙ ap (λ x. Some (pair_wanted c st at file x, f4')) (sym pushed)
-
-no_right : (c : Context) (st : List machine.Frame) (at a1 a2 a3 : At) (file l : List ℕ) (pairs : List Rename) (ts : List Placed) → NoName ts → next_pair c st at file pairs (placed comma a1 ∷ placed (name l) a2 ∷ placed arrow a3 ∷ ts) ≡ None
-no_right c st at a1 a2 a3 file l pairs [] other = refl
-no_right c st at a1 a2 a3 file l pairs (placed (name r) x ∷ ts) other = absurd other
-no_right c st at a1 a2 a3 file l pairs (placed _ x ∷ ts) other = refl
-
-pub pair_without : (c : Context) (st : List machine.Frame) (at a2 : At) (file l : List ℕ) (pairs : List Rename) (ts f1 f2 f2' f3 : List Placed) → Follows comma ts f1 → f1 ≡ placed (name l) a2 ∷ f2 → f2 ≡ f2' → Follows arrow f2' f3 → NoName f3
-    → next_pair c st at file pairs ts ≡ None
-pair_without c st at a2 file l pairs ts f1 f2 f2' f3 commas left same arrows other =
-    ap (next_pair c st at file pairs) (commas.1 ∙ ap (λ x. placed comma commas.0 ∷ x) (left ∙ ap (λ x. placed (name l) a2 ∷ x) (same ∙ arrows.1))) ∙ no_right c st at commas.0 a2 arrows.0 file l pairs f3 other
 
 pub join_entered : (limit : ℕ) (c : Context) (op : Junction) (at : At) (es : Expressions) (e : Expression) (st : List machine.Frame) (ts : List Placed) → suc (junction_level op) ≤ level e → at ≡ place e → es ≡ and_expression no_expressions e
     → machine.join_new limit c op e st ts ≡ enter limit c (machine.joined_frame at op es) st ts

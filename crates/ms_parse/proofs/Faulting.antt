@@ -81,7 +81,7 @@ mark_missing m further other [] none = refl
 mark_missing m further other (placed s a ∷ ts) none =
     ap (λ b. cond b (further ts) (other (placed s a ∷ ts))) (unmarked (is_mark (punctuation m) s) (λ is. none (same_mark m s is)))
 
-one_more : (file : ℕ) (lexed : Lexed) (i : ℕ) → behind file lexed (suc i) ≡ behind file lexed (i + 1)
+pub one_more : (file : ℕ) (lexed : Lexed) (i : ℕ) → behind file lexed (suc i) ≡ behind file lexed (i + 1)
 one_more file lexed i = let one : suc i ≡ i + 1 = omega arith in ap (behind file lexed) one
 
 pub name_found : (further : List Placed → Fault) (file : ℕ) (lexed : Lexed) (i : ℕ) (n : List ℕ) (at : At) → IsNext file lexed i (name n) at → name_then further (behind file lexed i) ≡ further (behind file lexed (i + 1))

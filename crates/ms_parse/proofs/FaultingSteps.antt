@@ -157,12 +157,14 @@ in_other limit e (part_frame at o parts at_n n) st from is = absurd is
 in_other limit e _ st from is = refl
 
 pub colon_stray : (limit : ℕ) (e : Expression) (row : Row) (top : Frame) (st : List Frame) (from : List Placed) → IsRow row top → NoDomain row → colon_fault limit e (top ∷ st) from ≡ refused_at from
+colon_stray limit e (rows.Bracket at b) top st from is other = ap (λ x. colon_fault limit e (x ∷ st) from) is
 colon_stray limit e (rows.Listed at l es) top st from is other = ap (λ x. colon_fault limit e (x ∷ st) from) is
 colon_stray limit e (rows.Domain at q o vs at_v n) top st from is other = absurd other
 colon_stray limit e (rows.Part at o parts at_n n) top st from is other = ap (λ x. colon_fault limit e (x ∷ st) from) is
 colon_stray limit e rows.Other top st from is other = colon_other limit e top st from is
 
 pub in_stray : (limit : ℕ) (e : Expression) (row : Row) (top : Frame) (st : List Frame) (from : List Placed) → IsRow row top → NoPart row → in_fault limit e (top ∷ st) from ≡ refused_at from
+in_stray limit e (rows.Bracket at b) top st from is other = ap (λ x. in_fault limit e (x ∷ st) from) is
 in_stray limit e (rows.Listed at l es) top st from is other = ap (λ x. in_fault limit e (x ∷ st) from) is
 in_stray limit e (rows.Domain at q o vs at_v n) top st from is other = ap (λ x. in_fault limit e (x ∷ st) from) is
 in_stray limit e (rows.Part at o parts at_n n) top st from is other = absurd other

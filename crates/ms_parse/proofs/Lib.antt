@@ -8,6 +8,7 @@ pub mod Inputs
 pub mod Levels
 pub mod Limits
 pub mod OneTree
+pub mod Pairs
 pub mod Soundness
 pub mod Pushes
 pub mod Runs

@@ -234,6 +234,9 @@ part_fault limit st parts ts = either_mark (infix_operator (Relation Equal)) (λ
 abbrev pub next_part_fault : ℕ → List Frame → Parts → List Placed → Fault
 next_part_fault limit st parts ts = name_then (part_fault limit st parts) ts
 
+abbrev pub pair_fault : List Placed → Fault
+pair_fault ts = name_then (mark_then arrow (name_then accepted)) ts
+
 abbrev pub next_pair_fault : List Placed → Fault
 next_pair_fault ts = either_mark close_round accepted (mark_then comma (name_then (mark_then arrow (name_then accepted)))) ts
 

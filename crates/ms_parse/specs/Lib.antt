@@ -7,6 +7,7 @@ pub mod Links
 pub mod Machine
 pub mod Opened
 pub mod Outcomes
+pub mod Pairs
 pub mod Punctuations
 pub mod Refused
 pub mod Rows

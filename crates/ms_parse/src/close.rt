@@ -1,104 +1,56 @@
-ghost use Rattle.std.specs.Prelude.{◌≡◌, ◌∷◌, ℕ, List, IfErr, ◌-◌};
+ghost use Rattle.std.specs.Prelude.{ℕ, List, suc, IfErr, ◌-◌};
 ghost use Rattle.ms_text.specs.TokenList.{Lexed};
-ghost use Rattle.ms_parse.specs.Machine.{Context, close_curly_at, close_round_at};
-ghost use Rattle.ms_parse.specs.Opened.{frame_of};
+ghost use Rattle.ms_grammar.specs.Grammar.{depth, depth_of_all, greatest_depth};
+ghost use Rattle.ms_grammar.specs.Tree.{and_expression, enclosed, listed};
+ghost use Rattle.ms_grammar.specs.View.{expression_of, expressions_of};
+ghost use Rattle.ms_parse.specs.Faults.{hold_fault};
+ghost use Rattle.ms_parse.specs.Machine.{Context, hold};
 ghost use Rattle.ms_parse.specs.Outcomes.{Took, Says};
 ghost use Rattle.ms_parse.specs.Signs.{behind};
 ghost use Rattle.ms_parse.specs.Stack.{stack_of};
-ghost use Rattle.ms_grammar.specs.View.{expression_of};
 ghost use Rattle.ms_parse.specs.declared.frame.Frame.{Frame};
-ghost use Rattle.ms_grammar.specs.Grammar.{greatest_depth};
-ghost use Rattle.ms_parse.specs.Faults.{close_curly_fault, close_round_fault};
 
+use crate::append::with_expression;
 use crate::complete::finish;
 use crate::form::{enclosed, listed};
-use crate::frame::Frame;
-use crate::lists::push_expression;
-use crate::opened::Opened;
-use crate::operand::Operand;
+use crate::operand::{Operand, Operands};
 use crate::outcome::Outcome;
 use crate::stop::Stop;
-use ms_grammar::Listing;
+use ms_edge::At;
+use ms_grammar::{Bracket, Listing};
 use std::alloc::Global;
 
-/// `}` behind an expression, in a frame.
-pub fn close_curly(frame: Frame, operand: Operand, i: u32) -> Result<(Outcome, u32), Stop>
-    ensures step { (c : Context) (file : ℕ) (lexed : Lexed) (below : List Frame) →
-        Took c file lexed (close_curly_at greatest_depth c (expression_of operand.expr) (frame_of frame.opened ∷ stack_of below) (behind file lexed i)) below result }
-    ensures fault { (file : ℕ) (lexed : Lexed) (below : List Frame) → IfErr result (Says file lexed (close_curly_fault greatest_depth (expression_of operand.expr) (frame_of frame.opened ∷ stack_of below) (behind file lexed (i - 1)))) }
-{
-    let inside = frame.height.max(operand.height);
-    let Frame { opened, .. } = frame;
-    let Operand { expr, .. } = operand;
-    match opened {
-        Opened::Listed(at, listing, mut list) => match listing {
-            Listing::Literal => {
-                push_expression(&mut list, expr)?;
-                let made = finish(
-                    at,
-                    listed(Listing::Literal, list),
-                    inside,
-                    i.saturating_sub(1),
-                )?;
-                Ok((Outcome::Holding(made), i))
-            }
-            Listing::Call(_) => Err(Stop::Refused(i.saturating_sub(1))),
-        },
-        Opened::Prefix(..) => Err(Stop::Refused(i.saturating_sub(1))),
-        Opened::Left(..) => Err(Stop::Refused(i.saturating_sub(1))),
-        Opened::Joined(..) => Err(Stop::Refused(i.saturating_sub(1))),
-        Opened::Bracket(..) => Err(Stop::Refused(i.saturating_sub(1))),
-        Opened::Domain(..) => Err(Stop::Refused(i.saturating_sub(1))),
-        Opened::Body(..) => Err(Stop::Refused(i.saturating_sub(1))),
-        Opened::Part(..) => Err(Stop::Refused(i.saturating_sub(1))),
-        Opened::Let(..) => Err(Stop::Refused(i.saturating_sub(1))),
-    }
-}
-
-/// `)` behind an expression, in a frame.
-pub fn close_round(
+/// The bracket behind the expression that it encloses.
+pub fn end_bracket(
     alloc: Global,
-    frame: Frame,
+    at: At,
+    bracket: Bracket,
     operand: Operand,
     i: u32,
 ) -> Result<(Outcome, u32), Stop>
-    ensures step { (c : Context) (file : ℕ) (lexed : Lexed) (below : List Frame) →
-        Took c file lexed (close_round_at greatest_depth c (expression_of operand.expr) (frame_of frame.opened ∷ stack_of below) (behind file lexed i)) below result }
-    ensures fault { (c : Context) (file : ℕ) (lexed : Lexed) (below : List Frame) → IfErr result (Says file lexed (close_round_fault greatest_depth c (expression_of operand.expr) (frame_of frame.opened ∷ stack_of below) (behind file lexed (i - 1)) (behind file lexed i))) }
+    ensures step { (c : Context) (file : ℕ) (lexed : Lexed) (frames : List Frame) →
+        Took c file lexed (hold greatest_depth c (enclosed at bracket (expression_of operand.expr)) (stack_of frames) (behind file lexed i)) frames result }
+    ensures fault { (file : ℕ) (lexed : Lexed) → IfErr result (Says file lexed (hold_fault greatest_depth (suc (depth (expression_of operand.expr))) (behind file lexed (i - 1)))) }
 {
-    let height = operand.height;
-    let inside = frame.height.max(height);
-    let Frame { opened, .. } = frame;
-    let Operand { expr, .. } = operand;
-    match opened {
-        Opened::Bracket(at, bracket) => {
-            let made = finish(
-                at,
-                enclosed(alloc, bracket, expr)?,
-                height,
-                i.saturating_sub(1),
-            )?;
-            Ok((Outcome::Holding(made), i))
-        }
-        Opened::Listed(at, listing, mut list) => match listing {
-            Listing::Call(name) => {
-                push_expression(&mut list, expr)?;
-                let made = finish(
-                    at,
-                    listed(Listing::Call(name), list),
-                    inside,
-                    i.saturating_sub(1),
-                )?;
-                Ok((Outcome::Holding(made), i))
-            }
-            Listing::Literal => Err(Stop::Refused(i.saturating_sub(1))),
-        },
-        Opened::Prefix(..) => Err(Stop::Refused(i.saturating_sub(1))),
-        Opened::Left(..) => Err(Stop::Refused(i.saturating_sub(1))),
-        Opened::Joined(..) => Err(Stop::Refused(i.saturating_sub(1))),
-        Opened::Domain(..) => Err(Stop::Refused(i.saturating_sub(1))),
-        Opened::Body(..) => Err(Stop::Refused(i.saturating_sub(1))),
-        Opened::Part(..) => Err(Stop::Refused(i.saturating_sub(1))),
-        Opened::Let(..) => Err(Stop::Refused(i.saturating_sub(1))),
-    }
+    let Operand { expr, height, .. } = operand;
+    let form = enclosed(alloc, bracket, expr)?;
+    let made = finish(at, form, height, i.saturating_sub(1))?;
+    Ok((Outcome::Holding(made), i))
+}
+
+/// The bracket behind the last expression of a list.
+pub fn end_list(
+    at: At,
+    listing: Listing,
+    operands: Operands,
+    operand: Operand,
+    i: u32,
+) -> Result<(Outcome, u32), Stop>
+    ensures step { (c : Context) (file : ℕ) (lexed : Lexed) (frames : List Frame) →
+        Took c file lexed (hold greatest_depth c (listed at listing (and_expression (expressions_of operands.list) (expression_of operand.expr))) (stack_of frames) (behind file lexed i)) frames result }
+    ensures fault { (file : ℕ) (lexed : Lexed) → IfErr result (Says file lexed (hold_fault greatest_depth (suc (depth_of_all (and_expression (expressions_of operands.list) (expression_of operand.expr)))) (behind file lexed (i - 1)))) }
+{
+    let Operands { list, height } = with_expression(operands, operand)?;
+    let made = finish(at, listed(listing, list), height, i.saturating_sub(1))?;
+    Ok((Outcome::Holding(made), i))
 }

@@ -88,7 +88,7 @@ pub fn ends(bound: u32, opened: &Opened) -> bool
     }
 }
 
-fn complete_left(
+pub fn complete_left(
     alloc: Global,
     op: Binary,
     left: Operand,
@@ -105,7 +105,7 @@ fn complete_left(
     finish(at, infixed(alloc, op, l, r)?, inside, i)
 }
 
-fn complete_prefix(
+pub fn complete_prefix(
     alloc: Global,
     at: At,
     op: Prefix,
@@ -127,24 +127,10 @@ pub fn complete(alloc: Global, frame: Frame, operand: Operand, i: u32) -> Result
 {
     let inside = frame.height.max(operand.height);
     let Frame { opened, .. } = frame;
-    match opened {
-        Opened::Prefix(at, op) => complete_prefix(alloc, at, op, operand, i),
-        Opened::Left(op, left) => complete_left(alloc, op, left, operand, i),
-        Opened::Joined(at, op, list) => complete_joined(at, op, list, operand, inside, i),
-        Opened::Body(at, quant, order, bounds) => {
-            complete_body(alloc, at, quant, order, bounds, operand, inside, i)
-        }
-        Opened::Let(at, order, parts) => {
-            complete_let(alloc, at, order, parts, operand, inside, i)
-        }
-        Opened::Bracket(..) => Ok(operand),
-        Opened::Listed(..) => Ok(operand),
-        Opened::Domain(..) => Ok(operand),
-        Opened::Part(..) => Ok(operand),
-    }
+    opened.complete(alloc, operand, inside, i)
 }
 
-fn complete_joined(
+pub fn complete_joined(
     at: At,
     op: Junction,
     mut list: List<Expr>,
@@ -162,7 +148,7 @@ fn complete_joined(
     finish(at, joined(op, list), inside, i)
 }
 
-fn complete_body(
+pub fn complete_body(
     alloc: Global,
     at: At,
     quant: Quant,
@@ -182,7 +168,7 @@ fn complete_body(
     finish(at, Form::Bind(quant, order, bounds, body), inside, i)
 }
 
-fn complete_let(
+pub fn complete_let(
     alloc: Global,
     at: At,
     order: Order,

@@ -15,18 +15,14 @@ ghost use Rattle.ms_parse.specs.Faults.{settle_fault, step_fault};
 ghost use Rattle.ms_grammar.specs.Tree.{Document};
 
 use crate::bound::{bound, ends_part};
-use crate::close::{close_curly, close_round};
 use crate::context::{Context, Signature};
 use crate::declare::{declared, inside};
 use crate::frame::Frame;
-use crate::globals::end_global;
 use crate::input::sign_at;
 use crate::join::join;
 use crate::operand::Operand;
 use crate::outcome::Outcome;
-use crate::parameters::end_parameter;
 use crate::row::row_of;
-use crate::separate::{colon, comma, end_parts};
 use crate::settle::{shift, shift_int};
 use crate::sign::Sign;
 use crate::stack::{collapse, pop_frame};
@@ -84,18 +80,19 @@ fn settle_frame(
         Took c file lexed (settle greatest_depth c (symbol_with sign bytes) inside (expression_of operand.expr, frame_of frame.opened ∷ stack_of stack.old.items) (behind file lexed i)) stack.new.items result }
     ensures fault { (c : machine.Context) (file : ℕ) (lexed : Lexed) (bytes : List ℕ) (inside : Bool) → IsEnd inside (symbol_with sign bytes) → IfErr result (Says file lexed (settle_fault greatest_depth c (symbol_with sign bytes) inside ((expression_of operand.expr), frame_of frame.opened ∷ stack_of stack.old.items) (behind file lexed (i - 1)) (behind file lexed i))) }
 {
+    let row = row_of(frame);
     match sign {
-        Sign::CloseRound => close_round(alloc, frame, operand, i),
-        Sign::CloseCurly => close_curly(frame, operand, i),
-        Sign::Comma => comma(alloc, stack, row_of(frame), operand, i),
-        Sign::Colon => colon(alloc, stack, row_of(frame), operand, i),
-        Sign::Infix(_) => end_parts(stack, row_of(frame), operand, i),
+        Sign::CloseRound => row.close_round(alloc, operand, i),
+        Sign::CloseCurly => row.close_curly(operand, i),
+        Sign::Comma => row.comma(alloc, stack, operand, i),
+        Sign::Colon => row.colon(alloc, stack, operand, i),
+        Sign::Infix(_) => row.end_parts(stack, operand, i),
         _ => Err(Stop::Refused(i.saturating_sub(1))),
     }
 }
 
 /// What ends a formula that is declared.
-fn end_formula(
+pub fn end_formula(
     made: &mut Parsed,
     at: At,
     operand: Operand,
@@ -114,7 +111,7 @@ fn end_formula(
 }
 
 /// What ends the body of a predicate.
-fn end_predicate(
+pub fn end_predicate(
     made: &mut Parsed,
     signature: Signature,
     operand: Operand,
@@ -143,7 +140,7 @@ fn end_predicate(
 }
 
 /// What ends the body of a default restriction.
-fn end_default(
+pub fn end_default(
     made: &mut Parsed,
     at: At,
     order: Order,
@@ -160,35 +157,6 @@ fn end_default(
     match sign {
         Sign::Semicolon => declared(made, at, Decl::Default(order, name, expr), i),
         _ => Err(Stop::Refused(i.saturating_sub(1))),
-    }
-}
-
-/// What ends the expression of a declaration.
-fn end_expression(
-    alloc: Global,
-    tokens: &Tokens,
-    file: u32,
-    made: &mut Parsed,
-    stack: &mut Vec<Frame>,
-    context: Context,
-    operand: Operand,
-    sign: Sign,
-    i: u32,
-) -> Result<(State, u32), Stop>
-    ensures step { (bytes : List ℕ) (inside : Bool) → IsEnd inside (symbol_with sign bytes) →
-        Stepped file tokens.now (settle greatest_depth (context_of (read_of made.old) context) (symbol_with sign bytes) inside (expression_of operand.expr, []) (behind file tokens.now i)) made.new stack.new.items result }
-    ensures fault { (bytes : List ℕ) (inside : Bool) → IsEnd inside (symbol_with sign bytes) → IfErr result (Says file tokens.now (settle_fault greatest_depth (context_of (read_of made.old) context) (symbol_with sign bytes) inside ((expression_of operand.expr), []) (behind file tokens.now (i - 1)) (behind file tokens.now i))) }
-{
-    match context {
-        Context::Formula(at) => end_formula(made, at, operand, sign, i),
-        Context::Global(globals, at_name, name) => {
-            end_global(alloc, made, globals, at_name, name, operand, sign, i)
-        }
-        Context::Parameter(signature, order, at_name, name) => end_parameter(
-            alloc, tokens, file, stack, signature, order, at_name, name, operand, sign, i,
-        ),
-        Context::Predicate(signature) => end_predicate(made, signature, operand, sign, i),
-        Context::Default(at, order, name) => end_default(made, at, order, name, operand, sign, i),
     }
 }
 
@@ -215,7 +183,7 @@ fn settle(
     }
     match pop_frame(stack) {
         Some(frame) => inside(context, settle_frame(alloc, stack, frame, operand, sign, i)),
-        None => end_expression(alloc, tokens, file, made, stack, context, operand, sign, i),
+        None => context.end_expression(alloc, tokens, file, made, stack, operand, sign, i),
     }
 }
 

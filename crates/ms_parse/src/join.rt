@@ -37,17 +37,7 @@ fn link_of(op: Junction, frame: Frame) -> Link
     ensures { IsLink op result (frame_of frame.opened) }
 {
     let Frame { opened, height } = frame;
-    match opened {
-        Opened::Joined(at, found, list) => {
-            if found == op {
-                Link::Further(at, Operands { list, height })
-            } else {
-                let opened = Opened::Joined(at, found, list);
-                Link::Other(Frame { opened, height })
-            }
-        }
-        opened => Link::Other(Frame { opened, height }),
-    }
+    opened.into_link(height, op)
 }
 
 fn join_further(

@@ -1,12 +1,14 @@
-ghost use Rattle.std.specs.Prelude.{◌≡◌, ◌++◌, ◌∷◌, [], ℕ, List, IfErr, ◌-◌};
+ghost use Rattle.std.specs.Prelude.{◌≡◌, ◌≢◌, ◌++◌, ◌∷◌, [], ℕ, List, IfOk, IfErr, ◌-◌};
 ghost use Rattle.ms_parse.specs.Machine.{Context, behind_variable, next_variable, next_part, next_pair};
 ghost use Rattle.ms_parse.specs.Outcomes.{Took, Says};
+ghost use Rattle.ms_parse.specs.Pairs.{IsPair, NoPair};
+ghost use Rattle.ms_parse.specs.declared.stop.Stop.TheVariants.{Memory};
 ghost use Rattle.ms_parse.specs.Signs.{symbol_with, behind};
 ghost use Rattle.ms_parse.specs.Stack.{stack_of};
 ghost use Rattle.ms_grammar.specs.View.{variables_of, parts_of};
 ghost use Rattle.ms_text.specs.TokenList.{Lexed};
 ghost use Rattle.ms_grammar.specs.Grammar.{greatest_depth};
-ghost use Rattle.ms_parse.specs.Faults.{behind_variable_fault, next_pair_fault, next_part_fault, next_variable_fault};
+ghost use Rattle.ms_parse.specs.Faults.{behind_variable_fault, next_pair_fault, next_part_fault, next_variable_fault, pair_fault};
 
 use crate::complete::finish;
 use crate::enter::enter;
@@ -54,6 +56,30 @@ pub fn next_part(
     enter(stack, frame, next, Stop::TooDeep(i + 1))
 }
 
+/// A pair of an import behind its comma, and the number behind it.
+fn pair_at(alloc: Global, tokens: &Tokens, file: u32, i: u32) -> Result<(Rename, u32), Stop>
+    ensures next { IfOk result (λ found. IsPair found.0 (behind file tokens.now i) (behind file tokens.now found.1)) }
+    ensures none { IfErr result (λ stop. stop ≢ Memory → NoPair (behind file tokens.now i)) }
+    ensures fault { IfErr result (Says file tokens.now (pair_fault (behind file tokens.now i))) }
+{
+    let Some((left, at)) = name_at(alloc, tokens, file, i)? else {
+        return Err(Stop::Refused(i));
+    };
+    let Some(to) = behind_mark(tokens, file, i + 1, Punctuation::Arrow) else {
+        return Err(Stop::Refused(i + 1));
+    };
+    let Some((right, at_right)) = name_at(alloc, tokens, file, to)? else {
+        return Err(Stop::Refused(to));
+    };
+    let pair = Rename {
+        at,
+        left,
+        at_right,
+        right,
+    };
+    Ok((pair, to + 1))
+}
+
 /// A pair of an import or its end, where these are wanted.
 pub fn next_pair(
     alloc: Global,
@@ -76,23 +102,9 @@ pub fn next_pair(
     let Some(from) = behind_mark(tokens, file, i, Punctuation::Comma) else {
         return Err(Stop::Refused(i));
     };
-    let Some((left, at_left)) = name_at(alloc, tokens, file, from)? else {
-        return Err(Stop::Refused(from));
-    };
-    let Some(to) = behind_mark(tokens, file, from + 1, Punctuation::Arrow) else {
-        return Err(Stop::Refused(from + 1));
-    };
-    let Some((right, at_right)) = name_at(alloc, tokens, file, to)? else {
-        return Err(Stop::Refused(to));
-    };
-    let pair = Rename {
-        at: at_left,
-        left,
-        at_right,
-        right,
-    };
+    let (pair, next) = pair_at(alloc, tokens, file, from)?;
     push(&mut pairs, pair)?;
-    Ok((Outcome::Pair(at, text, pairs), to + 1))
+    Ok((Outcome::Pair(at, text, pairs), next))
 }
 
 /// What stands behind a variable of a binder.

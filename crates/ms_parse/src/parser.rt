@@ -27,7 +27,7 @@ use crate::parameters::next_parameter;
 use crate::refuse::refusal_of;
 use crate::state::{Parsed, State};
 use crate::stop::Stop;
-use ms_edge::{List, Refusal};
+use ms_edge::{List, Refusal, let_go};
 use ms_logic::Source;
 use ms_text::Tokens;
 use std::alloc::Global;
@@ -123,6 +123,7 @@ fn read(alloc: Global, tokens: &Tokens, file: u32) -> Result<Parsed, Stop>
             Err(stop) => return Err(stop),
         }
     }
+    let_go(state);
     Ok(made)
 }
 

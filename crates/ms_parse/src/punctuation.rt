@@ -10,7 +10,7 @@ use ms_logic::Rel;
 use ms_text::Tokens;
 
 /// A symbol that stands alone between names and expressions.
-#[derive(Clone, Copy, PartialEq, Eq)]
+#[derive(Clone, Copy)]
 pub enum Punctuation {
     OpenRound,
     CloseRound,

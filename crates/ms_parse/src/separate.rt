@@ -1,16 +1,14 @@
-ghost use Rattle.std.specs.Prelude.{◌≡◌, ◌∷◌, ℕ, List, Some, IfErr, ◌-◌};
+ghost use Rattle.std.specs.Prelude.{◌≡◌, ℕ, List, Some, IfErr, ◌-◌};
 ghost use Rattle.ms_text.specs.TokenList.{Lexed};
-ghost use Rattle.ms_parse.specs.Machine as machine;
-ghost use Rattle.ms_parse.specs.Machine.{Context, list_frame, body_frame, let_frame, variable_wanted, part_wanted, enter, comma_at, colon_at, in_at};
+ghost use Rattle.ms_parse.specs.Machine.{Context, list_frame, body_frame, let_frame, variable_wanted, part_wanted, enter};
 ghost use Rattle.ms_parse.specs.Outcomes.{Took, Says};
-ghost use Rattle.ms_parse.specs.Rows.{IsRow};
 ghost use Rattle.ms_parse.specs.Signs.{behind};
 ghost use Rattle.ms_parse.specs.Stack.{stack_of};
 ghost use Rattle.ms_grammar.specs.Tree.{and_expression, and_variable, and_part, restricted};
 ghost use Rattle.ms_grammar.specs.View.{expression_of, expressions_of, variables_of, parts_of};
 ghost use Rattle.ms_parse.specs.declared.frame.Frame.{Frame};
 ghost use Rattle.ms_grammar.specs.Grammar.{greatest_depth, depth_of_all, depth_of_domains, depth_of_values};
-ghost use Rattle.ms_parse.specs.Faults.{colon_fault, comma_fault, deep_at, enter_fault, in_fault};
+ghost use Rattle.ms_parse.specs.Faults.{deep_at, enter_fault};
 ghost use Rattle.ms_parse.specs.declared.stop.Stop.TheVariants.{Memory};
 
 use crate::append::{with_expression, with_part, with_restricted};
@@ -19,14 +17,13 @@ use crate::frame::Frame;
 use crate::opened::Opened;
 use crate::operand::{Bounds, Operand, Operands, Parts};
 use crate::outcome::Outcome;
-use crate::row::Row;
 use crate::stop::Stop;
 use ms_edge::{At, Name};
 use ms_grammar::Listing;
 use ms_logic::{Order, Quant};
 use std::alloc::Global;
 
-fn another_expression(
+pub fn another_expression(
     stack: &mut Vec<Frame>,
     at: At,
     listing: Listing,
@@ -48,7 +45,7 @@ fn another_expression(
     )
 }
 
-fn another_variable(
+pub fn another_variable(
     alloc: Global,
     at: At,
     quant: Quant,
@@ -67,7 +64,7 @@ fn another_variable(
     Ok((Outcome::Variable(at, quant, order, more), i))
 }
 
-fn another_part(
+pub fn another_part(
     at: At,
     order: Order,
     parts: Parts,
@@ -84,33 +81,7 @@ fn another_part(
     Ok((Outcome::Part(at, order, more), i))
 }
 
-/// `,` behind an expression, in the row that stood on top of the stack.
-pub fn comma(
-    alloc: Global,
-    stack: &mut Vec<Frame>,
-    row: Row,
-    operand: Operand,
-    i: u32,
-) -> Result<(Outcome, u32), Stop>
-    ensures step { (c : Context) (file : ℕ) (lexed : Lexed) (top : machine.Frame) → IsRow row top →
-        Took c file lexed (comma_at greatest_depth c (expression_of operand.expr) (top ∷ stack_of stack.old.items) (behind file lexed i)) stack.new.items result }
-    ensures fault { (c : Context) (file : ℕ) (lexed : Lexed) (top : machine.Frame) → IsRow row top → IfErr result (Says file lexed (comma_fault greatest_depth c (expression_of operand.expr) (top ∷ stack_of stack.old.items) (behind file lexed (i - 1)))) }
-{
-    match row {
-        Row::Listed(at, listing, operands) => {
-            another_expression(stack, at, listing, operands, operand, i)
-        }
-        Row::Domain(at, quant, order, bounds, at_name, name) => {
-            another_variable(alloc, at, quant, order, bounds, at_name, name, operand, i)
-        }
-        Row::Part(at, order, parts, at_name, name) => {
-            another_part(at, order, parts, at_name, name, operand, i)
-        }
-        Row::Other => Err(Stop::Refused(i.saturating_sub(1))),
-    }
-}
-
-fn begin_body(
+pub fn begin_body(
     alloc: Global,
     stack: &mut Vec<Frame>,
     at: At,
@@ -136,31 +107,7 @@ fn begin_body(
     )
 }
 
-/// `:` behind an expression, in the row that stood on top of the stack.
-pub fn colon(
-    alloc: Global,
-    stack: &mut Vec<Frame>,
-    row: Row,
-    operand: Operand,
-    i: u32,
-) -> Result<(Outcome, u32), Stop>
-    ensures step { (c : Context) (file : ℕ) (lexed : Lexed) (top : machine.Frame) → IsRow row top →
-        Took c file lexed (colon_at greatest_depth c (expression_of operand.expr) (top ∷ stack_of stack.old.items) (behind file lexed i)) stack.new.items result }
-    ensures fault { (file : ℕ) (lexed : Lexed) (top : machine.Frame) → IsRow row top → IfErr result (Says file lexed (colon_fault greatest_depth (expression_of operand.expr) (top ∷ stack_of stack.old.items) (behind file lexed (i - 1)))) }
-{
-    match row {
-        Row::Domain(at, quant, order, bounds, at_name, name) => {
-            begin_body(
-                alloc, stack, at, quant, order, bounds, at_name, name, operand, i,
-            )
-        }
-        Row::Listed(..) => Err(Stop::Refused(i.saturating_sub(1))),
-        Row::Part(..) => Err(Stop::Refused(i.saturating_sub(1))),
-        Row::Other => Err(Stop::Refused(i.saturating_sub(1))),
-    }
-}
-
-fn begin_scope(
+pub fn begin_scope(
     stack: &mut Vec<Frame>,
     at: At,
     order: Order,
@@ -182,25 +129,4 @@ fn begin_scope(
         i,
         Stop::TooDeep(i.saturating_sub(1)),
     )
-}
-
-/// `in` behind a right side of a `let`, in the row that stood on top of the stack.
-pub fn end_parts(
-    stack: &mut Vec<Frame>,
-    row: Row,
-    operand: Operand,
-    i: u32,
-) -> Result<(Outcome, u32), Stop>
-    ensures step { (c : Context) (file : ℕ) (lexed : Lexed) (top : machine.Frame) → IsRow row top →
-        Took c file lexed (in_at greatest_depth c (expression_of operand.expr) (top ∷ stack_of stack.old.items) (behind file lexed i)) stack.new.items result }
-    ensures fault { (file : ℕ) (lexed : Lexed) (top : machine.Frame) → IsRow row top → IfErr result (Says file lexed (in_fault greatest_depth (expression_of operand.expr) (top ∷ stack_of stack.old.items) (behind file lexed (i - 1)))) }
-{
-    match row {
-        Row::Part(at, order, parts, at_name, name) => {
-            begin_scope(stack, at, order, parts, at_name, name, operand, i)
-        }
-        Row::Listed(..) => Err(Stop::Refused(i.saturating_sub(1))),
-        Row::Domain(..) => Err(Stop::Refused(i.saturating_sub(1))),
-        Row::Other => Err(Stop::Refused(i.saturating_sub(1))),
-    }
 }

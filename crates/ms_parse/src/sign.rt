@@ -7,7 +7,7 @@ use ms_logic::{Order, Quant, Rel};
 use ms_text::{Keyword, Kind, Mark};
 
 /// A symbol of the grammar without the bytes of its name or text.
-#[derive(Clone, Copy, PartialEq, Eq)]
+#[derive(Clone, Copy)]
 pub enum Sign {
     Name,
     Number(u64),

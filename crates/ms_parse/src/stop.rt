@@ -1,7 +1,7 @@
 use ms_edge::NoMemory;
 
 /// Why an automaton's step is not taken.
-#[derive(Clone, Copy, PartialEq, Eq)]
+#[derive(Clone, Copy)]
 pub enum Stop {
     Memory,
     /// The token with this number does not stand there, or the tokens end before it.

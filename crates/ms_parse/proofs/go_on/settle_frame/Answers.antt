@@ -20,7 +20,7 @@ returns-in-CloseRound-clause-step c context file lexed bytes inside is =
     let e = expression_of c.args.operand.expr in
     let ts = behind file lexed c.args.i in
     as_taken context file lexed (settle greatest_depth context (symbol_with c.args.sign bytes) inside (e, st) ts) (close_round_at greatest_depth context e st ts) below c.close_round.result
-    (ap (λ s. settle greatest_depth context (symbol_with s bytes) inside (e, st) ts) c.in-CloseRound.is) (c.close_round.ensures.step context file lexed below)
+    (ap (λ s. settle greatest_depth context (symbol_with s bytes) inside (e, st) ts) c.in-CloseRound.is) (c.close_round.ensures.step context file lexed below (frame_of c.args.frame.opened) c.row_of-row.ensures)
 
 pub returns-in-CloseCurly-clause-step : goal.returns-in-CloseCurly-clause-step
 returns-in-CloseCurly-clause-step c context file lexed bytes inside is =
@@ -29,7 +29,7 @@ returns-in-CloseCurly-clause-step c context file lexed bytes inside is =
     let e = expression_of c.args.operand.expr in
     let ts = behind file lexed c.args.i in
     as_taken context file lexed (settle greatest_depth context (symbol_with c.args.sign bytes) inside (e, st) ts) (close_curly_at greatest_depth context e st ts) below c.close_curly.result
-    (ap (λ s. settle greatest_depth context (symbol_with s bytes) inside (e, st) ts) c.in-CloseCurly.is) (c.close_curly.ensures.step context file lexed below)
+    (ap (λ s. settle greatest_depth context (symbol_with s bytes) inside (e, st) ts) c.in-CloseCurly.is) (c.close_curly.ensures.step context file lexed below (frame_of c.args.frame.opened) c.row_of-row.ensures)
 
 pub returns-in-Comma-clause-step : goal.returns-in-Comma-clause-step
 returns-in-Comma-clause-step c context file lexed bytes inside is =
@@ -38,7 +38,7 @@ returns-in-Comma-clause-step c context file lexed bytes inside is =
     let e = expression_of c.args.operand.expr in
     let ts = behind file lexed c.args.i in
     as_taken context file lexed (settle greatest_depth context (symbol_with c.args.sign bytes) inside (e, st) ts) (comma_at greatest_depth context e st ts) c.comma.new.stack.items c.comma.result
-    (ap (λ s. settle greatest_depth context (symbol_with s bytes) inside (e, st) ts) c.in-Comma.is) (c.comma.ensures.step context file lexed top c.row_of.ensures)
+    (ap (λ s. settle greatest_depth context (symbol_with s bytes) inside (e, st) ts) c.in-Comma.is) (c.comma.ensures.step context file lexed top c.row_of-row.ensures)
 
 pub returns-in-Colon-clause-step : goal.returns-in-Colon-clause-step
 returns-in-Colon-clause-step c context file lexed bytes inside is =
@@ -47,7 +47,7 @@ returns-in-Colon-clause-step c context file lexed bytes inside is =
     let e = expression_of c.args.operand.expr in
     let ts = behind file lexed c.args.i in
     as_taken context file lexed (settle greatest_depth context (symbol_with c.args.sign bytes) inside (e, st) ts) (colon_at greatest_depth context e st ts) c.colon.new.stack.items c.colon.result
-    (ap (λ s. settle greatest_depth context (symbol_with s bytes) inside (e, st) ts) c.in-Colon.is) (c.colon.ensures.step context file lexed top c.row_of-in-Colon.ensures)
+    (ap (λ s. settle greatest_depth context (symbol_with s bytes) inside (e, st) ts) c.in-Colon.is) (c.colon.ensures.step context file lexed top c.row_of-row.ensures)
 
 pub returns-in-Infix-clause-step : goal.returns-in-Infix-clause-step
 returns-in-Infix-clause-step c context file lexed bytes inside is =
@@ -56,7 +56,7 @@ returns-in-Infix-clause-step c context file lexed bytes inside is =
     let e = expression_of c.args.operand.expr in
     let ts = behind file lexed c.args.i in
     as_taken context file lexed (settle greatest_depth context (symbol_with c.args.sign bytes) inside (e, st) ts) (in_at greatest_depth context e st ts) c.end_parts.new.stack.items c.end_parts.result
-    (in_settled greatest_depth context c.args.sign c.in-Infix.field-0 bytes inside e st ts c.in-Infix.is is) (c.end_parts.ensures.step context file lexed top c.row_of-in-Infix.ensures)
+    (in_settled greatest_depth context c.args.sign c.in-Infix.field-0 bytes inside e st ts c.in-Infix.is is) (c.end_parts.ensures.step context file lexed top c.row_of-row.ensures)
 
 pub returns-in-CloseRound-clause-fault : goal.returns-in-CloseRound-clause-fault
 returns-in-CloseRound-clause-fault c context file lexed bytes inside is =
@@ -64,7 +64,7 @@ returns-in-CloseRound-clause-fault c context file lexed bytes inside is =
     let top = frame_of c.args.frame.opened in
     let e = expression_of c.args.operand.expr in
     fault_by file lexed (λ s. settle_fault greatest_depth context (symbol_with s bytes) inside (e, top ∷ stack_of below) (behind file lexed (c.args.i - 1)) (behind file lexed c.args.i)) c.args.sign signs.CloseRound c.close_round.result c.in-CloseRound.is
-    (c.close_round.ensures.fault context file lexed below)
+    (c.close_round.ensures.fault context file lexed below top c.row_of-row.ensures)
 
 pub returns-in-CloseCurly-clause-fault : goal.returns-in-CloseCurly-clause-fault
 returns-in-CloseCurly-clause-fault c context file lexed bytes inside is =
@@ -72,7 +72,7 @@ returns-in-CloseCurly-clause-fault c context file lexed bytes inside is =
     let top = frame_of c.args.frame.opened in
     let e = expression_of c.args.operand.expr in
     fault_by file lexed (λ s. settle_fault greatest_depth context (symbol_with s bytes) inside (e, top ∷ stack_of below) (behind file lexed (c.args.i - 1)) (behind file lexed c.args.i)) c.args.sign signs.CloseCurly c.close_curly.result c.in-CloseCurly.is
-    (c.close_curly.ensures.fault file lexed below)
+    (c.close_curly.ensures.fault file lexed below top c.row_of-row.ensures)
 
 pub returns-in-Comma-clause-fault : goal.returns-in-Comma-clause-fault
 returns-in-Comma-clause-fault c context file lexed bytes inside is =
@@ -80,7 +80,7 @@ returns-in-Comma-clause-fault c context file lexed bytes inside is =
     let top = frame_of c.args.frame.opened in
     let e = expression_of c.args.operand.expr in
     fault_by file lexed (λ s. settle_fault greatest_depth context (symbol_with s bytes) inside (e, top ∷ stack_of below) (behind file lexed (c.args.i - 1)) (behind file lexed c.args.i)) c.args.sign signs.Comma c.comma.result c.in-Comma.is
-    (c.comma.ensures.fault context file lexed top c.row_of.ensures)
+    (c.comma.ensures.fault context file lexed top c.row_of-row.ensures)
 
 pub returns-in-Colon-clause-fault : goal.returns-in-Colon-clause-fault
 returns-in-Colon-clause-fault c context file lexed bytes inside is =
@@ -88,7 +88,7 @@ returns-in-Colon-clause-fault c context file lexed bytes inside is =
     let top = frame_of c.args.frame.opened in
     let e = expression_of c.args.operand.expr in
     fault_by file lexed (λ s. settle_fault greatest_depth context (symbol_with s bytes) inside (e, top ∷ stack_of below) (behind file lexed (c.args.i - 1)) (behind file lexed c.args.i)) c.args.sign signs.Colon c.colon.result c.in-Colon.is
-    (c.colon.ensures.fault file lexed top c.row_of-in-Colon.ensures)
+    (c.colon.ensures.fault file lexed top c.row_of-row.ensures)
 
 pub returns-in-Infix-clause-fault : goal.returns-in-Infix-clause-fault
 returns-in-Infix-clause-fault c context file lexed bytes inside is =
@@ -98,4 +98,4 @@ returns-in-Infix-clause-fault c context file lexed bytes inside is =
     let from = behind file lexed (c.args.i - 1) in
     let ts = behind file lexed c.args.i in
     as_fault file lexed (settle_fault greatest_depth context (symbol_with c.args.sign bytes) inside (e, st) from ts) (in_fault greatest_depth e st from) c.end_parts.result
-    (part_end_fault greatest_depth context c.args.sign c.in-Infix.field-0 bytes inside e st from ts c.in-Infix.is is) (c.end_parts.ensures.fault file lexed top c.row_of-in-Infix.ensures)
+    (part_end_fault greatest_depth context c.args.sign c.in-Infix.field-0 bytes inside e st from ts c.in-Infix.is is) (c.end_parts.ensures.fault file lexed top c.row_of-row.ensures)

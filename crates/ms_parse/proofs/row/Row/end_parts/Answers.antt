@@ -8,20 +8,24 @@ use Rattle.ms_grammar.specs.View.{expression_of, parts_of}
 use Rattle.ms_parse.proofs.Separations.{in_refused, NoPart}
 use Rattle.ms_parse.specs.Faults.{in_fault}
 use Rattle.ms_parse.proofs.Faulting.{fault_by}
-use Rattle.ms_parse.proofs.separate.end_parts.Goals as goal
+use Rattle.ms_parse.proofs.row.Row.end_parts.Goals as goal
 use Rattle.ms_grammar.specs.Grammar.{greatest_depth}
 
 pub returns-in-Listed-clause-step : goal.returns-in-Listed-clause-step
 returns-in-Listed-clause-step c context file lexed top is =
-    in_refused greatest_depth context (expression_of c.args.operand.expr) c.args.row top (stack_of c.args.stack.now.items) (behind file lexed c.args.i) is (subst NoPart (sym c.in-Listed.is) tt)
+    in_refused greatest_depth context (expression_of c.args.operand.expr) c.args.self top (stack_of c.args.stack.now.items) (behind file lexed c.args.i) is (subst NoPart (sym c.in-Listed.is) tt)
 
 pub returns-in-Domain-clause-step : goal.returns-in-Domain-clause-step
 returns-in-Domain-clause-step c context file lexed top is =
-    in_refused greatest_depth context (expression_of c.args.operand.expr) c.args.row top (stack_of c.args.stack.now.items) (behind file lexed c.args.i) is (subst NoPart (sym c.in-Domain.is) tt)
+    in_refused greatest_depth context (expression_of c.args.operand.expr) c.args.self top (stack_of c.args.stack.now.items) (behind file lexed c.args.i) is (subst NoPart (sym c.in-Domain.is) tt)
 
-pub returns-clause-step : goal.returns-clause-step
-returns-clause-step c context file lexed top is =
-    in_refused greatest_depth context (expression_of c.args.operand.expr) c.args.row top (stack_of c.args.stack.now.items) (behind file lexed c.args.i) is (subst NoPart (sym c.in-Other.is) tt)
+pub returns-in-Bracket-clause-step : goal.returns-in-Bracket-clause-step
+returns-in-Bracket-clause-step c context file lexed top is =
+    in_refused greatest_depth context (expression_of c.args.operand.expr) c.args.self top (stack_of c.args.stack.now.items) (behind file lexed c.args.i) is (subst NoPart (sym c.in-Bracket.is) tt)
+
+pub returns-in-Other-clause-step : goal.returns-in-Other-clause-step
+returns-in-Other-clause-step c context file lexed top is =
+    in_refused greatest_depth context (expression_of c.args.operand.expr) c.args.self top (stack_of c.args.stack.now.items) (behind file lexed c.args.i) is (subst NoPart (sym c.in-Other.is) tt)
 
 pub returns-in-Part-clause-step : goal.returns-in-Part-clause-step
 returns-in-Part-clause-step c context file lexed top is =

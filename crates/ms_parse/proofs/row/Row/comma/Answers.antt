@@ -1,4 +1,4 @@
-use Rattle.std.proofs.Common.{◌≡◌, ◌∷◌, sym, subst, ◌-◌}
+use Rattle.std.proofs.Common.{◌≡◌, ◌∷◌, ap, sym, subst, ◌-◌}
 use Rattle.ms_parse.specs.Machine.{list_frame, domain_frame, part_frame, comma_at}
 use Rattle.ms_parse.specs.Outcomes.{Took}
 use Rattle.ms_parse.specs.Rows.{IsRow}
@@ -8,12 +8,16 @@ use Rattle.ms_grammar.specs.View.{expression_of, expressions_of, variables_of, p
 use Rattle.ms_parse.proofs.Separations.{comma_at-other}
 use Rattle.ms_parse.specs.Faults.{comma_fault}
 use Rattle.ms_parse.proofs.Faulting.{fault_by, only_memory}
-use Rattle.ms_parse.proofs.separate.comma.Goals as goal
+use Rattle.ms_parse.proofs.row.Row.comma.Goals as goal
 use Rattle.ms_grammar.specs.Grammar.{greatest_depth}
 
 pub returns-in-Other-clause-step : goal.returns-in-Other-clause-step
 returns-in-Other-clause-step c context file lexed top is =
     comma_at-other greatest_depth context (expression_of c.args.operand.expr) top (stack_of c.args.stack.now.items) (behind file lexed c.args.i) (subst (λ r. IsRow r top) c.in-Other.is is)
+
+pub returns-in-Bracket-clause-step : goal.returns-in-Bracket-clause-step
+returns-in-Bracket-clause-step c context file lexed top is =
+    ap (λ x. comma_at greatest_depth context (expression_of c.args.operand.expr) (x ∷ stack_of c.args.stack.now.items) (behind file lexed c.args.i)) (subst (λ r. IsRow r top) c.in-Bracket.is is)
 
 pub returns-in-Listed-clause-step : goal.returns-in-Listed-clause-step
 returns-in-Listed-clause-step c context file lexed top is =
