@@ -1,8 +1,7 @@
 //! The files of a request.
-use crate::bytes::{append_numbered, bytes_of};
-use crate::table::{allow_keys, number_at, numbers_at, table_at, text_at};
 use anyhow::{Result, bail};
 use ms_edge::{List, MemFiles};
+use ms_table::{allow_keys, append_numbered, bytes_of, number_at, numbers_at, table_at, text_at};
 use std::alloc::Global;
 use toml::{Table, Value};
 

@@ -2,18 +2,16 @@
 //! run, and each that differs is printed.
 #![tactic(auto)]
 
-mod bytes;
 mod files;
 mod request;
 mod status;
-mod table;
 mod wanted;
 
 use crate::request::Request;
-use crate::table::allow_keys;
 use crate::wanted::Wanted;
 use anyhow::{Context, Result};
 use ms_app::run;
+use ms_table::{rows_of, table_of};
 use std::env;
 use std::process::ExitCode;
 use toml::{Table, Value};
@@ -48,7 +46,7 @@ fn main(rt: HostRuntime) -> Result<ExitCode> {
 
 /// Runs the rows of a file. A file that cannot be read counts as a row that differs.
 fn run_file(rt: &HostRuntime, file: &str, tally: &mut Tally) -> Result<()> {
-    match table_of(rt, file) {
+    match read(rt, file) {
         Ok(table) => run_rows(rt, file, &table, tally),
         Err(error) => {
             println!(rt; "{file}: {error:#}")?;
@@ -59,11 +57,9 @@ fn run_file(rt: &HostRuntime, file: &str, tally: &mut Tally) -> Result<()> {
 }
 
 /// The table that a file holds.
-fn table_of(rt: &HostRuntime, file: &str) -> Result<Table> {
+fn read(rt: &HostRuntime, file: &str) -> Result<Table> {
     let text = std::fs::read_to_string(rt, file).context("it cannot be read")?;
-    let table = toml::table_from_str(rt.alloc(), text.as_str()).context("it is no TOML")?;
-    allow_keys(&table, &["row"])?;
-    Ok(table)
+    table_of(rt.alloc(), text.as_str())
 }
 
 fn run_rows(rt: &HostRuntime, file: &str, table: &Table, tally: &mut Tally) -> Result<()> {
@@ -82,14 +78,6 @@ fn count(tally: &mut Tally, agrees: bool) {
     tally.rows = tally.rows.saturating_add(1);
     if !agrees {
         tally.differ = tally.differ.saturating_add(1);
-    }
-}
-
-/// The rows of a file, which are its `row` tables.
-fn rows_of(table: &Table) -> &[Value] {
-    match table.get("row") {
-        Some(Value::Array(rows)) => rows.as_slice(),
-        _ => &[],
     }
 }
 

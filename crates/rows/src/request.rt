@@ -1,8 +1,8 @@
 //! A request, as a user makes it.
 use crate::files::files_of;
-use crate::table::{allow_keys, list_at, number_at, numbers_at};
 use anyhow::{Result, bail};
 use ms_edge::{List, MemFiles, MemSink, Words};
+use ms_table::{allow_keys, list_at, number_at, numbers_at};
 use std::alloc::Global;
 use toml::{Table, Value};
 

@@ -1,10 +1,9 @@
 //! What must come of a request.
-use crate::bytes::bytes_of;
 use crate::request::Request;
 use crate::status::{number_of, status_of};
-use crate::table::{number_at, table_at, text_at};
 use anyhow::{Result, bail};
 use ms_edge::{MemFiles, Status};
+use ms_table::{bytes_of, number_at, table_at, text_at};
 use std::alloc::Global;
 use toml::{Table, Value};
 

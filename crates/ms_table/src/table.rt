@@ -31,6 +31,14 @@ pub fn text_at<'a>(table: &'a Table, key: &str) -> Result<Option<&'a str>> {
     }
 }
 
+/// The text under the key, which must be there.
+pub fn text_of<'a>(table: &'a Table, key: &str) -> Result<&'a str> {
+    match text_at(table, key)? {
+        Some(text) => Ok(text),
+        None => bail!("there is no {key}"),
+    }
+}
+
 /// The number under the key, or this one where there is none.
 pub fn number_at(table: &Table, key: &str, other: u64) -> Result<u64> {
     match table.get(key) {
@@ -40,7 +48,7 @@ pub fn number_at(table: &Table, key: &str, other: u64) -> Result<u64> {
 }
 
 /// The number that a value is.
-pub fn number(key: &str, value: &Value) -> Result<u64> {
+fn number(key: &str, value: &Value) -> Result<u64> {
     if let Value::Integer(number) = value {
         if let Ok(number) = u64::try_from(*number) {
             return Ok(number);

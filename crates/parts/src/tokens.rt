@@ -1,0 +1,79 @@
+//! Tokens.
+use crate::rows::{Question, run_rows};
+use crate::told::{shown, told};
+use anyhow::{Result, bail};
+use ms_edge::{Bytes, List, Refusal};
+use ms_text::{MAX_BYTES, Tokens, is_name, name_length, tokens};
+use std::alloc::Global;
+
+/// The number of the file that a source is said to be.
+pub const FILE: u32 = 7;
+
+pub fn tell(rt: &HostRuntime) -> Result<()> {
+    println!(rt; "Tokens")?;
+    run_rows(rt, "tokens.toml", Question::Tokens)?;
+    slices(rt)?;
+    names(rt)
+}
+
+/// The tokens of a source, or its refusal.
+pub fn tokens_of(alloc: Global, bytes: Bytes) -> Result<Result<Tokens, Refusal>> {
+    if bytes.len() > MAX_BYTES {
+        bail!("the source is too long");
+    }
+    Ok(tokens(alloc, bytes, FILE))
+}
+
+/// Each token of a source as `KIND PLACE+LENGTH`, or how many they are where they are many, or the refusal.
+pub fn answer(alloc: Global, bytes: Bytes) -> Result<String> {
+    match tokens_of(alloc, bytes)? {
+        Ok(all) if all.len() > 99 => Ok(format!(in alloc; "{} tokens", all.len())?),
+        Ok(all) => listed(alloc, &all),
+        Err(refusal) => told(alloc, &refusal),
+    }
+}
+
+fn listed(alloc: Global, all: &Tokens) -> Result<String> {
+    let mut text = String::new(alloc);
+    for i in 0..all.len() {
+        if i > 0 {
+            text.push_str(", ")?;
+        }
+        let token = all.get(i);
+        let kind = token.kind;
+        let piece = format!(in alloc; "{kind:?} {}+{}", token.place, token.length)?;
+        text.push_str(piece.as_str())?;
+    }
+    Ok(text)
+}
+
+/// The bytes of each token of a source, and how many bytes it has.
+fn slices(rt: &HostRuntime) -> Result<()> {
+    let bytes = List::from(Vec::from_slice(rt.alloc(), b"ex1 x': # all\n x'<=>{007}")?);
+    match tokens_of(rt.alloc(), bytes)? {
+        Ok(all) => print_slices(rt, &all),
+        Err(refusal) => bail!("refused: {}", told(rt.alloc(), &refusal)?),
+    }
+}
+
+fn print_slices(rt: &HostRuntime, all: &Tokens) -> Result<()> {
+    for i in 0..all.len() {
+        println!(rt; "token {i} is {}", shown(all.slice(i)))?;
+    }
+    println!(rt; "of {} bytes", all.end())?;
+    Ok(())
+}
+
+fn names(rt: &HostRuntime) -> Result<()> {
+    for text in [
+        "x", "x'1_", "_", "", "1x", "'x", "union", "tree", "unions", "a b", "\u{e9}",
+    ] {
+        let bytes = text.as_bytes();
+        println!(rt;
+            "\"{text}\" is a name: {}; bytes of names in front: {}",
+            is_name(bytes),
+            name_length(bytes)
+        )?;
+    }
+    Ok(())
+}
