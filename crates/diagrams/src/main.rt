@@ -1,0 +1,15 @@
+//! What the calls on diagrams and automata answer, where no request shows it.
+#![tactic(auto)]
+
+mod functions;
+mod numberings;
+mod plains;
+mod stores;
+
+use anyhow::Result;
+
+fn main(rt: HostRuntime) -> Result<()> {
+    numberings::tell(&rt)?;
+    stores::tell(&rt)?;
+    plains::tell(&rt)
+}
