@@ -1,1 +1,2 @@
 mod Functions
+mod Lengths

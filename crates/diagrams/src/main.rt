@@ -1,6 +1,7 @@
 //! What the calls on diagrams and automata answer, where no request shows it.
 #![tactic(auto)]
 
+mod automata;
 mod functions;
 mod numberings;
 mod plains;
@@ -11,5 +12,6 @@ use anyhow::Result;
 fn main(rt: HostRuntime) -> Result<()> {
     numberings::tell(&rt)?;
     stores::tell(&rt)?;
-    plains::tell(&rt)
+    plains::tell(&rt)?;
+    automata::tell(&rt)
 }

@@ -12,7 +12,10 @@ fn pairs(rt: &HostRuntime) -> Result<()> {
     let mut pairs = Pairs::new(rt.alloc());
     for (left, right) in [(4, 2), (2, 4), (4, 2)] {
         if pairs.len() < 9 {
-            println!(rt; "the pair {left}, {right} has the number {}", pairs.number(left, right)?)?;
+            println!(rt;
+                "the pair {left}, {right} has the number {}",
+                pairs.number(left, right)?
+            )?;
         }
     }
     println!(rt; "{} pairs", pairs.len())?;
@@ -24,9 +27,15 @@ fn pairs(rt: &HostRuntime) -> Result<()> {
 
 fn sets(rt: &HostRuntime) -> Result<()> {
     let mut sets = Sets::new(rt.alloc());
-    println!(rt; "the set of 1 and 3 has the number {}", sets.number(&[1, 3])?)?;
+    println!(rt;
+        "the set of 1 and 3 has the number {}",
+        sets.number(&[1, 3])?
+    )?;
     println!(rt; "the empty set has the number {}", sets.number(&[])?)?;
-    println!(rt; "the set of 1 and 3 has the number {}", sets.number(&[1, 3])?)?;
+    println!(rt;
+        "the set of 1 and 3 has the number {}",
+        sets.number(&[1, 3])?
+    )?;
     println!(rt; "{} sets", sets.len())?;
     for i in 0..sets.len() {
         println!(rt; "set {i} is {:?}", sets.get(i))?;

@@ -12,11 +12,33 @@ pub fn tell(rt: &HostRuntime) -> Result<()> {
     let copy = plain.copy(rt.alloc())?;
     print_plain(rt, &copy)?;
     for order in [Order::Zero, Order::One, Order::Two] {
-        let in_truth = is_in(Part::Truth, order);
-        let in_letters = is_in(Part::Letters, order);
-        println!(rt; "{order:?} has a truth value: {in_truth}; a bit in letters: {in_letters}")?;
+        let word = order_word(order);
+        println!(rt;
+            "{word} stands before the letters: {}",
+            is_in(Part::Truth, order)
+        )?;
+        println!(rt;
+            "{word} has a bit in each letter: {}",
+            is_in(Part::Letters, order)
+        )?;
     }
     Ok(())
+}
+
+fn order_word(order: Order) -> &'static str {
+    match order {
+        Order::Zero => "a truth value",
+        Order::One => "a number",
+        Order::Two => "a set",
+    }
+}
+
+/// A reference in words.
+pub fn ref_word(alloc: Global, reference: Ref) -> Result<String> {
+    match reference {
+        Ref::Leaf(value) => Ok(format!(in alloc; "leaf {value}")?),
+        Ref::Inner(place) => Ok(format!(in alloc; "node {place}")?),
+    }
 }
 
 fn sample(alloc: Global) -> Result<Plain> {
@@ -31,7 +53,7 @@ fn sample(alloc: Global) -> Result<Plain> {
     let node = Node {
         var: 0,
         low: Ref::Leaf(0),
-        high: Ref::Leaf(0),
+        high: Ref::Leaf(1),
     };
     Ok(Plain {
         mode: Mode::M2lStr,
@@ -43,14 +65,37 @@ fn sample(alloc: Global) -> Result<Plain> {
 }
 
 fn print_plain(rt: &HostRuntime, plain: &Plain) -> Result<()> {
-    let mode = plain.mode;
-    let start = plain.start;
-    println!(rt; "{mode:?}, start {start:?}")?;
+    println!(rt; "over strings: {}", plain.mode == Mode::M2lStr)?;
+    println!(rt; "it starts at {}", ref_word(rt.alloc(), plain.start)?)?;
     for variable in plain.variables.slice() {
-        let order = variable.order;
-        println!(rt; "variable {}, {order:?}", variable.name.text())?;
+        println!(rt;
+            "{} is {}",
+            variable.name.text(),
+            order_word(variable.order)
+        )?;
     }
-    println!(rt; "states {:?}", plain.states.slice())?;
-    println!(rt; "nodes {:?}", plain.nodes.slice())?;
+    for state in plain.states.slice() {
+        print_state(rt, *state)?;
+    }
+    for node in plain.nodes.slice() {
+        print_node(rt, *node)?;
+    }
+    Ok(())
+}
+
+fn print_state(rt: &HostRuntime, state: FileState) -> Result<()> {
+    let sign = match state.sign {
+        FileSign::Plus => "+",
+        FileSign::Minus => "-",
+        FileSign::Zero => "0",
+    };
+    println!(rt; "a state {sign} with {}", ref_word(rt.alloc(), state.next)?)?;
+    Ok(())
+}
+
+fn print_node(rt: &HostRuntime, node: Node) -> Result<()> {
+    println!(rt; "a node of variable {}", node.var)?;
+    println!(rt; "low {}", ref_word(rt.alloc(), node.low)?)?;
+    println!(rt; "high {}", ref_word(rt.alloc(), node.high)?)?;
     Ok(())
 }

@@ -4,6 +4,9 @@ use anyhow::Result;
 use ms_diagram::{Pairs, Sets, Store};
 use ms_edge::StepFault;
 
+/// How many variables a long path has.
+const LONG: u32 = 2_000;
+
 pub fn tell(rt: &HostRuntime) -> Result<()> {
     println!(rt; "Stores")?;
     node_once(rt)?;
@@ -12,7 +15,7 @@ pub fn tell(rt: &HostRuntime) -> Result<()> {
     sets_at_bits(rt)?;
     leaves_at_bits(rt)?;
     shared(rt)?;
-    println!(rt; "Paths of 10,000 variables")?;
+    println!(rt; "Paths of {LONG} variables")?;
     paired_path(rt)?;
     relabelled_path(rt)?;
     brought_path(rt)
@@ -26,7 +29,10 @@ fn node_once(rt: &HostRuntime) -> Result<()> {
     let first = store.mk(0, zero, one)?;
     let again = store.mk(0, zero, one)?;
     println!(rt; "an equal node is the same: {}", first == again)?;
-    println!(rt; "it stands for the same function: {}", store.same(first, again))?;
+    println!(rt;
+        "it stands for the same function: {}",
+        store.same(first, again)
+    )?;
     if let Err(StepFault::Nodes { limit }) = store.mk(1, zero, one) {
         println!(rt; "another node is refused at the limit {limit}")?;
     }
@@ -34,7 +40,10 @@ fn node_once(rt: &HostRuntime) -> Result<()> {
     println!(rt; "the leaf at 1: {}", store.eval(first, &[true]))?;
     let mut other = Store::new(rt.alloc(), 1);
     let brought = other.bring(&store, first, &[5])?;
-    println!(rt; "brought to variable 5, the leaf at the number 31 is {}", leaf_at(&other, brought, 31))?;
+    println!(rt;
+        "brought to variable 5, the leaf at the number 31 is {}",
+        leaf_at(&other, brought, 31)
+    )?;
     println!(rt; "and at 32 it is {}", leaf_at(&other, brought, 32))?;
     Ok(())
 }
@@ -49,7 +58,10 @@ fn middle(rt: &HostRuntime) -> Result<()> {
         let g = store.mk(1, zero, one)?;
         let mut pairs = Pairs::new(rt.alloc());
         let is_made = store.apply(f, g, &mut pairs).is_ok();
-        println!(rt; "with room for {limit} nodes a pair is made: {is_made}; nodes: {}", store.len())?;
+        println!(rt;
+            "with room for {limit} nodes a pair is made: {is_made}; nodes: {}",
+            store.len()
+        )?;
     }
     Ok(())
 }
@@ -118,26 +130,30 @@ fn shared(rt: &HostRuntime) -> Result<()> {
     let odd = parity(&mut store, 200)?;
     let mut pairs = Pairs::new(rt.alloc());
     let _same = store.apply(odd, odd, &mut pairs)?;
-    println!(rt; "the parity of 200 bits with itself: {} nodes, {} pairs", store.len(), pairs.len())?;
+    println!(rt;
+        "the parity of 200 bits with itself: {} nodes, {} pairs",
+        store.len(),
+        pairs.len()
+    )?;
     Ok(())
 }
 
 fn paired_path(rt: &HostRuntime) -> Result<()> {
     let mut store = Store::new(rt.alloc(), 100_000);
-    let odd = parity(&mut store, 10_000)?;
+    let odd = parity(&mut store, LONG)?;
     let mut pairs = Pairs::new(rt.alloc());
     let same = store.apply(odd, odd, &mut pairs)?;
     let leaves = store.leaves_in_order(same)?;
     println!(rt; "paired with itself, leaves {:?}", leaves.slice())?;
     let mut sets = Sets::new(rt.alloc());
-    let _sets = store.collect(&[same], 10_000, &mut sets)?;
+    let _sets = store.collect(&[same], LONG, &mut sets)?;
     println!(rt; "collected: {} nodes, {} sets", store.len(), sets.len())?;
     Ok(())
 }
 
 fn relabelled_path(rt: &HostRuntime) -> Result<()> {
     let mut store = Store::new(rt.alloc(), 100_000);
-    let odd = parity(&mut store, 10_000)?;
+    let odd = parity(&mut store, LONG)?;
     let _renamed = store.relabel(odd, &[9, 7])?;
     println!(rt; "relabelled: {} nodes", store.len())?;
     Ok(())
@@ -145,8 +161,8 @@ fn relabelled_path(rt: &HostRuntime) -> Result<()> {
 
 fn brought_path(rt: &HostRuntime) -> Result<()> {
     let mut store = Store::new(rt.alloc(), 100_000);
-    let root = chain(&mut store, 10_000)?;
-    let map = identity(rt.alloc(), 10_000)?;
+    let root = chain(&mut store, LONG)?;
+    let map = identity(rt.alloc(), LONG)?;
     let mut other = Store::new(rt.alloc(), 100_000);
     let _brought = other.bring(&store, root, map.slice())?;
     println!(rt; "brought: {} nodes", other.len())?;

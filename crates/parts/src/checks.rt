@@ -1,6 +1,6 @@
 //! Typed trees: names that have become numbers.
 use crate::loads::load_text;
-use crate::told::told;
+use crate::told::{mode_word, order_word, told};
 use anyhow::{Result, bail};
 use ms_edge::{List, Name, Refusal};
 use ms_logic::{Checked, ExportUse, Formula, Global, ImportUse, Param, Placed, Predicate, Term1};
@@ -33,8 +33,8 @@ fn print_answer(rt: &HostRuntime, answer: &Result<Checked, Refusal>) -> Result<(
 }
 
 fn print_checked(rt: &HostRuntime, checked: &Checked) -> Result<()> {
-    let mode = checked.mode;
-    println!(rt; "{mode:?}, {} files", checked.files.len())?;
+    let mode = mode_word(checked.mode);
+    println!(rt; "{mode}, {} files", checked.files.len())?;
     print_globals(rt, checked.globals.slice())?;
     print_predicates(rt, checked.predicates.slice())?;
     print_formulas(rt, checked.formulas.slice())?;
@@ -44,9 +44,9 @@ fn print_checked(rt: &HostRuntime, checked: &Checked) -> Result<()> {
 
 fn print_globals(rt: &HostRuntime, globals: &[Global]) -> Result<()> {
     for global in globals {
-        let order = global.order;
+        let order = order_word(global.order);
         println!(rt;
-            "global {}, {order:?}, at {}, declaration {}",
+            "global {}, {order}, at {}, declaration {}",
             global.name.text(),
             global.at.place,
             global.item
@@ -65,8 +65,8 @@ fn print_predicates(rt: &HostRuntime, predicates: &[Predicate]) -> Result<()> {
 
 fn print_parameters(rt: &HostRuntime, params: &[Param]) -> Result<()> {
     for param in params {
-        let order = param.order;
-        println!(rt; "parameter {}, {order:?}", param.variable)?;
+        let order = order_word(param.order);
+        println!(rt; "parameter {}, {order}", param.variable)?;
     }
     Ok(())
 }
@@ -98,8 +98,8 @@ fn print_imports(rt: &HostRuntime, imports: &[ImportUse]) -> Result<()> {
     for import in imports {
         println!(rt; "import {} at {}", import.name.text(), import.at.place)?;
         for pair in import.pairs.slice() {
-            let order = pair.order;
-            println!(rt; "{} is {}, {order:?}", pair.name.text(), pair.variable)?;
+            let order = order_word(pair.order);
+            println!(rt; "{} is {}, {order}", pair.name.text(), pair.variable)?;
         }
     }
     Ok(())

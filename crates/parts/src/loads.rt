@@ -1,7 +1,7 @@
 //! Loads: the declarations that they give, and the names that they note.
-use crate::told::told;
+use crate::told::{mode_word, told};
 use anyhow::{Result, bail};
-use ms_edge::{Bytes, List, MemFiles, Refusal, Text};
+use ms_edge::{Bytes, List, MemFiles, Refusal, Text, push};
 use ms_include::{load, load_bytes};
 use ms_logic::Loaded;
 use std::alloc::Global;
@@ -41,9 +41,7 @@ fn files_of(alloc: Global) -> Result<MemFiles> {
 /// Loads a file, where the name of another is noted before.
 fn load_file(rt: &HostRuntime, files: &mut MemFiles, name: &str) -> Result<()> {
     let mut names = List::new(rt.alloc());
-    if names.push(Text::new(rt.alloc(), "earlier")?).is_err() {
-        bail!("no memory for a list");
-    }
+    push(&mut names, Text::new(rt.alloc(), "earlier")?)?;
     if names.len() > 9 {
         bail!("more names than were noted");
     }
@@ -65,10 +63,10 @@ pub fn load_text(alloc: Global, text: &str) -> Result<Result<Loaded, Refusal>> {
 fn print_answer(rt: &HostRuntime, answer: &Result<Loaded, Refusal>) -> Result<()> {
     match answer {
         Ok(loaded) => {
-            let mode = loaded.mode;
+            let mode = mode_word(loaded.mode);
             let count = loaded.items.len();
             let files = joined(rt.alloc(), loaded.files.slice())?;
-            println!(rt; "{mode:?}, {count} declarations, of {files}")?;
+            println!(rt; "{mode}, {count} declarations, of {files}")?;
         }
         Err(refusal) => println!(rt; "refused: {}", told(rt.alloc(), refusal)?)?,
     }

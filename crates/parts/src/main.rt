@@ -13,6 +13,7 @@ mod rows;
 mod sinks;
 mod tokens;
 mod told;
+mod trees;
 mod values;
 
 use anyhow::Result;
@@ -27,5 +28,6 @@ fn main(rt: HostRuntime) -> Result<()> {
     prints::tell(&rt)?;
     loads::tell(&rt)?;
     checks::tell(&rt)?;
-    reports::tell(&rt)
+    reports::tell(&rt)?;
+    trees::tell(&rt)
 }

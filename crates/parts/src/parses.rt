@@ -1,7 +1,7 @@
 //! Trees of sources: their outermost forms.
 use crate::rows::{Question, run_rows};
 use crate::tokens::{FILE, tokens_of};
-use crate::told::told;
+use crate::told::{mode_word, told};
 use anyhow::{Result, bail};
 use ms_edge::{Bytes, List};
 use ms_logic::{Decl, Expr, Form, Item, Source};
@@ -109,7 +109,12 @@ fn header(rt: &HostRuntime) -> Result<()> {
 
 fn print_header(rt: &HostRuntime, source: &Source) -> Result<()> {
     match &source.header {
-        Some((at, mode)) => println!(rt; "a header {mode:?} at {}:{}", at.file, at.place)?,
+        Some((at, mode)) => println!(rt;
+            "a header of {} at {}:{}",
+            mode_word(*mode),
+            at.file,
+            at.place
+        )?,
         None => println!(rt; "no header")?,
     }
     println!(rt; "{} declarations", source.items.len())?;

@@ -3,7 +3,7 @@ use crate::rows::{Question, run_rows};
 use crate::tokens::{FILE, tokens_of};
 use crate::told::{shown, told};
 use anyhow::{Result, bail};
-use ms_edge::{At, Boxed, Bytes, List, Name};
+use ms_edge::{At, Boxed, Bytes, List, Name, on_heap, push};
 use ms_logic::{Bound, Decl, Expr, Form, Item, Mode, Order, Quant, Rel, Source};
 use ms_parse::parse;
 use ms_print::{fits, print};
@@ -70,21 +70,11 @@ fn print_behind(alloc: Global, before: &[u8], source: &Source) -> Result<Bytes> 
 const AT: At = At { file: 0, place: 0 };
 
 fn boxed(alloc: Global, form: Form) -> Result<Boxed<Expr>> {
-    match Boxed::new(alloc, Expr { at: AT, form }) {
-        Ok(made) => Ok(made),
-        Err(_) => bail!("no memory for a box"),
-    }
+    Ok(on_heap(alloc, Expr { at: AT, form })?)
 }
 
 fn named(alloc: Global, text: &str) -> Result<Form> {
     Ok(Form::Name(Name::new(alloc, text)?))
-}
-
-fn push<T: Drop>(list: &mut List<T>, item: T) -> Result<()> {
-    match list.push(item) {
-        Ok(()) => Ok(()),
-        Err(_) => bail!("no memory for a list"),
-    }
 }
 
 /// Prints a source with one formula, behind a comment.

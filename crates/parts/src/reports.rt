@@ -1,10 +1,11 @@
 //! Reports, and the lines of refusals.
 ghost use Rattle.std.specs.Prelude.{◌≡◌, [], ◌∷◌, codes, IfOk};
-ghost use Rattle.ms_report.specs.Line.{HasLine, IsPlaced, place_of};
+ghost use Rattle.ms_edge.specs.Refusal.{place_of};
+ghost use Rattle.ms_report.specs.Line.{HasLine, IsPlaced};
 
 use crate::told::shown;
-use anyhow::{Result, bail};
-use ms_edge::{At, List, Name, NoMemory, Refusal, Text, Word};
+use anyhow::Result;
+use ms_edge::{At, List, Name, NoMemory, Refusal, Text, Word, push};
 use ms_logic::{Assignment, Value};
 use ms_report::{Found, Stats, Verdict, refusal_line, report};
 use std::alloc::Global;
@@ -73,13 +74,6 @@ fn assignment(alloc: Global, length: u64, parts: (&[u64], u64, bool)) -> Result<
     push(&mut values, Value::Number(parts.1))?;
     push(&mut values, Value::Truth(parts.2))?;
     Ok(Assignment { length, values })
-}
-
-fn push<T: Drop>(list: &mut List<T>, item: T) -> Result<()> {
-    match list.push(item) {
-        Ok(()) => Ok(()),
-        Err(_) => bail!("no memory for a list"),
-    }
 }
 
 fn two_files(alloc: Global) -> Result<List<Text>, NoMemory>

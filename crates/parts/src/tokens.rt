@@ -3,7 +3,7 @@ use crate::rows::{Question, run_rows};
 use crate::told::{shown, told};
 use anyhow::{Result, bail};
 use ms_edge::{Bytes, List, Refusal};
-use ms_text::{MAX_BYTES, Tokens, is_name, name_length, tokens};
+use ms_text::{Kind, MAX_BYTES, Token, Tokens, is_name, name_length, tokens};
 use std::alloc::Global;
 
 /// The number of the file that a source is said to be.
@@ -24,7 +24,7 @@ pub fn tokens_of(alloc: Global, bytes: Bytes) -> Result<Result<Tokens, Refusal>>
     Ok(tokens(alloc, bytes, FILE))
 }
 
-/// Each token of a source as `KIND PLACE+LENGTH`, or how many they are where they are many, or the refusal.
+/// Each token of a source with its place and its length, or how many they are where they are many, or the refusal.
 pub fn answer(alloc: Global, bytes: Bytes) -> Result<String> {
     match tokens_of(alloc, bytes)? {
         Ok(all) if all.len() > 99 => Ok(format!(in alloc; "{} tokens", all.len())?),
@@ -39,12 +39,22 @@ fn listed(alloc: Global, all: &Tokens) -> Result<String> {
         if i > 0 {
             text.push_str(", ")?;
         }
-        let token = all.get(i);
-        let kind = token.kind;
-        let piece = format!(in alloc; "{kind:?} {}+{}", token.place, token.length)?;
-        text.push_str(piece.as_str())?;
+        push_token(&mut text, all.get(i))?;
     }
     Ok(text)
+}
+
+fn push_token(text: &mut String, token: Token) -> Result<()> {
+    match token.kind {
+        Kind::Name => write!(text, "name")?,
+        Kind::Word(word) => write!(text, "word {}", word.spelling())?,
+        Kind::LeftOut => write!(text, "left out")?,
+        Kind::Number(number) => write!(text, "number {number}")?,
+        Kind::Text => write!(text, "text")?,
+        Kind::Mark(mark) => write!(text, "mark {}", mark.spelling())?,
+    }
+    write!(text, " {}+{}", token.place, token.length)?;
+    Ok(())
 }
 
 /// The bytes of each token of a source, and how many bytes it has.

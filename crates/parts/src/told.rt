@@ -1,6 +1,7 @@
 //! Answers in words.
 use anyhow::Result;
-use ms_edge::{At, Refusal};
+use ms_edge::Refusal;
+use ms_logic::{Mode, Order};
 use std::alloc::Global;
 
 /// Bytes as text.
@@ -11,7 +12,7 @@ pub fn shown(bytes: &[u8]) -> &str {
 /// The number of a refusal, with the number of its file and its place there, and its detail.
 pub fn told(alloc: Global, refusal: &Refusal) -> Result<String> {
     let mut text = format!(in alloc; "{}", number(refusal))?;
-    if let Some(at) = place(refusal) {
+    if let Some(at) = refusal.place() {
         let place = format!(in alloc; " at {}:{}", at.file, at.place)?;
         text.push_str(place.as_str())?;
     }
@@ -40,22 +41,6 @@ fn number(refusal: &Refusal) -> u32 {
     }
 }
 
-fn place(refusal: &Refusal) -> Option<At> {
-    match refusal {
-        Refusal::Word { at, .. }
-        | Refusal::NumberTooLarge { at }
-        | Refusal::Grammar { at }
-        | Refusal::Unclosed { at }
-        | Refusal::UnknownName { at, .. }
-        | Refusal::NotHere { at }
-        | Refusal::LeftOut { at, .. }
-        | Refusal::IncludeCycle { at, .. }
-        | Refusal::Depth { at } => Some(*at),
-        Refusal::FileMissing { at, .. } => *at,
-        _ => None,
-    }
-}
-
 fn detail(alloc: Global, refusal: &Refusal) -> Result<Option<String>> {
     let detail = match refusal {
         Refusal::Word { byte, .. } => format!(in alloc; "{byte:02x}")?,
@@ -68,4 +53,19 @@ fn detail(alloc: Global, refusal: &Refusal) -> Result<Option<String>> {
         _ => return Ok(None),
     };
     Ok(Some(detail))
+}
+
+pub fn mode_word(mode: Mode) -> &'static str {
+    match mode {
+        Mode::Ws1s => "WS1S",
+        Mode::M2lStr => "M2L-Str",
+    }
+}
+
+pub fn order_word(order: Order) -> &'static str {
+    match order {
+        Order::Zero => "a truth value",
+        Order::One => "a number",
+        Order::Two => "a set",
+    }
 }
