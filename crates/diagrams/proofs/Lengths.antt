@@ -39,7 +39,7 @@ nothing_held : (place : ℕ) (node : Node) → slice_get [] place ≡ Some node 
 nothing_held place node found = cc
 
 -- the sign of a string with these letters
-sign_with : List (List Bool) → Sign
+abbrev sign_with : List (List Bool) → Sign
 sign_with [] = No
 sign_with (letter ∷ letters) = Yes
 
@@ -65,7 +65,7 @@ nothing_in [] count = refl
 nothing_in (first ∷ more) count = absurd (omega (arith, count))
 
 -- a string as long as a word
-string_of : Word → Env
+abbrev string_of : Word → Env
 string_of word = record { universe = Some (length word.letters); truth = λ x. false; number = λ x. 0; set = λ x. [] }
 
 letter_is_empty : (word : Word) → IsWordOver [] word → (i : ℕ) → i < length word.letters → get_or word.letters i [] ≡ letter_at [] (string_of word) i
@@ -75,7 +75,7 @@ letter_is_empty word over i below =
 each_word_encodes : (word : Word) → IsWordOver [] word → IsEncoding M2lStr [] word
 each_word_encodes word over = (
   string_of word,
-  record { universe = tt; values = tt },
+  record { universe = refl; values = tt },
   record {
     truth = nothing_in word.truth over.truth;
     letters = ext_get_or [] word.letters _ (sym (length-map-range_with_len (letter_at [] (string_of word)) 0 (length word.letters)))

@@ -1,2 +1,2 @@
-mod Functions
+mod Built
 mod Lengths

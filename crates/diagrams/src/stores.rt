@@ -21,7 +21,7 @@ pub fn tell(rt: &HostRuntime) -> Result<()> {
     brought_path(rt)
 }
 
-/// Two equal nodes are one, a refusal leaves the store as it was, and `eval` and `bring` follow the one node.
+/// Two equal nodes are one, `eval` and `bring` follow the one node, and a refusal leaves the store as it was.
 fn node_once(rt: &HostRuntime) -> Result<()> {
     let mut store = Store::new(rt.alloc(), 1);
     let zero = store.leaf(0);
@@ -33,10 +33,6 @@ fn node_once(rt: &HostRuntime) -> Result<()> {
         "it stands for the same function: {}",
         store.same(first, again)
     )?;
-    if let Err(StepFault::Nodes { limit }) = store.mk(1, zero, one) {
-        println!(rt; "another node is refused at the limit {limit}")?;
-    }
-    println!(rt; "nodes: {}", store.len())?;
     println!(rt; "the leaf at 1: {}", store.eval(first, &[true]))?;
     let mut other = Store::new(rt.alloc(), 1);
     let brought = other.bring(&store, first, &[5])?;
@@ -45,6 +41,10 @@ fn node_once(rt: &HostRuntime) -> Result<()> {
         leaf_at(&other, brought, 31)
     )?;
     println!(rt; "and at 32 it is {}", leaf_at(&other, brought, 32))?;
+    if let Err(StepFault::Nodes { limit }) = store.mk(1, zero, one) {
+        println!(rt; "another node is refused at the limit {limit}")?;
+    }
+    println!(rt; "nodes: {}", store.len())?;
     Ok(())
 }
 
@@ -80,7 +80,7 @@ fn pairs_at_bits(rt: &HostRuntime) -> Result<()> {
         let number = leaf_at(&store, both, word);
         let wanted = (word.count_ones() % 2, word / 2 % 2);
         if number < pairs.len() && pairs.get(number) == wanted {
-            right += 1;
+            right = right.saturating_add(1);
         }
     }
     println!(rt; "pairs at 16 lists of bits: {right} right")?;
@@ -100,7 +100,7 @@ fn sets_at_bits(rt: &HostRuntime) -> Result<()> {
         let number = leaf_at(&store, either, word);
         let wanted = 2 - (word / 2 % 2) as usize;
         if number < sets.len() && sets.get(number).len() == wanted {
-            right += 1;
+            right = right.saturating_add(1);
         }
     }
     println!(rt; "sets at 16 lists of bits: {right} right")?;
@@ -115,7 +115,7 @@ fn leaves_at_bits(rt: &HostRuntime) -> Result<()> {
     let mut right = 0u32;
     for word in 0..16u32 {
         if leaf_at(&store, renamed, word) == 9 - 2 * (word.count_ones() % 2) {
-            right += 1;
+            right = right.saturating_add(1);
         }
     }
     println!(rt; "leaves at 16 lists of bits: {right} right")?;

@@ -35,9 +35,10 @@ impl<'a> Wanted<'a> {
         request: &Request,
         status: Status,
     ) -> Result<Option<String>> {
-        let came = shown(request.sink.bytes());
+        let came = request.sink.bytes();
         let wanted = self.text.as_str();
-        if came != wanted {
+        if came != wanted.as_bytes() {
+            let came = shown(came);
             return Ok(Some(format!(in alloc; "it prints {came:?}, and {wanted:?} is wanted")?));
         }
         let status = number_of(status);

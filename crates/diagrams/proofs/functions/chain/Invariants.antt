@@ -1,4 +1,4 @@
-use Rattle.diagrams.proofs.Functions.{IsChain}
+use Rattle.diagrams.proofs.Built.{IsChain}
 use Rattle.diagrams.proofs.functions.chain.Given as goal
 
 abbrev pub invariant-loop-var : goal.invariant-loop-var

@@ -1,6 +1,6 @@
 use Rattle.std.proofs.Common.{◌-◌, arith}
 use Rattle.ms_arena.proofs.Appending.{Extends-from_appends}
-use Rattle.diagrams.proofs.Functions.{IsTruthFrom-extends, IsTruthFrom-leaf, IsTruthFrom-made}
+use Rattle.diagrams.proofs.Built.{IsTruthFrom-extends, IsTruthFrom-leaf, IsTruthFrom-made}
 use Rattle.diagrams.proofs.functions.parity.Goals as goal
 
 pub loop-var-init : goal.loop-var-init

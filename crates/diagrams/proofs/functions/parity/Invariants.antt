@@ -1,4 +1,4 @@
-use Rattle.diagrams.proofs.Functions.{AreParities}
+use Rattle.diagrams.proofs.Built.{AreParities}
 use Rattle.diagrams.proofs.functions.parity.Given as goal
 
 abbrev pub invariant-loop-var : goal.invariant-loop-var

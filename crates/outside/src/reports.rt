@@ -3,7 +3,7 @@ ghost use Rattle.std.specs.Prelude.{◌≡◌, [], ◌∷◌, codes, IfOk};
 ghost use Rattle.ms_edge.specs.Refusal.{place_of};
 ghost use Rattle.ms_report.specs.Line.{HasLine, IsPlaced};
 
-use crate::told::shown;
+use crate::shown;
 use anyhow::Result;
 use ms_edge::{At, List, Name, NoMemory, Refusal, Text, Word, push};
 use ms_logic::{Assignment, Value};

@@ -1,5 +1,5 @@
 //! Sinks in memory, and standard output.
-use crate::told::shown;
+use crate::shown;
 use anyhow::Result;
 use ms_edge::{List, MemSink, Sink, SinkStop, StdSink, write_all};
 

@@ -1,7 +1,7 @@
 //! Answers in words.
 use anyhow::Result;
 use ms_edge::Refusal;
-use ms_logic::{Mode, Order};
+use ms_logic::Mode;
 use std::alloc::Global;
 
 /// Bytes as text.
@@ -30,7 +30,6 @@ fn number(refusal: &Refusal) -> u32 {
         Refusal::NumberTooLarge { .. } => 11,
         Refusal::Grammar { .. } => 12,
         Refusal::Unclosed { .. } => 13,
-        Refusal::UnknownName { .. } => 20,
         Refusal::NotHere { .. } => 25,
         Refusal::LeftOut { .. } => 26,
         Refusal::FileMissing { .. } => 30,
@@ -44,7 +43,6 @@ fn number(refusal: &Refusal) -> u32 {
 fn detail(alloc: Global, refusal: &Refusal) -> Result<Option<String>> {
     let detail = match refusal {
         Refusal::Word { byte, .. } => format!(in alloc; "{byte:02x}")?,
-        Refusal::UnknownName { name, .. } => String::from_str(alloc, name.text())?,
         Refusal::LeftOut { word, .. } => String::from_str(alloc, word.text())?,
         Refusal::FileMissing { name, .. } => String::from_str(alloc, name.text())?,
         Refusal::IncludeCycle { name, chain, .. } => {
@@ -59,13 +57,5 @@ pub fn mode_word(mode: Mode) -> &'static str {
     match mode {
         Mode::Ws1s => "WS1S",
         Mode::M2lStr => "M2L-Str",
-    }
-}
-
-pub fn order_word(order: Order) -> &'static str {
-    match order {
-        Order::Zero => "a truth value",
-        Order::One => "a number",
-        Order::Two => "a set",
     }
 }

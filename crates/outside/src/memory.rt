@@ -1,5 +1,5 @@
 //! Files in memory: reads 1 and writes 2 fail; four writes may be made, of twelve bytes of names and contents.
-use crate::told::shown;
+use crate::shown;
 use anyhow::Result;
 use ms_edge::{Bytes, Files, List, MemFiles, ReadAnswer, WriteFailed};
 

@@ -52,7 +52,7 @@ fn load_file(rt: &HostRuntime, files: &mut MemFiles, name: &str) -> Result<()> {
 }
 
 /// Loads a text.
-pub fn load_text(alloc: Global, text: &str) -> Result<Result<Loaded, Refusal>> {
+fn load_text(alloc: Global, text: &str) -> Result<Result<Loaded, Refusal>> {
     let bytes = Bytes::from(Vec::from_slice(alloc, text.as_bytes())?);
     if bytes.len() > 1_048_576 {
         bail!("the text is too long");

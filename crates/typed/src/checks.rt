@@ -1,9 +1,10 @@
 //! Typed trees: names that have become numbers.
-use crate::loads::load_text;
-use crate::told::{mode_word, order_word, told};
 use anyhow::{Result, bail};
-use ms_edge::{List, Name, Refusal};
-use ms_logic::{Checked, ExportUse, Formula, Global, ImportUse, Param, Placed, Predicate, Term1};
+use ms_edge::{Bytes, List, Name, Refusal};
+use ms_include::load_bytes;
+use ms_logic::{
+    Checked, ExportUse, Formula, Global, ImportUse, Mode, Order, Param, Placed, Predicate, Term1,
+};
 use ms_names::check;
 
 const SOURCE: &str =
@@ -17,7 +18,11 @@ pub fn tell(rt: &HostRuntime) -> Result<()> {
 }
 
 fn check_text(rt: &HostRuntime, text: &str) -> Result<()> {
-    let Ok(loaded) = load_text(rt.alloc(), text)? else {
+    let bytes = Bytes::from(Vec::from_slice(rt.alloc(), text.as_bytes())?);
+    if bytes.len() > 1_048_576 {
+        bail!("the text is too long");
+    }
+    let Ok(loaded) = load_bytes(rt.alloc(), "generated", bytes) else {
         bail!("the text is refused");
     };
     let answer = check(rt.alloc(), &loaded);
@@ -27,7 +32,10 @@ fn check_text(rt: &HostRuntime, text: &str) -> Result<()> {
 fn print_answer(rt: &HostRuntime, answer: &Result<Checked, Refusal>) -> Result<()> {
     match answer {
         Ok(checked) => print_checked(rt, checked)?,
-        Err(refusal) => println!(rt; "refused: {}", told(rt.alloc(), refusal)?)?,
+        Err(Refusal::UnknownName { at, name }) => {
+            println!(rt; "an unknown name, {} at {}", name.text(), at.place)?;
+        }
+        Err(_) => println!(rt; "another refusal")?,
     }
     Ok(())
 }
@@ -119,4 +127,19 @@ fn print_names(rt: &HostRuntime, names: &List<Name>) -> Result<()> {
         println!(rt; "named {}", name.text())?;
     }
     Ok(())
+}
+
+fn mode_word(mode: Mode) -> &'static str {
+    match mode {
+        Mode::Ws1s => "WS1S",
+        Mode::M2lStr => "M2L-Str",
+    }
+}
+
+fn order_word(order: Order) -> &'static str {
+    match order {
+        Order::Zero => "a truth value",
+        Order::One => "a number",
+        Order::Two => "a set",
+    }
 }
