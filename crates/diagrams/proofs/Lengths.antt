@@ -1,5 +1,5 @@
 -- The automaton of the strings that have a position is one.
-use Rattle.std.proofs.Common.{◌≡◌, ◌↔◌, ℕ, zero, suc, ◌<◌, ◌≤◌, Bool, false, List, [], ◌∷◌, length, get_or, slice_get, slice_index_or, Some, refl, sym, ◌∙◌, arith}
+use Rattle.std.proofs.Common.{◌≡◌, ℕ, zero, suc, ◌<◌, Bool, false, List, [], ◌∷◌, length, get_or, slice_get, slice_index_or, Some, refl, sym, ◌∙◌, arith}
 use Rattle.std.proofs.lemmas.List.Elements.{All-from_recursion}
 use Rattle.std.proofs.lemmas.List.{ext_get_or}
 use Rattle.std.proofs.lemmas.List.FromFn.{get_or-map-range_with_len, length-map-range_with_len}
@@ -13,8 +13,8 @@ use Rattle.ms_logic.specs.declared.mode.Order.{Order}
 use Rattle.ms_logic.specs.Assignment.{Env}
 use Rattle.ms_logic.specs.Word.{letter_at, IsEncoding}
 use Rattle.ms_logic.specs.Content.{StateOf, IsFollowed, IsWordOver, is_truth_value, is_in_letters, letter_bits, state_after, sign_at, sign_of, truth_bits}
-use Rattle.ms_dfa.specs.declared.sign.Sign.{Sign}
-use Rattle.ms_dfa.specs.declared.sign.Sign.TheVariants.{Yes, No, Outside}
+use Rattle.ms_logic.specs.declared.sign.Sign.{Sign}
+use Rattle.ms_logic.specs.declared.sign.Sign.TheVariants.{Yes, No, Outside}
 use Rattle.ms_dfa.specs.Automaton.{IsAutomaton}
 use Rattle.diagrams.specs.Lengths.{lengths_content}
 

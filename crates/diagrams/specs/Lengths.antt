@@ -1,10 +1,10 @@
 -- The strings that have a position: an automaton over no variables.
-use Rattle.std.specs.Prelude.{List, [], ◌∷◌}
+use Rattle.std.specs.Prelude.{[], ◌∷◌}
 use Rattle.ms_arena.specs.declared.node.Ref.TheVariants.{Leaf}
 use Rattle.ms_logic.specs.declared.mode.Mode.TheVariants.{M2lStr}
 use Rattle.ms_logic.specs.Content.{Content}
-use Rattle.ms_dfa.specs.declared.sign.Sign.{Sign}
-use Rattle.ms_dfa.specs.declared.sign.Sign.TheVariants.{Yes, No}
+use Rattle.ms_logic.specs.declared.sign.Sign.{Sign}
+use Rattle.ms_logic.specs.declared.sign.Sign.TheVariants.{Yes, No}
 
 -- from the first state, at the empty string, each letter leads to the second, which stays
 abbrev pub lengths_content : Content Sign

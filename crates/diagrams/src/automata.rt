@@ -7,10 +7,10 @@ use crate::plains::ref_word;
 use anyhow::Result;
 use ms_arena::Ref;
 use ms_best::first;
-use ms_dfa::{Automaton, Sign, State};
+use ms_dfa::{Automaton, State};
 use ms_diagram::Store;
 use ms_edge::{List, NoMemory, Word};
-use ms_logic::Mode;
+use ms_logic::{Mode, Sign};
 use std::alloc::Global;
 
 pub fn tell(rt: &HostRuntime) -> Result<()> {

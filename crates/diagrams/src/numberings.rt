@@ -1,4 +1,6 @@
 //! Numberings of pairs and of sets.
+ghost use Rattle.std.specs.Prelude.{◌≤◌, length};
+
 use anyhow::Result;
 use ms_diagram::{Pairs, Sets};
 
@@ -27,18 +29,22 @@ fn pairs(rt: &HostRuntime) -> Result<()> {
 
 fn sets(rt: &HostRuntime) -> Result<()> {
     let mut sets = Sets::new(rt.alloc());
-    println!(rt;
-        "the set of 1 and 3 has the number {}",
-        sets.number(&[1, 3])?
-    )?;
-    println!(rt; "the empty set has the number {}", sets.number(&[])?)?;
-    println!(rt;
-        "the set of 1 and 3 has the number {}",
-        sets.number(&[1, 3])?
-    )?;
+    number_sets(rt, &mut sets)?;
     println!(rt; "{} sets", sets.len())?;
     for i in 0..sets.len() {
         println!(rt; "set {i} is {:?}", sets.get(i))?;
     }
+    Ok(())
+}
+
+fn number_sets(rt: &HostRuntime, sets: &mut Sets) -> Result<()>
+    requires { length sets.old ≤ 9 }
+{
+    let first = sets.number(&[1, 3])?;
+    let empty = sets.number(&[])?;
+    let again = sets.number(&[1, 3])?;
+    println!(rt;
+        "the sets of 1 and 3, of nothing, and of 1 and 3 have the numbers {first}, {empty}, {again}"
+    )?;
     Ok(())
 }

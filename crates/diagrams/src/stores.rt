@@ -1,15 +1,19 @@
 //! Stores of diagrams.
 use crate::functions::{chain, identity, leaf_at, parity};
 use anyhow::Result;
+use ms_arena::Ref;
 use ms_diagram::{Pairs, Sets, Store};
 use ms_edge::StepFault;
 
 /// How many variables a long path has.
-const LONG: u32 = 2_000;
+const LONG: u32 = 10_000;
 
 pub fn tell(rt: &HostRuntime) -> Result<()> {
     println!(rt; "Stores")?;
     node_once(rt)?;
+    leaf_of_node(rt)?;
+    brought_node(rt)?;
+    refused_node(rt)?;
     middle(rt)?;
     pairs_at_bits(rt)?;
     sets_at_bits(rt)?;
@@ -21,26 +25,45 @@ pub fn tell(rt: &HostRuntime) -> Result<()> {
     brought_path(rt)
 }
 
-/// Two equal nodes are one, `eval` and `bring` follow the one node, and a refusal leaves the store as it was.
+/// Two equal nodes are one.
 fn node_once(rt: &HostRuntime) -> Result<()> {
-    let mut store = Store::new(rt.alloc(), 1);
+    let mut store = Store::new(rt.alloc(), 9);
     let zero = store.leaf(0);
     let one = store.leaf(1);
     let first = store.mk(0, zero, one)?;
     let again = store.mk(0, zero, one)?;
-    println!(rt; "an equal node is the same: {}", first == again)?;
-    println!(rt;
-        "it stands for the same function: {}",
-        store.same(first, again)
-    )?;
-    println!(rt; "the leaf at 1: {}", store.eval(first, &[true]))?;
+    let is_same = store.same(first, again);
+    println!(rt; "an equal node is the same: {}, {is_same}", first == again)?;
+    println!(rt; "nodes: {}", store.len())?;
+    Ok(())
+}
+
+/// The leaf of a node.
+fn leaf_of_node(rt: &HostRuntime) -> Result<()> {
+    let mut store = Store::new(rt.alloc(), 1);
+    let made = store.mk(0, Ref::Leaf(0), Ref::Leaf(1))?;
+    println!(rt; "the leaf at 1: {}", store.eval(made, &[true]))?;
+    Ok(())
+}
+
+/// A node in another store, to which it is brought, as variable 5.
+fn brought_node(rt: &HostRuntime) -> Result<()> {
+    let mut store = Store::new(rt.alloc(), 1);
+    let made = store.mk(0, Ref::Leaf(0), Ref::Leaf(1))?;
     let mut other = Store::new(rt.alloc(), 1);
-    let brought = other.bring(&store, first, &[5])?;
-    println!(rt;
-        "brought to variable 5, the leaf at the number 31 is {}",
-        leaf_at(&other, brought, 31)
-    )?;
-    println!(rt; "and at 32 it is {}", leaf_at(&other, brought, 32))?;
+    let brought = other.bring(&store, made, &[5])?;
+    let below = leaf_at(&other, brought, 31);
+    let above = leaf_at(&other, brought, 32);
+    println!(rt; "brought to variable 5, the leaves at the numbers 31 and 32: {below}, {above}")?;
+    Ok(())
+}
+
+/// A node more than the store may hold is refused, and the store is as it was.
+fn refused_node(rt: &HostRuntime) -> Result<()> {
+    let mut store = Store::new(rt.alloc(), 1);
+    let zero = store.leaf(0);
+    let one = store.leaf(1);
+    let _made = store.mk(0, zero, one)?;
     if let Err(StepFault::Nodes { limit }) = store.mk(1, zero, one) {
         println!(rt; "another node is refused at the limit {limit}")?;
     }
