@@ -1,6 +1,4 @@
 //! Numberings of pairs and of sets.
-ghost use Rattle.std.specs.Prelude.{◌≤◌, length};
-
 use anyhow::Result;
 use ms_diagram::{Pairs, Sets};
 
@@ -29,7 +27,9 @@ fn pairs(rt: &HostRuntime) -> Result<()> {
 
 fn sets(rt: &HostRuntime) -> Result<()> {
     let mut sets = Sets::new(rt.alloc());
-    number_sets(rt, &mut sets)?;
+    number_full(rt, &mut sets)?;
+    number_empty(rt, &mut sets)?;
+    number_full(rt, &mut sets)?;
     println!(rt; "{} sets", sets.len())?;
     for i in 0..sets.len() {
         println!(rt; "set {i} is {:?}", sets.get(i))?;
@@ -37,14 +37,19 @@ fn sets(rt: &HostRuntime) -> Result<()> {
     Ok(())
 }
 
-fn number_sets(rt: &HostRuntime, sets: &mut Sets) -> Result<()>
-    requires { length sets.old ≤ 9 }
-{
-    let first = sets.number(&[1, 3])?;
-    let empty = sets.number(&[])?;
-    let again = sets.number(&[1, 3])?;
-    println!(rt;
-        "the sets of 1 and 3, of nothing, and of 1 and 3 have the numbers {first}, {empty}, {again}"
-    )?;
+fn number_full(rt: &HostRuntime, sets: &mut Sets) -> Result<()> {
+    if sets.len() < 9 {
+        println!(rt;
+            "the set of 1 and 3 has the number {}",
+            sets.number(&[1, 3])?
+        )?;
+    }
+    Ok(())
+}
+
+fn number_empty(rt: &HostRuntime, sets: &mut Sets) -> Result<()> {
+    if sets.len() < 9 {
+        println!(rt; "the empty set has the number {}", sets.number(&[])?)?;
+    }
     Ok(())
 }

@@ -21,6 +21,7 @@ pub fn tell(rt: &HostRuntime) -> Result<()> {
     shared(rt)?;
     println!(rt; "Paths of {LONG} variables")?;
     paired_path(rt)?;
+    collected_path(rt)?;
     relabelled_path(rt)?;
     brought_path(rt)
 }
@@ -168,8 +169,14 @@ fn paired_path(rt: &HostRuntime) -> Result<()> {
     let same = store.apply(odd, odd, &mut pairs)?;
     let leaves = store.leaves_in_order(same)?;
     println!(rt; "paired with itself, leaves {:?}", leaves.slice())?;
+    Ok(())
+}
+
+fn collected_path(rt: &HostRuntime) -> Result<()> {
+    let mut store = Store::new(rt.alloc(), 100_000);
+    let odd = parity(&mut store, LONG)?;
     let mut sets = Sets::new(rt.alloc());
-    let _sets = store.collect(&[same], LONG, &mut sets)?;
+    let _sets = store.collect(&[odd], LONG, &mut sets)?;
     println!(rt; "collected: {} nodes, {} sets", store.len(), sets.len())?;
     Ok(())
 }
