@@ -72,6 +72,14 @@ impl<T> List<T> {
     {
         self.items.as_slice()
     }
+
+    /// The items, to be taken one after the other.
+    pub fn into_vec(self) -> Vec<T>
+        ensures { result.items ≡ self }
+    {
+        let List { items } = self;
+        items
+    }
 }
 
 impl<T> From<Vec<T>> for List<T> {

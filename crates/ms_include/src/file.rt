@@ -4,7 +4,7 @@ ghost use Rattle.ms_include.specs.File.{AreBytes, ReadAs, ReadAsNone, IsSource, 
 ghost use Rattle.ms_include.specs.Seen.{IsPart};
 
 use ms_edge::{At, Bytes, Files, List, ReadAnswer, Refusal, Text};
-use ms_parse::{Parsed, declarations};
+use ms_logic::Source;
 use ms_text::tokens;
 use std::alloc::Global;
 
@@ -43,13 +43,13 @@ fn read<F: Files>(
 }
 
 /// What the bytes of the file with this number read as.
-pub fn parse(alloc: Global, bytes: Bytes, number: u32) -> Result<Parsed, Refusal>
+pub fn parse(alloc: Global, bytes: Bytes, number: u32) -> Result<Source, Refusal>
     requires { length bytes ≤ source_limit }
-    ensures read { IfOk result (λ read. ReadAs number bytes (record { header = read.header; items = read.items.items })) }
+    ensures read { IfOk result (ReadAs number bytes) }
     ensures refused { IfErr result (λ refusal. (refusal ≡ Refusal.Memory) ⊎ ReadAsNone number bytes refusal) }
 {
     let tokens = tokens(alloc, bytes, number)?;
-    declarations(alloc, &tokens, number)
+    ms_parse::parse(alloc, &tokens, number)
 }
 
 /// Appends a copy of the name.
@@ -75,8 +75,8 @@ pub fn open<F: Files>(
     named: Option<At>,
     name: &Text,
     number: u32,
-) -> Result<Parsed, Refusal>
-    ensures read { IfOk result (λ read. IsSource (F.told files.old).held number name.now (record { header = read.header; items = read.items.items })) }
+) -> Result<Source, Refusal>
+    ensures read { IfOk result (IsSource (F.told files.old).held number name.now) }
     ensures noted { OnOk result (names.new ≡ names.old ++ name.now ∷ []) }
     ensures refused { (request : Seen) → IsPart (between (F.told files.old) (F.told files.new)) request →
         IfErr result (λ refusal. (refusal ≡ Refusal.Memory)

@@ -30,6 +30,17 @@ pub struct Loader {
     pub items: Vec<Item>,
 }
 
+/// Appends the item, which is let go where memory is refused.
+fn add<T: Drop>(items: &mut Vec<T>, item: T) -> Result<(), Refusal>
+    ensures ok { OnOk result (items.new.items ≡ items.old.items ++ item ∷ []) }
+    ensures memory { IfErr result (λ refusal. refusal ≡ Refusal.Memory) }
+{
+    match items.push(item) {
+        Ok(()) => Ok(()),
+        Err(_) => Err(Refusal::Memory),
+    }
+}
+
 impl Loader {
     fn push(&mut self, item: Item) -> Result<(), Refusal>
         ensures items { OnOk result (self.new.items.items ≡ self.old.items.items ++ item ∷ []) }
@@ -37,10 +48,7 @@ impl Loader {
         ensures chain { self.new.chain.items ≡ self.old.chain.items }
         ensures memory { IfErr result (λ refusal. refusal ≡ Refusal.Memory) }
     {
-        match self.items.push(item) {
-            Ok(()) => Ok(()),
-            Err(_) => Err(Refusal::Memory),
-        }
+        add(&mut self.items, item)
     }
 
     /// The refusal of an include of a file whose loading goes on.
@@ -159,22 +167,22 @@ impl Loader {
         files: &mut F,
         names: &mut List<Text>,
         room: u32,
-        items: Vec<Item>,
+        items: List<Item>,
     ) -> Result<(), Refusal>
         requires base { self.old.base ≤ 4294967231 }
         requires begun { self.old.base ≤ length names.old }
         ensures put { (request : Seen) → IsPart (between (F.told files.old) (F.told files.new)) request →
             OnOk result ((made : List Item) × (self.new.items.items ≡ self.old.items.items ++ made)
-            × AllBecome (Loads (files_of request self.old.base) room) self.old.chain.items (drop self.old.base names.old) items.items (drop self.old.base names.new) made) }
+            × AllBecome (Loads (files_of request self.old.base) room) self.old.chain.items (drop self.old.base names.old) items (drop self.old.base names.new) made) }
         ensures refused { (request : Seen) → IsPart (between (F.told files.old) (F.told files.new)) request →
-            IfErr result (λ refusal. (refusal ≡ Refusal.Memory) ⊎ OneStops (Loads (files_of request self.old.base) room) (IsRefused (files_of request self.old.base) room) self.old.chain.items (drop self.old.base names.old) items.items refusal (drop self.old.base names.new)) }
+            IfErr result (λ refusal. (refusal ≡ Refusal.Memory) ⊎ OneStops (Loads (files_of request self.old.base) room) (IsRefused (files_of request self.old.base) room) self.old.chain.items (drop self.old.base names.old) items refusal (drop self.old.base names.new)) }
 
         ensures base { self.new.base ≡ self.old.base }
         ensures chain { OnOk result (self.new.chain.items ≡ self.old.chain.items) }
         ensures grown { (added : List (List ℕ)) × (names.new ≡ names.old ++ added) }
         ensures only_read { OnlyRead (F.told files.old) (F.told files.new) }
     {
-        for item in items {
+        for item in items.into_vec() {
             if let Err(refusal) = self.put(files, names, room, item) {
                 return Err(refusal);
             }
@@ -224,9 +232,6 @@ impl Loader {
         ensures items { self.new.items.items ≡ self.old.items.items }
         ensures memory { IfErr result (λ refusal. refusal ≡ Refusal.Memory) }
     {
-        match self.chain.push(Begun { number, name }) {
-            Ok(()) => Ok(()),
-            Err(_) => Err(Refusal::Memory),
-        }
+        add(&mut self.chain, Begun { number, name })
     }
 }

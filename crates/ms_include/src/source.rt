@@ -6,8 +6,7 @@ ghost use Rattle.ms_include.specs.Load.{mode_of, files_of, IsLoaded, IsRefusedLo
 use crate::file::{note, open};
 use crate::loader::{GREATEST_DEPTH, Loader};
 use ms_edge::{At, Files, List, Refusal, Text};
-use ms_logic::{Loaded, Mode};
-use ms_parse::Parsed;
+use ms_logic::{Loaded, Mode, Source};
 use std::alloc::Global;
 
 /// The mode of a source with this header.
@@ -68,7 +67,7 @@ pub fn load<F: Files>(
         Ok(parsed) => parsed,
         Err(refusal) => return Err(refusal),
     };
-    let Parsed { header, items } = parsed;
+    let Source { header, items } = parsed;
     let mut loader = Loader {
         alloc,
         base,

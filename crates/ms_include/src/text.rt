@@ -6,8 +6,7 @@ ghost use Rattle.ms_include.specs.Load.{place_or, first_include, IsLoadedText, I
 use crate::file::parse;
 use crate::source::mode;
 use ms_edge::{At, Bytes, List, Refusal, Text};
-use ms_logic::{Decl, Item, Loaded};
-use ms_parse::Parsed;
+use ms_logic::{Decl, Item, Loaded, Source};
 use std::alloc::Global;
 
 /// Where the file of an include is named.
@@ -46,7 +45,7 @@ pub fn load_bytes(alloc: Global, name: &str, bytes: Bytes) -> Result<Loaded, Ref
         Ok(parsed) => parsed,
         Err(refusal) => return Err(refusal),
     };
-    if let Some(at) = first_include(parsed.items.as_slice()) {
+    if let Some(at) = first_include(parsed.items.slice()) {
         return Err(Refusal::NotHere { at });
     }
     let Ok(name) = Text::new(alloc, name) else {
@@ -56,10 +55,10 @@ pub fn load_bytes(alloc: Global, name: &str, bytes: Bytes) -> Result<Loaded, Ref
     let Ok(()) = files.push(name) else {
         return Err(Refusal::Memory);
     };
-    let Parsed { header, items } = parsed;
+    let Source { header, items } = parsed;
     Ok(Loaded {
         mode: mode(header),
-        items: List::from(items),
+        items,
         files,
     })
 }

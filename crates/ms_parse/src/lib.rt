@@ -45,5 +45,4 @@ pub use examples::{
     example_operators, example_refusals,
 };
 pub use laws::one_document;
-pub use parser::{declarations, parse};
-pub use state::Parsed;
+pub use parser::parse;

@@ -127,25 +127,24 @@ fn read(alloc: Global, tokens: &Tokens, file: u32) -> Result<Parsed, Stop>
     Ok(made)
 }
 
-/// The header and the declarations that the tokens read as. `file` is the number of their file, which a refusal names.
-pub fn declarations(alloc: Global, tokens: &Tokens, file: u32) -> Result<Parsed, Refusal>
-    ensures read { IfOk result (λ made. ReadsAs true file tokens.now (source_of made)) }
-    ensures refused { IfErr result (λ refusal. (refusal ≡ Refusal.Memory) ⊎ IsGrammarFault file tokens.now refusal) }
+/// The source that has been read.
+fn source(parsed: Parsed) -> Source
+    ensures { result ≡ source_of parsed }
 {
-    match read(alloc, tokens, file) {
-        Ok(made) => Ok(made),
-        Err(stop) => Err(refusal_of(alloc, tokens, file, stop)),
+    let Parsed { header, items } = parsed;
+    Source {
+        header,
+        items: List::from(items),
     }
 }
 
-/// The tree that the tokens read as.
+/// The tree that the tokens read as. `file` is the number of their file, which a refusal names.
 pub fn parse(alloc: Global, tokens: &Tokens, file: u32) -> Result<Source, Refusal>
     ensures read { IfOk result (λ source. ReadsAs true file tokens.now source) }
     ensures refused { IfErr result (λ refusal. (refusal ≡ Refusal.Memory) ⊎ IsGrammarFault file tokens.now refusal) }
 {
-    let Parsed { header, items } = declarations(alloc, tokens, file)?;
-    Ok(Source {
-        header,
-        items: List::from(items),
-    })
+    match read(alloc, tokens, file) {
+        Ok(parsed) => Ok(source(parsed)),
+        Err(stop) => Err(refusal_of(alloc, tokens, file, stop)),
+    }
 }
