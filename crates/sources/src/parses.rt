@@ -5,7 +5,7 @@ use crate::told::{mode_word, told};
 use anyhow::{Result, bail};
 use ms_edge::{Bytes, List};
 use ms_logic::{Decl, Expr, Form, Item, Source};
-use ms_parse::{declarations, parse};
+use ms_parse::parse;
 use ms_text::Tokens;
 use std::alloc::{AllocError, Global};
 
@@ -24,8 +24,8 @@ pub fn answer(alloc: Global, bytes: Bytes) -> Result<String> {
 }
 
 fn shape_of(alloc: Global, all: &Tokens) -> Result<String> {
-    match declarations(alloc, all, FILE) {
-        Ok(read) => Ok(last_shape(alloc, read.items.as_slice())?),
+    match parse(alloc, all, FILE) {
+        Ok(source) => Ok(last_shape(alloc, source.items.slice())?),
         Err(refusal) => told(alloc, &refusal),
     }
 }
