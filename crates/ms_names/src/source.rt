@@ -21,7 +21,9 @@ fn copy_texts(alloc: Global, texts: &[Text]) -> Result<List<Text>, NoMemory>
     Ok(made)
 }
 
-/// The typed tree of a source whose names and orders are right, or its first fault.
+/// The typed tree of a source whose names and orders are right, or its first fault. The check calls itself once for each
+/// level of an expression, of which a source that is read has 300 at most; a deeper one that is made by hand takes stack
+/// for each level.
 pub fn check(alloc: Global, loaded: &Loaded) -> Result<Checked, Refusal>
     ensures accepted { IfOk result (λ checked. first_fault_of loaded.now.mode (map placed_of loaded.now.items) ≡ None) }
     ensures typed { IfOk result (IsTyped loaded.now) }
