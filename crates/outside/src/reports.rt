@@ -1,7 +1,7 @@
 //! Reports, and the lines of refusals.
 ghost use Rattle.std.specs.Prelude.{◌≡◌, [], ◌∷◌, codes, IfOk};
-ghost use Rattle.ms_edge.specs.Refusal.{place_of};
-ghost use Rattle.ms_report.specs.Line.{HasLine, IsPlaced};
+ghost use Rattle.ms_edge.specs.Refusal.{IsPlaced, place_of};
+ghost use Rattle.ms_report.specs.Line.{HasLine};
 
 use crate::shown;
 use anyhow::Result;
