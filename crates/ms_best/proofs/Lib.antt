@@ -1,8 +1,8 @@
 pub mod Cover
-pub mod DecodedValues
 pub mod FirstWords
 pub mod LeastValues
 pub mod Nearness
+pub mod PassingPositions
 pub mod Reaching
 pub mod Searching
 pub mod Users

@@ -1,5 +1,4 @@
 pub mod Automaton
-pub mod Decoding
 pub mod Distances
 pub mod FirstWord
 pub mod Graph

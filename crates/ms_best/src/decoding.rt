@@ -4,7 +4,7 @@ ghost use Rattle.ms_logic.specs.First.{assignment_of};
 ghost use Rattle.ms_logic.specs.FiniteSet.{least};
 ghost use Rattle.ms_logic.specs.Word.{Encodes, IsEncoding, bound_of_set};
 ghost use Rattle.ms_dfa.specs.Automaton.{variables_of};
-ghost use Rattle.ms_best.specs.Decoding.{bit_in, positions_of, decoded_value, place_after, column_after, decoded_values, bound_of_value, bound_of_values, decoded_length};
+ghost use Rattle.ms_logic.specs.Decoding.{bit_in, positions_of, decoded_value, place_after, column_after, decoded_values, bound_of_value, bound_of_values, decoded_length};
 
 use ms_dfa::Track;
 use ms_edge::{List, NoMemory, Word};

@@ -12,12 +12,15 @@ use Rattle.ms_logic.specs.declared.sign.Sign.TheVariants as sign
 use Rattle.ms_logic.specs.declared.mode.Mode.TheVariants.{Ws1s}
 use Rattle.ms_logic.specs.declared.core_formula.Basic.TheVariants.{Sub}
 use Rattle.ms_logic.specs.BudgetExamples.{full_subset_content, encodings_content}
+use Rattle.ms_logic.specs.Assignment.{IsAssignment}
 use Rattle.ms_logic.specs.Canonical.{IsCanonical}
 use Rattle.ms_logic.specs.Content.{StateOf, IsContent, NamesPart, IsWordOver, AreLetters, HasValueAt, is_in_letters, first_state, next_state, state_after, last_state, sign_at, sign_of}
 use Rattle.ms_logic.specs.CoreForm.{basic, truth}
+use Rattle.ms_logic.specs.Decoding.{decoded}
+use Rattle.ms_logic.specs.Word.{Encodes}
 use Rattle.ms_logic.specs.Examples.{set_P_and_Q, word}
 use Rattle.ms_logic.specs.FullContent.{HasValueOn, IsFullContent}
-use Rattle.ms_logic.proofs.SetTracks.{is_within, sets_of, sets_assign, sets_encoded, sets_within}
+use Rattle.ms_logic.proofs.SubsetWords.{is_within, decoded_P_and_Q, decoded_within}
 use Rattle.ms_logic.proofs.SubsetContent.{subset_content_canonical, leaf_reaches}
 
 -- the steps of P sub Q by one letter
@@ -58,11 +61,14 @@ module _ (w : Word) (over : IsWordOver set_P_and_Q w) where
   abbrev HasItsValue : Type 0
   HasItsValue = (value : Sign) × (sign_of full_subset_content w ≡ Some value) × HasValueOn [] Ws1s set_P_and_Q (basic (Sub 0 1)) w value
 
+  abbrev encoded : IsAssignment Ws1s set_P_and_Q (decoded Ws1s set_P_and_Q w) × Encodes set_P_and_Q w (decoded Ws1s set_P_and_Q w)
+  encoded = decoded_P_and_Q w over
+
   by_test : (within : Bool) → is_within w.letters ≡ within → HasItsValue
   by_test true is =
-      (sign.Yes, ap (sign_at full_subset_content) (last_of_subset w over ∙ ap (λ b. cond b 0 1) is), (sets_of w.letters, sets_assign w.letters, sets_encoded w over, sets_within w.letters ∙ is))
+      (sign.Yes, ap (sign_at full_subset_content) (last_of_subset w over ∙ ap (λ b. cond b 0 1) is), (decoded Ws1s set_P_and_Q w, encoded.0, encoded.1, decoded_within w ∙ is))
   by_test false is =
-      (sign.No, ap (sign_at full_subset_content) (last_of_subset w over ∙ ap (λ b. cond b 0 1) is), (sets_of w.letters, sets_assign w.letters, sets_encoded w over, λ holds. false≢true (sym is ∙ (sym (sets_within w.letters) ∙ holds))))
+      (sign.No, ap (sign_at full_subset_content) (last_of_subset w over ∙ ap (λ b. cond b 0 1) is), (decoded Ws1s set_P_and_Q w, encoded.0, encoded.1, λ holds. false≢true (sym is ∙ (sym (decoded_within w) ∙ holds))))
 
 yes_is_not_no : sign.Yes ≡ sign.No → ⊥
 yes_is_not_no same = grind arith
@@ -133,5 +139,5 @@ full_true = record {
   canonical = canonical_of_true;
   same_mode = refl;
   same_variables = refl;
-  values = λ w over. (sign.Yes, ap (sign_at encodings_content) (last_of_true w), (sets_of w.letters, sets_assign w.letters, sets_encoded w over, tt));
+  values = λ w over. let encoded = decoded_P_and_Q w over in (sign.Yes, ap (sign_at encodings_content) (last_of_true w), (decoded Ws1s set_P_and_Q w, encoded.0, encoded.1, tt));
 }

@@ -2,6 +2,8 @@ pub mod Agreement
 pub mod BitOrder
 pub mod Consistent
 pub mod CoreConsistent
+pub mod DecodedWords
+pub mod DecodingLemmas
 pub mod FreeVariables
 pub mod FullContents
 pub mod Members
@@ -12,13 +14,13 @@ pub mod SayingLiterals
 pub mod SayingParts
 pub mod SayingTerms
 pub mod SetLaws
-pub mod SetTracks
 pub mod SpreadAtoms
 pub mod SpreadFormulas
 pub mod SpreadKeeps
 pub mod SpreadTerms
 pub mod SubsetContent
 pub mod SubsetStarts
+pub mod SubsetWords
 pub mod Values
 pub mod Views
 pub mod Within

@@ -1,9 +1,10 @@
 -- Members of finite sets.
-use Rattle.std.proofs.Common.{◌≡◌, ℕ, ◌+◌, ◌-◌, ◌<◌, ◌≤◌, ◌==◌, zero, suc, Bool, true, false, cond, ◌||◌, ◌&&◌, ◌⊎◌, ◌↔◌, inl, inr, ⊎_elim, ltb, leb, List, [], ◌∷◌, ◌++◌, refl, sym, ◌∙◌, ap, arith}
+use Rattle.std.proofs.Common.{◌≡◌, ℕ, ◌+◌, ◌-◌, ◌<◌, ◌≤◌, ◌==◌, zero, suc, Bool, true, false, cond, ◌||◌, ◌&&◌, ◌⊎◌, ◌↔◌, inl, inr, ⊎_elim, ltb, leb, List, [], ◌∷◌, ◌++◌, None, refl, sym, ◌∙◌, ap, arith}
 use Rattle.std.specs.List.{range_with_len, filter}
 use Rattle.std.proofs.lemmas.Bool.Decides.{nat_tests}
 use Rattle.std.proofs.lemmas.List.Folds.{list_any-append}
 use Rattle.std.proofs.lemmas.Bool.{eqb-true}
+use Rattle.ms_logic.specs.Assignment.{AllWithin}
 use Rattle.ms_logic.specs.Word.{bound_of_set}
 use Rattle.ms_logic.specs.FiniteSet.{is_member, IsMember, with_member, set_of, union_of, IsRising, IsBelowFirst, moved_up, moved_down}
 
@@ -134,3 +135,8 @@ pub member_below_bound : (members : List ℕ) (n : ℕ) → is_member n members 
 member_below_bound [] n member = let never : ⊥ = cc in absurd never
 member_below_bound (first ∷ more) n member =
     ⊎_elim (λ same. omega (arith, same)) (λ there. omega (arith, member_below_bound more n there)) (member_cases n first more member)
+
+-- each set of natural numbers is within them
+pub all_natural : (members : List ℕ) → AllWithin None members
+all_natural [] = tt
+all_natural (n ∷ more) = (tt, all_natural more)

@@ -13,7 +13,7 @@ use Rattle.ms_logic.specs.Content.{IsWordOver, AreLetters, is_in_letters, head_b
 use Rattle.ms_logic.specs.Examples.{set_P_and_Q, variable, word}
 use Rattle.ms_logic.specs.Starts.{Start, some_truth_values, whole_word, part_of_letter, IsStartOver, bits_for, narrowed, with_free_bits, state_at, next_at, left_by}
 use Rattle.ms_logic.proofs.FullContents.{last_of_subset}
-use Rattle.ms_logic.proofs.SetTracks.{is_within}
+use Rattle.ms_logic.proofs.SubsetWords.{is_within}
 use Rattle.ms_logic.proofs.SubsetStarts.{number_of_both, letters_for, only_state, bits_of_letter, rest_of, from_P, from_state, from_state_1, subset_references, one_reference}
 
 abbrev just_P : List Variable

@@ -11,12 +11,11 @@ use Rattle.ms_logic.specs.FiniteSet.{is_member, set_of, union_of}
 use Rattle.ms_logic.specs.Spread.{TermSpread, set_of_elements, first_half, second_half, is_only_member}
 use Rattle.ms_logic.specs.Terms.{of_both, of_value}
 use Rattle.ms_logic.specs.Truth.{Import}
-use Rattle.ms_logic.proofs.Members.{is_member-set_of, is_member-union_of, IsRising-set_of}
+use Rattle.ms_logic.proofs.Members.{is_member-set_of, is_member-union_of, IsRising-set_of, all_natural}
 use Rattle.ms_logic.proofs.Saying.{Extends, extends-further, Denotes, value_at-assign}
 use Rattle.ms_logic.proofs.SayingParts.{only_means}
 use Rattle.ms_logic.proofs.SayingTerms.{number_in, set_in, DenotesFrom, new_set, set_from, set_from_two, all_within-of, member_within}
 use Rattle.ms_logic.proofs.SetLaws.{sets_are_their_members, union_law}
-use Rattle.ms_logic.proofs.SetTracks.{all_natural}
 
 -- the values of a list of terms, where each has one
 unfoldable pub collected : List (Option ℕ) → Option (List ℕ)

@@ -14,9 +14,8 @@ use Rattle.ms_logic.specs.FiniteSet.{IsMember, IsRising, is_member}
 use Rattle.ms_logic.specs.Spread.{Saying, TermSpread, new_variable}
 use Rattle.ms_logic.specs.Terms.{if_within, of_value, of_both}
 use Rattle.ms_logic.specs.Truth.{Import}
-use Rattle.ms_logic.proofs.Members.{either_true}
+use Rattle.ms_logic.proofs.Members.{either_true, all_natural}
 use Rattle.ms_logic.proofs.Saying.{Extends, extends-itself, extends-assign, extends-further, Inside, Denotes, said_yes, denotes_some, denotes_none, value_at-assign}
-use Rattle.ms_logic.proofs.SetTracks.{all_natural}
 use Rattle.ms_logic.proofs.Values.{each_value}
 use Rattle.ms_logic.proofs.Within.{is_within-of}
 

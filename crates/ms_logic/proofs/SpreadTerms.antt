@@ -18,7 +18,7 @@ use Rattle.ms_logic.proofs.SayingLiterals.{collected, AllDenote, no_elements, mo
 use Rattle.ms_logic.proofs.SayingParts.{minus_means, whole_means}
 use Rattle.ms_logic.proofs.SayingTerms.{number_in, set_in, new_number, new_set, number_from, set_from, set_from_two, all_within-of, member_within}
 use Rattle.ms_logic.proofs.SetLaws.{union_law, intersection_law, difference_law, moved_up_law, moved_down_law, part_within_law, one_bits_law, numbers_below_law}
-use Rattle.ms_logic.proofs.SetTracks.{all_natural}
+use Rattle.ms_logic.proofs.Members.{all_natural}
 use Rattle.ms_logic.proofs.Within.{if_within-of}
 
 -- the values of the elements of a literal

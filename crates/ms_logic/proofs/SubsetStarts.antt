@@ -10,7 +10,7 @@ use Rattle.ms_logic.specs.Content.{AreLetters, is_in_letters, state_after}
 use Rattle.ms_logic.specs.Examples.{set_P_and_Q, word}
 use Rattle.ms_logic.specs.Starts.{Start, some_truth_values, whole_word, part_of_letter, IsStartOver, bits_for, narrowed, with_free_bits, state_at, next_at, left_by}
 use Rattle.ms_logic.proofs.FullContents.{last_of_subset, last_of_true}
-use Rattle.ms_logic.proofs.SetTracks.{is_within}
+use Rattle.ms_logic.proofs.SubsetWords.{is_within}
 
 -- the four starts: the empty word, P = {0} with Q = {}, and one letter of which no bit, or the bit 1 for P, is read
 abbrev inside : Start

@@ -54,7 +54,7 @@ encoding_is_unique mode vs word e f is_e is_f encodes_e encodes_f =
     (universe_of_word mode e.universe f.universe n is_e.universe is_f.universe encodes_e.string encodes_f.string, same_values vs n e f (sym encodes_e.truth ∙ encodes_f.truth) (λ p below. map_parts (letter_at vs e) (letter_at vs f) 0 n equal p (omega arith) (omega arith)) ((bound_is_least n vs e).1 encodes_e.room) ((bound_is_least n vs f).1 encodes_f.room) is_e.values is_f.values)
 
 -- a word of values has as many truth values, and letters as long, as its variables ask for
-length-truth_values : (vs : List Variable) (e : Env) → length (truth_values_of vs e) ≡ count_of is_truth_value vs
+pub length-truth_values : (vs : List Variable) (e : Env) → length (truth_values_of vs e) ≡ count_of is_truth_value vs
 length-truth_values [] e = refl
 length-truth_values (v ∷ vs) e = one_more v.order v.name (truth_values_of vs e) (count_of is_truth_value vs) (length-truth_values vs e)
   where
@@ -63,7 +63,7 @@ length-truth_values (v ∷ vs) e = one_more v.order v.name (truth_values_of vs e
     one_more One x more n same = same
     one_more Two x more n same = same
 
-length-letter : (vs : List Variable) (e : Env) (p : ℕ) → length (letter_at vs e p) ≡ count_of is_in_letters vs
+pub length-letter : (vs : List Variable) (e : Env) (p : ℕ) → length (letter_at vs e p) ≡ count_of is_in_letters vs
 length-letter [] e p = refl
 length-letter (v ∷ vs) e p = one_more v.order v.name (letter_at vs e p) (count_of is_in_letters vs) (length-letter vs e p)
   where

@@ -5,6 +5,7 @@ pub mod CallMeasures
 pub mod Canonical
 pub mod Content
 pub mod CoreForm
+pub mod Decoding
 pub mod Examples
 pub mod FiniteSet
 pub mod First

@@ -1,9 +1,7 @@
 -- What is read off the bits of a word is the assignment that it encodes.
-use Rattle.std.proofs.Common.{◌≡◌, ℕ, zero, suc, ◌+◌, ◌<◌, ◌≤◌, ◌==◌, max, leb, ltb, Bool, true, false, ◌&&◌, ◌||◌, inl, inr, List, [], ◌∷◌, ◌++◌, length, map, get_or, Some, None, refl, sym, ap, subst, ◌∙◌, arith, add-zero}
-use Rattle.std.specs.List.{filter, range_with_len}
+use Rattle.std.proofs.Common.{◌≡◌, ℕ, suc, ◌+◌, ◌<◌, ◌≤◌, ◌==◌, max, leb, ltb, Bool, true, false, ◌&&◌, ◌||◌, inl, inr, List, [], ◌∷◌, length, map, get_or, Some, None, refl, sym, ap, ◌∙◌, arith}
 use Rattle.std.proofs.lemmas.Bool.{cases_lt, false≢true}
 use Rattle.std.proofs.lemmas.Bool.Decides.{nat_tests}
-use Rattle.std.proofs.lemmas.List.Elements.{filter-append}
 use Rattle.std.proofs.lemmas.List.FromFn.{get_or-map-range_with_len}
 use Rattle.ms_edge.specs.declared.refusal.Word.{Word}
 use Rattle.ms_logic.specs.declared.mode.Mode.{Mode}
@@ -18,40 +16,12 @@ use Rattle.ms_logic.specs.FiniteSet.{IsRising, is_member, least, numbers_below}
 use Rattle.ms_logic.specs.Word.{Encodes, HasLength, with_truth_value, with_bit, truth_values_of, letter_at, bound_of_set, bound_at, bound_of}
 use Rattle.ms_logic.proofs.Members.{is_member-filter, is_member-range, IsRising-filter, IsRising-range, member_below_bound}
 use Rattle.ms_logic.proofs.SetLaws.{sets_are_their_members}
-use Rattle.ms_best.specs.Decoding.{bit_in, positions_of, decoded_value, place_after, column_after, decoded_values, bound_of_value, bound_of_values, decoded_length}
+use Rattle.ms_logic.specs.Decoding.{bit_in, positions_of, decoded_value, place_after, column_after, decoded_values, bound_of_value, bound_of_values, decoded_length}
 
-or_false : (b : Bool) → (b || false) ≡ b
+-- no second test
+pub or_false : (b : Bool) → (b || false) ≡ b
 or_false true = refl
 or_false false = refl
-
--- one number more
-range_more : (start n : ℕ) → range_with_len start (suc n) ≡ range_with_len start n ++ (start + n) ∷ []
-range_more start zero = rw add-zero refl
-range_more start (suc n) =
-    let same : start + 1 + n ≡ start + suc n = omega arith in
-    ap (λ l. start ∷ l) (range_more (start + 1) n ∙ ap (λ k. range_with_len (start + 1) n ++ k ∷ []) same)
-
-pub filter_more_numbers : (test : ℕ → Bool) (n : ℕ) → filter test (numbers_below (n + 1)) ≡ filter test (numbers_below n) ++ filter test (n ∷ [])
-filter_more_numbers test n =
-    let one : n + 1 ≡ suc n = omega arith in
-    let last : 0 + n ≡ n = omega arith in
-    ap (λ k. filter test (range_with_len 0 k)) one ∙ ap (filter test) (range_more 0 n) ∙ filter-append test (range_with_len 0 n) ((0 + n) ∷ [])
-    ∙ ap (λ k. filter test (numbers_below n) ++ filter test (k ∷ [])) last
-
--- the first number of a range that passes is the least of those that do
-pub least_passing : (test : ℕ → Bool) (start n p : ℕ) → start ≤ p → p < start + n → ((q : ℕ) → start ≤ q → q < p → test q ≡ false) → test p ≡ true
-    → least (filter test (range_with_len start n)) ≡ p
-least_passing test start zero p from to before passes = absurd (omega arith)
-least_passing test start (suc n) p from to before passes =
-    elim (cases_lt start p) [
-      | inl below ↦ rw (before start (omega arith) below) (least_passing test (start + 1) n p (omega (arith, below)) (omega arith) (λ q at_least less. before q (omega (arith, at_least)) less) passes)
-      | inr here ↦ (let same : p ≡ start = omega (arith, here, from) in let first : test start ≡ true = subst (λ (k : ℕ). test k ≡ true) same passes in rw first (sym same))
-    ]
-
--- where none passes, none is left
-pub none_passing : (test : ℕ → Bool) (start n : ℕ) → ((q : ℕ) → start ≤ q → q < start + n → test q ≡ false) → filter test (range_with_len start n) ≡ []
-none_passing test start zero fails = refl
-none_passing test start (suc n) fails = rw (fails start (omega arith) (omega arith)) (none_passing test (start + 1) n (λ q from to. fails q (omega (arith, from)) (omega (arith, to))))
 
 module _ (letters : List (List Bool)) (column : ℕ) (members : List ℕ) (rising : IsRising members) (within : bound_of_set members ≤ length letters)
     (bits : (p : ℕ) → p < length letters → bit_in letters column p ≡ is_member p members) where
@@ -99,28 +69,33 @@ pub record Says (word : Word) (e : Env) (place column : ℕ) (vs : List Variable
   pub room : bound_of vs e ≤ length word.letters
 
 -- the same of a variable of an order, and of others behind it
-record SaysFirst (word : Word) (e : Env) (place column : ℕ) (o : Order) (x : ℕ) (vs : List Variable) : Type 0 where
-  truth : (k : ℕ) → get_or word.truth (place + k) false ≡ get_or (with_truth_value o x e (truth_values_of vs e)) k false
-  bits : (p : ℕ) → p < length word.letters → (k : ℕ) → get_or (get_or word.letters p []) (column + k) false ≡ get_or (with_bit o x p e (letter_at vs e p)) k false
-  own : IsValueOf o e.universe (value_at o x e)
-  values : GivesEach vs e
-  room : max (bound_at o x e) (bound_of vs e) ≤ length word.letters
+pub record SaysFirst (word : Word) (e : Env) (place column : ℕ) (o : Order) (x : ℕ) (vs : List Variable) : Type 0 where
+  pub truth : (k : ℕ) → get_or word.truth (place + k) false ≡ get_or (with_truth_value o x e (truth_values_of vs e)) k false
+  pub bits : (p : ℕ) → p < length word.letters → (k : ℕ) → get_or (get_or word.letters p []) (column + k) false ≡ get_or (with_bit o x p e (letter_at vs e p)) k false
+  pub own : IsValueOf o e.universe (value_at o x e)
+  pub values : GivesEach vs e
+  pub room : max (bound_at o x e) (bound_of vs e) ≤ length word.letters
 
 module _ (word : Word) (e : Env) (place column x : ℕ) (vs : List Variable) where
   -- a position has the bit of the first variable in its column
   column_bit : (p : ℕ) (expected : Bool) → get_or (get_or word.letters p []) (column + 0) false ≡ expected → bit_in word.letters column p ≡ expected
   column_bit p expected is = let same : column + 0 ≡ column = omega arith in ap (λ c. get_or (get_or word.letters p []) c false) (sym same) ∙ is
 
+  -- the column of a number has the bit 1 at the number alone
+  pub one_position : SaysFirst word e place column One x vs → positions_of word.letters column ≡ e.number x ∷ []
+  one_position says =
+      positions_are word.letters column (e.number x ∷ []) (tt, tt) (omega (arith, says.room))
+      (λ p below. column_bit p ((e.number x == p) || false) (says.bits p below 0 ∙ sym (or_false (e.number x == p))))
+
+  -- the decoded value of the first variable is its value
   first_is : (o : Order) → SaysFirst word e place column o x vs → decoded_value word o place column ≡ value_at o x e
   first_is Zero says = let same : place + 0 ≡ place = omega arith in ap Truth (ap (λ k. get_or word.truth k false) (sym same) ∙ says.truth 0)
-  first_is One says =
-      ap (λ members. Number (least members))
-      (positions_are word.letters column (e.number x ∷ []) (tt, tt) (omega (arith, says.room))
-      (λ p below. column_bit p ((e.number x == p) || false) (says.bits p below 0 ∙ sym (or_false (e.number x == p)))))
+  first_is One says = ap (λ members. Number (least members)) (one_position says)
   first_is Two says =
       ap Set (positions_are word.letters column (e.set x) says.own.0 (omega (arith, says.room)) (λ p below. column_bit p (is_member p (e.set x)) (says.bits p below 0)))
 
-  others_are : (o : Order) → SaysFirst word e place column o x vs → Says word e (place_after o place) (column_after o column) vs
+  -- and the word says of the others what they have
+  pub others_are : (o : Order) → SaysFirst word e place column o x vs → Says word e (place_after o place) (column_after o column) vs
   others_are Zero says = record {
     truth = λ k. let same : place + 1 + k ≡ place + suc k = omega arith in rw same (says.truth (suc k));
     bits = says.bits;

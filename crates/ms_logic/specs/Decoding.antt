@@ -1,5 +1,6 @@
 -- The assignment that a word encodes, read off its bits.
-use Rattle.std.specs.Prelude.{ℕ, ◌+◌, max, Bool, false, List, [], ◌∷◌, length, filter, slice_index_or}
+use Rattle.std.specs.Prelude.{◌≡◌, ℕ, ◌+◌, max, Bool, false, List, [], ◌∷◌, length, filter, slice_index_or, Some, None}
+use Rattle.std.specs.List.{AllByRecursion}
 use Rattle.ms_edge.specs.declared.refusal.Word.{Word}
 use Rattle.ms_logic.specs.declared.mode.Order.{Order}
 use Rattle.ms_logic.specs.declared.mode.Order.TheVariants.{Zero, One, Two}
@@ -7,7 +8,8 @@ use Rattle.ms_logic.specs.declared.mode.Mode.{Mode}
 use Rattle.ms_logic.specs.declared.mode.Mode.TheVariants.{Ws1s, M2lStr}
 use Rattle.ms_logic.specs.declared.assignment.Value.{Value}
 use Rattle.ms_logic.specs.declared.assignment.Value.TheVariants.{Truth, Number, Set}
-use Rattle.ms_logic.specs.Assignment.{Variable}
+use Rattle.ms_logic.specs.Assignment.{Universe, Env, Variable}
+use Rattle.ms_logic.specs.Content.{env_of}
 use Rattle.ms_logic.specs.FiniteSet.{least, numbers_below}
 use Rattle.ms_logic.specs.Word.{bound_of_set}
 
@@ -56,3 +58,31 @@ bound_of_values (value ∷ values) = max (bound_of_value value) (bound_of_values
 abbrev pub decoded_length : Mode → ℕ → ℕ → ℕ
 decoded_length Ws1s letters bound = bound
 decoded_length M2lStr letters bound = letters
+
+-- the universe of a word with so many letters: each number in WS1S, and its positions in M2L-Str
+abbrev pub decoded_universe : Mode → ℕ → Universe
+decoded_universe Ws1s letters = None
+decoded_universe M2lStr letters = Some letters
+
+-- the assignment that a word over the variables is read as: each variable has its decoded value
+abbrev pub decoded : Mode → List Variable → Word → Env
+decoded mode variables word = env_of (decoded_universe mode (length word.letters)) variables (decoded_values word 0 0 variables)
+
+-- a column has exactly one 1, if it is that of a variable of order 1
+abbrev pub HasOneBit : List (List Bool) → Order → ℕ → Type 0
+HasOneBit letters Zero column = Unit {0}
+HasOneBit letters One column = length (positions_of letters column) ≡ 1
+HasOneBit letters Two column = Unit {0}
+
+-- the same of each variable of a list, the first of which has its column there
+abbrev pub HaveOneBit : List (List Bool) → ℕ → List Variable → Type 0
+HaveOneBit letters column [] = Unit {0}
+HaveOneBit letters column (v ∷ vs) = HasOneBit letters v.order column × HaveOneBit letters (column_after v.order column) vs
+
+-- the column of each variable of order 1 has exactly one 1
+abbrev pub HasOneBitEach : List Variable → Word → Type 0
+HasOneBitEach variables word = HaveOneBit word.letters 0 variables
+
+-- each variable is a set
+abbrev pub AreSets : List Variable → Type 0
+AreSets variables = AllByRecursion (λ v. v.order ≡ Two) variables
