@@ -1,8 +1,7 @@
 -- Each word over variables, in which the column of each variable of order 1 has exactly one 1, encodes the assignment
 -- that it is read as.
-use Rattle.std.proofs.Common.{◌≡◌, ℕ, zero, suc, ◌+◌, ◌<◌, ◌≤◌, ◌==◌, Bool, true, false, if◌then◌else◌, ◌&&◌, ◌↔◌, List, [], ◌∷◌, length, map, get_or, None, refl, sym, ap, subst, ◌∙◌, arith}
-use Rattle.std.specs.List.{filter, range_with_len}
-use Rattle.std.proofs.lemmas.Bool.Decides.{nat_tests}
+use Rattle.std.proofs.Common.{◌≡◌, ℕ, zero, suc, ◌+◌, ◌<◌, ◌≤◌, ◌==◌, Bool, false, if◌then◌else◌, ◌↔◌, List, [], ◌∷◌, length, map, get_or, None, refl, sym, ap, subst, ◌∙◌, arith}
+use Rattle.std.proofs.Math.Bool.{or-false}
 use Rattle.std.proofs.lemmas.List.{ext_get_or, get_or_past}
 use Rattle.std.proofs.lemmas.List.Elements.{All-from_recursion}
 use Rattle.std.proofs.lemmas.List.FromFn.{get_or-map-range_with_len}
@@ -14,39 +13,15 @@ use Rattle.ms_logic.specs.declared.mode.Order.TheVariants.{Zero, One, Two}
 use Rattle.ms_logic.specs.declared.assignment.Value.{Value}
 use Rattle.ms_logic.specs.Assignment.{Universe, Env, Variable, AllWithin, IsWithin, IsValueOf, IsUniverseOf, IsAssignment, assign, value_at}
 use Rattle.ms_logic.specs.Content.{IsWordOver, count_of, env_of, is_truth_value, is_in_letters}
-use Rattle.ms_logic.specs.Decoding.{AreSets, HasOneBit, HaveOneBit, HasOneBitEach, bit_in, positions_of, decoded_value, place_after, column_after, decoded_values, decoded_universe, decoded}
-use Rattle.ms_logic.specs.FiniteSet.{IsRising, is_member, least, numbers_below}
+use Rattle.ms_logic.specs.Decoding.{AreSets, HasOneBit, HaveOneBit, HasOneBitEach, positions_of, decoded_value, place_after, column_after, decoded_values, decoded_universe, decoded}
+use Rattle.ms_logic.specs.FiniteSet.{IsRising, is_member, least}
 use Rattle.ms_logic.specs.Roots.{AreRising, IsBelowFirst}
 use Rattle.ms_logic.specs.Word.{Encodes, HasLength, IsEncoding, truth_values_of, letter_at, bound_of_set}
 use Rattle.ms_logic.proofs.Agreement.{universe-assign_all}
-use Rattle.ms_logic.proofs.DecodingLemmas.{Says, SaysFirst, or_false, one_position, others_are, says_all}
-use Rattle.ms_logic.proofs.Members.{all_natural, is_member-filter, is_member-range, IsRising-filter, IsRising-range}
+use Rattle.ms_logic.proofs.DecodingLemmas.{Says, SaysFirst, bound-positions_of, rising-positions_of, is_member-positions_of, says_of_first, one_position, others_are, says_all}
+use Rattle.ms_logic.proofs.Members.{all_natural}
 use Rattle.ms_logic.proofs.Saying.{value_at-assign, value_at-assign_other}
 use Rattle.ms_logic.proofs.WordLaws.{encoding_is_over, length-letters_below, length-truth_values, length-letter}
-
--- the numbers of a range that pass a test are below its end
-bound-filter_range : (test : ℕ → Bool) (start count : ℕ) → bound_of_set (filter test (range_with_len start count)) ≤ start + count
-bound-filter_range test start zero = omega arith
-bound-filter_range test start (suc count) =
-    let others = bound-filter_range test (start + 1) count in
-    elim (test start) as (λ passes. bound_of_set (if passes then start ∷ filter test (range_with_len (start + 1) count) else filter test (range_with_len (start + 1) count)) ≤ start + suc count) [
-      | true ↦ omega (arith, others)
-      | false ↦ omega (arith, others)
-    ]
-
--- the positions of a column are positions of the word
-pub bound-positions_of : (letters : List (List Bool)) (column : ℕ) → bound_of_set (positions_of letters column) ≤ length letters
-bound-positions_of letters column = omega (arith, bound-filter_range (bit_in letters column) 0 (length letters))
-
--- they are a set
-pub rising-positions_of : (letters : List (List Bool)) (column : ℕ) → IsRising (positions_of letters column)
-rising-positions_of letters column = IsRising-filter (bit_in letters column) (numbers_below (length letters)) (IsRising-range 0 (length letters))
-
--- a position is among them where its letter has the bit 1 in the column
-pub is_member-positions_of : (letters : List (List Bool)) (column p : ℕ) → p < length letters → is_member p (positions_of letters column) ≡ bit_in letters column p
-is_member-positions_of letters column p below =
-    let inside : is_member p (numbers_below (length letters)) ≡ true = is_member-range p 0 (length letters) ∙ grind (arith, nat_tests, below) in
-    is_member-filter p (bit_in letters column) (numbers_below (length letters)) ∙ ap (λ b. b && bit_in letters column p) inside
 
 -- a list of one number is that number
 one_alone : (members : List ℕ) → length members ≡ 1 → members ≡ least members ∷ []
@@ -101,7 +76,21 @@ columns_after One n m column same = omega arith
 columns_after Two n m column same = omega arith
 
 module _ (word : Word) (e : Env) (within : (m : ℕ) → m < length word.letters → IsWithin e.universe m) where
-  -- the letters say of the first variable what it has, where that is its decoded value
+  -- a column that stands for members comes in front of those that say of the other variables what they have
+  with_column : (members : List ℕ) (column : ℕ) (vs : List Variable) → positions_of word.letters column ≡ members
+      → ((p : ℕ) → p < length word.letters → (k : ℕ) → get_or (get_or word.letters p []) (column + 1 + k) false ≡ get_or (letter_at vs e p) k false)
+      → (p : ℕ) → p < length word.letters → (k : ℕ) → get_or (get_or word.letters p []) (column + k) false ≡ get_or (is_member p members ∷ letter_at vs e p) k false
+  with_column members column vs positions others p below zero =
+      let same : column + 0 ≡ column = omega arith in
+      ap (λ c. get_or (get_or word.letters p []) c false) same ∙ sym (is_member-positions_of word.letters column p below) ∙ ap (is_member p) positions
+  with_column members column vs positions others p below (suc k) =
+      let same : column + suc k ≡ column + 1 + k = omega arith in ap (λ c. get_or (get_or word.letters p []) c false) same ∙ others p below k
+
+  -- the members that a column stands for are positions
+  members_below : (members : List ℕ) (column : ℕ) → positions_of word.letters column ≡ members → bound_of_set members ≤ length word.letters
+  members_below members column positions = omega (arith, ap bound_of_set positions, bound-positions_of word.letters column)
+
+  -- the word says of the first variable what it has, where that is its decoded value
   says_first : (o : Order) (x place column : ℕ) (vs : List Variable) → value_at o x e ≡ decoded_value word o place column → HasOneBit word.letters o column
       → Says word e (place_after o place) (column_after o column) vs → SaysFirst word e place column o x vs
   says_first Zero x place column vs is one says = record {
@@ -115,49 +104,27 @@ module _ (word : Word) (e : Env) (within : (m : ℕ) → m < length word.letters
       by_place : (k : ℕ) → get_or word.truth (place + k) false ≡ get_or (e.truth x ∷ truth_values_of vs e) k false
       by_place zero = let same : place + 0 ≡ place = omega arith in ap (λ k. get_or word.truth k false) same ∙ (let bit : e.truth x ≡ get_or word.truth place false = cc in sym bit)
       by_place (suc k) = let same : place + suc k ≡ place + 1 + k = omega arith in ap (λ k. get_or word.truth k false) same ∙ says.truth k
-  says_first One x place column vs is one says = record {
-    truth = says.truth;
-    bits = by_column;
-    own = within (e.number x) below;
-    values = says.values;
-    room = omega (arith, says.room, below);
-  }
-    where
-      positions : positions_of word.letters column ≡ e.number x ∷ []
-      positions = let number : e.number x ≡ least (positions_of word.letters column) = cc in one_alone (positions_of word.letters column) one ∙ ap (λ n. n ∷ []) (sym number)
-
-      below : e.number x < length word.letters
-      below = omega (arith, ap bound_of_set positions, bound-positions_of word.letters column)
-
-      by_column : (p : ℕ) → p < length word.letters → (k : ℕ) → get_or (get_or word.letters p []) (column + k) false ≡ get_or ((e.number x == p) ∷ letter_at vs e p) k false
-      by_column p p_below zero =
-          let same : column + 0 ≡ column = omega arith in
-          ap (λ c. get_or (get_or word.letters p []) c false) same
-          ∙ sym (is_member-positions_of word.letters column p p_below)
-          ∙ ap (is_member p) positions
-          ∙ or_false (e.number x == p)
-      by_column p p_below (suc k) =
-          let same : column + suc k ≡ column + 1 + k = omega arith in ap (λ c. get_or (get_or word.letters p []) c false) same ∙ says.bits p p_below k
-  says_first Two x place column vs is one says = record {
-    truth = says.truth;
-    bits = by_column;
-    own = (subst IsRising positions (rising-positions_of word.letters column), all_within e.universe (length word.letters) within (e.set x) below);
-    values = says.values;
-    room = omega (arith, says.room, below);
-  }
-    where
-      positions : positions_of word.letters column ≡ e.set x
-      positions = let members : e.set x ≡ positions_of word.letters column = cc in sym members
-
-      below : bound_of_set (e.set x) ≤ length word.letters
-      below = omega (arith, ap bound_of_set positions, bound-positions_of word.letters column)
-
-      by_column : (p : ℕ) → p < length word.letters → (k : ℕ) → get_or (get_or word.letters p []) (column + k) false ≡ get_or (is_member p (e.set x) ∷ letter_at vs e p) k false
-      by_column p p_below zero =
-          let same : column + 0 ≡ column = omega arith in
-          ap (λ c. get_or (get_or word.letters p []) c false) same ∙ sym (is_member-positions_of word.letters column p p_below) ∙ ap (is_member p) positions
-      by_column p p_below (suc k) =
-          let same : column + suc k ≡ column + 1 + k = omega arith in ap (λ c. get_or (get_or word.letters p []) c false) same ∙ says.bits p p_below k
+  says_first One x place column vs is one says =
+      let number : e.number x ≡ least (positions_of word.letters column) = cc in
+      let positions = one_alone (positions_of word.letters column) one ∙ ap (λ n. n ∷ []) (sym number) in
+      let below = members_below (e.number x ∷ []) column positions in
+      record {
+        truth = says.truth;
+        bits = λ p p_below k. with_column (e.number x ∷ []) column vs positions says.bits p p_below k ∙ ap (λ b. get_or (b ∷ letter_at vs e p) k false) (or-false (e.number x == p));
+        own = within (e.number x) (omega (arith, below));
+        values = says.values;
+        room = omega (arith, says.room, below);
+      }
+  says_first Two x place column vs is one says =
+      let members : e.set x ≡ positions_of word.letters column = cc in
+      let below = members_below (e.set x) column (sym members) in
+      record {
+        truth = says.truth;
+        bits = with_column (e.set x) column vs (sym members) says.bits;
+        own = (subst IsRising (sym members) (rising-positions_of word.letters column), all_within e.universe (length word.letters) within (e.set x) below);
+        values = says.values;
+        room = omega (arith, says.room, below);
+      }
 
   -- and of all variables, where they have their decoded values and there is nothing more in the word
   says_decoded : (vs : List Variable) (place column : ℕ) → length word.truth ≡ place + count_of is_truth_value vs
@@ -223,7 +190,7 @@ one_bit word e place column Two x vs says = tt
 have_one_bit : (word : Word) (e : Env) (place column : ℕ) (vs : List Variable) → Says word e place column vs → HaveOneBit word.letters column vs
 have_one_bit word e place column [] says = tt
 have_one_bit word e place column (v ∷ vs) says =
-    let first : SaysFirst word e place column v.order v.name vs = record { truth = says.truth; bits = says.bits; own = says.values.0; values = says.values.1; room = says.room } in
+    let first = says_of_first word e place column v vs says in
     (one_bit word e place column v.order v.name vs first, have_one_bit word e (place_after v.order place) (column_after v.order column) vs (others_are word e place column v.name vs v.order first))
 
 -- the words that encode an assignment are those over the variables with exactly one 1 for each variable of order 1
@@ -233,7 +200,7 @@ encodings_are mode vs word rising = (
   λ is. let found = decoded_is_encoded mode vs word rising is.0 is.1 in (decoded mode vs word, found.0, found.1),
 )
 
--- variables that are sets have no number
+-- variables that are sets ask for no column with exactly one 1
 no_numbers : (letters : List (List Bool)) (column : ℕ) (vs : List Variable) → AreSets vs → HaveOneBit letters column vs
 no_numbers letters column [] are = tt
 no_numbers letters column (v ∷ vs) are =

@@ -1,5 +1,7 @@
 -- What is read off the bits of a word is the assignment that it encodes.
-use Rattle.std.proofs.Common.{◌≡◌, ℕ, suc, ◌+◌, ◌<◌, ◌≤◌, ◌==◌, max, leb, ltb, Bool, true, false, ◌&&◌, ◌||◌, inl, inr, List, [], ◌∷◌, length, map, get_or, Some, None, refl, sym, ap, ◌∙◌, arith}
+use Rattle.std.proofs.Common.{◌≡◌, ℕ, zero, suc, if◌then◌else◌, ◌+◌, ◌<◌, ◌≤◌, ◌==◌, max, Bool, true, false, ◌&&◌, ◌||◌, inl, inr, List, [], ◌∷◌, length, map, get_or, Some, None, refl, sym, ap, ◌∙◌, arith}
+use Rattle.std.specs.List.{filter, range_with_len}
+use Rattle.std.proofs.Math.Bool.{or-false}
 use Rattle.std.proofs.lemmas.Bool.{cases_lt, false≢true}
 use Rattle.std.proofs.lemmas.Bool.Decides.{nat_tests}
 use Rattle.std.proofs.lemmas.List.FromFn.{get_or-map-range_with_len}
@@ -11,44 +13,53 @@ use Rattle.ms_logic.specs.declared.mode.Order.TheVariants.{Zero, One, Two}
 use Rattle.ms_logic.specs.declared.assignment.Value.{Value}
 use Rattle.ms_logic.specs.declared.assignment.Value.TheVariants.{Truth, Number, Set}
 use Rattle.ms_logic.specs.Assignment.{Universe, Env, Variable, value_at, IsValueOf, GivesEach, IsAssignment, IsUniverseOf}
+use Rattle.ms_logic.specs.Decoding.{bit_in, positions_of, decoded_value, place_after, column_after, decoded_values, bound_of_value, bound_of_values, decoded_length}
 use Rattle.ms_logic.specs.First.{length_of, length_by}
 use Rattle.ms_logic.specs.FiniteSet.{IsRising, is_member, least, numbers_below}
 use Rattle.ms_logic.specs.Word.{Encodes, HasLength, with_truth_value, with_bit, truth_values_of, letter_at, bound_of_set, bound_at, bound_of}
-use Rattle.ms_logic.proofs.Members.{is_member-filter, is_member-range, IsRising-filter, IsRising-range, member_below_bound}
+use Rattle.ms_logic.proofs.Members.{is_member-filter, is_member-range, IsRising-filter, IsRising-range, no_member_from_bound}
 use Rattle.ms_logic.proofs.SetLaws.{sets_are_their_members}
-use Rattle.ms_logic.specs.Decoding.{bit_in, positions_of, decoded_value, place_after, column_after, decoded_values, bound_of_value, bound_of_values, decoded_length}
 
--- no second test
-pub or_false : (b : Bool) → (b || false) ≡ b
-or_false true = refl
-or_false false = refl
+-- the numbers of a range that pass a test are below its end
+bound-filter_range : (test : ℕ → Bool) (start count : ℕ) → bound_of_set (filter test (range_with_len start count)) ≤ start + count
+bound-filter_range test start zero = omega arith
+bound-filter_range test start (suc count) =
+    let others = bound-filter_range test (start + 1) count in
+    elim (test start) as (λ passes. bound_of_set (if passes then start ∷ filter test (range_with_len (start + 1) count) else filter test (range_with_len (start + 1) count)) ≤ start + suc count) [
+      | true ↦ omega (arith, others)
+      | false ↦ omega (arith, others)
+    ]
+
+-- the positions of a column are positions of the word
+pub bound-positions_of : (letters : List (List Bool)) (column : ℕ) → bound_of_set (positions_of letters column) ≤ length letters
+bound-positions_of letters column = omega (arith, bound-filter_range (bit_in letters column) 0 (length letters))
+
+-- they are a set
+pub rising-positions_of : (letters : List (List Bool)) (column : ℕ) → IsRising (positions_of letters column)
+rising-positions_of letters column = IsRising-filter (bit_in letters column) (numbers_below (length letters)) (IsRising-range 0 (length letters))
+
+-- a position is among them where its letter has the bit 1 in the column
+pub is_member-positions_of : (letters : List (List Bool)) (column p : ℕ) → p < length letters → is_member p (positions_of letters column) ≡ bit_in letters column p
+is_member-positions_of letters column p below =
+    let inside : is_member p (numbers_below (length letters)) ≡ true = is_member-range p 0 (length letters) ∙ grind (arith, nat_tests, below) in
+    is_member-filter p (bit_in letters column) (numbers_below (length letters)) ∙ ap (λ b. b && bit_in letters column p) inside
 
 module _ (letters : List (List Bool)) (column : ℕ) (members : List ℕ) (rising : IsRising members) (within : bound_of_set members ≤ length letters)
     (bits : (p : ℕ) → p < length letters → bit_in letters column p ≡ is_member p members) where
+  -- a number is a position of the column where it is a member
   same_member : (k : ℕ) → is_member k (positions_of letters column) ≡ is_member k members
   same_member k =
       elim (cases_lt k (length letters)) [
-        | inl below ↦
-            is_member-filter k (bit_in letters column) (numbers_below (length letters))
-            ∙ ap (λ b. b && bit_in letters column k) (is_member-range k 0 (length letters))
-            ∙ (let inside : (leb 0 k && ltb k (0 + length letters)) ≡ true = grind (arith, nat_tests, below) in rw inside (bits k below))
+        | inl below ↦ is_member-positions_of letters column k below ∙ bits k below
         | inr above ↦
-            is_member-filter k (bit_in letters column) (numbers_below (length letters))
-            ∙ ap (λ b. b && bit_in letters column k) (is_member-range k 0 (length letters))
-            ∙ (let outside : (leb 0 k && ltb k (0 + length letters)) ≡ false = grind (arith, nat_tests, above) in rw outside (sym (no_member k above)))
+            no_member_from_bound (positions_of letters column) k (omega (arith, above, bound-positions_of letters column))
+            ∙ sym (no_member_from_bound members k (omega (arith, above, within)))
       ]
-    where
-      no_member : (k : ℕ) → length letters ≤ k → is_member k members ≡ false
-      no_member k above =
-          (elim (is_member k members) as (λ test. is_member k members ≡ test → test ≡ false) [
-            | true ↦ λ member. absurd (omega (arith, member_below_bound members k member, within, above))
-            | false ↦ λ _. refl
-          ]) refl
 
   -- the positions of a column are the members that it stands for
   pub positions_are : positions_of letters column ≡ members
   positions_are =
-      sets_are_their_members (positions_of letters column) members (IsRising-filter (bit_in letters column) (numbers_below (length letters)) (IsRising-range 0 (length letters))) rising
+      sets_are_their_members (positions_of letters column) members (rising-positions_of letters column) rising
       (λ n. (λ member. sym (same_member n) ∙ member, λ member. same_member n ∙ member))
 
 -- the bounds of the values are those of the variables
@@ -76,6 +87,11 @@ pub record SaysFirst (word : Word) (e : Env) (place column : ℕ) (o : Order) (x
   pub values : GivesEach vs e
   pub room : max (bound_at o x e) (bound_of vs e) ≤ length word.letters
 
+-- what a word says of variables, it says of the first and of the others
+pub says_of_first : (word : Word) (e : Env) (place column : ℕ) (v : Variable) (vs : List Variable) → Says word e place column (v ∷ vs)
+    → SaysFirst word e place column v.order v.name vs
+says_of_first word e place column v vs says = record { truth = says.truth; bits = says.bits; own = says.values.0; values = says.values.1; room = says.room }
+
 module _ (word : Word) (e : Env) (place column x : ℕ) (vs : List Variable) where
   -- a position has the bit of the first variable in its column
   column_bit : (p : ℕ) (expected : Bool) → get_or (get_or word.letters p []) (column + 0) false ≡ expected → bit_in word.letters column p ≡ expected
@@ -85,7 +101,7 @@ module _ (word : Word) (e : Env) (place column x : ℕ) (vs : List Variable) whe
   pub one_position : SaysFirst word e place column One x vs → positions_of word.letters column ≡ e.number x ∷ []
   one_position says =
       positions_are word.letters column (e.number x ∷ []) (tt, tt) (omega (arith, says.room))
-      (λ p below. column_bit p ((e.number x == p) || false) (says.bits p below 0 ∙ sym (or_false (e.number x == p))))
+      (λ p below. column_bit p ((e.number x == p) || false) (says.bits p below 0 ∙ sym (or-false (e.number x == p))))
 
   -- the decoded value of the first variable is its value
   first_is : (o : Order) → SaysFirst word e place column o x vs → decoded_value word o place column ≡ value_at o x e
@@ -120,7 +136,7 @@ pub decoded_is : (word : Word) (e : Env) (vs : List Variable) (place column : �
     → decoded_values word place column vs ≡ map (λ v. value_at v.order v.name e) vs
 decoded_is word e [] place column says = refl
 decoded_is word e (v ∷ vs) place column says =
-    let first : SaysFirst word e place column v.order v.name vs = record { truth = says.truth; bits = says.bits; own = says.values.0; values = says.values.1; room = says.room } in
+    let first = says_of_first word e place column v vs says in
     ap (λ value. value ∷ decoded_values word (place_after v.order place) (column_after v.order column) vs) (first_is word e place column v.name vs v.order first)
     ∙ ap (λ values. value_at v.order v.name e ∷ values) (decoded_is word e vs (place_after v.order place) (column_after v.order column) (others_are word e place column v.name vs v.order first))
 

@@ -136,6 +136,14 @@ member_below_bound [] n member = let never : ⊥ = cc in absurd never
 member_below_bound (first ∷ more) n member =
     ⊎_elim (λ same. omega (arith, same)) (λ there. omega (arith, member_below_bound more n there)) (member_cases n first more member)
 
+-- from the bound of a set on there is no member
+pub no_member_from_bound : (members : List ℕ) (n : ℕ) → bound_of_set members ≤ n → is_member n members ≡ false
+no_member_from_bound members n above =
+    (elim (is_member n members) as (λ test. is_member n members ≡ test → test ≡ false) [
+      | true ↦ λ member. absurd (omega (arith, member_below_bound members n member, above))
+      | false ↦ λ _. refl
+    ]) refl
+
 -- each set of natural numbers is within them
 pub all_natural : (members : List ℕ) → AllWithin None members
 all_natural [] = tt

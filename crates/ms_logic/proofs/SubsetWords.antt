@@ -9,7 +9,8 @@ use Rattle.ms_logic.specs.Decoding.{bit_in, positions_of, decoded}
 use Rattle.ms_logic.specs.Examples.{set_P_and_Q}
 use Rattle.ms_logic.specs.FiniteSet.{is_member}
 use Rattle.ms_logic.specs.Word.{Encodes}
-use Rattle.ms_logic.proofs.DecodedWords.{is_member-positions_of, sets_encoded}
+use Rattle.ms_logic.proofs.DecodedWords.{sets_encoded}
+use Rattle.ms_logic.proofs.DecodingLemmas.{is_member-positions_of}
 
 -- each word over P and Q encodes what it is decoded to
 pub decoded_P_and_Q : (w : Word) → IsWordOver set_P_and_Q w → IsAssignment Ws1s set_P_and_Q (decoded Ws1s set_P_and_Q w) × Encodes set_P_and_Q w (decoded Ws1s set_P_and_Q w)

@@ -1,5 +1,5 @@
 -- Words and assignments.
-use Rattle.std.proofs.Common.{◌≡◌, ◌≢◌, ℕ, zero, suc, ◌+◌, ◌<◌, ◌≤◌, Bool, true, false, if◌then◌else◌, ⊎_elim, List, [], ◌∷◌, ◌++◌, length, length-append, map, replicate, Some, None, refl, sym, ◌∙◌, ap, subst, arith}
+use Rattle.std.proofs.Common.{◌≡◌, ◌≢◌, ℕ, zero, suc, ◌+◌, ◌<◌, ◌≤◌, Bool, false, if◌then◌else◌, ⊎_elim, List, [], ◌∷◌, ◌++◌, length, length-append, map, replicate, Some, None, refl, sym, ◌∙◌, ap, subst, arith}
 use Rattle.std.specs.List.{range_with_len}
 use Rattle.std.proofs.lemmas.Bool.{false≢true, ne_eqb}
 use Rattle.std.proofs.lemmas.List.FromFn.{length-map-range_with_len}
@@ -10,12 +10,11 @@ use Rattle.ms_logic.specs.declared.mode.Order.{Order}
 use Rattle.ms_logic.specs.declared.mode.Order.TheVariants.{Zero, One, Two}
 use Rattle.ms_logic.specs.Assignment.{Universe, Env, Variable, IsUniverseOf}
 use Rattle.ms_logic.specs.Content.{AreLetters, is_truth_value, is_in_letters, count_of, zero_letter}
-use Rattle.ms_logic.specs.FiniteSet.{is_member}
 use Rattle.ms_logic.specs.First.{length_of, length_by}
-use Rattle.ms_logic.specs.Word.{HasLength, with_truth_value, truth_values_of, with_bit, letter_at, letters_below, bound_of_set, bound_at, bound_of}
+use Rattle.ms_logic.specs.Word.{HasLength, with_truth_value, truth_values_of, with_bit, letter_at, letters_below, bound_at, bound_of}
 use Rattle.ms_logic.specs.WordLaws.{EncodingIsOver, LengthIsLeast, WordIsUnique, ZeroLetterKeeps}
 use Rattle.ms_logic.specs.WordSign.{EncodingExists, EncodingIsUnique}
-use Rattle.ms_logic.proofs.Members.{member_below_bound}
+use Rattle.ms_logic.proofs.Members.{no_member_from_bound}
 use Rattle.ms_logic.proofs.OrderLaws.{bound_is_least, same_values, values_below_length}
 
 pub length-letters_below : (n : ℕ) (vs : List Variable) (e : Env) → length (letters_below n vs e) ≡ n
@@ -103,13 +102,6 @@ zero_from_bound : (vs : List Variable) (e : Env) (p : ℕ) → bound_of vs e ≤
 zero_from_bound [] e p above = refl
 zero_from_bound (v ∷ vs) e p above = one_more v.order v.name (letter_at vs e p) (count_of is_in_letters vs) (zero_from_bound vs e p (omega (arith, above))) (omega (arith, above))
   where
-    no_member : (members : List ℕ) → bound_of_set members ≤ p → is_member p members ≡ false
-    no_member members above =
-        (elim (is_member p members) as (λ test. is_member p members ≡ test → test ≡ false) [
-          | true ↦ λ member. absurd (omega (arith, member_below_bound members p member, above))
-          | false ↦ λ _. refl
-        ]) refl
-
     one_more : (o : Order) (x : ℕ) (more : List Bool) (n : ℕ) → more ≡ replicate n false → bound_at o x e ≤ p
         → with_bit o x p e more ≡ replicate (if is_in_letters o then n + 1 else n) false
     one_more Zero x more n same above = same
@@ -119,7 +111,7 @@ zero_from_bound (v ∷ vs) e p above = one_more v.order v.name (letter_at vs e p
         rw (ne_eqb (e.number x) p other, same, next) refl
     one_more Two x more n same above =
         let next : n + 1 ≡ suc n = omega arith in
-        rw (no_member (e.set x) above, same, next) refl
+        rw (no_member_from_bound (e.set x) p above, same, next) refl
 
 -- one letter more
 letters_more : (vs : List Variable) (e : Env) (start n : ℕ) → map (letter_at vs e) (range_with_len start (suc n)) ≡ map (letter_at vs e) (range_with_len start n) ++ letter_at vs e (start + n) ∷ []
