@@ -1,5 +1,5 @@
 -- What always holds: nothing, and that a set lies in itself.
-use Rattle.std.proofs.Common.{◌≡◌, ◌↔◌, ℕ, zero, suc, ◌<◌, ◌≤◌, ◌==◌, Bool, true, false, inl, inr, List, [], ◌∷◌, slice_get, slice_index_or, Some, refl, ap, sym, subst, ◌∙◌, arith}
+use Rattle.std.proofs.Common.{◌≡◌, ℕ, zero, suc, ◌<◌, ◌==◌, Bool, true, inl, inr, List, [], ◌∷◌, slice_get, slice_index_or, Some, refl, sym, subst, ◌∙◌, arith}
 use Rattle.std.specs.List.{list_all}
 use Rattle.std.proofs.Math.Bool.{or-true}
 use Rattle.std.proofs.lemmas.Bool.{eq-eqb}
@@ -7,8 +7,10 @@ use Rattle.ms_edge.specs.declared.refusal.Word.{Word}
 use Rattle.ms_arena.specs.declared.node.Node.{Node}
 use Rattle.ms_arena.specs.declared.node.Ref.TheVariants.{Leaf}
 use Rattle.ms_arena.proofs.Paths.{leaf_of-leaf}
+use Rattle.ms_logic.specs.declared.mode.Mode.TheVariants.{Ws1s}
 use Rattle.ms_logic.specs.declared.mode.Order.{Order}
 use Rattle.ms_logic.specs.Assignment.{Env}
+use Rattle.ms_logic.specs.Decoding.{AreSets}
 use Rattle.ms_logic.specs.Roots.{AreRising}
 use Rattle.ms_logic.specs.FiniteSet.{is_member}
 use Rattle.ms_logic.specs.Truth.{Given}
@@ -16,6 +18,7 @@ use Rattle.ms_logic.specs.Content.{StateOf, IsFollowed, is_truth_value, is_in_le
 use Rattle.ms_logic.specs.Verdict.{MeetsRestrictions, MainYes, MainNo}
 use Rattle.ms_logic.specs.declared.sign.Sign.{Sign}
 use Rattle.ms_logic.specs.declared.sign.Sign.TheVariants.{Yes, No, Outside}
+use Rattle.ms_logic.proofs.DecodedWords.{each_word_encodes}
 use Rattle.ms_dfa.specs.Automaton.{IsAutomaton}
 use Rattle.ms_app.specs.Claim.{problem_with}
 use Rattle.ms_app.specs.declared.claim.Claim.{Claim}
@@ -24,7 +27,6 @@ use Rattle.ms_app.specs.HasValue.{HasMainValue}
 use Rattle.ms_app.specs.Inclusion.{sets, always_content, AlwaysHolds}
 use Rattle.ms_app.proofs.Excess.{tests_leaf}
 use Rattle.ms_app.proofs.InclusionValue.{is_included}
-use Rattle.ms_app.proofs.SetWords.{each_word_encodes}
 
 -- the run stays in the one state
 stays : (count : ℕ) (letters : List (List Bool)) → state_after (always_content count) 0 letters ≡ 0
@@ -55,10 +57,17 @@ first_is_member first more = rw (eq-eqb first first refl)
 later_is_member : (m first : ℕ) (more : List ℕ) → is_member m more ≡ true → is_member m (first ∷ more) ≡ true
 later_is_member m first more member = rw member (or-true (first == m))
 
+-- the numbers of the variables rise
 rising : (count : ℕ) → AreRising (sets count)
 rising zero = tt
 rising (suc zero) = (tt, tt)
 rising (suc (suc more)) = (omega arith, (tt, tt))
+
+-- they are sets
+are_sets : (count : ℕ) → AreSets (sets count)
+are_sets zero = tt
+are_sets (suc zero) = (refl, tt)
+are_sets (suc (suc more)) = (refl, (refl, tt))
 
 -- no node is held
 nothing_held : (place : ℕ) (node : Node) → slice_get [] place ≡ Some node → ⊥
@@ -85,7 +94,7 @@ is_automaton count = record {
   few_states = omega arith;
   encodings = λ word over. (
     λ encodes outside. let same : Some Yes ≡ Some Outside = sym (sign_is_yes count word) ∙ outside in cc,
-    λ inside. each_word_encodes count word over,
+    λ inside. each_word_encodes Ws1s (sets count) word (rising count) (are_sets count) over,
   );
   settled = λ mode word over encodes. sign_is_yes count (with_zero_letter (sets count) word) ∙ sym (sign_is_yes count word);
 }

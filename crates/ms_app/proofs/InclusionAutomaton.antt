@@ -8,12 +8,14 @@ use Rattle.ms_arena.specs.declared.node.Node.{Node}
 use Rattle.ms_arena.specs.Diagram.{IsValid, IsOrdered, IsReduced}
 use Rattle.ms_arena.specs.Reach.{TestsOnly}
 use Rattle.ms_arena.proofs.Paths.{leaf_of-leaf}
+use Rattle.ms_logic.specs.declared.mode.Mode.TheVariants.{Ws1s}
 use Rattle.ms_logic.specs.declared.mode.Order.{Order}
 use Rattle.ms_logic.specs.Assignment.{Env}
 use Rattle.ms_logic.specs.Word.{Encodes}
 use Rattle.ms_logic.specs.Content.{StateOf, IsFollowed, IsClosed, HasValueAt, is_truth_value, is_in_letters, sign_of, zero_letter, with_zero_letter}
 use Rattle.ms_logic.specs.declared.sign.Sign.{Sign}
 use Rattle.ms_logic.specs.declared.sign.Sign.TheVariants.{Yes, No, Outside}
+use Rattle.ms_logic.proofs.DecodedWords.{each_word_encodes}
 use Rattle.ms_dfa.specs.Automaton.{IsAutomaton}
 use Rattle.ms_logic.specs.Truth.{Given}
 use Rattle.ms_app.specs.Claim.{problem_with}
@@ -23,7 +25,6 @@ use Rattle.ms_app.specs.HasValue.{HasMainValue}
 use Rattle.ms_app.proofs.Excess.{tests_leaf}
 use Rattle.ms_app.proofs.InclusionRun.{IsExcess, exceeds, sign_by_letters}
 use Rattle.ms_app.proofs.InclusionValue.{is_included, sign_by_sets, yes_included, no_included}
-use Rattle.ms_app.proofs.SetWords.{each_word_encodes}
 
 -- a leaf that is a state is followed by any part of a word
 leaf_followed : (nodes : List Node) (excess : Ref) (has_value : Order → Bool) (state : ℕ) → state < 2
@@ -98,7 +99,7 @@ module _ (nodes : List Node) (left right : ℕ) (in_left : left < 2) (in_right :
     few_states = omega arith;
     encodings = λ word over. (
       λ encodes outside. never_outside (list_any (exceeds left right) word.letters) (sym (sign_by_letters nodes left right excess function word) ∙ outside),
-      λ inside. each_word_encodes 2 word over,
+      λ inside. each_word_encodes Ws1s two_sets word (omega arith, (tt, tt)) (refl, (refl, tt)) over,
     );
     settled = λ mode word over encodes.
         sign_by_letters nodes left right excess function (with_zero_letter two_sets word)

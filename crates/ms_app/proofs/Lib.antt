@@ -11,5 +11,4 @@ pub mod InclusionValue
 pub mod Members
 pub mod PlainGlobals
 pub mod Results
-pub mod SetWords
 pub mod Subsets

@@ -12,7 +12,7 @@ abbrev pub is_in_first_alone : List ℕ → List ℕ → ℕ → Bool
 is_in_first_alone left right position = is_member position left && not (is_member position right)
 
 -- a number below n is among the numbers below n
-pub below_is_member : (n m : ℕ) → m < n → is_member m (numbers_below n) ≡ true
+below_is_member : (n m : ℕ) → m < n → is_member m (numbers_below n) ≡ true
 below_is_member n m below = is_member-range m 0 n ∙ grind (arith, nat_tests)
 
 not_alone : (here there : Bool) → (here ≡ true → there ≡ true) → (here && not there) ≡ false
