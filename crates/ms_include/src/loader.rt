@@ -1,7 +1,7 @@
 ghost use Rattle.std.specs.Prelude.{◌≡◌, ◌≤◌, ◌⊎◌, ◌++◌, ◌∷◌, [], List, ℕ, length, drop, IfOk, IfErr, OnOk};
 ghost use Rattle.ms_logic.specs.declared.source.Item.{Item};
 ghost use Rattle.ms_edge.specs.Files.{OnlyRead, Seen, between};
-ghost use Rattle.ms_edge.specs.declared.refusal.Refusal.TheVariants.{IncludeCycle};
+ghost use Rattle.ms_edge.specs.declared.refusal.Refusal.TheVariants.{IncludeCycle, NotHere};
 ghost use Rattle.ms_include.specs.Include.{numbers, Becomes, AllBecome, Loads, Stops, OneStops, IsRefused, include_of, is_among, names};
 ghost use Rattle.ms_include.specs.Load.{files_of};
 ghost use Rattle.ms_include.specs.Seen.{IsPart};
@@ -30,6 +30,13 @@ pub struct Loader {
     pub items: Vec<Item>,
 }
 
+/// The refusal of an included file that has a header.
+fn header_inside(at: At) -> Refusal
+    ensures { result ≡ NotHere at }
+{
+    Refusal::NotHere { at }
+}
+
 /// Appends the item, which is let go where memory is refused.
 fn add<T: Drop>(items: &mut Vec<T>, item: T) -> Result<(), Refusal>
     ensures ok { OnOk result (items.new.items ≡ items.old.items ++ item ∷ []) }
@@ -49,6 +56,21 @@ impl Loader {
         ensures memory { IfErr result (λ refusal. refusal ≡ Refusal.Memory) }
     {
         add(&mut self.items, item)
+    }
+
+    /// Whether the loading of the file with this name goes on.
+    fn is_begun(&self, name: &Text) -> bool
+        ensures { result ≡ is_among name.now (names self.now.chain.items) }
+    {
+        is_in_chain(name, self.chain.as_slice())
+    }
+
+    /// Whether the file with this name has been read.
+    fn is_loaded(&self, name: &Text, names: &List<Text>) -> bool
+        requires { self.now.base ≤ length names.now }
+        ensures { result ≡ is_among name.now (drop self.now.base names.now) }
+    {
+        is_read(name, names.slice(), self.base)
     }
 
     /// The refusal of an include of a file whose loading goes on.
@@ -102,7 +124,7 @@ impl Loader {
             Err(refusal) => return Err(refusal),
         };
         if let Some((at, _)) = parsed.header {
-            return Err(Refusal::NotHere { at });
+            return Err(header_inside(at));
         }
         self.begin(number, name)?;
         if let Err(refusal) = self.put_all(files, names, room - 1, parsed.items) {
@@ -213,10 +235,10 @@ impl Loader {
         ensures grown { (added : List (List ℕ)) × (names.new ≡ names.old ++ added) }
         ensures only_read { OnlyRead (F.told files.old) (F.told files.new) }
     {
-        if is_in_chain(&name, self.chain.as_slice()) {
+        if self.is_begun(&name) {
             return Err(self.cycle(at, name));
         }
-        if is_read(&name, names.slice(), self.base) {
+        if self.is_loaded(&name, names) {
             return Ok(());
         }
         if let Err(refusal) = self.load(files, names, room, at, name) {

@@ -4,10 +4,10 @@ use Rattle.ms_grammar.specs.Continuation.{CanFollow, CanFollowAtAnyDepth}
 use Rattle.ms_grammar.specs.Grammar.{greatest_depth}
 use Rattle.ms_grammar.specs.Symbol.{Placed}
 use Rattle.ms_grammar.specs.Tree.{Document}
-use Rattle.ms_parse.specs.Faults.{Fault, no_fault, refused_at, deep_at, step_fault}
-use Rattle.ms_parse.specs.Machine.{State, outside, Next, start, step}
-use Rattle.ms_parse.proofs.Headers.{is_header_word}
-use Rattle.ms_parse.proofs.Refusals.{ReachedFrom, reached_from_first, reached_from_next, symbol_refused, symbol_too_deep, end_follows}
+use Rattle.ms_steps.specs.Faults.{Fault, no_fault, refused_at, deep_at, step_fault}
+use Rattle.ms_steps.specs.Machine.{State, outside, Next, start, step}
+use Rattle.ms_steps.proofs.Headers.{is_header_word}
+use Rattle.ms_steps.proofs.Refusals.{ReachedFrom, reached_from_first, reached_from_next, symbol_refused, symbol_too_deep, end_follows}
 
 abbrev fault_in : (State → List Placed → Fault) → Next → Fault → Fault
 fault_in further None here = here

@@ -3,10 +3,10 @@ use Rattle.std.proofs.Common.{◌≡◌, ℕ, zero, suc, true, List, [], ◌∷�
 use Rattle.ms_grammar.specs.Symbol.{Placed}
 use Rattle.ms_grammar.specs.Tree.{Document}
 use Rattle.ms_grammar.specs.Declarations.{Reads}
-use Rattle.ms_parse.specs.Machine.{State, outside, wanted, holding, variable_wanted, part_wanted, pair_wanted, global_wanted, parameter_wanted, summand_wanted, Next, start, step, finished, goes_on, run}
+use Rattle.ms_steps.specs.Machine.{State, outside, wanted, holding, variable_wanted, part_wanted, pair_wanted, global_wanted, parameter_wanted, summand_wanted, Next, start, step, finished, goes_on, run}
 use Rattle.ms_grammar.specs.Grammar.{greatest_depth}
-use Rattle.ms_parse.proofs.Limits.{within}
-use Rattle.ms_parse.proofs.Headers.{document_read}
+use Rattle.ms_steps.proofs.Limits.{within}
+use Rattle.ms_steps.proofs.Headers.{document_read}
 
 -- where nothing is left, no step is taken
 finished_stops : (limit : ℕ) (s : State) (ts : List Placed) (d : Document) → finished s ts ≡ Some d → step limit s ts ≡ None

@@ -4,11 +4,11 @@ use Rattle.std.proofs.lemmas.Bool.{false≢true}
 use Rattle.ms_grammar.specs.Symbol.{Placed}
 use Rattle.ms_grammar.specs.Tree.{Document}
 use Rattle.ms_grammar.specs.Declarations.{Reads}
-use Rattle.ms_parse.specs.Machine.{State, outside, Next, start, step, finished, goes_on, run, Runs}
+use Rattle.ms_steps.specs.Machine.{State, outside, Next, start, step, finished, goes_on, run, Runs}
 use Rattle.ms_grammar.specs.Grammar.{greatest_depth}
-use Rattle.ms_parse.proofs.Limits.{within, of_grammar}
-use Rattle.ms_parse.proofs.Headers.{document_read}
-use Rattle.ms_parse.proofs.Runs.{runs_read}
+use Rattle.ms_steps.proofs.Limits.{within, of_grammar}
+use Rattle.ms_steps.proofs.Headers.{document_read}
+use Rattle.ms_steps.proofs.Runs.{runs_read}
 
 abbrev or_on : (Next → Option Document) → Next → Option Document → Option Document
 or_on further next (Some d) = Some d

@@ -1,17 +1,2 @@
-pub mod Ends
 pub mod Examples
-pub mod Faults
-pub mod Headers
-pub mod Kinds
-pub mod Links
-pub mod Machine
-pub mod Opened
-pub mod Outcomes
-pub mod Pairs
-pub mod Punctuations
 pub mod Refused
-pub mod Rows
-pub mod Signs
-pub mod Stack
-pub mod States
-pub mod Stops

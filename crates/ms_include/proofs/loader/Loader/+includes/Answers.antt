@@ -12,12 +12,12 @@ use Rattle.ms_include.proofs.loader.Loader.+includes.Goals as goal
 
 pub include-returns-in-Err-clause-refused : goal.include-returns-in-Err-clause-refused
 include-returns-in-Err-clause-refused g t c =
-    λ request part. include-refused _ _ _ _ (ap (λ names. is_among c.args.name (drop c.args.self.now.base names)) (sym c.slice.ensures) ∙ (sym c.is_read.ensures ∙ c.if-is_read.false)) (c.in-Err.ensures.refused request part)
+    λ request part. include-refused _ _ _ _ (sym c.is_loaded.ensures ∙ c.if-is_loaded.false) (c.in-Err.ensures.refused request part)
 
 pub include-returns-clause-put : goal.include-returns-clause-put
 include-returns-clause-put g t c = λ request part item.
     let put = c.in_default.ensures.put request part in
-    (put.0, put.1, inr (ap (λ names. is_among c.args.name (drop c.args.self.now.base names)) (sym c.slice.ensures) ∙ (sym c.is_read.ensures ∙ c.if-is_read.false), put.2))
+    (put.0, put.1, inr (sym c.is_loaded.ensures ∙ c.if-is_loaded.false, put.2))
 
 pub load-returns-in-Err-clause-refused : goal.load-returns-in-Err-clause-refused
 load-returns-in-Err-clause-refused g t c = λ request part.
@@ -30,9 +30,10 @@ pub load-returns-in-Some-clause-refused : goal.load-returns-in-Some-clause-refus
 load-returns-in-Some-clause-refused g t c = λ request part.
     let positive : 0 < c.args.room = omega arith in
     let few : length c.args.names.now < c.args.self.now.base + most_files = omega arith in
-    header-refused request (g.F.Files.told c.args.files.now).held c.args.self.now.base c.args.room c.len-number.result c.args.self.now.chain.items c.args.names.now c.open.new.names c.args.at c.args.name
+    subst (λ refusal. (refusal ≡ Memory) ⊎ IsRefused (files_of request c.args.self.now.base) c.args.room c.args.self.now.chain.items (drop c.args.self.now.base c.args.names.now) c.args.at c.args.name refusal (drop c.args.self.now.base c.open.new.names)) (sym c.header_inside.ensures)
+    (header-refused request (g.F.Files.told c.args.files.now).held c.args.self.now.base c.args.room c.len-number.result c.args.self.now.chain.items c.args.names.now c.open.new.names c.args.at c.args.name
     c.in-Ok.parsed c.in-Some.at c.in-Some.field-0-1
-    positive c.requires.begun c.len-number.ensures few part.held c.in-Ok.ensures.read c.in-Some.is c.in-Ok.ensures.noted
+    positive c.requires.begun c.len-number.ensures few part.held c.in-Ok.ensures.read c.in-Some.is c.in-Ok.ensures.noted)
 
 pub load-returns-in-Err-put_all-clause-refused : goal.load-returns-in-Err-put_all-clause-refused
 load-returns-in-Err-put_all-clause-refused g t c = λ request part.

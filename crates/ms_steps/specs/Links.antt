@@ -1,0 +1,17 @@
+-- What stands before an operand of `&` or `|`, as a frame of the automaton.
+use Rattle.std.specs.Prelude.{◌≡◌, ◌≢◌}
+use Rattle.ms_grammar.specs.declared.operator.Junction.{Junction}
+use Rattle.ms_grammar.specs.View.{expressions_of}
+use Rattle.ms_steps.specs.declared.join.Link.{Link}
+use Rattle.ms_steps.specs.declared.join.Link.TheVariants as links
+use Rattle.ms_steps.specs.Machine.{Frame, joined_frame}
+use Rattle.ms_steps.specs.Opened.{frame_of}
+
+-- no operands of this operator
+abbrev pub IsApart : Junction → Frame → Type 0
+IsApart op (joined_frame at found es) = found ≢ op
+IsApart op _ = Unit {0}
+
+abbrev pub IsLink : Junction → Link → Frame → Type 0
+IsLink op (links.Further at es) f = f ≡ joined_frame at op (expressions_of es.list)
+IsLink op (links.Other frame) f = (frame_of frame.opened ≡ f) × IsApart op f

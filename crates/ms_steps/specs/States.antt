@@ -1,0 +1,47 @@
+-- The states of the automaton that the code's states stand for.
+use Rattle.std.specs.Prelude.{◌≡◌, ℕ, List, Some, None, Result, Ok, Err}
+use Rattle.ms_text.specs.TokenList.{Lexed}
+use Rattle.ms_logic.specs.declared.source.Source.{Source}
+use Rattle.ms_steps.specs.declared.context.Context.{Context}
+use Rattle.ms_steps.specs.declared.context.Context.TheVariants as contexts
+use Rattle.ms_steps.specs.declared.frame.Frame.{Frame}
+use Rattle.ms_steps.specs.declared.state.Parsed.{Parsed}
+use Rattle.ms_steps.specs.declared.state.State.{State}
+use Rattle.ms_steps.specs.declared.state.State.TheVariants as states
+use Rattle.ms_steps.specs.declared.stop.Stop.{Stop}
+use Rattle.ms_steps.specs.declared.stop.Stop.TheVariants.{Memory, Refused, TooDeep}
+use Rattle.ms_steps.specs.Machine as machine
+use Rattle.ms_steps.specs.Outcomes.{outcome_of}
+use Rattle.ms_steps.specs.Signs.{behind}
+use Rattle.ms_steps.specs.Stack.{stack_of}
+use Rattle.ms_grammar.specs.Tree.{Document}
+use Rattle.ms_grammar.specs.View.{variables_of, document_of}
+
+-- the source with this header and these declarations
+abbrev pub source_of : Parsed → Source
+source_of made = record { header = made.header; items = made.items.items }
+
+abbrev pub read_of : Parsed → Document
+read_of made = document_of (source_of made)
+
+abbrev pub context_of : Document → Context → machine.Context
+context_of d (contexts.Formula at) = machine.in_formula d at
+context_of d (contexts.Global g at_v n) = machine.in_global d g.at g.order (variables_of g.list) at_v n
+context_of d (contexts.Parameter s o at_v n) = machine.in_parameter d s.at s.is_pred s.at_name s.name (variables_of s.parameters) o at_v n
+context_of d (contexts.Predicate s) = machine.in_predicate d s.at s.is_pred s.at_name s.name (variables_of s.parameters)
+context_of d (contexts.Default at o n) = machine.in_default d at o n
+
+abbrev pub state_of : Document → List machine.Frame → State → machine.State
+state_of d st states.Outside = machine.outside d
+state_of d st (states.Expression c o) = outcome_of (context_of d c) st o
+state_of d st (states.Global g) = machine.global_wanted d g.at g.order (variables_of g.list)
+state_of d st (states.Parameter s) = machine.parameter_wanted d s.at s.is_pred s.at_name s.name (variables_of s.parameters)
+state_of d st (states.Summand at at_n n sum) = machine.summand_wanted d at at_n n sum
+
+-- a step of the automaton has been taken, with these declarations, this stack and from the token with this number on; or
+-- there is none
+abbrev pub Stepped : ℕ → Lexed → machine.Next → Parsed → List Frame → Result (State × ℕ) Stop → Type 0
+Stepped file lexed next made frames (Ok (s, i)) = next ≡ Some (state_of (read_of made) (stack_of frames) s, behind file lexed i)
+Stepped file lexed next made frames (Err Memory) = Unit {0}
+Stepped file lexed next made frames (Err (Refused i)) = next ≡ None
+Stepped file lexed next made frames (Err (TooDeep i)) = next ≡ None

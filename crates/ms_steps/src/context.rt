@@ -1,0 +1,104 @@
+ghost use Rattle.std.specs.Prelude.{◌≡◌, [], ℕ, Bool, List, IfErr, ◌-◌};
+ghost use Rattle.ms_grammar.specs.Grammar.{greatest_depth};
+ghost use Rattle.ms_grammar.specs.View.{expression_of};
+ghost use Rattle.ms_steps.specs.Ends.{IsEnd};
+ghost use Rattle.ms_steps.specs.Faults.{settle_fault};
+ghost use Rattle.ms_steps.specs.Machine.{settle};
+ghost use Rattle.ms_steps.specs.Outcomes.{Says};
+ghost use Rattle.ms_steps.specs.Signs.{behind, symbol_with};
+ghost use Rattle.ms_steps.specs.States.{Stepped, context_of, read_of};
+
+use crate::frame::Frame;
+use crate::globals::end_global;
+use crate::go_on::{end_default, end_formula, end_predicate};
+use crate::operand::Operand;
+use crate::parameters::end_parameter;
+use crate::sign::Sign;
+use crate::state::{Parsed, State};
+use crate::stop::Stop;
+use ms_edge::{At, List, Name};
+use ms_logic::{Bound, Order};
+use ms_text::Tokens;
+use std::alloc::Global;
+
+/// A declaration of variables that has been begun: the place of its word, and the variables so far.
+#[derive(Drop)]
+pub struct Globals {
+    pub at: At,
+    pub order: Order,
+    pub list: List<Bound>,
+}
+
+/// A predicate or a macro that has been begun: the place of its word, its name, and its parameters so far.
+#[derive(Drop)]
+pub struct Signature {
+    pub at: At,
+    pub is_pred: bool,
+    pub at_name: At,
+    pub name: Name,
+    pub parameters: List<Bound>,
+}
+
+/// A declaration of which an expression has been begun.
+pub enum Context {
+    Formula(At),
+    /// The restriction of a variable, with its name.
+    Global(Globals, At, Name),
+    /// The restriction of a parameter, with its order and name.
+    Parameter(Signature, Order, At, Name),
+    /// The body of a predicate or a macro.
+    Predicate(Signature),
+    /// A default restriction of an order, with its parameter.
+    Default(At, Order, Name),
+}
+
+impl Drop for Context {
+    fn drop(self) {
+        match self {
+            Context::Formula(_) => {}
+            Context::Global(globals, _, name) => {
+                drop(globals);
+                drop(name)
+            }
+            Context::Parameter(signature, _, _, name) => {
+                drop(signature);
+                drop(name)
+            }
+            Context::Predicate(signature) => drop(signature),
+            Context::Default(_, _, name) => drop(name),
+        }
+    }
+}
+
+impl Context {
+    /// What ends the expression of a declaration.
+    pub fn end_expression(
+        self,
+        alloc: Global,
+        tokens: &Tokens,
+        file: u32,
+        made: &mut Parsed,
+        stack: &mut Vec<Frame>,
+        operand: Operand,
+        sign: Sign,
+        i: u32,
+    ) -> Result<(State, u32), Stop>
+        ensures step { (bytes : List ℕ) (inside : Bool) → IsEnd inside (symbol_with sign bytes) →
+            Stepped file tokens.now (settle greatest_depth (context_of (read_of made.old) self) (symbol_with sign bytes) inside (expression_of operand.expr, []) (behind file tokens.now i)) made.new stack.new.items result }
+        ensures fault { (bytes : List ℕ) (inside : Bool) → IsEnd inside (symbol_with sign bytes) → IfErr result (Says file tokens.now (settle_fault greatest_depth (context_of (read_of made.old) self) (symbol_with sign bytes) inside ((expression_of operand.expr), []) (behind file tokens.now (i - 1)) (behind file tokens.now i))) }
+    {
+        match self {
+            Context::Formula(at) => end_formula(made, at, operand, sign, i),
+            Context::Global(globals, at_name, name) => {
+                end_global(alloc, made, globals, at_name, name, operand, sign, i)
+            }
+            Context::Parameter(signature, order, at_name, name) => end_parameter(
+                alloc, tokens, file, stack, signature, order, at_name, name, operand, sign, i,
+            ),
+            Context::Predicate(signature) => end_predicate(made, signature, operand, sign, i),
+            Context::Default(at, order, name) => end_default(
+                made, at, order, name, operand, sign, i,
+            ),
+        }
+    }
+}

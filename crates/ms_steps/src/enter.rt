@@ -1,0 +1,123 @@
+ghost use Rattle.std.specs.Prelude.{◌≡◌, ◌≤◌, ◌<◌, ◌+◌, ℕ, suc, false, List, length, vec_len, IfErr, IsTrue};
+ghost use Rattle.ms_text.specs.TokenList.{Lexed};
+ghost use Rattle.ms_steps.specs.Faults.{Fault, enter_fault, inside_fault, starter};
+ghost use Rattle.ms_steps.specs.Machine.{Context, enter, frame_depth};
+ghost use Rattle.ms_grammar.specs.Grammar.{level, greatest_depth};
+ghost use Rattle.ms_steps.specs.Opened.{frame_of};
+ghost use Rattle.ms_steps.specs.Outcomes.{Says, Took};
+ghost use Rattle.ms_steps.specs.Signs.{symbol_with, behind};
+ghost use Rattle.ms_steps.specs.Stack.{stack_of};
+ghost use Rattle.ms_grammar.specs.View.{expression_of};
+
+use crate::frame::Frame;
+use crate::input::sign_at;
+use crate::operand::GREATEST_DEPTH;
+use crate::outcome::Outcome;
+use crate::sign::Sign;
+use crate::stack::push_frame;
+use crate::stop::Stop;
+use ms_logic::{Expr, Form};
+use ms_text::Tokens;
+
+/// Whether the depth leaves room for an expression in a new frame.
+pub fn has_room(stack: &[Frame]) -> bool
+    ensures yes { IsTrue result → suc (suc (length (stack_of stack.now))) ≤ greatest_depth }
+    ensures no { result ≡ false → greatest_depth < suc (suc (length (stack_of stack.now))) }
+{
+    stack.len() < 299
+}
+
+fn may_begin(sign: Sign) -> bool
+    ensures { (bytes : List ℕ) → result ≡ starter (symbol_with sign bytes) }
+{
+    match sign {
+        Sign::Name => true,
+        Sign::Number(_) => true,
+        Sign::Prefix(_) => true,
+        Sign::Quantifier(..) => true,
+        Sign::Let(_) => true,
+        Sign::True => true,
+        Sign::False => true,
+        Sign::Dollar => true,
+        Sign::Empty => true,
+        Sign::Pconst => true,
+        Sign::Import => true,
+        Sign::Export => true,
+        Sign::Restrict => true,
+        Sign::OpenRound => true,
+        Sign::OpenCurly => true,
+        _ => false,
+    }
+}
+
+/// Why the first token in a list cannot stand there, where the depth leaves no room for an expression.
+pub fn stop_inside(tokens: &Tokens, file: u32, i: u32) -> Stop
+    ensures { Says file tokens.now (inside_fault (behind file tokens.now i)) result }
+{
+    let Some((sign, _)) = sign_at(tokens, file, i) else {
+        return Stop::Refused(i);
+    };
+    if may_begin(sign) {
+        return Stop::TooDeep(i);
+    }
+    Stop::Refused(i)
+}
+
+/// Puts a frame on the stack, where the depth leaves room for an expression in it, and else stops.
+pub fn enter(
+    stack: &mut Vec<Frame>,
+    frame: Frame,
+    i: u32,
+    otherwise: Stop,
+) -> Result<(Outcome, u32), Stop>
+    ensures step { (c : Context) (file : ℕ) (lexed : Lexed) →
+        Took c file lexed (enter greatest_depth c (frame_of frame.opened) (stack_of stack.old.items) (behind file lexed i)) stack.new.items result }
+    ensures fault { (file : ℕ) (lexed : Lexed) (fault : Fault) → Says file lexed fault otherwise →
+        IfErr result (Says file lexed (enter_fault greatest_depth (frame_depth (frame_of frame.opened)) (stack_of stack.old.items) fault)) }
+{
+    if !has_room(stack) {
+        return Err(otherwise);
+    }
+    let inside = frame.height.max(1);
+    if stack.len() as u32 + 1 + inside > GREATEST_DEPTH {
+        return Err(otherwise);
+    }
+    push_frame(stack, frame)?;
+    Ok((Outcome::Wanted, i))
+}
+
+/// How tightly an expression binds.
+pub fn level(expr: &Expr) -> u32
+    ensures { result ≡ level (expression_of expr.now) }
+{
+    match &expr.form {
+        Form::Iff(..) => 0,
+        Form::Implies(..) => 1,
+        Form::Or(_) => 2,
+        Form::And(_) => 3,
+        Form::Not(_) => 4,
+        Form::Bind(..) => 4,
+        Form::Let(..) => 4,
+        Form::Relation(..) => 5,
+        Form::Union(..) => 6,
+        Form::Inter(..) => 7,
+        Form::Minus(..) => 8,
+        Form::Shift(..) => 9,
+        Form::Min(_) => 10,
+        Form::Max(_) => 10,
+        Form::True => 11,
+        Form::False => 11,
+        Form::Whole => 11,
+        Form::EmptySet => 11,
+        Form::Name(_) => 11,
+        Form::Number(_) => 11,
+        Form::Pconst(_) => 11,
+        Form::Paren(_) => 11,
+        Form::Literal(_) => 11,
+        Form::Call(..) => 11,
+        Form::IsEmpty(_) => 11,
+        Form::Restrict(_) => 11,
+        Form::Import(..) => 11,
+        Form::Export(..) => 11,
+    }
+}

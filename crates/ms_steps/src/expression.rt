@@ -1,0 +1,189 @@
+ghost use Rattle.std.specs.Prelude.{◌≡◌, ◌≢◌, ◌≤◌, ℕ, List, Some, IfErr, ◌-◌};
+ghost use Rattle.ms_text.specs.TokenList.{Lexed};
+ghost use Rattle.ms_grammar.specs.Grammar.{depth, prefix_level, greatest_depth};
+ghost use Rattle.ms_steps.specs.Machine.{Context, wanted, holding, begin, step};
+ghost use Rattle.ms_steps.specs.Outcomes.{Took, Says};
+ghost use Rattle.ms_grammar.specs.Reads.{place};
+ghost use Rattle.ms_steps.specs.Signs.{symbol_with, behind};
+ghost use Rattle.ms_steps.specs.Stack.{stack_of};
+ghost use Rattle.ms_grammar.specs.Symbol.{prefix_operator, quantifier, let_word, open_round};
+ghost use Rattle.ms_grammar.specs.View.{form_of};
+ghost use Rattle.ms_steps.specs.declared.frame.Frame.{Frame};
+ghost use Rattle.ms_steps.specs.declared.sign.Sign.TheVariants as signs;
+ghost use Rattle.ms_steps.specs.Faults.{begin_fault, step_fault};
+ghost use Rattle.ms_steps.specs.declared.stop.Stop.TheVariants.{Memory};
+
+use crate::begin::{
+    begin_empty, begin_export, begin_import, begin_literal, begin_name, begin_pconst,
+    begin_restrict,
+};
+use crate::complete::finish;
+use crate::enter::{enter, has_room};
+use crate::frame::Frame;
+use crate::input::{name_at, sign_at};
+use crate::opened::Opened;
+use crate::operand::{Bounds, Parts};
+use crate::outcome::Outcome;
+use crate::sign::Sign;
+use crate::stop::Stop;
+use crate::top::need;
+use ms_edge::{At, List};
+use ms_grammar::{Bracket, Prefix};
+use ms_logic::{Form, Order, Quant};
+use ms_text::Tokens;
+use std::alloc::Global;
+
+fn begin_atom(at: At, form: Form, i: u32) -> Result<(Outcome, u32), Stop>
+    requires measured { depth (form_of form at) ≡ 1 }
+    requires begins { place (form_of form at) ≡ at }
+    ensures step { (c : Context) (file : ℕ) (lexed : Lexed) (frames : List Frame) →
+        Took c file lexed (Some (holding c (form_of form at) (stack_of frames), behind file lexed i)) frames result }
+    ensures fault { IfErr result (λ stop. stop ≡ Memory) }
+{
+    let operand = finish(at, form, 0, i)?;
+    Ok((Outcome::Holding(operand), i))
+}
+
+fn begin_bracket(stack: &mut Vec<Frame>, at: At, i: u32) -> Result<(Outcome, u32), Stop>
+    ensures step { (c : Context) (file : ℕ) (lexed : Lexed) →
+        Took c file lexed (begin greatest_depth c (stack_of stack.old.items) at open_round (behind file lexed i)) stack.new.items result }
+    ensures fault { (file : ℕ) (lexed : Lexed) → IfErr result (Says file lexed (begin_fault greatest_depth (stack_of stack.old.items) open_round (behind file lexed (i - 1)) (behind file lexed i))) }
+{
+    let opened = Opened::Bracket(at, Bracket::Parentheses);
+    enter(
+        stack,
+        Frame { opened, height: 0 },
+        i,
+        Stop::TooDeep(i.saturating_sub(1)),
+    )
+}
+
+fn level_of(op: Prefix) -> u32
+    ensures { result ≡ prefix_level op }
+{
+    match op {
+        Prefix::Negation => 4,
+        Prefix::Minimum => 10,
+        Prefix::Maximum => 10,
+    }
+}
+
+fn begin_prefix(stack: &mut Vec<Frame>, at: At, op: Prefix, i: u32) -> Result<(Outcome, u32), Stop>
+    ensures step { (c : Context) (file : ℕ) (lexed : Lexed) →
+        Took c file lexed (begin greatest_depth c (stack_of stack.old.items) at (prefix_operator op) (behind file lexed i)) stack.new.items result }
+    ensures fault { (file : ℕ) (lexed : Lexed) → IfErr result (Says file lexed (begin_fault greatest_depth (stack_of stack.old.items) (prefix_operator op) (behind file lexed (i - 1)) (behind file lexed i))) }
+{
+    if need(stack) > level_of(op) {
+        return Err(Stop::Refused(i.saturating_sub(1)));
+    }
+    let opened = Opened::Prefix(at, op);
+    enter(
+        stack,
+        Frame { opened, height: 0 },
+        i,
+        Stop::TooDeep(i.saturating_sub(1)),
+    )
+}
+
+fn begin_quantifier(
+    alloc: Global,
+    stack: &[Frame],
+    at: At,
+    quant: Quant,
+    order: Order,
+    i: u32,
+) -> Result<(Outcome, u32), Stop>
+    ensures step { (c : Context) (file : ℕ) (lexed : Lexed) →
+        Took c file lexed (begin greatest_depth c (stack_of stack.now) at (quantifier quant order) (behind file lexed i)) stack.now result }
+    ensures fault { (file : ℕ) (lexed : Lexed) → IfErr result (Says file lexed (begin_fault greatest_depth (stack_of stack.now) (quantifier quant order) (behind file lexed (i - 1)) (behind file lexed i))) }
+{
+    if need(stack) > 4 {
+        return Err(Stop::Refused(i.saturating_sub(1)));
+    }
+    if !has_room(stack) {
+        return Err(Stop::TooDeep(i.saturating_sub(1)));
+    }
+    let bounds = Bounds {
+        list: List::new(alloc),
+        height: 0,
+    };
+    Ok((Outcome::Variable(at, quant, order, bounds), i))
+}
+
+fn begin_let(
+    alloc: Global,
+    stack: &[Frame],
+    at: At,
+    order: Order,
+    i: u32,
+) -> Result<(Outcome, u32), Stop>
+    ensures step { (c : Context) (file : ℕ) (lexed : Lexed) →
+        Took c file lexed (begin greatest_depth c (stack_of stack.now) at (let_word order) (behind file lexed i)) stack.now result }
+    ensures fault { (file : ℕ) (lexed : Lexed) → IfErr result (Says file lexed (begin_fault greatest_depth (stack_of stack.now) (let_word order) (behind file lexed (i - 1)) (behind file lexed i))) }
+{
+    if need(stack) > 4 {
+        return Err(Stop::Refused(i.saturating_sub(1)));
+    }
+    if !has_room(stack) {
+        return Err(Stop::TooDeep(i.saturating_sub(1)));
+    }
+    let parts = Parts {
+        list: List::new(alloc),
+        height: 0,
+    };
+    Ok((Outcome::Part(at, order, parts), i))
+}
+
+/// A symbol other than a name begins an expression.
+fn begin_sign(
+    alloc: Global,
+    tokens: &Tokens,
+    file: u32,
+    stack: &mut Vec<Frame>,
+    at: At,
+    sign: Sign,
+    i: u32,
+) -> Result<(Outcome, u32), Stop>
+    ensures step { (c : Context) (bytes : List ℕ) → sign ≢ signs.Name →
+        Took c file tokens.now (begin greatest_depth c (stack_of stack.old.items) at (symbol_with sign bytes) (behind file tokens.now i)) stack.new.items result }
+    ensures fault { (bytes : List ℕ) → sign ≢ signs.Name → IfErr result (Says file tokens.now (begin_fault greatest_depth (stack_of stack.old.items) (symbol_with sign bytes) (behind file tokens.now (i - 1)) (behind file tokens.now i))) }
+{
+    match sign {
+        Sign::True => begin_atom(at, Form::True, i),
+        Sign::False => begin_atom(at, Form::False, i),
+        Sign::Dollar => begin_atom(at, Form::Whole, i),
+        Sign::Number(number) => begin_atom(at, Form::Number(number), i),
+        Sign::Empty => begin_empty(tokens, file, stack, at, i),
+        Sign::Pconst => begin_pconst(alloc, tokens, file, stack, at, i),
+        Sign::Import => begin_import(alloc, tokens, file, stack, at, i),
+        Sign::Restrict => begin_restrict(tokens, file, stack, at, i),
+        Sign::Export => begin_export(alloc, tokens, file, stack, at, i),
+        Sign::OpenCurly => begin_literal(alloc, tokens, file, stack, at, i),
+        Sign::OpenRound => begin_bracket(stack, at, i),
+        Sign::Prefix(op) => begin_prefix(stack, at, op, i),
+        Sign::Quantifier(quant, order) => begin_quantifier(alloc, stack, at, quant, order, i),
+        Sign::Let(order) => begin_let(alloc, stack, at, order, i),
+        _ => Err(Stop::Refused(i.saturating_sub(1))),
+    }
+}
+
+/// A step where an expression is wanted.
+pub fn begin(
+    alloc: Global,
+    tokens: &Tokens,
+    file: u32,
+    stack: &mut Vec<Frame>,
+    i: u32,
+) -> Result<(Outcome, u32), Stop>
+    ensures step { (c : Context) →
+        Took c file tokens.now (step greatest_depth (wanted c (stack_of stack.old.items)) (behind file tokens.now i)) stack.new.items result }
+    ensures fault { (c : Context) → IfErr result (Says file tokens.now (step_fault greatest_depth (wanted c (stack_of stack.old.items)) (behind file tokens.now i))) }
+{
+    if let Some((name, at)) = name_at(alloc, tokens, file, i)? {
+        return begin_name(alloc, tokens, file, stack, at, name, i + 1);
+    }
+    let Some((sign, at)) = sign_at(tokens, file, i) else {
+        return Err(Stop::Refused(i));
+    };
+    begin_sign(alloc, tokens, file, stack, at, sign, i + 1)
+}

@@ -1,0 +1,140 @@
+ghost use Rattle.std.specs.Prelude.{◌≡◌, [], ℕ, Bool, List, Some, IfErr, ◌-◌};
+ghost use Rattle.ms_text.specs.TokenList.{Lexed};
+ghost use Rattle.ms_grammar.specs.Tree.{and_variable, variables};
+ghost use Rattle.ms_grammar.specs.View.{domain_of, expression_of, variables_of};
+ghost use Rattle.ms_steps.specs.Ends.{IsEnd};
+ghost use Rattle.ms_steps.specs.Machine.{behind_global, declare, global_wanted, in_global, next_global, outside, settle};
+ghost use Rattle.ms_steps.specs.Signs.{behind, symbol_with};
+ghost use Rattle.ms_steps.specs.States.{Stepped, read_of};
+ghost use Rattle.ms_steps.specs.declared.frame.Frame.{Frame};
+ghost use Rattle.ms_steps.specs.declared.state.Parsed.{Parsed};
+ghost use Rattle.ms_grammar.specs.Grammar.{greatest_depth};
+ghost use Rattle.ms_steps.specs.Faults.{behind_global_fault, next_global_fault, settle_fault};
+ghost use Rattle.ms_steps.specs.Outcomes.{Says};
+ghost use Rattle.ms_steps.specs.declared.stop.Stop.TheVariants.{Memory};
+
+use crate::context::{Context, Globals};
+use crate::declare::{begin_expression, declared};
+use crate::frame::Frame;
+use crate::input::{name_at, sign_at};
+use crate::lists::push_variable;
+use crate::memory::boxed;
+use crate::operand::Operand;
+use crate::sign::Sign;
+use crate::state::{Parsed, State};
+use crate::stop::Stop;
+use ms_edge::{At, Boxed, Name};
+use ms_logic::{Decl, Expr};
+use ms_text::Tokens;
+use std::alloc::Global;
+
+/// A comma behind a variable that is declared.
+fn another_global(
+    globals: Globals,
+    at_name: At,
+    name: Name,
+    domain: Option<Boxed<Expr>>,
+    i: u32,
+) -> Result<(State, u32), Stop>
+    ensures step { (file : ℕ) (lexed : Lexed) (made : Parsed) (frames : List Frame) →
+        Stepped file lexed (Some (global_wanted (read_of made) globals.at globals.order (and_variable (variables_of globals.list) at_name globals.order name (domain_of domain)), behind file lexed i)) made frames result }
+    ensures fault { IfErr result (λ stop. stop ≡ Memory) }
+{
+    let Globals {
+        at,
+        order,
+        mut list,
+    } = globals;
+    push_variable(&mut list, at_name, order, name, domain)?;
+    Ok((State::Global(Globals { at, order, list }), i))
+}
+
+/// The end behind the last variable of a declaration.
+fn last_global(
+    made: &mut Parsed,
+    globals: Globals,
+    at_name: At,
+    name: Name,
+    domain: Option<Boxed<Expr>>,
+    i: u32,
+) -> Result<(State, u32), Stop>
+    ensures step { (file : ℕ) (lexed : Lexed) (frames : List Frame) →
+        Stepped file lexed (Some (outside (declare (read_of made.old) globals.at (variables (and_variable (variables_of globals.list) at_name globals.order name (domain_of domain)))), behind file lexed i)) made.new frames result }
+    ensures fault { IfErr result (λ stop. stop ≡ Memory) }
+{
+    let Globals {
+        at,
+        order,
+        mut list,
+    } = globals;
+    push_variable(&mut list, at_name, order, name, domain)?;
+    declared(made, at, Decl::Vars(list), i)
+}
+
+/// What stands behind a variable that is declared.
+fn behind_global(
+    made: &mut Parsed,
+    stack: &mut Vec<Frame>,
+    globals: Globals,
+    at_name: At,
+    name: Name,
+    sign: Sign,
+    i: u32,
+) -> Result<(State, u32), Stop>
+    ensures step { (file : ℕ) (lexed : Lexed) (bytes : List ℕ) →
+        Stepped file lexed (behind_global (read_of made.old) globals.at globals.order (variables_of globals.list) at_name name (symbol_with sign bytes) (behind file lexed i)) made.new stack.new.items result }
+    ensures fault { (file : ℕ) (lexed : Lexed) (bytes : List ℕ) → IfErr result (Says file lexed (behind_global_fault (symbol_with sign bytes) (behind file lexed (i - 1)) (behind file lexed i))) }
+{
+    match sign {
+        Sign::Where => begin_expression(stack, Context::Global(globals, at_name, name), i),
+        Sign::Comma => another_global(globals, at_name, name, None, i),
+        Sign::Semicolon => last_global(made, globals, at_name, name, None, i),
+        _ => Err(Stop::Refused(i.saturating_sub(1))),
+    }
+}
+
+/// A variable that is declared and what stands behind it, where a variable is wanted.
+pub fn next_global(
+    alloc: Global,
+    tokens: &Tokens,
+    file: u32,
+    made: &mut Parsed,
+    stack: &mut Vec<Frame>,
+    globals: Globals,
+    i: u32,
+) -> Result<(State, u32), Stop>
+    ensures step { Stepped file tokens.now (next_global (read_of made.old) globals.at globals.order (variables_of globals.list) (behind file tokens.now i)) made.new stack.new.items result }
+    ensures fault { IfErr result (Says file tokens.now (next_global_fault (behind file tokens.now i))) }
+{
+    let Some((name, at_name)) = name_at(alloc, tokens, file, i)? else {
+        return Err(Stop::Refused(i));
+    };
+    let Some((sign, _)) = sign_at(tokens, file, i + 1) else {
+        return Err(Stop::Refused(i + 1));
+    };
+    behind_global(made, stack, globals, at_name, name, sign, i + 2)
+}
+
+/// What ends the restriction of a variable that is declared.
+pub fn end_global(
+    alloc: Global,
+    made: &mut Parsed,
+    globals: Globals,
+    at_name: At,
+    name: Name,
+    operand: Operand,
+    sign: Sign,
+    i: u32,
+) -> Result<(State, u32), Stop>
+    ensures step { (file : ℕ) (lexed : Lexed) (frames : List Frame) (bytes : List ℕ) (inside : Bool) → IsEnd inside (symbol_with sign bytes) →
+        Stepped file lexed (settle greatest_depth (in_global (read_of made.old) globals.at globals.order (variables_of globals.list) at_name name) (symbol_with sign bytes) inside (expression_of operand.expr, []) (behind file lexed i)) made.new frames result }
+    ensures fault { (file : ℕ) (lexed : Lexed) (bytes : List ℕ) (inside : Bool) → IsEnd inside (symbol_with sign bytes) → IfErr result (Says file lexed (settle_fault greatest_depth (in_global (read_of made.old) globals.at globals.order (variables_of globals.list) at_name name) (symbol_with sign bytes) inside ((expression_of operand.expr), []) (behind file lexed (i - 1)) (behind file lexed i))) }
+{
+    let Operand { expr, .. } = operand;
+    let domain = boxed(alloc, expr)?;
+    match sign {
+        Sign::Comma => another_global(globals, at_name, name, Some(domain), i),
+        Sign::Semicolon => last_global(made, globals, at_name, name, Some(domain), i),
+        _ => Err(Stop::Refused(i.saturating_sub(1))),
+    }
+}

@@ -1,0 +1,75 @@
+ghost use Rattle.std.specs.Prelude.{◌≡◌, [], Some, None, IfSome, IfNone};
+ghost use Rattle.ms_logic.specs.declared.mode.Mode.TheVariants.{Ws1s, M2lStr};
+ghost use Rattle.ms_grammar.specs.Symbol.{name, symbols};
+ghost use Rattle.ms_steps.specs.Headers.{IsNoString, IsNoWs1s};
+ghost use Rattle.ms_steps.specs.Machine.{start};
+ghost use Rattle.ms_steps.specs.Punctuations.{IsNot};
+ghost use Rattle.ms_steps.specs.Signs.{behind, IsNext};
+ghost use Rattle.ms_steps.specs.States.{read_of};
+
+use crate::input::{at_of, is_name, sign_at};
+use crate::punctuation::{Punctuation, behind_mark};
+use crate::state::Parsed;
+use ms_edge::At;
+use ms_logic::Mode;
+use ms_text::Tokens;
+use std::alloc::Global;
+
+/// The place of the token with a number, where it is the name with these bytes.
+fn name_with(tokens: &Tokens, file: u32, i: u32, bytes: &[u8]) -> Option<At>
+    ensures some { IfSome result (λ at. IsNext file tokens.now i (name bytes.now) at) }
+    ensures none { IfNone result (IsNot (name bytes.now) (behind file tokens.now i)) }
+{
+    if i >= tokens.len() {
+        return None;
+    }
+    let token = tokens.get(i);
+    if !is_name(token.kind) {
+        return None;
+    }
+    if tokens.slice(i) == bytes {
+        Some(at_of(file, token.place))
+    } else {
+        None
+    }
+}
+
+/// The place of the header `ws1s;`, and the number behind it.
+fn ws1s_header(tokens: &Tokens, file: u32) -> Option<(At, u32)>
+    ensures some { IfSome result (λ found. start (symbols file tokens.now) ≡ (record { header = Some (found.0, Ws1s); declarations = [] }, behind file tokens.now found.1)) }
+    ensures none { IfNone result (IsNoWs1s (symbols file tokens.now)) }
+{
+    let (_, at) = sign_at(tokens, file, 0)?;
+    let end = behind_mark(tokens, file, 0, Punctuation::Ws1s)?;
+    let next = behind_mark(tokens, file, end, Punctuation::Semicolon)?;
+    Some((at, next))
+}
+
+/// The place of the header `m2l-str;`, and the number behind it.
+fn string_header(tokens: &Tokens, file: u32) -> Option<(At, u32)>
+    ensures some { IfSome result (λ found. start (symbols file tokens.now) ≡ (record { header = Some (found.0, M2lStr); declarations = [] }, behind file tokens.now found.1)) }
+    ensures none { IfNone result (IsNoString (symbols file tokens.now)) }
+{
+    let at = name_with(tokens, file, 0, b"m2l")?;
+    let third = behind_mark(tokens, file, 1, Punctuation::Minus)?;
+    name_with(tokens, file, third, b"str")?;
+    let next = behind_mark(tokens, file, third + 1, Punctuation::Semicolon)?;
+    Some((at, next))
+}
+
+/// The header or none, and the number behind it.
+pub fn start(alloc: Global, tokens: &Tokens, file: u32) -> (Parsed, u32)
+    ensures { start (symbols file tokens.now) ≡ (read_of result.0, behind file tokens.now result.1) }
+{
+    let items = Vec::new(alloc);
+    if let Some((at, next)) = ws1s_header(tokens, file) {
+        let header = Some((at, Mode::Ws1s));
+        return (Parsed { header, items }, next);
+    }
+    if let Some((at, next)) = string_header(tokens, file) {
+        let header = Some((at, Mode::M2lStr));
+        return (Parsed { header, items }, next);
+    }
+    let header = None;
+    (Parsed { header, items }, 0)
+}

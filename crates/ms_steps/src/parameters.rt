@@ -1,0 +1,218 @@
+ghost use Rattle.std.specs.Prelude.{◌≡◌, [], ℕ, Bool, List, Option, Some, IfSome, IfNone, IfErr, ◌-◌};
+ghost use Rattle.ms_text.specs.TokenList.{Lexed};
+ghost use Rattle.ms_grammar.specs.Tree.{and_variable};
+ghost use Rattle.ms_grammar.specs.View.{domain_of, expression_of, variables_of};
+ghost use Rattle.ms_steps.specs.Ends.{IsEnd};
+ghost use Rattle.ms_steps.specs.Kinds.{last_order, IsKind, NoKind};
+ghost use Rattle.ms_steps.specs.Machine.{behind_parameter, body_of, in_parameter, next_parameter, parameter_wanted, settle};
+ghost use Rattle.ms_steps.specs.Signs.{behind, symbol_with};
+ghost use Rattle.ms_steps.specs.States.{Stepped, read_of};
+ghost use Rattle.ms_steps.specs.declared.frame.Frame.{Frame};
+ghost use Rattle.ms_steps.specs.declared.state.Parsed.{Parsed};
+ghost use Rattle.ms_grammar.specs.Grammar.{greatest_depth};
+ghost use Rattle.ms_steps.specs.Faults.{behind_parameter_fault, body_fault, next_parameter_fault, settle_fault};
+ghost use Rattle.ms_steps.specs.Outcomes.{Says};
+ghost use Rattle.ms_steps.specs.declared.stop.Stop.TheVariants.{Memory};
+
+use crate::context::{Context, Signature};
+use crate::declare::begin_expression;
+use crate::frame::Frame;
+use crate::input::{name_at, sign_at};
+use crate::lists::push_variable;
+use crate::memory::boxed;
+use crate::operand::Operand;
+use crate::punctuation::{Punctuation, behind_mark};
+use crate::sign::Sign;
+use crate::state::State;
+use crate::stop::Stop;
+use ms_edge::{At, Boxed, List, Name};
+use ms_logic::{Bound, Expr, Order};
+use ms_text::Tokens;
+use std::alloc::Global;
+
+/// `=` behind the parameters of a predicate.
+pub fn body_of(
+    tokens: &Tokens,
+    file: u32,
+    stack: &mut Vec<Frame>,
+    signature: Signature,
+    i: u32,
+) -> Result<(State, u32), Stop>
+    ensures step { (made : Parsed) →
+        Stepped file tokens.now (body_of (read_of made) signature.at signature.is_pred signature.at_name signature.name (variables_of signature.parameters) (behind file tokens.now i)) made stack.new.items result }
+    ensures fault { IfErr result (Says file tokens.now (body_fault (behind file tokens.now i))) }
+{
+    let Some(next) = behind_mark(tokens, file, i, Punctuation::Equal) else {
+        return Err(Stop::Refused(i));
+    };
+    begin_expression(stack, Context::Predicate(signature), next)
+}
+
+/// A comma behind a parameter.
+fn another_parameter(
+    signature: Signature,
+    order: Order,
+    at_name: At,
+    name: Name,
+    domain: Option<Boxed<Expr>>,
+    i: u32,
+) -> Result<(State, u32), Stop>
+    ensures step { (file : ℕ) (lexed : Lexed) (made : Parsed) (frames : List Frame) →
+        Stepped file lexed (Some (parameter_wanted (read_of made) signature.at signature.is_pred signature.at_name signature.name (and_variable (variables_of signature.parameters) at_name order name (domain_of domain)), behind file lexed i)) made frames result }
+    ensures fault { IfErr result (λ stop. stop ≡ Memory) }
+{
+    let mut signature = signature;
+    push_variable(&mut signature.parameters, at_name, order, name, domain)?;
+    Ok((State::Parameter(signature), i))
+}
+
+/// The bracket behind the last parameter.
+fn last_parameter(
+    tokens: &Tokens,
+    file: u32,
+    stack: &mut Vec<Frame>,
+    signature: Signature,
+    order: Order,
+    at_name: At,
+    name: Name,
+    domain: Option<Boxed<Expr>>,
+    i: u32,
+) -> Result<(State, u32), Stop>
+    ensures step { (made : Parsed) →
+        Stepped file tokens.now (body_of (read_of made) signature.at signature.is_pred signature.at_name signature.name (and_variable (variables_of signature.parameters) at_name order name (domain_of domain)) (behind file tokens.now i)) made stack.new.items result }
+    ensures fault { IfErr result (Says file tokens.now (body_fault (behind file tokens.now i))) }
+{
+    let mut signature = signature;
+    push_variable(&mut signature.parameters, at_name, order, name, domain)?;
+    body_of(tokens, file, stack, signature, i)
+}
+
+/// What stands behind a parameter.
+fn behind_parameter(
+    tokens: &Tokens,
+    file: u32,
+    stack: &mut Vec<Frame>,
+    signature: Signature,
+    order: Order,
+    at_name: At,
+    name: Name,
+    sign: Sign,
+    i: u32,
+) -> Result<(State, u32), Stop>
+    ensures step { (made : Parsed) (bytes : List ℕ) →
+        Stepped file tokens.now (behind_parameter (read_of made) signature.at signature.is_pred signature.at_name signature.name (variables_of signature.parameters) order at_name name (symbol_with sign bytes) (behind file tokens.now i)) made stack.new.items result }
+    ensures fault { (bytes : List ℕ) → IfErr result (Says file tokens.now (behind_parameter_fault (symbol_with sign bytes) (behind file tokens.now (i - 1)) (behind file tokens.now i))) }
+{
+    match sign {
+        Sign::Where => {
+            begin_expression(
+                stack,
+                Context::Parameter(signature, order, at_name, name),
+                i,
+            )
+        }
+        Sign::Comma => another_parameter(signature, order, at_name, name, None, i),
+        Sign::CloseRound => {
+            last_parameter(
+                tokens, file, stack, signature, order, at_name, name, None, i,
+            )
+        }
+        _ => Err(Stop::Refused(i.saturating_sub(1))),
+    }
+}
+
+/// The order of the last parameter.
+fn last_order(parameters: &List<Bound>) -> Option<Order>
+    ensures { result ≡ last_order (variables_of parameters.now) }
+{
+    if parameters.is_empty() {
+        return None;
+    }
+    Some(parameters.get(parameters.len() - 1).order)
+}
+
+/// The order of the parameter that begins at a token, and the number of its name's token.
+fn kind_at(tokens: &Tokens, file: u32, parameters: &List<Bound>, i: u32) -> Option<(Order, u32)>
+    ensures some { IfSome result (λ found. IsKind (variables_of parameters.now) found.0 (behind file tokens.now i) (behind file tokens.now found.1)) }
+    ensures none { IfNone result (NoKind (variables_of parameters.now) (behind file tokens.now i)) }
+{
+    if let Some((Sign::Variables(order), _)) = sign_at(tokens, file, i) {
+        return Some((order, i + 1));
+    }
+    match last_order(parameters) {
+        Some(order) => Some((order, i)),
+        None => None,
+    }
+}
+
+/// A parameter and what stands behind it, where a parameter is wanted.
+pub fn next_parameter(
+    alloc: Global,
+    tokens: &Tokens,
+    file: u32,
+    stack: &mut Vec<Frame>,
+    signature: Signature,
+    i: u32,
+) -> Result<(State, u32), Stop>
+    ensures step { (made : Parsed) →
+        Stepped file tokens.now (next_parameter (read_of made) signature.at signature.is_pred signature.at_name signature.name (variables_of signature.parameters) (behind file tokens.now i)) made stack.new.items result }
+    ensures fault { IfErr result (Says file tokens.now (next_parameter_fault (variables_of signature.parameters) (behind file tokens.now i))) }
+{
+    let Some((order, from)) = kind_at(tokens, file, &signature.parameters, i) else {
+        return Err(Stop::Refused(i));
+    };
+    let Some((name, at_name)) = name_at(alloc, tokens, file, from)? else {
+        return Err(Stop::Refused(from));
+    };
+    let Some((sign, _)) = sign_at(tokens, file, from + 1) else {
+        return Err(Stop::Refused(from + 1));
+    };
+    behind_parameter(
+        tokens,
+        file,
+        stack,
+        signature,
+        order,
+        at_name,
+        name,
+        sign,
+        from + 2,
+    )
+}
+
+/// What ends the restriction of a parameter.
+pub fn end_parameter(
+    alloc: Global,
+    tokens: &Tokens,
+    file: u32,
+    stack: &mut Vec<Frame>,
+    signature: Signature,
+    order: Order,
+    at_name: At,
+    name: Name,
+    operand: Operand,
+    sign: Sign,
+    i: u32,
+) -> Result<(State, u32), Stop>
+    ensures step { (made : Parsed) (bytes : List ℕ) (inside : Bool) → IsEnd inside (symbol_with sign bytes) →
+        Stepped file tokens.now (settle greatest_depth (in_parameter (read_of made) signature.at signature.is_pred signature.at_name signature.name (variables_of signature.parameters) order at_name name) (symbol_with sign bytes) inside (expression_of operand.expr, []) (behind file tokens.now i)) made stack.new.items result }
+    ensures fault { (made : Parsed) (bytes : List ℕ) (inside : Bool) → IsEnd inside (symbol_with sign bytes) → IfErr result (Says file tokens.now (settle_fault greatest_depth (in_parameter (read_of made) signature.at signature.is_pred signature.at_name signature.name (variables_of signature.parameters) order at_name name) (symbol_with sign bytes) inside ((expression_of operand.expr), []) (behind file tokens.now (i - 1)) (behind file tokens.now i))) }
+{
+    let Operand { expr, .. } = operand;
+    let domain = boxed(alloc, expr)?;
+    match sign {
+        Sign::Comma => another_parameter(signature, order, at_name, name, Some(domain), i),
+        Sign::CloseRound => last_parameter(
+            tokens,
+            file,
+            stack,
+            signature,
+            order,
+            at_name,
+            name,
+            Some(domain),
+            i,
+        ),
+        _ => Err(Stop::Refused(i.saturating_sub(1))),
+    }
+}

@@ -1,0 +1,181 @@
+ghost use Rattle.std.specs.Prelude.{◌≡◌, ◌∷◌, ℕ, List, IfErr, ◌-◌};
+ghost use Rattle.ms_text.specs.TokenList.{Lexed};
+ghost use Rattle.ms_grammar.specs.Grammar.{greatest_depth};
+ghost use Rattle.ms_grammar.specs.View.{expression_of};
+ghost use Rattle.ms_steps.specs.Faults.{close_curly_fault, close_round_fault, colon_fault, comma_fault, in_fault};
+ghost use Rattle.ms_steps.specs.Machine as machine;
+ghost use Rattle.ms_steps.specs.Machine.{Context, close_curly_at, close_round_at, colon_at, comma_at, in_at};
+ghost use Rattle.ms_steps.specs.Opened.{frame_of};
+ghost use Rattle.ms_steps.specs.Outcomes.{Took, Says};
+ghost use Rattle.ms_steps.specs.Rows.{IsRow};
+ghost use Rattle.ms_steps.specs.Signs.{behind};
+ghost use Rattle.ms_steps.specs.Stack.{stack_of};
+ghost use Rattle.ms_steps.specs.declared.frame.Frame.{Frame};
+
+use crate::close::{end_bracket, end_list};
+use crate::frame::Frame;
+use crate::operand::{Bounds, Operand, Operands, Parts};
+use crate::outcome::Outcome;
+use crate::separate::{
+    another_expression, another_part, another_variable, begin_body, begin_scope,
+};
+use crate::stop::Stop;
+use ms_edge::{At, Name};
+use ms_grammar::{Bracket, Listing};
+use ms_logic::{Order, Quant};
+use std::alloc::Global;
+
+/// What a bracket, a comma, a colon or `in` may end.
+pub enum Row {
+    Bracket(At, Bracket),
+    Listed(At, Listing, Operands),
+    Domain(At, Quant, Order, Bounds, At, Name),
+    Part(At, Order, Parts, At, Name),
+    Other,
+}
+
+impl Drop for Row {
+    fn drop(self) {
+        match self {
+            Row::Bracket(_, bracket) => drop(bracket),
+            Row::Listed(_, listing, operands) => {
+                drop(listing);
+                drop(operands)
+            }
+            Row::Domain(_, _, _, bounds, _, name) => {
+                drop(bounds);
+                drop(name)
+            }
+            Row::Part(_, _, parts, _, name) => {
+                drop(parts);
+                drop(name)
+            }
+            Row::Other => {}
+        }
+    }
+}
+
+/// The row that a frame holds.
+pub fn row_of(frame: Frame) -> Row
+    ensures { IsRow result (frame_of frame.opened) }
+{
+    let Frame { opened, height } = frame;
+    opened.into_row(height)
+}
+
+impl Row {
+    /// `}` behind an expression, in the row that stood on top of the stack.
+    pub fn close_curly(self, operand: Operand, i: u32) -> Result<(Outcome, u32), Stop>
+        ensures step { (c : Context) (file : ℕ) (lexed : Lexed) (below : List Frame) (top : machine.Frame) → IsRow self top →
+            Took c file lexed (close_curly_at greatest_depth c (expression_of operand.expr) (top ∷ stack_of below) (behind file lexed i)) below result }
+        ensures fault { (file : ℕ) (lexed : Lexed) (below : List Frame) (top : machine.Frame) → IsRow self top → IfErr result (Says file lexed (close_curly_fault greatest_depth (expression_of operand.expr) (top ∷ stack_of below) (behind file lexed (i - 1)))) }
+    {
+        match self {
+            Row::Listed(at, listing, operands) => match listing {
+                Listing::Literal => end_list(at, Listing::Literal, operands, operand, i),
+                Listing::Call(_) => Err(Stop::Refused(i.saturating_sub(1))),
+            },
+            Row::Bracket(..) => Err(Stop::Refused(i.saturating_sub(1))),
+            Row::Domain(..) => Err(Stop::Refused(i.saturating_sub(1))),
+            Row::Part(..) => Err(Stop::Refused(i.saturating_sub(1))),
+            Row::Other => Err(Stop::Refused(i.saturating_sub(1))),
+        }
+    }
+
+    /// `)` behind an expression, in the row that stood on top of the stack.
+    pub fn close_round(
+        self,
+        alloc: Global,
+        operand: Operand,
+        i: u32,
+    ) -> Result<(Outcome, u32), Stop>
+        ensures step { (c : Context) (file : ℕ) (lexed : Lexed) (below : List Frame) (top : machine.Frame) → IsRow self top →
+            Took c file lexed (close_round_at greatest_depth c (expression_of operand.expr) (top ∷ stack_of below) (behind file lexed i)) below result }
+        ensures fault { (c : Context) (file : ℕ) (lexed : Lexed) (below : List Frame) (top : machine.Frame) → IsRow self top → IfErr result (Says file lexed (close_round_fault greatest_depth c (expression_of operand.expr) (top ∷ stack_of below) (behind file lexed (i - 1)) (behind file lexed i))) }
+    {
+        match self {
+            Row::Bracket(at, bracket) => end_bracket(alloc, at, bracket, operand, i),
+            Row::Listed(at, listing, operands) => match listing {
+                Listing::Call(name) => end_list(at, Listing::Call(name), operands, operand, i),
+                Listing::Literal => Err(Stop::Refused(i.saturating_sub(1))),
+            },
+            Row::Domain(..) => Err(Stop::Refused(i.saturating_sub(1))),
+            Row::Part(..) => Err(Stop::Refused(i.saturating_sub(1))),
+            Row::Other => Err(Stop::Refused(i.saturating_sub(1))),
+        }
+    }
+
+    /// `,` behind an expression, in the row that stood on top of the stack.
+    pub fn comma(
+        self,
+        alloc: Global,
+        stack: &mut Vec<Frame>,
+        operand: Operand,
+        i: u32,
+    ) -> Result<(Outcome, u32), Stop>
+        ensures step { (c : Context) (file : ℕ) (lexed : Lexed) (top : machine.Frame) → IsRow self top →
+            Took c file lexed (comma_at greatest_depth c (expression_of operand.expr) (top ∷ stack_of stack.old.items) (behind file lexed i)) stack.new.items result }
+        ensures fault { (c : Context) (file : ℕ) (lexed : Lexed) (top : machine.Frame) → IsRow self top → IfErr result (Says file lexed (comma_fault greatest_depth c (expression_of operand.expr) (top ∷ stack_of stack.old.items) (behind file lexed (i - 1)))) }
+    {
+        match self {
+            Row::Listed(at, listing, operands) => {
+                another_expression(stack, at, listing, operands, operand, i)
+            }
+            Row::Domain(at, quant, order, bounds, at_name, name) => {
+                another_variable(alloc, at, quant, order, bounds, at_name, name, operand, i)
+            }
+            Row::Part(at, order, parts, at_name, name) => {
+                another_part(at, order, parts, at_name, name, operand, i)
+            }
+            Row::Bracket(..) => Err(Stop::Refused(i.saturating_sub(1))),
+            Row::Other => Err(Stop::Refused(i.saturating_sub(1))),
+        }
+    }
+
+    /// `:` behind an expression, in the row that stood on top of the stack.
+    pub fn colon(
+        self,
+        alloc: Global,
+        stack: &mut Vec<Frame>,
+        operand: Operand,
+        i: u32,
+    ) -> Result<(Outcome, u32), Stop>
+        ensures step { (c : Context) (file : ℕ) (lexed : Lexed) (top : machine.Frame) → IsRow self top →
+            Took c file lexed (colon_at greatest_depth c (expression_of operand.expr) (top ∷ stack_of stack.old.items) (behind file lexed i)) stack.new.items result }
+        ensures fault { (file : ℕ) (lexed : Lexed) (top : machine.Frame) → IsRow self top → IfErr result (Says file lexed (colon_fault greatest_depth (expression_of operand.expr) (top ∷ stack_of stack.old.items) (behind file lexed (i - 1)))) }
+    {
+        match self {
+            Row::Domain(at, quant, order, bounds, at_name, name) => {
+                begin_body(
+                    alloc, stack, at, quant, order, bounds, at_name, name, operand, i,
+                )
+            }
+            Row::Listed(..) => Err(Stop::Refused(i.saturating_sub(1))),
+            Row::Part(..) => Err(Stop::Refused(i.saturating_sub(1))),
+            Row::Bracket(..) => Err(Stop::Refused(i.saturating_sub(1))),
+            Row::Other => Err(Stop::Refused(i.saturating_sub(1))),
+        }
+    }
+
+    /// `in` behind a right side of a `let`, in the row that stood on top of the stack.
+    pub fn end_parts(
+        self,
+        stack: &mut Vec<Frame>,
+        operand: Operand,
+        i: u32,
+    ) -> Result<(Outcome, u32), Stop>
+        ensures step { (c : Context) (file : ℕ) (lexed : Lexed) (top : machine.Frame) → IsRow self top →
+            Took c file lexed (in_at greatest_depth c (expression_of operand.expr) (top ∷ stack_of stack.old.items) (behind file lexed i)) stack.new.items result }
+        ensures fault { (file : ℕ) (lexed : Lexed) (top : machine.Frame) → IsRow self top → IfErr result (Says file lexed (in_fault greatest_depth (expression_of operand.expr) (top ∷ stack_of stack.old.items) (behind file lexed (i - 1)))) }
+    {
+        match self {
+            Row::Part(at, order, parts, at_name, name) => {
+                begin_scope(stack, at, order, parts, at_name, name, operand, i)
+            }
+            Row::Listed(..) => Err(Stop::Refused(i.saturating_sub(1))),
+            Row::Domain(..) => Err(Stop::Refused(i.saturating_sub(1))),
+            Row::Bracket(..) => Err(Stop::Refused(i.saturating_sub(1))),
+            Row::Other => Err(Stop::Refused(i.saturating_sub(1))),
+        }
+    }
+}

@@ -1,0 +1,159 @@
+ghost use Rattle.std.specs.Prelude.{◌≡◌, ◌≤◌, ◌<◌, ◌+◌, ◌⊎◌, ℕ, suc, true, false, List, length, IsTrue, IfErr, IfOk, None, ◌-◌, ◌≢◌};
+ghost use Rattle.ms_text.specs.TokenList.{Lexed};
+ghost use Rattle.ms_grammar.specs.Grammar.{level, depth, greatest_depth};
+ghost use Rattle.ms_steps.specs.Machine.{Context, shift, join_new, shift_by, shift_int};
+ghost use Rattle.ms_steps.specs.Outcomes.{Took, Says};
+ghost use Rattle.ms_grammar.specs.Reads.{int_symbol, Starts};
+ghost use Rattle.ms_steps.specs.Signs.{behind};
+ghost use Rattle.ms_steps.specs.Stack.{stack_of};
+ghost use Rattle.ms_grammar.specs.View.{expression_of};
+ghost use Rattle.ms_steps.specs.Faults.{join_new_fault, shift_fault, shift_int_fault};
+ghost use Rattle.ms_steps.specs.declared.stop.Stop.TheVariants.{Memory};
+
+use crate::complete::finish;
+use crate::enter::{enter, level};
+use crate::frame::Frame;
+use crate::int::int_at;
+use crate::lists::push_expression;
+use crate::memory::boxed;
+use crate::opened::Opened;
+use crate::operand::{GREATEST_DEPTH, Operand};
+use crate::outcome::Outcome;
+use crate::stop::Stop;
+use ms_edge::List;
+use ms_grammar::{Binary, Junction};
+use ms_levels::{least_left, least_operand};
+use ms_logic::{Form, PlacedInt};
+use ms_text::Tokens;
+use std::alloc::Global;
+
+/// An operator behind its left operand.
+pub fn shift(
+    stack: &mut Vec<Frame>,
+    op: Binary,
+    left: Operand,
+    i: u32,
+) -> Result<(Outcome, u32), Stop>
+    ensures step { (c : Context) (file : ℕ) (lexed : Lexed) →
+        Took c file lexed (shift greatest_depth c op (expression_of left.expr, stack_of stack.old.items) (behind file lexed i)) stack.new.items result }
+    ensures fault { (file : ℕ) (lexed : Lexed) → IfErr result (Says file lexed (shift_fault greatest_depth op (expression_of left.expr) (stack_of stack.old.items) (behind file lexed (i - 1)))) }
+{
+    if level(&left.expr) < least_left(op) {
+        return Err(Stop::Refused(i.saturating_sub(1)));
+    }
+    let height = left.height;
+    let frame = Frame {
+        opened: Opened::Left(op, left),
+        height,
+    };
+    enter(stack, frame, i, Stop::TooDeep(i.saturating_sub(1)))
+}
+
+/// The first operand of `&` or `|`, with the operator behind it.
+pub fn join_new(
+    alloc: Global,
+    stack: &mut Vec<Frame>,
+    op: Junction,
+    first: Operand,
+    i: u32,
+) -> Result<(Outcome, u32), Stop>
+    ensures step { (c : Context) (file : ℕ) (lexed : Lexed) →
+        Took c file lexed (join_new greatest_depth c op (expression_of first.expr) (stack_of stack.old.items) (behind file lexed i)) stack.new.items result }
+    ensures fault { (file : ℕ) (lexed : Lexed) → IfErr result (Says file lexed (join_new_fault greatest_depth op (expression_of first.expr) (stack_of stack.old.items) (behind file lexed (i - 1)))) }
+{
+    if level(&first.expr) < least_operand(op) {
+        return Err(Stop::Refused(i.saturating_sub(1)));
+    }
+    let height = first.height;
+    let at = first.start;
+    let Operand { expr, .. } = first;
+    let mut list = List::new(alloc);
+    push_expression(&mut list, expr)?;
+    let frame = Frame {
+        opened: Opened::Joined(at, op, list),
+        height,
+    };
+    enter(stack, frame, i, Stop::TooDeep(i.saturating_sub(1)))
+}
+
+/// Whether the depth leaves room for a sum of the expression and a number.
+fn may_shift(stack: &[Frame], operand: &Operand) -> bool
+    ensures yes { IsTrue result → length stack.now + suc (depth (expression_of operand.now.expr)) ≤ 300 }
+    ensures no { result ≡ false → 300 < length stack.now + suc (depth (expression_of operand.now.expr)) }
+{
+    if stack.len() >= 300 {
+        return false;
+    }
+    stack.len() as u32 + 1 + operand.height <= GREATEST_DEPTH
+}
+
+/// `+` or `-` and its number behind an expression.
+fn shift_by(
+    alloc: Global,
+    stack: &[Frame],
+    operand: Operand,
+    number: PlacedInt,
+    i: u32,
+) -> Result<(Outcome, u32), Stop>
+    requires high { 9 ≤ level (expression_of operand.expr) }
+    requires room { length stack.now + suc (depth (expression_of operand.expr)) ≤ 300 }
+    ensures step { (c : Context) (file : ℕ) (lexed : Lexed) →
+        Took c file lexed (shift_by greatest_depth c (expression_of operand.expr) (stack_of stack.now) number (behind file lexed i)) stack.now result }
+    ensures fault { IfErr result (λ stop. stop ≡ Memory) }
+{
+    let Operand {
+        expr,
+        start,
+        height,
+    } = operand;
+    let form = Form::Shift(boxed(alloc, expr)?, number);
+    let made = finish(start, form, height, i)?;
+    Ok((Outcome::Holding(made), i))
+}
+
+/// The number behind `+` or `-`, which can be added to the expression.
+fn summand_at(
+    alloc: Global,
+    tokens: &Tokens,
+    file: u32,
+    stack: &[Frame],
+    operand: &Operand,
+    minus: bool,
+    i: u32,
+) -> Result<(PlacedInt, u32), Stop>
+    ensures high { IfOk result (λ found. 9 ≤ level (expression_of operand.now.expr)) }
+    ensures room { IfOk result (λ found. length stack.now + suc (depth (expression_of operand.now.expr)) ≤ 300) }
+    ensures next { IfOk result (λ found. Starts true (int_symbol found.0.value) found.0.at (behind file tokens.now i) (behind file tokens.now found.1)) }
+    ensures minus { IfOk result (λ found. found.0.minus ≡ minus) }
+    ensures none { IfErr result (λ stop. stop ≢ Memory → (c : Context) → shift_int greatest_depth c minus (expression_of operand.now.expr) (stack_of stack.now) (behind file tokens.now i) ≡ None) }
+    ensures fault { IfErr result (Says file tokens.now (shift_int_fault greatest_depth (expression_of operand.now.expr) (stack_of stack.now) (behind file tokens.now (i - 1)) (behind file tokens.now i))) }
+{
+    if level(&operand.expr) < 9 {
+        return Err(Stop::Refused(i.saturating_sub(1)));
+    }
+    if !may_shift(stack, operand) {
+        return Err(Stop::TooDeep(i.saturating_sub(1)));
+    }
+    match int_at(alloc, tokens, file, i, minus)? {
+        Some(found) => Ok(found),
+        None => Err(Stop::Refused(i)),
+    }
+}
+
+/// `+` or `-` behind an expression.
+pub fn shift_int(
+    alloc: Global,
+    tokens: &Tokens,
+    file: u32,
+    stack: &[Frame],
+    operand: Operand,
+    minus: bool,
+    i: u32,
+) -> Result<(Outcome, u32), Stop>
+    ensures step { (c : Context) →
+        Took c file tokens.now (shift_int greatest_depth c minus (expression_of operand.expr) (stack_of stack.now) (behind file tokens.now i)) stack.now result }
+    ensures fault { IfErr result (Says file tokens.now (shift_int_fault greatest_depth (expression_of operand.expr) (stack_of stack.now) (behind file tokens.now (i - 1)) (behind file tokens.now i))) }
+{
+    let (number, next) = summand_at(alloc, tokens, file, stack, &operand, minus, i)?;
+    shift_by(alloc, stack, operand, number, next)
+}
