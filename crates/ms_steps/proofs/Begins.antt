@@ -4,7 +4,7 @@ use Rattle.std.proofs.lemmas.Bool.{le-leb}
 use Rattle.ms_grammar.specs.Grammar.{left_level, level, junction_level}
 use Rattle.ms_logic.specs.declared.mode.Order.{Order}
 use Rattle.ms_logic.specs.declared.mode.Rel.TheVariants.{Equal}
-use Rattle.ms_steps.specs.Signs.{NoText, NoName}
+use Rattle.ms_steps.specs.Terminals.{NoText, NoName}
 use Rattle.std.proofs.Common.{◌≡◌, ℕ, List, [], ◌∷◌, Some, None, refl, sym, ap, ◌∙◌, subst, ◌≤◌, cond, ◌++◌, suc}
 use Rattle.std.specs.Prelude.{Result}
 use Rattle.ms_edge.specs.declared.at.At.{At}

@@ -22,7 +22,7 @@ use Rattle.ms_grammar.specs.Grammar.{binary_level, left_level, right_level, pref
 use Rattle.ms_grammar.specs.Reads.{int_symbol, Starts, Follows, ReadsPairs, ReadsAtom, ReadsOpening, ReadsListOpening, closing, place, FirstIsAt, ReadsExpression, ReadsSeparated, ReadsList, ReadsDomain, ReadsVariables, ReadsParts}
 use Rattle.ms_steps.specs.Machine.{Frame, prefix_frame, left_frame, joined_frame, bracket_frame, list_frame, domain_frame, body_frame, part_frame, let_frame, Context, wanted, holding, variable_wanted, part_wanted, pair_wanted, Next, need, in_part, enter, bound, step, Runs, hold, with_room, begin_restrict, begin_export}
 use Rattle.ms_steps.proofs.Levels.{Yields, yields-zero, yields, tight-infix, tight-joining, tight-sign}
-use Rattle.ms_steps.proofs.Moves.{follower, starter, neither, quiet, depth_positive, left_high, list_begins, name_alone, empty_alone, literal_filled, call_filled, infix_step, sign_step, join_first, join_further}
+use Rattle.ms_steps.proofs.Moves.{follower, starter, neither, quiet, depth_positive, left_high, list_begins, name_alone, empty_alone, literal_filled, call_filled, infix_step, terminal_step, join_first, join_further}
 use Rattle.ms_steps.proofs.Steps.{by_step, Leads, by_lead, ended, entered, at_start, roomy}
 
 -- symbols one after the other
@@ -267,7 +267,7 @@ mutual
       (by_step limit (holding c e st) (placed (sign n.minus) follow.0 ∷ f2) (placed (sign n.minus) follow.0 ∷ placed (int_symbol n.value) n.at ∷ placed s a ∷ ts)
       (holding c (shifted (place e) e n) st) (placed s a ∷ ts) d
       (ap (λ f. placed (sign n.minus) follow.0 ∷ f) (at_start (int_symbol n.value) n.at f2 (placed s a ∷ ts) int_is))
-      (sign_step limit c e n st follow.0 (placed s a ∷ ts) low good.0 deep)
+      (terminal_step limit c e n st follow.0 (placed s a ∷ ts) low good.0 deep)
       (subst (λ x. Runs limit (holding c (shifted x e n) st) (placed s a ∷ ts) d) at_is runs))
   expression_read limit (enclosed at b e) c st from ts s a d good low deep bare follows yield (f1, f2, opens, read_e, follow) runs =
       opening_read limit b c st at from f1 d (omega (arith, depth_positive e)) opens

@@ -10,11 +10,11 @@ use Rattle.ms_grammar.specs.declared.operator.Binary.TheVariants.{Relation}
 use Rattle.ms_grammar.specs.Reads.{int_symbol, Starts, Follows}
 use Rattle.ms_grammar.specs.Symbol.{name, number, text, infix_operator, sign, open_round, close_round, semicolon, Placed, placed}
 use Rattle.ms_grammar.specs.Tree.{Variables, no_variables, included, Document}
-use Rattle.ms_steps.specs.declared.sign.Sign.{Sign}
-use Rattle.ms_steps.specs.declared.sign.Sign.TheVariants as signs
+use Rattle.ms_steps.specs.declared.terminal.Terminal.{Terminal}
+use Rattle.ms_steps.specs.declared.terminal.Terminal.TheVariants as terminals
 use Rattle.ms_steps.specs.Machine.{outside, wanted, parameter_wanted, summand_wanted, in_formula, in_predicate, in_default, body_of, declare, next_summand, begin_constant, begin_predicate, begin_include, begin_default, step}
 use Rattle.ms_steps.specs.Punctuations.{IsNot}
-use Rattle.ms_steps.specs.Signs.{symbol_with, NoInt}
+use Rattle.ms_steps.specs.Terminals.{symbol_with, NoInt}
 use Rattle.ms_steps.proofs.Steps.{at_start}
 
 -- `const`
@@ -135,33 +135,33 @@ default_open d at o n a ts f g g' opens names same other =
 
 -- formulas
 
--- the signs of other declarations
-abbrev pub IsOtherWord : Sign → Type 0
-IsOtherWord (signs.Variables o) = ⊥
-IsOtherWord signs.Const = ⊥
-IsOtherWord (signs.Predicate is_pred) = ⊥
-IsOtherWord signs.Include = ⊥
-IsOtherWord (signs.Default o) = ⊥
+-- the terminals of other declarations
+abbrev pub IsOtherWord : Terminal → Type 0
+IsOtherWord (terminals.Variables o) = ⊥
+IsOtherWord terminals.Const = ⊥
+IsOtherWord (terminals.Predicate is_pred) = ⊥
+IsOtherWord terminals.Include = ⊥
+IsOtherWord (terminals.Default o) = ⊥
 IsOtherWord _ = Unit {0}
 
-pub other_word : (s : Sign) → ((o : Order) → s ≡ signs.Variables o → ⊥) → (s ≡ signs.Const → ⊥) → ((is_pred : Bool) → s ≡ signs.Predicate is_pred → ⊥) → (s ≡ signs.Include → ⊥) → ((o : Order) → s ≡ signs.Default o → ⊥) → IsOtherWord s
-other_word (signs.Variables o) kinds const predicates include defaults = kinds o refl
-other_word signs.Const kinds const predicates include defaults = const refl
-other_word (signs.Predicate is_pred) kinds const predicates include defaults = predicates is_pred refl
-other_word signs.Include kinds const predicates include defaults = include refl
-other_word (signs.Default o) kinds const predicates include defaults = defaults o refl
+pub other_word : (s : Terminal) → ((o : Order) → s ≡ terminals.Variables o → ⊥) → (s ≡ terminals.Const → ⊥) → ((is_pred : Bool) → s ≡ terminals.Predicate is_pred → ⊥) → (s ≡ terminals.Include → ⊥) → ((o : Order) → s ≡ terminals.Default o → ⊥) → IsOtherWord s
+other_word (terminals.Variables o) kinds const predicates include defaults = kinds o refl
+other_word terminals.Const kinds const predicates include defaults = const refl
+other_word (terminals.Predicate is_pred) kinds const predicates include defaults = predicates is_pred refl
+other_word terminals.Include kinds const predicates include defaults = include refl
+other_word (terminals.Default o) kinds const predicates include defaults = defaults o refl
 other_word _ kinds const predicates include defaults = tt
 
-formula_by : (limit : ℕ) (d : Document) (at : At) (s : Sign) (bytes : List ℕ) (ts : List Placed) → IsOtherWord s → step limit (outside d) (placed (symbol_with s bytes) at ∷ ts) ≡ step limit (wanted (in_formula d at) []) (placed (symbol_with s bytes) at ∷ ts)
-formula_by limit d at (signs.Variables o) bytes ts other = absurd other
-formula_by limit d at signs.Const bytes ts other = absurd other
-formula_by limit d at (signs.Predicate is_pred) bytes ts other = absurd other
-formula_by limit d at signs.Include bytes ts other = absurd other
-formula_by limit d at (signs.Default o) bytes ts other = absurd other
+formula_by : (limit : ℕ) (d : Document) (at : At) (s : Terminal) (bytes : List ℕ) (ts : List Placed) → IsOtherWord s → step limit (outside d) (placed (symbol_with s bytes) at ∷ ts) ≡ step limit (wanted (in_formula d at) []) (placed (symbol_with s bytes) at ∷ ts)
+formula_by limit d at (terminals.Variables o) bytes ts other = absurd other
+formula_by limit d at terminals.Const bytes ts other = absurd other
+formula_by limit d at (terminals.Predicate is_pred) bytes ts other = absurd other
+formula_by limit d at terminals.Include bytes ts other = absurd other
+formula_by limit d at (terminals.Default o) bytes ts other = absurd other
 formula_by limit d at _ bytes ts other = refl
 
-pub formula_begun : (limit : ℕ) (d : Document) (at : At) (s : Sign) (bytes : List ℕ) (ts g : List Placed) → IsOtherWord s → ts ≡ placed (symbol_with s bytes) at ∷ g → step limit (outside d) ts ≡ step limit (wanted (in_formula d at) []) ts
+pub formula_begun : (limit : ℕ) (d : Document) (at : At) (s : Terminal) (bytes : List ℕ) (ts g : List Placed) → IsOtherWord s → ts ≡ placed (symbol_with s bytes) at ∷ g → step limit (outside d) ts ≡ step limit (wanted (in_formula d at) []) ts
 formula_begun limit d at s bytes ts g other next = ap (step limit (outside d)) next ∙ formula_by limit d at s bytes g other ∙ sym (ap (step limit (wanted (in_formula d at) [])) next)
 
-pub declaration_read : (limit : ℕ) (d : Document) (at : At) (s is : Sign) (bytes : List ℕ) (ts g g' : List Placed) → s ≡ is → ts ≡ placed (symbol_with s bytes) at ∷ g → g ≡ g' → step limit (outside d) ts ≡ step limit (outside d) (placed (symbol_with is bytes) at ∷ g')
+pub declaration_read : (limit : ℕ) (d : Document) (at : At) (s is : Terminal) (bytes : List ℕ) (ts g g' : List Placed) → s ≡ is → ts ≡ placed (symbol_with s bytes) at ∷ g → g ≡ g' → step limit (outside d) ts ≡ step limit (outside d) (placed (symbol_with is bytes) at ∷ g')
 declaration_read limit d at s is bytes ts g g' same next here = ap (step limit (outside d)) (next ∙ ap (λ x. placed (symbol_with x bytes) at ∷ g) same ∙ ap (λ x. placed (symbol_with is bytes) at ∷ x) here)

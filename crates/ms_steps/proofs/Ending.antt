@@ -5,20 +5,20 @@ use Rattle.ms_grammar.specs.declared.operator.Binary.{Binary}
 use Rattle.ms_grammar.specs.Grammar.{is_in}
 use Rattle.ms_grammar.specs.Symbol.{Symbol, Placed, placed}
 use Rattle.ms_grammar.specs.Tree.{Expression}
-use Rattle.ms_steps.specs.declared.sign.Sign.{Sign}
-use Rattle.ms_steps.specs.declared.sign.Sign.TheVariants as signs
+use Rattle.ms_steps.specs.declared.terminal.Terminal.{Terminal}
+use Rattle.ms_steps.specs.declared.terminal.Terminal.TheVariants as terminals
 use Rattle.ms_steps.specs.Ends.{IsEnd, IsOperator}
 use Rattle.ms_steps.specs.Machine.{Frame, Context, in_formula, in_global, in_parameter, in_predicate, in_default, shift, in_at, semicolon_at, settle, bound, collapse, on_top, holding, in_part, step}
-use Rattle.ms_steps.specs.Signs.{symbol_with}
+use Rattle.ms_steps.specs.Terminals.{symbol_with}
 
 -- an infix operator, and the `in` that ends a right side of a `let`
-pub infix_settled : (limit : ℕ) (c : Context) (s : Sign) (op : Binary) (bytes : List ℕ) (inside : Bool) (e : Expression) (st : List Frame) (ts : List Placed) → s ≡ signs.Infix op → IsOperator inside (symbol_with s bytes)
+pub infix_settled : (limit : ℕ) (c : Context) (s : Terminal) (op : Binary) (bytes : List ℕ) (inside : Bool) (e : Expression) (st : List Frame) (ts : List Placed) → s ≡ terminals.Infix op → IsOperator inside (symbol_with s bytes)
     → settle limit c (symbol_with s bytes) inside (e, st) ts ≡ shift limit c op (e, st) ts
 infix_settled limit c s op bytes inside e st ts same is =
     let on : (inside && is_in op) ≡ false = subst (λ x. IsOperator inside (symbol_with x bytes)) same is in
     ap (λ x. settle limit c (symbol_with x bytes) inside (e, st) ts) same ∙ ap (λ b. cond b (in_at limit c e st ts) (shift limit c op (e, st) ts)) on
 
-pub in_settled : (limit : ℕ) (c : Context) (s : Sign) (op : Binary) (bytes : List ℕ) (inside : Bool) (e : Expression) (st : List Frame) (ts : List Placed) → s ≡ signs.Infix op → IsEnd inside (symbol_with s bytes)
+pub in_settled : (limit : ℕ) (c : Context) (s : Terminal) (op : Binary) (bytes : List ℕ) (inside : Bool) (e : Expression) (st : List Frame) (ts : List Placed) → s ≡ terminals.Infix op → IsEnd inside (symbol_with s bytes)
     → settle limit c (symbol_with s bytes) inside (e, st) ts ≡ in_at limit c e st ts
 in_settled limit c s op bytes inside e st ts same is =
     let ends : (inside && is_in op) ≡ true = subst (λ x. IsEnd inside (symbol_with x bytes)) same is in
@@ -31,25 +31,25 @@ semicolon_inside (in_parameter d at is_pred at_p p vs o at_v n) e f st ts = refl
 semicolon_inside (in_predicate d at is_pred at_p p vs) e f st ts = refl
 semicolon_inside (in_default d at o n) e f st ts = refl
 
--- the signs that end nothing in a frame
-abbrev pub IsStray : Sign → Type 0
-IsStray signs.CloseRound = ⊥
-IsStray signs.CloseCurly = ⊥
-IsStray signs.Comma = ⊥
-IsStray signs.Colon = ⊥
-IsStray (signs.Infix op) = ⊥
+-- the terminals that end nothing in a frame
+abbrev pub IsStray : Terminal → Type 0
+IsStray terminals.CloseRound = ⊥
+IsStray terminals.CloseCurly = ⊥
+IsStray terminals.Comma = ⊥
+IsStray terminals.Colon = ⊥
+IsStray (terminals.Infix op) = ⊥
 IsStray _ = Unit {0}
 
-pub stray_settled : (limit : ℕ) (c : Context) (s : Sign) (bytes : List ℕ) (inside : Bool) (e : Expression) (f : Frame) (st : List Frame) (ts : List Placed) → IsStray s → IsEnd inside (symbol_with s bytes)
+pub stray_settled : (limit : ℕ) (c : Context) (s : Terminal) (bytes : List ℕ) (inside : Bool) (e : Expression) (f : Frame) (st : List Frame) (ts : List Placed) → IsStray s → IsEnd inside (symbol_with s bytes)
     → settle limit c (symbol_with s bytes) inside (e, f ∷ st) ts ≡ None
-stray_settled limit c signs.CloseRound bytes inside e f st ts stray is = absurd stray
-stray_settled limit c signs.CloseCurly bytes inside e f st ts stray is = absurd stray
-stray_settled limit c signs.Comma bytes inside e f st ts stray is = absurd stray
-stray_settled limit c signs.Colon bytes inside e f st ts stray is = absurd stray
-stray_settled limit c (signs.Infix op) bytes inside e f st ts stray is = absurd stray
-stray_settled limit c (signs.Joining op) bytes inside e f st ts stray is = absurd is
-stray_settled limit c (signs.Shift minus) bytes inside e f st ts stray is = absurd is
-stray_settled limit c signs.Semicolon bytes inside e f st ts stray is = semicolon_inside c e f st ts
+stray_settled limit c terminals.CloseRound bytes inside e f st ts stray is = absurd stray
+stray_settled limit c terminals.CloseCurly bytes inside e f st ts stray is = absurd stray
+stray_settled limit c terminals.Comma bytes inside e f st ts stray is = absurd stray
+stray_settled limit c terminals.Colon bytes inside e f st ts stray is = absurd stray
+stray_settled limit c (terminals.Infix op) bytes inside e f st ts stray is = absurd stray
+stray_settled limit c (terminals.Joining op) bytes inside e f st ts stray is = absurd is
+stray_settled limit c (terminals.Shift minus) bytes inside e f st ts stray is = absurd is
+stray_settled limit c terminals.Semicolon bytes inside e f st ts stray is = semicolon_inside c e f st ts
 stray_settled limit c _ bytes inside e f st ts stray is = refl
 
 -- a step where an expression has been read

@@ -16,12 +16,12 @@ use Rattle.ms_steps.specs.declared.punctuation.Punctuation.{Punctuation}
 use Rattle.ms_steps.specs.declared.punctuation.Punctuation.TheVariants as marks
 use Rattle.ms_steps.specs.declared.stop.Stop.{Stop}
 use Rattle.ms_steps.specs.declared.stop.Stop.TheVariants as stops
-use Rattle.ms_steps.specs.Faults.{Fault, no_fault, refused_at, deep_at, enter_fault, room_fault, is_mark, either_mark, name_then, text_then, int_then, sign_then, kind_then, step_fault}
+use Rattle.ms_steps.specs.Faults.{Fault, no_fault, refused_at, deep_at, enter_fault, room_fault, is_mark, either_mark, name_then, text_then, int_then, terminal_then, kind_then, step_fault}
 use Rattle.ms_steps.specs.Kinds.{IsKind, IsNoKind, NoKind, last_order}
 use Rattle.ms_steps.specs.Machine.{Frame, State, outside, wanted, holding, variable_wanted, part_wanted, pair_wanted, global_wanted, parameter_wanted, summand_wanted}
 use Rattle.ms_steps.specs.Outcomes.{Says}
 use Rattle.ms_steps.specs.Punctuations.{punctuation, IsNot}
-use Rattle.ms_steps.specs.Signs.{behind, IsNext, NoName, NoText, NoInt}
+use Rattle.ms_steps.specs.Terminals.{behind, IsNext, NoName, NoText, NoInt}
 
 -- another form of the same fault
 pub as_fault : {X : Type 0} (file : ℕ) (lexed : Lexed) (fault fault' : Fault) (r : Result X Stop) → fault ≡ fault' → IfErr r (Says file lexed fault') → IfErr r (Says file lexed fault)
@@ -113,13 +113,13 @@ int_missing further (placed (name n) a ∷ ts) none = absurd none
 int_missing further (placed (number n) a ∷ ts) none = absurd none
 int_missing further (placed _ a ∷ ts) none = refl
 
-pub sign_found : (further : Symbol → List Placed → List Placed → Fault) (file : ℕ) (lexed : Lexed) (i : ℕ) (s : Symbol) (at : At) → IsNext file lexed i s at
-    → sign_then further (behind file lexed i) ≡ further s (behind file lexed i) (behind file lexed (i + 1))
-sign_found further file lexed i s at next =
-    ap (sign_then further) next ∙ ap (λ x. further s x (behind file lexed (suc i))) (sym next) ∙ ap (further s (behind file lexed i)) (one_more file lexed i)
+pub terminal_found : (further : Symbol → List Placed → List Placed → Fault) (file : ℕ) (lexed : Lexed) (i : ℕ) (s : Symbol) (at : At) → IsNext file lexed i s at
+    → terminal_then further (behind file lexed i) ≡ further s (behind file lexed i) (behind file lexed (i + 1))
+terminal_found further file lexed i s at next =
+    ap (terminal_then further) next ∙ ap (λ x. further s x (behind file lexed (suc i))) (sym next) ∙ ap (further s (behind file lexed i)) (one_more file lexed i)
 
-pub sign_missing : (further : Symbol → List Placed → List Placed → Fault) (ts : List Placed) → ts ≡ [] → sign_then further ts ≡ refused_at ts
-sign_missing further ts none = ap (sign_then further) none ∙ ap refused_at (sym none)
+pub terminal_missing : (further : Symbol → List Placed → List Placed → Fault) (ts : List Placed) → ts ≡ [] → terminal_then further ts ≡ refused_at ts
+terminal_missing further ts none = ap (terminal_then further) none ∙ ap refused_at (sym none)
 
 no_kind_first : (further : List Placed → Fault) (ts : List Placed) → IsNoKind ts → kind_then no_variables further ts ≡ refused_at ts
 no_kind_first further [] none = refl

@@ -12,8 +12,8 @@ use Rattle.ms_grammar.specs.Symbol.{Symbol, prefix_operator, quantifier, let_wor
 use Rattle.ms_logic.specs.declared.mode.Quant.{Quant}
 use Rattle.ms_logic.specs.declared.mode.Order.{Order}
 use Rattle.ms_grammar.specs.Tree.{Expression, Expressions, no_expressions, and_expression, Document}
-use Rattle.ms_steps.specs.declared.sign.Sign.{Sign}
-use Rattle.ms_steps.specs.declared.sign.Sign.TheVariants as signs
+use Rattle.ms_steps.specs.declared.terminal.Terminal.{Terminal}
+use Rattle.ms_steps.specs.declared.terminal.Terminal.TheVariants as terminals
 use Rattle.ms_steps.specs.declared.row.Row.{Row}
 use Rattle.ms_steps.specs.declared.row.Row.TheVariants as rows
 use Rattle.ms_steps.specs.Ends.{IsEnd, IsOperator}
@@ -21,7 +21,7 @@ use Rattle.ms_steps.specs.Faults.{no_fault, refused_at, deep_at, enter_fault, ro
 use Rattle.ms_steps.specs.Links.{IsApart}
 use Rattle.ms_steps.specs.Machine.{Frame, joined_frame, list_frame, domain_frame, part_frame, Context, in_formula, in_global, in_parameter, in_predicate, in_default, outside, wanted, holding, need, in_part, bound, collapse}
 use Rattle.ms_steps.specs.Rows.{IsRow, IsOther}
-use Rattle.ms_steps.specs.Signs.{symbol_with, behind}
+use Rattle.ms_steps.specs.Terminals.{symbol_with, behind}
 use Rattle.ms_steps.proofs.Declaring.{IsOtherWord}
 use Rattle.ms_steps.proofs.Ending.{IsStray}
 use Rattle.ms_steps.proofs.Separations.{NoDomain, NoPart}
@@ -101,13 +101,13 @@ sum_fits limit e st from ts high room =
     ap (λ b. cond b (cond (leb (length st + suc (depth e)) limit) (int_then accepted ts) (deep_at from)) (refused_at from)) (le-leb 9 (level e) high)
     ∙ ap (λ b. cond b (int_then accepted ts) (deep_at from)) (le-leb (length st + suc (depth e)) limit room)
 
-pub infix_fault : (limit : ℕ) (c : Context) (s : Sign) (op : Binary) (bytes : List ℕ) (inside : Bool) (e : Expression) (st : List Frame) (from ts : List Placed) → s ≡ signs.Infix op → IsOperator inside (symbol_with s bytes)
+pub infix_fault : (limit : ℕ) (c : Context) (s : Terminal) (op : Binary) (bytes : List ℕ) (inside : Bool) (e : Expression) (st : List Frame) (from ts : List Placed) → s ≡ terminals.Infix op → IsOperator inside (symbol_with s bytes)
     → settle_fault limit c (symbol_with s bytes) inside (e, st) from ts ≡ shift_fault limit op e st from
 infix_fault limit c s op bytes inside e st from ts same is =
     let on : (inside && is_in op) ≡ false = subst (λ x. IsOperator inside (symbol_with x bytes)) same is in
     ap (λ x. settle_fault limit c (symbol_with x bytes) inside (e, st) from ts) same ∙ ap (λ b. cond b (in_fault limit e st from) (shift_fault limit op e st from)) on
 
-pub part_end_fault : (limit : ℕ) (c : Context) (s : Sign) (op : Binary) (bytes : List ℕ) (inside : Bool) (e : Expression) (st : List Frame) (from ts : List Placed) → s ≡ signs.Infix op → IsEnd inside (symbol_with s bytes)
+pub part_end_fault : (limit : ℕ) (c : Context) (s : Terminal) (op : Binary) (bytes : List ℕ) (inside : Bool) (e : Expression) (st : List Frame) (from ts : List Placed) → s ≡ terminals.Infix op → IsEnd inside (symbol_with s bytes)
     → settle_fault limit c (symbol_with s bytes) inside (e, st) from ts ≡ in_fault limit e st from
 part_end_fault limit c s op bytes inside e st from ts same is =
     let ends : (inside && is_in op) ≡ true = subst (λ x. IsEnd inside (symbol_with x bytes)) same is in
@@ -121,16 +121,16 @@ semicolon_in_frame (in_predicate d at is_pred at_p p vs) f st from = refl
 semicolon_in_frame (in_default d at o n) f st from = refl
 
 -- a sign that ends nothing in a frame
-pub stray_fault : (limit : ℕ) (c : Context) (s : Sign) (bytes : List ℕ) (inside : Bool) (e : Expression) (f : Frame) (st : List Frame) (from ts : List Placed) → IsStray s → IsEnd inside (symbol_with s bytes)
+pub stray_fault : (limit : ℕ) (c : Context) (s : Terminal) (bytes : List ℕ) (inside : Bool) (e : Expression) (f : Frame) (st : List Frame) (from ts : List Placed) → IsStray s → IsEnd inside (symbol_with s bytes)
     → settle_fault limit c (symbol_with s bytes) inside (e, f ∷ st) from ts ≡ refused_at from
-stray_fault limit c signs.CloseRound bytes inside e f st from ts stray is = absurd stray
-stray_fault limit c signs.CloseCurly bytes inside e f st from ts stray is = absurd stray
-stray_fault limit c signs.Comma bytes inside e f st from ts stray is = absurd stray
-stray_fault limit c signs.Colon bytes inside e f st from ts stray is = absurd stray
-stray_fault limit c (signs.Infix op) bytes inside e f st from ts stray is = absurd stray
-stray_fault limit c (signs.Joining op) bytes inside e f st from ts stray is = absurd is
-stray_fault limit c (signs.Shift minus) bytes inside e f st from ts stray is = absurd is
-stray_fault limit c signs.Semicolon bytes inside e f st from ts stray is = semicolon_in_frame c f st from
+stray_fault limit c terminals.CloseRound bytes inside e f st from ts stray is = absurd stray
+stray_fault limit c terminals.CloseCurly bytes inside e f st from ts stray is = absurd stray
+stray_fault limit c terminals.Comma bytes inside e f st from ts stray is = absurd stray
+stray_fault limit c terminals.Colon bytes inside e f st from ts stray is = absurd stray
+stray_fault limit c (terminals.Infix op) bytes inside e f st from ts stray is = absurd stray
+stray_fault limit c (terminals.Joining op) bytes inside e f st from ts stray is = absurd is
+stray_fault limit c (terminals.Shift minus) bytes inside e f st from ts stray is = absurd is
+stray_fault limit c terminals.Semicolon bytes inside e f st from ts stray is = semicolon_in_frame c f st from
 stray_fault limit c _ bytes inside e f st from ts stray is = refl
 
 -- marks that separate, in a frame that they do not stand in
@@ -187,20 +187,20 @@ held_deep limit c e st s ts g at b next is collapsed =
 
 -- declarations
 
-formula_fault_by : (limit : ℕ) (d : Document) (c : Context) (at : At) (s : Sign) (bytes : List ℕ) (ts : List Placed) → IsOtherWord s
+formula_fault_by : (limit : ℕ) (d : Document) (c : Context) (at : At) (s : Terminal) (bytes : List ℕ) (ts : List Placed) → IsOtherWord s
     → step_fault limit (outside d) (placed (symbol_with s bytes) at ∷ ts) ≡ step_fault limit (wanted c []) (placed (symbol_with s bytes) at ∷ ts)
-formula_fault_by limit d c at (signs.Variables o) bytes ts other = absurd other
-formula_fault_by limit d c at signs.Const bytes ts other = absurd other
-formula_fault_by limit d c at (signs.Predicate is_pred) bytes ts other = absurd other
-formula_fault_by limit d c at signs.Include bytes ts other = absurd other
-formula_fault_by limit d c at (signs.Default o) bytes ts other = absurd other
+formula_fault_by limit d c at (terminals.Variables o) bytes ts other = absurd other
+formula_fault_by limit d c at terminals.Const bytes ts other = absurd other
+formula_fault_by limit d c at (terminals.Predicate is_pred) bytes ts other = absurd other
+formula_fault_by limit d c at terminals.Include bytes ts other = absurd other
+formula_fault_by limit d c at (terminals.Default o) bytes ts other = absurd other
 formula_fault_by limit d c at _ bytes ts other = refl
 
-pub formula_fault : (limit : ℕ) (d : Document) (c : Context) (at : At) (s : Sign) (bytes : List ℕ) (ts g : List Placed) → IsOtherWord s → ts ≡ placed (symbol_with s bytes) at ∷ g → step_fault limit (outside d) ts ≡ step_fault limit (wanted c []) ts
+pub formula_fault : (limit : ℕ) (d : Document) (c : Context) (at : At) (s : Terminal) (bytes : List ℕ) (ts g : List Placed) → IsOtherWord s → ts ≡ placed (symbol_with s bytes) at ∷ g → step_fault limit (outside d) ts ≡ step_fault limit (wanted c []) ts
 formula_fault limit d c at s bytes ts g other next =
     ap (step_fault limit (outside d)) next ∙ formula_fault_by limit d c at s bytes g other ∙ sym (ap (step_fault limit (wanted c [])) next)
 
-pub word_fault : (limit : ℕ) (d : Document) (at : At) (s is : Sign) (bytes : List ℕ) (ts g g' : List Placed) → s ≡ is → ts ≡ placed (symbol_with s bytes) at ∷ g → g ≡ g'
+pub word_fault : (limit : ℕ) (d : Document) (at : At) (s is : Terminal) (bytes : List ℕ) (ts g g' : List Placed) → s ≡ is → ts ≡ placed (symbol_with s bytes) at ∷ g → g ≡ g'
     → step_fault limit (outside d) ts ≡ declaration_fault limit (symbol_with is bytes) ts g'
 word_fault limit d at s is bytes ts g g' same next here =
     ap (step_fault limit (outside d)) next ∙ ap (λ x. declaration_fault limit (symbol_with s bytes) x g) (sym next)

@@ -17,7 +17,7 @@ use Rattle.ms_text.specs.Spelling.{is_name_byte, is_identifier, Spells}
 use Rattle.ms_text.specs.TokenList.{Lexed, slice_of}
 use Rattle.ms_text.proofs.Starts.{identifier_bytes}
 use Rattle.ms_grammar.specs.Symbol.{Symbol, name, symbol_of, word_symbol, mark_symbol, Placed, placed, placed_symbol}
-use Rattle.ms_steps.specs.Signs.{behind, IsNext, NoName, NoText}
+use Rattle.ms_steps.specs.Terminals.{behind, IsNext, NoName, NoText}
 
 drop_read : (f : Token → Placed) (tokens : List Token) (i : ℕ) (token : Token) → slice_get tokens i ≡ Some token → drop i (map f tokens) ≡ f token ∷ drop (suc i) (map f tokens)
 drop_read f [] i token found = let never : ⊥ = cc in absurd never
@@ -36,9 +36,9 @@ drop_past f (t ∷ ts) (suc i) past = drop_past f ts i (omega (arith, past))
 pub at_end : (file : ℕ) (lexed : Lexed) (i : ℕ) → length lexed.tokens ≤ i → behind file lexed i ≡ []
 at_end file lexed i past = drop_past (placed_symbol file lexed) lexed.tokens i past
 
-pub sign_next : (file : ℕ) (lexed : Lexed) (i : ℕ) (token : Token) (s : Symbol) (at : At) → slice_get lexed.tokens i ≡ Some token → symbol_of token.kind (slice_of lexed token) ≡ s
+pub terminal_next : (file : ℕ) (lexed : Lexed) (i : ℕ) (token : Token) (s : Symbol) (at : At) → slice_get lexed.tokens i ≡ Some token → symbol_of token.kind (slice_of lexed token) ≡ s
     → at ≡ record { file = file; place = token.place } → IsNext file lexed i s at
-sign_next file lexed i token s at found same here =
+terminal_next file lexed i token s at found same here =
     next_is file lexed i token found ∙ ap (λ x. placed x (record { file = file; place = token.place }) ∷ behind file lexed (suc i)) same ∙ ap (λ x. placed s x ∷ behind file lexed (suc i)) (sym here)
 
 no_name_word : (w : Keyword) (at : At) (more : List Placed) → NoName (placed (word_symbol w) at ∷ more)

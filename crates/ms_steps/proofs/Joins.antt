@@ -1,4 +1,4 @@
--- Operators and signs behind an expression, as the code takes them.
+-- Operators and terminals behind an expression, as the code takes them.
 use Rattle.std.proofs.Common.{◌≡◌, Bool, true, List, [], ◌∷◌, None, refl, sym, ap, ◌∙◌}
 use Rattle.ms_edge.specs.declared.at.At.{At}
 use Rattle.ms_logic.specs.declared.source.Expr.{Expr}
@@ -13,7 +13,7 @@ use Rattle.ms_steps.specs.declared.opened.Opened.TheVariants as opened
 use Rattle.ms_steps.specs.Links.{IsApart}
 use Rattle.ms_steps.specs.Machine.{Frame, joined_frame, Context, join, join_new, shift_by, shift_int}
 use Rattle.ms_steps.specs.Opened.{frame_of}
-use Rattle.ms_steps.specs.Signs.{NoInt}
+use Rattle.ms_steps.specs.Terminals.{NoInt}
 use Rattle.ms_steps.proofs.Moves.{int_read}
 use Rattle.ms_steps.proofs.Steps.{at_start}
 use Rattle.std.specs.Prelude.{ℕ}

@@ -164,9 +164,9 @@ pub int_read : (limit : ℕ) (c : Context) (minus : Bool) (e : Expression) (st :
 int_read limit c minus e st (Number n) a ts = refl
 int_read limit c minus e st (Constant n) a ts = refl
 
-pub sign_step : (limit : ℕ) (c : Context) (e : Expression) (n : PlacedInt) (st : List Frame) (x : At) (ts : List Placed) → need st ≤ 9 → 9 ≤ level e → length st + suc (depth e) ≤ limit
+pub terminal_step : (limit : ℕ) (c : Context) (e : Expression) (n : PlacedInt) (st : List Frame) (x : At) (ts : List Placed) → need st ≤ 9 → 9 ≤ level e → length st + suc (depth e) ≤ limit
     → step limit (holding c e st) (placed (sign n.minus) x ∷ placed (int_symbol n.value) n.at ∷ ts) ≡ Some (holding c (shifted (place e) e n) st, ts)
-sign_step limit c e n st x ts low high deep =
+terminal_step limit c e n st x ts low high deep =
     ap (on_top (λ top. shift_int limit c n.minus top.0 top.1 (placed (int_symbol n.value) n.at ∷ ts))) (stays limit 9 e st low)
     ∙ int_read limit c n.minus e st n.value n.at ts
     ∙ ap (λ b. cond (b && leb (length st + suc (depth e)) limit) (Some (holding c (shifted (place e) e n) st, ts)) None) (le-leb 9 (level e) high)

@@ -9,7 +9,7 @@ use Rattle.ms_steps.specs.Machine as machine
 use Rattle.ms_steps.specs.Machine.{Context, next_pair, pair_wanted}
 use Rattle.ms_steps.specs.Pairs.{IsPair, NoPair}
 use Rattle.ms_steps.specs.Punctuations.{IsNot}
-use Rattle.ms_steps.specs.Signs.{NoName}
+use Rattle.ms_steps.specs.Terminals.{NoName}
 
 pub no_left : (ts : List Placed) → NoName ts → NoPair ts
 no_left [] other = tt

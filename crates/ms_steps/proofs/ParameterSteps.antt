@@ -9,7 +9,7 @@ use Rattle.ms_grammar.specs.Tree.{Variables, no_variables, and_variable, Documen
 use Rattle.ms_grammar.specs.View.{variable_of, variables_behind, variables_of}
 use Rattle.ms_steps.specs.Kinds.{last_order, IsNoKind, IsKind, NoKind}
 use Rattle.ms_steps.specs.Machine.{behind_parameter, next_parameter}
-use Rattle.ms_steps.specs.Signs.{NoName}
+use Rattle.ms_steps.specs.Terminals.{NoName}
 
 kind_read : (d : Document) (at : At) (is_pred : Bool) (at_p : At) (p : List ℕ) (vs : Variables) (o : Order) (k : At) (n : List ℕ) (at_v : At) (s : Symbol) (a : At) (h : List Placed)
     → next_parameter d at is_pred at_p p vs (placed (kind o) k ∷ placed (name n) at_v ∷ placed s a ∷ h) ≡ behind_parameter d at is_pred at_p p vs o at_v n s h

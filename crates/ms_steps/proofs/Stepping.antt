@@ -19,7 +19,7 @@ use Rattle.ms_steps.specs.Outcomes.{Says, Took}
 use Rattle.ms_steps.specs.Stack.{CollapsesTo}
 use Rattle.ms_steps.specs.Machine as machine
 use Rattle.ms_steps.specs.Machine.{declare, outside, next_global, behind_global}
-use Rattle.ms_steps.specs.Signs.{behind}
+use Rattle.ms_steps.specs.Terminals.{behind}
 use Rattle.ms_steps.specs.States.{Stepped, read_of}
 
 -- another form of the same step

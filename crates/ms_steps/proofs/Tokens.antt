@@ -5,7 +5,7 @@ use Rattle.std.proofs.lemmas.Slice.Eq.{bytes_eq-Decides}
 use Rattle.ms_edge.specs.declared.at.At.{At}
 use Rattle.ms_grammar.specs.Symbol.{Symbol, name, Placed, placed}
 use Rattle.ms_steps.specs.Punctuations.{IsNot}
-use Rattle.ms_steps.specs.Signs.{NoName}
+use Rattle.ms_steps.specs.Terminals.{NoName}
 
 pub not_named : (n : List ℕ) (ts : List Placed) → NoName ts → IsNot (name n) ts
 not_named n [] none = tt

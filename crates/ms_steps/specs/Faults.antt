@@ -87,9 +87,9 @@ int_then further (placed (name n) a ∷ ts) = further ts
 int_then further ts = refused_at ts
 
 -- any symbol
-abbrev pub sign_then : (Symbol → List Placed → List Placed → Fault) → List Placed → Fault
-sign_then further [] = refused_at []
-sign_then further (placed s a ∷ ts) = further s (placed s a ∷ ts) ts
+abbrev pub terminal_then : (Symbol → List Placed → List Placed → Fault) → List Placed → Fault
+terminal_then further [] = refused_at []
+terminal_then further (placed s a ∷ ts) = further s (placed s a ∷ ts) ts
 
 -- the kind of a parameter, which the first one has
 abbrev pub kind_then : Variables → (List Placed → Fault) → List Placed → Fault
@@ -226,7 +226,7 @@ behind_variable_fault limit st vs colon from ts = enter_fault limit (depth_of_do
 behind_variable_fault limit st vs _ from ts = refused_at from
 
 abbrev pub next_variable_fault : ℕ → List Frame → Variables → List Placed → Fault
-next_variable_fault limit st vs ts = name_then (sign_then (behind_variable_fault limit st vs)) ts
+next_variable_fault limit st vs ts = name_then (terminal_then (behind_variable_fault limit st vs)) ts
 
 abbrev pub part_fault : ℕ → List Frame → Parts → List Placed → Fault
 part_fault limit st parts ts = either_mark (infix_operator (Relation Equal)) (λ value. enter_fault limit (depth_of_values parts) st (deep_at ts)) refused_at ts
@@ -247,7 +247,7 @@ behind_global_fault semicolon from ts = no_fault
 behind_global_fault _ from ts = refused_at from
 
 abbrev pub next_global_fault : List Placed → Fault
-next_global_fault ts = name_then (sign_then behind_global_fault) ts
+next_global_fault ts = name_then (terminal_then behind_global_fault) ts
 
 abbrev pub behind_parameter_fault : Symbol → List Placed → List Placed → Fault
 behind_parameter_fault word_where from ts = no_fault
@@ -256,7 +256,7 @@ behind_parameter_fault close_round from ts = body_fault ts
 behind_parameter_fault _ from ts = refused_at from
 
 abbrev pub next_parameter_fault : Variables → List Placed → Fault
-next_parameter_fault vs ts = kind_then vs (name_then (sign_then behind_parameter_fault)) ts
+next_parameter_fault vs ts = kind_then vs (name_then (terminal_then behind_parameter_fault)) ts
 
 abbrev pub summand_fault : Symbol → List Placed → List Placed → Fault
 summand_fault semicolon from ts = no_fault
@@ -264,7 +264,7 @@ summand_fault (sign minus) from ts = int_then accepted ts
 summand_fault _ from ts = refused_at from
 
 abbrev pub next_summand_fault : List Placed → Fault
-next_summand_fault ts = sign_then summand_fault ts
+next_summand_fault ts = terminal_then summand_fault ts
 
 -- declarations
 

@@ -9,7 +9,7 @@ pub mod Outcomes
 pub mod Pairs
 pub mod Punctuations
 pub mod Rows
-pub mod Signs
+pub mod Terminals
 pub mod Stack
 pub mod States
 pub mod Stops

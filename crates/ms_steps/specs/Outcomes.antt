@@ -8,7 +8,7 @@ use Rattle.ms_steps.specs.declared.stop.Stop.{Stop}
 use Rattle.ms_steps.specs.declared.stop.Stop.TheVariants.{Memory, Refused, TooDeep}
 use Rattle.ms_steps.specs.Faults.{Fault, refused_at, deep_at}
 use Rattle.ms_steps.specs.Machine as machine
-use Rattle.ms_steps.specs.Signs.{behind}
+use Rattle.ms_steps.specs.Terminals.{behind}
 use Rattle.ms_steps.specs.Stack.{stack_of}
 use Rattle.ms_grammar.specs.View.{expression_of, variables_of, parts_of}
 

@@ -12,7 +12,7 @@ use Rattle.ms_steps.specs.declared.stop.Stop.{Stop}
 use Rattle.ms_steps.specs.declared.stop.Stop.TheVariants.{Memory, Refused, TooDeep}
 use Rattle.ms_steps.specs.Machine as machine
 use Rattle.ms_steps.specs.Outcomes.{outcome_of}
-use Rattle.ms_steps.specs.Signs.{behind}
+use Rattle.ms_steps.specs.Terminals.{behind}
 use Rattle.ms_steps.specs.Stack.{stack_of}
 use Rattle.ms_grammar.specs.Tree.{Document}
 use Rattle.ms_grammar.specs.View.{variables_of, document_of}

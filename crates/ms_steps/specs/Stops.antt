@@ -7,7 +7,7 @@ use Rattle.ms_grammar.specs.Declarations.{ReadsAs}
 use Rattle.ms_grammar.specs.Symbol.{word_ws1s, Placed, placed, symbols}
 use Rattle.ms_steps.specs.declared.stop.Stop.{Stop}
 use Rattle.ms_steps.specs.declared.stop.Stop.TheVariants as stops
-use Rattle.ms_steps.specs.Signs.{behind}
+use Rattle.ms_steps.specs.Terminals.{behind}
 
 -- The first symbol that is left cannot stand there, or none is left where some could.
 abbrev pub Misplaces : List Placed → List Placed → Type 0

@@ -3,7 +3,7 @@ ghost use Rattle.ms_grammar.specs.Grammar.{depth, greatest_depth};
 ghost use Rattle.ms_steps.specs.Machine.{Context, begin_name, begin_empty, begin_literal, begin_restrict, begin_export, begin_import, begin_pconst, with_room};
 ghost use Rattle.ms_steps.specs.Outcomes.{Took, Says};
 ghost use Rattle.ms_grammar.specs.Reads.{place};
-ghost use Rattle.ms_steps.specs.Signs.{behind};
+ghost use Rattle.ms_steps.specs.Terminals.{behind};
 ghost use Rattle.ms_steps.specs.Stack.{stack_of};
 ghost use Rattle.ms_grammar.specs.View.{form_of};
 ghost use Rattle.ms_steps.specs.Faults.{empty_fault, export_fault, import_fault, literal_fault, name_fault, pconst_fault, restrict_fault, room_fault};

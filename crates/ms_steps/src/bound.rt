@@ -2,11 +2,11 @@ ghost use Rattle.std.specs.Prelude.{◌≡◌, ℕ, Bool, List};
 ghost use Rattle.ms_grammar.specs.Grammar.{binary_level, is_in};
 ghost use Rattle.ms_steps.specs.Ends.{ends_part};
 ghost use Rattle.ms_steps.specs.Machine.{bound, in_part};
-ghost use Rattle.ms_steps.specs.Signs.{symbol_with};
+ghost use Rattle.ms_steps.specs.Terminals.{symbol_with};
 ghost use Rattle.ms_steps.specs.Stack.{stack_of};
 
 use crate::frame::Frame;
-use crate::sign::Sign;
+use crate::terminal::Terminal;
 use crate::top::in_part;
 use ms_grammar::Binary;
 use ms_levels::junction_reach;
@@ -31,24 +31,24 @@ fn looseness(op: Binary) -> u32
     }
 }
 
-/// Whether a sign is the `in` that ends the right side of a `let`.
-pub fn ends_part(stack: &[Frame], sign: Sign) -> bool
-    ensures { (bytes : List ℕ) → result ≡ ends_part (in_part (stack_of stack.now)) (symbol_with sign bytes) }
+/// Whether a terminal is the `in` that ends the right side of a `let`.
+pub fn ends_part(stack: &[Frame], terminal: Terminal) -> bool
+    ensures { (bytes : List ℕ) → result ≡ ends_part (in_part (stack_of stack.now)) (symbol_with terminal bytes) }
 {
-    match sign {
-        Sign::Infix(op) => is_in(op) && in_part(stack),
+    match terminal {
+        Terminal::Infix(op) => is_in(op) && in_part(stack),
         _ => false,
     }
 }
 
-/// How loosely a sign binds behind an expression; 0 where it is no operator.
-pub fn bound(sign: Sign, is_end: bool) -> u32
-    ensures { (bytes : List ℕ) (inside : Bool) → is_end ≡ ends_part inside (symbol_with sign bytes) → result ≡ bound inside (symbol_with sign bytes) }
+/// How loosely a terminal binds behind an expression; 0 where it is no operator.
+pub fn bound(terminal: Terminal, is_end: bool) -> u32
+    ensures { (bytes : List ℕ) (inside : Bool) → is_end ≡ ends_part inside (symbol_with terminal bytes) → result ≡ bound inside (symbol_with terminal bytes) }
 {
-    match sign {
-        Sign::Infix(op) => { if is_end { 0 } else { looseness(op) + 1 } }
-        Sign::Joining(op) => junction_reach(op) + 1,
-        Sign::Shift(_) => 10,
+    match terminal {
+        Terminal::Infix(op) => { if is_end { 0 } else { looseness(op) + 1 } }
+        Terminal::Joining(op) => junction_reach(op) + 1,
+        Terminal::Shift(_) => 10,
         _ => 0,
     }
 }

@@ -6,7 +6,7 @@ ghost use Rattle.ms_grammar.specs.View.{expression_of, expressions_of};
 ghost use Rattle.ms_steps.specs.Faults.{hold_fault};
 ghost use Rattle.ms_steps.specs.Machine.{Context, hold};
 ghost use Rattle.ms_steps.specs.Outcomes.{Took, Says};
-ghost use Rattle.ms_steps.specs.Signs.{behind};
+ghost use Rattle.ms_steps.specs.Terminals.{behind};
 ghost use Rattle.ms_steps.specs.Stack.{stack_of};
 ghost use Rattle.ms_steps.specs.declared.frame.Frame.{Frame};
 

@@ -5,7 +5,7 @@ ghost use Rattle.ms_steps.specs.Ends.{IsEnd};
 ghost use Rattle.ms_steps.specs.Faults.{settle_fault};
 ghost use Rattle.ms_steps.specs.Machine.{settle};
 ghost use Rattle.ms_steps.specs.Outcomes.{Says};
-ghost use Rattle.ms_steps.specs.Signs.{behind, symbol_with};
+ghost use Rattle.ms_steps.specs.Terminals.{behind, symbol_with};
 ghost use Rattle.ms_steps.specs.States.{Stepped, context_of, read_of};
 
 use crate::frame::Frame;
@@ -13,9 +13,9 @@ use crate::globals::end_global;
 use crate::go_on::{end_default, end_formula, end_predicate};
 use crate::operand::Operand;
 use crate::parameters::end_parameter;
-use crate::sign::Sign;
 use crate::state::{Parsed, State};
 use crate::stop::Stop;
+use crate::terminal::Terminal;
 use ms_edge::{At, List, Name};
 use ms_logic::{Bound, Order};
 use ms_text::Tokens;
@@ -80,24 +80,24 @@ impl Context {
         made: &mut Parsed,
         stack: &mut Vec<Frame>,
         operand: Operand,
-        sign: Sign,
+        terminal: Terminal,
         i: u32,
     ) -> Result<(State, u32), Stop>
-        ensures step { (bytes : List ℕ) (inside : Bool) → IsEnd inside (symbol_with sign bytes) →
-            Stepped file tokens.now (settle greatest_depth (context_of (read_of made.old) self) (symbol_with sign bytes) inside (expression_of operand.expr, []) (behind file tokens.now i)) made.new stack.new.items result }
-        ensures fault { (bytes : List ℕ) (inside : Bool) → IsEnd inside (symbol_with sign bytes) → IfErr result (Says file tokens.now (settle_fault greatest_depth (context_of (read_of made.old) self) (symbol_with sign bytes) inside ((expression_of operand.expr), []) (behind file tokens.now (i - 1)) (behind file tokens.now i))) }
+        ensures step { (bytes : List ℕ) (inside : Bool) → IsEnd inside (symbol_with terminal bytes) →
+            Stepped file tokens.now (settle greatest_depth (context_of (read_of made.old) self) (symbol_with terminal bytes) inside (expression_of operand.expr, []) (behind file tokens.now i)) made.new stack.new.items result }
+        ensures fault { (bytes : List ℕ) (inside : Bool) → IsEnd inside (symbol_with terminal bytes) → IfErr result (Says file tokens.now (settle_fault greatest_depth (context_of (read_of made.old) self) (symbol_with terminal bytes) inside ((expression_of operand.expr), []) (behind file tokens.now (i - 1)) (behind file tokens.now i))) }
     {
         match self {
-            Context::Formula(at) => end_formula(made, at, operand, sign, i),
+            Context::Formula(at) => end_formula(made, at, operand, terminal, i),
             Context::Global(globals, at_name, name) => {
-                end_global(alloc, made, globals, at_name, name, operand, sign, i)
+                end_global(alloc, made, globals, at_name, name, operand, terminal, i)
             }
             Context::Parameter(signature, order, at_name, name) => end_parameter(
-                alloc, tokens, file, stack, signature, order, at_name, name, operand, sign, i,
+                alloc, tokens, file, stack, signature, order, at_name, name, operand, terminal, i,
             ),
-            Context::Predicate(signature) => end_predicate(made, signature, operand, sign, i),
+            Context::Predicate(signature) => end_predicate(made, signature, operand, terminal, i),
             Context::Default(at, order, name) => end_default(
-                made, at, order, name, operand, sign, i,
+                made, at, order, name, operand, terminal, i,
             ),
         }
     }

@@ -4,7 +4,7 @@ ghost use Rattle.ms_grammar.specs.Symbol.{name, placed};
 ghost use Rattle.ms_grammar.specs.Tree.{no_variables};
 ghost use Rattle.ms_steps.specs.Machine as machine;
 ghost use Rattle.ms_steps.specs.Machine.{begin_constant, begin_default, begin_include, begin_predicate, global_wanted, in_formula, next_summand, outside, step, wanted};
-ghost use Rattle.ms_steps.specs.Signs.{behind};
+ghost use Rattle.ms_steps.specs.Terminals.{behind};
 ghost use Rattle.ms_steps.specs.States.{Stepped, read_of};
 ghost use Rattle.ms_steps.specs.declared.frame.Frame.{Frame};
 ghost use Rattle.ms_steps.specs.declared.state.Parsed.{Parsed};
@@ -17,14 +17,14 @@ use crate::context::{Context, Globals, Signature};
 use crate::declare::{begin_expression, declared, inside};
 use crate::expression::begin;
 use crate::frame::Frame;
-use crate::input::{name_at, sign_at, text_at};
+use crate::input::{name_at, terminal_at, text_at};
 use crate::int::int_at;
 use crate::memory::push;
 use crate::parameters::body_of;
 use crate::punctuation::{Punctuation, behind_mark};
-use crate::sign::Sign;
 use crate::state::{Parsed, State};
 use crate::stop::Stop;
+use crate::terminal::Terminal;
 use ms_edge::{At, List, Name};
 use ms_logic::{Decl, Order, PlacedInt};
 use ms_text::Tokens;
@@ -56,7 +56,7 @@ fn begin_constant(
     Ok((State::Summand(at, at_name, name, sum), next))
 }
 
-/// A sign and a number of a constant, or its end, where these are wanted.
+/// A terminal and a number of a constant, or its end, where these are wanted.
 pub fn next_summand(
     alloc: Global,
     tokens: &Tokens,
@@ -72,12 +72,12 @@ pub fn next_summand(
         Stepped file tokens.now (next_summand (read_of made.old) at at_name name sum (behind file tokens.now i)) made.new frames result }
     ensures fault { IfErr result (Says file tokens.now (next_summand_fault (behind file tokens.now i))) }
 {
-    let Some((sign, _)) = sign_at(tokens, file, i) else {
+    let Some((terminal, _)) = terminal_at(tokens, file, i) else {
         return Err(Stop::Refused(i));
     };
-    match sign {
-        Sign::Semicolon => declared(made, at, Decl::Const(at_name, name, sum), i + 1),
-        Sign::Shift(minus) => {
+    match terminal {
+        Terminal::Semicolon => declared(made, at, Decl::Const(at_name, name, sum), i + 1),
+        Terminal::Shift(minus) => {
             let Some((number, next)) = int_at(alloc, tokens, file, i + 1, minus)? else {
                 return Err(Stop::Refused(i + 1));
             };
@@ -231,17 +231,17 @@ pub fn begin_declaration(
     ensures step { Stepped file tokens.now (step greatest_depth (outside (read_of made.old)) (behind file tokens.now i)) made.new stack.new.items result }
     ensures fault { IfErr result (Says file tokens.now (step_fault greatest_depth (outside (read_of made.old)) (behind file tokens.now i))) }
 {
-    let Some((sign, at)) = sign_at(tokens, file, i) else {
+    let Some((terminal, at)) = terminal_at(tokens, file, i) else {
         return Err(Stop::Refused(i));
     };
-    match sign {
-        Sign::Variables(order) => begin_globals(alloc, at, order, i + 1),
-        Sign::Const => begin_constant(alloc, tokens, file, at, i + 1),
-        Sign::Predicate(is_pred) => {
+    match terminal {
+        Terminal::Variables(order) => begin_globals(alloc, at, order, i + 1),
+        Terminal::Const => begin_constant(alloc, tokens, file, at, i + 1),
+        Terminal::Predicate(is_pred) => {
             begin_predicate(alloc, tokens, file, stack, at, is_pred, i + 1)
         }
-        Sign::Include => begin_include(alloc, tokens, file, made, at, i + 1),
-        Sign::Default(order) => begin_default(alloc, tokens, file, stack, at, order, i + 1),
+        Terminal::Include => begin_include(alloc, tokens, file, made, at, i + 1),
+        Terminal::Default(order) => begin_default(alloc, tokens, file, stack, at, order, i + 1),
         _ => begin_formula(alloc, tokens, file, stack, at, i),
     }
 }

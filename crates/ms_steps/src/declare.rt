@@ -4,7 +4,7 @@ ghost use Rattle.ms_grammar.specs.View.{declaration_of};
 ghost use Rattle.ms_steps.specs.Machine as machine;
 ghost use Rattle.ms_steps.specs.Machine.{declare, outside, wanted};
 ghost use Rattle.ms_steps.specs.Outcomes.{Took, Says};
-ghost use Rattle.ms_steps.specs.Signs.{behind};
+ghost use Rattle.ms_steps.specs.Terminals.{behind};
 ghost use Rattle.ms_steps.specs.States.{Stepped, context_of, read_of};
 ghost use Rattle.ms_steps.specs.declared.frame.Frame.{Frame};
 ghost use Rattle.ms_steps.specs.declared.state.Parsed.{Parsed};

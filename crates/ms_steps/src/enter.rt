@@ -5,17 +5,17 @@ ghost use Rattle.ms_steps.specs.Machine.{Context, enter, frame_depth};
 ghost use Rattle.ms_grammar.specs.Grammar.{level, greatest_depth};
 ghost use Rattle.ms_steps.specs.Opened.{frame_of};
 ghost use Rattle.ms_steps.specs.Outcomes.{Says, Took};
-ghost use Rattle.ms_steps.specs.Signs.{symbol_with, behind};
+ghost use Rattle.ms_steps.specs.Terminals.{symbol_with, behind};
 ghost use Rattle.ms_steps.specs.Stack.{stack_of};
 ghost use Rattle.ms_grammar.specs.View.{expression_of};
 
 use crate::frame::Frame;
-use crate::input::sign_at;
+use crate::input::terminal_at;
 use crate::operand::GREATEST_DEPTH;
 use crate::outcome::Outcome;
-use crate::sign::Sign;
 use crate::stack::push_frame;
 use crate::stop::Stop;
+use crate::terminal::Terminal;
 use ms_logic::{Expr, Form};
 use ms_text::Tokens;
 
@@ -27,25 +27,25 @@ pub fn has_room(stack: &[Frame]) -> bool
     stack.len() < 299
 }
 
-fn may_begin(sign: Sign) -> bool
-    ensures { (bytes : List ℕ) → result ≡ starter (symbol_with sign bytes) }
+fn may_begin(terminal: Terminal) -> bool
+    ensures { (bytes : List ℕ) → result ≡ starter (symbol_with terminal bytes) }
 {
-    match sign {
-        Sign::Name => true,
-        Sign::Number(_) => true,
-        Sign::Prefix(_) => true,
-        Sign::Quantifier(..) => true,
-        Sign::Let(_) => true,
-        Sign::True => true,
-        Sign::False => true,
-        Sign::Dollar => true,
-        Sign::Empty => true,
-        Sign::Pconst => true,
-        Sign::Import => true,
-        Sign::Export => true,
-        Sign::Restrict => true,
-        Sign::OpenRound => true,
-        Sign::OpenCurly => true,
+    match terminal {
+        Terminal::Name => true,
+        Terminal::Number(_) => true,
+        Terminal::Prefix(_) => true,
+        Terminal::Quantifier(..) => true,
+        Terminal::Let(_) => true,
+        Terminal::True => true,
+        Terminal::False => true,
+        Terminal::Dollar => true,
+        Terminal::Empty => true,
+        Terminal::Pconst => true,
+        Terminal::Import => true,
+        Terminal::Export => true,
+        Terminal::Restrict => true,
+        Terminal::OpenRound => true,
+        Terminal::OpenCurly => true,
         _ => false,
     }
 }
@@ -54,10 +54,10 @@ fn may_begin(sign: Sign) -> bool
 pub fn stop_inside(tokens: &Tokens, file: u32, i: u32) -> Stop
     ensures { Says file tokens.now (inside_fault (behind file tokens.now i)) result }
 {
-    let Some((sign, _)) = sign_at(tokens, file, i) else {
+    let Some((terminal, _)) = terminal_at(tokens, file, i) else {
         return Stop::Refused(i);
     };
-    if may_begin(sign) {
+    if may_begin(terminal) {
         return Stop::TooDeep(i);
     }
     Stop::Refused(i)

@@ -4,12 +4,12 @@ ghost use Rattle.ms_grammar.specs.Grammar.{depth, prefix_level, greatest_depth};
 ghost use Rattle.ms_steps.specs.Machine.{Context, wanted, holding, begin, step};
 ghost use Rattle.ms_steps.specs.Outcomes.{Took, Says};
 ghost use Rattle.ms_grammar.specs.Reads.{place};
-ghost use Rattle.ms_steps.specs.Signs.{symbol_with, behind};
+ghost use Rattle.ms_steps.specs.Terminals.{symbol_with, behind};
 ghost use Rattle.ms_steps.specs.Stack.{stack_of};
 ghost use Rattle.ms_grammar.specs.Symbol.{prefix_operator, quantifier, let_word, open_round};
 ghost use Rattle.ms_grammar.specs.View.{form_of};
 ghost use Rattle.ms_steps.specs.declared.frame.Frame.{Frame};
-ghost use Rattle.ms_steps.specs.declared.sign.Sign.TheVariants as signs;
+ghost use Rattle.ms_steps.specs.declared.terminal.Terminal.TheVariants as terminals;
 ghost use Rattle.ms_steps.specs.Faults.{begin_fault, step_fault};
 ghost use Rattle.ms_steps.specs.declared.stop.Stop.TheVariants.{Memory};
 
@@ -20,12 +20,12 @@ use crate::begin::{
 use crate::complete::finish;
 use crate::enter::{enter, has_room};
 use crate::frame::Frame;
-use crate::input::{name_at, sign_at};
+use crate::input::{name_at, terminal_at};
 use crate::opened::Opened;
 use crate::operand::{Bounds, Parts};
 use crate::outcome::Outcome;
-use crate::sign::Sign;
 use crate::stop::Stop;
+use crate::terminal::Terminal;
 use crate::top::need;
 use ms_edge::{At, List};
 use ms_grammar::{Bracket, Prefix};
@@ -135,34 +135,34 @@ fn begin_let(
 }
 
 /// A symbol other than a name begins an expression.
-fn begin_sign(
+fn begin_terminal(
     alloc: Global,
     tokens: &Tokens,
     file: u32,
     stack: &mut Vec<Frame>,
     at: At,
-    sign: Sign,
+    terminal: Terminal,
     i: u32,
 ) -> Result<(Outcome, u32), Stop>
-    ensures step { (c : Context) (bytes : List ℕ) → sign ≢ signs.Name →
-        Took c file tokens.now (begin greatest_depth c (stack_of stack.old.items) at (symbol_with sign bytes) (behind file tokens.now i)) stack.new.items result }
-    ensures fault { (bytes : List ℕ) → sign ≢ signs.Name → IfErr result (Says file tokens.now (begin_fault greatest_depth (stack_of stack.old.items) (symbol_with sign bytes) (behind file tokens.now (i - 1)) (behind file tokens.now i))) }
+    ensures step { (c : Context) (bytes : List ℕ) → terminal ≢ terminals.Name →
+        Took c file tokens.now (begin greatest_depth c (stack_of stack.old.items) at (symbol_with terminal bytes) (behind file tokens.now i)) stack.new.items result }
+    ensures fault { (bytes : List ℕ) → terminal ≢ terminals.Name → IfErr result (Says file tokens.now (begin_fault greatest_depth (stack_of stack.old.items) (symbol_with terminal bytes) (behind file tokens.now (i - 1)) (behind file tokens.now i))) }
 {
-    match sign {
-        Sign::True => begin_atom(at, Form::True, i),
-        Sign::False => begin_atom(at, Form::False, i),
-        Sign::Dollar => begin_atom(at, Form::Whole, i),
-        Sign::Number(number) => begin_atom(at, Form::Number(number), i),
-        Sign::Empty => begin_empty(tokens, file, stack, at, i),
-        Sign::Pconst => begin_pconst(alloc, tokens, file, stack, at, i),
-        Sign::Import => begin_import(alloc, tokens, file, stack, at, i),
-        Sign::Restrict => begin_restrict(tokens, file, stack, at, i),
-        Sign::Export => begin_export(alloc, tokens, file, stack, at, i),
-        Sign::OpenCurly => begin_literal(alloc, tokens, file, stack, at, i),
-        Sign::OpenRound => begin_bracket(stack, at, i),
-        Sign::Prefix(op) => begin_prefix(stack, at, op, i),
-        Sign::Quantifier(quant, order) => begin_quantifier(alloc, stack, at, quant, order, i),
-        Sign::Let(order) => begin_let(alloc, stack, at, order, i),
+    match terminal {
+        Terminal::True => begin_atom(at, Form::True, i),
+        Terminal::False => begin_atom(at, Form::False, i),
+        Terminal::Dollar => begin_atom(at, Form::Whole, i),
+        Terminal::Number(number) => begin_atom(at, Form::Number(number), i),
+        Terminal::Empty => begin_empty(tokens, file, stack, at, i),
+        Terminal::Pconst => begin_pconst(alloc, tokens, file, stack, at, i),
+        Terminal::Import => begin_import(alloc, tokens, file, stack, at, i),
+        Terminal::Restrict => begin_restrict(tokens, file, stack, at, i),
+        Terminal::Export => begin_export(alloc, tokens, file, stack, at, i),
+        Terminal::OpenCurly => begin_literal(alloc, tokens, file, stack, at, i),
+        Terminal::OpenRound => begin_bracket(stack, at, i),
+        Terminal::Prefix(op) => begin_prefix(stack, at, op, i),
+        Terminal::Quantifier(quant, order) => begin_quantifier(alloc, stack, at, quant, order, i),
+        Terminal::Let(order) => begin_let(alloc, stack, at, order, i),
         _ => Err(Stop::Refused(i.saturating_sub(1))),
     }
 }
@@ -182,8 +182,8 @@ pub fn begin(
     if let Some((name, at)) = name_at(alloc, tokens, file, i)? {
         return begin_name(alloc, tokens, file, stack, at, name, i + 1);
     }
-    let Some((sign, at)) = sign_at(tokens, file, i) else {
+    let Some((terminal, at)) = terminal_at(tokens, file, i) else {
         return Err(Stop::Refused(i));
     };
-    begin_sign(alloc, tokens, file, stack, at, sign, i + 1)
+    begin_terminal(alloc, tokens, file, stack, at, terminal, i + 1)
 }

@@ -4,7 +4,7 @@ ghost use Rattle.ms_grammar.specs.Tree.{and_variable, variables};
 ghost use Rattle.ms_grammar.specs.View.{domain_of, expression_of, variables_of};
 ghost use Rattle.ms_steps.specs.Ends.{IsEnd};
 ghost use Rattle.ms_steps.specs.Machine.{behind_global, declare, global_wanted, in_global, next_global, outside, settle};
-ghost use Rattle.ms_steps.specs.Signs.{behind, symbol_with};
+ghost use Rattle.ms_steps.specs.Terminals.{behind, symbol_with};
 ghost use Rattle.ms_steps.specs.States.{Stepped, read_of};
 ghost use Rattle.ms_steps.specs.declared.frame.Frame.{Frame};
 ghost use Rattle.ms_steps.specs.declared.state.Parsed.{Parsed};
@@ -16,13 +16,13 @@ ghost use Rattle.ms_steps.specs.declared.stop.Stop.TheVariants.{Memory};
 use crate::context::{Context, Globals};
 use crate::declare::{begin_expression, declared};
 use crate::frame::Frame;
-use crate::input::{name_at, sign_at};
+use crate::input::{name_at, terminal_at};
 use crate::lists::push_variable;
 use crate::memory::boxed;
 use crate::operand::Operand;
-use crate::sign::Sign;
 use crate::state::{Parsed, State};
 use crate::stop::Stop;
+use crate::terminal::Terminal;
 use ms_edge::{At, Boxed, Name};
 use ms_logic::{Decl, Expr};
 use ms_text::Tokens;
@@ -78,17 +78,17 @@ fn behind_global(
     globals: Globals,
     at_name: At,
     name: Name,
-    sign: Sign,
+    terminal: Terminal,
     i: u32,
 ) -> Result<(State, u32), Stop>
     ensures step { (file : ℕ) (lexed : Lexed) (bytes : List ℕ) →
-        Stepped file lexed (behind_global (read_of made.old) globals.at globals.order (variables_of globals.list) at_name name (symbol_with sign bytes) (behind file lexed i)) made.new stack.new.items result }
-    ensures fault { (file : ℕ) (lexed : Lexed) (bytes : List ℕ) → IfErr result (Says file lexed (behind_global_fault (symbol_with sign bytes) (behind file lexed (i - 1)) (behind file lexed i))) }
+        Stepped file lexed (behind_global (read_of made.old) globals.at globals.order (variables_of globals.list) at_name name (symbol_with terminal bytes) (behind file lexed i)) made.new stack.new.items result }
+    ensures fault { (file : ℕ) (lexed : Lexed) (bytes : List ℕ) → IfErr result (Says file lexed (behind_global_fault (symbol_with terminal bytes) (behind file lexed (i - 1)) (behind file lexed i))) }
 {
-    match sign {
-        Sign::Where => begin_expression(stack, Context::Global(globals, at_name, name), i),
-        Sign::Comma => another_global(globals, at_name, name, None, i),
-        Sign::Semicolon => last_global(made, globals, at_name, name, None, i),
+    match terminal {
+        Terminal::Where => begin_expression(stack, Context::Global(globals, at_name, name), i),
+        Terminal::Comma => another_global(globals, at_name, name, None, i),
+        Terminal::Semicolon => last_global(made, globals, at_name, name, None, i),
         _ => Err(Stop::Refused(i.saturating_sub(1))),
     }
 }
@@ -109,10 +109,10 @@ pub fn next_global(
     let Some((name, at_name)) = name_at(alloc, tokens, file, i)? else {
         return Err(Stop::Refused(i));
     };
-    let Some((sign, _)) = sign_at(tokens, file, i + 1) else {
+    let Some((terminal, _)) = terminal_at(tokens, file, i + 1) else {
         return Err(Stop::Refused(i + 1));
     };
-    behind_global(made, stack, globals, at_name, name, sign, i + 2)
+    behind_global(made, stack, globals, at_name, name, terminal, i + 2)
 }
 
 /// What ends the restriction of a variable that is declared.
@@ -123,18 +123,18 @@ pub fn end_global(
     at_name: At,
     name: Name,
     operand: Operand,
-    sign: Sign,
+    terminal: Terminal,
     i: u32,
 ) -> Result<(State, u32), Stop>
-    ensures step { (file : ℕ) (lexed : Lexed) (frames : List Frame) (bytes : List ℕ) (inside : Bool) → IsEnd inside (symbol_with sign bytes) →
-        Stepped file lexed (settle greatest_depth (in_global (read_of made.old) globals.at globals.order (variables_of globals.list) at_name name) (symbol_with sign bytes) inside (expression_of operand.expr, []) (behind file lexed i)) made.new frames result }
-    ensures fault { (file : ℕ) (lexed : Lexed) (bytes : List ℕ) (inside : Bool) → IsEnd inside (symbol_with sign bytes) → IfErr result (Says file lexed (settle_fault greatest_depth (in_global (read_of made.old) globals.at globals.order (variables_of globals.list) at_name name) (symbol_with sign bytes) inside ((expression_of operand.expr), []) (behind file lexed (i - 1)) (behind file lexed i))) }
+    ensures step { (file : ℕ) (lexed : Lexed) (frames : List Frame) (bytes : List ℕ) (inside : Bool) → IsEnd inside (symbol_with terminal bytes) →
+        Stepped file lexed (settle greatest_depth (in_global (read_of made.old) globals.at globals.order (variables_of globals.list) at_name name) (symbol_with terminal bytes) inside (expression_of operand.expr, []) (behind file lexed i)) made.new frames result }
+    ensures fault { (file : ℕ) (lexed : Lexed) (bytes : List ℕ) (inside : Bool) → IsEnd inside (symbol_with terminal bytes) → IfErr result (Says file lexed (settle_fault greatest_depth (in_global (read_of made.old) globals.at globals.order (variables_of globals.list) at_name name) (symbol_with terminal bytes) inside ((expression_of operand.expr), []) (behind file lexed (i - 1)) (behind file lexed i))) }
 {
     let Operand { expr, .. } = operand;
     let domain = boxed(alloc, expr)?;
-    match sign {
-        Sign::Comma => another_global(globals, at_name, name, Some(domain), i),
-        Sign::Semicolon => last_global(made, globals, at_name, name, Some(domain), i),
+    match terminal {
+        Terminal::Comma => another_global(globals, at_name, name, Some(domain), i),
+        Terminal::Semicolon => last_global(made, globals, at_name, name, Some(domain), i),
         _ => Err(Stop::Refused(i.saturating_sub(1))),
     }
 }

@@ -6,7 +6,7 @@ ghost use Rattle.ms_steps.specs.Machine as machine;
 ghost use Rattle.ms_steps.specs.Machine.{holding, in_default, in_formula, in_predicate, settle, step};
 ghost use Rattle.ms_steps.specs.Opened.{frame_of};
 ghost use Rattle.ms_steps.specs.Outcomes.{Took, Says};
-ghost use Rattle.ms_steps.specs.Signs.{behind, symbol_with};
+ghost use Rattle.ms_steps.specs.Terminals.{behind, symbol_with};
 ghost use Rattle.ms_steps.specs.Stack.{stack_of};
 ghost use Rattle.ms_steps.specs.States.{Stepped, context_of, read_of};
 ghost use Rattle.ms_steps.specs.declared.frame.Frame.{Frame};
@@ -18,29 +18,29 @@ use crate::bound::{bound, ends_part};
 use crate::context::{Context, Signature};
 use crate::declare::{declared, inside};
 use crate::frame::Frame;
-use crate::input::sign_at;
+use crate::input::terminal_at;
 use crate::join::join;
 use crate::operand::Operand;
 use crate::outcome::Outcome;
 use crate::row::row_of;
 use crate::settle::{shift, shift_int};
-use crate::sign::Sign;
 use crate::stack::{collapse, pop_frame};
 use crate::state::{Parsed, State};
 use crate::stop::Stop;
+use crate::terminal::Terminal;
 use ms_edge::{At, Name};
 use ms_logic::{Decl, Order};
 use ms_text::Tokens;
 use std::alloc::Global;
 
-fn is_operator(sign: Sign, is_end: bool) -> bool
-    ensures yes { (bytes : List ℕ) (inside : Bool) → is_end ≡ ends_part inside (symbol_with sign bytes) → IsTrue result → IsOperator inside (symbol_with sign bytes) }
-    ensures no { (bytes : List ℕ) (inside : Bool) → is_end ≡ ends_part inside (symbol_with sign bytes) → result ≡ false → IsEnd inside (symbol_with sign bytes) }
+fn is_operator(terminal: Terminal, is_end: bool) -> bool
+    ensures yes { (bytes : List ℕ) (inside : Bool) → is_end ≡ ends_part inside (symbol_with terminal bytes) → IsTrue result → IsOperator inside (symbol_with terminal bytes) }
+    ensures no { (bytes : List ℕ) (inside : Bool) → is_end ≡ ends_part inside (symbol_with terminal bytes) → result ≡ false → IsEnd inside (symbol_with terminal bytes) }
 {
-    match sign {
-        Sign::Infix(_) => !is_end,
-        Sign::Joining(_) => true,
-        Sign::Shift(_) => true,
+    match terminal {
+        Terminal::Infix(_) => !is_end,
+        Terminal::Joining(_) => true,
+        Terminal::Shift(_) => true,
         _ => false,
     }
 }
@@ -52,17 +52,17 @@ fn settle_operator(
     file: u32,
     stack: &mut Vec<Frame>,
     operand: Operand,
-    sign: Sign,
+    terminal: Terminal,
     i: u32,
 ) -> Result<(Outcome, u32), Stop>
-    ensures step { (c : machine.Context) (bytes : List ℕ) (inside : Bool) → IsOperator inside (symbol_with sign bytes) →
-        Took c file tokens.now (settle greatest_depth c (symbol_with sign bytes) inside (expression_of operand.expr, stack_of stack.old.items) (behind file tokens.now i)) stack.new.items result }
-    ensures fault { (c : machine.Context) (bytes : List ℕ) (inside : Bool) → IsOperator inside (symbol_with sign bytes) → IfErr result (Says file tokens.now (settle_fault greatest_depth c (symbol_with sign bytes) inside ((expression_of operand.expr), stack_of stack.old.items) (behind file tokens.now (i - 1)) (behind file tokens.now i))) }
+    ensures step { (c : machine.Context) (bytes : List ℕ) (inside : Bool) → IsOperator inside (symbol_with terminal bytes) →
+        Took c file tokens.now (settle greatest_depth c (symbol_with terminal bytes) inside (expression_of operand.expr, stack_of stack.old.items) (behind file tokens.now i)) stack.new.items result }
+    ensures fault { (c : machine.Context) (bytes : List ℕ) (inside : Bool) → IsOperator inside (symbol_with terminal bytes) → IfErr result (Says file tokens.now (settle_fault greatest_depth c (symbol_with terminal bytes) inside ((expression_of operand.expr), stack_of stack.old.items) (behind file tokens.now (i - 1)) (behind file tokens.now i))) }
 {
-    match sign {
-        Sign::Infix(op) => shift(stack, op, operand, i),
-        Sign::Joining(op) => join(alloc, stack, op, operand, i),
-        Sign::Shift(minus) => shift_int(alloc, tokens, file, stack, operand, minus, i),
+    match terminal {
+        Terminal::Infix(op) => shift(stack, op, operand, i),
+        Terminal::Joining(op) => join(alloc, stack, op, operand, i),
+        Terminal::Shift(minus) => shift_int(alloc, tokens, file, stack, operand, minus, i),
         _ => Err(Stop::Refused(i.saturating_sub(1))),
     }
 }
@@ -73,20 +73,20 @@ fn settle_frame(
     stack: &mut Vec<Frame>,
     frame: Frame,
     operand: Operand,
-    sign: Sign,
+    terminal: Terminal,
     i: u32,
 ) -> Result<(Outcome, u32), Stop>
-    ensures step { (c : machine.Context) (file : ℕ) (lexed : Lexed) (bytes : List ℕ) (inside : Bool) → IsEnd inside (symbol_with sign bytes) →
-        Took c file lexed (settle greatest_depth c (symbol_with sign bytes) inside (expression_of operand.expr, frame_of frame.opened ∷ stack_of stack.old.items) (behind file lexed i)) stack.new.items result }
-    ensures fault { (c : machine.Context) (file : ℕ) (lexed : Lexed) (bytes : List ℕ) (inside : Bool) → IsEnd inside (symbol_with sign bytes) → IfErr result (Says file lexed (settle_fault greatest_depth c (symbol_with sign bytes) inside ((expression_of operand.expr), frame_of frame.opened ∷ stack_of stack.old.items) (behind file lexed (i - 1)) (behind file lexed i))) }
+    ensures step { (c : machine.Context) (file : ℕ) (lexed : Lexed) (bytes : List ℕ) (inside : Bool) → IsEnd inside (symbol_with terminal bytes) →
+        Took c file lexed (settle greatest_depth c (symbol_with terminal bytes) inside (expression_of operand.expr, frame_of frame.opened ∷ stack_of stack.old.items) (behind file lexed i)) stack.new.items result }
+    ensures fault { (c : machine.Context) (file : ℕ) (lexed : Lexed) (bytes : List ℕ) (inside : Bool) → IsEnd inside (symbol_with terminal bytes) → IfErr result (Says file lexed (settle_fault greatest_depth c (symbol_with terminal bytes) inside ((expression_of operand.expr), frame_of frame.opened ∷ stack_of stack.old.items) (behind file lexed (i - 1)) (behind file lexed i))) }
 {
     let row = row_of(frame);
-    match sign {
-        Sign::CloseRound => row.close_round(alloc, operand, i),
-        Sign::CloseCurly => row.close_curly(operand, i),
-        Sign::Comma => row.comma(alloc, stack, operand, i),
-        Sign::Colon => row.colon(alloc, stack, operand, i),
-        Sign::Infix(_) => row.end_parts(stack, operand, i),
+    match terminal {
+        Terminal::CloseRound => row.close_round(alloc, operand, i),
+        Terminal::CloseCurly => row.close_curly(operand, i),
+        Terminal::Comma => row.comma(alloc, stack, operand, i),
+        Terminal::Colon => row.colon(alloc, stack, operand, i),
+        Terminal::Infix(_) => row.end_parts(stack, operand, i),
         _ => Err(Stop::Refused(i.saturating_sub(1))),
     }
 }
@@ -96,16 +96,16 @@ pub fn end_formula(
     made: &mut Parsed,
     at: At,
     operand: Operand,
-    sign: Sign,
+    terminal: Terminal,
     i: u32,
 ) -> Result<(State, u32), Stop>
-    ensures step { (file : ℕ) (lexed : Lexed) (frames : List Frame) (bytes : List ℕ) (inside : Bool) → IsEnd inside (symbol_with sign bytes) →
-        Stepped file lexed (settle greatest_depth (in_formula (read_of made.old) at) (symbol_with sign bytes) inside (expression_of operand.expr, []) (behind file lexed i)) made.new frames result }
-    ensures fault { (d : Document) (file : ℕ) (lexed : Lexed) (bytes : List ℕ) (inside : Bool) → IsEnd inside (symbol_with sign bytes) → IfErr result (Says file lexed (settle_fault greatest_depth (in_formula d at) (symbol_with sign bytes) inside ((expression_of operand.expr), []) (behind file lexed (i - 1)) (behind file lexed i))) }
+    ensures step { (file : ℕ) (lexed : Lexed) (frames : List Frame) (bytes : List ℕ) (inside : Bool) → IsEnd inside (symbol_with terminal bytes) →
+        Stepped file lexed (settle greatest_depth (in_formula (read_of made.old) at) (symbol_with terminal bytes) inside (expression_of operand.expr, []) (behind file lexed i)) made.new frames result }
+    ensures fault { (d : Document) (file : ℕ) (lexed : Lexed) (bytes : List ℕ) (inside : Bool) → IsEnd inside (symbol_with terminal bytes) → IfErr result (Says file lexed (settle_fault greatest_depth (in_formula d at) (symbol_with terminal bytes) inside ((expression_of operand.expr), []) (behind file lexed (i - 1)) (behind file lexed i))) }
 {
     let Operand { expr, .. } = operand;
-    match sign {
-        Sign::Semicolon => declared(made, at, Decl::Formula(expr), i),
+    match terminal {
+        Terminal::Semicolon => declared(made, at, Decl::Formula(expr), i),
         _ => Err(Stop::Refused(i.saturating_sub(1))),
     }
 }
@@ -115,12 +115,12 @@ pub fn end_predicate(
     made: &mut Parsed,
     signature: Signature,
     operand: Operand,
-    sign: Sign,
+    terminal: Terminal,
     i: u32,
 ) -> Result<(State, u32), Stop>
-    ensures step { (file : ℕ) (lexed : Lexed) (frames : List Frame) (bytes : List ℕ) (inside : Bool) → IsEnd inside (symbol_with sign bytes) →
-        Stepped file lexed (settle greatest_depth (in_predicate (read_of made.old) signature.at signature.is_pred signature.at_name signature.name (variables_of signature.parameters)) (symbol_with sign bytes) inside (expression_of operand.expr, []) (behind file lexed i)) made.new frames result }
-    ensures fault { (d : Document) (file : ℕ) (lexed : Lexed) (bytes : List ℕ) (inside : Bool) → IsEnd inside (symbol_with sign bytes) → IfErr result (Says file lexed (settle_fault greatest_depth (in_predicate d signature.at signature.is_pred signature.at_name signature.name (variables_of signature.parameters)) (symbol_with sign bytes) inside ((expression_of operand.expr), []) (behind file lexed (i - 1)) (behind file lexed i))) }
+    ensures step { (file : ℕ) (lexed : Lexed) (frames : List Frame) (bytes : List ℕ) (inside : Bool) → IsEnd inside (symbol_with terminal bytes) →
+        Stepped file lexed (settle greatest_depth (in_predicate (read_of made.old) signature.at signature.is_pred signature.at_name signature.name (variables_of signature.parameters)) (symbol_with terminal bytes) inside (expression_of operand.expr, []) (behind file lexed i)) made.new frames result }
+    ensures fault { (d : Document) (file : ℕ) (lexed : Lexed) (bytes : List ℕ) (inside : Bool) → IsEnd inside (symbol_with terminal bytes) → IfErr result (Says file lexed (settle_fault greatest_depth (in_predicate d signature.at signature.is_pred signature.at_name signature.name (variables_of signature.parameters)) (symbol_with terminal bytes) inside ((expression_of operand.expr), []) (behind file lexed (i - 1)) (behind file lexed i))) }
 {
     let Signature {
         at,
@@ -130,8 +130,8 @@ pub fn end_predicate(
         parameters,
     } = signature;
     let Operand { expr, .. } = operand;
-    match sign {
-        Sign::Semicolon => {
+    match terminal {
+        Terminal::Semicolon => {
             let decl = Decl::Pred(is_pred, at_name, name, parameters, expr);
             declared(made, at, decl, i)
         }
@@ -146,21 +146,21 @@ pub fn end_default(
     order: Order,
     name: Name,
     operand: Operand,
-    sign: Sign,
+    terminal: Terminal,
     i: u32,
 ) -> Result<(State, u32), Stop>
-    ensures step { (file : ℕ) (lexed : Lexed) (frames : List Frame) (bytes : List ℕ) (inside : Bool) → IsEnd inside (symbol_with sign bytes) →
-        Stepped file lexed (settle greatest_depth (in_default (read_of made.old) at order name) (symbol_with sign bytes) inside (expression_of operand.expr, []) (behind file lexed i)) made.new frames result }
-    ensures fault { (d : Document) (file : ℕ) (lexed : Lexed) (bytes : List ℕ) (inside : Bool) → IsEnd inside (symbol_with sign bytes) → IfErr result (Says file lexed (settle_fault greatest_depth (in_default d at order name) (symbol_with sign bytes) inside ((expression_of operand.expr), []) (behind file lexed (i - 1)) (behind file lexed i))) }
+    ensures step { (file : ℕ) (lexed : Lexed) (frames : List Frame) (bytes : List ℕ) (inside : Bool) → IsEnd inside (symbol_with terminal bytes) →
+        Stepped file lexed (settle greatest_depth (in_default (read_of made.old) at order name) (symbol_with terminal bytes) inside (expression_of operand.expr, []) (behind file lexed i)) made.new frames result }
+    ensures fault { (d : Document) (file : ℕ) (lexed : Lexed) (bytes : List ℕ) (inside : Bool) → IsEnd inside (symbol_with terminal bytes) → IfErr result (Says file lexed (settle_fault greatest_depth (in_default d at order name) (symbol_with terminal bytes) inside ((expression_of operand.expr), []) (behind file lexed (i - 1)) (behind file lexed i))) }
 {
     let Operand { expr, .. } = operand;
-    match sign {
-        Sign::Semicolon => declared(made, at, Decl::Default(order, name, expr), i),
+    match terminal {
+        Terminal::Semicolon => declared(made, at, Decl::Default(order, name, expr), i),
         _ => Err(Stop::Refused(i.saturating_sub(1))),
     }
 }
 
-/// A sign behind an expression, once the frames that end before it are completed.
+/// A terminal behind an expression, once the frames that end before it are completed.
 fn settle(
     alloc: Global,
     tokens: &Tokens,
@@ -169,21 +169,24 @@ fn settle(
     stack: &mut Vec<Frame>,
     context: Context,
     operand: Operand,
-    sign: Sign,
+    terminal: Terminal,
     is_end: bool,
     i: u32,
 ) -> Result<(State, u32), Stop>
-    ensures step { (bytes : List ℕ) (inside : Bool) → is_end ≡ ends_part inside (symbol_with sign bytes) →
-        Stepped file tokens.now (settle greatest_depth (context_of (read_of made.old) context) (symbol_with sign bytes) inside (expression_of operand.expr, stack_of stack.old.items) (behind file tokens.now i)) made.new stack.new.items result }
-    ensures fault { (bytes : List ℕ) (inside : Bool) → is_end ≡ ends_part inside (symbol_with sign bytes) → IfErr result (Says file tokens.now (settle_fault greatest_depth (context_of (read_of made.old) context) (symbol_with sign bytes) inside ((expression_of operand.expr), stack_of stack.old.items) (behind file tokens.now (i - 1)) (behind file tokens.now i))) }
+    ensures step { (bytes : List ℕ) (inside : Bool) → is_end ≡ ends_part inside (symbol_with terminal bytes) →
+        Stepped file tokens.now (settle greatest_depth (context_of (read_of made.old) context) (symbol_with terminal bytes) inside (expression_of operand.expr, stack_of stack.old.items) (behind file tokens.now i)) made.new stack.new.items result }
+    ensures fault { (bytes : List ℕ) (inside : Bool) → is_end ≡ ends_part inside (symbol_with terminal bytes) → IfErr result (Says file tokens.now (settle_fault greatest_depth (context_of (read_of made.old) context) (symbol_with terminal bytes) inside ((expression_of operand.expr), stack_of stack.old.items) (behind file tokens.now (i - 1)) (behind file tokens.now i))) }
 {
-    if is_operator(sign, is_end) {
-        let taken = settle_operator(alloc, tokens, file, stack, operand, sign, i);
+    if is_operator(terminal, is_end) {
+        let taken = settle_operator(alloc, tokens, file, stack, operand, terminal, i);
         return inside(context, taken);
     }
     match pop_frame(stack) {
-        Some(frame) => inside(context, settle_frame(alloc, stack, frame, operand, sign, i)),
-        None => context.end_expression(alloc, tokens, file, made, stack, operand, sign, i),
+        Some(frame) => inside(
+            context,
+            settle_frame(alloc, stack, frame, operand, terminal, i),
+        ),
+        None => context.end_expression(alloc, tokens, file, made, stack, operand, terminal, i),
     }
 }
 
@@ -201,11 +204,11 @@ pub fn go_on(
     ensures step { Stepped file tokens.now (step greatest_depth (holding (context_of (read_of made.old) context) (expression_of operand.expr) (stack_of stack.old.items)) (behind file tokens.now i)) made.new stack.new.items result }
     ensures fault { IfErr result (Says file tokens.now (step_fault greatest_depth (holding (context_of (read_of made.old) context) (expression_of operand.expr) (stack_of stack.old.items)) (behind file tokens.now i))) }
 {
-    let Some((sign, _)) = sign_at(tokens, file, i) else {
+    let Some((terminal, _)) = terminal_at(tokens, file, i) else {
         return Err(Stop::Refused(i));
     };
-    let is_end = ends_part(stack, sign);
-    let operand = collapse(alloc, stack, operand, bound(sign, is_end), i)?;
+    let is_end = ends_part(stack, terminal);
+    let operand = collapse(alloc, stack, operand, bound(terminal, is_end), i)?;
     settle(
         alloc,
         tokens,
@@ -214,7 +217,7 @@ pub fn go_on(
         stack,
         context,
         operand,
-        sign,
+        terminal,
         is_end,
         i + 1,
     )

@@ -4,10 +4,10 @@ ghost use Rattle.ms_grammar.specs.Symbol.{name, symbols};
 ghost use Rattle.ms_steps.specs.Headers.{IsNoString, IsNoWs1s};
 ghost use Rattle.ms_steps.specs.Machine.{start};
 ghost use Rattle.ms_steps.specs.Punctuations.{IsNot};
-ghost use Rattle.ms_steps.specs.Signs.{behind, IsNext};
+ghost use Rattle.ms_steps.specs.Terminals.{behind, IsNext};
 ghost use Rattle.ms_steps.specs.States.{read_of};
 
-use crate::input::{at_of, is_name, sign_at};
+use crate::input::{at_of, is_name, terminal_at};
 use crate::punctuation::{Punctuation, behind_mark};
 use crate::state::Parsed;
 use ms_edge::At;
@@ -39,7 +39,7 @@ fn ws1s_header(tokens: &Tokens, file: u32) -> Option<(At, u32)>
     ensures some { IfSome result (λ found. start (symbols file tokens.now) ≡ (record { header = Some (found.0, Ws1s); declarations = [] }, behind file tokens.now found.1)) }
     ensures none { IfNone result (IsNoWs1s (symbols file tokens.now)) }
 {
-    let (_, at) = sign_at(tokens, file, 0)?;
+    let (_, at) = terminal_at(tokens, file, 0)?;
     let end = behind_mark(tokens, file, 0, Punctuation::Ws1s)?;
     let next = behind_mark(tokens, file, end, Punctuation::Semicolon)?;
     Some((at, next))

@@ -1,8 +1,8 @@
 ghost use Rattle.std.specs.Prelude.{◌≡◌, ◌<◌, ◌↔◌, ℕ, List, [], length, IfSome, IfNone, IfOk, IsTrue};
-ghost use Rattle.ms_steps.specs.Signs.{symbol_with, behind, IsNext, NoName, NoText};
+ghost use Rattle.ms_steps.specs.Terminals.{symbol_with, behind, IsNext, NoName, NoText};
 ghost use Rattle.ms_grammar.specs.Symbol.{name, text, between_quotes};
 
-use crate::sign::{Sign, sign_of};
+use crate::terminal::{Terminal, terminal_of};
 use ms_edge::{At, Name, NoMemory, Text};
 use ms_text::{Kind, Tokens};
 use std::alloc::Global;
@@ -14,15 +14,15 @@ pub fn at_of(file: u32, place: u64) -> At
     At { file, place }
 }
 
-/// The sign and the place of the token with a number, where there is one.
-pub fn sign_at(tokens: &Tokens, file: u32, i: u32) -> Option<(Sign, At)>
+/// The terminal and the place of the token with a number, where there is one.
+pub fn terminal_at(tokens: &Tokens, file: u32, i: u32) -> Option<(Terminal, At)>
     ensures next { IfSome result (λ found. (bytes : List ℕ) × IsNext file tokens.now i (symbol_with found.0 bytes) found.1) }
     ensures within { IfSome result (λ found. i < 67108864) }
     ensures end { IfNone result (behind file tokens.now i ≡ []) }
 {
     if i < tokens.len() {
         let token = tokens.get(i);
-        Some((sign_of(token.kind), at_of(file, token.place)))
+        Some((terminal_of(token.kind), at_of(file, token.place)))
     } else {
         None
     }

@@ -1,9 +1,9 @@
 ghost use Rattle.std.specs.Prelude.{◌≡◌, true, IfOk, IfSome, IfNone};
 ghost use Rattle.ms_grammar.specs.Reads.{int_symbol, Starts};
-ghost use Rattle.ms_steps.specs.Signs.{behind, NoInt};
+ghost use Rattle.ms_steps.specs.Terminals.{behind, NoInt};
 
-use crate::input::{name_at, sign_at};
-use crate::sign::Sign;
+use crate::input::{name_at, terminal_at};
+use crate::terminal::Terminal;
 use ms_edge::NoMemory;
 use ms_logic::{Int, PlacedInt};
 use ms_text::Tokens;
@@ -21,7 +21,7 @@ pub fn int_at(
     ensures minus { IfOk result (λ found. IfSome found (λ one. one.0.minus ≡ minus)) }
     ensures other { IfOk result (λ found. IfNone found (NoInt (behind file tokens.now i))) }
 {
-    if let Some((Sign::Number(number), at)) = sign_at(tokens, file, i) {
+    if let Some((Terminal::Number(number), at)) = terminal_at(tokens, file, i) {
         let value = Int::Number(number);
         return Ok(Some((PlacedInt { at, value, minus }, i + 1)));
     }

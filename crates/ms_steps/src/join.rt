@@ -6,7 +6,7 @@ ghost use Rattle.ms_steps.specs.Links.{IsLink};
 ghost use Rattle.ms_steps.specs.Machine.{Context, enter, join, joined_frame};
 ghost use Rattle.ms_steps.specs.Opened.{frame_of};
 ghost use Rattle.ms_steps.specs.Outcomes.{Took, Says};
-ghost use Rattle.ms_steps.specs.Signs.{behind};
+ghost use Rattle.ms_steps.specs.Terminals.{behind};
 ghost use Rattle.ms_steps.specs.Stack.{stack_of};
 ghost use Rattle.ms_grammar.specs.Grammar.{greatest_depth, depth_of_all};
 ghost use Rattle.ms_steps.specs.Faults.{deep_at, enter_fault, join_fault};

@@ -32,10 +32,10 @@ mod row;
 mod run;
 mod separate;
 mod settle;
-mod sign;
 mod stack;
 mod state;
 mod stop;
+mod terminal;
 mod top;
 
 pub use input::at_of;

@@ -3,7 +3,7 @@ ghost use Rattle.ms_steps.specs.Machine.{Context, behind_variable, next_variable
 ghost use Rattle.ms_steps.specs.Outcomes.{Took, Says};
 ghost use Rattle.ms_steps.specs.Pairs.{IsPair, NoPair};
 ghost use Rattle.ms_steps.specs.declared.stop.Stop.TheVariants.{Memory};
-ghost use Rattle.ms_steps.specs.Signs.{symbol_with, behind};
+ghost use Rattle.ms_steps.specs.Terminals.{symbol_with, behind};
 ghost use Rattle.ms_steps.specs.Stack.{stack_of};
 ghost use Rattle.ms_grammar.specs.View.{variables_of, parts_of};
 ghost use Rattle.ms_text.specs.TokenList.{Lexed};
@@ -13,15 +13,15 @@ ghost use Rattle.ms_steps.specs.Faults.{behind_variable_fault, next_pair_fault, 
 use crate::complete::finish;
 use crate::enter::enter;
 use crate::frame::Frame;
-use crate::input::{name_at, sign_at};
+use crate::input::{name_at, terminal_at};
 use crate::lists::push_variable;
 use crate::memory::push;
 use crate::opened::Opened;
 use crate::operand::{Bounds, Parts};
 use crate::outcome::Outcome;
 use crate::punctuation::{Punctuation, behind_mark};
-use crate::sign::Sign;
 use crate::stop::Stop;
+use crate::terminal::Terminal;
 use ms_edge::{At, List, Name, Text};
 use ms_logic::{Form, Order, Quant, Rename};
 use ms_text::Tokens;
@@ -116,16 +116,16 @@ fn behind_variable(
     bounds: Bounds,
     at_name: At,
     name: Name,
-    sign: Sign,
+    terminal: Terminal,
     i: u32,
 ) -> Result<(Outcome, u32), Stop>
     ensures step { (c : Context) (file : ℕ) (lexed : Lexed) (bytes : List ℕ) →
-        Took c file lexed (behind_variable greatest_depth c (stack_of stack.old.items) at quant order (variables_of bounds.list) at_name name (symbol_with sign bytes) (behind file lexed i)) stack.new.items result }
-    ensures fault { (file : ℕ) (lexed : Lexed) (bytes : List ℕ) → IfErr result (Says file lexed (behind_variable_fault greatest_depth (stack_of stack.old.items) (variables_of bounds.list) (symbol_with sign bytes) (behind file lexed (i - 1)) (behind file lexed i))) }
+        Took c file lexed (behind_variable greatest_depth c (stack_of stack.old.items) at quant order (variables_of bounds.list) at_name name (symbol_with terminal bytes) (behind file lexed i)) stack.new.items result }
+    ensures fault { (file : ℕ) (lexed : Lexed) (bytes : List ℕ) → IfErr result (Says file lexed (behind_variable_fault greatest_depth (stack_of stack.old.items) (variables_of bounds.list) (symbol_with terminal bytes) (behind file lexed (i - 1)) (behind file lexed i))) }
 {
     let Bounds { mut list, height } = bounds;
-    match sign {
-        Sign::Where => {
+    match terminal {
+        Terminal::Where => {
             let opened = Opened::Domain(at, quant, order, list, at_name, name);
             enter(
                 stack,
@@ -134,14 +134,14 @@ fn behind_variable(
                 Stop::TooDeep(i.saturating_sub(1)),
             )
         }
-        Sign::Comma => {
+        Terminal::Comma => {
             push_variable(&mut list, at_name, order, name, None)?;
             Ok((
                 Outcome::Variable(at, quant, order, Bounds { list, height }),
                 i,
             ))
         }
-        Sign::Colon => {
+        Terminal::Colon => {
             push_variable(&mut list, at_name, order, name, None)?;
             let opened = Opened::Body(at, quant, order, list);
             enter(
@@ -174,8 +174,18 @@ pub fn next_variable(
     let Some((name, at_name)) = name_at(alloc, tokens, file, i)? else {
         return Err(Stop::Refused(i));
     };
-    let Some((sign, _)) = sign_at(tokens, file, i + 1) else {
+    let Some((terminal, _)) = terminal_at(tokens, file, i + 1) else {
         return Err(Stop::Refused(i + 1));
     };
-    behind_variable(stack, at, quant, order, bounds, at_name, name, sign, i + 2)
+    behind_variable(
+        stack,
+        at,
+        quant,
+        order,
+        bounds,
+        at_name,
+        name,
+        terminal,
+        i + 2,
+    )
 }

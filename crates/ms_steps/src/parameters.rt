@@ -5,7 +5,7 @@ ghost use Rattle.ms_grammar.specs.View.{domain_of, expression_of, variables_of};
 ghost use Rattle.ms_steps.specs.Ends.{IsEnd};
 ghost use Rattle.ms_steps.specs.Kinds.{last_order, IsKind, NoKind};
 ghost use Rattle.ms_steps.specs.Machine.{behind_parameter, body_of, in_parameter, next_parameter, parameter_wanted, settle};
-ghost use Rattle.ms_steps.specs.Signs.{behind, symbol_with};
+ghost use Rattle.ms_steps.specs.Terminals.{behind, symbol_with};
 ghost use Rattle.ms_steps.specs.States.{Stepped, read_of};
 ghost use Rattle.ms_steps.specs.declared.frame.Frame.{Frame};
 ghost use Rattle.ms_steps.specs.declared.state.Parsed.{Parsed};
@@ -17,14 +17,14 @@ ghost use Rattle.ms_steps.specs.declared.stop.Stop.TheVariants.{Memory};
 use crate::context::{Context, Signature};
 use crate::declare::begin_expression;
 use crate::frame::Frame;
-use crate::input::{name_at, sign_at};
+use crate::input::{name_at, terminal_at};
 use crate::lists::push_variable;
 use crate::memory::boxed;
 use crate::operand::Operand;
 use crate::punctuation::{Punctuation, behind_mark};
-use crate::sign::Sign;
 use crate::state::State;
 use crate::stop::Stop;
+use crate::terminal::Terminal;
 use ms_edge::{At, Boxed, List, Name};
 use ms_logic::{Bound, Expr, Order};
 use ms_text::Tokens;
@@ -96,23 +96,23 @@ fn behind_parameter(
     order: Order,
     at_name: At,
     name: Name,
-    sign: Sign,
+    terminal: Terminal,
     i: u32,
 ) -> Result<(State, u32), Stop>
     ensures step { (made : Parsed) (bytes : List ℕ) →
-        Stepped file tokens.now (behind_parameter (read_of made) signature.at signature.is_pred signature.at_name signature.name (variables_of signature.parameters) order at_name name (symbol_with sign bytes) (behind file tokens.now i)) made stack.new.items result }
-    ensures fault { (bytes : List ℕ) → IfErr result (Says file tokens.now (behind_parameter_fault (symbol_with sign bytes) (behind file tokens.now (i - 1)) (behind file tokens.now i))) }
+        Stepped file tokens.now (behind_parameter (read_of made) signature.at signature.is_pred signature.at_name signature.name (variables_of signature.parameters) order at_name name (symbol_with terminal bytes) (behind file tokens.now i)) made stack.new.items result }
+    ensures fault { (bytes : List ℕ) → IfErr result (Says file tokens.now (behind_parameter_fault (symbol_with terminal bytes) (behind file tokens.now (i - 1)) (behind file tokens.now i))) }
 {
-    match sign {
-        Sign::Where => {
+    match terminal {
+        Terminal::Where => {
             begin_expression(
                 stack,
                 Context::Parameter(signature, order, at_name, name),
                 i,
             )
         }
-        Sign::Comma => another_parameter(signature, order, at_name, name, None, i),
-        Sign::CloseRound => {
+        Terminal::Comma => another_parameter(signature, order, at_name, name, None, i),
+        Terminal::CloseRound => {
             last_parameter(
                 tokens, file, stack, signature, order, at_name, name, None, i,
             )
@@ -136,7 +136,7 @@ fn kind_at(tokens: &Tokens, file: u32, parameters: &List<Bound>, i: u32) -> Opti
     ensures some { IfSome result (λ found. IsKind (variables_of parameters.now) found.0 (behind file tokens.now i) (behind file tokens.now found.1)) }
     ensures none { IfNone result (NoKind (variables_of parameters.now) (behind file tokens.now i)) }
 {
-    if let Some((Sign::Variables(order), _)) = sign_at(tokens, file, i) {
+    if let Some((Terminal::Variables(order), _)) = terminal_at(tokens, file, i) {
         return Some((order, i + 1));
     }
     match last_order(parameters) {
@@ -164,7 +164,7 @@ pub fn next_parameter(
     let Some((name, at_name)) = name_at(alloc, tokens, file, from)? else {
         return Err(Stop::Refused(from));
     };
-    let Some((sign, _)) = sign_at(tokens, file, from + 1) else {
+    let Some((terminal, _)) = terminal_at(tokens, file, from + 1) else {
         return Err(Stop::Refused(from + 1));
     };
     behind_parameter(
@@ -175,7 +175,7 @@ pub fn next_parameter(
         order,
         at_name,
         name,
-        sign,
+        terminal,
         from + 2,
     )
 }
@@ -191,18 +191,18 @@ pub fn end_parameter(
     at_name: At,
     name: Name,
     operand: Operand,
-    sign: Sign,
+    terminal: Terminal,
     i: u32,
 ) -> Result<(State, u32), Stop>
-    ensures step { (made : Parsed) (bytes : List ℕ) (inside : Bool) → IsEnd inside (symbol_with sign bytes) →
-        Stepped file tokens.now (settle greatest_depth (in_parameter (read_of made) signature.at signature.is_pred signature.at_name signature.name (variables_of signature.parameters) order at_name name) (symbol_with sign bytes) inside (expression_of operand.expr, []) (behind file tokens.now i)) made stack.new.items result }
-    ensures fault { (made : Parsed) (bytes : List ℕ) (inside : Bool) → IsEnd inside (symbol_with sign bytes) → IfErr result (Says file tokens.now (settle_fault greatest_depth (in_parameter (read_of made) signature.at signature.is_pred signature.at_name signature.name (variables_of signature.parameters) order at_name name) (symbol_with sign bytes) inside ((expression_of operand.expr), []) (behind file tokens.now (i - 1)) (behind file tokens.now i))) }
+    ensures step { (made : Parsed) (bytes : List ℕ) (inside : Bool) → IsEnd inside (symbol_with terminal bytes) →
+        Stepped file tokens.now (settle greatest_depth (in_parameter (read_of made) signature.at signature.is_pred signature.at_name signature.name (variables_of signature.parameters) order at_name name) (symbol_with terminal bytes) inside (expression_of operand.expr, []) (behind file tokens.now i)) made stack.new.items result }
+    ensures fault { (made : Parsed) (bytes : List ℕ) (inside : Bool) → IsEnd inside (symbol_with terminal bytes) → IfErr result (Says file tokens.now (settle_fault greatest_depth (in_parameter (read_of made) signature.at signature.is_pred signature.at_name signature.name (variables_of signature.parameters) order at_name name) (symbol_with terminal bytes) inside ((expression_of operand.expr), []) (behind file tokens.now (i - 1)) (behind file tokens.now i))) }
 {
     let Operand { expr, .. } = operand;
     let domain = boxed(alloc, expr)?;
-    match sign {
-        Sign::Comma => another_parameter(signature, order, at_name, name, Some(domain), i),
-        Sign::CloseRound => last_parameter(
+    match terminal {
+        Terminal::Comma => another_parameter(signature, order, at_name, name, Some(domain), i),
+        Terminal::CloseRound => last_parameter(
             tokens,
             file,
             stack,

@@ -1,10 +1,10 @@
 ghost use Rattle.std.specs.Prelude.{◌≡◌, ◌≢◌, ℕ, List, false, IsTrue, IfSome, IfNone};
 ghost use Rattle.ms_steps.specs.Punctuations.{punctuation, IsNot};
 ghost use Rattle.ms_grammar.specs.Reads.{Follows};
-ghost use Rattle.ms_steps.specs.Signs.{symbol_with, behind};
+ghost use Rattle.ms_steps.specs.Terminals.{symbol_with, behind};
 
-use crate::input::sign_at;
-use crate::sign::Sign;
+use crate::input::terminal_at;
+use crate::terminal::Terminal;
 use ms_grammar::Binary;
 use ms_logic::Rel;
 use ms_text::Tokens;
@@ -23,20 +23,20 @@ pub enum Punctuation {
     Ws1s,
 }
 
-fn is_punctuation(sign: Sign, mark: Punctuation) -> bool
-    ensures yes { (bytes : List ℕ) → IsTrue result → symbol_with sign bytes ≡ punctuation mark }
-    ensures no { (bytes : List ℕ) → result ≡ false → symbol_with sign bytes ≢ punctuation mark }
+fn is_punctuation(terminal: Terminal, mark: Punctuation) -> bool
+    ensures yes { (bytes : List ℕ) → IsTrue result → symbol_with terminal bytes ≡ punctuation mark }
+    ensures no { (bytes : List ℕ) → result ≡ false → symbol_with terminal bytes ≢ punctuation mark }
 {
     match mark {
-        Punctuation::OpenRound => matches!(sign, Sign::OpenRound),
-        Punctuation::CloseRound => matches!(sign, Sign::CloseRound),
-        Punctuation::CloseCurly => matches!(sign, Sign::CloseCurly),
-        Punctuation::Comma => matches!(sign, Sign::Comma),
-        Punctuation::Semicolon => matches!(sign, Sign::Semicolon),
-        Punctuation::Arrow => matches!(sign, Sign::Arrow),
-        Punctuation::Equal => matches!(sign, Sign::Infix(Binary::Relation(Rel::Equal))),
-        Punctuation::Minus => matches!(sign, Sign::Shift(true)),
-        Punctuation::Ws1s => matches!(sign, Sign::Ws1s),
+        Punctuation::OpenRound => matches!(terminal, Terminal::OpenRound),
+        Punctuation::CloseRound => matches!(terminal, Terminal::CloseRound),
+        Punctuation::CloseCurly => matches!(terminal, Terminal::CloseCurly),
+        Punctuation::Comma => matches!(terminal, Terminal::Comma),
+        Punctuation::Semicolon => matches!(terminal, Terminal::Semicolon),
+        Punctuation::Arrow => matches!(terminal, Terminal::Arrow),
+        Punctuation::Equal => matches!(terminal, Terminal::Infix(Binary::Relation(Rel::Equal))),
+        Punctuation::Minus => matches!(terminal, Terminal::Shift(true)),
+        Punctuation::Ws1s => matches!(terminal, Terminal::Ws1s),
     }
 }
 
@@ -45,9 +45,9 @@ pub fn behind_mark(tokens: &Tokens, file: u32, i: u32, mark: Punctuation) -> Opt
     ensures some { IfSome result (λ next. Follows (punctuation mark) (behind file tokens.now i) (behind file tokens.now next)) }
     ensures none { IfNone result (IsNot (punctuation mark) (behind file tokens.now i)) }
 {
-    match sign_at(tokens, file, i) {
-        Some((sign, _)) => {
-            if is_punctuation(sign, mark) {
+    match terminal_at(tokens, file, i) {
+        Some((terminal, _)) => {
+            if is_punctuation(terminal, mark) {
                 Some(i + 1)
             } else {
                 None

@@ -8,7 +8,7 @@ ghost use Rattle.ms_steps.specs.Machine.{Context, close_curly_at, close_round_at
 ghost use Rattle.ms_steps.specs.Opened.{frame_of};
 ghost use Rattle.ms_steps.specs.Outcomes.{Took, Says};
 ghost use Rattle.ms_steps.specs.Rows.{IsRow};
-ghost use Rattle.ms_steps.specs.Signs.{behind};
+ghost use Rattle.ms_steps.specs.Terminals.{behind};
 ghost use Rattle.ms_steps.specs.Stack.{stack_of};
 ghost use Rattle.ms_steps.specs.declared.frame.Frame.{Frame};
 

@@ -5,7 +5,7 @@ ghost use Rattle.ms_steps.specs.Machine as machine;
 ghost use Rattle.ms_steps.specs.Machine.{finished};
 ghost use Rattle.ms_steps.specs.Outcomes.{outcome_of, Says};
 ghost use Rattle.ms_steps.specs.Stops.{StopsAt};
-ghost use Rattle.ms_steps.specs.Signs.{behind};
+ghost use Rattle.ms_steps.specs.Terminals.{behind};
 ghost use Rattle.ms_steps.specs.Stack.{stack_of};
 ghost use Rattle.ms_steps.specs.States.{Stepped, context_of, read_of, source_of, state_of};
 ghost use Rattle.ms_grammar.specs.Grammar.{greatest_depth};
@@ -19,7 +19,7 @@ use crate::frame::Frame;
 use crate::globals::next_global;
 use crate::go_on::go_on;
 use crate::header::start;
-use crate::input::sign_at;
+use crate::input::terminal_at;
 use crate::names::{next_pair, next_part, next_variable};
 use crate::outcome::Outcome;
 use crate::parameters::next_parameter;
@@ -95,7 +95,7 @@ fn is_finished(state: &State, tokens: &Tokens, file: u32, i: u32) -> bool
     ensures no { (d : Document) (st : List machine.Frame) → result ≡ false → finished (state_of d st state.now) (behind file tokens.now i) ≡ None }
 {
     match state {
-        State::Outside => sign_at(tokens, file, i).is_none(),
+        State::Outside => terminal_at(tokens, file, i).is_none(),
         State::Expression(..) => false,
         State::Global(_) => false,
         State::Parameter(_) => false,

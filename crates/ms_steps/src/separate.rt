@@ -2,7 +2,7 @@ ghost use Rattle.std.specs.Prelude.{◌≡◌, ℕ, List, Some, IfErr, ◌-◌};
 ghost use Rattle.ms_text.specs.TokenList.{Lexed};
 ghost use Rattle.ms_steps.specs.Machine.{Context, list_frame, body_frame, let_frame, variable_wanted, part_wanted, enter};
 ghost use Rattle.ms_steps.specs.Outcomes.{Took, Says};
-ghost use Rattle.ms_steps.specs.Signs.{behind};
+ghost use Rattle.ms_steps.specs.Terminals.{behind};
 ghost use Rattle.ms_steps.specs.Stack.{stack_of};
 ghost use Rattle.ms_grammar.specs.Tree.{and_expression, and_variable, and_part, restricted};
 ghost use Rattle.ms_grammar.specs.View.{expression_of, expressions_of, variables_of, parts_of};

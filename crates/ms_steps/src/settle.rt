@@ -4,7 +4,7 @@ ghost use Rattle.ms_grammar.specs.Grammar.{level, depth, greatest_depth};
 ghost use Rattle.ms_steps.specs.Machine.{Context, shift, join_new, shift_by, shift_int};
 ghost use Rattle.ms_steps.specs.Outcomes.{Took, Says};
 ghost use Rattle.ms_grammar.specs.Reads.{int_symbol, Starts};
-ghost use Rattle.ms_steps.specs.Signs.{behind};
+ghost use Rattle.ms_steps.specs.Terminals.{behind};
 ghost use Rattle.ms_steps.specs.Stack.{stack_of};
 ghost use Rattle.ms_grammar.specs.View.{expression_of};
 ghost use Rattle.ms_steps.specs.Faults.{join_new_fault, shift_fault, shift_int_fault};

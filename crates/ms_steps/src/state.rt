@@ -21,6 +21,6 @@ pub enum State {
     Global(Globals),
     /// A parameter is wanted.
     Parameter(Signature),
-    /// A sign or the end is wanted behind a constant's numbers.
+    /// A terminal or the end is wanted behind a constant's numbers.
     Summand(At, At, Name, List<PlacedInt>),
 }

@@ -1,5 +1,5 @@
 use Rattle.ms_steps.specs.Machine.{bracket_frame, enter, begin_empty}
-use Rattle.ms_steps.specs.Signs.{behind}
+use Rattle.ms_steps.specs.Terminals.{behind}
 use Rattle.ms_steps.specs.Stack.{stack_of}
 use Rattle.ms_grammar.specs.declared.operator.Bracket.TheVariants.{Emptiness}
 use Rattle.ms_steps.proofs.Begins.{as_taken, empty_entered}

@@ -1,6 +1,6 @@
 use Rattle.std.proofs.Common.{rules, ◌≡◌, ◌≤◌, ◌+◌, suc, length, ap, ◌∙◌, subst, arith, refl, sym, ◌-◌}
 use Rattle.ms_steps.specs.Machine.{bracket_frame, enter, begin_export, with_room}
-use Rattle.ms_steps.specs.Signs.{behind, IsNext, NoText}
+use Rattle.ms_steps.specs.Terminals.{behind, IsNext, NoText}
 use Rattle.ms_steps.specs.Stack.{stack_of}
 use Rattle.ms_grammar.specs.Symbol.{text, comma}
 use Rattle.ms_grammar.specs.declared.operator.Bracket.TheVariants.{Export}

@@ -1,6 +1,6 @@
 use Rattle.std.proofs.Common.{ap, sym, ◌∙◌}
 use Rattle.ms_steps.specs.Machine.{list_frame, enter, begin_literal}
-use Rattle.ms_steps.specs.Signs.{behind}
+use Rattle.ms_steps.specs.Terminals.{behind}
 use Rattle.ms_steps.specs.Stack.{stack_of}
 use Rattle.ms_grammar.specs.declared.operator.Listing.TheVariants.{Literal}
 use Rattle.ms_grammar.specs.View.{expressions_of}

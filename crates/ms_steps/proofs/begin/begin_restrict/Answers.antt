@@ -1,6 +1,6 @@
 use Rattle.std.proofs.Common.{rules, ◌≤◌, suc, length, ◌∙◌, subst, refl, sym, arith, ◌-◌}
 use Rattle.ms_steps.specs.Machine.{bracket_frame, enter, begin_restrict, with_room}
-use Rattle.ms_steps.specs.Signs.{behind}
+use Rattle.ms_steps.specs.Terminals.{behind}
 use Rattle.ms_steps.specs.Stack.{stack_of}
 use Rattle.ms_grammar.specs.Grammar.{greatest_depth}
 use Rattle.ms_grammar.specs.declared.operator.Bracket.TheVariants.{Restriction}

@@ -3,7 +3,7 @@ use Rattle.ms_grammar.specs.Reads.{int_symbol, Starts}
 use Rattle.ms_grammar.specs.Symbol.{name, infix_operator}
 use Rattle.ms_logic.specs.declared.mode.Rel.TheVariants.{Equal}
 use Rattle.ms_grammar.specs.declared.operator.Binary.TheVariants.{Relation}
-use Rattle.ms_steps.specs.Signs.{behind, IsNext, NoInt, NoName}
+use Rattle.ms_steps.specs.Terminals.{behind, IsNext, NoInt, NoName}
 use Rattle.ms_steps.specs.States.{read_of}
 use Rattle.ms_steps.proofs.Declaring.{constant_read, constant_without}
 use Rattle.ms_steps.specs.Faults.{mark_then, int_then, accepted, refused_at}

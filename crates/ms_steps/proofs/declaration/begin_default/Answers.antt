@@ -3,7 +3,7 @@ use Rattle.ms_grammar.specs.Symbol.{name, infix_operator, close_round}
 use Rattle.ms_steps.specs.Machine.{begin_default, in_default, wanted}
 use Rattle.ms_logic.specs.declared.mode.Rel.TheVariants.{Equal}
 use Rattle.ms_grammar.specs.declared.operator.Binary.TheVariants.{Relation}
-use Rattle.ms_steps.specs.Signs.{behind, IsNext, NoName}
+use Rattle.ms_steps.specs.Terminals.{behind, IsNext, NoName}
 use Rattle.ms_steps.specs.States.{read_of}
 use Rattle.ms_steps.proofs.Declaring.{default_read, default_open, default_endless}
 use Rattle.ms_steps.proofs.Stepping.{as_stepped}

@@ -1,6 +1,6 @@
 use Rattle.std.proofs.Common.{[], ap, sym}
 use Rattle.ms_steps.specs.Machine.{in_formula, step, wanted}
-use Rattle.ms_steps.specs.Signs.{behind}
+use Rattle.ms_steps.specs.Terminals.{behind}
 use Rattle.ms_steps.specs.Stack.{stack_of}
 use Rattle.ms_steps.specs.States.{read_of}
 use Rattle.ms_steps.proofs.Stepping.{as_stepped}

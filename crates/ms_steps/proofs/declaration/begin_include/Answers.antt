@@ -2,7 +2,7 @@ use Rattle.std.proofs.Common.{rules, ◌≡◌, ◌+◌, Some, suc, ap, arith, �
 use Rattle.ms_grammar.specs.Symbol.{text, semicolon}
 use Rattle.ms_grammar.specs.Tree.{included}
 use Rattle.ms_steps.specs.Machine.{begin_include, declare, outside}
-use Rattle.ms_steps.specs.Signs.{behind, IsNext, NoText}
+use Rattle.ms_steps.specs.Terminals.{behind, IsNext, NoText}
 use Rattle.ms_steps.specs.States.{read_of}
 use Rattle.ms_steps.proofs.Declaring.{include_read}
 use Rattle.ms_steps.proofs.Stepping.{as_stepped}

@@ -1,7 +1,7 @@
 use Rattle.std.proofs.Common.{rules, ◌≡◌, ◌+◌, suc, ap, ◌∷◌, arith}
 use Rattle.ms_grammar.specs.Symbol.{name, placed}
 use Rattle.ms_steps.specs.Machine.{begin_predicate}
-use Rattle.ms_steps.specs.Signs.{behind, IsNext, NoName}
+use Rattle.ms_steps.specs.Terminals.{behind, IsNext, NoName}
 use Rattle.ms_steps.specs.States.{read_of}
 use Rattle.ms_steps.proofs.Declaring.{predicate_named}
 use Rattle.ms_steps.proofs.Stepping.{as_stepped}

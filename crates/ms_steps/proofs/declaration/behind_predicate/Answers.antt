@@ -2,7 +2,7 @@ use Rattle.std.proofs.Common.{Some, ap, ◌∷◌, [], ◌∙◌}
 use Rattle.ms_grammar.specs.Symbol.{name, placed, close_round, open_round}
 use Rattle.ms_grammar.specs.View.{variables_of}
 use Rattle.ms_steps.specs.Machine.{begin_predicate, body_of, in_predicate, wanted}
-use Rattle.ms_steps.specs.Signs.{behind}
+use Rattle.ms_steps.specs.Terminals.{behind}
 use Rattle.ms_steps.specs.States.{read_of}
 use Rattle.ms_steps.proofs.Declaring.{predicate_equal, predicate_closed, predicate_opened, predicate_without}
 use Rattle.ms_steps.proofs.Stepping.{as_stepped}

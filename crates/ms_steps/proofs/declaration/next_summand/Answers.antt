@@ -2,12 +2,12 @@ use Rattle.std.proofs.Common.{rules, ◌≡◌, ◌+◌, ℕ, List, true, suc, a
 use Rattle.ms_grammar.specs.Reads.{int_symbol, Starts}
 use Rattle.ms_grammar.specs.Symbol.{placed, semicolon, sign}
 use Rattle.ms_steps.specs.Machine.{next_summand}
-use Rattle.ms_steps.specs.Signs.{behind, symbol_with, IsNext, NoInt}
+use Rattle.ms_steps.specs.Terminals.{behind, symbol_with, IsNext, NoInt}
 use Rattle.ms_steps.specs.States.{read_of}
 use Rattle.ms_steps.proofs.Declaring.{summand_read, summand_without, summands_end}
 use Rattle.ms_steps.proofs.Stepping.{as_stepped}
 use Rattle.ms_steps.specs.Faults.{accepted, summand_fault, next_summand_fault}
-use Rattle.ms_steps.proofs.Faulting.{only_memory, int_missing, sign_found, sign_missing}
+use Rattle.ms_steps.proofs.Faulting.{only_memory, int_missing, terminal_found, terminal_missing}
 use Rattle.ms_steps.proofs.declaration.next_summand.Goals as goal
 
 pub returns-in-Semicolon-clause-step : goal.returns-in-Semicolon-clause-step
@@ -16,7 +16,7 @@ returns-in-Semicolon-clause-step c frames =
     let lexed = c.args.tokens.now in
     let i = c.args.i in
     let d = read_of c.args.made.now in
-    let next : (bytes : List ℕ) × IsNext file lexed i (symbol_with c.in-Some.sign bytes) c.in-Some.field-0-1 = search rules in
+    let next : (bytes : List ℕ) × IsNext file lexed i (symbol_with c.in-Some.terminal bytes) c.in-Some.field-0-1 = search rules in
     let one : suc i ≡ i + 1 = omega arith in
     let ends : behind file lexed i ≡ placed semicolon c.in-Some.field-0-1 ∷ behind file lexed (suc i) = next.1 ∙ ap (λ s. placed (symbol_with s next.0) c.in-Some.field-0-1 ∷ behind file lexed (suc i)) c.in-Semicolon.is in
     as_stepped file lexed (next_summand d c.args.at c.args.at_name c.args.name c.args.sum (behind file lexed i)) (next_summand d c.args.at c.args.at_name c.args.name c.args.sum (placed semicolon c.in-Some.field-0-1 ∷ behind file lexed (i + 1)))
@@ -30,7 +30,7 @@ returns-in_default-2-clause-step c frames =
     let lexed = c.args.tokens.now in
     let i = c.args.i in
     let minus = c.in-Shift.minus in
-    let next : (bytes : List ℕ) × IsNext file lexed i (symbol_with c.in-Some.sign bytes) c.in-Some.field-0-1 = search rules in
+    let next : (bytes : List ℕ) × IsNext file lexed i (symbol_with c.in-Some.terminal bytes) c.in-Some.field-0-1 = search rules in
     let one : suc i ≡ i + 1 = omega arith in
     let signed : behind file lexed i ≡ placed (sign minus) c.in-Some.field-0-1 ∷ behind file lexed (suc i) = next.1 ∙ ap (λ s. placed (symbol_with s next.0) c.in-Some.field-0-1 ∷ behind file lexed (suc i)) c.in-Shift.is in
     let other : NoInt (behind file lexed (i + 1)) = search rules in
@@ -44,7 +44,7 @@ returns-in_ok-push-in-Shift-clause-step c frames =
     let minus = c.in-Shift.minus in
     let number = c.in-Some-2.number in
     let behind_it = behind file lexed c.in-Some-2.next in
-    let next : (bytes : List ℕ) × IsNext file lexed i (symbol_with c.in-Some.sign bytes) c.in-Some.field-0-1 = search rules in
+    let next : (bytes : List ℕ) × IsNext file lexed i (symbol_with c.in-Some.terminal bytes) c.in-Some.field-0-1 = search rules in
     let one : suc i ≡ i + 1 = omega arith in
     let signed : behind file lexed i ≡ placed (sign minus) c.in-Some.field-0-1 ∷ behind file lexed (suc i) = next.1 ∙ ap (λ s. placed (symbol_with s next.0) c.in-Some.field-0-1 ∷ behind file lexed (suc i)) c.in-Shift.is in
     let starts : Starts true (int_symbol number.value) number.at (behind file lexed (i + 1)) behind_it = search rules in
@@ -58,7 +58,7 @@ returns-in_default-clause-fault c =
     let lexed = c.args.tokens.now in
     let i = c.args.i in
     let none : behind file lexed i ≡ [] = search rules in
-    sign_missing summand_fault (behind file lexed i) none
+    terminal_missing summand_fault (behind file lexed i) none
 
 pub returns-in-Semicolon-clause-fault : goal.returns-in-Semicolon-clause-fault
 returns-in-Semicolon-clause-fault c =
@@ -73,7 +73,7 @@ returns-in_default-2-clause-fault c =
     let lexed = c.args.tokens.now in
     let i = c.args.i in
     let minus = c.in-Shift.minus in
-    let next : (bytes : List ℕ) × IsNext file lexed i (symbol_with c.in-Some.sign bytes) c.in-Some.field-0-1 = search rules in
+    let next : (bytes : List ℕ) × IsNext file lexed i (symbol_with c.in-Some.terminal bytes) c.in-Some.field-0-1 = search rules in
     let other : NoInt (behind file lexed (i + 1)) = search rules in
-    sign_found summand_fault file lexed i (symbol_with c.in-Some.sign next.0) c.in-Some.field-0-1 next.1
+    terminal_found summand_fault file lexed i (symbol_with c.in-Some.terminal next.0) c.in-Some.field-0-1 next.1
     ∙ ap (λ s. summand_fault (symbol_with s next.0) (behind file lexed i) (behind file lexed (i + 1))) c.in-Shift.is ∙ int_missing accepted (behind file lexed (i + 1)) other

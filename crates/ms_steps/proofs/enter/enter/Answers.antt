@@ -1,7 +1,7 @@
 use Rattle.std.proofs.Common.{◌<◌, ◌≤◌, suc, length, subst, arith}
 use Rattle.ms_steps.specs.Faults.{enter_fault}
 use Rattle.ms_steps.specs.Opened.{frame_of}
-use Rattle.ms_steps.specs.Signs.{behind}
+use Rattle.ms_steps.specs.Terminals.{behind}
 use Rattle.ms_steps.specs.Stack.{stack_of}
 use Rattle.ms_steps.specs.Machine.{enter, frame_depth}
 use Rattle.ms_grammar.specs.Grammar.{greatest_depth}

@@ -1,10 +1,10 @@
 use Rattle.std.proofs.Common.{rules, ◌≡◌, ℕ, List, suc, ◌+◌, ap, arith, sym, ◌∙◌, ◌-◌, []}
 use Rattle.ms_steps.specs.Machine.{wanted, begin, begin_name, step}
-use Rattle.ms_steps.specs.Signs.{symbol_with, behind, IsNext, NoName}
+use Rattle.ms_steps.specs.Terminals.{symbol_with, behind, IsNext, NoName}
 use Rattle.ms_steps.specs.Stack.{stack_of}
 use Rattle.ms_grammar.specs.Symbol.{name}
 use Rattle.ms_steps.proofs.Begins.{as_taken}
-use Rattle.ms_steps.proofs.Expressions.{named_begun, sign_begun, no_name_sign}
+use Rattle.ms_steps.proofs.Expressions.{named_begun, terminal_begun, no_name_terminal}
 use Rattle.ms_steps.specs.Faults.{name_fault, begin_fault, step_fault}
 use Rattle.ms_steps.proofs.Faulting.{as_fault, fault_end}
 use Rattle.ms_steps.proofs.FaultingSteps.{one_behind, wanted_fault}
@@ -29,14 +29,14 @@ returns-clause-step c context =
     let file = c.args.file in
     let lexed = c.args.tokens.now in
     let i = c.args.i in
-    let sign = c.in-Some-sign_at.sign in
-    let at = c.in-Some-sign_at.at in
+    let sign = c.in-Some-terminal_at.terminal in
+    let at = c.in-Some-terminal_at.at in
     let none : NoName (behind file lexed i) = search rules in
     let next : (bytes : List ℕ) × IsNext file lexed i (symbol_with sign bytes) at = search rules in
     let one : suc i ≡ i + 1 = omega arith in
-    as_taken context file lexed (step greatest_depth (wanted context st) (behind file lexed i)) (begin greatest_depth context st at (symbol_with sign next.0) (behind file lexed (i + 1))) c.begin_sign.new.stack.items c.begin_sign.result
-    (sign_begun greatest_depth context st at (symbol_with sign next.0) (behind file lexed i) (behind file lexed (suc i)) (behind file lexed (i + 1)) next.1 (ap (behind file lexed) one))
-    (c.begin_sign.ensures.step context next.0 (no_name_sign (behind file lexed i) (behind file lexed (suc i)) sign next.0 at none next.1))
+    as_taken context file lexed (step greatest_depth (wanted context st) (behind file lexed i)) (begin greatest_depth context st at (symbol_with sign next.0) (behind file lexed (i + 1))) c.begin_terminal.new.stack.items c.begin_terminal.result
+    (terminal_begun greatest_depth context st at (symbol_with sign next.0) (behind file lexed i) (behind file lexed (suc i)) (behind file lexed (i + 1)) next.1 (ap (behind file lexed) one))
+    (c.begin_terminal.ensures.step context next.0 (no_name_terminal (behind file lexed i) (behind file lexed (suc i)) sign next.0 at none next.1))
 
 pub returns-in-Some-clause-fault : goal.returns-in-Some-clause-fault
 returns-in-Some-clause-fault c context =
@@ -50,8 +50,8 @@ returns-in-Some-clause-fault c context =
     (wanted_fault greatest_depth context st (name c.in-Some.name) c.in-Some.at (behind file lexed i) (behind file lexed (suc i)) (behind file lexed (i + 1)) names (ap (behind file lexed) one))
     c.begin_name.ensures.fault
 
-pub returns-in_default-sign_at-clause-fault : goal.returns-in_default-sign_at-clause-fault
-returns-in_default-sign_at-clause-fault c context =
+pub returns-in_default-terminal_at-clause-fault : goal.returns-in_default-terminal_at-clause-fault
+returns-in_default-terminal_at-clause-fault c context =
     let none : behind c.args.file c.args.tokens.now c.args.i ≡ [] = search rules in
     fault_end greatest_depth (wanted context (stack_of c.args.stack.now.items)) (behind c.args.file c.args.tokens.now c.args.i) none
 
@@ -61,13 +61,13 @@ returns-clause-fault c context =
     let file = c.args.file in
     let lexed = c.args.tokens.now in
     let i = c.args.i in
-    let sign = c.in-Some-sign_at.sign in
-    let at = c.in-Some-sign_at.at in
+    let sign = c.in-Some-terminal_at.terminal in
+    let at = c.in-Some-terminal_at.at in
     let none : NoName (behind file lexed i) = search rules in
     let next : (bytes : List ℕ) × IsNext file lexed i (symbol_with sign bytes) at = search rules in
     let one : suc i ≡ i + 1 = omega arith in
     let s = symbol_with sign next.0 in
-    as_fault file lexed (step_fault greatest_depth (wanted context st) (behind file lexed i)) (begin_fault greatest_depth st s (behind file lexed (i + 1 - 1)) (behind file lexed (i + 1))) c.begin_sign.result
+    as_fault file lexed (step_fault greatest_depth (wanted context st) (behind file lexed i)) (begin_fault greatest_depth st s (behind file lexed (i + 1 - 1)) (behind file lexed (i + 1))) c.begin_terminal.result
     (wanted_fault greatest_depth context st s at (behind file lexed i) (behind file lexed (suc i)) (behind file lexed (i + 1)) next.1 (ap (behind file lexed) one)
     ∙ ap (λ x. begin_fault greatest_depth st s x (behind file lexed (i + 1))) (sym (one_behind file lexed i)))
-    (c.begin_sign.ensures.fault next.0 (no_name_sign (behind file lexed i) (behind file lexed (suc i)) sign next.0 at none next.1))
+    (c.begin_terminal.ensures.fault next.0 (no_name_terminal (behind file lexed i) (behind file lexed (suc i)) sign next.0 at none next.1))

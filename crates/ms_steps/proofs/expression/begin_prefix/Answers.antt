@@ -1,7 +1,7 @@
 use Rattle.std.proofs.Common.{◌≡◌, ◌≤◌, ap, ◌∙◌, arith, rules, ◌-◌}
 use Rattle.ms_grammar.specs.Grammar.{prefix_level}
 use Rattle.ms_steps.specs.Machine.{prefix_frame, enter, begin, need}
-use Rattle.ms_steps.specs.Signs.{behind}
+use Rattle.ms_steps.specs.Terminals.{behind}
 use Rattle.ms_steps.specs.Stack.{stack_of}
 use Rattle.ms_grammar.specs.Symbol.{prefix_operator}
 use Rattle.ms_steps.proofs.Begins.{as_taken}

@@ -3,7 +3,7 @@ use Rattle.ms_logic.specs.declared.source.Decl.TheVariants as decls
 use Rattle.ms_grammar.specs.Tree.{and_variable, variables}
 use Rattle.ms_grammar.specs.View.{declaration_of, domain_of, variables_of}
 use Rattle.ms_steps.specs.Machine.{declare, outside}
-use Rattle.ms_steps.specs.Signs.{behind}
+use Rattle.ms_steps.specs.Terminals.{behind}
 use Rattle.ms_steps.specs.States.{read_of}
 use Rattle.ms_steps.proofs.Stepping.{as_stepped}
 use Rattle.ms_steps.proofs.globals.last_global.Goals as goal

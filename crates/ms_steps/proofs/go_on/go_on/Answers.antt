@@ -2,7 +2,7 @@ use Rattle.std.proofs.Common.{rules, ◌≡◌, ◌+◌, ℕ, List, suc, ap, ◌
 use Rattle.ms_grammar.specs.View.{expression_of}
 use Rattle.ms_steps.specs.Ends.{ends_part}
 use Rattle.ms_steps.specs.Machine.{holding, in_part, settle, step}
-use Rattle.ms_steps.specs.Signs.{behind, symbol_with, IsNext}
+use Rattle.ms_steps.specs.Terminals.{behind, symbol_with, IsNext}
 use Rattle.ms_steps.specs.Stack.{stack_of}
 use Rattle.ms_steps.specs.States.{context_of, read_of}
 use Rattle.ms_steps.proofs.Ending.{held_settled}
@@ -21,7 +21,7 @@ returns-clause-step c =
     let context = context_of (read_of c.args.made.now) c.args.context in
     let e = expression_of c.args.operand.expr in
     let st = stack_of c.args.stack.now.items in
-    let sign = c.in-Some.sign in
+    let sign = c.in-Some.terminal in
     let at = c.in-Some.field-0-1 in
     let next : (bytes : List ℕ) × IsNext file lexed i (symbol_with sign bytes) at = search rules in
     let s = symbol_with sign next.0 in
@@ -41,7 +41,7 @@ returns-clause-fault c =
     let context = context_of (read_of c.args.made.now) c.args.context in
     let e = expression_of c.args.operand.expr in
     let st = stack_of c.args.stack.now.items in
-    let sign = c.in-Some.sign in
+    let sign = c.in-Some.terminal in
     let at = c.in-Some.field-0-1 in
     let next : (bytes : List ℕ) × IsNext file lexed i (symbol_with sign bytes) at = search rules in
     let s = symbol_with sign next.0 in

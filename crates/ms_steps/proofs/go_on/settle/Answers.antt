@@ -2,7 +2,7 @@ use Rattle.std.proofs.Common.{[], ◌∷◌, ap, ◌-◌}
 use Rattle.ms_grammar.specs.View.{expression_of}
 use Rattle.ms_steps.specs.Machine.{settle}
 use Rattle.ms_steps.specs.Opened.{frame_of}
-use Rattle.ms_steps.specs.Signs.{behind, symbol_with}
+use Rattle.ms_steps.specs.Terminals.{behind, symbol_with}
 use Rattle.ms_steps.specs.Stack.{stack_of}
 use Rattle.ms_steps.specs.States.{context_of, read_of}
 use Rattle.ms_steps.proofs.Stepping.{as_stepped}
@@ -18,7 +18,7 @@ returns-then-is_operator-clause-step c bytes inside same =
     let context = context_of (read_of c.args.made.now) c.args.context in
     let e = expression_of c.args.operand.expr in
     let ts = behind file lexed c.args.i in
-    c.inside.ensures.step file lexed (settle greatest_depth context (symbol_with c.args.sign bytes) inside (e, stack_of c.args.stack.now.items) ts) c.args.made.now c.settle_operator-taken.new.stack.items
+    c.inside.ensures.step file lexed (settle greatest_depth context (symbol_with c.args.terminal bytes) inside (e, stack_of c.args.stack.now.items) ts) c.args.made.now c.settle_operator-taken.new.stack.items
     (c.settle_operator-taken.ensures.step context bytes inside (c.is_operator.ensures.yes bytes inside same c.if-is_operator.true))
 
 pub returns-in-Some-clause-step : goal.returns-in-Some-clause-step
@@ -27,7 +27,7 @@ returns-in-Some-clause-step c bytes inside same =
     let lexed = c.args.tokens.now in
     let context = context_of (read_of c.args.made.now) c.args.context in
     let e = expression_of c.args.operand.expr in
-    let s = symbol_with c.args.sign bytes in
+    let s = symbol_with c.args.terminal bytes in
     let ts = behind file lexed c.args.i in
     let st = frame_of c.in-Some.frame.opened ∷ stack_of c.pop_frame.new.stack.items in
     as_stepped file lexed (settle greatest_depth context s inside (e, stack_of c.args.stack.now.items) ts) (settle greatest_depth context s inside (e, st) ts) c.args.made.now c.settle_frame.new.stack.items c.inside-in-Some.result
@@ -41,7 +41,7 @@ returns-in-None-clause-step c bytes inside same =
     let lexed = c.args.tokens.now in
     let context = context_of (read_of c.args.made.now) c.args.context in
     let e = expression_of c.args.operand.expr in
-    let s = symbol_with c.args.sign bytes in
+    let s = symbol_with c.args.terminal bytes in
     let ts = behind file lexed c.args.i in
     as_stepped file lexed (settle greatest_depth context s inside (e, stack_of c.args.stack.now.items) ts) (settle greatest_depth context s inside (e, []) ts) c.end_expression.new.made c.end_expression.new.stack.items c.end_expression.result
     (ap (λ x. settle greatest_depth context s inside (e, x) ts) c.in-None.ensures.top)
@@ -55,7 +55,7 @@ returns-then-is_operator-clause-fault c bytes inside same =
     let e = expression_of c.args.operand.expr in
     let from = behind file lexed (c.args.i - 1) in
     let ts = behind file lexed c.args.i in
-    c.inside.ensures.fault file lexed (settle_fault greatest_depth context (symbol_with c.args.sign bytes) inside (e, stack_of c.args.stack.now.items) from ts)
+    c.inside.ensures.fault file lexed (settle_fault greatest_depth context (symbol_with c.args.terminal bytes) inside (e, stack_of c.args.stack.now.items) from ts)
     (c.settle_operator-taken.ensures.fault context bytes inside (c.is_operator.ensures.yes bytes inside same c.if-is_operator.true))
 
 pub returns-in-Some-clause-fault : goal.returns-in-Some-clause-fault
@@ -64,7 +64,7 @@ returns-in-Some-clause-fault c bytes inside same =
     let lexed = c.args.tokens.now in
     let context = context_of (read_of c.args.made.now) c.args.context in
     let e = expression_of c.args.operand.expr in
-    let s = symbol_with c.args.sign bytes in
+    let s = symbol_with c.args.terminal bytes in
     let from = behind file lexed (c.args.i - 1) in
     let ts = behind file lexed c.args.i in
     let st = frame_of c.in-Some.frame.opened ∷ stack_of c.pop_frame.new.stack.items in
@@ -79,7 +79,7 @@ returns-in-None-clause-fault c bytes inside same =
     let lexed = c.args.tokens.now in
     let context = context_of (read_of c.args.made.now) c.args.context in
     let e = expression_of c.args.operand.expr in
-    let s = symbol_with c.args.sign bytes in
+    let s = symbol_with c.args.terminal bytes in
     let from = behind file lexed (c.args.i - 1) in
     let ts = behind file lexed c.args.i in
     as_fault file lexed (settle_fault greatest_depth context s inside (e, stack_of c.args.stack.now.items) from ts) (settle_fault greatest_depth context s inside (e, []) from ts) c.end_expression.result

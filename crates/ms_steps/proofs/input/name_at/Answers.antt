@@ -1,5 +1,5 @@
 use Rattle.std.proofs.Common.{◌≡◌, true, ◌∙◌}
-use Rattle.ms_steps.proofs.Inputs.{no_name, sign_next, token_is_utf8, name_symbol}
+use Rattle.ms_steps.proofs.Inputs.{no_name, terminal_next, token_is_utf8, name_symbol}
 use Rattle.ms_grammar.specs.Symbol.{name}
 use Rattle.ms_steps.proofs.input.name_at.Goals as goal
 
@@ -10,7 +10,7 @@ returns-then-not-is_name-clause-other c =
 
 pub returns-in_ok-new-in-Ok-clause-next : goal.returns-in_ok-new-in-Ok-clause-next
 returns-in_ok-new-in-Ok-clause-next c =
-    sign_next c.args.file c.args.tokens.now c.args.i c.get-token.result (name c.in_ok-new-in-Ok.field-0) c.at_of.result c.get-token.ensures.token
+    terminal_next c.args.file c.args.tokens.now c.args.i c.get-token.result (name c.in_ok-new-in-Ok.field-0) c.at_of.result c.get-token.ensures.token
     (name_symbol c.args.tokens.now c.args.i c.get-token.result c.slice.result.now c.in_ok-new-in-Ok.field-0 c.get-token.ensures.token (c.is_name.ensures.0 c.if-not-is_name.false)
     c.slice.ensures.slice (c.in_ok-new-in-Ok.ensures ∙ c.in-Ok.ensures.cases.0))
     c.at_of.ensures

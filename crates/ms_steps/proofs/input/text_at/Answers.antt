@@ -1,5 +1,5 @@
 use Rattle.std.proofs.Common.{◌≡◌, true, ◌∙◌}
-use Rattle.ms_steps.proofs.Inputs.{no_text, sign_next}
+use Rattle.ms_steps.proofs.Inputs.{no_text, terminal_next}
 use Rattle.ms_steps.proofs.Texts.{text_is_utf8, text_symbol}
 use Rattle.ms_grammar.specs.Symbol.{text}
 use Rattle.ms_steps.proofs.input.text_at.Goals as goal
@@ -11,7 +11,7 @@ returns-then-not-is_text-clause-other c =
 
 pub returns-in_ok-new-in-Ok-clause-next : goal.returns-in_ok-new-in-Ok-clause-next
 returns-in_ok-new-in-Ok-clause-next c =
-    sign_next c.args.file c.args.tokens.now c.args.i c.get-token.result (text c.in_ok-new-in-Ok.field-0) c.at_of.result c.get-token.ensures.token
+    terminal_next c.args.file c.args.tokens.now c.args.i c.get-token.result (text c.in_ok-new-in-Ok.field-0) c.at_of.result c.get-token.ensures.token
     (text_symbol c.args.tokens.now c.args.i c.get-token.result c.slice.result.now c.between_quotes.result.now c.in_ok-new-in-Ok.field-0 c.get-token.ensures.token (c.is_text.ensures.0 c.if-not-is_text.false)
     c.slice.ensures.slice c.between_quotes.ensures (c.in_ok-new-in-Ok.ensures ∙ c.in-Ok.ensures.cases.0))
     c.at_of.ensures

@@ -2,7 +2,7 @@ use Rattle.std.proofs.Common.{ap, sym, rules, ◌-◌}
 use Rattle.ms_grammar.specs.Tree.{and_expression}
 use Rattle.ms_grammar.specs.View.{expression_of, expressions_of}
 use Rattle.ms_steps.specs.Machine.{joined_frame, enter}
-use Rattle.ms_steps.specs.Signs.{behind}
+use Rattle.ms_steps.specs.Terminals.{behind}
 use Rattle.ms_steps.specs.Stack.{stack_of}
 use Rattle.ms_steps.proofs.Begins.{as_taken}
 use Rattle.ms_steps.specs.Faults.{enter_fault, deep_at}

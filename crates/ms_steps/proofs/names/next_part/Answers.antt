@@ -1,6 +1,6 @@
 use Rattle.std.proofs.Common.{rules, ◌≡◌, ◌+◌, suc, ap, arith, refl, ◌∙◌}
 use Rattle.ms_steps.specs.Machine.{part_frame, enter, next_part}
-use Rattle.ms_steps.specs.Signs.{behind, IsNext, NoName}
+use Rattle.ms_steps.specs.Terminals.{behind, IsNext, NoName}
 use Rattle.ms_steps.specs.Stack.{stack_of}
 use Rattle.ms_grammar.specs.Symbol.{name}
 use Rattle.ms_grammar.specs.View.{parts_of}

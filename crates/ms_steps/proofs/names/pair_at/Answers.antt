@@ -1,5 +1,5 @@
 use Rattle.std.proofs.Common.{rules, ◌≡◌, ◌+◌, suc, ap, arith, ◌∙◌}
-use Rattle.ms_steps.specs.Signs.{behind, IsNext, NoName}
+use Rattle.ms_steps.specs.Terminals.{behind, IsNext, NoName}
 use Rattle.ms_grammar.specs.Symbol.{name, arrow}
 use Rattle.ms_steps.specs.Faults.{mark_then, name_then, accepted, refused_at}
 use Rattle.ms_steps.proofs.Faulting.{mark_found, mark_missing, name_found, name_missing, one_more}

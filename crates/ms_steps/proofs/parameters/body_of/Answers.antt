@@ -1,7 +1,7 @@
 use Rattle.std.proofs.Common.{[], Some, ap}
 use Rattle.ms_grammar.specs.View.{variables_of}
 use Rattle.ms_steps.specs.Machine.{body_of, in_predicate, wanted}
-use Rattle.ms_steps.specs.Signs.{behind}
+use Rattle.ms_steps.specs.Terminals.{behind}
 use Rattle.ms_steps.specs.States.{read_of}
 use Rattle.ms_steps.proofs.Stepping.{as_stepped}
 use Rattle.ms_steps.specs.Faults.{body_fault}

@@ -2,7 +2,7 @@ use Rattle.std.proofs.Common.{ap, sym}
 use Rattle.ms_grammar.specs.Tree.{and_variable}
 use Rattle.ms_grammar.specs.View.{domain_of, variables_of}
 use Rattle.ms_steps.specs.Machine.{body_of}
-use Rattle.ms_steps.specs.Signs.{behind}
+use Rattle.ms_steps.specs.Terminals.{behind}
 use Rattle.ms_steps.specs.States.{read_of}
 use Rattle.ms_steps.proofs.Stepping.{as_stepped}
 use Rattle.ms_steps.proofs.parameters.last_parameter.Goals as goal

@@ -1,5 +1,5 @@
 use Rattle.ms_grammar.specs.Symbol.{symbols}
-use Rattle.ms_steps.specs.Signs.{behind}
+use Rattle.ms_steps.specs.Terminals.{behind}
 use Rattle.ms_steps.specs.Stack.{stack_of}
 use Rattle.ms_steps.specs.States.{read_of, state_of}
 use Rattle.ms_steps.proofs.Loops.{reads_made}

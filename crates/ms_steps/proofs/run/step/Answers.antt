@@ -1,6 +1,6 @@
 use Rattle.ms_steps.specs.declared.state.State.TheVariants as states
 use Rattle.ms_steps.specs.Machine.{step}
-use Rattle.ms_steps.specs.Signs.{behind}
+use Rattle.ms_steps.specs.Terminals.{behind}
 use Rattle.ms_steps.specs.Stack.{stack_of}
 use Rattle.ms_steps.specs.States.{read_of, state_of}
 use Rattle.ms_steps.proofs.Stepping.{stepped_by}

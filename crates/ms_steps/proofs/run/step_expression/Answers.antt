@@ -1,7 +1,7 @@
 use Rattle.ms_steps.specs.declared.outcome.Outcome.TheVariants as outcomes
 use Rattle.ms_steps.specs.Machine.{step}
 use Rattle.ms_steps.specs.Outcomes.{outcome_of}
-use Rattle.ms_steps.specs.Signs.{behind}
+use Rattle.ms_steps.specs.Terminals.{behind}
 use Rattle.ms_steps.specs.Stack.{stack_of}
 use Rattle.ms_steps.specs.States.{context_of, read_of}
 use Rattle.ms_steps.proofs.Stepping.{stepped_by}

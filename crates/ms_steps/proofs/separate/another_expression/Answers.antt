@@ -1,6 +1,6 @@
 use Rattle.std.proofs.Common.{ap, sym, rules, ◌-◌}
 use Rattle.ms_steps.specs.Machine.{list_frame, enter}
-use Rattle.ms_steps.specs.Signs.{behind}
+use Rattle.ms_steps.specs.Terminals.{behind}
 use Rattle.ms_steps.specs.Stack.{stack_of}
 use Rattle.ms_grammar.specs.Tree.{and_expression}
 use Rattle.ms_grammar.specs.View.{expression_of, expressions_of}

@@ -1,7 +1,7 @@
 use Rattle.std.proofs.Common.{◌≤◌, suc, ap, ◌∙◌, arith, sym, rules, ◌≡◌, ◌-◌}
 use Rattle.ms_grammar.specs.Grammar.{junction_level, level, depth_of_all}
 use Rattle.ms_steps.specs.Machine.{joined_frame, enter, join_new}
-use Rattle.ms_steps.specs.Signs.{behind}
+use Rattle.ms_steps.specs.Terminals.{behind}
 use Rattle.ms_steps.specs.Stack.{stack_of}
 use Rattle.ms_grammar.specs.Tree.{and_expression, no_expressions}
 use Rattle.ms_grammar.specs.View.{expression_of, expressions_of}

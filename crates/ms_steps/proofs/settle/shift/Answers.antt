@@ -1,7 +1,7 @@
 use Rattle.std.proofs.Common.{◌≤◌, arith, rules, ◌-◌}
 use Rattle.ms_grammar.specs.Grammar.{left_level, level, depth}
 use Rattle.ms_steps.specs.Machine.{left_frame, enter, shift}
-use Rattle.ms_steps.specs.Signs.{behind}
+use Rattle.ms_steps.specs.Terminals.{behind}
 use Rattle.ms_steps.specs.Stack.{stack_of}
 use Rattle.ms_grammar.specs.View.{expression_of}
 use Rattle.ms_steps.proofs.Begins.{as_taken, shift_entered}

@@ -1,5 +1,5 @@
 use Rattle.std.proofs.Common.{ap, ◌∙◌}
-use Rattle.ms_steps.specs.Signs.{behind}
+use Rattle.ms_steps.specs.Terminals.{behind}
 use Rattle.ms_grammar.specs.Tree.{shifted}
 use Rattle.ms_grammar.specs.View.{expression_of}
 use Rattle.ms_steps.proofs.Shifts.{shift_taken}

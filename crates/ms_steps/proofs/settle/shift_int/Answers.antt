@@ -4,7 +4,7 @@ use Rattle.ms_steps.specs.Outcomes.{Took}
 use Rattle.ms_grammar.specs.Reads.{int_symbol, Starts}
 use Rattle.ms_grammar.specs.View.{expression_of}
 use Rattle.ms_steps.specs.Machine.{shift_by, shift_int}
-use Rattle.ms_steps.specs.Signs.{behind}
+use Rattle.ms_steps.specs.Terminals.{behind}
 use Rattle.ms_steps.specs.Stack.{stack_of}
 use Rattle.ms_steps.proofs.Begins.{as_taken}
 use Rattle.ms_steps.proofs.Joins.{int_shifted}

@@ -2,7 +2,7 @@ use Rattle.std.proofs.Common.{rules, ◌+◌, ◌-◌, ◌<◌, ◌≤◌, suc, 
 use Rattle.ms_grammar.specs.Grammar.{greatest_depth, level, depth}
 use Rattle.ms_grammar.specs.View.{expression_of}
 use Rattle.ms_steps.specs.Faults.{accepted}
-use Rattle.ms_steps.specs.Signs.{behind, NoInt}
+use Rattle.ms_steps.specs.Terminals.{behind, NoInt}
 use Rattle.ms_steps.specs.Stack.{stack_of}
 use Rattle.ms_steps.proofs.Faulting.{int_missing}
 use Rattle.ms_steps.proofs.FaultingSteps.{sum_low, sum_full, sum_fits}

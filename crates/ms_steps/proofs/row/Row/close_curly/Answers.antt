@@ -6,7 +6,7 @@ use Rattle.ms_grammar.specs.declared.operator.Listing.TheVariants.{Call, Literal
 use Rattle.ms_steps.specs.Faults.{close_curly_fault, close_round_fault, hold_fault}
 use Rattle.ms_steps.specs.Machine.{bracket_frame, close_curly_at, close_round_at, hold, list_frame}
 use Rattle.ms_steps.specs.Rows.{IsRow}
-use Rattle.ms_steps.specs.Signs.{behind}
+use Rattle.ms_steps.specs.Terminals.{behind}
 use Rattle.ms_steps.specs.Stack.{stack_of}
 use Rattle.ms_steps.proofs.Begins.{as_taken}
 use Rattle.ms_steps.proofs.Faulting.{as_fault}

@@ -2,7 +2,7 @@ use Rattle.std.proofs.Common.{◌≡◌, ◌∷◌, sym, subst, ◌-◌}
 use Rattle.ms_steps.specs.Machine.{domain_frame, colon_at}
 use Rattle.ms_steps.specs.Outcomes.{Took}
 use Rattle.ms_steps.specs.Rows.{IsRow}
-use Rattle.ms_steps.specs.Signs.{behind}
+use Rattle.ms_steps.specs.Terminals.{behind}
 use Rattle.ms_steps.specs.Stack.{stack_of}
 use Rattle.ms_grammar.specs.View.{expression_of, variables_of}
 use Rattle.ms_steps.proofs.Separations.{colon_refused, NoDomain}

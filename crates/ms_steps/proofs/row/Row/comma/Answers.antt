@@ -2,7 +2,7 @@ use Rattle.std.proofs.Common.{◌≡◌, ◌∷◌, ap, sym, subst, ◌-◌}
 use Rattle.ms_steps.specs.Machine.{list_frame, domain_frame, part_frame, comma_at}
 use Rattle.ms_steps.specs.Outcomes.{Took}
 use Rattle.ms_steps.specs.Rows.{IsRow}
-use Rattle.ms_steps.specs.Signs.{behind}
+use Rattle.ms_steps.specs.Terminals.{behind}
 use Rattle.ms_steps.specs.Stack.{stack_of}
 use Rattle.ms_grammar.specs.View.{expression_of, expressions_of, variables_of, parts_of}
 use Rattle.ms_steps.proofs.Separations.{comma_at-other}

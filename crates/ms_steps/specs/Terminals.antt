@@ -4,45 +4,45 @@ use Rattle.ms_edge.specs.declared.at.At.{At}
 use Rattle.ms_text.specs.declared.token.Kind.{Kind}
 use Rattle.ms_text.specs.declared.token.Kind.TheVariants as kinds
 use Rattle.ms_text.specs.TokenList.{Lexed}
-use Rattle.ms_steps.specs.declared.sign.Sign.{Sign}
-use Rattle.ms_steps.specs.declared.sign.Sign.TheVariants as signs
+use Rattle.ms_steps.specs.declared.terminal.Terminal.{Terminal}
+use Rattle.ms_steps.specs.declared.terminal.Terminal.TheVariants as terminals
 use Rattle.ms_grammar.specs.Symbol.{Symbol, name, number, text, left_out, prefix_operator, infix_operator, joining, sign, quantifier, let_word, kind, predicate_word, default_word, word_true, word_false, dollar, word_empty, word_pconst, word_import, word_export, word_restrict, word_where, word_const, word_include, word_ws1s, open_round, close_round, open_curly, close_curly, comma, colon, semicolon, arrow, between_quotes, Placed, placed, symbols}
 
 -- the symbol with these bytes, where it has bytes
-abbrev pub symbol_with : Sign → List ℕ → Symbol
-symbol_with signs.Name bytes = name bytes
-symbol_with (signs.Number n) bytes = number n
-symbol_with signs.Text bytes = text bytes
-symbol_with signs.LeftOut bytes = left_out bytes
-symbol_with (signs.Prefix op) bytes = prefix_operator op
-symbol_with (signs.Infix op) bytes = infix_operator op
-symbol_with (signs.Joining op) bytes = joining op
-symbol_with (signs.Shift minus) bytes = sign minus
-symbol_with (signs.Quantifier q o) bytes = quantifier q o
-symbol_with (signs.Let o) bytes = let_word o
-symbol_with (signs.Variables o) bytes = kind o
-symbol_with (signs.Predicate is_pred) bytes = predicate_word is_pred
-symbol_with (signs.Default o) bytes = default_word o
-symbol_with signs.True bytes = word_true
-symbol_with signs.False bytes = word_false
-symbol_with signs.Dollar bytes = dollar
-symbol_with signs.Empty bytes = word_empty
-symbol_with signs.Pconst bytes = word_pconst
-symbol_with signs.Import bytes = word_import
-symbol_with signs.Export bytes = word_export
-symbol_with signs.Restrict bytes = word_restrict
-symbol_with signs.Where bytes = word_where
-symbol_with signs.Const bytes = word_const
-symbol_with signs.Include bytes = word_include
-symbol_with signs.Ws1s bytes = word_ws1s
-symbol_with signs.OpenRound bytes = open_round
-symbol_with signs.CloseRound bytes = close_round
-symbol_with signs.OpenCurly bytes = open_curly
-symbol_with signs.CloseCurly bytes = close_curly
-symbol_with signs.Comma bytes = comma
-symbol_with signs.Colon bytes = colon
-symbol_with signs.Semicolon bytes = semicolon
-symbol_with signs.Arrow bytes = arrow
+abbrev pub symbol_with : Terminal → List ℕ → Symbol
+symbol_with terminals.Name bytes = name bytes
+symbol_with (terminals.Number n) bytes = number n
+symbol_with terminals.Text bytes = text bytes
+symbol_with terminals.LeftOut bytes = left_out bytes
+symbol_with (terminals.Prefix op) bytes = prefix_operator op
+symbol_with (terminals.Infix op) bytes = infix_operator op
+symbol_with (terminals.Joining op) bytes = joining op
+symbol_with (terminals.Shift minus) bytes = sign minus
+symbol_with (terminals.Quantifier q o) bytes = quantifier q o
+symbol_with (terminals.Let o) bytes = let_word o
+symbol_with (terminals.Variables o) bytes = kind o
+symbol_with (terminals.Predicate is_pred) bytes = predicate_word is_pred
+symbol_with (terminals.Default o) bytes = default_word o
+symbol_with terminals.True bytes = word_true
+symbol_with terminals.False bytes = word_false
+symbol_with terminals.Dollar bytes = dollar
+symbol_with terminals.Empty bytes = word_empty
+symbol_with terminals.Pconst bytes = word_pconst
+symbol_with terminals.Import bytes = word_import
+symbol_with terminals.Export bytes = word_export
+symbol_with terminals.Restrict bytes = word_restrict
+symbol_with terminals.Where bytes = word_where
+symbol_with terminals.Const bytes = word_const
+symbol_with terminals.Include bytes = word_include
+symbol_with terminals.Ws1s bytes = word_ws1s
+symbol_with terminals.OpenRound bytes = open_round
+symbol_with terminals.CloseRound bytes = close_round
+symbol_with terminals.OpenCurly bytes = open_curly
+symbol_with terminals.CloseCurly bytes = close_curly
+symbol_with terminals.Comma bytes = comma
+symbol_with terminals.Colon bytes = colon
+symbol_with terminals.Semicolon bytes = semicolon
+symbol_with terminals.Arrow bytes = arrow
 
 -- the bytes of a name, or between the quotes of a text
 abbrev pub content : Kind → List ℕ → List ℕ
