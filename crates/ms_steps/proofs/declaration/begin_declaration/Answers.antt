@@ -82,8 +82,8 @@ returns-in-Default-clause-step c =
     (declaration_read greatest_depth d at sign (terminals.Default c.in-Default.order) next.0 (behind file lexed i) (behind file lexed (suc i)) (behind file lexed (i + 1)) c.in-Default.is next.1 (ap (behind file lexed) one))
     (c.begin_default.ensures.step c.args.made.now)
 
-pub returns-in_default-sign-clause-step : goal.returns-in_default-sign-clause-step
-returns-in_default-sign-clause-step c =
+pub returns-in_default-terminal-clause-step : goal.returns-in_default-terminal-clause-step
+returns-in_default-terminal-clause-step c =
     let file = c.args.file in
     let lexed = c.args.tokens.now in
     let i = c.args.i in
@@ -92,7 +92,7 @@ returns-in_default-sign-clause-step c =
     let at = c.in-Some.at in
     let next : (bytes : List ℕ) × IsNext file lexed i (symbol_with sign bytes) at = search rules in
     as_stepped file lexed (step greatest_depth (outside d) (behind file lexed i)) (step greatest_depth (wanted (in_formula d at) []) (behind file lexed i)) c.args.made.now c.begin_formula.new.stack.items c.begin_formula.result
-    (formula_begun greatest_depth d at sign next.0 (behind file lexed i) (behind file lexed (suc i)) (other_word sign c.in_default-sign.not-Variables c.in_default-sign.not-Const c.in_default-sign.not-Predicate c.in_default-sign.not-Include c.in_default-sign.not-Default) next.1)
+    (formula_begun greatest_depth d at sign next.0 (behind file lexed i) (behind file lexed (suc i)) (other_word sign c.in_default-terminal.not-Variables c.in_default-terminal.not-Const c.in_default-terminal.not-Predicate c.in_default-terminal.not-Include c.in_default-terminal.not-Default) next.1)
     (c.begin_formula.ensures.step c.args.made.now)
 
 pub returns-in-Variables-clause-fault : goal.returns-in-Variables-clause-fault
@@ -166,8 +166,8 @@ returns-in_default-clause-fault c =
     let none : behind file lexed i ≡ [] = search rules in
     fault_end greatest_depth (outside (read_of c.args.made.now)) (behind file lexed i) none
 
-pub returns-in_default-sign-clause-fault : goal.returns-in_default-sign-clause-fault
-returns-in_default-sign-clause-fault c =
+pub returns-in_default-terminal-clause-fault : goal.returns-in_default-terminal-clause-fault
+returns-in_default-terminal-clause-fault c =
     let file = c.args.file in
     let lexed = c.args.tokens.now in
     let i = c.args.i in
@@ -177,5 +177,5 @@ returns-in_default-sign-clause-fault c =
     let next : (bytes : List ℕ) × IsNext file lexed i (symbol_with sign bytes) at = search rules in
     let context = in_formula d at in
     as_fault file lexed (step_fault greatest_depth (outside d) (behind file lexed i)) (step_fault greatest_depth (wanted context []) (behind file lexed i)) c.begin_formula.result
-    (formula_fault greatest_depth d context at sign next.0 (behind file lexed i) (behind file lexed (suc i)) (other_word sign c.in_default-sign.not-Variables c.in_default-sign.not-Const c.in_default-sign.not-Predicate c.in_default-sign.not-Include c.in_default-sign.not-Default) next.1)
+    (formula_fault greatest_depth d context at sign next.0 (behind file lexed i) (behind file lexed (suc i)) (other_word sign c.in_default-terminal.not-Variables c.in_default-terminal.not-Const c.in_default-terminal.not-Predicate c.in_default-terminal.not-Include c.in_default-terminal.not-Default) next.1)
     (c.begin_formula.ensures.fault context)

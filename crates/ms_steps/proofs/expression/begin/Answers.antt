@@ -29,13 +29,13 @@ returns-clause-step c context =
     let file = c.args.file in
     let lexed = c.args.tokens.now in
     let i = c.args.i in
-    let sign = c.in-Some-terminal_at.terminal in
+    let found = c.in-Some-terminal_at.terminal in
     let at = c.in-Some-terminal_at.at in
     let none : NoName (behind file lexed i) = search rules in
-    let next : (bytes : List ℕ) × IsNext file lexed i (symbol_with sign bytes) at = search rules in
+    let next : (bytes : List ℕ) × IsNext file lexed i (symbol_with found bytes) at = search rules in
     let one : suc i ≡ i + 1 = omega arith in
-    as_taken context file lexed (step greatest_depth (wanted context st) (behind file lexed i)) (begin greatest_depth context st at (symbol_with sign next.0) (behind file lexed (i + 1))) c.begin_terminal.new.stack.items c.begin_terminal.result
-    (terminal_begun greatest_depth context st at (symbol_with sign next.0) (behind file lexed i) (behind file lexed (suc i)) (behind file lexed (i + 1)) next.1 (ap (behind file lexed) one))
+    as_taken context file lexed (step greatest_depth (wanted context st) (behind file lexed i)) (begin greatest_depth context st at (symbol_with found next.0) (behind file lexed (i + 1))) c.begin_terminal.new.stack.items c.begin_terminal.result
+    (terminal_begun greatest_depth context st at (symbol_with found next.0) (behind file lexed i) (behind file lexed (suc i)) (behind file lexed (i + 1)) next.1 (ap (behind file lexed) one))
     (c.begin_terminal.ensures.step context next.0 (no_name_terminal (behind file lexed i) (behind file lexed (suc i)) sign next.0 at none next.1))
 
 pub returns-in-Some-clause-fault : goal.returns-in-Some-clause-fault
@@ -61,10 +61,10 @@ returns-clause-fault c context =
     let file = c.args.file in
     let lexed = c.args.tokens.now in
     let i = c.args.i in
-    let sign = c.in-Some-terminal_at.terminal in
+    let found = c.in-Some-terminal_at.terminal in
     let at = c.in-Some-terminal_at.at in
     let none : NoName (behind file lexed i) = search rules in
-    let next : (bytes : List ℕ) × IsNext file lexed i (symbol_with sign bytes) at = search rules in
+    let next : (bytes : List ℕ) × IsNext file lexed i (symbol_with found bytes) at = search rules in
     let one : suc i ≡ i + 1 = omega arith in
     let s = symbol_with sign next.0 in
     as_fault file lexed (step_fault greatest_depth (wanted context st) (behind file lexed i)) (begin_fault greatest_depth st s (behind file lexed (i + 1 - 1)) (behind file lexed (i + 1))) c.begin_terminal.result
