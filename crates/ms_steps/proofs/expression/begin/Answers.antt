@@ -36,7 +36,7 @@ returns-clause-step c context =
     let one : suc i ≡ i + 1 = omega arith in
     as_taken context file lexed (step greatest_depth (wanted context st) (behind file lexed i)) (begin greatest_depth context st at (symbol_with found next.0) (behind file lexed (i + 1))) c.begin_terminal.new.stack.items c.begin_terminal.result
     (terminal_begun greatest_depth context st at (symbol_with found next.0) (behind file lexed i) (behind file lexed (suc i)) (behind file lexed (i + 1)) next.1 (ap (behind file lexed) one))
-    (c.begin_terminal.ensures.step context next.0 (no_name_terminal (behind file lexed i) (behind file lexed (suc i)) sign next.0 at none next.1))
+    (c.begin_terminal.ensures.step context next.0 (no_name_terminal (behind file lexed i) (behind file lexed (suc i)) found next.0 at none next.1))
 
 pub returns-in-Some-clause-fault : goal.returns-in-Some-clause-fault
 returns-in-Some-clause-fault c context =
@@ -66,8 +66,8 @@ returns-clause-fault c context =
     let none : NoName (behind file lexed i) = search rules in
     let next : (bytes : List ℕ) × IsNext file lexed i (symbol_with found bytes) at = search rules in
     let one : suc i ≡ i + 1 = omega arith in
-    let s = symbol_with sign next.0 in
+    let s = symbol_with found next.0 in
     as_fault file lexed (step_fault greatest_depth (wanted context st) (behind file lexed i)) (begin_fault greatest_depth st s (behind file lexed (i + 1 - 1)) (behind file lexed (i + 1))) c.begin_terminal.result
     (wanted_fault greatest_depth context st s at (behind file lexed i) (behind file lexed (suc i)) (behind file lexed (i + 1)) next.1 (ap (behind file lexed) one)
     ∙ ap (λ x. begin_fault greatest_depth st s x (behind file lexed (i + 1))) (sym (one_behind file lexed i)))
-    (c.begin_terminal.ensures.fault next.0 (no_name_terminal (behind file lexed i) (behind file lexed (suc i)) sign next.0 at none next.1))
+    (c.begin_terminal.ensures.fault next.0 (no_name_terminal (behind file lexed i) (behind file lexed (suc i)) found next.0 at none next.1))
