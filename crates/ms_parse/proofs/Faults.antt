@@ -16,12 +16,12 @@ use Rattle.ms_text.specs.declared.token.Token.{Token}
 use Rattle.ms_text.specs.Spelling.{left_out_spelling, Spells}
 use Rattle.ms_text.specs.TokenList.{Lexed, slice_of}
 use Rattle.ms_grammar.specs.Symbol.{Symbol, name, left_out, symbol_of, word_symbol, mark_symbol, Placed, placed, symbols}
-use Rattle.ms_steps.specs.Signs.{behind, IsNext}
+use Rattle.ms_steps.specs.Terminals.{behind, IsNext}
 use Rattle.ms_parse.specs.Refused.{IsMisplaced, IsTooDeepAt, IsLanguage, end_of, EndsEarly}
 use Rattle.ms_steps.specs.Stops.{Misplaces, Deepens, MisplacesAt, DeepensAt}
 use Rattle.ms_grammar.specs.Continuation.{CanFollow}
 use Rattle.std.proofs.lemmas.List.{append-nil}
-use Rattle.ms_steps.proofs.Inputs.{of_token, name_is_utf8, sign_next}
+use Rattle.ms_steps.proofs.Inputs.{of_token, name_is_utf8, terminal_next}
 use Rattle.ms_steps.proofs.Tokens.{cut}
 
 pub left_out_symbol : (lexed : Lexed) (i : ℕ) (token : Token) (bytes made : List ℕ) → slice_get lexed.tokens i ≡ Some token → token.kind ≡ kinds.LeftOut → IfSome (slice_get lexed.tokens i) (λ t. bytes ≡ slice_of lexed t) → made ≡ bytes
@@ -54,7 +54,7 @@ abbrev pub symbol_at : Lexed → Token → Symbol
 symbol_at lexed token = symbol_of token.kind (slice_of lexed token)
 
 pub token_next : (file : ℕ) (lexed : Lexed) (i : ℕ) (token : Token) (at : At) → slice_get lexed.tokens i ≡ Some token → at ≡ record { file = file; place = token.place } → IsNext file lexed i (symbol_at lexed token) at
-token_next file lexed i token at found here = sign_next file lexed i token (symbol_at lexed token) at found refl here
+token_next file lexed i token at found here = terminal_next file lexed i token (symbol_at lexed token) at found refl here
 
 -- the symbol of the token with this number cannot stand there
 pub misplaced_at : (file : ℕ) (lexed : Lexed) (i : ℕ) (s : Symbol) (at : At) → IsNext file lexed i s at → MisplacesAt file lexed i → IsMisplaced file lexed s at

@@ -1,7 +1,7 @@
 use Rattle.std.proofs.Common.{◌≡◌, true, inl, inr, ◌∙◌, arith}
 use Rattle.ms_grammar.specs.Symbol.{left_out}
 use Rattle.ms_parse.proofs.Faults.{misplaced_at, language_misplaced, ends_early, left_out_is_utf8, left_out_symbol}
-use Rattle.ms_steps.proofs.Inputs.{at_end, sign_next}
+use Rattle.ms_steps.proofs.Inputs.{at_end, terminal_next}
 use Rattle.ms_parse.proofs.refuse.fault_at.Goals as goal
 
 pub returns-in-Ok-new : goal.returns-in-Ok-new
@@ -11,7 +11,7 @@ returns-in-Ok-new c is =
     let i = c.args.i in
     let word = c.in-Ok-new.word in
     let next =
-    sign_next file lexed i c.get-token.result (left_out word) c.at_of-at.result c.get-token.ensures.token
+    terminal_next file lexed i c.get-token.result (left_out word) c.at_of-at.result c.get-token.ensures.token
     (left_out_symbol lexed i c.get-token.result c.slice.result.now word c.get-token.ensures.token (c.is_left_out.ensures.0 c.if-not-is_left_out.false) c.slice.ensures.slice (c.in-Ok-new.ensures ∙ c.in-Ok.ensures.cases.0))
     c.at_of-at.ensures in
     inr (misplaced_at file lexed i (left_out word) c.at_of-at.result next is)
