@@ -47,11 +47,11 @@ restrict_shape e inner is = by_form e (forms.Restrict inner) is ∙ form_of-Rest
 pub export_shape : (e : Expr) (a : At) (file : List ℕ) (inner : Expr) → e.form ≡ forms.Export a file inner → expression_of e ≡ enclosed e.at (Export a file) (expression_of inner)
 export_shape e a file inner is = by_form e (forms.Export a file inner) is ∙ form_of-Export a file inner e.at
 
--- what three calls append
-pub three : {T E : Type 0} (r : Result T E) (t0 t1 t2 t3 a b c : List ℕ) → t1 ≡ t0 ++ a → t2 ≡ t1 ++ b → OnOk r (t3 ≡ t2 ++ c) → OnOk r (t3 ≡ t0 ++ (a ++ b ++ c))
-three r t0 t1 t2 t3 a b c first second last =
-    let whole : t2 ++ c ≡ t0 ++ (a ++ b ++ c) = rw (second, first) (simp append_assoc) in
-    on_ok_weaker r (λ (e : t3 ≡ t2 ++ c). e ∙ whole) last
+-- what two calls append, the second of them two pieces
+pub two : {T E : Type 0} (r : Result T E) (t0 t1 t2 a b c : List ℕ) → t1 ≡ t0 ++ a → OnOk r (t2 ≡ t1 ++ (b ++ c)) → OnOk r (t2 ≡ t0 ++ (a ++ b ++ c))
+two r t0 t1 t2 a b c first last =
+    let whole : t1 ++ (b ++ c) ≡ t0 ++ (a ++ b ++ c) = rw (first) (simp append_assoc) in
+    on_ok_weaker r (λ (e : t2 ≡ t1 ++ (b ++ c)). e ∙ whole) last
 
 -- what is tested of the shape is tested of the expression
 pub by_shape : (e : Expr) (x : Expression) (room : ℕ) (free r : Bool) → expression_of e ≡ x → (IsTrue r → Passes room free x) → (Passes room free x → IsTrue r) → (IsTrue r → Passes room free (expression_of e)) × (Passes room free (expression_of e) → IsTrue r)

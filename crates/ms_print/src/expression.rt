@@ -2,17 +2,18 @@ ghost use Rattle.std.specs.Prelude.{◌≡◌, ◌++◌, OnOk, string_bytes};
 ghost use Rattle.ms_edge.specs.declared.at.At.{At};
 ghost use Rattle.ms_grammar.specs.declared.operator.Bracket.TheVariants.{Export};
 ghost use Rattle.ms_grammar.specs.declared.operator.Binary.TheVariants.{Relation};
-ghost use Rattle.ms_grammar.specs.Symbol.{infix_operator, mark_symbol, name};
-ghost use Rattle.ms_logic.specs.declared.mode.Rel.TheVariants.{Equal};
+ghost use Rattle.ms_grammar.specs.Symbol.{close_round, colon, comma, infix_operator, mark_symbol, name, prefix_operator};
+ghost use Rattle.ms_logic.specs.declared.mode.Rel.TheVariants.{Equal, Member};
 ghost use Rattle.ms_grammar.specs.Tree as tree;
 ghost use Rattle.ms_grammar.specs.View.{domain_of, expression_of, expressions_of, part_of, parts_of, variable_of, variables_of};
 ghost use Rattle.ms_print.specs.Printed.{printed, printed_all, printed_atom, printed_domain, printed_opening, printed_pair, printed_parts, printed_variables, separated, spelled};
 
 use crate::token::{
-    push_let, push_mark, push_name, push_number, push_opening, push_quantifier, push_quoted,
-    push_relation, push_shift, push_unsigned, push_word,
+    push_infix, push_let, push_mark, push_name, push_number, push_opening, push_prefix,
+    push_quantifier, push_quoted, push_shift, push_unsigned, push_word,
 };
-use ms_edge::{Boxed, Text};
+use ms_edge::{Boxed, List, Text};
+use ms_grammar::{Binary, Prefix};
 use ms_logic::{Bound, Expr, Form, LetPart, PlacedInt, Rename};
 use ms_text::{Keyword, Mark};
 use std::alloc::AllocError;
@@ -78,97 +79,128 @@ pub fn push_expression(text: &mut String, e: &Expr) -> Result<(), AllocError>
         Form::Pconst(n) => push_pconst(text, n),
         Form::Paren(inner) => {
             push_mark(text, Mark::OpenParenthesis)?;
-            push_expression(text, inner.get())?;
-            push_mark(text, Mark::CloseParenthesis)
+            push_closed(text, inner)
         }
         Form::Literal(elements) => {
             push_mark(text, Mark::OpenBrace)?;
-            push_all(text, Mark::Comma, elements.slice())?;
-            push_mark(text, Mark::CloseBrace)
+            push_entries(text, elements, Mark::CloseBrace)
         }
         Form::Call(called, arguments) => {
             push_name(text, called)?;
             push_mark(text, Mark::OpenParenthesis)?;
-            push_all(text, Mark::Comma, arguments.slice())?;
-            push_mark(text, Mark::CloseParenthesis)
+            push_entries(text, arguments, Mark::CloseParenthesis)
         }
-        Form::Not(operand) => {
-            push_mark(text, Mark::Not)?;
-            push_expression(text, operand.get())
-        }
+        Form::Not(operand) => push_behind(text, Prefix::Negation, operand),
         Form::And(operands) => push_all(text, Mark::And, operands.slice()),
         Form::Or(operands) => push_all(text, Mark::Or, operands.slice()),
         Form::Implies(left, right) => {
-            push_expression(text, left.get())?;
-            push_mark(text, Mark::Implication)?;
+            push_left(text, left, Binary::Implication)?;
             push_expression(text, right.get())
         }
         Form::Iff(left, right) => {
-            push_expression(text, left.get())?;
-            push_mark(text, Mark::Equivalence)?;
+            push_left(text, left, Binary::Equivalence)?;
             push_expression(text, right.get())
         }
         Form::Relation(rel, left, right) => {
-            push_expression(text, left.get())?;
-            push_relation(text, *rel)?;
+            push_left(text, left, Binary::Relation(*rel))?;
             push_expression(text, right.get())
         }
         Form::IsEmpty(inner) => {
             push_opening(text, Keyword::Empty)?;
-            push_expression(text, inner.get())?;
-            push_mark(text, Mark::CloseParenthesis)
+            push_closed(text, inner)
         }
         Form::Union(left, right) => {
-            push_expression(text, left.get())?;
-            push_word(text, Keyword::Union)?;
+            push_left(text, left, Binary::Union)?;
             push_expression(text, right.get())
         }
         Form::Inter(left, right) => {
-            push_expression(text, left.get())?;
-            push_word(text, Keyword::Inter)?;
+            push_left(text, left, Binary::Intersection)?;
             push_expression(text, right.get())
         }
         Form::Minus(left, right) => {
-            push_expression(text, left.get())?;
-            push_mark(text, Mark::Backslash)?;
+            push_left(text, left, Binary::Difference)?;
             push_expression(text, right.get())
         }
         Form::Shift(operand, n) => {
             push_expression(text, operand.get())?;
             push_shift(text, n)
         }
-        Form::Min(operand) => {
-            push_word(text, Keyword::Min)?;
-            push_expression(text, operand.get())
-        }
-        Form::Max(operand) => {
-            push_word(text, Keyword::Max)?;
-            push_expression(text, operand.get())
-        }
+        Form::Min(operand) => push_behind(text, Prefix::Minimum, operand),
+        Form::Max(operand) => push_behind(text, Prefix::Maximum, operand),
         Form::Bind(quant, order, bounds, body) => {
             push_quantifier(text, *quant, *order)?;
             push_bounds(text, bounds.slice())?;
-            push_mark(text, Mark::Colon)?;
-            push_expression(text, body.get())
+            push_body(text, body)
         }
         Form::Let(order, parts, body) => {
             push_let(text, *order)?;
             push_parts(text, parts.slice())?;
-            push_word(text, Keyword::In)?;
-            push_expression(text, body.get())
+            push_let_body(text, body)
         }
         Form::Restrict(inner) => {
             push_opening(text, Keyword::Restrict)?;
-            push_expression(text, inner.get())?;
-            push_mark(text, Mark::CloseParenthesis)
+            push_closed(text, inner)
         }
         Form::Import(file, pairs) => push_import(text, file, pairs.slice()),
         Form::Export(_, file, inner) => {
             push_export(text, file)?;
-            push_expression(text, inner.get())?;
-            push_mark(text, Mark::CloseParenthesis)
+            push_closed(text, inner)
         }
     }
+}
+
+// An expression and the bracket behind it.
+#[cycle(print_expression)]
+fn push_closed(text: &mut String, inner: &Boxed<Expr>) -> Result<(), AllocError>
+    ensures { OnOk result (string_bytes text.new ≡ string_bytes text.old ++ (printed spelled (expression_of inner.now) ++ spelled close_round)) }
+{
+    push_expression(text, inner.get())?;
+    push_mark(text, Mark::CloseParenthesis)
+}
+
+// Entries with commas between them, and the bracket behind them.
+#[cycle(print_expression)]
+fn push_entries(text: &mut String, entries: &List<Expr>, bracket: Mark) -> Result<(), AllocError>
+    ensures { OnOk result (string_bytes text.new ≡ string_bytes text.old ++ (printed_all spelled comma (expressions_of entries.now) ++ spelled (mark_symbol bracket))) }
+{
+    push_all(text, Mark::Comma, entries.slice())?;
+    push_mark(text, bracket)
+}
+
+// An operator and its operand.
+#[cycle(print_expression)]
+fn push_behind(text: &mut String, op: Prefix, operand: &Boxed<Expr>) -> Result<(), AllocError>
+    ensures { OnOk result (string_bytes text.new ≡ string_bytes text.old ++ (spelled (prefix_operator op) ++ printed spelled (expression_of operand.now))) }
+{
+    push_prefix(text, op)?;
+    push_expression(text, operand.get())
+}
+
+// An expression and the operator behind it.
+#[cycle(print_expression)]
+fn push_left(text: &mut String, left: &Boxed<Expr>, op: Binary) -> Result<(), AllocError>
+    ensures { OnOk result (string_bytes text.new ≡ string_bytes text.old ++ (printed spelled (expression_of left.now) ++ spelled (infix_operator op))) }
+{
+    push_expression(text, left.get())?;
+    push_infix(text, op)
+}
+
+// The body of a binder, and the symbol before it.
+#[cycle(print_expression)]
+fn push_body(text: &mut String, body: &Boxed<Expr>) -> Result<(), AllocError>
+    ensures { OnOk result (string_bytes text.new ≡ string_bytes text.old ++ (spelled colon ++ printed spelled (expression_of body.now))) }
+{
+    push_mark(text, Mark::Colon)?;
+    push_expression(text, body.get())
+}
+
+// The body of a `let`, and the word before it.
+#[cycle(print_expression)]
+fn push_let_body(text: &mut String, body: &Boxed<Expr>) -> Result<(), AllocError>
+    ensures { OnOk result (string_bytes text.new ≡ string_bytes text.old ++ (spelled (infix_operator (Relation Member)) ++ printed spelled (expression_of body.now))) }
+{
+    push_word(text, Keyword::In)?;
+    push_expression(text, body.get())
 }
 
 // Expressions with a mark between them.

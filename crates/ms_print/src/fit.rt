@@ -28,6 +28,13 @@ fn stands_left(e: &Expr, least: u8) -> bool
     level(e) >= least && !ends_open(e)
 }
 
+// Whether the sides of an operator bind so tightly, and the left one does not end with the body of a binder.
+fn sides_bind(left: &Boxed<Expr>, least_left: u8, right: &Boxed<Expr>, least_right: u8) -> bool
+    ensures { IsTrue result ↔ ((least_left ≤ level (expression_of left.now)) × (ends_open (expression_of left.now) ≡ false) × (least_right ≤ level (expression_of right.now))) }
+{
+    stands_left(left.get(), least_left) && level(right.get()) >= least_right
+}
+
 fn has_two(es: &[Expr]) -> bool
     ensures { IsTrue result ↔ HasTwo (expressions_of es.now) }
 {
@@ -98,40 +105,34 @@ pub fn passes(e: &Expr, room: u32, free: bool) -> bool
         Form::Implies(left, right) => {
             passes(left.get(), room, free)
                 && passes(right.get(), room, free)
-                && stands_left(left.get(), 2)
-                && level(right.get()) >= 1
+                && sides_bind(left, 2, right, 1)
         }
         Form::Iff(left, right) => {
             passes(left.get(), room, free)
                 && passes(right.get(), room, free)
-                && stands_left(left.get(), 0)
-                && level(right.get()) >= 1
+                && sides_bind(left, 0, right, 1)
         }
         Form::Relation(rel, left, right) => {
             may_stand(*rel, free)
                 && passes(left.get(), room, free)
                 && passes(right.get(), room, free)
-                && stands_left(left.get(), 6)
-                && level(right.get()) >= 6
+                && sides_bind(left, 6, right, 6)
         }
         Form::IsEmpty(inner) => passes(inner.get(), room, true),
         Form::Union(left, right) => {
             passes(left.get(), room, free)
                 && passes(right.get(), room, free)
-                && stands_left(left.get(), 6)
-                && level(right.get()) >= 7
+                && sides_bind(left, 6, right, 7)
         }
         Form::Inter(left, right) => {
             passes(left.get(), room, free)
                 && passes(right.get(), room, free)
-                && stands_left(left.get(), 7)
-                && level(right.get()) >= 8
+                && sides_bind(left, 7, right, 8)
         }
         Form::Minus(left, right) => {
             passes(left.get(), room, free)
                 && passes(right.get(), room, free)
-                && stands_left(left.get(), 8)
-                && level(right.get()) >= 9
+                && sides_bind(left, 8, right, 9)
         }
         Form::Shift(operand, n) => {
             can_say_int(&n.value)

@@ -7,6 +7,7 @@ ghost use Rattle.ms_grammar.specs.declared.operator.Binary.TheVariants as binary
 ghost use Rattle.ms_print.specs.Printed.{blank_behind, spelled, unsigned};
 
 use ms_edge::{Name, Text};
+use ms_grammar::{Binary, Prefix};
 use ms_logic::{Int, Order, PlacedInt, Quant, Rel};
 use ms_text::{Keyword, Mark};
 use std::alloc::AllocError;
@@ -105,6 +106,31 @@ pub fn push_relation(text: &mut String, rel: Rel) -> Result<(), AllocError>
         Rel::Member => push_word(text, Keyword::In),
         Rel::NotMember => push_word(text, Keyword::NotIn),
         Rel::Sub => push_word(text, Keyword::Sub),
+    }
+}
+
+/// An operator between two operands.
+pub fn push_infix(text: &mut String, op: Binary) -> Result<(), AllocError>
+    ensures { OnOk result (string_bytes text.new ≡ string_bytes text.old ++ spelled (symbol.infix_operator op)) }
+{
+    match op {
+        Binary::Implication => push_mark(text, Mark::Implication),
+        Binary::Equivalence => push_mark(text, Mark::Equivalence),
+        Binary::Relation(rel) => push_relation(text, rel),
+        Binary::Union => push_word(text, Keyword::Union),
+        Binary::Intersection => push_word(text, Keyword::Inter),
+        Binary::Difference => push_mark(text, Mark::Backslash),
+    }
+}
+
+/// An operator before its operand.
+pub fn push_prefix(text: &mut String, op: Prefix) -> Result<(), AllocError>
+    ensures { OnOk result (string_bytes text.new ≡ string_bytes text.old ++ spelled (symbol.prefix_operator op)) }
+{
+    match op {
+        Prefix::Negation => push_mark(text, Mark::Not),
+        Prefix::Minimum => push_word(text, Keyword::Min),
+        Prefix::Maximum => push_word(text, Keyword::Max),
     }
 }
 

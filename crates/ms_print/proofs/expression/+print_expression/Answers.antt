@@ -1,11 +1,10 @@
-use Rattle.std.proofs.Common.{rules, string_bytes, append_assoc, ap, sym, ◌∙◌}
-use Rattle.ms_logic.specs.declared.source.Form.TheVariants as forms
+use Rattle.std.proofs.Common.{rules, string_bytes, append_assoc}
 use Rattle.ms_grammar.specs.Symbol.{close_round, mark_symbol}
 use Rattle.ms_grammar.specs.declared.operator.Bracket.TheVariants.{Restriction, Export}
 use Rattle.ms_grammar.specs.View.{expression_of}
 use Rattle.ms_print.specs.Printed.{printed, printed_opening, spelled}
 use Rattle.ms_print.proofs.Lists.{printed_all_more, printed_variables_more, printed_parts_more}
-use Rattle.ms_print.proofs.Shapes.{bind_shape, let_shape, restrict_shape, export_shape, three}
+use Rattle.ms_print.proofs.Shapes.{bind_shape, let_shape, restrict_shape, export_shape, two}
 use Rattle.std.proofs.lemmas.Result.{IfOk-equal}
 use Rattle.ms_print.proofs.expression.+print_expression.Goals as goal
 
@@ -24,30 +23,24 @@ push_parts-loop-i-preserved t c =
     let more = printed_parts_more spelled c.args.parts.now c.loop-i.i c.index-parts-i.result c.loop-i-test.true c.index-parts-i.is in
     rw (more) (search (rules, append_assoc))
 
-pub push_expression-returns-in_ok-push_mark-in-Bind :
-    goal.push_expression-returns-in_ok-push_mark-in-Bind
-push_expression-returns-in_ok-push_mark-in-Bind t c =
+pub push_expression-returns-in_ok-push_bounds-in-Bind : goal.push_expression-returns-in_ok-push_bounds-in-Bind
+push_expression-returns-in_ok-push_bounds-in-Bind t c =
     let shape = bind_shape c.args.e.now c.in-Bind.quant c.in-Bind.order c.in-Bind.bounds c.in-Bind.body c.in-Bind.is in
     rw (shape) (search (rules, append_assoc, IfOk-equal))
 
-pub push_expression-returns-in_ok-push_word-in-Let :
-    goal.push_expression-returns-in_ok-push_word-in-Let
-push_expression-returns-in_ok-push_word-in-Let t c =
+pub push_expression-returns-in_ok-push_parts-in-Let : goal.push_expression-returns-in_ok-push_parts-in-Let
+push_expression-returns-in_ok-push_parts-in-Let t c =
     let shape = let_shape c.args.e.now c.in-Let.order c.in-Let.parts c.in-Let.body c.in-Let.is in
     rw (shape) (search (rules, append_assoc, IfOk-equal))
 
-pub push_expression-returns-in_ok-push_expression-in-Restrict :
-    goal.push_expression-returns-in_ok-push_expression-in-Restrict
-push_expression-returns-in_ok-push_expression-in-Restrict t c =
-    let shape = restrict_shape c.args.e.now c.get-in-Restrict.result.now (c.in-Restrict.is ∙ ap (λ x. forms.Restrict x) (sym c.get-in-Restrict.ensures)) in
-    rw (shape)
-    (three c.push_mark-in-Restrict.result (string_bytes c.args.text.now) (string_bytes c.push_opening-in-Restrict.new.text) (string_bytes c.push_expression-in-Restrict.new.text) (string_bytes c.push_mark-in-Restrict.new.text)
-    (printed_opening spelled Restriction) (printed spelled (expression_of c.get-in-Restrict.result.now)) (spelled close_round) c.in_ok-push_opening-in-Restrict.ensures c.in_ok-push_expression-in-Restrict.ensures c.push_mark-in-Restrict.ensures)
+pub push_expression-returns-in_ok-push_opening-in-Restrict : goal.push_expression-returns-in_ok-push_opening-in-Restrict
+push_expression-returns-in_ok-push_opening-in-Restrict t c =
+    rw (restrict_shape c.args.e.now c.in-Restrict.inner c.in-Restrict.is)
+    (two c.push_closed-in-Restrict.result (string_bytes c.args.text.now) (string_bytes c.push_opening-in-Restrict.new.text) (string_bytes c.push_closed-in-Restrict.new.text)
+    (printed_opening spelled Restriction) (printed spelled (expression_of c.in-Restrict.inner)) (spelled close_round) c.in_ok-push_opening-in-Restrict.ensures c.push_closed-in-Restrict.ensures)
 
-pub push_expression-returns-in_ok-push_expression-in-Export :
-    goal.push_expression-returns-in_ok-push_expression-in-Export
-push_expression-returns-in_ok-push_expression-in-Export t c =
-    let shape = export_shape c.args.e.now c.in-Export.field-0 c.in-Export.file c.get-in-Export.result.now (c.in-Export.is ∙ ap (λ x. forms.Export c.in-Export.field-0 c.in-Export.file x) (sym c.get-in-Export.ensures)) in
-    rw (shape)
-    (three c.push_mark-in-Export.result (string_bytes c.args.text.now) (string_bytes c.push_export.new.text) (string_bytes c.push_expression-in-Export.new.text) (string_bytes c.push_mark-in-Export.new.text)
-    (printed_opening spelled (Export c.in-Export.field-0 c.in-Export.file)) (printed spelled (expression_of c.get-in-Export.result.now)) (spelled close_round) (c.in_ok-push_export-in-Export.ensures c.in-Export.field-0) c.in_ok-push_expression-in-Export.ensures c.push_mark-in-Export.ensures)
+pub push_expression-returns-in_ok-push_export-in-Export : goal.push_expression-returns-in_ok-push_export-in-Export
+push_expression-returns-in_ok-push_export-in-Export t c =
+    rw (export_shape c.args.e.now c.in-Export.field-0 c.in-Export.file c.in-Export.inner c.in-Export.is)
+    (two c.push_closed-in-Export.result (string_bytes c.args.text.now) (string_bytes c.push_export.new.text) (string_bytes c.push_closed-in-Export.new.text)
+    (printed_opening spelled (Export c.in-Export.field-0 c.in-Export.file)) (printed spelled (expression_of c.in-Export.inner)) (spelled close_round) (c.in_ok-push_export-in-Export.ensures c.in-Export.field-0) c.push_closed-in-Export.ensures)
