@@ -1,5 +1,5 @@
 -- A new file, and what becomes of its declarations.
-use Rattle.std.proofs.Common.{◌≡◌, ℕ, zero, suc, ◌+◌, ◌-◌, ◌<◌, ◌≤◌, ◌⊎◌, inl, inr, true, false, List, [], ◌∷◌, ◌++◌, append_assoc, length, drop, Option, Some, None, Result, Ok, Err, IfErr, OnOk, refl, sym, ap, ◌∙◌, subst, arith}
+use Rattle.std.proofs.Common.{◌≡◌, ℕ, zero, suc, ◌+◌, ◌-◌, ◌<◌, ◌≤◌, ◌⊎◌, inl, inr, List, [], ◌∷◌, ◌++◌, append_assoc, length, drop, Option, Some, None, Result, OnOk, refl, sym, ap, ◌∙◌, subst, arith}
 use Rattle.std.proofs.lemmas.List.{drop-append-le, length-drop}
 use Rattle.ms_edge.specs.Files.{Holding, Seen}
 use Rattle.ms_edge.specs.declared.at.At.{At}
@@ -12,7 +12,7 @@ use Rattle.ms_logic.specs.declared.source.Item.{Item}
 use Rattle.ms_logic.specs.declared.source.Source.{Source}
 use Rattle.ms_include.specs.declared.begun.Begun.{Begun}
 use Rattle.ms_include.specs.File.{IsSource, IsNoSource, IsUnread}
-use Rattle.ms_include.specs.Include.{Files, Loading, Stopping, most_files, and_next, Becomes, AllBecome, Loads, Stops, OneStops, IsHeaderFault, IsRefused, include_of}
+use Rattle.ms_include.specs.Include.{Loading, most_files, and_next, Becomes, AllBecome, Loads, Stops, OneStops, IsHeaderFault, IsRefused, include_of}
 use Rattle.ms_include.specs.Load.{files_of}
 use Rattle.ms_include.proofs.Placing.{and-one, then-stops}
 

@@ -1,5 +1,5 @@
 -- Calls as parts of a request.
-use Rattle.std.proofs.Common.{◌≡◌, refl, sym, ◌∙◌, arith}
+use Rattle.std.proofs.Common.{refl, ◌∙◌, arith}
 use Rattle.ms_edge.specs.Files.{FilesTold, NoCountFell, OnlyRead, Seen, between}
 use Rattle.ms_include.specs.Seen.{IsPart}
 

@@ -1,5 +1,5 @@
 -- Small files for worked examples. A file has a one-letter name, and what it holds stands in a table.
-use Rattle.std.specs.Prelude.{◌≡◌, ℕ, ◌+◌, Bool, true, false, cond, bytes_eq, List, [], ◌∷◌, codes, Option, Some, None}
+use Rattle.std.specs.Prelude.{◌≡◌, ℕ, ◌+◌, cond, bytes_eq, List, [], ◌∷◌, codes, Option, Some, None}
 use Rattle.ms_edge.specs.declared.at.At.{At}
 use Rattle.ms_edge.specs.declared.refusal.Refusal.TheVariants.{FileMissing}
 use Rattle.ms_logic.specs.declared.mode.Mode.TheVariants.{Ws1s}

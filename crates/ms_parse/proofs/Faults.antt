@@ -1,7 +1,5 @@
 -- Names and words that are left out, by the number of their token.
-use Rattle.std.proofs.Common.{◌≡◌, ◌≢◌, ℕ, zero, suc, List, [], ◌∷◌, ◌++◌, take, drop, slice_get, Some, false, bytes_eq, refl, sym, ap, ◌∙◌, subst}
-use Rattle.std.proofs.lemmas.Bool.{false≢true}
-use Rattle.std.proofs.lemmas.Slice.Eq.{bytes_eq-Decides}
+use Rattle.std.proofs.Common.{◌≡◌, ◌≢◌, ℕ, suc, List, [], ◌∷◌, ◌++◌, take, slice_get, Some, refl, sym, ap, ◌∙◌, subst}
 use Rattle.std.specs.Prelude.{IfSome, IsUtf8, codes}
 use Rattle.ms_edge.specs.declared.at.At.{At}
 use Rattle.ms_text.specs.declared.keyword.Keyword.{Keyword}
@@ -15,7 +13,7 @@ use Rattle.ms_text.specs.declared.token.Kind.TheVariants as kinds
 use Rattle.ms_text.specs.declared.token.Token.{Token}
 use Rattle.ms_text.specs.Spelling.{left_out_spelling, Spells}
 use Rattle.ms_text.specs.TokenList.{Lexed, slice_of}
-use Rattle.ms_grammar.specs.Symbol.{Symbol, name, left_out, symbol_of, word_symbol, mark_symbol, Placed, placed, symbols}
+use Rattle.ms_grammar.specs.Symbol.{Symbol, left_out, symbol_of, word_symbol, mark_symbol, placed, symbols}
 use Rattle.ms_steps.specs.Terminals.{behind, IsNext}
 use Rattle.ms_parse.specs.Refused.{IsMisplaced, IsTooDeepAt, IsLanguage, end_of, EndsEarly}
 use Rattle.ms_steps.specs.Stops.{Misplaces, Deepens, MisplacesAt, DeepensAt}

@@ -1,11 +1,10 @@
 -- Steps at the beginning of an expression, as the code takes them.
-use Rattle.ms_logic.specs.declared.source.Rename.{Rename}
 use Rattle.std.proofs.lemmas.Bool.{le-leb}
 use Rattle.ms_grammar.specs.Grammar.{left_level, level, junction_level}
 use Rattle.ms_logic.specs.declared.mode.Order.{Order}
 use Rattle.ms_logic.specs.declared.mode.Rel.TheVariants.{Equal}
-use Rattle.ms_steps.specs.Terminals.{NoText, NoName}
-use Rattle.std.proofs.Common.{◌≡◌, ℕ, List, [], ◌∷◌, Some, None, refl, sym, ap, ◌∙◌, subst, ◌≤◌, cond, ◌++◌, suc}
+use Rattle.ms_steps.specs.Terminals.{NoText}
+use Rattle.std.proofs.Common.{◌≡◌, ℕ, List, [], ◌∷◌, Some, None, refl, sym, ap, ◌∙◌, subst, ◌≤◌, cond, suc}
 use Rattle.std.specs.Prelude.{Result}
 use Rattle.ms_edge.specs.declared.at.At.{At}
 use Rattle.ms_text.specs.TokenList.{Lexed}
@@ -18,7 +17,7 @@ use Rattle.ms_steps.specs.Machine.{Context, list_frame, bracket_frame, holding, 
 use Rattle.ms_steps.specs.Outcomes.{Took}
 use Rattle.ms_steps.specs.Punctuations.{IsNot}
 use Rattle.ms_grammar.specs.Reads.{Follows, place}
-use Rattle.ms_grammar.specs.Symbol.{open_round, close_round, Placed, placed, text, comma, close_curly, name, infix_operator, arrow}
+use Rattle.ms_grammar.specs.Symbol.{open_round, close_round, Placed, placed, text, comma, close_curly, name, infix_operator}
 use Rattle.ms_grammar.specs.declared.operator.Binary.{Binary}
 use Rattle.ms_grammar.specs.declared.operator.Binary.TheVariants.{Relation}
 use Rattle.ms_grammar.specs.declared.operator.Junction.{Junction}

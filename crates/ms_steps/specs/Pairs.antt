@@ -1,5 +1,5 @@
 -- `left -> right` of an import.
-use Rattle.std.specs.Prelude.{◌≡◌, List, [], ◌∷◌}
+use Rattle.std.specs.Prelude.{◌≡◌, List, ◌∷◌}
 use Rattle.ms_edge.specs.declared.at.At.{At}
 use Rattle.ms_logic.specs.declared.source.Rename.{Rename}
 use Rattle.ms_grammar.specs.Symbol.{name, arrow, Placed, placed}

@@ -1,4 +1,4 @@
-use Rattle.std.proofs.Common.{◌≡◌, ◌≤◌, refl, sym, ap, ◌∙◌, arith, length, drop}
+use Rattle.std.proofs.Common.{refl, ap, ◌∙◌, length, drop}
 use Rattle.ms_include.proofs.Bounds.{loaded-within}
 use Rattle.ms_include.proofs.Main.{main-loaded, main-unopened, main-stopped, renamed-refused, renamed-loaded}
 use Rattle.ms_include.proofs.Opening.{grown-more}

@@ -1,12 +1,10 @@
-use Rattle.std.proofs.Common.{rules, ◌≡◌, ap, sym, ◌∙◌, subst}
+use Rattle.std.proofs.Common.{rules, ◌≡◌, sym, subst}
 use Rattle.std.specs.Prelude.{Err}
-use Rattle.ms_steps.specs.Faults.{accepted, mark_then, next_pair_fault, pair_fault, refused_at}
 use Rattle.ms_steps.specs.Machine.{next_pair}
 use Rattle.ms_steps.specs.Outcomes.{Took}
 use Rattle.ms_steps.specs.Terminals.{behind}
 use Rattle.ms_steps.specs.Stack.{stack_of}
-use Rattle.ms_steps.proofs.Faulting.{as_fault, mark_found}
-use Rattle.ms_steps.proofs.Pairs.{pair_faulty, pair_read, pair_refused}
+use Rattle.ms_steps.proofs.Pairs.{pair_read, pair_refused}
 use Rattle.ms_steps.proofs.Stacks.{failed_taken}
 use Rattle.ms_steps.proofs.names.next_pair.Goals as goal
 

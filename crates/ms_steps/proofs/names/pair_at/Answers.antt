@@ -1,4 +1,4 @@
-use Rattle.std.proofs.Common.{rules, ◌≡◌, ◌+◌, suc, ap, arith, ◌∙◌}
+use Rattle.std.proofs.Common.{rules, ◌+◌, suc, ◌∙◌}
 use Rattle.ms_steps.specs.Terminals.{behind, IsNext, NoName}
 use Rattle.ms_grammar.specs.Symbol.{name, arrow}
 use Rattle.ms_steps.specs.Faults.{mark_then, name_then, accepted, refused_at}

@@ -1,7 +1,7 @@
-use Rattle.std.proofs.Common.{◌≡◌, ◌<◌, ◌≤◌, ◌+◌, ◌-◌, ◌∷◌, ◌⊎◌, length, drop, inr, ℕ, refl, sym, ap, ◌∙◌, subst, arith, OnOk, List, ◌++◌}
+use Rattle.std.proofs.Common.{◌≡◌, ◌<◌, ◌+◌, ◌-◌, ◌⊎◌, length, drop, inr, refl, sym, ◌∙◌, subst, arith, List}
 use Rattle.ms_edge.specs.declared.refusal.Refusal.TheVariants.{Memory}
 use Rattle.ms_logic.specs.declared.source.Item.{Item}
-use Rattle.ms_include.specs.Include.{is_among, Becomes, Loads, OneStops, IsRefused, most_files}
+use Rattle.ms_include.specs.Include.{Loads, OneStops, IsRefused, most_files}
 use Rattle.ms_include.specs.Load.{files_of}
 use Rattle.ms_include.proofs.Opening.{open-refused, header-refused, loaded, inner-refused, include-refused, include-put, next-refused, next-put, grown-more}
 use Rattle.ms_include.proofs.Placing.{split}

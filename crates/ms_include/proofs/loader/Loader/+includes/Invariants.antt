@@ -1,4 +1,4 @@
-use Rattle.std.proofs.Common.{◌≡◌, ◌≤◌, ◌++◌, List, ℕ, ◌+◌, ◌*◌, drop}
+use Rattle.std.proofs.Common.{◌≡◌, ◌++◌, List, ℕ, ◌+◌, ◌*◌, drop}
 use Rattle.ms_logic.specs.declared.source.Item.{Item}
 use Rattle.ms_include.specs.Include.{AllBecome, Loads}
 use Rattle.ms_include.specs.Load.{files_of}

@@ -1,10 +1,10 @@
 use Rattle.std.proofs.Common.{◌≡◌, ◌∷◌, suc, subst, ap, ◌∙◌, ◌-◌}
-use Rattle.ms_grammar.specs.Grammar.{depth, depth_of_all, greatest_depth}
-use Rattle.ms_grammar.specs.Tree.{and_expression, enclosed, listed}
+use Rattle.ms_grammar.specs.Grammar.{depth_of_all, greatest_depth}
+use Rattle.ms_grammar.specs.Tree.{and_expression, listed}
 use Rattle.ms_grammar.specs.View.{expression_of, expressions_of}
-use Rattle.ms_grammar.specs.declared.operator.Listing.TheVariants.{Call, Literal}
-use Rattle.ms_steps.specs.Faults.{close_curly_fault, close_round_fault, hold_fault}
-use Rattle.ms_steps.specs.Machine.{bracket_frame, close_curly_at, close_round_at, hold, list_frame}
+use Rattle.ms_grammar.specs.declared.operator.Listing.TheVariants.{Literal}
+use Rattle.ms_steps.specs.Faults.{close_curly_fault, hold_fault}
+use Rattle.ms_steps.specs.Machine.{close_curly_at, hold, list_frame}
 use Rattle.ms_steps.specs.Rows.{IsRow}
 use Rattle.ms_steps.specs.Terminals.{behind}
 use Rattle.ms_steps.specs.Stack.{stack_of}
