@@ -1,25 +1,22 @@
 -- A source that has no fault and does not go beyond what is built is a problem that is built.
-use Rattle.std.proofs.Common.{◌≡◌, ℕ, suc, ◌+◌, ◌<◌, ◌≤◌, false, ◌⊎◌, inl, inr, List, [], ◌∷◌, length, map, Option, Some, None, refl, sym, ap, subst, ◌∙◌, arith}
-use Rattle.std.specs.Option.{option_map}
+use Rattle.std.proofs.Common.{◌≡◌, ℕ, ◌+◌, ◌≤◌, false, inl, inr, List, [], ◌∷◌, length, map, Option, Some, None, refl, sym, ap, subst, ◌∙◌, arith}
 use Rattle.ms_logic.specs.declared.checked.Checked.{Checked}
 use Rattle.ms_logic.specs.declared.checked.Global.{Global}
 use Rattle.ms_logic.specs.declared.checked.Placed as code
 use Rattle.ms_logic.specs.declared.mode.Mode.{Mode}
-use Rattle.ms_logic.specs.declared.mode.Order.{Order}
 use Rattle.ms_logic.specs.declared.source.Loaded.{Loaded}
-use Rattle.ms_logic.specs.Tree.{Form, Declaration}
 use Rattle.ms_logic.specs.Content.{Content}
 use Rattle.ms_logic.specs.Truth.{Given}
 use Rattle.ms_logic.specs.Verdict.{Problem}
 use Rattle.ms_logic.specs.declared.sign.Sign.{Sign}
-use Rattle.ms_logic.specs.View.{formula_of, forms, restriction, globals_from, problem_of}
+use Rattle.ms_logic.specs.View.{formula_of, globals_from, problem_of}
 use Rattle.ms_names.specs.Declarations.{at_the_beginning, count_of_globals}
 use Rattle.ms_names.specs.Syntax.{Placed}
 use Rattle.ms_names.specs.TypedSource.{TypedGlobal, TypedFormula, IsTyped, global_of, placed_formula_of}
 use Rattle.ms_names.specs.View.{placed_of}
 use Rattle.ms_app.specs.declared.claim.Claim.{Claim}
 use Rattle.ms_app.specs.declared.claim.Claim.TheVariants.{Nothing, Inclusion}
-use Rattle.ms_app.specs.Built.{nothing_yet, first_beyond, first_beyond_from}
+use Rattle.ms_app.specs.Built.{nothing_yet, first_beyond}
 use Rattle.ms_app.specs.Claim.{set_globals, forms_of, IsAbout, ArePlainSets, IsBuilt, problem_with, claim_of}
 use Rattle.ms_app.specs.HasValue.{HasMainValue}
 use Rattle.ms_app.proofs.Beyond.{in_ws1s, Agrees, few_globals}

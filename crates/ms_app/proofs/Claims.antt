@@ -1,5 +1,5 @@
 -- The formulas of a source that does not go beyond what is built make one claim at most, about its globals.
-use Rattle.std.proofs.Common.{◌≡◌, ℕ, ◌+◌, ◌<◌, ◌≤◌, Bool, true, false, not, ◌&&◌, ◌⊎◌, inl, inr, List, [], ◌∷◌, ◌++◌, Option, Some, None, refl, sym, ap, subst, ◌∙◌, arith}
+use Rattle.std.proofs.Common.{◌≡◌, ℕ, ◌+◌, ◌<◌, ◌≤◌, Bool, true, false, not, ◌&&◌, ◌⊎◌, inl, inr, List, [], ◌∷◌, ◌++◌, Option, Some, None, refl, ap, subst, ◌∙◌, arith}
 use Rattle.std.specs.Option.{option_map}
 use Rattle.ms_edge.specs.declared.at.At.{At}
 use Rattle.ms_logic.specs.declared.mode.Order.TheVariants.{Zero, One, Two}
@@ -8,9 +8,8 @@ use Rattle.ms_logic.specs.declared.mode.Rel.TheVariants.{Sub}
 use Rattle.ms_logic.specs.Tree.{SetTerm, set_variable, set_comparison, Form, Argument, truth_argument, number_argument, set_argument}
 use Rattle.ms_names.specs.declared.meaning.Meaning.{Meaning}
 use Rattle.ms_names.specs.declared.meaning.Meaning.TheVariants.{Variable, Constant, Predicate}
-use Rattle.ms_names.specs.Before.{Before, after}
 use Rattle.ms_names.specs.Declarations.{Known, after_declaration, globals_in, count_of_globals}
-use Rattle.ms_names.specs.Scope.{Scope, meaning_of}
+use Rattle.ms_names.specs.Scope.{meaning_of}
 use Rattle.ms_names.specs.Syntax.{Bytes, Expression, name, relation, Declaration, globals, constant, predicate, include, default, formula, Placed}
 use Rattle.ms_names.specs.Typed.{formula_in, typed, typed_name, typed_relation}
 use Rattle.ms_names.specs.TypedSource.{TypedFormula, formulas_of, collected}

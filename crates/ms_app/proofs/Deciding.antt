@@ -9,7 +9,7 @@ use Rattle.ms_include.specs.Load.{files_of, IsLoaded, IsRefusedLoad}
 use Rattle.ms_names.specs.Checking.{IsFirstFault}
 use Rattle.ms_names.specs.Declarations.{first_fault_of}
 use Rattle.ms_names.specs.View.{placed_of}
-use Rattle.ms_app.specs.Answer.{IsRefused, not_loaded, faulty, not_built, no_memory, IsNotBuilt}
+use Rattle.ms_app.specs.Answer.{IsRefused, not_loaded, faulty, not_built, no_memory}
 use Rattle.ms_app.specs.Built.{first_beyond}
 
 module _ (name text : List ℕ) (seen : Seen) (old new : List (List ℕ)) (same : text ≡ name) (first : old ≡ []) where

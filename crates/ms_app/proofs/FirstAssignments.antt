@@ -1,7 +1,7 @@
 -- The first word of a sign encodes the first assignment of the value that the sign stands for.
-use Rattle.std.proofs.Common.{◌≡◌, ◌≢◌, ℕ, ◌+◌, ◌<◌, ◌≤◌, Bool, ◌⊎◌, ◌↔◌, inl, inr, List, [], ◌∷◌, ◌++◌, length, map, Some, refl, sym, ap, subst, ◌∙◌, arith}
+use Rattle.std.proofs.Common.{◌≡◌, ℕ, ◌<◌, Bool, ◌⊎◌, ◌↔◌, inl, inr, List, [], ◌∷◌, ◌++◌, length, map, Some, refl, sym, ap, subst, ◌∙◌, arith}
 use Rattle.std.specs.List.{flat_map}
-use Rattle.std.proofs.lemmas.Bool.{cases_lt, cases_eq}
+use Rattle.std.proofs.lemmas.Bool.{cases_eq}
 use Rattle.std.proofs.lemmas.Option.{same_Some}
 use Rattle.ms_edge.specs.declared.refusal.Word.{Word}
 use Rattle.ms_logic.specs.declared.mode.Mode.{Mode}
@@ -11,12 +11,12 @@ use Rattle.ms_logic.specs.Content.{Content, IsWordOver, sign_of, shortest_word}
 use Rattle.ms_logic.specs.FiniteSet.{numbers_below}
 use Rattle.ms_logic.specs.First.{length_of, bits_of, IsLower, IsBefore, IsFirst, assignment_of}
 use Rattle.ms_logic.specs.Verdict.{Problem, variables_of, Assigns}
-use Rattle.ms_logic.specs.Word.{Encodes, IsEncoding, truth_values_of, letter_at, letters_below}
+use Rattle.ms_logic.specs.Word.{Encodes, IsEncoding, truth_values_of, letter_at}
 use Rattle.ms_logic.proofs.WordLaws.{encoding_is_over, length_is_least}
 use Rattle.ms_logic.specs.declared.sign.Sign.{Sign}
-use Rattle.ms_logic.specs.declared.sign.Sign.TheVariants.{Yes, No, Undefined, Outside}
+use Rattle.ms_logic.specs.declared.sign.Sign.TheVariants.{Yes, No, Outside}
 use Rattle.ms_dfa.specs.Automaton.{IsAutomaton}
-use Rattle.ms_best.specs.FirstWord.{bits_of_word, IsWordBefore, IsFirstWord, NoWordHas}
+use Rattle.ms_best.specs.FirstWord.{bits_of_word, IsFirstWord, NoWordHas}
 use Rattle.ms_app.specs.Decision.{MainIs, ShowsFirst}
 use Rattle.ms_app.specs.HasValue.{HasMainValue}
 

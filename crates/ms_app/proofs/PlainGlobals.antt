@@ -1,5 +1,5 @@
 -- The globals of a source that does not go beyond what is built are sets without restriction.
-use Rattle.std.proofs.Common.{◌≡◌, ℕ, ◌+◌, ◌≤◌, false, List, [], ◌∷◌, ◌++◌, length, map, Option, Some, None, refl, sym, ap, subst, ◌∙◌, arith, length-append}
+use Rattle.std.proofs.Common.{◌≡◌, ℕ, ◌+◌, false, List, [], ◌∷◌, ◌++◌, length, map, Option, Some, None, refl, ap, ◌∙◌, arith, length-append}
 use Rattle.std.specs.Option.{option_map}
 use Rattle.ms_edge.specs.declared.at.At.{At}
 use Rattle.ms_logic.specs.declared.checked.Global.{Global}
@@ -10,7 +10,7 @@ use Rattle.ms_logic.specs.View.{formula_of, restriction}
 use Rattle.ms_names.specs.declared.meaning.Meaning.TheVariants.{Variable}
 use Rattle.ms_names.specs.Before.{Before, after_domain}
 use Rattle.ms_names.specs.Declarations.{Known, after_declaration, globals_in, count_of_globals}
-use Rattle.ms_names.specs.Scope.{Scope, bind, default_of, count_of_bounds}
+use Rattle.ms_names.specs.Scope.{Scope, bind, count_of_bounds}
 use Rattle.ms_names.specs.Syntax.{Bounds, no_bounds, more_bounds, Domain, unrestricted, Declaration, globals, constant, predicate, include, default, formula, Placed}
 use Rattle.ms_names.specs.Typed.{typed_domain, default_restriction}
 use Rattle.ms_names.specs.TypedSource.{TypedGlobal, global_of, globals_of_bounds, globals_of, collected}

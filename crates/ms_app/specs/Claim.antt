@@ -5,7 +5,6 @@ use Rattle.ms_logic.specs.declared.checked.Global.{Global}
 use Rattle.ms_logic.specs.declared.mode.Mode.TheVariants.{Ws1s}
 use Rattle.ms_logic.specs.declared.mode.Order.TheVariants.{Two}
 use Rattle.ms_logic.specs.declared.mode.Rel.TheVariants.{Sub}
-use Rattle.ms_logic.specs.Assignment.{Variable}
 use Rattle.ms_logic.specs.Tree.{SetTerm, Form, set_variable, set_comparison, unrestricted, Declaration}
 use Rattle.ms_logic.specs.Truth.{Given}
 use Rattle.ms_logic.specs.Verdict.{Problem}

@@ -1,4 +1,4 @@
-use Rattle.std.proofs.Common.{◌≡◌, ◌<◌, ℕ, sym, subst, arith}
+use Rattle.std.proofs.Common.{◌≡◌, sym, subst, arith}
 use Rattle.ms_app.specs.declared.claim.Claim.{Claim}
 use Rattle.ms_app.specs.Claim.{IsAbout}
 use Rattle.ms_app.specs.Inclusion.{AlwaysHolds}

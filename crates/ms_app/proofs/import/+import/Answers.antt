@@ -1,6 +1,5 @@
-use Rattle.std.proofs.Common.{rules, ◌≡◌, List, Option, None, ap, sym, ◌∙◌}
+use Rattle.std.proofs.Common.{rules, ◌≡◌, List, ap, ◌∙◌}
 use Rattle.std.specs.Option.{option_or}
-use Rattle.ms_edge.specs.declared.at.At.{At}
 use Rattle.ms_logic.specs.declared.source.Bound.{Bound}
 use Rattle.ms_logic.specs.declared.source.Expr.{Expr, out-Expr}
 use Rattle.ms_logic.specs.declared.source.Form.{the_lemmas}

@@ -1,4 +1,4 @@
-use Rattle.std.proofs.Common.{◌≡◌, ℕ, [], List, map, sym, ap, subst, ◌∙◌}
+use Rattle.std.proofs.Common.{ℕ, [], List, map, sym, ap, subst, ◌∙◌}
 use Rattle.ms_logic.specs.declared.checked.Global.{Global}
 use Rattle.ms_logic.specs.declared.checked.Placed.{Placed}
 use Rattle.ms_logic.specs.View.{formula_of, problem_of}

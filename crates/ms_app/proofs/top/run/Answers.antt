@@ -1,4 +1,4 @@
-use Rattle.std.proofs.Common.{◌≡◌, [], ℕ, List, Some, inl, inr, refl, sym}
+use Rattle.std.proofs.Common.{◌≡◌, [], Some, inl, inr, refl, sym}
 use Rattle.ms_edge.specs.declared.refusal.Refusal.TheVariants.{Memory}
 use Rattle.ms_app.specs.Answer.{no_memory}
 use Rattle.ms_app.specs.Command.{file_of}
