@@ -92,8 +92,15 @@ fn line(rt: &HostRuntime, refusal: Refusal) -> Result<()>
     requires has_line { HasLine refusal }
     requires is_placed { IsPlaced (place_of refusal) ((codes "t.mona") ∷ (codes "u.mona") ∷ []) }
 {
+    print_line(rt, &refusal)
+}
+
+fn print_line(rt: &HostRuntime, refusal: &Refusal) -> Result<()>
+    requires has_line { HasLine refusal.now }
+    requires is_placed { IsPlaced (place_of refusal.now) ((codes "t.mona") ∷ (codes "u.mona") ∷ []) }
+{
     let files = two_files(rt.alloc())?;
-    let made = refusal_line(rt.alloc(), &refusal, &files)?;
+    let made = refusal_line(rt.alloc(), refusal, &files)?;
     rt.print(shown(made.slice()))?;
     Ok(())
 }

@@ -5,6 +5,7 @@ use ms_edge::{Boxed, List, Name, Text, Words};
 pub fn tell(rt: &HostRuntime) -> Result<()> {
     println!(rt; "Lists, boxes, texts, names and words")?;
     lists(rt)?;
+    list_of_vector(rt)?;
     boxes(rt)?;
     texts(rt)?;
     words(rt)
@@ -23,6 +24,10 @@ fn lists(rt: &HostRuntime) -> Result<()> {
     if list.len() == 2 {
         println!(rt; "the first is {}, the second {}", list.get(0), list.get(1))?;
     }
+    Ok(())
+}
+
+fn list_of_vector(rt: &HostRuntime) -> Result<()> {
     let made = List::from(vec![in rt.alloc(); 7u8, 8, 9]?);
     println!(rt; "a list of a vector has {:?}", made.slice())?;
     Ok(())

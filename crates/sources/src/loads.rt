@@ -42,13 +42,23 @@ fn files_of(alloc: Global) -> Result<MemFiles> {
 fn load_file(rt: &HostRuntime, files: &mut MemFiles, name: &str) -> Result<()> {
     let mut names = List::new(rt.alloc());
     push(&mut names, Text::new(rt.alloc(), "earlier")?)?;
+    load_noting(rt, files, name, &mut names)?;
+    println!(rt; "noted: {}", joined(rt.alloc(), names.slice())?)?;
+    Ok(())
+}
+
+/// Loads a file and prints the answer.
+fn load_noting(
+    rt: &HostRuntime,
+    files: &mut MemFiles,
+    name: &str,
+    names: &mut List<Text>,
+) -> Result<()> {
     if names.len() > 9 {
         bail!("more names than were noted");
     }
-    let answer = load(rt.alloc(), files, name, &mut names);
-    print_answer(rt, &answer)?;
-    println!(rt; "noted: {}", joined(rt.alloc(), names.slice())?)?;
-    Ok(())
+    let answer = load(rt.alloc(), files, name, names);
+    print_answer(rt, &answer)
 }
 
 /// Loads a text.

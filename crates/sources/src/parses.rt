@@ -98,10 +98,14 @@ fn several(alloc: Global, expr: &Expr, list: &List<Expr>) -> Result<String, Allo
 /// The header of a source that has one, and how many declarations follow it.
 fn header(rt: &HostRuntime) -> Result<()> {
     let bytes = List::from(Vec::from_slice(rt.alloc(), b" m2l-str; var1 x; x = 0;")?);
-    let Ok(all) = tokens_of(rt.alloc(), bytes)? else {
-        bail!("the tokens are refused");
-    };
-    match parse(rt.alloc(), &all, FILE) {
+    match tokens_of(rt.alloc(), bytes)? {
+        Ok(all) => header_of(rt, &all),
+        Err(refusal) => bail!("refused: {}", told(rt.alloc(), &refusal)?),
+    }
+}
+
+fn header_of(rt: &HostRuntime, all: &Tokens) -> Result<()> {
+    match parse(rt.alloc(), all, FILE) {
         Ok(source) => print_header(rt, &source),
         Err(refusal) => bail!("refused: {}", told(rt.alloc(), &refusal)?),
     }
