@@ -8,11 +8,11 @@ use Rattle.ms_logic.specs.declared.mode.Mode.{Mode}
 use Rattle.ms_logic.specs.declared.mode.Mode.TheVariants.{Ws1s, M2lStr}
 use Rattle.ms_logic.specs.declared.mode.Order.{Order}
 use Rattle.ms_logic.specs.declared.mode.Order.TheVariants.{Zero, One, Two}
-use Rattle.ms_names.specs.declared.meaning.Meaning.{Meaning}
-use Rattle.ms_names.specs.declared.meaning.Meaning.TheVariants.{Variable, Constant, Predicate}
-use Rattle.ms_names.specs.Declarations.{Known, after_declaration, globals_in, count_of_globals}
-use Rattle.ms_names.specs.Scope.{Scope, bind, meaning_among, with_default, under_bounds, count_of_bounds}
-use Rattle.ms_names.specs.Syntax.{Bytes, Bounds, no_bounds, more_bounds, Domain, unrestricted, restricted, Declaration, globals, constant, predicate, include, default, formula, Placed}
+use Rattle.ms_rules.specs.declared.meaning.Meaning.{Meaning}
+use Rattle.ms_rules.specs.declared.meaning.Meaning.TheVariants.{Variable, Constant, Predicate}
+use Rattle.ms_rules.specs.Declarations.{Known, after_declaration, globals_in, count_of_globals}
+use Rattle.ms_rules.specs.Scope.{Scope, bind, meaning_among, with_default, under_bounds, count_of_bounds}
+use Rattle.ms_rules.specs.Syntax.{Bytes, Bounds, no_bounds, more_bounds, Domain, unrestricted, restricted, Declaration, globals, constant, predicate, include, default, formula, Placed}
 use Rattle.ms_app.specs.declared.begun.Begun.{Begun}
 use Rattle.ms_app.specs.Built.{nothing_yet, restricts, is_beyond, with_globals, first_global_beyond, first_beyond_in, after, first_beyond_from, first_beyond}
 

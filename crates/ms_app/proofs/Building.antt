@@ -10,10 +10,10 @@ use Rattle.ms_logic.specs.Truth.{Given}
 use Rattle.ms_logic.specs.Verdict.{Problem}
 use Rattle.ms_logic.specs.declared.sign.Sign.{Sign}
 use Rattle.ms_logic.specs.View.{formula_of, globals_from, problem_of}
-use Rattle.ms_names.specs.Declarations.{at_the_beginning, count_of_globals}
-use Rattle.ms_names.specs.Syntax.{Placed}
-use Rattle.ms_names.specs.TypedSource.{TypedGlobal, TypedFormula, IsTyped, global_of, placed_formula_of}
-use Rattle.ms_names.specs.View.{placed_of}
+use Rattle.ms_rules.specs.Declarations.{at_the_beginning, count_of_globals}
+use Rattle.ms_rules.specs.Syntax.{Placed}
+use Rattle.ms_rules.specs.TypedSource.{TypedGlobal, TypedFormula, IsTyped, global_of, placed_formula_of}
+use Rattle.ms_rules.specs.View.{placed_of}
 use Rattle.ms_app.specs.declared.claim.Claim.{Claim}
 use Rattle.ms_app.specs.declared.claim.Claim.TheVariants.{Nothing, Inclusion}
 use Rattle.ms_app.specs.Built.{nothing_yet, first_beyond}

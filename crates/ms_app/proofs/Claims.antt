@@ -6,13 +6,13 @@ use Rattle.ms_logic.specs.declared.mode.Order.TheVariants.{Zero, One, Two}
 use Rattle.ms_logic.specs.declared.mode.Rel.{Rel}
 use Rattle.ms_logic.specs.declared.mode.Rel.TheVariants.{Sub}
 use Rattle.ms_logic.specs.Tree.{SetTerm, set_variable, set_comparison, Form, Argument, truth_argument, number_argument, set_argument}
-use Rattle.ms_names.specs.declared.meaning.Meaning.{Meaning}
-use Rattle.ms_names.specs.declared.meaning.Meaning.TheVariants.{Variable, Constant, Predicate}
-use Rattle.ms_names.specs.Declarations.{Known, after_declaration, globals_in, count_of_globals}
-use Rattle.ms_names.specs.Scope.{meaning_of}
-use Rattle.ms_names.specs.Syntax.{Bytes, Expression, name, relation, Declaration, globals, constant, predicate, include, default, formula, Placed}
-use Rattle.ms_names.specs.Typed.{formula_in, typed, typed_name, typed_relation}
-use Rattle.ms_names.specs.TypedSource.{TypedFormula, formulas_of, collected}
+use Rattle.ms_rules.specs.declared.meaning.Meaning.{Meaning}
+use Rattle.ms_rules.specs.declared.meaning.Meaning.TheVariants.{Variable, Constant, Predicate}
+use Rattle.ms_rules.specs.Declarations.{Known, after_declaration, globals_in, count_of_globals}
+use Rattle.ms_rules.specs.Scope.{meaning_of}
+use Rattle.ms_rules.specs.Syntax.{Bytes, Expression, name, relation, Declaration, globals, constant, predicate, include, default, formula, Placed}
+use Rattle.ms_rules.specs.Typed.{formula_in, typed, typed_name, typed_relation}
+use Rattle.ms_rules.specs.TypedSource.{TypedFormula, formulas_of, collected}
 use Rattle.ms_app.specs.declared.begun.Begun.{Begun}
 use Rattle.ms_app.specs.Built.{is_name, is_inclusion, is_inclusion_of_names, first_beyond_in, first_beyond_from}
 use Rattle.ms_app.specs.Built as built

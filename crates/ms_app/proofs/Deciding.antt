@@ -6,9 +6,9 @@ use Rattle.ms_edge.specs.declared.refusal.Refusal.{Refusal}
 use Rattle.ms_edge.specs.declared.refusal.Refusal.TheVariants.{Memory, NotBuilt}
 use Rattle.ms_logic.specs.declared.source.Loaded.{Loaded}
 use Rattle.ms_include.specs.Load.{files_of, IsLoaded, IsRefusedLoad}
-use Rattle.ms_names.specs.Checking.{IsFirstFault}
-use Rattle.ms_names.specs.Declarations.{first_fault_of}
-use Rattle.ms_names.specs.View.{placed_of}
+use Rattle.ms_rules.specs.Checking.{IsFirstFault}
+use Rattle.ms_rules.specs.Declarations.{first_fault_of}
+use Rattle.ms_rules.specs.View.{placed_of}
 use Rattle.ms_app.specs.Answer.{IsRefused, not_loaded, faulty, not_built, no_memory}
 use Rattle.ms_app.specs.Built.{first_beyond}
 

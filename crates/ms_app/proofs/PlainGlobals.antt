@@ -7,13 +7,13 @@ use Rattle.ms_logic.specs.declared.mode.Order.{Order}
 use Rattle.ms_logic.specs.declared.mode.Order.TheVariants.{Two}
 use Rattle.ms_logic.specs.Tree as tree
 use Rattle.ms_logic.specs.View.{formula_of, restriction}
-use Rattle.ms_names.specs.declared.meaning.Meaning.TheVariants.{Variable}
-use Rattle.ms_names.specs.Before.{Before, after_domain}
-use Rattle.ms_names.specs.Declarations.{Known, after_declaration, globals_in, count_of_globals}
-use Rattle.ms_names.specs.Scope.{Scope, bind, count_of_bounds}
-use Rattle.ms_names.specs.Syntax.{Bounds, no_bounds, more_bounds, Domain, unrestricted, Declaration, globals, constant, predicate, include, default, formula, Placed}
-use Rattle.ms_names.specs.Typed.{typed_domain, default_restriction}
-use Rattle.ms_names.specs.TypedSource.{TypedGlobal, global_of, globals_of_bounds, globals_of, collected}
+use Rattle.ms_rules.specs.declared.meaning.Meaning.TheVariants.{Variable}
+use Rattle.ms_rules.specs.Before.{Before, after_domain}
+use Rattle.ms_rules.specs.Declarations.{Known, after_declaration, globals_in, count_of_globals}
+use Rattle.ms_rules.specs.Scope.{Scope, bind, count_of_bounds}
+use Rattle.ms_rules.specs.Syntax.{Bounds, no_bounds, more_bounds, Domain, unrestricted, Declaration, globals, constant, predicate, include, default, formula, Placed}
+use Rattle.ms_rules.specs.Typed.{typed_domain, default_restriction}
+use Rattle.ms_rules.specs.TypedSource.{TypedGlobal, global_of, globals_of_bounds, globals_of, collected}
 use Rattle.ms_app.specs.declared.begun.Begun.{Begun}
 use Rattle.ms_app.specs.Built.{is_beyond, with_globals, first_global_beyond, first_beyond_in, after, first_beyond_from}
 use Rattle.ms_app.specs.Claim.{ArePlainSets}

@@ -14,10 +14,10 @@ use Rattle.ms_logic.specs.View.{problem_of}
 use Rattle.ms_logic.specs.declared.checked.Checked.{Checked}
 use Rattle.ms_logic.specs.declared.source.Loaded.{Loaded}
 use Rattle.ms_include.specs.Load.{files_of, IsLoaded, IsRefusedLoad}
-use Rattle.ms_names.specs.Checking.{IsFirstFault}
-use Rattle.ms_names.specs.Declarations.{first_fault_of}
-use Rattle.ms_names.specs.TypedSource.{IsTyped}
-use Rattle.ms_names.specs.View.{placed_of}
+use Rattle.ms_rules.specs.Checking.{IsFirstFault}
+use Rattle.ms_rules.specs.Declarations.{first_fault_of}
+use Rattle.ms_rules.specs.TypedSource.{IsTyped}
+use Rattle.ms_rules.specs.View.{placed_of}
 use Rattle.ms_report.specs.declared.found.Found.{Found}
 use Rattle.ms_report.specs.Line.{line_of}
 use Rattle.ms_report.specs.Report.{report_of}

@@ -10,8 +10,8 @@ use Rattle.ms_logic.specs.declared.mode.Order.{Order}
 use Rattle.ms_logic.specs.declared.mode.Order.TheVariants.{Zero, One, Two}
 use Rattle.ms_logic.specs.declared.mode.Rel.{Rel}
 use Rattle.ms_logic.specs.declared.mode.Rel.TheVariants.{Sub}
-use Rattle.ms_names.specs.Scope.{count_of_bounds}
-use Rattle.ms_names.specs.Syntax.{Expression, name, relation, Bounds, no_bounds, more_bounds, Domain, unrestricted, restricted, Declaration, globals, constant, predicate, include, default, formula, Placed}
+use Rattle.ms_rules.specs.Scope.{count_of_bounds}
+use Rattle.ms_rules.specs.Syntax.{Expression, name, relation, Bounds, no_bounds, more_bounds, Domain, unrestricted, restricted, Declaration, globals, constant, predicate, include, default, formula, Placed}
 use Rattle.ms_app.specs.declared.begun.Begun.{Begun}
 use Rattle.ms_app.specs.Import.{first_import, first_import_in_bounds}
 

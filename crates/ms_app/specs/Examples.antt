@@ -4,7 +4,7 @@ use Rattle.ms_edge.specs.declared.at.At.{At}
 use Rattle.ms_logic.specs.declared.mode.Order.{Order}
 use Rattle.ms_logic.specs.declared.mode.Order.TheVariants.{Two}
 use Rattle.ms_logic.specs.declared.mode.Rel.TheVariants.{Sub}
-use Rattle.ms_names.specs.Syntax.{Expression, truth, name, negation, relation, imported, Bounds, no_bounds, more_bounds, Domain, unrestricted, globals, predicate, default, formula, Placed}
+use Rattle.ms_rules.specs.Syntax.{Expression, truth, name, negation, relation, imported, Bounds, no_bounds, more_bounds, Domain, unrestricted, globals, predicate, default, formula, Placed}
 
 abbrev pub at : ℕ → At
 at place = record { file = 0; place = place }

@@ -1,8 +1,8 @@
 ghost use Rattle.std.specs.Prelude.{◌≡◌, map, MatchResult};
 ghost use Rattle.ms_app.specs.Built.{after, first_beyond, first_beyond_from, first_beyond_in, first_global_beyond, is_beyond, is_inclusion, is_inclusion_of_names, is_name, nothing_yet, restricts, with_globals};
-ghost use Rattle.ms_names.specs.Scope.{count_of_bounds};
-ghost use Rattle.ms_names.specs.Syntax.{formula};
-ghost use Rattle.ms_names.specs.View.{bound_of, bounds_of, declaration_of, expression_of, placed_of};
+ghost use Rattle.ms_rules.specs.Scope.{count_of_bounds};
+ghost use Rattle.ms_rules.specs.Syntax.{formula};
+ghost use Rattle.ms_rules.specs.View.{bound_of, bounds_of, declaration_of, expression_of, placed_of};
 
 use crate::begun::Begun;
 use crate::import::{first_import, first_import_in_bounds};

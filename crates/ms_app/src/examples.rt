@@ -1,6 +1,6 @@
 ghost use Rattle.ms_app.specs.Built.{first_beyond};
 ghost use Rattle.ms_app.specs.Examples.{at, default_for, defines, global, imports_negated, lies_in_itself, named, says, set};
-ghost use Rattle.ms_names.specs.Syntax.{brackets, restricted, truth, unrestricted};
+ghost use Rattle.ms_rules.specs.Syntax.{brackets, restricted, truth, unrestricted};
 ghost use Rattle.std.specs.Prelude.{◌≡◌, ◌∷◌, [], None, Some};
 
 use ms_logic::{Mode, Order};

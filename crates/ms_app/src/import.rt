@@ -1,7 +1,7 @@
 ghost use Rattle.std.specs.Prelude.{◌≡◌};
 ghost use Rattle.ms_app.specs.Import.{first_import, first_import_among, first_import_in_bounds, first_import_in_domain, first_import_in_parts};
-ghost use Rattle.ms_names.specs.Lists.{expressions_of};
-ghost use Rattle.ms_names.specs.View.{bound_of, bounds_of, expression_of, parts_of};
+ghost use Rattle.ms_rules.specs.Lists.{expressions_of};
+ghost use Rattle.ms_rules.specs.View.{bound_of, bounds_of, expression_of, parts_of};
 
 use ms_edge::At;
 use ms_logic::{Bound, Expr, Form, LetPart};

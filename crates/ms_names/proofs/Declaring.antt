@@ -1,47 +1,29 @@
 -- Declarations: constants, names of globals, predicates and default restrictions.
-use Rattle.std.proofs.Common.{◌≡◌, ℕ, ◌+◌, Bool, true, false, if◌then◌else◌, List, [], ◌∷◌, ◌++◌, drop, Option, Some, None, refl, sym, ap, ◌∙◌}
-use Rattle.std.specs.Prelude.{bytes_eq, flat_map}
+use Rattle.std.proofs.Common.{◌≡◌, ℕ, ◌+◌, Bool, false, List, [], ◌∷◌, ◌++◌, drop, Option, refl, sym, ap, ◌∙◌}
+use Rattle.std.specs.Prelude.{flat_map}
 use Rattle.std.specs.Option.{option_map}
 use Rattle.ms_logic.specs.declared.mode.Order.{Order}
 use Rattle.ms_logic.specs.declared.source.PlacedInt.{PlacedInt}
 use Rattle.ms_logic.specs.Tree as tree
-use Rattle.ms_logic.specs.Tree.{Form, Restriction, Argument}
-use Rattle.ms_names.specs.declared.fault.Fault.{Fault}
-use Rattle.ms_names.specs.declared.meaning.Meaning.TheVariants.{Variable}
-use Rattle.ms_names.specs.Syntax.{Bytes, Expression, Bounds, no_bounds, more_bounds, Domain, unrestricted, restricted}
-use Rattle.ms_names.specs.Before.{Before, after, after_bounds, after_domain, with_names}
-use Rattle.ms_names.specs.Binder.{after_restrictions, restricted_variable, restricted_variables, restriction_in, unbound}
-use Rattle.ms_names.specs.Constant.{leaves_range, has_no_value, next_sum, sum_from, sum_in_range, sum_of_value, value_of}
-use Rattle.ms_names.specs.Declaration.{predicate_with}
-use Rattle.ms_names.specs.Declarations.{occurrences_in_default, occurrences_in_predicate}
-use Rattle.ms_names.specs.Occurrence.{occurrences, inside_bounds, formula_wanted}
-use Rattle.ms_names.specs.Rules.{faults_of_placed, is_name_among}
-use Rattle.ms_names.specs.Scope.{Scope, bind, count_of_bounds, under_bounds, without_exports}
-use Rattle.ms_names.specs.State.{State, with_faults, passed}
-use Rattle.ms_names.specs.Typed.{both, formula_in, typed, typed_restriction}
-use Rattle.ms_names.specs.TypedSource.{parameters_of_bounds, typed_default, typed_predicate}
-use Rattle.ms_names.proofs.Exports.{domain-same, typed-same, under_bounds-same}
-use Rattle.ms_names.proofs.Lists.{parameters-all}
+use Rattle.ms_logic.specs.Tree.{Argument}
+use Rattle.ms_rules.specs.declared.fault.Fault.{Fault}
+use Rattle.ms_rules.specs.declared.meaning.Meaning.TheVariants.{Variable}
+use Rattle.ms_rules.specs.Syntax.{Bytes, Expression, Bounds, unrestricted}
+use Rattle.ms_rules.specs.Before.{after, after_bounds, with_names}
+use Rattle.ms_rules.specs.Binder.{restricted_variable, restricted_variables, predicate_with}
+use Rattle.ms_names.specs.State.{after_restrictions, unbound, State, with_faults, passed}
+use Rattle.ms_rules.specs.Declarations.{occurrences_in_default, occurrences_in_predicate}
+use Rattle.ms_rules.specs.Occurrence.{occurrences, inside_bounds, formula_wanted}
+use Rattle.ms_rules.specs.Rules.{faults_of_placed}
+use Rattle.ms_rules.specs.Scope.{Scope, bind, count_of_bounds, under_bounds, without_exports}
+use Rattle.ms_rules.specs.Typed.{both, formula_in, typed}
+use Rattle.ms_rules.specs.TypedSource.{parameters_of_bounds, typed_default, typed_predicate}
+use Rattle.ms_rules.proofs.Exports.{typed-same, under_bounds-same}
+use Rattle.ms_rules.proofs.Lists.{parameters-all}
 use Rattle.ms_names.proofs.Repeats.{faults-faults}
 use Rattle.ms_names.proofs.States.{passed-passed}
 use Rattle.ms_names.proofs.Walk.{unbound-bounds}
-
--- constants
-
-pub sum-none : (s : Scope) (sum : ℕ) (i : PlacedInt) (rest : List PlacedInt) → value_of s i ≡ None → sum_from s sum (i ∷ rest) ≡ has_no_value
-sum-none s sum i rest none = ap (λ v. sum_of_value v (λ n. sum_in_range (next_sum i.minus sum n) (λ next. sum_from s next rest))) none
-
-pub sum-out : (s : Scope) (sum n : ℕ) (i : PlacedInt) (rest : List PlacedInt) → value_of s i ≡ Some n → next_sum i.minus sum n ≡ None →
-    sum_from s sum (i ∷ rest) ≡ leaves_range
-sum-out s sum n i rest some out =
-    ap (λ v. sum_of_value v (λ k. sum_in_range (next_sum i.minus sum k) (λ next. sum_from s next rest))) some
-    ∙ ap (λ v. sum_in_range v (λ next. sum_from s next rest)) out
-
-pub sum-next : (s : Scope) (sum n m : ℕ) (i : PlacedInt) (rest : List PlacedInt) → value_of s i ≡ Some n → next_sum i.minus sum n ≡ Some m →
-    sum_from s sum (i ∷ rest) ≡ sum_from s m rest
-sum-next s sum n m i rest some within =
-    ap (λ v. sum_of_value v (λ k. sum_in_range (next_sum i.minus sum k) (λ next. sum_from s next rest))) some
-    ∙ ap (λ v. sum_in_range v (λ next. sum_from s next rest)) within
+use Rattle.ms_rules.proofs.Declaring.{restricted-same}
 
 pub ints-next : (t u : State) (i : PlacedInt) (rest : List PlacedInt) → u ≡ with_faults t (faults_of_placed t.scope i) →
     with_faults u (flat_map (faults_of_placed u.scope) rest) ≡ with_faults t (flat_map (faults_of_placed t.scope) (i ∷ rest))
@@ -54,36 +36,6 @@ pub three-faults : (s r t u : State) (fs gs hs : List Fault) → r ≡ with_faul
 three-faults s r t u fs gs hs first second third =
     third ∙ (ap (λ there. with_faults there hs) second
     ∙ (faults-faults r gs hs ∙ (ap (λ there. with_faults there (gs ++ hs)) first ∙ faults-faults s fs (gs ++ hs))))
-
--- names of globals
-
-nested : (a b c : Bool) → (if a then true else (if b then true else c)) ≡ (if (if a then true else b) then true else c)
-nested true b c = refl
-nested false b c = refl
-
-pub among-append : (n : Bytes) (ms more : List Bytes) → is_name_among n (ms ++ more) ≡ (if is_name_among n ms then true else is_name_among n more)
-among-append n [] more = refl
-among-append n (m ∷ ms) more = ap (λ b. if bytes_eq m n then true else b) (among-append n ms more) ∙ nested (bytes_eq m n) (is_name_among n ms) (is_name_among n more)
-
--- predicates
-
-restriction_in-same : (takes_defaults : Bool) (s t : Scope) (b : Before) (o : Order) (x : ℕ) (d : Domain) → without_exports s ≡ without_exports t →
-    restriction_in takes_defaults s b o x d ≡ restriction_in takes_defaults t b o x d
-restriction_in-same true s t b o x d h = domain-same s t b o x d h
-restriction_in-same false s t b o x unrestricted h = refl
-restriction_in-same false s t b o x (restricted e) h = ap typed_restriction (typed-same s t b e h)
-
-pub restricted-same : (takes_defaults : Bool) (s t : Scope) (x : ℕ) (b : Before) (vs : Bounds) → without_exports s ≡ without_exports t →
-    restricted_variables takes_defaults s x b vs ≡ restricted_variables takes_defaults t x b vs
-restricted-same takes_defaults s t x b no_bounds h = refl
-restricted-same takes_defaults s t x b (more_bounds at o n d vs) h =
-    let inner = bind n (Variable x o) s in
-    let other = bind n (Variable x o) t in
-    let same : without_exports inner ≡ without_exports other = ap (bind n (Variable x o)) h in
-    ap (λ r. both (λ there more. restricted_variable x o there ∷ more) r (restricted_variables takes_defaults inner (x + 1) (after_domain b d) vs))
-    (restriction_in-same takes_defaults inner other b o x d same)
-    ∙ ap (both (λ there more. restricted_variable x o there ∷ more) (restriction_in takes_defaults other b o x d))
-    (restricted-same takes_defaults inner other (x + 1) (after_domain b d) vs same)
 
 pub predicate-passed : (s r q t u v w : State) (vs : Bounds) (e : Expression) (x n m : ℕ) (allowed : Bool) →
     x ≡ s.before.next → n ≡ count_of_bounds vs → m ≡ count_of_bounds vs →

@@ -3,16 +3,16 @@ use Rattle.std.proofs.Common.{◌≡◌, List, [], ◌∷◌, ◌++◌, append_a
 use Rattle.std.specs.Prelude.{flat_map}
 use Rattle.std.proofs.lemmas.Grind.{flat_map-append}
 use Rattle.std.proofs.lemmas.List.{append-nil}
-use Rattle.ms_names.specs.declared.fault.Fault.{Fault}
-use Rattle.ms_names.specs.declared.wanted.Wanted.{Wanted}
-use Rattle.ms_names.specs.Syntax.{Expression}
-use Rattle.ms_names.specs.Before.{Before, after}
-use Rattle.ms_names.specs.Fault.{first_of_two, first_with}
-use Rattle.ms_names.specs.Occurrence.{Occurrence, occurrences}
-use Rattle.ms_names.specs.Reads.{readings_at}
-use Rattle.ms_names.specs.Rules.{faults_at}
+use Rattle.ms_rules.specs.declared.fault.Fault.{Fault}
+use Rattle.ms_rules.specs.declared.wanted.Wanted.{Wanted}
+use Rattle.ms_rules.specs.Syntax.{Expression}
+use Rattle.ms_rules.specs.Before.{Before, after}
+use Rattle.ms_rules.specs.Fault.{first_of_two, first_with}
+use Rattle.ms_rules.specs.Occurrence.{Occurrence, occurrences}
+use Rattle.ms_rules.specs.Reads.{readings_at}
+use Rattle.ms_rules.specs.Rules.{faults_at}
 use Rattle.ms_names.specs.State.{State, passed}
-use Rattle.ms_names.specs.Uses.{import_at, export_at}
+use Rattle.ms_rules.specs.Uses.{import_at, export_at}
 
 -- the first of two lists of faults, one after the other
 pub first_with-append : (known : Option Fault) (fs gs : List Fault) → first_with known (fs ++ gs) ≡ first_with (first_with known fs) gs

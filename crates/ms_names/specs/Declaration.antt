@@ -1,20 +1,18 @@
 -- A declaration as a check goes through it.
 use Rattle.std.specs.Prelude.{ℕ, List, [], ◌∷◌, ◌++◌, flat_map}
 use Rattle.ms_logic.specs.declared.mode.Order.{Order}
-use Rattle.ms_logic.specs.Tree as tree
-use Rattle.ms_logic.specs.Tree.{Form}
-use Rattle.ms_names.specs.declared.meaning.Meaning.TheVariants.{Predicate}
-use Rattle.ms_names.specs.declared.meaning.Reading.{Reading}
+use Rattle.ms_rules.specs.declared.meaning.Meaning.TheVariants.{Predicate}
+use Rattle.ms_rules.specs.declared.meaning.Reading.{Reading}
 use Rattle.ms_names.specs.declared.sum.Total.{Total}
 use Rattle.ms_names.specs.declared.sum.Total.TheVariants.{Value, LeavesRange, HasNoValue}
-use Rattle.ms_names.specs.Constant.{Sum, sums_to, leaves_range, has_no_value}
-use Rattle.ms_names.specs.Declarations.{Known, before_after, exports_in, faults_of_declaration, next_predicate, occurrences_in, scope_after}
-use Rattle.ms_names.specs.Fault.{first_with}
-use Rattle.ms_names.specs.Rules.{faults_at}
-use Rattle.ms_names.specs.Scope.{bind}
+use Rattle.ms_rules.specs.Constant.{Sum, sums_to, leaves_range, has_no_value}
+use Rattle.ms_rules.specs.Declarations.{Known, before_after, exports_in, faults_of_declaration, next_predicate, occurrences_in, scope_after}
+use Rattle.ms_rules.specs.Fault.{first_with}
+use Rattle.ms_rules.specs.Rules.{faults_at}
+use Rattle.ms_rules.specs.Scope.{bind}
 use Rattle.ms_names.specs.State.{State}
-use Rattle.ms_names.specs.Syntax.{Bytes, Declaration}
-use Rattle.ms_names.specs.Uses.{import_at}
+use Rattle.ms_rules.specs.Syntax.{Bytes, Declaration}
+use Rattle.ms_rules.specs.Uses.{import_at}
 
 abbrev pub Files : Type 0
 Files = List Bytes
@@ -46,6 +44,3 @@ read_through s = record s { scope = record s.scope { readings = s.reads ∷ s.sc
 -- the same with the name of the predicate, whose parameters have these orders
 abbrev pub named : State → Bytes → List Order → State
 named s n orders = record (read_through s) { scope = bind n (Predicate (next_predicate s.scope) orders) (read_through s).scope }
-
-abbrev pub predicate_with : List tree.Declaration → Form → tree.Predicate
-predicate_with parameters body = record { parameters = parameters; body = body }

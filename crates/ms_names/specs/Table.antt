@@ -1,9 +1,9 @@
 -- A table of names: entries, the innermost first, and for each name the place of the entry that it means, counted from the
 -- outermost. Each entry has the place of the entry that it hides.
 use Rattle.std.specs.Prelude.{◌≡◌, ℕ, if◌then◌else◌, List, [], ◌∷◌, length, map, reverse, bytes_eq, string_bytes, Option, Some, None}
-use Rattle.ms_names.specs.declared.meaning.Meaning.{Meaning}
+use Rattle.ms_rules.specs.declared.meaning.Meaning.{Meaning}
 use Rattle.ms_names.specs.declared.names.Entry.{Entry}
-use Rattle.ms_names.specs.Syntax.{Bytes}
+use Rattle.ms_rules.specs.Syntax.{Bytes}
 
 abbrev pub flat : Option (Option ℕ) → Option ℕ
 flat None = None

@@ -1,23 +1,22 @@
 ghost use Rattle.ms_logic.specs.Tree as tree;
 ghost use Rattle.ms_logic.specs.View.{argument_of, formula_of, set_term_of, term_of};
-ghost use Rattle.ms_names.specs.Lists.{arguments_of};
-ghost use Rattle.ms_names.specs.Binder.{argument_for, with_front};
-ghost use Rattle.ms_names.specs.Order.{parameters_of, wanted_by};
-ghost use Rattle.ms_names.specs.Reads.{readings_of_call};
-ghost use Rattle.ms_names.specs.Rules.{faults_of_call};
-ghost use Rattle.ms_names.specs.Scope.{meaning_of};
+ghost use Rattle.ms_rules.specs.Lists.{arguments_of};
+ghost use Rattle.ms_rules.specs.Binder.{argument_for, with_front};
+ghost use Rattle.ms_rules.specs.Order.{parameters_of, wanted_by};
+ghost use Rattle.ms_rules.specs.Reads.{readings_of_call};
+ghost use Rattle.ms_rules.specs.Rules.{faults_of_call};
+ghost use Rattle.ms_rules.specs.Scope.{meaning_of};
 ghost use Rattle.ms_names.specs.State.{noted};
-ghost use Rattle.ms_names.specs.Typed.{both, of_order, typed_call};
+ghost use Rattle.ms_rules.specs.Typed.{both, of_order, typed_call};
 ghost use Rattle.std.specs.Option.{option_map, option_and_then};
 ghost use Rattle.std.specs.Prelude.{◌≡◌, ◌∷◌, ◌++◌, ◌+◌, [], drop, map, IfOk, OnOk};
 
-use crate::build::{formula_in, number_in, set_in};
 use crate::checker::Checker;
-use crate::meaning::Meaning;
 use crate::name::small;
-use crate::wanted::Wanted;
 use ms_edge::{At, List, Name, NoMemory, push};
 use ms_logic::{Arg, Formula, Order, Term1, Term2};
+use ms_rules::{Meaning, Wanted};
+use ms_typing::call;
 use std::alloc::Global;
 
 fn copy_orders(alloc: Global, orders: &[Order]) -> Result<List<Order>, NoMemory>
@@ -28,90 +27,6 @@ fn copy_orders(alloc: Global, orders: &[Order]) -> Result<List<Order>, NoMemory>
         push(&mut made, *order)?;
     }
     Ok(made)
-}
-
-/// The order of the parameter with this index, if there is one.
-pub(crate) fn parameter_at(parameters: &[Order], i: usize) -> Option<Order>
-    ensures { drop i parameters.now ≡ with_front result (drop (i + 1) parameters.now) }
-{
-    if i < parameters.len() {
-        Some(parameters[i])
-    } else {
-        None
-    }
-}
-
-impl Wanted {
-    /// In the place of an argument, by the order of its parameter.
-    pub(crate) fn by_parameter(order: Option<Order>) -> Wanted
-        ensures { result ≡ wanted_by (with_front order []) }
-    {
-        match order {
-            None => Wanted::Anything,
-            Some(order) => Wanted::Exactly(order),
-        }
-    }
-}
-
-fn of_formula(formula: Option<Formula>) -> Option<Arg>
-    ensures { option_map argument_of result ≡ option_map (λ f. tree.truth_argument f) (option_map formula_of formula) }
-{
-    let formula = formula?;
-    Some(Arg::Zero(formula))
-}
-
-fn of_number(number: Option<Term1>) -> Option<Arg>
-    ensures { option_map argument_of result ≡ option_map (λ t. tree.number_argument t) (option_map term_of number) }
-{
-    let number = number?;
-    Some(Arg::One(number))
-}
-
-fn of_set(set: Option<Term2>) -> Option<Arg>
-    ensures { option_map argument_of result ≡ option_map (λ s. tree.set_argument s) (option_map set_term_of set) }
-{
-    let set = set?;
-    Some(Arg::Two(set))
-}
-
-/// What an expression became, if it is of this order.
-pub(crate) fn in_order(order: Order, value: Option<Arg>) -> Option<Arg>
-    ensures { option_map argument_of result ≡ option_and_then (of_order order) (option_map argument_of value) }
-{
-    match order {
-        Order::Zero => of_formula(formula_in(value)),
-        Order::One => of_number(number_in(value)),
-        Order::Two => of_set(set_in(value)),
-    }
-}
-
-// What an argument became, if there is a parameter of its order.
-fn argument_for(order: Option<Order>, value: Option<Arg>) -> Option<Arg>
-    ensures { option_map argument_of result ≡ argument_for order (option_map argument_of value) }
-{
-    match order {
-        None => None,
-        Some(order) => in_order(order, value),
-    }
-}
-
-/// An argument behind those before it, if all are of their parameters' orders.
-pub(crate) fn more_arguments(
-    made: Option<List<Arg>>,
-    order: Option<Order>,
-    value: Option<Arg>,
-) -> Result<Option<List<Arg>>, NoMemory>
-    ensures { IfOk result (λ list. option_map (map argument_of) list
-        ≡ both (λ front a. front ++ a ∷ []) (option_map (map argument_of) made) (argument_for order (option_map argument_of value))) }
-{
-    let Some(mut list) = made else {
-        return Ok(None);
-    };
-    let Some(argument) = argument_for(order, value) else {
-        return Ok(None);
-    };
-    push(&mut list, argument)?;
-    Ok(Some(list))
 }
 
 impl Checker {
@@ -155,11 +70,4 @@ impl Checker {
             Some(Meaning::Predicate(number, _)) => call(*number, arguments),
         }
     }
-}
-
-fn call(number: u32, arguments: Option<List<Arg>>) -> Option<Arg>
-    ensures { option_map argument_of result ≡ option_map (λ given. tree.truth_argument (tree.call number given)) (option_map arguments_of arguments) }
-{
-    let arguments = arguments?;
-    Some(Arg::Zero(Formula::Call(number, arguments)))
 }

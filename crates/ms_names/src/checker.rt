@@ -1,13 +1,12 @@
-ghost use Rattle.ms_names.specs.Checking.{beginning};
-ghost use Rattle.ms_names.specs.Fault.{first_of_two};
-ghost use Rattle.ms_names.specs.Scope.{meaning_of};
+ghost use Rattle.ms_names.specs.State.{beginning};
+ghost use Rattle.ms_rules.specs.Fault.{first_of_two};
+ghost use Rattle.ms_rules.specs.Scope.{meaning_of};
 ghost use Rattle.std.specs.Prelude.{◌≡◌, ◌∷◌, [], None, option_copied};
 
-use crate::fault::Fault;
-use crate::meaning::{Meaning, Reading};
 use crate::names::Names;
 use ms_edge::{List, Name};
 use ms_logic::{ExportUse, ImportUse, Mode};
+use ms_rules::{Fault, Meaning, Reading};
 use std::alloc::Global;
 use std::marker::Model;
 use std::mem;

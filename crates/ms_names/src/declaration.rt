@@ -1,26 +1,25 @@
 ghost use Rattle.ms_logic.specs.Tree.{unrestricted};
 ghost use Rattle.ms_logic.specs.View.{argument_of, declaration_of, predicate_of};
-ghost use Rattle.ms_names.specs.Before.{after, after_bounds, with_names};
-ghost use Rattle.ms_names.specs.Binder.{restricted_variable};
-ghost use Rattle.ms_names.specs.Declaration.{predicate_with, read_through};
-ghost use Rattle.ms_names.specs.Declarations.{declared_names, next_predicate, occurrences_in_default, occurrences_in_predicate};
-ghost use Rattle.ms_names.specs.Rules.{faults_of_bounds, faults_of_repeat, is_name_among};
-ghost use Rattle.ms_names.specs.Scope.{count_of_bounds};
+ghost use Rattle.ms_rules.specs.Before.{after, after_bounds, with_names};
+ghost use Rattle.ms_rules.specs.Binder.{restricted_variable, predicate_with};
+ghost use Rattle.ms_names.specs.Declaration.{read_through};
+ghost use Rattle.ms_rules.specs.Declarations.{declared_names, next_predicate, occurrences_in_default, occurrences_in_predicate};
+ghost use Rattle.ms_rules.specs.Rules.{faults_of_bounds, faults_of_repeat, is_name_among};
+ghost use Rattle.ms_rules.specs.Scope.{count_of_bounds};
 ghost use Rattle.ms_names.specs.State.{passed, with_faults};
-ghost use Rattle.ms_names.specs.Typed.{both, formula_in};
-ghost use Rattle.ms_names.specs.TypedSource.{typed_default, typed_predicate};
-ghost use Rattle.ms_names.specs.View.{bounds_of, expression_of};
+ghost use Rattle.ms_rules.specs.Typed.{both, formula_in};
+ghost use Rattle.ms_rules.specs.TypedSource.{typed_default, typed_predicate};
+ghost use Rattle.ms_rules.specs.View.{bounds_of, expression_of};
 ghost use Rattle.std.specs.Option.{option_map};
 ghost use Rattle.std.specs.Prelude.{◌≡◌, ◌∷◌, ◌++◌, [], map, IfOk, OnOk};
 
-use crate::build::formula_in;
 use crate::checker::Checker;
-use crate::meaning::Meaning;
 use crate::name::small;
 use crate::seen::Seen;
-use crate::wanted::Wanted;
 use ms_edge::{At, List, Name, NoMemory, push};
 use ms_logic::{Arg, Bound, Expr, Order, Param, Predicate};
+use ms_rules::{Meaning, Wanted};
+use ms_typing::{default_predicate, predicate};
 use std::alloc::Global;
 use std::mem;
 
@@ -112,40 +111,4 @@ impl Checker {
         self.allow_exports(allowed);
         default_predicate(self.alloc, order, x, body)
     }
-}
-
-fn predicate(params: Option<Vec<Param>>, body: Option<Arg>) -> Option<Predicate>
-    ensures { option_map predicate_of result
-        ≡ both predicate_with (option_map (λ ps. map declaration_of ps.items) params) (formula_in (option_map argument_of body)) }
-{
-    let params = params?;
-    let body = formula_in(body)?;
-    Some(Predicate {
-        params: List::from(params),
-        body,
-    })
-}
-
-fn default_predicate(
-    alloc: Global,
-    order: Order,
-    x: u32,
-    body: Option<Arg>,
-) -> Result<Option<Predicate>, NoMemory>
-    ensures { IfOk result (λ made. option_map predicate_of made
-        ≡ option_map (predicate_with (restricted_variable x order unrestricted ∷ [])) (formula_in (option_map argument_of body))) }
-{
-    let Some(body) = formula_in(body) else {
-        return Ok(None);
-    };
-    let mut params = List::new(alloc);
-    push(
-        &mut params,
-        Param {
-            order,
-            variable: x,
-            domain: None,
-        },
-    )?;
-    Ok(Some(Predicate { params, body }))
 }

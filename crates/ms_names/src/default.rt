@@ -1,16 +1,19 @@
-ghost use Rattle.ms_names.specs.Before.{with_names};
-ghost use Rattle.ms_names.specs.Binder.{default_for};
-ghost use Rattle.ms_names.specs.Reads.{readings_of_bounds, readings_of_default};
-ghost use Rattle.ms_names.specs.Rules.{faults_of_bounds};
-ghost use Rattle.ms_names.specs.Scope.{count_of_bounds, default_of};
+ghost use Rattle.ms_logic.specs.View.{declaration_of};
+ghost use Rattle.ms_rules.specs.Before.{with_names};
+ghost use Rattle.ms_rules.specs.Binder.{default_for, restricted_variable, restriction_in};
+ghost use Rattle.ms_rules.specs.Reads.{readings_of_bounds, readings_of_default};
+ghost use Rattle.ms_rules.specs.Rules.{faults_of_bounds};
+ghost use Rattle.ms_rules.specs.Scope.{count_of_bounds, default_of};
 ghost use Rattle.ms_names.specs.State.{noted};
-ghost use Rattle.ms_names.specs.View.{bound_of, bounds_of};
-ghost use Rattle.std.specs.Prelude.{◌≡◌, [], IfOk, OnOk};
+ghost use Rattle.ms_rules.specs.Syntax.{unrestricted};
+ghost use Rattle.ms_rules.specs.View.{bound_of, bounds_of};
+ghost use Rattle.std.specs.Option.{option_map};
+ghost use Rattle.std.specs.Prelude.{◌≡◌, [], Some, IfOk, OnOk};
 
 use crate::checker::Checker;
-use crate::meaning::Reading;
 use ms_edge::{NoMemory, push};
-use ms_logic::{Bound, Order};
+use ms_logic::{Bound, Formula, Order, Param};
+use ms_rules::Reading;
 
 impl Checker {
     /// The default restriction of the variables of an order.
@@ -21,6 +24,26 @@ impl Checker {
             Order::Zero => None,
             Order::One => self.default_of_numbers,
             Order::Two => self.default_of_sets,
+        }
+    }
+
+    /// A variable that has no restriction of its own.
+    pub(crate) fn unrestricted(&self, x: u32, order: Order, takes_defaults: bool) -> Param
+        ensures { Some (declaration_of result) ≡ option_map (restricted_variable x order) (restriction_in takes_defaults self.now.scope self.now.before order x unrestricted) }
+    {
+        let default = if takes_defaults {
+            self.default_of(order)
+        } else {
+            None
+        };
+        let domain = match default {
+            None => None,
+            Some(number) => Some(Formula::Domain(number, x)),
+        };
+        Param {
+            order,
+            variable: x,
+            domain,
         }
     }
 

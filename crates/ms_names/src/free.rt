@@ -1,12 +1,13 @@
 ghost use Rattle.indexmap.specs.IndexSet.{contains};
-ghost use Rattle.ms_names.specs.Free.{Readings, Tells};
-ghost use Rattle.ms_names.specs.Reads.{reads_predicate, reads_variable, with_predicates};
+ghost use Rattle.ms_rules.specs.Free.{Readings};
+ghost use Rattle.ms_names.specs.Read.{Tells};
+ghost use Rattle.ms_rules.specs.Reads.{reads_predicate, reads_variable, with_predicates};
 ghost use Rattle.std.specs.Prelude.{◌≡◌, ◌==◌, ◌∷◌, ◌++◌, [], ℕ, if◌then◌else◌, true, nat_eq, reverse, OnOk};
 
-use crate::meaning::Reading;
 use crate::name::small;
 use indexmap::IndexSet;
 use ms_edge::{List, NoMemory};
+use ms_rules::Reading;
 use std::alloc::Global;
 
 /// The numbers of the variables and of the predicates among some readings.

@@ -1,21 +1,20 @@
 ghost use Rattle.ms_logic.specs.View.{argument_of};
-ghost use Rattle.ms_names.specs.Reads.{readings_of_renames, readings_of_variable};
-ghost use Rattle.ms_names.specs.Rules.{faults_of_renames, faults_of_variable};
-ghost use Rattle.ms_names.specs.Scope.{meaning_of};
+ghost use Rattle.ms_rules.specs.Reads.{readings_of_renames, readings_of_variable};
+ghost use Rattle.ms_rules.specs.Rules.{faults_of_renames, faults_of_variable};
+ghost use Rattle.ms_rules.specs.Scope.{meaning_of};
 ghost use Rattle.ms_names.specs.State.{formed, noted};
-ghost use Rattle.ms_names.specs.Syntax.{imported};
-ghost use Rattle.ms_names.specs.Typed.{typed};
-ghost use Rattle.ms_names.specs.Uses.{pair_of, pairs_of};
+ghost use Rattle.ms_rules.specs.Syntax.{imported};
+ghost use Rattle.ms_rules.specs.Typed.{typed};
+ghost use Rattle.ms_rules.specs.Uses.{pair_of, pairs_of};
 ghost use Rattle.std.specs.Option.{option_map};
 ghost use Rattle.std.specs.Prelude.{◌≡◌, ◌++◌, [], IfOk, OnOk};
 
 use crate::checker::Checker;
-use crate::fault::Fault;
-use crate::meaning::{Meaning, Reading};
 use crate::memory::copy_name;
 use crate::seen::Seen;
 use ms_edge::{At, List, NoMemory, Text, push};
 use ms_logic::{Arg, Formula, ImportUse, MapPair, Rename};
+use ms_rules::{Fault, Meaning, Reading};
 
 impl Checker {
     /// An import: what is wrong with its names, what it reads, and what it becomes.

@@ -1,18 +1,18 @@
 ghost use Rattle.ms_logic.specs.View.{argument_of};
-ghost use Rattle.ms_names.specs.Reads.{readings_of_call, readings_of_name};
-ghost use Rattle.ms_names.specs.Rules.{faults_of_call, faults_of_name, faults_of_whole};
-ghost use Rattle.ms_names.specs.Scope.{meaning_of};
+ghost use Rattle.ms_rules.specs.Reads.{readings_of_call, readings_of_name};
+ghost use Rattle.ms_rules.specs.Rules.{faults_of_call, faults_of_name, faults_of_whole};
+ghost use Rattle.ms_rules.specs.Scope.{meaning_of};
 ghost use Rattle.ms_names.specs.State.{noted, with_faults};
-ghost use Rattle.ms_names.specs.Typed.{typed_name, variable_argument};
+ghost use Rattle.ms_rules.specs.Typed.{typed_name, variable_argument};
 ghost use Rattle.std.specs.Option.{option_map};
 ghost use Rattle.std.specs.Prelude.{◌≡◌, IfOk, OnOk};
 
 use crate::checker::Checker;
-use crate::fault::Fault;
-use crate::meaning::{Meaning, Reading};
 use crate::memory::copy_name;
 use ms_edge::{At, List, Name, NoMemory, push};
 use ms_logic::{Arg, Formula, Mode, Order, Term1, Term2};
+use ms_rules::{Fault, Meaning, Reading};
+use ms_typing::variable;
 
 // A number of the program as it stands in trees and refusals.
 pub(crate) fn small(count: usize) -> Result<u32, NoMemory>
@@ -21,16 +21,6 @@ pub(crate) fn small(count: usize) -> Result<u32, NoMemory>
     match u32::try_from(count) {
         Ok(small) => Ok(small),
         Err(_) => Err(NoMemory),
-    }
-}
-
-fn variable(x: u32, order: Order) -> Arg
-    ensures { argument_of result ≡ variable_argument x order }
-{
-    match order {
-        Order::Zero => Arg::Zero(Formula::Var(x)),
-        Order::One => Arg::One(Term1::Var(x)),
-        Order::Two => Arg::Two(Term2::Var(x)),
     }
 }
 

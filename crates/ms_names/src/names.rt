@@ -1,13 +1,14 @@
 ghost use Rattle.indexmap.specs.IndexMap.{get_by_text};
-ghost use Rattle.ms_names.specs.Free.{Readings, Tells, read_among};
-ghost use Rattle.ms_names.specs.Scope.{meaning_among, variables_among};
+ghost use Rattle.ms_rules.specs.Free.{Readings, read_among};
+ghost use Rattle.ms_names.specs.Read.{Tells};
+ghost use Rattle.ms_rules.specs.Scope.{meaning_among, variables_among};
 ghost use Rattle.ms_names.specs.Table.{flat, IsNoted, IsSame, named_meaning};
 ghost use Rattle.std.specs.Prelude.{◌≡◌, [], ◌∷◌, ◌++◌, drop, length, map, IfOk, OnOk, OnErr, option_copied, string_bytes};
 
 use crate::free::Read;
-use crate::meaning::Meaning;
 use indexmap::IndexMap;
 use ms_edge::{List, Name, NoMemory, push};
+use ms_rules::Meaning;
 use std::alloc::Global;
 use std::marker::Model;
 
@@ -30,7 +31,7 @@ pub(crate) struct Names {
 impl Model for Names {
     ghost use Rattle.std.specs.Prelude.{List, ℕ};
     ghost use Rattle.indexmap.specs.IndexMap.{get_by_text};
-    ghost use Rattle.ms_names.specs.declared.meaning.Meaning.{Meaning as Stands};
+    ghost use Rattle.ms_rules.specs.declared.meaning.Meaning.{Meaning as Stands};
     ghost use Rattle.ms_names.specs.Table.{IsTable, names_of};
 
     ghost Value = { List (List ℕ × Stands) };

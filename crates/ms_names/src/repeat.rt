@@ -1,16 +1,16 @@
-ghost use Rattle.ms_names.specs.Declarations.{declared_names};
-ghost use Rattle.ms_names.specs.Rules.{faults_of_bounds, faults_of_parts, faults_of_repeat};
+ghost use Rattle.ms_rules.specs.Declarations.{declared_names};
+ghost use Rattle.ms_rules.specs.Rules.{faults_of_bounds, faults_of_parts, faults_of_repeat};
 ghost use Rattle.ms_names.specs.State.{with_faults};
-ghost use Rattle.ms_names.specs.View.{bounds_of, parts_of};
-ghost use Rattle.ms_names.specs.declared.fault.Fault.TheVariants.{NamedTwice};
+ghost use Rattle.ms_rules.specs.View.{bounds_of, parts_of};
+ghost use Rattle.ms_rules.specs.declared.fault.Fault.TheVariants.{NamedTwice};
 ghost use Rattle.std.specs.Prelude.{◌≡◌, ◌∷◌, [], OnOk};
 
 use crate::checker::Checker;
-use crate::fault::Fault;
 use crate::memory::name_text;
 use crate::seen::Seen;
 use ms_edge::{At, Name, NoMemory};
 use ms_logic::{Bound, LetPart};
+use ms_rules::Fault;
 
 impl Checker {
     /// Reports a name that stands twice.

@@ -1,14 +1,14 @@
-ghost use Rattle.ms_names.specs.Before.{with_names};
-ghost use Rattle.ms_names.specs.Binder.{unbound};
-ghost use Rattle.ms_names.specs.Scope.{bind, without_exports, under_parts};
-ghost use Rattle.ms_names.specs.View.{parts_of};
+ghost use Rattle.ms_rules.specs.Before.{with_names};
+ghost use Rattle.ms_names.specs.State.{unbound};
+ghost use Rattle.ms_rules.specs.Scope.{bind, without_exports, under_parts};
+ghost use Rattle.ms_rules.specs.View.{parts_of};
 ghost use Rattle.std.specs.Prelude.{◌≡◌, IfOk, OnOk};
 
 use crate::checker::Checker;
-use crate::meaning::Meaning;
 use crate::name::small;
 use ms_edge::{Name, NoMemory};
 use ms_logic::{LetPart, Order};
+use ms_rules::Meaning;
 
 impl Checker {
     /// Numbers so many names, and gives the number of the first.

@@ -1,9 +1,9 @@
-ghost use Rattle.ms_names.specs.Rules.{is_name_among};
+ghost use Rattle.ms_rules.specs.Rules.{is_name_among};
 ghost use Rattle.std.specs.Prelude.{◌≡◌, ◌∷◌, [], OnOk};
 
-use crate::meaning::Meaning;
 use crate::names::Names;
 use ms_edge::{Name, NoMemory};
+use ms_rules::Meaning;
 use std::alloc::Global;
 use std::marker::Model;
 

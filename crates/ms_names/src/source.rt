@@ -1,8 +1,8 @@
-ghost use Rattle.ms_names.specs.Checking.{IsFirstFault};
-ghost use Rattle.ms_names.specs.Declarations.{first_fault_of};
-ghost use Rattle.ms_names.specs.Numbers.{IsWellNumbered};
-ghost use Rattle.ms_names.specs.TypedSource.{IsTyped};
-ghost use Rattle.ms_names.specs.View.{placed_of};
+ghost use Rattle.ms_rules.specs.Checking.{IsFirstFault};
+ghost use Rattle.ms_rules.specs.Declarations.{first_fault_of};
+ghost use Rattle.ms_rules.specs.Numbers.{IsWellNumbered};
+ghost use Rattle.ms_rules.specs.TypedSource.{IsTyped};
+ghost use Rattle.ms_rules.specs.View.{placed_of};
 ghost use Rattle.std.specs.Prelude.{◌≡◌, ◌⊎◌, None, map, IfErr, IfOk};
 
 use crate::progress::Progress;

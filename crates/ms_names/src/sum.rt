@@ -1,14 +1,14 @@
-ghost use Rattle.ms_names.specs.Constant.{next_sum, sum_from, value_of_sum};
+ghost use Rattle.ms_rules.specs.Constant.{next_sum, sum_from, value_of_sum};
 ghost use Rattle.ms_names.specs.Declaration.{sum_of};
-ghost use Rattle.ms_names.specs.Declarations.{declared_names, faults_of_sum};
-ghost use Rattle.ms_names.specs.Rules.{faults_of_placed, faults_of_repeat};
+ghost use Rattle.ms_rules.specs.Declarations.{declared_names, faults_of_sum};
+ghost use Rattle.ms_rules.specs.Rules.{faults_of_placed, faults_of_repeat};
 ghost use Rattle.ms_names.specs.State.{with_faults};
 ghost use Rattle.std.specs.Prelude.{◌≡◌, ◌++◌, flat_map, IfOk, OnOk};
 
 use crate::checker::Checker;
-use crate::fault::Fault;
 use ms_edge::{At, Name, NoMemory};
 use ms_logic::PlacedInt;
+use ms_rules::Fault;
 
 /// What the sums of a constant come to: a number, out of the range of constants, or nothing by a name without a value.
 #[derive(Clone, Copy)]

@@ -1,15 +1,14 @@
-ghost use Rattle.ms_names.specs.Constant.{value_of, value_of_meaning};
-ghost use Rattle.ms_names.specs.Rules.{faults_of_offset, faults_of_placed, in_case};
+ghost use Rattle.ms_rules.specs.Constant.{value_of, value_of_meaning};
+ghost use Rattle.ms_rules.specs.Rules.{faults_of_offset, faults_of_placed, in_case};
 ghost use Rattle.ms_names.specs.State.{with_faults};
-ghost use Rattle.ms_names.specs.declared.fault.Fault.TheVariants.{OutOfRange};
+ghost use Rattle.ms_rules.specs.declared.fault.Fault.TheVariants.{OutOfRange};
 ghost use Rattle.std.specs.Prelude.{◌≡◌, nat_lt, IfOk, OnOk};
 
 use crate::checker::Checker;
-use crate::fault::Fault;
-use crate::meaning::Meaning;
 use crate::memory::copy_name;
 use ms_edge::{At, Name, NoMemory};
 use ms_logic::{Int, PlacedInt};
+use ms_rules::{Fault, Meaning};
 
 const GREATEST_IN_TERMS: u64 = 65535;
 

@@ -1,5 +1,5 @@
 use Rattle.std.proofs.Common.{◌≡◌, drop, map}
-use Rattle.ms_names.specs.View.{placed_of}
+use Rattle.ms_rules.specs.View.{placed_of}
 use Rattle.ms_app.specs.Built.{first_beyond_from, nothing_yet}
 use Rattle.ms_app.proofs.built.first_beyond_among.Given as goal
 

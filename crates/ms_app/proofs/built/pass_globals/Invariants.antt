@@ -1,6 +1,6 @@
 use Rattle.std.proofs.Common.{◌≡◌, drop}
-use Rattle.ms_names.specs.Scope.{count_of_bounds}
-use Rattle.ms_names.specs.View.{bounds_of}
+use Rattle.ms_rules.specs.Scope.{count_of_bounds}
+use Rattle.ms_rules.specs.View.{bounds_of}
 use Rattle.ms_app.specs.Built.{first_global_beyond, with_globals}
 use Rattle.ms_app.proofs.built.pass_globals.Given as goal
 

@@ -4,8 +4,8 @@ use Rattle.ms_logic.specs.declared.source.Bound.{Bound}
 use Rattle.ms_logic.specs.declared.source.Expr.{Expr, out-Expr}
 use Rattle.ms_logic.specs.declared.source.Form.{the_lemmas}
 use Rattle.ms_logic.specs.declared.source.LetPart.{LetPart}
-use Rattle.ms_names.specs.Syntax.{quantified, where_let}
-use Rattle.ms_names.specs.View.{bounds_of, expression_of, parts_of}
+use Rattle.ms_rules.specs.Syntax.{quantified, where_let}
+use Rattle.ms_rules.specs.View.{bounds_of, expression_of, parts_of}
 use Rattle.ms_app.specs.Import.{first_import, first_import_in_bounds, first_import_in_parts}
 use Rattle.ms_app.proofs.import.+import.Goals as goal
 

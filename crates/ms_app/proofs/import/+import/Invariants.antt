@@ -1,6 +1,6 @@
 use Rattle.std.proofs.Common.{◌≡◌, drop}
-use Rattle.ms_names.specs.Lists.{expressions_of}
-use Rattle.ms_names.specs.View.{bounds_of, parts_of}
+use Rattle.ms_rules.specs.Lists.{expressions_of}
+use Rattle.ms_rules.specs.View.{bounds_of, parts_of}
 use Rattle.ms_app.specs.Import.{first_import_among, first_import_in_bounds, first_import_in_parts}
 use Rattle.ms_app.proofs.import.+import.Given as goal
 

@@ -2,9 +2,9 @@ use Rattle.std.proofs.Common.{rules, ◌≡◌, ◌+◌, ◌++◌, ◌∷◌, []
 use Rattle.std.proofs.lemmas.List.{append-nil, drop_all}
 use Rattle.ms_logic.specs.declared.source.Bound.{out-Bound}
 use Rattle.ms_logic.specs.declared.source.Form.{the_lemmas}
-use Rattle.ms_names.specs.Declarations.{orders_of_bounds}
-use Rattle.ms_names.specs.View.{bound_of, bounds_of}
-use Rattle.ms_names.proofs.Lists.{bounds-split}
+use Rattle.ms_rules.specs.Declarations.{orders_of_bounds}
+use Rattle.ms_rules.specs.View.{bound_of, bounds_of}
+use Rattle.ms_rules.proofs.Lists.{bounds-split}
 use Rattle.ms_names.proofs.declare.orders_of.Goals as goal
 
 pub loop-bound-init : goal.loop-bound-init

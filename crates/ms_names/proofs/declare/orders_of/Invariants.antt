@@ -1,6 +1,6 @@
 use Rattle.std.proofs.Common.{◌≡◌, ◌++◌, drop}
-use Rattle.ms_names.specs.Declarations.{orders_of_bounds}
-use Rattle.ms_names.specs.View.{bounds_of}
+use Rattle.ms_rules.specs.Declarations.{orders_of_bounds}
+use Rattle.ms_rules.specs.View.{bounds_of}
 use Rattle.ms_names.proofs.declare.orders_of.Given as goal
 
 -- the orders so far and those of the rest are all orders

@@ -1,6 +1,6 @@
 use Rattle.std.proofs.Common.{◌-◌, ◌<◌, length, if◌then◌else◌, Some, sym, ap, ◌∙◌, arith}
 use Rattle.std.specs.Option.{option_copied}
-use Rattle.ms_names.proofs.Repeats.{behind-next, found-next}
+use Rattle.ms_rules.proofs.Repeats.{behind-next, found-next}
 use Rattle.ms_names.proofs.export.first_twice.Goals as goal
 use Rattle.ms_names.proofs.export.first_twice.Goals.{then-contains, else-contains}
 

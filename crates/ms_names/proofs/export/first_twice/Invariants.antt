@@ -1,6 +1,6 @@
 use Rattle.std.proofs.Common.{◌≡◌, ◌≤◌, length, drop}
 use Rattle.std.specs.Option.{option_copied}
-use Rattle.ms_names.specs.Rules.{first_name_twice}
+use Rattle.ms_rules.specs.Rules.{first_name_twice}
 use Rattle.ms_names.proofs.export.first_twice.Given as goal
 
 -- the names that are left, and what is found among those behind them

@@ -1,6 +1,6 @@
 use Rattle.std.proofs.Common.{◌≡◌, drop}
-use Rattle.ms_names.specs.Scope.{under_parts}
-use Rattle.ms_names.specs.View.{parts_of}
+use Rattle.ms_rules.specs.Scope.{under_parts}
+use Rattle.ms_rules.specs.View.{parts_of}
 use Rattle.ms_names.proofs.checker.Checker.bind_parts.Given as goal
 
 -- what is bound so far and then the rest is all

@@ -1,6 +1,6 @@
 use Rattle.std.proofs.Common.{◌≡◌, drop}
 use Rattle.std.specs.Prelude.{flat_map}
-use Rattle.ms_names.specs.Rules.{faults_of_placed}
+use Rattle.ms_rules.specs.Rules.{faults_of_placed}
 use Rattle.ms_names.specs.State.{with_faults}
 use Rattle.ms_names.proofs.checker.Checker.check_ints.Given as goal
 

@@ -1,4 +1,4 @@
-use Rattle.ms_names.specs.View.{bounds_of}
+use Rattle.ms_rules.specs.View.{bounds_of}
 use Rattle.ms_names.proofs.Told.{globals-told}
 use Rattle.ms_names.proofs.checker.Checker.declare_globals.Goals as goal
 

@@ -1,8 +1,8 @@
 use Rattle.std.proofs.Common.{◌≡◌, is_some, if◌then◌else◌, true, false, sym, ap, ◌∙◌}
-use Rattle.ms_names.specs.Declarations.{declared_names}
-use Rattle.ms_names.specs.Rules.{is_name_among}
-use Rattle.ms_names.proofs.Declaring.{among-append}
-use Rattle.ms_names.proofs.Repeats.{among-is_some, is_some-copied}
+use Rattle.ms_rules.specs.Declarations.{declared_names}
+use Rattle.ms_rules.specs.Rules.{is_name_among}
+use Rattle.ms_rules.proofs.Declaring.{among-append}
+use Rattle.ms_rules.proofs.Repeats.{among-is_some, is_some-copied}
 use Rattle.ms_names.proofs.checker.Checker.is_taken.Goals as goal
 
 pub returns-then-contains : goal.returns-then-contains

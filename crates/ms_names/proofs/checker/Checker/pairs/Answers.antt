@@ -1,10 +1,10 @@
 use Rattle.std.proofs.Common.{◌≡◌, ◌+◌, drop, ◌∷◌, ◌++◌, [], refl, sym, subst, ap, ◌∙◌, arith}
 use Rattle.std.proofs.lemmas.List.{drop_all, append-nil}
-use Rattle.ms_names.specs.Reads.{readings_of_renames}
-use Rattle.ms_names.specs.Rules.{faults_of_renames}
-use Rattle.ms_names.specs.Scope.{Scope}
+use Rattle.ms_rules.specs.Reads.{readings_of_renames}
+use Rattle.ms_rules.specs.Rules.{faults_of_renames}
+use Rattle.ms_rules.specs.Scope.{Scope}
 use Rattle.ms_names.specs.State.{noted}
-use Rattle.ms_names.specs.Uses.{pairs_of}
+use Rattle.ms_rules.specs.Uses.{pairs_of}
 use Rattle.ms_names.proofs.Repeats.{noted-none, pairs-next, renames-next}
 use Rattle.ms_names.proofs.checker.Checker.pairs.Goals as goal
 

@@ -1,5 +1,5 @@
 use Rattle.std.proofs.Common.{◌≡◌, drop}
-use Rattle.ms_names.specs.Constant.{sum_from}
+use Rattle.ms_rules.specs.Constant.{sum_from}
 use Rattle.ms_names.proofs.checker.Checker.sum.Given as goal
 
 -- the sum so far, and the numbers that are left

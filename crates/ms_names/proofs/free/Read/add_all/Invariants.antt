@@ -1,5 +1,6 @@
 use Rattle.std.proofs.Common.{◌++◌, take}
-use Rattle.ms_names.specs.Free.{Readings, Tells}
+use Rattle.ms_rules.specs.Free.{Readings}
+use Rattle.ms_names.specs.Read.{Tells}
 use Rattle.ms_names.proofs.free.Read.add_all.Given as goal
 
 abbrev pub invariant-loop-reading : goal.invariant-loop-reading

@@ -1,6 +1,6 @@
 use Rattle.std.proofs.Common.{◌≡◌, reverse, get_or, Some, None, sym, ap, ◌∙◌, arith}
 use Rattle.std.proofs.lemmas.List.{reverse-reverse, length-reverse}
-use Rattle.ms_names.specs.Scope.{meaning_among}
+use Rattle.ms_rules.specs.Scope.{meaning_among}
 use Rattle.ms_names.specs.Table.{innermost}
 use Rattle.ms_names.proofs.Tables.{innermost-below, innermost-none, innermost-some}
 use Rattle.ms_names.proofs.names.Names.meaning.Goals as goal

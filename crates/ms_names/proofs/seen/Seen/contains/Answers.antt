@@ -1,6 +1,6 @@
 use Rattle.std.proofs.Common.{is_some, sym, ap, ◌∙◌}
-use Rattle.ms_names.specs.Rules.{is_name_among}
-use Rattle.ms_names.proofs.Repeats.{among-is_some, is_some-copied}
+use Rattle.ms_rules.specs.Rules.{is_name_among}
+use Rattle.ms_rules.proofs.Repeats.{among-is_some, is_some-copied}
 use Rattle.ms_names.proofs.seen.Seen.contains.Goals as goal
 
 pub returns : goal.returns
