@@ -2,7 +2,8 @@
 use Rattle.std.specs.Prelude.{Option, Some, None}
 use Rattle.std.specs.Option.{option_or}
 use Rattle.ms_edge.specs.declared.at.At.{At}
-use Rattle.ms_rules.specs.Syntax.{Expression, truth, falsity, whole, empty_set, name, number, pconst, brackets, literal, call, negation, conjunction, disjunction, implication, equivalence, relation, emptiness, union, intersection, difference, shift, minimum, maximum, quantified, where_let, restrict, imported, exported, Expressions, no_expressions, more_expressions, Bounds, no_bounds, more_bounds, Domain, unrestricted, restricted, Parts, no_parts, more_parts}
+use Rattle.ms_rules.specs.Syntax.{Expression, truth, falsity, whole, empty_set, name, number, pconst, brackets, literal, call, negation, conjunction, disjunction, implication, equivalence, relation, emptiness, union, intersection, difference, shift, minimum, maximum, quantified, where_let, restrict, imported, exported}
+use Rattle.ms_rules.specs.Syntax.{Expressions, no_expressions, more_expressions, Bounds, no_bounds, more_bounds, Domain, unrestricted, restricted, Parts, no_parts, more_parts}
 
 abbrev mutual
   -- the place of the word `import`

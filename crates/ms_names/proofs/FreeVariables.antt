@@ -3,15 +3,15 @@ use Rattle.std.proofs.Common.{◌≡◌, ℕ, ◌+◌, ◌<◌, ◌≤◌, true,
 use Rattle.std.proofs.lemmas.List.{map-append, take_more, take_all, reverse-append}
 use Rattle.std.proofs.lemmas.List.Elements.{filter-append}
 use Rattle.indexmap.specs.IndexSet.{contains}
-use Rattle.ms_names.specs.declared.free.Read.{Read}
 use Rattle.ms_rules.specs.declared.meaning.Reading.TheVariants.{Variable, Predicate}
-use Rattle.ms_names.specs.declared.names.Entry.{Entry}
 use Rattle.ms_rules.specs.Free.{Readings, read_among}
-use Rattle.ms_names.specs.Read.{Tells}
 use Rattle.ms_rules.specs.Reads.{reads_predicate, reads_variable, with_predicates}
 use Rattle.ms_rules.specs.Scope.{Named, variables_among}
-use Rattle.ms_names.specs.Table.{named_meaning, names_of}
 use Rattle.ms_rules.proofs.FreeVariables.{flip, from-last, length-earlier, predicate-more, predicate-same, variable-more, variable-same, variables-behind}
+use Rattle.ms_names.specs.declared.free.Read.{Read}
+use Rattle.ms_names.specs.declared.names.Entry.{Entry}
+use Rattle.ms_names.specs.Read.{Tells}
+use Rattle.ms_names.specs.Table.{named_meaning, names_of}
 
 pub Tells-variable : (old new : Read) (x : ℕ) (rs : Readings) →
     ((k : ℕ) → contains nat_eq new.variables k ≡ (if x == k then true else contains nat_eq old.variables k)) →

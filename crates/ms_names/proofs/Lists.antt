@@ -10,15 +10,15 @@ use Rattle.ms_rules.specs.declared.wanted.Wanted.TheVariants.{Exactly}
 use Rattle.ms_rules.specs.Syntax.{Bytes, Expression, Expressions, more_expressions, Bounds, more_bounds, Domain, Parts, more_parts}
 use Rattle.ms_rules.specs.Before.{after, after_all, after_bounds, after_domain, after_parts}
 use Rattle.ms_rules.specs.Binder.{argument_for, default_for, restricted_variable, restricted_variables, restriction_in, with_front}
-use Rattle.ms_names.specs.State.{after_restriction, after_restrictions, State, passed, noted}
 use Rattle.ms_rules.specs.Occurrence.{occurrences, inside_arguments, inside_bounds, inside_domain, inside_parts}
 use Rattle.ms_rules.specs.Order.{later_parameters, wanted_by}
 use Rattle.ms_rules.specs.Reads.{readings_of_bounds, readings_of_default}
 use Rattle.ms_rules.specs.Scope.{bind, under_bounds, under_parts, without_exports}
 use Rattle.ms_rules.specs.Typed.{both, numbers_of_parts, of_order, typed, typed_arguments, typed_parts}
+use Rattle.ms_rules.proofs.Lists.{argument-typed, default-readings, front-wanted, in_front, side-behind, sides_behind, variable-behind}
+use Rattle.ms_names.specs.State.{after_restriction, after_restrictions, State, passed, noted}
 use Rattle.ms_names.proofs.Repeats.{noted-noted}
 use Rattle.ms_names.proofs.States.{passed-passed}
-use Rattle.ms_rules.proofs.Lists.{argument-typed, default-readings, front-wanted, in_front, side-behind, sides_behind, variable-behind}
 
 pub arguments-next : (t u : State) (ps rest : List Order) (o : Option Order) (e : Expression) (es : Expressions) →
     ps ≡ with_front o (later_parameters ps) → rest ≡ later_parameters ps →

@@ -1,5 +1,5 @@
 -- Names that stand twice in a list.
-use Rattle.std.proofs.Common.{◌≡◌, ℕ, ◌+◌, ◌-◌, ◌<◌, length, get_or, drop, List, [], ◌∷◌, ◌++◌, append_assoc, sym, subst, ap, ◌∙◌}
+use Rattle.std.proofs.Common.{◌≡◌, ℕ, ◌+◌, ◌<◌, length, get_or, drop, List, [], ◌∷◌, ◌++◌, append_assoc, sym, subst, ap, ◌∙◌}
 use Rattle.std.proofs.lemmas.List.{append-nil}
 use Rattle.ms_edge.specs.declared.at.At.{At}
 use Rattle.ms_logic.specs.declared.checked.MapPair.{MapPair}
@@ -11,12 +11,12 @@ use Rattle.ms_rules.specs.declared.meaning.Reading.{Reading}
 use Rattle.ms_rules.specs.Reads.{readings_of_renames, readings_of_variable}
 use Rattle.ms_rules.specs.Rules.{faults_of_bounds, faults_of_parts, faults_of_renames, faults_of_repeat, faults_of_variable}
 use Rattle.ms_rules.specs.Scope.{Scope, meaning_of}
-use Rattle.ms_names.specs.State.{State, with_faults, noted}
 use Rattle.ms_rules.specs.Syntax.{Bytes, Bounds, more_bounds, Parts, more_parts}
 use Rattle.ms_rules.specs.Uses.{pair_of, pairs_of}
 use Rattle.ms_rules.specs.View.{OneBound, OnePart, bound_of, bounds_of, part_of, parts_of}
-use Rattle.ms_names.proofs.States.{first_with-append}
 use Rattle.ms_rules.proofs.Repeats.{bound_at-out, bound_name-out, next, part_at-out, part_name-out}
+use Rattle.ms_names.specs.State.{State, with_faults, noted}
+use Rattle.ms_names.proofs.States.{first_with-append}
 
 -- some faults and then some more
 pub faults-faults : (s : State) (fs gs : List Fault) → with_faults (with_faults s fs) gs ≡ with_faults s (fs ++ gs)

@@ -11,8 +11,8 @@ use Rattle.ms_rules.specs.Fault.{first_of_two, first_with}
 use Rattle.ms_rules.specs.Occurrence.{Occurrence, occurrences}
 use Rattle.ms_rules.specs.Reads.{readings_at}
 use Rattle.ms_rules.specs.Rules.{faults_at}
-use Rattle.ms_names.specs.State.{State, passed}
 use Rattle.ms_rules.specs.Uses.{import_at, export_at}
+use Rattle.ms_names.specs.State.{State, passed}
 
 -- the first of two lists of faults, one after the other
 pub first_with-append : (known : Option Fault) (fs gs : List Fault) → first_with known (fs ++ gs) ≡ first_with (first_with known fs) gs

@@ -4,9 +4,9 @@ use Rattle.std.specs.Prelude.{bytes_eq, string_bytes, Bool, true, false, if◌th
 use Rattle.std.proofs.lemmas.List.{reverse-append, length-reverse}
 use Rattle.std.proofs.lemmas.Grind.{common_steps}
 use Rattle.std.proofs.lemmas.Slice.Eq.{bytes_eq-Decides}
-use Rattle.ms_names.specs.declared.names.Entry.{Entry}
 use Rattle.ms_rules.specs.Scope.{meaning_among}
 use Rattle.ms_rules.specs.Syntax.{Bytes}
+use Rattle.ms_names.specs.declared.names.Entry.{Entry}
 use Rattle.ms_names.specs.Table.{flat, innermost, KnowHidden, IsTable, IsNoted, named_meaning}
 
 pub innermost-below : (r : List Entry) (n : Bytes) (i : ℕ) → innermost r n ≡ Some i → i < length r

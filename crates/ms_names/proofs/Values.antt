@@ -12,13 +12,13 @@ use Rattle.ms_rules.specs.declared.meaning.Reading.{Reading}
 use Rattle.ms_rules.specs.Syntax.{Bytes, Expression, call, quantified, where_let, Expressions, Bounds, Domain, restricted, Parts}
 use Rattle.ms_rules.specs.Before.{Before, after_bounds, after_parts, with_names}
 use Rattle.ms_rules.specs.Binder.{quantified_over, restricted_variable, restricted_variables, restriction_in, typed_sides}
-use Rattle.ms_names.specs.State.{after_restrictions, State, with_faults, passed, noted}
 use Rattle.ms_rules.specs.Occurrence.{Occurrence}
 use Rattle.ms_rules.specs.Order.{parameters_of}
 use Rattle.ms_rules.specs.Scope.{bind, count_of_bounds, count_of_parts, meaning_of, under_bounds, under_parts, without_exports}
 use Rattle.ms_rules.specs.Typed.{both, formula_in, numbers_of_parts, typed, typed_arguments, typed_call, typed_parts, typed_restriction}
 use Rattle.ms_rules.proofs.Exports.{arguments-same, parts-same, typed-same, under_parts-same}
 use Rattle.ms_rules.proofs.Lists.{call-typed, quantifiers-all, restriction-own}
+use Rattle.ms_names.specs.State.{after_restrictions, State, with_faults, passed, noted}
 
 pub call-value : (s r q u v : State) (fs : List Fault) (rs : List Reading) (os : List Occurrence) (b : Before) (at : At) (n : Bytes) (es : Expressions)
     (parameters : List Order) (allowed : Bool) (made : Option Arguments) (value : Option Argument) →

@@ -16,7 +16,6 @@ use Rattle.ms_rules.specs.declared.meaning.Reading.{Reading}
 use Rattle.ms_rules.specs.declared.wanted.Wanted.{Wanted}
 use Rattle.ms_rules.specs.Syntax.{Bytes, Expression, Expressions, Bounds, no_bounds, more_bounds, Parts, no_parts, more_parts, call, quantified, where_let, exported}
 use Rattle.ms_rules.specs.Before.{Before, after, after_all, after_bounds, after_parts, with_names, with_export}
-use Rattle.ms_names.specs.State.{after_restrictions, unbound, State, with_faults, passed, noted, formed}
 use Rattle.ms_rules.specs.Fault.{first_with}
 use Rattle.ms_rules.specs.Free.{export_use}
 use Rattle.ms_rules.specs.Occurrence.{Occurrence, occurrences, inside, inside_arguments, inside_bounds, inside_parts, formula_wanted}
@@ -26,6 +25,7 @@ use Rattle.ms_rules.specs.Rules.{count, faults_at, faults_of_bounds, faults_of_c
 use Rattle.ms_rules.specs.Scope.{Scope, bind, count_of_bounds, count_of_parts, meaning_of, under_bounds, under_parts, without_exports}
 use Rattle.ms_rules.specs.Typed.{both, typed}
 use Rattle.ms_rules.specs.Uses.{import_at, export_at}
+use Rattle.ms_names.specs.State.{after_restrictions, unbound, State, with_faults, passed, noted, formed}
 use Rattle.ms_names.proofs.States.{first_with-append, passed-passed}
 
 -- after some faults and readings, and then some expressions

@@ -3,16 +3,16 @@ use Rattle.std.specs.Prelude.{ℕ, List, [], ◌∷◌, ◌++◌, flat_map}
 use Rattle.ms_logic.specs.declared.mode.Order.{Order}
 use Rattle.ms_rules.specs.declared.meaning.Meaning.TheVariants.{Predicate}
 use Rattle.ms_rules.specs.declared.meaning.Reading.{Reading}
-use Rattle.ms_names.specs.declared.sum.Total.{Total}
-use Rattle.ms_names.specs.declared.sum.Total.TheVariants.{Value, LeavesRange, HasNoValue}
 use Rattle.ms_rules.specs.Constant.{Sum, sums_to, leaves_range, has_no_value}
 use Rattle.ms_rules.specs.Declarations.{Known, before_after, exports_in, faults_of_declaration, next_predicate, occurrences_in, scope_after}
 use Rattle.ms_rules.specs.Fault.{first_with}
 use Rattle.ms_rules.specs.Rules.{faults_at}
 use Rattle.ms_rules.specs.Scope.{bind}
-use Rattle.ms_names.specs.State.{State}
 use Rattle.ms_rules.specs.Syntax.{Bytes, Declaration}
 use Rattle.ms_rules.specs.Uses.{import_at}
+use Rattle.ms_names.specs.declared.sum.Total.{Total}
+use Rattle.ms_names.specs.declared.sum.Total.TheVariants.{Value, LeavesRange, HasNoValue}
+use Rattle.ms_names.specs.State.{State}
 
 abbrev pub Files : Type 0
 Files = List Bytes

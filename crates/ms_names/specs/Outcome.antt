@@ -5,18 +5,18 @@ use Rattle.ms_logic.specs.Tree as tree
 use Rattle.ms_logic.specs.Tree.{Form}
 use Rattle.ms_logic.specs.View as code
 use Rattle.ms_rules.specs.declared.meaning.Reading.{Reading}
-use Rattle.ms_names.specs.declared.outcome.Outcome.{Outcome}
-use Rattle.ms_names.specs.declared.outcome.Outcome.TheVariants.{Globals, Predicate, Formula, Nothing}
 use Rattle.ms_rules.specs.Before.{Before}
 use Rattle.ms_rules.specs.Binder.{restricted_variables}
 use Rattle.ms_rules.specs.Declarations.{Known, after_declaration, exports_in, faults_in, occurrences_in}
 use Rattle.ms_rules.specs.Fault.{first_fault}
 use Rattle.ms_rules.specs.Scope.{Scope}
-use Rattle.ms_names.specs.State.{State}
 use Rattle.ms_rules.specs.Syntax.{Declaration, globals, constant, predicate, include, default, formula}
 use Rattle.ms_rules.specs.Typed.{formula_in, typed}
 use Rattle.ms_rules.specs.TypedSource.{typed_default, typed_predicate}
 use Rattle.ms_rules.specs.Uses.{import_at}
+use Rattle.ms_names.specs.declared.outcome.Outcome.{Outcome}
+use Rattle.ms_names.specs.declared.outcome.Outcome.TheVariants.{Globals, Predicate, Formula, Nothing}
+use Rattle.ms_names.specs.State.{State}
 
 pub data Made : Type 0 where
   made_globals : (vs : Option (List tree.Declaration)) → Made

@@ -10,14 +10,14 @@ use Rattle.ms_logic.specs.declared.mode.Mode.{Mode}
 use Rattle.ms_logic.specs.Tree as tree
 use Rattle.ms_logic.specs.View.{predicate_of}
 use Rattle.ms_rules.specs.declared.fault.Fault.{Fault}
-use Rattle.ms_names.specs.declared.progress.Progress.{Progress}
-use Rattle.ms_names.specs.Declaration.{known_at}
 use Rattle.ms_rules.specs.Declarations.{Known, after_declaration, at_the_beginning, exports_in, faults_in, first_fault_from, occurrences_in}
 use Rattle.ms_rules.specs.Fault.{first_fault, refusal_of}
-use Rattle.ms_names.specs.Outcome.{Made, made_globals, made_predicate, made_formula, made_nothing, made_in}
 use Rattle.ms_rules.specs.Syntax.{Bounds, no_bounds, more_bounds, Declaration, globals, constant, predicate, include, default, formula, Placed}
 use Rattle.ms_rules.specs.TypedSource.{TypedFormula, TypedGlobal, collected, formulas_of, global_of, globals_of, placed_formula_of, predicates_of}
 use Rattle.ms_rules.specs.Uses.{export_at, import_at}
+use Rattle.ms_names.specs.declared.progress.Progress.{Progress}
+use Rattle.ms_names.specs.Declaration.{known_at}
+use Rattle.ms_names.specs.Outcome.{Made, made_globals, made_predicate, made_formula, made_nothing, made_in}
 
 -- what is known there
 abbrev pub known : Progress → Known

@@ -1,5 +1,5 @@
 -- What a check has found so far, and what it has found after some expressions.
-use Rattle.std.specs.Prelude.{ℕ, ◌+◌, true, List, [], ◌++◌, drop, flat_map, Option, None}
+use Rattle.std.specs.Prelude.{ℕ, true, List, [], ◌++◌, drop, flat_map, Option, None}
 use Rattle.ms_logic.specs.declared.checked.ExportUse.{ExportUse}
 use Rattle.ms_logic.specs.declared.checked.ImportUse.{ImportUse}
 use Rattle.ms_logic.specs.declared.mode.Mode.{Mode}

@@ -2,8 +2,8 @@
 -- outermost. Each entry has the place of the entry that it hides.
 use Rattle.std.specs.Prelude.{◌≡◌, ℕ, if◌then◌else◌, List, [], ◌∷◌, length, map, reverse, bytes_eq, string_bytes, Option, Some, None}
 use Rattle.ms_rules.specs.declared.meaning.Meaning.{Meaning}
-use Rattle.ms_names.specs.declared.names.Entry.{Entry}
 use Rattle.ms_rules.specs.Syntax.{Bytes}
+use Rattle.ms_names.specs.declared.names.Entry.{Entry}
 
 abbrev pub flat : Option (Option ℕ) → Option ℕ
 flat None = None

@@ -1,21 +1,19 @@
-ghost use Rattle.ms_logic.specs.Tree as tree;
-ghost use Rattle.ms_logic.specs.View.{argument_of, formula_of, set_term_of, term_of};
+ghost use Rattle.ms_logic.specs.View.{argument_of};
 ghost use Rattle.ms_rules.specs.Lists.{arguments_of};
-ghost use Rattle.ms_rules.specs.Binder.{argument_for, with_front};
-ghost use Rattle.ms_rules.specs.Order.{parameters_of, wanted_by};
+ghost use Rattle.ms_rules.specs.Order.{parameters_of};
 ghost use Rattle.ms_rules.specs.Reads.{readings_of_call};
 ghost use Rattle.ms_rules.specs.Rules.{faults_of_call};
 ghost use Rattle.ms_rules.specs.Scope.{meaning_of};
+ghost use Rattle.ms_rules.specs.Typed.{typed_call};
 ghost use Rattle.ms_names.specs.State.{noted};
-ghost use Rattle.ms_rules.specs.Typed.{both, of_order, typed_call};
-ghost use Rattle.std.specs.Option.{option_map, option_and_then};
-ghost use Rattle.std.specs.Prelude.{◌≡◌, ◌∷◌, ◌++◌, ◌+◌, [], drop, map, IfOk, OnOk};
+ghost use Rattle.std.specs.Option.{option_map};
+ghost use Rattle.std.specs.Prelude.{◌≡◌, IfOk, OnOk};
 
 use crate::checker::Checker;
 use crate::name::small;
 use ms_edge::{At, List, Name, NoMemory, push};
-use ms_logic::{Arg, Formula, Order, Term1, Term2};
-use ms_rules::{Meaning, Wanted};
+use ms_logic::{Arg, Order};
+use ms_rules::Meaning;
 use ms_typing::call;
 use std::alloc::Global;
 

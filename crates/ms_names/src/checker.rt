@@ -1,7 +1,7 @@
-ghost use Rattle.ms_names.specs.State.{beginning};
 ghost use Rattle.ms_rules.specs.Fault.{first_of_two};
 ghost use Rattle.ms_rules.specs.Scope.{meaning_of};
-ghost use Rattle.std.specs.Prelude.{◌≡◌, ◌∷◌, [], None, option_copied};
+ghost use Rattle.ms_names.specs.State.{beginning};
+ghost use Rattle.std.specs.Prelude.{◌≡◌, None, option_copied};
 
 use crate::names::Names;
 use ms_edge::{List, Name};

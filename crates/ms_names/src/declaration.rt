@@ -1,26 +1,22 @@
-ghost use Rattle.ms_logic.specs.Tree.{unrestricted};
-ghost use Rattle.ms_logic.specs.View.{argument_of, declaration_of, predicate_of};
+ghost use Rattle.ms_logic.specs.View.{predicate_of};
 ghost use Rattle.ms_rules.specs.Before.{after, after_bounds, with_names};
-ghost use Rattle.ms_rules.specs.Binder.{restricted_variable, predicate_with};
-ghost use Rattle.ms_names.specs.Declaration.{read_through};
 ghost use Rattle.ms_rules.specs.Declarations.{declared_names, next_predicate, occurrences_in_default, occurrences_in_predicate};
 ghost use Rattle.ms_rules.specs.Rules.{faults_of_bounds, faults_of_repeat, is_name_among};
 ghost use Rattle.ms_rules.specs.Scope.{count_of_bounds};
-ghost use Rattle.ms_names.specs.State.{passed, with_faults};
-ghost use Rattle.ms_rules.specs.Typed.{both, formula_in};
 ghost use Rattle.ms_rules.specs.TypedSource.{typed_default, typed_predicate};
 ghost use Rattle.ms_rules.specs.View.{bounds_of, expression_of};
+ghost use Rattle.ms_names.specs.Declaration.{read_through};
+ghost use Rattle.ms_names.specs.State.{passed, with_faults};
 ghost use Rattle.std.specs.Option.{option_map};
-ghost use Rattle.std.specs.Prelude.{◌≡◌, ◌∷◌, ◌++◌, [], map, IfOk, OnOk};
+ghost use Rattle.std.specs.Prelude.{◌≡◌, ◌∷◌, ◌++◌, IfOk, OnOk};
 
 use crate::checker::Checker;
 use crate::name::small;
 use crate::seen::Seen;
-use ms_edge::{At, List, Name, NoMemory, push};
-use ms_logic::{Arg, Bound, Expr, Order, Param, Predicate};
+use ms_edge::{At, List, Name, NoMemory};
+use ms_logic::{Bound, Expr, Order, Predicate};
 use ms_rules::{Meaning, Wanted};
 use ms_typing::{default_predicate, predicate};
-use std::alloc::Global;
 use std::mem;
 
 impl Checker {

@@ -1,12 +1,12 @@
 ghost use Rattle.ms_logic.specs.View.{declaration_of, formula_of, predicate_of};
 ghost use Rattle.ms_rules.specs.Binder.{restricted_variables};
-ghost use Rattle.ms_names.specs.Declaration.{Files, known_at, named, told};
 ghost use Rattle.ms_rules.specs.Declarations.{orders_of_bounds};
 ghost use Rattle.ms_rules.specs.Scope.{with_default};
 ghost use Rattle.ms_rules.specs.Syntax.{constant, default, formula, globals, predicate};
 ghost use Rattle.ms_rules.specs.Typed.{formula_in, typed};
 ghost use Rattle.ms_rules.specs.TypedSource.{typed_default, typed_predicate};
 ghost use Rattle.ms_rules.specs.View.{bounds_of, expression_of};
+ghost use Rattle.ms_names.specs.Declaration.{Files, known_at, named, told};
 ghost use Rattle.std.specs.Option.{option_map};
 ghost use Rattle.std.specs.Prelude.{◌≡◌, [], ℕ, true, map, IfOk, OnOk};
 

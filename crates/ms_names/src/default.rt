@@ -4,9 +4,9 @@ ghost use Rattle.ms_rules.specs.Binder.{default_for, restricted_variable, restri
 ghost use Rattle.ms_rules.specs.Reads.{readings_of_bounds, readings_of_default};
 ghost use Rattle.ms_rules.specs.Rules.{faults_of_bounds};
 ghost use Rattle.ms_rules.specs.Scope.{count_of_bounds, default_of};
-ghost use Rattle.ms_names.specs.State.{noted};
 ghost use Rattle.ms_rules.specs.Syntax.{unrestricted};
 ghost use Rattle.ms_rules.specs.View.{bound_of, bounds_of};
+ghost use Rattle.ms_names.specs.State.{noted};
 ghost use Rattle.std.specs.Option.{option_map};
 ghost use Rattle.std.specs.Prelude.{◌≡◌, [], Some, IfOk, OnOk};
 

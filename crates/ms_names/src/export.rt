@@ -1,11 +1,11 @@
 ghost use Rattle.ms_rules.specs.Before.{with_export};
 ghost use Rattle.ms_rules.specs.Free.{export_use};
-ghost use Rattle.ms_names.specs.Read.{Tells};
 ghost use Rattle.ms_rules.specs.Reads.{variables_read, with_predicates};
 ghost use Rattle.ms_rules.specs.Rules.{faults_of_export, faults_of_exports, first_name_twice, in_case};
-ghost use Rattle.ms_names.specs.State.{with_faults};
 ghost use Rattle.ms_rules.specs.Uses.{with_files};
 ghost use Rattle.ms_rules.specs.declared.fault.Fault.TheVariants.{NotHere};
+ghost use Rattle.ms_names.specs.Read.{Tells};
+ghost use Rattle.ms_names.specs.State.{with_faults};
 ghost use Rattle.std.specs.List.{insert};
 ghost use Rattle.std.specs.Option.{option_copied};
 ghost use Rattle.std.specs.Prelude.{◌≡◌, ◌≤◌, ◌∷◌, drop, length, not, IfOk, OnOk};

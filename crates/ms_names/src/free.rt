@@ -1,7 +1,7 @@
 ghost use Rattle.indexmap.specs.IndexSet.{contains};
 ghost use Rattle.ms_rules.specs.Free.{Readings};
-ghost use Rattle.ms_names.specs.Read.{Tells};
 ghost use Rattle.ms_rules.specs.Reads.{reads_predicate, reads_variable, with_predicates};
+ghost use Rattle.ms_names.specs.Read.{Tells};
 ghost use Rattle.std.specs.Prelude.{◌≡◌, ◌==◌, ◌∷◌, ◌++◌, [], ℕ, if◌then◌else◌, true, nat_eq, reverse, OnOk};
 
 use crate::name::small;

@@ -1,13 +1,13 @@
 ghost use Rattle.ms_logic.specs.View.{argument_of};
 ghost use Rattle.ms_rules.specs.Reads.{readings_of_renames, readings_of_variable};
-ghost use Rattle.ms_rules.specs.Rules.{faults_of_renames, faults_of_variable};
+ghost use Rattle.ms_rules.specs.Rules.{faults_of_renames, faults_of_repeat, faults_of_variable};
 ghost use Rattle.ms_rules.specs.Scope.{meaning_of};
-ghost use Rattle.ms_names.specs.State.{formed, noted};
 ghost use Rattle.ms_rules.specs.Syntax.{imported};
 ghost use Rattle.ms_rules.specs.Typed.{typed};
 ghost use Rattle.ms_rules.specs.Uses.{pair_of, pairs_of};
+ghost use Rattle.ms_names.specs.State.{formed, noted, with_faults};
 ghost use Rattle.std.specs.Option.{option_map};
-ghost use Rattle.std.specs.Prelude.{◌≡◌, ◌++◌, [], IfOk, OnOk};
+ghost use Rattle.std.specs.Prelude.{◌≡◌, ◌∷◌, ◌++◌, [], IfOk, OnOk};
 
 use crate::checker::Checker;
 use crate::memory::copy_name;
@@ -49,11 +49,31 @@ impl Checker {
         let mut rights = Seen::new(self.alloc);
         let mut pairs = List::new(self.alloc);
         for rename in renames {
-            self.check_repeat(rename.at, &rename.left, &mut lefts)?;
-            self.add_pair(&mut pairs, rename)?;
-            self.check_repeat(rename.at_right, &rename.right, &mut rights)?;
+            self.pair(rename, &mut lefts, &mut rights, &mut pairs)?;
         }
         Ok(pairs)
+    }
+
+    // One renaming more: what is wrong with its names, and its pair.
+    fn pair(
+        &mut self,
+        rename: &Rename,
+        lefts: &mut Seen,
+        rights: &mut Seen,
+        pairs: &mut List<MapPair>,
+    ) -> Result<(), NoMemory>
+        ensures state { OnOk result (self.new ≡ with_faults (noted
+            (with_faults self.old (faults_of_repeat rename.now.at rename.now.left lefts.old))
+            (faults_of_variable rename.now.at_right rename.now.right (meaning_of self.old.scope rename.now.right))
+            (readings_of_variable (meaning_of self.old.scope rename.now.right)))
+            (faults_of_repeat rename.now.at_right rename.now.right rights.old)) }
+        ensures lefts { OnOk result (lefts.new ≡ rename.now.left ∷ lefts.old) }
+        ensures rights { OnOk result (rights.new ≡ rename.now.right ∷ rights.old) }
+        ensures pairs { OnOk result (pairs.new ≡ pairs.old ++ pair_of rename.now.left (meaning_of self.old.scope rename.now.right)) }
+    {
+        self.check_repeat(rename.at, &rename.left, lefts)?;
+        self.add_pair(pairs, rename)?;
+        self.check_repeat(rename.at_right, &rename.right, rights)
     }
 
     // One pair more, where the right name is a variable.

@@ -2,15 +2,15 @@ ghost use Rattle.ms_logic.specs.View.{argument_of};
 ghost use Rattle.ms_rules.specs.Reads.{readings_of_call, readings_of_name};
 ghost use Rattle.ms_rules.specs.Rules.{faults_of_call, faults_of_name, faults_of_whole};
 ghost use Rattle.ms_rules.specs.Scope.{meaning_of};
+ghost use Rattle.ms_rules.specs.Typed.{typed_name};
 ghost use Rattle.ms_names.specs.State.{noted, with_faults};
-ghost use Rattle.ms_rules.specs.Typed.{typed_name, variable_argument};
 ghost use Rattle.std.specs.Option.{option_map};
 ghost use Rattle.std.specs.Prelude.{◌≡◌, IfOk, OnOk};
 
 use crate::checker::Checker;
 use crate::memory::copy_name;
 use ms_edge::{At, List, Name, NoMemory, push};
-use ms_logic::{Arg, Formula, Mode, Order, Term1, Term2};
+use ms_logic::{Arg, Formula, Mode, Term1};
 use ms_rules::{Fault, Meaning, Reading};
 use ms_typing::variable;
 

@@ -1,7 +1,7 @@
 ghost use Rattle.indexmap.specs.IndexMap.{get_by_text};
 ghost use Rattle.ms_rules.specs.Free.{Readings, read_among};
-ghost use Rattle.ms_names.specs.Read.{Tells};
 ghost use Rattle.ms_rules.specs.Scope.{meaning_among, variables_among};
+ghost use Rattle.ms_names.specs.Read.{Tells};
 ghost use Rattle.ms_names.specs.Table.{flat, IsNoted, IsSame, named_meaning};
 ghost use Rattle.std.specs.Prelude.{◌≡◌, [], ◌∷◌, ◌++◌, drop, length, map, IfOk, OnOk, OnErr, option_copied, string_bytes};
 

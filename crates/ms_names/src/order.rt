@@ -1,13 +1,12 @@
-ghost use Rattle.ms_rules.specs.Fault.{first_with};
-ghost use Rattle.ms_rules.specs.Order.{fits, is_order, order_of, order_of_meaning, wanted_on_the_left, wanted_on_the_right};
+ghost use Rattle.ms_rules.specs.Order.{order_of};
 ghost use Rattle.ms_rules.specs.Rules.{faults_of_order};
-ghost use Rattle.ms_names.specs.State.{with_faults};
 ghost use Rattle.ms_rules.specs.View.{expression_of};
+ghost use Rattle.ms_names.specs.State.{with_faults};
 ghost use Rattle.std.specs.Prelude.{◌≡◌};
 
 use crate::checker::Checker;
-use ms_logic::{Expr, Form, Order, Rel};
-use ms_rules::{Fault, Meaning, Wanted};
+use ms_logic::{Expr, Form, Order};
+use ms_rules::{Fault, Wanted};
 
 impl Checker {
     /// The order of an expression, seen from its form. It has none by an unknown name.

@@ -1,7 +1,7 @@
-ghost use Rattle.ms_names.specs.Declaration.{Files, known_at, told};
 ghost use Rattle.ms_rules.specs.Declarations.{after_declaration};
-ghost use Rattle.ms_names.specs.Outcome.{declared_in, made_in, outcome_of};
 ghost use Rattle.ms_rules.specs.View.{declaration_of};
+ghost use Rattle.ms_names.specs.Declaration.{Files, known_at, told};
+ghost use Rattle.ms_names.specs.Outcome.{declared_in, made_in, outcome_of};
 ghost use Rattle.std.specs.Prelude.{◌≡◌, [], None, length, IfOk, OnOk};
 
 use crate::checker::Checker;

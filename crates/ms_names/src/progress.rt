@@ -1,8 +1,8 @@
 ghost use Rattle.ms_logic.specs.View.{declaration_of as parameter_of};
 ghost use Rattle.ms_rules.specs.Declarations.{count_of_globals, globals_in};
+ghost use Rattle.ms_rules.specs.View.{bounds_of, declaration_of, placed_of};
 ghost use Rattle.ms_names.specs.Outcome.{outcome_of};
 ghost use Rattle.ms_names.specs.Progress.{IsAfter, IsBeginning, IsFirstOf, IsMade, IsNext, Keeps, bounds_in, globals_with, kept_globals, known};
-ghost use Rattle.ms_rules.specs.View.{bounds_of, declaration_of, placed_of};
 ghost use Rattle.std.specs.Prelude.{◌≡◌, ◌+◌, ◌∷◌, ◌++◌, ◌⊎◌, [], map, IfErr, IfOk, OnOk};
 
 use crate::checker::Checker;

@@ -1,8 +1,8 @@
 ghost use Rattle.ms_rules.specs.Declarations.{declared_names};
 ghost use Rattle.ms_rules.specs.Rules.{faults_of_bounds, faults_of_parts, faults_of_repeat};
-ghost use Rattle.ms_names.specs.State.{with_faults};
 ghost use Rattle.ms_rules.specs.View.{bounds_of, parts_of};
 ghost use Rattle.ms_rules.specs.declared.fault.Fault.TheVariants.{NamedTwice};
+ghost use Rattle.ms_names.specs.State.{with_faults};
 ghost use Rattle.std.specs.Prelude.{◌≡◌, ◌∷◌, [], OnOk};
 
 use crate::checker::Checker;

@@ -1,7 +1,7 @@
 ghost use Rattle.ms_rules.specs.Before.{with_names};
-ghost use Rattle.ms_names.specs.State.{unbound};
 ghost use Rattle.ms_rules.specs.Scope.{bind, without_exports, under_parts};
 ghost use Rattle.ms_rules.specs.View.{parts_of};
+ghost use Rattle.ms_names.specs.State.{unbound};
 ghost use Rattle.std.specs.Prelude.{◌≡◌, IfOk, OnOk};
 
 use crate::checker::Checker;

@@ -1,7 +1,7 @@
 ghost use Rattle.ms_rules.specs.Constant.{next_sum, sum_from, value_of_sum};
-ghost use Rattle.ms_names.specs.Declaration.{sum_of};
 ghost use Rattle.ms_rules.specs.Declarations.{declared_names, faults_of_sum};
 ghost use Rattle.ms_rules.specs.Rules.{faults_of_placed, faults_of_repeat};
+ghost use Rattle.ms_names.specs.Declaration.{sum_of};
 ghost use Rattle.ms_names.specs.State.{with_faults};
 ghost use Rattle.std.specs.Prelude.{◌≡◌, ◌++◌, flat_map, IfOk, OnOk};
 

@@ -1,12 +1,12 @@
-ghost use Rattle.ms_rules.specs.Constant.{value_of, value_of_meaning};
+ghost use Rattle.ms_rules.specs.Constant.{value_of};
 ghost use Rattle.ms_rules.specs.Rules.{faults_of_offset, faults_of_placed, in_case};
-ghost use Rattle.ms_names.specs.State.{with_faults};
 ghost use Rattle.ms_rules.specs.declared.fault.Fault.TheVariants.{OutOfRange};
-ghost use Rattle.std.specs.Prelude.{◌≡◌, nat_lt, IfOk, OnOk};
+ghost use Rattle.ms_names.specs.State.{with_faults};
+ghost use Rattle.std.specs.Prelude.{◌≡◌, nat_lt, OnOk};
 
 use crate::checker::Checker;
 use crate::memory::copy_name;
-use ms_edge::{At, Name, NoMemory};
+use ms_edge::{At, NoMemory};
 use ms_logic::{Int, PlacedInt};
 use ms_rules::{Fault, Meaning};
 

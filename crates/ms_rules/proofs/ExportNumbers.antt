@@ -10,7 +10,8 @@ use Rattle.ms_logic.specs.Tree as tree
 use Rattle.ms_logic.specs.Tree.{Term, SetTerm, Terms, Form, Forms, Restriction, Argument, truth_argument, number_argument, set_argument, Arguments}
 use Rattle.ms_rules.specs.declared.meaning.Meaning.{Meaning}
 use Rattle.ms_rules.specs.declared.meaning.Meaning.TheVariants as meaning
-use Rattle.ms_rules.specs.Syntax.{Expression, truth, falsity, whole, empty_set, name, number, pconst, brackets, literal, call, negation, conjunction, disjunction, implication, equivalence, relation, emptiness, union, intersection, difference, shift, minimum, maximum, quantified, where_let, restrict, imported, exported, Expressions, no_expressions, more_expressions, Bounds, no_bounds, more_bounds, Domain, unrestricted, restricted, Parts, no_parts, more_parts}
+use Rattle.ms_rules.specs.Syntax.{Expression, truth, falsity, whole, empty_set, name, number, pconst, brackets, literal, call, negation, conjunction, disjunction, implication, equivalence, relation, emptiness, union, intersection, difference, shift, minimum, maximum, quantified, where_let, restrict, imported, exported}
+use Rattle.ms_rules.specs.Syntax.{Expressions, no_expressions, more_expressions, Bounds, no_bounds, more_bounds, Domain, unrestricted, restricted, Parts, no_parts, more_parts}
 use Rattle.ms_rules.specs.Before.{Before, with_names, with_export, after, after_all, after_bounds, after_domain, after_parts}
 use Rattle.ms_rules.specs.Constant.{value_of}
 use Rattle.ms_rules.specs.Numbers.{CountUp, exports_in, exports_in_all, exports_in_argument, exports_in_arguments, exports_in_restriction}

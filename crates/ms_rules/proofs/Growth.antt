@@ -4,7 +4,8 @@ use Rattle.ms_logic.specs.declared.mode.Order.{Order}
 use Rattle.ms_rules.specs.declared.meaning.Meaning.TheVariants as meaning
 use Rattle.ms_rules.specs.declared.wanted.Wanted.{Wanted}
 use Rattle.ms_rules.specs.declared.wanted.Wanted.TheVariants.{Exactly, NumberOrSet, Anything}
-use Rattle.ms_rules.specs.Syntax.{Expression, truth, falsity, whole, empty_set, name, number, pconst, brackets, literal, call, negation, conjunction, disjunction, implication, equivalence, relation, emptiness, union, intersection, difference, shift, minimum, maximum, quantified, where_let, restrict, imported, exported, Expressions, no_expressions, more_expressions, Bounds, no_bounds, more_bounds, Domain, unrestricted, restricted, Parts, no_parts, more_parts}
+use Rattle.ms_rules.specs.Syntax.{Expression, truth, falsity, whole, empty_set, name, number, pconst, brackets, literal, call, negation, conjunction, disjunction, implication, equivalence, relation, emptiness, union, intersection, difference, shift, minimum, maximum, quantified, where_let, restrict, imported, exported}
+use Rattle.ms_rules.specs.Syntax.{Expressions, no_expressions, more_expressions, Bounds, no_bounds, more_bounds, Domain, unrestricted, restricted, Parts, no_parts, more_parts}
 use Rattle.ms_rules.specs.Before.{Before, with_names, with_export, after, after_all, after_bounds, after_domain, after_parts}
 use Rattle.ms_rules.specs.Occurrence.{Occurrence, standing, occurrences, inside, inside_operands, inside_arguments, inside_bounds, inside_domain, inside_parts, formula_wanted, number_wanted, set_wanted}
 use Rattle.ms_rules.specs.Order.{later_parameters, order_of, parameters_of, wanted_by, wanted_on_the_left, wanted_on_the_right}

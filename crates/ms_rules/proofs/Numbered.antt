@@ -11,7 +11,8 @@ use Rattle.ms_logic.specs.Tree.{Form, Argument, truth_argument, number_argument,
 use Rattle.ms_rules.specs.declared.meaning.Meaning.TheVariants as meaning
 use Rattle.ms_rules.specs.declared.wanted.Wanted.{Wanted}
 use Rattle.ms_rules.specs.declared.wanted.Wanted.TheVariants.{Exactly, NumberOrSet, Anything}
-use Rattle.ms_rules.specs.Syntax.{Expression, truth, falsity, whole, empty_set, name, number, pconst, brackets, literal, call, negation, conjunction, disjunction, implication, equivalence, relation, emptiness, union, intersection, difference, shift, minimum, maximum, quantified, where_let, restrict, imported, exported, Expressions, no_expressions, more_expressions, Bounds, no_bounds, more_bounds, Domain, unrestricted, restricted, Parts, no_parts, more_parts}
+use Rattle.ms_rules.specs.Syntax.{Expression, truth, falsity, whole, empty_set, name, number, pconst, brackets, literal, call, negation, conjunction, disjunction, implication, equivalence, relation, emptiness, union, intersection, difference, shift, minimum, maximum, quantified, where_let, restrict, imported, exported}
+use Rattle.ms_rules.specs.Syntax.{Expressions, no_expressions, more_expressions, Bounds, no_bounds, more_bounds, Domain, unrestricted, restricted, Parts, no_parts, more_parts}
 use Rattle.ms_rules.specs.Before.{Before, with_names, with_export, after, after_bounds, after_domain, after_parts}
 use Rattle.ms_rules.specs.Constant.{value_of}
 use Rattle.ms_rules.specs.Numbers.{Tables, Each, IsNew, Sees, seeing, TermSees, SetSees, TermsSee, orders_of_arguments, ExportSees, ImportSees, IsNumbered, AreNumbered, IsNumberedRestriction, IsNumberedArgument, AreNumberedArguments}

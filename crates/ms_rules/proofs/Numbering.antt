@@ -15,7 +15,8 @@ use Rattle.ms_logic.specs.Tree as tree
 use Rattle.ms_logic.specs.Tree.{Term, SetTerm, Terms, Form, Forms, Restriction, Argument, truth_argument, number_argument, set_argument, Arguments}
 use Rattle.ms_rules.specs.declared.meaning.Meaning.{Meaning}
 use Rattle.ms_rules.specs.declared.meaning.Meaning.TheVariants as meaning
-use Rattle.ms_rules.specs.Syntax.{Bytes, Expression, Parts, no_parts}
+use Rattle.ms_rules.specs.Syntax.{Bytes, Expression}
+use Rattle.ms_rules.specs.Syntax.{Parts, no_parts}
 use Rattle.ms_rules.specs.Before.{Before}
 use Rattle.ms_rules.specs.Numbers.{Tables, Each, IsNew, Sees, seeing, TermSees, SetSees, order_of_argument, orders_of_arguments, HasParameters, IsDefault, ExportSees, AreNew, seeing_all, IsNumbered, IsNumberedRestriction, IsNumberedArgument, AreNumberedArguments}
 use Rattle.ms_rules.specs.Occurrence.{Occurrence}

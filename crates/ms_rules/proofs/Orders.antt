@@ -19,7 +19,8 @@ use Rattle.ms_rules.specs.declared.meaning.Meaning.{Meaning}
 use Rattle.ms_rules.specs.declared.meaning.Meaning.TheVariants as meaning
 use Rattle.ms_rules.specs.declared.wanted.Wanted.{Wanted}
 use Rattle.ms_rules.specs.declared.wanted.Wanted.TheVariants.{Exactly, NumberOrSet, Anything}
-use Rattle.ms_rules.specs.Syntax.{Bytes, Expression, truth, falsity, whole, empty_set, name, number, pconst, brackets, literal, call, negation, conjunction, disjunction, implication, equivalence, relation, emptiness, union, intersection, difference, shift, minimum, maximum, quantified, where_let, restrict, imported, exported, Expressions, no_expressions, more_expressions, Bounds, no_bounds, more_bounds, Domain, unrestricted, restricted, Parts, no_parts, more_parts}
+use Rattle.ms_rules.specs.Syntax.{Bytes, Expression, truth, falsity, whole, empty_set, name, number, pconst, brackets, literal, call, negation, conjunction, disjunction, implication, equivalence, relation, emptiness, union, intersection, difference, shift, minimum, maximum, quantified, where_let, restrict, imported, exported}
+use Rattle.ms_rules.specs.Syntax.{Expressions, no_expressions, more_expressions, Bounds, no_bounds, more_bounds, Domain, unrestricted, restricted, Parts, no_parts, more_parts}
 use Rattle.ms_rules.specs.Before.{Before, with_names, with_export, after, after_bounds, after_domain, after_parts}
 use Rattle.ms_rules.specs.Constant.{value_of, value_of_int, value_of_meaning}
 use Rattle.ms_rules.specs.Occurrence.{Occurrence, standing, occurrences, inside, inside_operands, inside_arguments, inside_bounds, inside_domain, inside_parts, formula_wanted, number_wanted, set_wanted}

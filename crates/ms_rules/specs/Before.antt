@@ -1,7 +1,8 @@
 -- What stands before an expression in the text: names that are bound, imports and exports. They are numbered in the order
 -- of the text.
 use Rattle.std.specs.Prelude.{ℕ, ◌+◌}
-use Rattle.ms_rules.specs.Syntax.{Expression, truth, falsity, whole, empty_set, name, number, pconst, brackets, literal, call, negation, conjunction, disjunction, implication, equivalence, relation, emptiness, union, intersection, difference, shift, minimum, maximum, quantified, where_let, restrict, imported, exported, Expressions, no_expressions, more_expressions, Bounds, no_bounds, more_bounds, Domain, unrestricted, restricted, Parts, no_parts, more_parts}
+use Rattle.ms_rules.specs.Syntax.{Expression, truth, falsity, whole, empty_set, name, number, pconst, brackets, literal, call, negation, conjunction, disjunction, implication, equivalence, relation, emptiness, union, intersection, difference, shift, minimum, maximum, quantified, where_let, restrict, imported, exported}
+use Rattle.ms_rules.specs.Syntax.{Expressions, no_expressions, more_expressions, Bounds, no_bounds, more_bounds, Domain, unrestricted, restricted, Parts, no_parts, more_parts}
 use Rattle.ms_rules.specs.Scope.{count_of_bounds, count_of_parts}
 
 pub record Before : Type 0 where

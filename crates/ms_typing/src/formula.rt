@@ -112,11 +112,7 @@ pub fn more_formulas(
 }
 
 /// An export with its number, by what its formula became.
-pub fn exported(
-    alloc: Global,
-    number: u32,
-    body: Option<Arg>,
-) -> Result<Option<Arg>, NoMemory>
+pub fn exported(alloc: Global, number: u32, body: Option<Arg>) -> Result<Option<Arg>, NoMemory>
     ensures { IfOk result (λ value. option_map argument_of value ≡ formula_of_one (λ f. tree.exported number f) (option_map argument_of body)) }
 {
     let Some(body) = formula_in(body) else {

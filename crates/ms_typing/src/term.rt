@@ -40,11 +40,7 @@ pub fn maximum(alloc: Global, body: Option<Arg>) -> Result<Option<Arg>, NoMemory
     Ok(Some(Arg::One(Term1::Max(on_heap(alloc, body)?))))
 }
 
-pub fn union(
-    alloc: Global,
-    left: Option<Arg>,
-    right: Option<Arg>,
-) -> Result<Option<Arg>, NoMemory>
+pub fn union(alloc: Global, left: Option<Arg>, right: Option<Arg>) -> Result<Option<Arg>, NoMemory>
     ensures { IfOk result (λ made. option_map argument_of made ≡ both (λ s t. tree.set_argument (tree.union s t)) (set_in (option_map argument_of left)) (set_in (option_map argument_of right))) }
 {
     let left = boxed_set(alloc, left)?;

@@ -12,7 +12,6 @@ use Rattle.ms_rules.specs.declared.wanted.Wanted.{Wanted}
 use Rattle.ms_rules.specs.Syntax.{restricted, call, conjunction, disjunction, literal, implication, equivalence, relation, union, intersection, difference, quantified, where_let, exported}
 use Rattle.ms_rules.specs.Before.{after, after_all, after_parts, with_names}
 use Rattle.ms_rules.specs.Binder.{restricted_variables, sides_of, typed_sides, with_front}
-use Rattle.ms_names.specs.State.{after_restrictions, State, with_faults, passed, noted, formed}
 use Rattle.ms_rules.specs.Lists.{arguments_of, expressions_of, forms_of, terms_of}
 use Rattle.ms_rules.specs.Occurrence.{occurrences, inside_operands, inside_arguments, inside_parts, formula_wanted, number_wanted, set_wanted}
 use Rattle.ms_rules.specs.Order.{order_of, later_parameters, wanted_on_the_left, wanted_on_the_right}
@@ -22,10 +21,11 @@ use Rattle.ms_rules.specs.Scope.{count_of_bounds, meaning_of, under_parts}
 use Rattle.ms_rules.specs.Typed.{both, formula_in, set_in, typed, typed_arguments, typed_formulas, typed_numbers}
 use Rattle.ms_rules.specs.View.{bound_of, bounds_of, expression_of, part_of, parts_of}
 use Rattle.ms_rules.proofs.Lists.{arguments-end, arguments-short, count_of_bounds-length, count_of_parts-length, count-length, found-sides, found-variables, in_front, later-drop, made-arguments, made-sides, none-first, bounds-split, parts-split, sides_behind}
-use Rattle.ms_names.proofs.Lists.{arguments-next, arguments-typed, parts-passed, parts-typed, restrictions-next, restrictions-typed}
 use Rattle.ms_rules.proofs.Operands.{taken-more}
-use Rattle.ms_names.proofs.Operands.{formulas-more, numbers-more, operands-more}
 use Rattle.ms_rules.proofs.Repeats.{next}
+use Rattle.ms_names.specs.State.{after_restrictions, State, with_faults, passed, noted, formed}
+use Rattle.ms_names.proofs.Lists.{arguments-next, arguments-typed, parts-passed, parts-typed, restrictions-next, restrictions-typed}
+use Rattle.ms_names.proofs.Operands.{formulas-more, numbers-more, operands-more}
 use Rattle.ms_names.proofs.States.{passed-none, two-passed}
 use Rattle.ms_names.proofs.Values.{call-value, let-value, quantified-value, restriction-value}
 use Rattle.ms_names.proofs.Walk.{call-formed, export-formed, formed-passed, let-formed, on_ok, quantified-formed, two-made}

@@ -2,9 +2,9 @@ use Rattle.std.proofs.Common.{[], sym, ap, ◌∙◌}
 use Rattle.ms_rules.specs.Before.{with_names}
 use Rattle.ms_rules.specs.Reads.{readings_of_bounds}
 use Rattle.ms_rules.specs.Scope.{count_of_bounds}
-use Rattle.ms_names.specs.State.{State, noted}
 use Rattle.ms_rules.specs.View.{bounds_of}
 use Rattle.ms_rules.proofs.Lists.{count_of_bounds-length}
+use Rattle.ms_names.specs.State.{State, noted}
 use Rattle.ms_names.proofs.checker.Checker.begin_bounds.Goals as goal
 
 pub returns-clause-state : goal.returns-clause-state

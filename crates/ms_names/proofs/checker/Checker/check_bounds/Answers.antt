@@ -1,8 +1,8 @@
 use Rattle.std.proofs.Common.{◌+◌, drop, sym, ap, ◌∙◌, arith}
 use Rattle.std.proofs.lemmas.List.{drop_all}
 use Rattle.ms_rules.specs.Rules.{faults_of_bounds}
-use Rattle.ms_names.specs.State.{with_faults}
 use Rattle.ms_rules.specs.View.{bounds_of}
+use Rattle.ms_names.specs.State.{with_faults}
 use Rattle.ms_names.proofs.Repeats.{bounds-next}
 use Rattle.ms_names.proofs.checker.Checker.check_bounds.Goals as goal
 

@@ -1,9 +1,9 @@
 use Rattle.std.proofs.Common.{◌≡◌, is_some, true, false, sym, ap, ◌∙◌}
 use Rattle.ms_rules.specs.declared.fault.Fault.TheVariants.{NamedTwice}
 use Rattle.ms_rules.specs.Rules.{in_case, is_name_among}
-use Rattle.ms_names.specs.State.{with_faults}
 use Rattle.ms_rules.specs.Declarations.{declared_names}
 use Rattle.ms_rules.proofs.Repeats.{among-is_some, is_some-copied}
+use Rattle.ms_names.specs.State.{with_faults}
 use Rattle.ms_names.proofs.checker.Checker.check_declared.Goals as goal
 
 pub returns-in_ok-report_twice : goal.returns-in_ok-report_twice

@@ -1,7 +1,7 @@
 use Rattle.std.proofs.Common.{◌≡◌, drop}
 use Rattle.ms_rules.specs.Rules.{faults_of_exports}
-use Rattle.ms_names.specs.State.{with_faults}
 use Rattle.ms_rules.specs.Uses.{with_files}
+use Rattle.ms_names.specs.State.{with_faults}
 use Rattle.ms_names.proofs.checker.Checker.check_each.Given as goal
 
 -- what is found so far and what the rest gives is what all give

@@ -4,8 +4,8 @@ use Rattle.ms_logic.specs.declared.source.Bound.{out-Bound}
 use Rattle.ms_rules.specs.Declarations.{declared_names}
 use Rattle.ms_rules.specs.Rules.{faults_of_bounds}
 use Rattle.ms_rules.specs.Scope.{Scope}
-use Rattle.ms_names.specs.State.{State, with_faults}
 use Rattle.ms_rules.specs.View.{bounds_of}
+use Rattle.ms_names.specs.State.{State, with_faults}
 use Rattle.ms_names.proofs.Repeats.{bounds-next}
 use Rattle.ms_names.proofs.checker.Checker.check_globals.Goals as goal
 

@@ -2,9 +2,9 @@ use Rattle.std.proofs.Common.{◌+◌, drop, sym, ap, ◌∙◌, arith}
 use Rattle.std.specs.Prelude.{flat_map}
 use Rattle.std.proofs.lemmas.List.{drop_all}
 use Rattle.ms_rules.specs.Rules.{faults_of_placed}
+use Rattle.ms_rules.proofs.Repeats.{next}
 use Rattle.ms_names.specs.State.{with_faults}
 use Rattle.ms_names.proofs.Declaring.{ints-next}
-use Rattle.ms_rules.proofs.Repeats.{next}
 use Rattle.ms_names.proofs.checker.Checker.check_ints.Goals as goal
 
 pub loop-int-preserved : goal.loop-int-preserved

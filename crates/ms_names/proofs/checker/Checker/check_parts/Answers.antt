@@ -1,8 +1,8 @@
 use Rattle.std.proofs.Common.{◌+◌, drop, sym, ap, ◌∙◌, arith}
 use Rattle.std.proofs.lemmas.List.{drop_all}
 use Rattle.ms_rules.specs.Rules.{faults_of_parts}
-use Rattle.ms_names.specs.State.{with_faults}
 use Rattle.ms_rules.specs.View.{parts_of}
+use Rattle.ms_names.specs.State.{with_faults}
 use Rattle.ms_names.proofs.Repeats.{parts-next}
 use Rattle.ms_names.proofs.checker.Checker.check_parts.Goals as goal
 

@@ -1,7 +1,7 @@
 use Rattle.std.proofs.Common.{◌≡◌, [], drop}
 use Rattle.ms_rules.specs.Rules.{faults_of_parts}
-use Rattle.ms_names.specs.State.{with_faults}
 use Rattle.ms_rules.specs.View.{parts_of}
+use Rattle.ms_names.specs.State.{with_faults}
 use Rattle.ms_names.proofs.checker.Checker.check_parts.Given as goal
 
 -- what is found so far and the faults of the rest are the faults of all

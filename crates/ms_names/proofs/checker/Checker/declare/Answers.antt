@@ -1,5 +1,5 @@
-use Rattle.ms_names.specs.Declaration.{known_at}
 use Rattle.ms_rules.specs.View.{declaration_of}
+use Rattle.ms_names.specs.Declaration.{known_at}
 use Rattle.ms_names.proofs.Told.{declared-all, declared-files, from-within}
 use Rattle.ms_names.proofs.checker.Checker.declare.Goals as goal
 

@@ -1,9 +1,9 @@
 use Rattle.std.proofs.Common.{List, ap, ◌∙◌}
 use Rattle.ms_logic.specs.declared.mode.Order.{Order}
 use Rattle.ms_rules.specs.declared.meaning.Meaning.TheVariants.{Predicate}
-use Rattle.ms_names.specs.Declaration.{read_through}
 use Rattle.ms_rules.specs.Declarations.{next_predicate}
 use Rattle.ms_rules.specs.Scope.{bind}
+use Rattle.ms_names.specs.Declaration.{read_through}
 use Rattle.ms_names.specs.State.{State}
 use Rattle.ms_names.proofs.checker.Checker.name_predicate.Goals as goal
 

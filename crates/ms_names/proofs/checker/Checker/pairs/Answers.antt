@@ -1,10 +1,10 @@
 use Rattle.std.proofs.Common.{◌≡◌, ◌+◌, drop, ◌∷◌, ◌++◌, [], refl, sym, subst, ap, ◌∙◌, arith}
 use Rattle.std.proofs.lemmas.List.{drop_all, append-nil}
-use Rattle.ms_rules.specs.Reads.{readings_of_renames}
-use Rattle.ms_rules.specs.Rules.{faults_of_renames}
-use Rattle.ms_rules.specs.Scope.{Scope}
-use Rattle.ms_names.specs.State.{noted}
+use Rattle.ms_rules.specs.Reads.{readings_of_renames, readings_of_variable}
+use Rattle.ms_rules.specs.Rules.{faults_of_renames, faults_of_repeat, faults_of_variable}
+use Rattle.ms_rules.specs.Scope.{Scope, meaning_of}
 use Rattle.ms_rules.specs.Uses.{pairs_of}
+use Rattle.ms_names.specs.State.{noted, with_faults}
 use Rattle.ms_names.proofs.Repeats.{noted-none, pairs-next, renames-next}
 use Rattle.ms_names.proofs.checker.Checker.pairs.Goals as goal
 
@@ -24,30 +24,29 @@ pub loop-rename-preserved : goal.loop-rename-preserved
 loop-rename-preserved c =
     let a : Scope = c.args.self.now.scope in
     let s = c.loop-rename.self in
-    let t = c.check_repeat.new.self in
-    let u = c.add_pair.new.self in
-    let v = c.check_repeat-in-loop-rename.new.self in
+    let v = c.pair.new.self in
+    let lefts = c.loop-rename.lefts in
+    let rights = c.loop-rename.rights in
     let rs = c.args.renames.now in
     let i = c.loop-rename.rename-index in
     let r = c.rename-item.result in
+    let m = meaning_of s.scope r.right in
     let rest = drop (i + 1) rs in
-    let first : t.scope ≡ a = ap (λ there. there.scope) c.in_ok-check_repeat.ensures.state ∙ c.loop-rename.invariant.scope in
+    let t = with_faults s (faults_of_repeat r.at r.left lefts) in
+    let u = noted t (faults_of_variable r.at_right r.right m) (readings_of_variable m) in
     let Left : Scope → Type 0 = λ there.
-    noted v (faults_of_renames there (r.left ∷ c.loop-rename.lefts) (r.right ∷ c.loop-rename.rights) rest) (readings_of_renames there rest)
-    ≡ noted s (faults_of_renames there c.loop-rename.lefts c.loop-rename.rights (drop i rs)) (readings_of_renames there (drop i rs)) in
+    noted v (faults_of_renames there (r.left ∷ lefts) (r.right ∷ rights) rest) (readings_of_renames there rest)
+    ≡ noted s (faults_of_renames there lefts rights (drop i rs)) (readings_of_renames there (drop i rs)) in
     record {
-      scope =
-          ap (λ there. there.scope) c.in_ok-check_repeat-2.ensures.state
-          ∙ (ap (λ there. there.scope) c.in_ok-add_pair.ensures.state ∙ first);
+      scope = ap (λ there. there.scope) c.in_ok-pair.ensures.state ∙ c.loop-rename.invariant.scope;
       state =
-          ap (λ lefts. noted v (faults_of_renames a lefts c.check_repeat-in-loop-rename.new.seen rest) (readings_of_renames a rest)) c.in_ok-check_repeat.ensures.seen
-          ∙ (ap (λ rights. noted v (faults_of_renames a (r.left ∷ c.loop-rename.lefts) rights rest) (readings_of_renames a rest)) c.in_ok-check_repeat-2.ensures.seen
+          ap (λ names. noted v (faults_of_renames a names c.pair.new.rights rest) (readings_of_renames a rest)) c.in_ok-pair.ensures.lefts
+          ∙ (ap (λ names. noted v (faults_of_renames a (r.left ∷ lefts) names rest) (readings_of_renames a rest)) c.in_ok-pair.ensures.rights
           ∙ (subst Left c.loop-rename.invariant.scope
-          (renames-next s t u v c.loop-rename.lefts c.loop-rename.rights rs i r (omega arith) c.rename-item.is
-          c.in_ok-check_repeat.ensures.state c.in_ok-add_pair.ensures.state c.in_ok-check_repeat-2.ensures.state)
+          (renames-next s t u v lefts rights rs i r (omega arith) c.rename-item.is refl refl c.in_ok-pair.ensures.state)
           ∙ c.loop-rename.invariant.state));
       value =
-          pairs-next a t c.loop-rename.pairs c.add_pair.new.pairs rs i r (omega arith) c.rename-item.is first c.in_ok-add_pair.ensures.pairs
+          pairs-next a s c.loop-rename.pairs c.pair.new.pairs rs i r (omega arith) c.rename-item.is c.loop-rename.invariant.scope c.in_ok-pair.ensures.pairs
           ∙ c.loop-rename.invariant.value;
     }
 

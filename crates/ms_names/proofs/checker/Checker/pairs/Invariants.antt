@@ -1,8 +1,8 @@
 use Rattle.std.proofs.Common.{◌≡◌, ◌++◌, [], drop}
 use Rattle.ms_rules.specs.Reads.{readings_of_renames}
 use Rattle.ms_rules.specs.Rules.{faults_of_renames}
-use Rattle.ms_names.specs.State.{noted}
 use Rattle.ms_rules.specs.Uses.{pairs_of}
+use Rattle.ms_names.specs.State.{noted}
 use Rattle.ms_names.proofs.checker.Checker.pairs.Given as goal
 
 -- what is found so far and what the rest gives is what all give

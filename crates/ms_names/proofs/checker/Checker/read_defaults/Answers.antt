@@ -1,9 +1,9 @@
 use Rattle.std.proofs.Common.{[], ◌+◌, drop, sym, ap, ◌∙◌, arith}
 use Rattle.std.proofs.lemmas.List.{drop_all}
 use Rattle.ms_rules.specs.Reads.{readings_of_bounds, readings_of_default}
-use Rattle.ms_names.specs.State.{noted}
 use Rattle.ms_rules.specs.View.{bound_of, bounds_of}
 use Rattle.ms_rules.proofs.Lists.{bounds-split}
+use Rattle.ms_names.specs.State.{noted}
 use Rattle.ms_names.proofs.Lists.{defaults-next}
 use Rattle.ms_names.proofs.Repeats.{noted-none}
 use Rattle.ms_names.proofs.checker.Checker.read_defaults.Goals as goal

@@ -1,6 +1,6 @@
 use Rattle.std.proofs.Common.{◌++◌, ◌∷◌, [], refl, sym, subst}
-use Rattle.ms_names.specs.Read.{Tells}
 use Rattle.ms_rules.specs.declared.meaning.Reading.{Reading}
+use Rattle.ms_names.specs.Read.{Tells}
 use Rattle.ms_names.proofs.FreeVariables.{Tells-variable, Tells-predicate}
 use Rattle.ms_names.proofs.free.Read.add.Goals as goal
 

@@ -1,6 +1,6 @@
 use Rattle.std.proofs.Common.{◌++◌, ◌≡◌, if◌then◌else◌, true, false, sym, ap, subst, ◌∙◌}
-use Rattle.ms_names.specs.Read.{Tells}
 use Rattle.ms_rules.specs.Reads.{reads_predicate}
+use Rattle.ms_names.specs.Read.{Tells}
 use Rattle.ms_names.proofs.free.Read.add_predicate.Goals as goal
 
 pub returns-then-reads_predicate : goal.returns-then-reads_predicate

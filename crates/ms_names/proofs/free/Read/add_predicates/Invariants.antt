@@ -1,7 +1,7 @@
 use Rattle.std.proofs.Common.{◌≤◌, length, reverse, take}
 use Rattle.ms_rules.specs.Free.{Readings}
-use Rattle.ms_names.specs.Read.{Tells}
 use Rattle.ms_rules.specs.Reads.{with_predicates}
+use Rattle.ms_names.specs.Read.{Tells}
 use Rattle.ms_names.proofs.FreeVariables.{Reached}
 use Rattle.ms_names.proofs.free.Read.add_predicates.Given as goal
 

@@ -1,7 +1,7 @@
 use Rattle.std.proofs.Common.{◌≡◌, map, take}
 use Rattle.ms_rules.specs.Free.{Readings, read_among}
-use Rattle.ms_names.specs.Read.{Tells}
 use Rattle.ms_rules.specs.Scope.{variables_among}
+use Rattle.ms_names.specs.Read.{Tells}
 use Rattle.ms_names.specs.Table.{names_of}
 use Rattle.ms_names.proofs.names.Names.variables_read.Given as goal
 
