@@ -3,18 +3,21 @@ use Rattle.std.specs.Prelude.{◌≡◌, ℕ, ◌+◌, List, [], ◌∷◌, ◌+
 use Rattle.std.specs.Option.{IsSome}
 use Rattle.ms_edge.specs.declared.at.At.{At}
 use Rattle.ms_edge.specs.declared.refusal.Refusal.{Refusal}
+use Rattle.ms_logic.specs.declared.checked.Checked.{Checked}
 use Rattle.ms_logic.specs.declared.checked.Global.{Global}
 use Rattle.ms_logic.specs.declared.checked.Placed as code
 use Rattle.ms_logic.specs.declared.checked.Predicate.{Predicate}
 use Rattle.ms_logic.specs.declared.mode.Mode.{Mode}
+use Rattle.ms_logic.specs.declared.source.Loaded.{Loaded}
 use Rattle.ms_logic.specs.Tree as tree
 use Rattle.ms_logic.specs.View.{predicate_of}
 use Rattle.ms_rules.specs.declared.fault.Fault.{Fault}
 use Rattle.ms_rules.specs.Declarations.{Known, after_declaration, at_the_beginning, exports_in, faults_in, first_fault_from, occurrences_in}
 use Rattle.ms_rules.specs.Fault.{first_fault, refusal_of}
-use Rattle.ms_rules.specs.Syntax.{Bounds, no_bounds, more_bounds, Declaration, globals, constant, predicate, include, default, formula, Placed}
+use Rattle.ms_rules.specs.Syntax.{Bytes, Bounds, no_bounds, more_bounds, Declaration, globals, constant, predicate, include, default, formula, Placed}
 use Rattle.ms_rules.specs.TypedSource.{TypedFormula, TypedGlobal, collected, formulas_of, global_of, globals_of, placed_formula_of, predicates_of}
 use Rattle.ms_rules.specs.Uses.{export_at, import_at}
+use Rattle.ms_rules.specs.View.{placed_of}
 use Rattle.ms_names.specs.declared.progress.Progress.{Progress}
 use Rattle.ms_names.specs.Declaration.{known_at}
 use Rattle.ms_names.specs.Outcome.{Made, made_globals, made_predicate, made_formula, made_nothing, made_in}
@@ -104,3 +107,19 @@ pub record IsAfter (earlier later : Progress) (ds : List Placed) : Type 0 where
       ≡ earlier.checker.imports ++ collected (λ k item d. flat_map import_at (occurrences_in k d.declaration)) (known earlier) earlier.item ds
   pub exports_are : later.checker.exports
       ≡ earlier.checker.exports ++ collected (λ k item d. flat_map export_at (occurrences_in k d.declaration)) (known earlier) earlier.item ds
+
+-- at the end of a source in which nothing is wrong
+abbrev pub IsEnd : Loaded → Progress → Type 0
+IsEnd loaded p = (start : Progress) × (IsBeginning start loaded.mode (map placed_of loaded.items)) × (IsAfter start p (map placed_of loaded.items))
+
+-- what is kept there, with the names of the files
+abbrev pub checked_with : Mode → List Bytes → Progress → Checked
+checked_with mode files p = record {
+  mode = mode;
+  globals = p.globals;
+  predicates = p.predicates;
+  imports = p.checker.imports;
+  exports = p.checker.exports;
+  formulas = p.formulas;
+  files = files;
+}

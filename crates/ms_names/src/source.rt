@@ -3,11 +3,12 @@ ghost use Rattle.ms_rules.specs.Declarations.{first_fault_of};
 ghost use Rattle.ms_rules.specs.Numbers.{IsWellNumbered};
 ghost use Rattle.ms_rules.specs.TypedSource.{IsTyped};
 ghost use Rattle.ms_rules.specs.View.{placed_of};
+ghost use Rattle.ms_names.specs.Progress.{IsEnd, checked_with};
 ghost use Rattle.std.specs.Prelude.{◌≡◌, ◌⊎◌, None, map, IfErr, IfOk};
 
 use crate::progress::Progress;
 use ms_edge::{List, NoMemory, Refusal, Text, push};
-use ms_logic::{Checked, Loaded};
+use ms_logic::{Checked, Loaded, Mode};
 use std::alloc::Global;
 
 // Equal texts.
@@ -21,6 +22,41 @@ fn copy_texts(alloc: Global, texts: &[Text]) -> Result<List<Text>, NoMemory>
     Ok(made)
 }
 
+// After all declarations of a source, or its first fault.
+fn passed(alloc: Global, loaded: &Loaded) -> Result<Progress, Refusal>
+    ensures end { IfOk result (IsEnd loaded.now) }
+    ensures refused { IfErr result (λ refusal. (refusal ≡ Refusal.Memory) ⊎ IsFirstFault loaded.now refusal) }
+{
+    let Ok(mut progress) = Progress::begin(alloc, loaded.mode, loaded.items.slice()) else {
+        return Err(Refusal::Memory);
+    };
+    progress.declare_all(loaded.items.slice())?;
+    Ok(progress)
+}
+
+// What all declarations gave, and the names of the files.
+fn checked(progress: Progress, mode: Mode, files: List<Text>) -> Checked
+    ensures { result ≡ checked_with mode files progress }
+{
+    let Progress {
+        checker,
+        globals,
+        predicates,
+        formulas,
+        ..
+    } = progress;
+    let (imports, exports) = checker.into_uses();
+    Checked {
+        mode,
+        globals,
+        predicates,
+        imports,
+        exports,
+        formulas,
+        files,
+    }
+}
+
 /// The typed tree of a source whose names and orders are right, or its first fault. The check calls itself once for each
 /// level of an expression, of which a source that is read has 300 at most; a deeper one that is made by hand takes stack
 /// for each level.
@@ -30,28 +66,9 @@ pub fn check(alloc: Global, loaded: &Loaded) -> Result<Checked, Refusal>
     ensures numbered { IfOk result IsWellNumbered }
     ensures refused { IfErr result (λ refusal. (refusal ≡ Refusal.Memory) ⊎ IsFirstFault loaded.now refusal) }
 {
-    let Ok(mut progress) = Progress::begin(alloc, loaded.mode, loaded.items.slice()) else {
-        return Err(Refusal::Memory);
-    };
-    progress.declare_all(loaded.items.slice())?;
-    let Ok(files) = copy_texts(alloc, loaded.files.slice()) else {
-        return Err(Refusal::Memory);
-    };
-    let Progress {
-        checker,
-        globals,
-        predicates,
-        formulas,
-        ..
-    } = progress;
-    let (imports, exports) = checker.into_uses();
-    Ok(Checked {
-        mode: loaded.mode,
-        globals,
-        predicates,
-        imports,
-        exports,
-        formulas,
-        files,
-    })
+    let progress = passed(alloc, loaded)?;
+    match copy_texts(alloc, loaded.files.slice()) {
+        Ok(files) => Ok(checked(progress, loaded.mode, files)),
+        Err(_) => Err(Refusal::Memory),
+    }
 }
