@@ -4,13 +4,13 @@ use Rattle.std.proofs.lemmas.Bool.{false≢true}
 use Rattle.ms_grammar.specs.Symbol.{Placed}
 use Rattle.ms_grammar.specs.Tree.{Document}
 use Rattle.ms_grammar.specs.Declarations.{Reads}
-use Rattle.ms_steps.specs.Machine.{State, outside, Next, start, step, finished, goes_on, run, Runs}
+use Rattle.ms_steps.specs.Machine.{State, outside, Step, took, misplaced, too_deep, start, step, finished, goes_on, run, Runs}
 use Rattle.ms_grammar.specs.Grammar.{greatest_depth}
 use Rattle.ms_steps.proofs.Limits.{within, of_grammar}
 use Rattle.ms_steps.proofs.Headers.{document_read}
 use Rattle.ms_steps.proofs.Runs.{runs_read}
 
-abbrev or_on : (Next → Option Document) → Next → Option Document → Option Document
+abbrev or_on : (Step → Option Document) → Step → Option Document → Option Document
 or_on further next (Some d) = Some d
 or_on further next None = further next
 
@@ -20,11 +20,12 @@ trial limit zero s ts = None
 trial limit (suc n) s ts = or_on (goes_on (trial limit n)) (step limit s ts) (finished s ts)
 
 run_of : (limit : ℕ) (n : ℕ) (s : State) (ts : List Placed) (d : Document) → ((s' : State) (ts' : List Placed) → trial limit n s' ts' ≡ Some d → Runs limit s' ts' d)
-    → (x : Next) (y : Option Document) → finished s ts ≡ y → step limit s ts ≡ x → or_on (goes_on (trial limit n)) x y ≡ Some d → Runs limit s ts d
+    → (x : Step) (y : Option Document) → finished s ts ≡ y → step limit s ts ≡ x → or_on (goes_on (trial limit n)) x y ≡ Some d → Runs limit s ts d
 run_of limit n s ts d further x (Some e) done stepped tried = (zero, done ∙ tried)
-run_of limit n s ts d further None None done stepped tried = let never : ⊥ = cc in absurd never
-run_of limit n s ts d further (Some next) None done stepped tried =
-    let rest = further next.0 next.1 tried in (suc rest.0, ap (goes_on (run limit rest.0)) stepped ∙ rest.1)
+run_of limit n s ts d further (misplaced from) None done stepped tried = let never : ⊥ = cc in absurd never
+run_of limit n s ts d further (too_deep from) None done stepped tried = let never : ⊥ = cc in absurd never
+run_of limit n s ts d further (took s' ts') None done stepped tried =
+    let rest = further s' ts' tried in (suc rest.0, ap (goes_on (run limit rest.0)) stepped ∙ rest.1)
 
 trial_runs : (limit : ℕ) (n : ℕ) (s : State) (ts : List Placed) (d : Document) → trial limit n s ts ≡ Some d → Runs limit s ts d
 trial_runs limit zero s ts d tried = let never : ⊥ = cc in absurd never
@@ -33,10 +34,11 @@ trial_runs limit (suc n) s ts d tried = run_of limit n s ts d (λ s' ts' tried'.
 pub reads_by_trial : (n : ℕ) (all : List Placed) (d : Document) → trial greatest_depth n (outside (start all).0) (start all).1 ≡ Some d → Reads true all d
 reads_by_trial n all d tried = of_grammar all d (runs_read greatest_depth (omega arith) all d (trial_runs greatest_depth n (outside (start all).0) (start all).1 d tried))
 
-abbrev pub stuck_in : (State → List Placed → Bool) → Next → Option Document → Bool
+abbrev pub stuck_in : (State → List Placed → Bool) → Step → Option Document → Bool
 stuck_in further next (Some d) = false
-stuck_in further None None = true
-stuck_in further (Some next) None = further next.0 next.1
+stuck_in further (took s ts) None = further s ts
+stuck_in further (misplaced from) None = true
+stuck_in further (too_deep from) None = true
 
 -- the automaton is stuck within so many steps
 abbrev pub stuck : ℕ → ℕ → State → List Placed → Bool
@@ -44,12 +46,14 @@ stuck limit zero s ts = false
 stuck limit (suc n) s ts = stuck_in (stuck limit n) (step limit s ts) (finished s ts)
 
 no_next : (limit : ℕ) (k : ℕ) (n : ℕ) (s : State) (ts : List Placed) (d : Document) → ((m : ℕ) (s' : State) (ts' : List Placed) → stuck limit n s' ts' ≡ true → run limit m s' ts' ≡ Some d → ⊥)
-    → (x : Next) (y : Option Document) → finished s ts ≡ y → step limit s ts ≡ x → stuck_in (stuck limit n) x y ≡ true → run limit k s ts ≡ Some d → ⊥
+    → (x : Step) (y : Option Document) → finished s ts ≡ y → step limit s ts ≡ x → stuck_in (stuck limit n) x y ≡ true → run limit k s ts ≡ Some d → ⊥
 no_next limit k n s ts d further x (Some e) done stepped is read = false≢true is
 no_next limit zero n s ts d further x None done stepped is read = let never : ⊥ = cc in never
-no_next limit (suc k) n s ts d further None None done stepped is read =
+no_next limit (suc k) n s ts d further (misplaced from) None done stepped is read =
     let nothing : None ≡ Some d = sym (ap (goes_on (run limit k)) stepped) ∙ read in let never : ⊥ = cc in never
-no_next limit (suc k) n s ts d further (Some next) None done stepped is read = further k next.0 next.1 is (sym (ap (goes_on (run limit k)) stepped) ∙ read)
+no_next limit (suc k) n s ts d further (too_deep from) None done stepped is read =
+    let nothing : None ≡ Some d = sym (ap (goes_on (run limit k)) stepped) ∙ read in let never : ⊥ = cc in never
+no_next limit (suc k) n s ts d further (took s' ts') None done stepped is read = further k s' ts' is (sym (ap (goes_on (run limit k)) stepped) ∙ read)
 
 no_run : (limit : ℕ) (n k : ℕ) (s : State) (ts : List Placed) (d : Document) → stuck limit n s ts ≡ true → run limit k s ts ≡ Some d → ⊥
 no_run limit zero k s ts d is read = false≢true is

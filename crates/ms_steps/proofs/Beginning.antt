@@ -1,5 +1,5 @@
 -- What the first symbols say of the header, whatever follows them.
-use Rattle.std.proofs.Common.{◌≡◌, ℕ, ◌≤◌, Bool, true, false, cond, ◌&&◌, ◌⊎◌, inl, inr, List, [], ◌∷◌, ◌++◌, codes, bytes_eq, Some, None, refl, sym, ap, ◌∙◌, subst, arith, append_assoc}
+use Rattle.std.proofs.Common.{◌≡◌, ℕ, ◌≤◌, leb, Bool, true, false, cond, ◌&&◌, ◌⊎◌, inl, inr, List, [], ◌∷◌, ◌++◌, codes, bytes_eq, Some, None, refl, sym, ap, ◌∙◌, subst, arith, append_assoc}
 use Rattle.std.proofs.lemmas.Bool.{false≢true, le-leb}
 use Rattle.std.proofs.lemmas.List.{append-nil}
 use Rattle.std.proofs.lemmas.Slice.Eq.{bytes_eq-Decides}
@@ -11,7 +11,8 @@ use Rattle.ms_logic.specs.declared.source.PlacedInt.{PlacedInt}
 use Rattle.ms_grammar.specs.Symbol.{name, number, sign, word_ws1s, semicolon, Placed, placed}
 use Rattle.ms_grammar.specs.Tree.{named}
 use Rattle.ms_grammar.specs.Tree.{atom, shifted, formula, Document}
-use Rattle.ms_steps.specs.Machine.{in_formula, outside, declare, holding, start}
+use Rattle.ms_steps.specs.Machine.{in_formula, outside, declare, holding, start, took, too_deep}
+use Rattle.ms_steps.proofs.Frames.{chosen_yes}
 use Rattle.ms_steps.proofs.Headers.{is_header_word}
 use Rattle.ms_steps.proofs.Closing.{anywhere, symbol, RunsToEnd, further}
 
@@ -155,9 +156,9 @@ sum_runs limit at a1 a2 enough =
     let last = symbol semicolon ∷ [] in
     further limit (outside no_header) (holding c e []) (placed (name (codes "m2l")) at ∷ placed (sign true) a1 ∷ placed (name (codes "str")) a2 ∷ behind) (placed (sign true) a1 ∷ placed (name (codes "str")) a2 ∷ behind) refl
     (further limit (holding c e []) (holding c (shifted at e x) []) (placed (sign true) a1 ∷ placed (name (codes "str")) a2 ∷ behind) behind
-    (ap (λ b. cond b (Some (holding c (shifted at e x) [], behind)) None) (le-leb 2 limit (omega arith)))
+    (chosen_yes (leb 2 limit) (took (holding c (shifted at e x) []) behind) (too_deep (placed (sign true) a1 ∷ placed (name (codes "str")) a2 ∷ behind)) (le-leb 2 limit (omega arith)))
     (further limit (holding c (shifted at e x) []) (holding c (shifted at (shifted at e x) y) []) behind last
-    (ap (λ b. cond b (Some (holding c (shifted at (shifted at e x) y) [], last)) None) (le-leb 3 limit enough))
+    (chosen_yes (leb 3 limit) (took (holding c (shifted at (shifted at e x) y) []) last) (too_deep behind) (le-leb 3 limit enough))
     (declare no_header at (formula (shifted at (shifted at e x) y)), (1, refl))))
 
 -- an expression that begins so

@@ -1,5 +1,5 @@
 -- How each state that fits the depth can be led to the end: what is open is closed, frame by frame.
-use Rattle.std.proofs.Common.{◌≡◌, ℕ, suc, ◌+◌, ◌≤◌, Bool, true, false, cond, List, [], ◌∷◌, length, Some, None, refl, sym, ap, subst, arith}
+use Rattle.std.proofs.Common.{◌≡◌, ℕ, suc, ◌+◌, ◌≤◌, Bool, true, false, List, [], ◌∷◌, length, refl, sym, subst, arith}
 use Rattle.std.proofs.lemmas.Bool.{le-leb}
 use Rattle.ms_edge.specs.declared.at.At.{At}
 use Rattle.ms_logic.specs.declared.mode.Rel.TheVariants.{Equal, Member}
@@ -10,9 +10,10 @@ use Rattle.ms_grammar.specs.Tree.{truth}
 use Rattle.ms_grammar.specs.Tree.{Expression, atom, prefixed, binary, joined, enclosed, listed, quantified, let_in, and_expression, and_variable, restricted, and_part, Document}
 use Rattle.ms_grammar.specs.Grammar.{right_level, operand_level, junction_level, depth}
 use Rattle.ms_grammar.specs.Reads.{place}
-use Rattle.ms_grammar.specs.Symbol.{Symbol, infix_operator, word_true, close_round, close_curly, colon, semicolon, Placed, placed}
-use Rattle.ms_steps.specs.Machine.{Frame, prefix_frame, left_frame, joined_frame, bracket_frame, list_frame, domain_frame, body_frame, part_frame, let_frame, Context, in_formula, in_global, in_parameter, in_predicate, in_default, State, wanted, holding, in_part, frame_depth, ends, completed, bound, step, Runs}
-use Rattle.ms_steps.proofs.Lookahead.{no_opening}
+use Rattle.ms_grammar.specs.Symbol.{Symbol, infix_operator, word_true, open_round, close_round, close_curly, colon, semicolon, Placed, placed}
+use Rattle.ms_steps.specs.Machine.{Frame, prefix_frame, left_frame, joined_frame, bracket_frame, list_frame, domain_frame, body_frame, part_frame, let_frame, Context, in_formula, in_global, in_parameter, in_predicate, in_default, State, wanted, holding, in_part, frame_depth, ends, completed, bound, step, Runs, took, too_deep}
+use Rattle.ms_steps.proofs.Frames.{chosen_yes}
+use Rattle.ms_steps.proofs.Lookahead.{lacks}
 use Rattle.ms_steps.proofs.Moves.{depth_positive}
 use Rattle.ms_steps.proofs.Steps.{by_step, ended, entered}
 
@@ -52,7 +53,7 @@ record Closes (inside : Bool) (ts : List Placed) : Type 0 where
   pub more : List Placed
   pub split : ts ≡ placed first at ∷ more
   pub loose : bound inside first ≡ 0
-  pub apart : no_opening ts ≡ true
+  pub apart : lacks open_round ts ≡ true
 
 ending_closes : (c : Context) → Closes false (ending c)
 ending_closes (in_parameter d at is_pred at_p p vs o at_v n) =
@@ -76,7 +77,7 @@ closes c (part_frame at o parts at_n n ∷ st) =
     record { first = infix_operator (Relation Member); at = anywhere; more = symbol word_true ∷ closing c st; split = refl; loose = refl; apart = refl }
 closes c (let_frame at o parts ∷ st) = closes c st
 
-pub closing_apart : (c : Context) (st : List Frame) → no_opening (closing c st) ≡ true
+pub closing_apart : (c : Context) (st : List Frame) → lacks open_round (closing c st) ≡ true
 closing_apart c st = (closes c st).apart
 
 -- each frame, with the expressions in it, leaves room for one expression more
@@ -99,7 +100,7 @@ frame_ends limit c f e st ends_with deep same (d, runs) =
           (subst (λ ts. Runs limit (holding c (completed f e) st) ts d) end.split runs)),
     )
 
-pub further : (limit : ℕ) (s s' : State) (ts ts' : List Placed) → step limit s ts ≡ Some (s', ts') → RunsToEnd limit s' ts' → RunsToEnd limit s ts
+pub further : (limit : ℕ) (s s' : State) (ts ts' : List Placed) → step limit s ts ≡ took s' ts' → RunsToEnd limit s' ts' → RunsToEnd limit s ts
 further limit s s' ts ts' stepped (d, runs) = (d, by_step limit s ts ts s' ts' d refl stepped runs)
 
 -- a frame whose operand is `true`
@@ -127,23 +128,23 @@ held_ends limit c (joined_frame at op es ∷ st) e fit deep =
     frame_ends limit c (joined_frame at op es) e st (λ b is. le-leb b (junction_level op) (omega arith)) (omega arith) refl (held_ends limit c st (joined at op (and_expression es e)) fit.0 (omega arith))
 held_ends limit c (bracket_frame at b ∷ st) e fit deep =
     further limit (holding c e (bracket_frame at b ∷ st)) (holding c (enclosed at b e) st) (symbol close_round ∷ closing c st) (closing c st)
-    (ap (λ t. cond t (Some (holding c (enclosed at b e) st, closing c st)) None) (le-leb (suc (depth e)) limit (omega arith)))
+    (chosen_yes _ (took (holding c (enclosed at b e) st) (closing c st)) (too_deep _) (le-leb (suc (depth e)) limit (omega arith)))
     (held_ends limit c st (enclosed at b e) fit.0 (omega arith))
 held_ends limit c (list_frame at Literal es ∷ st) e fit deep =
     let x = listed at Literal (and_expression es e) in
     further limit (holding c e (list_frame at Literal es ∷ st)) (holding c x st) (symbol close_curly ∷ closing c st) (closing c st)
-    (ap (λ t. cond t (Some (holding c x st, closing c st)) None) (le-leb (depth x) limit (omega arith)))
+    (chosen_yes _ (took (holding c x st) (closing c st)) (too_deep _) (le-leb (depth x) limit (omega arith)))
     (held_ends limit c st x fit.0 (omega arith))
 held_ends limit c (list_frame at (Call p) es ∷ st) e fit deep =
     let x = listed at (Call p) (and_expression es e) in
     further limit (holding c e (list_frame at (Call p) es ∷ st)) (holding c x st) (symbol close_round ∷ closing c st) (closing c st)
-    (ap (λ t. cond t (Some (holding c x st, closing c st)) None) (le-leb (depth x) limit (omega arith)))
+    (chosen_yes _ (took (holding c x st) (closing c st)) (too_deep _) (le-leb (depth x) limit (omega arith)))
     (held_ends limit c st x fit.0 (omega arith))
 held_ends limit c (domain_frame at q o vs at_v n ∷ st) e fit deep =
     let f = body_frame at q o (and_variable vs at_v o n (restricted e)) in
     let some = depth_positive e in
     further limit (holding c e (domain_frame at q o vs at_v n ∷ st)) (wanted c (f ∷ st)) (symbol colon ∷ symbol word_true ∷ closing c st) (symbol word_true ∷ closing c st)
-    (entered limit c f st (symbol word_true ∷ closing c st) (omega arith) (omega arith))
+    (entered limit c f st _ (symbol word_true ∷ closing c st) (omega arith) (omega arith))
     (body_ends limit c f st (λ b is. le-leb b 0 (omega arith)) (omega arith) refl
     (held_ends limit c st (completed f (atom anywhere truth)) fit.0 (omega arith)))
 held_ends limit c (body_frame at q o vs ∷ st) e fit deep =
@@ -152,7 +153,7 @@ held_ends limit c (part_frame at o parts at_n n ∷ st) e fit deep =
     let f = let_frame at o (and_part parts at_n n e) in
     let some = depth_positive e in
     further limit (holding c e (part_frame at o parts at_n n ∷ st)) (wanted c (f ∷ st)) (symbol (infix_operator (Relation Member)) ∷ symbol word_true ∷ closing c st) (symbol word_true ∷ closing c st)
-    (entered limit c f st (symbol word_true ∷ closing c st) (omega arith) (omega arith))
+    (entered limit c f st _ (symbol word_true ∷ closing c st) (omega arith) (omega arith))
     (body_ends limit c f st (λ b is. le-leb b 0 (omega arith)) (omega arith) refl
     (held_ends limit c st (completed f (atom anywhere truth)) fit.0 (omega arith)))
 held_ends limit c (let_frame at o parts ∷ st) e fit deep =

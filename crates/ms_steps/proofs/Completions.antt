@@ -8,9 +8,9 @@ use Rattle.ms_grammar.specs.declared.operator.Listing.TheVariants.{Literal, Call
 use Rattle.ms_grammar.specs.Tree.{truth, empty_set, named, imported}
 use Rattle.ms_grammar.specs.Tree.{Expression, atom, no_expressions, and_expression, no_variables, and_variable, unrestricted}
 use Rattle.ms_grammar.specs.Grammar.{depth, depth_of_domains, depth_of_values}
-use Rattle.ms_grammar.specs.Symbol.{name, kind, infix_operator, word_true, close_round, colon, semicolon, Placed}
+use Rattle.ms_grammar.specs.Symbol.{name, kind, infix_operator, word_true, open_round, close_round, colon, semicolon, Placed}
 use Rattle.ms_steps.specs.Machine.{Frame, list_frame, body_frame, part_frame, Context, State, outside, wanted, holding, variable_wanted, part_wanted, pair_wanted, global_wanted, parameter_wanted, summand_wanted, completed}
-use Rattle.ms_steps.proofs.Lookahead.{no_opening, may_follow}
+use Rattle.ms_steps.proofs.Lookahead.{lacks, may_follow}
 use Rattle.ms_steps.proofs.Closing.{anywhere, symbol, closing, closing_apart, FramesFit, RunsToEnd, further, body_ends, held_ends}
 use Rattle.ms_steps.proofs.Steps.{entered}
 
@@ -40,7 +40,7 @@ wanted_follows c (list_frame at (Call p) no_expressions ∷ st) ts = refl
 wanted_follows c (list_frame at l (and_expression es e) ∷ st) ts = refl
 wanted_follows c (_ ∷ st) ts = refl
 
-holding_follows : (c : Context) (e : Expression) (st : List Frame) (ts : List Placed) → no_opening ts ≡ true → may_follow (holding c e st) ts ≡ true
+holding_follows : (c : Context) (e : Expression) (st : List Frame) (ts : List Placed) → lacks open_round ts ≡ true → may_follow (holding c e st) ts ≡ true
 holding_follows c (atom at (named n)) st ts apart = apart
 holding_follows c (atom at empty_set) st ts apart = apart
 holding_follows c _ st ts apart = refl
@@ -62,7 +62,7 @@ can_end limit (variable_wanted c st at q o vs) fits =
       more = symbol (name a_name) ∷ symbol colon ∷ symbol word_true ∷ closing c st;
       follows = refl;
       ends = further limit (variable_wanted c st at q o vs) (wanted c (f ∷ st)) (symbol (name a_name) ∷ symbol colon ∷ symbol word_true ∷ closing c st) (symbol word_true ∷ closing c st)
-          (entered limit c f st (symbol word_true ∷ closing c st) fits.1 fits.2)
+          (entered limit c f st _ (symbol word_true ∷ closing c st) fits.1 fits.2)
           (body_ends limit c f st (λ b is. le-leb b 0 (omega arith)) (omega arith) refl (held_ends limit c st (completed f (atom anywhere truth)) fits.0 (omega arith)));
     }
 can_end limit (part_wanted c st at o parts) fits =
@@ -70,7 +70,7 @@ can_end limit (part_wanted c st at o parts) fits =
       more = symbol (name a_name) ∷ symbol (infix_operator (Relation Equal)) ∷ symbol word_true ∷ closing c (f ∷ st);
       follows = refl;
       ends = further limit (part_wanted c st at o parts) (wanted c (f ∷ st)) (symbol (name a_name) ∷ symbol (infix_operator (Relation Equal)) ∷ symbol word_true ∷ closing c (f ∷ st)) (symbol word_true ∷ closing c (f ∷ st))
-          (entered limit c f st (symbol word_true ∷ closing c (f ∷ st)) fits.1 fits.2)
+          (entered limit c f st _ (symbol word_true ∷ closing c (f ∷ st)) fits.1 fits.2)
           (further limit (wanted c (f ∷ st)) (holding c (atom anywhere truth) (f ∷ st)) (symbol word_true ∷ closing c (f ∷ st)) (closing c (f ∷ st)) refl
           (held_ends limit c (f ∷ st) (atom anywhere truth) (fits.0, fits.2) (omega arith)));
     }

@@ -1,14 +1,13 @@
 -- What can follow the symbols up to a fault, and what cannot.
-use Rattle.std.proofs.Common.{◌≡◌, ℕ, zero, suc, ◌≤◌, true, false, ◌⊎◌, inl, inr, List, [], ◌∷◌, ◌++◌, Some, refl, sym, ap, ◌∙◌, subst, append_assoc}
+use Rattle.std.proofs.Common.{◌≡◌, ℕ, zero, suc, ◌≤◌, true, false, ◌⊎◌, inl, inr, List, [], ◌∷◌, ◌++◌, refl, sym, arith, ap, ◌∙◌, subst, append_assoc}
 use Rattle.std.proofs.lemmas.List.{append-nil, append_cancel_right}
 use Rattle.ms_edge.specs.declared.at.At.{At}
 use Rattle.ms_grammar.specs.Symbol.{word_ws1s, Placed, placed}
 use Rattle.ms_grammar.specs.Tree.{Document}
-use Rattle.ms_steps.specs.Machine.{State, outside, start, step, Runs}
+use Rattle.ms_steps.specs.Machine.{State, outside, start, step, took, Runs}
 use Rattle.ms_steps.proofs.Beginning.{no_header, Headed, header_or_none, none_or_begun, RunsPlain, none_or_plain}
 use Rattle.ms_steps.proofs.Closing.{RunsToEnd, further}
 use Rattle.ms_steps.proofs.Completions.{Fits, can_end}
-use Rattle.ms_steps.proofs.Fitting.{FitsNext, step_fits}
 use Rattle.ms_steps.proofs.Headers.{is_header_word, document_read}
 use Rattle.ms_steps.proofs.Limits.{ReadsWithin}
 use Rattle.ms_steps.proofs.Lookahead.{may_follow}
@@ -28,13 +27,13 @@ abbrev pub Shuts : ℕ → State → List Placed → Placed → Type 0
 Shuts limit s front y = (more : List Placed) (d : Document) → ¬ (Runs limit s (front ++ y ∷ more) d)
 
 -- a step can be taken, and further steps to the end
-pub step_ends : (limit : ℕ) (s s' : State) (ts : List Placed) → 1 ≤ limit → Fits limit s → step limit s ts ≡ Some (s', []) → (more : List Placed) × RunsToEnd limit s (ts ++ more)
+pub step_ends : (limit : ℕ) (s s' : State) (ts : List Placed) → 1 ≤ limit → Fits limit s → step limit s ts ≡ took s' [] → (more : List Placed) × RunsToEnd limit s (ts ++ more)
 step_ends limit s s' ts some fits stepped =
-    let whole = taken limit s s' ts [] stepped in
-    let end = can_end limit s' (subst (FitsNext limit) stepped (step_fits limit s ts some fits)) in
+    let whole = taken limit s s' ts [] some fits stepped in
+    let end = can_end limit s' whole.fits in
     let same : whole.first ∷ (whole.others ++ end.more) ≡ ts ++ end.more =
     ap (λ l. l ++ end.more) (ap (λ l. whole.first ∷ l) (sym (append-nil whole.others)) ∙ sym whole.split) in
-    (end.more, subst (RunsToEnd limit s) same (further limit s s' (whole.first ∷ (whole.others ++ end.more)) end.more (whole.again end.more end.follows) end.ends))
+    (end.more, subst (RunsToEnd limit s) same (further limit s s' (whole.first ∷ (whole.others ++ end.more)) end.more (whole.again limit end.more (omega arith) end.follows) end.ends))
 
 -- the symbols of a step begin as those that it has found
 begins_alike : (s : State) (front after more : List Placed) (y : Placed) → may_follow s (front ++ y ∷ after) ≡ true → may_follow s (front ++ y ∷ more) ≡ true

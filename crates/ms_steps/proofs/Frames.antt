@@ -1,5 +1,5 @@
 -- What the stack of the automaton says of the symbols that have been read.
-use Rattle.std.proofs.Common.{◌≡◌, ℕ, suc, ◌+◌, ◌≤◌, Bool, true, false, cond, ◌||◌, List, [], ◌∷◌, length, refl, sym, subst, arith, Option, leb, Some, None}
+use Rattle.std.proofs.Common.{◌≡◌, ℕ, suc, ◌+◌, ◌≤◌, Bool, true, false, cond, ◌||◌, List, [], ◌∷◌, length, refl, sym, ap, subst, arith, Option, leb, Some, None}
 use Rattle.std.proofs.lemmas.Bool.{false≢true, leb-true}
 use Rattle.ms_logic.specs.declared.mode.Rel.TheVariants.{Equal, Member}
 use Rattle.ms_grammar.specs.Symbol.{name, prefix_operator, infix_operator, joining, quantifier, let_word, word_where, comma, colon, Placed}
@@ -169,6 +169,12 @@ pub record Collapsed (limit : ℕ) (b : ℕ) (inside : Bool) (top : Expression �
 pub chosen : {A : Type 0} (P : A → Type 0) (b : Bool) (x y : A) → (b ≡ true → P x) → (b ≡ false → P y) → P (cond b x y)
 chosen P true x y one other = one refl
 chosen P false x y one other = other refl
+
+pub chosen_yes : {A : Type 0} (b : Bool) (x y : A) → b ≡ true → cond b x y ≡ x
+chosen_yes b x y is = ap (λ t. cond t x y) is
+
+pub chosen_no : {A : Type 0} (b : Bool) (x y : A) → b ≡ false → cond b x y ≡ y
+chosen_no b x y is = ap (λ t. cond t x y) is
 
 -- what has been completed, if it is not too deep
 abbrev pub CollapsedTo : ℕ → ℕ → Bool → Option Top → List Placed → List Placed → Type 0

@@ -8,8 +8,8 @@ use Rattle.ms_logic.specs.declared.mode.Mode.TheVariants.{Ws1s, M2lStr}
 use Rattle.ms_grammar.specs.Symbol.{Symbol, name, sign, word_ws1s, semicolon, Placed, placed}
 use Rattle.ms_grammar.specs.Tree.{Declaration, variables, constant, predicate, included, default_restriction, formula, Declared, Document}
 use Rattle.ms_grammar.specs.Declarations.{ReadsDeclaration, ReadsDeclarations, ReadsString, ReadsHeader}
-use Rattle.ms_steps.specs.Machine.{outside, headed, start, Runs}
-use Rattle.ms_steps.proofs.Moves.{starter, begins}
+use Rattle.ms_steps.specs.Machine.{outside, headed, start, starter, Runs}
+use Rattle.ms_steps.proofs.Moves.{begins}
 use Rattle.ms_steps.proofs.Steps.{at_start}
 use Rattle.ms_steps.proofs.Sources.{declarations_read}
 use Rattle.ms_steps.proofs.Limits.{ReadsWithin}

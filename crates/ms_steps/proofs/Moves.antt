@@ -16,7 +16,8 @@ use Rattle.ms_grammar.specs.Tree.{truth, falsity, whole, empty_set, named, numer
 use Rattle.ms_grammar.specs.Tree.{Expression, atom, prefixed, binary, joined, shifted, enclosed, listed, quantified, let_in, Expressions, no_expressions, and_expression}
 use Rattle.ms_grammar.specs.Grammar.{binary_level, left_level, right_level, operand_level, junction_level, level, is_in, depth, depth_of_all}
 use Rattle.ms_grammar.specs.Reads.{int_symbol, place, ReadsExpression, ReadsSeparated, ReadsList}
-use Rattle.ms_steps.specs.Machine.{Frame, prefix_frame, left_frame, joined_frame, bracket_frame, list_frame, domain_frame, body_frame, part_frame, let_frame, Context, wanted, holding, need, in_part, enter, collapse, on_top, begin_name, begin_empty, begin_literal, in_at, join, join_new, shift, shift_by, shift_int, step}
+use Rattle.ms_steps.specs.Machine.{Frame, prefix_frame, left_frame, joined_frame, bracket_frame, list_frame, domain_frame, body_frame, part_frame, let_frame, Context, wanted, holding, need, in_part, enter, collapse, on_top, begin_name, begin_empty, begin_literal, in_at, join, join_new, shift, shift_int, step, Step, took, misplaced, too_deep, enter_list, starter, int_then}
+use Rattle.ms_steps.proofs.Frames.{chosen_yes, chosen_no}
 use Rattle.ms_steps.proofs.Steps.{entered}
 
 -- a symbol that may stand behind an expression
@@ -30,25 +31,6 @@ follower comma = true
 follower colon = true
 follower semicolon = true
 follower _ = false
-
--- a symbol that an expression may begin with
-abbrev pub starter : Symbol → Bool
-starter (name n) = true
-starter (number n) = true
-starter (prefix_operator op) = true
-starter (quantifier q o) = true
-starter (let_word o) = true
-starter word_true = true
-starter word_false = true
-starter dollar = true
-starter word_empty = true
-starter word_pconst = true
-starter word_import = true
-starter word_export = true
-starter word_restrict = true
-starter open_round = true
-starter open_curly = true
-starter _ = false
 
 pub neither : (a b : Bool) → (a || b) ≡ false → (a ≡ false) × (b ≡ false)
 neither true b h = absurd (false≢true (sym h))
@@ -128,81 +110,88 @@ list_begins exact (and_expression es d) e from behind reads = list_begins exact 
 
 -- a name that no bracket follows, and the word `empty`
 pub name_alone : (limit : ℕ) (c : Context) (st : List Frame) (at : At) (n : List ℕ) (s : Symbol) (a : At) (more : List Placed) → follower s ≡ true
-    → begin_name limit c st at n (placed s a ∷ more) ≡ Some (holding c (atom at (named n)) st, placed s a ∷ more)
+    → begin_name limit c st at n (placed s a ∷ more) ≡ took (holding c (atom at (named n)) st) (placed s a ∷ more)
 name_alone limit c st at n open_round a more follows = absurd (false≢true follows)
 name_alone limit c st at n _ a more follows = refl
 
 pub empty_alone : (limit : ℕ) (c : Context) (st : List Frame) (at : At) (s : Symbol) (a : At) (more : List Placed) → follower s ≡ true
-    → begin_empty limit c st at (placed s a ∷ more) ≡ Some (holding c (atom at empty_set) st, placed s a ∷ more)
+    → begin_empty limit c st at (placed s a ∷ more) ≡ took (holding c (atom at empty_set) st) (placed s a ∷ more)
 empty_alone limit c st at open_round a more follows = absurd (false≢true follows)
 empty_alone limit c st at _ a more follows = refl
 
 -- brackets with something in them
 pub literal_filled : (limit : ℕ) (c : Context) (st : List Frame) (at : At) (s : Symbol) (a : At) (more : List Placed) → starter s ≡ true
-    → begin_literal limit c st at (placed s a ∷ more) ≡ enter limit c (list_frame at Literal no_expressions) st (placed s a ∷ more)
+    → begin_literal limit c st at (placed s a ∷ more) ≡ enter_list limit c at Literal st (placed s a ∷ more)
 literal_filled limit c st at close_curly a more starts = absurd (false≢true starts)
 literal_filled limit c st at _ a more starts = refl
 
 pub call_filled : (limit : ℕ) (c : Context) (st : List Frame) (at : At) (n : List ℕ) (x : At) (s : Symbol) (a : At) (more : List Placed) → starter s ≡ true
-    → begin_name limit c st at n (placed open_round x ∷ placed s a ∷ more) ≡ enter limit c (list_frame at (Call n) no_expressions) st (placed s a ∷ more)
+    → begin_name limit c st at n (placed open_round x ∷ placed s a ∷ more) ≡ enter_list limit c at (Call n) st (placed s a ∷ more)
 call_filled limit c st at n x close_round a more starts = absurd (false≢true starts)
 call_filled limit c st at n x _ a more starts = refl
 
 -- an operator behind a left operand
 pub infix_step : (limit : ℕ) (c : Context) (op : Binary) (l : Expression) (st : List Frame) (x : At) (ts : List Placed) → need st ≤ binary_level op
     → (in_part st && is_in op) ≡ false → left_level op ≤ level l → suc (suc (length st)) ≤ limit → suc (length st) + depth l ≤ limit
-    → step limit (holding c l st) (placed (infix_operator op) x ∷ ts) ≡ Some (wanted c (left_frame op l ∷ st), ts)
+    → step limit (holding c l st) (placed (infix_operator op) x ∷ ts) ≡ took (wanted c (left_frame op l ∷ st)) ts
 infix_step limit c op l st x ts low no_let high room deep =
-    ap (λ b. on_top (λ top. cond b (in_at limit c top.0 top.1 ts) (shift limit c op top ts)) (collapse limit (cond b 0 (suc (binary_level op))) l st)) no_let
-    ∙ ap (on_top (λ top. shift limit c op top ts)) (stays limit (binary_level op) l st low)
-    ∙ ap (λ b. cond b (enter limit c (left_frame op l) st ts) None) (le-leb (left_level op) (level l) high)
-    ∙ entered limit c (left_frame op l) st ts room deep
+    let from = placed (infix_operator op) x ∷ ts in
+    ap (λ b. on_top (λ top. cond b (in_at limit c top.0 top.1 from ts) (shift limit c op top from ts)) from (collapse limit (cond b 0 (suc (binary_level op))) l st)) no_let
+    ∙ ap (on_top (λ top. shift limit c op top from ts) from) (stays limit (binary_level op) l st low)
+    ∙ chosen_yes (leb (left_level op) (level l)) (enter limit c (left_frame op l) st (too_deep from) ts) (misplaced from) (le-leb (left_level op) (level l) high)
+    ∙ entered limit c (left_frame op l) st (too_deep from) ts room deep
 
 -- `+` or `-` and an int behind an operand
-pub int_read : (limit : ℕ) (c : Context) (minus : Bool) (e : Expression) (st : List Frame) (v : Int) (a : At) (ts : List Placed)
-    → shift_int limit c minus e st (placed (int_symbol v) a ∷ ts) ≡ shift_by limit c e st (record { at = a; value = v; minus = minus }) ts
-int_read limit c minus e st (Number n) a ts = refl
-int_read limit c minus e st (Constant n) a ts = refl
+pub int_read : (minus : Bool) (further : PlacedInt → List Placed → Step) (v : Int) (a : At) (ts : List Placed) → int_then minus further (placed (int_symbol v) a ∷ ts) ≡ further (record { at = a; value = v; minus = minus }) ts
+int_read minus further (Number n) a ts = refl
+int_read minus further (Constant n) a ts = refl
 
 pub terminal_step : (limit : ℕ) (c : Context) (e : Expression) (n : PlacedInt) (st : List Frame) (x : At) (ts : List Placed) → need st ≤ 9 → 9 ≤ level e → length st + suc (depth e) ≤ limit
-    → step limit (holding c e st) (placed (sign n.minus) x ∷ placed (int_symbol n.value) n.at ∷ ts) ≡ Some (holding c (shifted (place e) e n) st, ts)
+    → step limit (holding c e st) (placed (sign n.minus) x ∷ placed (int_symbol n.value) n.at ∷ ts) ≡ took (holding c (shifted (place e) e n) st) ts
 terminal_step limit c e n st x ts low high deep =
-    ap (on_top (λ top. shift_int limit c n.minus top.0 top.1 (placed (int_symbol n.value) n.at ∷ ts))) (stays limit 9 e st low)
-    ∙ int_read limit c n.minus e st n.value n.at ts
-    ∙ ap (λ b. cond (b && leb (length st + suc (depth e)) limit) (Some (holding c (shifted (place e) e n) st, ts)) None) (le-leb 9 (level e) high)
-    ∙ ap (λ b. cond b (Some (holding c (shifted (place e) e n) st, ts)) None) (le-leb (length st + suc (depth e)) limit deep)
+    let behind = placed (int_symbol n.value) n.at ∷ ts in
+    let from = placed (sign n.minus) x ∷ behind in
+    let next = int_then n.minus (λ k. took (holding c (shifted (place e) e k) st)) behind in
+    ap (on_top (λ top. shift_int limit c n.minus top.0 top.1 from behind) from) (stays limit 9 e st low)
+    ∙ chosen_yes (leb 9 (level e)) (cond (leb (length st + suc (depth e)) limit) next (too_deep from)) (misplaced from) (le-leb 9 (level e) high)
+    ∙ chosen_yes (leb (length st + suc (depth e)) limit) next (too_deep from) (le-leb (length st + suc (depth e)) limit deep)
+    ∙ int_read n.minus (λ k. took (holding c (shifted (place e) e k) st)) n.value n.at ts
 
 -- a second operand of `&` or `|`
-first_joined : (limit : ℕ) (c : Context) (op : Junction) (e : Expression) (st : List Frame) (ts : List Placed) → need st ≤ junction_level op → join limit c op e st ts ≡ join_new limit c op e st ts
-first_joined limit c Conjunction e [] ts low = refl
-first_joined limit c Disjunction e [] ts low = refl
-first_joined limit c Conjunction e (joined_frame at Conjunction es ∷ st) ts low = absurd (omega arith)
-first_joined limit c Conjunction e (joined_frame at Disjunction es ∷ st) ts low = refl
-first_joined limit c Disjunction e (joined_frame at Conjunction es ∷ st) ts low = refl
-first_joined limit c Disjunction e (joined_frame at Disjunction es ∷ st) ts low = absurd (omega arith)
-first_joined limit c Conjunction e (_ ∷ st) ts low = refl
-first_joined limit c Disjunction e (_ ∷ st) ts low = refl
+first_joined : (limit : ℕ) (c : Context) (op : Junction) (e : Expression) (st : List Frame) (from ts : List Placed) → need st ≤ junction_level op → join limit c op e st from ts ≡ join_new limit c op e st from ts
+first_joined limit c Conjunction e [] from ts low = refl
+first_joined limit c Disjunction e [] from ts low = refl
+first_joined limit c Conjunction e (joined_frame at Conjunction es ∷ st) from ts low = absurd (omega arith)
+first_joined limit c Conjunction e (joined_frame at Disjunction es ∷ st) from ts low = refl
+first_joined limit c Disjunction e (joined_frame at Conjunction es ∷ st) from ts low = refl
+first_joined limit c Disjunction e (joined_frame at Disjunction es ∷ st) from ts low = absurd (omega arith)
+first_joined limit c Conjunction e (_ ∷ st) from ts low = refl
+first_joined limit c Disjunction e (_ ∷ st) from ts low = refl
 
 pub join_first : (limit : ℕ) (c : Context) (op : Junction) (e : Expression) (st : List Frame) (x : At) (ts : List Placed) → need st ≤ junction_level op → suc (junction_level op) ≤ level e
     → suc (suc (length st)) ≤ limit → suc (length st) + depth e ≤ limit
-    → step limit (holding c e st) (placed (joining op) x ∷ ts) ≡ Some (wanted c (joined_frame (place e) op (and_expression no_expressions e) ∷ st), ts)
+    → step limit (holding c e st) (placed (joining op) x ∷ ts) ≡ took (wanted c (joined_frame (place e) op (and_expression no_expressions e) ∷ st)) ts
 join_first limit c op e st x ts low high room deep =
-    ap (on_top (λ top. join limit c op top.0 top.1 ts)) (stays limit (junction_level op) e st low)
-    ∙ first_joined limit c op e st ts low
-    ∙ ap (λ b. cond b (enter limit c (joined_frame (place e) op (and_expression no_expressions e)) st ts) None) (le-leb (suc (junction_level op)) (level e) high)
-    ∙ entered limit c (joined_frame (place e) op (and_expression no_expressions e)) st ts room (omega arith)
+    let from = placed (joining op) x ∷ ts in
+    let f = joined_frame (place e) op (and_expression no_expressions e) in
+    ap (on_top (λ top. join limit c op top.0 top.1 from ts) from) (stays limit (junction_level op) e st low)
+    ∙ first_joined limit c op e st from ts low
+    ∙ chosen_yes (leb (suc (junction_level op)) (level e)) (enter limit c f st (too_deep from) ts) (misplaced from) (le-leb (suc (junction_level op)) (level e) high)
+    ∙ entered limit c f st (too_deep from) ts room (omega arith)
 
 -- a further operand
-pub further_joined : (limit : ℕ) (c : Context) (op : Junction) (at : At) (es : Expressions) (e : Expression) (st : List Frame) (ts : List Placed)
-    → join limit c op e (joined_frame at op es ∷ st) ts ≡ enter limit c (joined_frame at op (and_expression es e)) st ts
-further_joined limit c Conjunction at es e st ts = refl
-further_joined limit c Disjunction at es e st ts = refl
+pub further_joined : (limit : ℕ) (c : Context) (op : Junction) (at : At) (es : Expressions) (e : Expression) (st : List Frame) (from ts : List Placed)
+    → join limit c op e (joined_frame at op es ∷ st) from ts ≡ enter limit c (joined_frame at op (and_expression es e)) st (too_deep from) ts
+further_joined limit c Conjunction at es e st from ts = refl
+further_joined limit c Disjunction at es e st from ts = refl
 
 pub join_further : (limit : ℕ) (c : Context) (op : Junction) (at : At) (es : Expressions) (e : Expression) (st : List Frame) (x : At) (ts : List Placed)
     → suc (suc (length st)) ≤ limit → suc (length st) + depth_of_all (and_expression es e) ≤ limit
-    → step limit (holding c e (joined_frame at op es ∷ st)) (placed (joining op) x ∷ ts) ≡ Some (wanted c (joined_frame at op (and_expression es e) ∷ st), ts)
+    → step limit (holding c e (joined_frame at op es ∷ st)) (placed (joining op) x ∷ ts) ≡ took (wanted c (joined_frame at op (and_expression es e) ∷ st)) ts
 join_further limit c op at es e st x ts room deep =
-    ap (λ b. on_top (λ top. join limit c op top.0 top.1 ts) (cond b (cond (leb (depth (joined at op (and_expression es e))) limit) (collapse limit (suc (junction_level op)) (joined at op (and_expression es e)) st) None) (Some (e, joined_frame at op es ∷ st))))
-    (lt-leb (suc (junction_level op)) (junction_level op) (omega arith))
-    ∙ further_joined limit c op at es e st ts
-    ∙ entered limit c (joined_frame at op (and_expression es e)) st ts room deep
+    let from = placed (joining op) x ∷ ts in
+    let all = joined at op (and_expression es e) in
+    ap (on_top (λ top. join limit c op top.0 top.1 from ts) from)
+    (chosen_no (leb (suc (junction_level op)) (junction_level op)) (cond (leb (depth all) limit) (collapse limit (suc (junction_level op)) all st) None) (Some (e, joined_frame at op es ∷ st)) (lt-leb (suc (junction_level op)) (junction_level op) (omega arith)))
+    ∙ further_joined limit c op at es e st from ts
+    ∙ entered limit c (joined_frame at op (and_expression es e)) st (too_deep from) ts room deep

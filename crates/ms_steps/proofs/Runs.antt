@@ -17,20 +17,20 @@ use Rattle.ms_grammar.specs.Tree.{variables, constant, included, Document}
 use Rattle.ms_grammar.specs.Grammar.{domain_bare_in, HaveGrammaticalDomains, AreOfOrder, depth_of_domains}
 use Rattle.ms_grammar.specs.Reads.{Starts, Follows}
 use Rattle.ms_grammar.specs.Declarations.{ReadsString}
-use Rattle.ms_steps.specs.Machine.{Frame, domain_frame, body_frame, part_frame, Context, in_formula, State, outside, wanted, holding, variable_wanted, part_wanted, pair_wanted, global_wanted, parameter_wanted, summand_wanted, Next, need, in_part, Top, on_top, settle, ends, collapse, bound, behind_variable, next_variable, next_part, next_pair, behind_global, next_global, behind_parameter, next_parameter, next_summand, begin_constant, begin_predicate, begin_include, begin_default, begin_declaration, step, headed, start, finished, goes_on, run, Runs}
+use Rattle.ms_steps.specs.Machine.{Frame, domain_frame, body_frame, part_frame, Context, in_formula, State, outside, wanted, holding, variable_wanted, part_wanted, pair_wanted, global_wanted, parameter_wanted, summand_wanted, Step, took, misplaced, too_deep, need, in_part, Top, on_top, settle, ends, collapse, bound, behind_variable, next_variable, next_part, next_pair, behind_global, next_global, behind_parameter, next_parameter, next_summand, begin_constant, begin_predicate, begin_include, begin_default, begin_declaration, step, headed, start, finished, goes_on, run, Runs}
 use Rattle.ms_steps.proofs.Frames.{VariablesSoFar, InFrames, CollapsedTo, chosen, collapsed}
 use Rattle.ms_steps.proofs.Extensions.{variables_extended, ParametersSoFar, ParameterKind, parameters_extended, pairs_extended, sum_extended}
 use Rattle.ms_steps.proofs.Settling.{declared_good, begins_with, body_of_good, settle_good}
 use Rattle.ms_steps.proofs.Soundness.{SoFar, InContext, Good, GoodNext, need_small, enter_good, begin_good}
 use Rattle.ms_steps.proofs.Limits.{AreDomainsWithin, ReadsWithin}
 
-variable_good : (limit : ℕ) (all : List Placed) (c : Context) (st : List Frame) (at : At) (q : Quant) (o : Order) (vs : Variables) (at_v : At) (n : List ℕ) (s : Symbol) (a : At) (from f g ts : List Placed) → InContext limit c all from → InFrames limit st from f
+variable_good : (limit : ℕ) (all here : List Placed) (c : Context) (st : List Frame) (at : At) (q : Quant) (o : Order) (vs : Variables) (at_v : At) (n : List ℕ) (s : Symbol) (a : At) (from f g ts : List Placed) → InContext limit c all from → InFrames limit st from f
     → Starts true (quantifier q o) at f g → VariablesSoFar vs g (placed (name n) at_v ∷ placed s a ∷ ts) → need st ≤ 4 → AreOfOrder o vs → HaveGrammaticalDomains vs → (in_part st ≡ true → domain_bare_in vs ≡ false)
-    → suc (length st) + max 1 (depth_of_domains vs) ≤ limit → GoodNext limit all (behind_variable limit c st at q o vs at_v n s ts)
-variable_good limit all c st at q o vs at_v n word_where a from f g ts context frames starts before low ordered good quiet room =
-    enter_good limit all c (domain_frame at q o vs at_v n) st from f ts context frames
+    → suc (length st) + max 1 (depth_of_domains vs) ≤ limit → GoodNext limit all (behind_variable limit c st at q o vs at_v n s here ts)
+variable_good limit all here c st at q o vs at_v n word_where a from f g ts context frames starts before low ordered good quiet room =
+    enter_good limit all _ c (domain_frame at q o vs at_v n) st from f ts context frames
     (g, placed (name n) at_v ∷ placed word_where a ∷ ts, placed word_where a ∷ ts, starts, before, (at_v, refl, refl), (a, refl)) (low, ordered, good, quiet)
-variable_good limit all c st at q o vs at_v n comma a from f g ts context frames starts before low ordered good quiet room = (
+variable_good limit all here c st at q o vs at_v n comma a from f g ts context frames starts before low ordered good quiet room = (
   from,
   f,
   g,
@@ -44,8 +44,8 @@ variable_good limit all c st at q o vs at_v n comma a from f g ts context frames
   quiet,
   room,
 )
-variable_good limit all c st at q o vs at_v n colon a from f g ts context frames starts before low ordered good quiet room =
-    enter_good limit all c (body_frame at q o (and_variable vs at_v o n unrestricted)) st from f ts context frames (
+variable_good limit all here c st at q o vs at_v n colon a from f g ts context frames starts before low ordered good quiet room =
+    enter_good limit all _ c (body_frame at q o (and_variable vs at_v o n unrestricted)) st from f ts context frames (
       g,
       placed colon a ∷ ts,
       starts,
@@ -53,16 +53,16 @@ variable_good limit all c st at q o vs at_v n colon a from f g ts context frames
       (a, refl),
     )
     (low, (ordered, refl), good, quiet, tt)
-variable_good limit all c st at q o vs at_v n _ a from f g ts context frames starts before low ordered good quiet room = tt
+variable_good limit all here c st at q o vs at_v n _ a from f g ts context frames starts before low ordered good quiet room = tt
 
 next_variable_good : (limit : ℕ) (all : List Placed) (c : Context) (st : List Frame) (at : At) (q : Quant) (o : Order) (vs : Variables) (ts : List Placed) → Good limit (variable_wanted c st at q o vs) all ts → GoodNext limit all (next_variable limit c st at q o vs ts)
 next_variable_good limit all c st at q o vs (placed (name n) at_v ∷ placed s a ∷ ts) (from, f, g, context, frames, starts, before, low, ordered, good, quiet, room) =
-    variable_good limit all c st at q o vs at_v n s a from f g ts context frames starts before low ordered good quiet room
+    variable_good limit all _ c st at q o vs at_v n s a from f g ts context frames starts before low ordered good quiet room
 next_variable_good limit all c st at q o vs _ is = tt
 
 next_part_good : (limit : ℕ) (all : List Placed) (c : Context) (st : List Frame) (at : At) (o : Order) (parts : Parts) (ts : List Placed) → Good limit (part_wanted c st at o parts) all ts → GoodNext limit all (next_part limit c st at o parts ts)
 next_part_good limit all c st at o parts (placed (name n) at_n ∷ placed (infix_operator (Relation Equal)) a ∷ ts) (from, f, g, context, frames, starts, before, low, good, room) =
-    enter_good limit all c (part_frame at o parts at_n n) st from f ts context frames
+    enter_good limit all _ c (part_frame at o parts at_n n) st from f ts context frames
     (g, placed (name n) at_n ∷ placed (infix_operator (Relation Equal)) a ∷ ts, placed (infix_operator (Relation Equal)) a ∷ ts, starts, before, (at_n, refl, refl), (a, refl)) (low, good)
 next_part_good limit all c st at o parts _ is = tt
 
@@ -98,11 +98,11 @@ next_pair_good limit all c st at file pairs (placed comma a1 ∷ placed (name l)
 )
 next_pair_good limit all c st at file pairs _ is = tt
 
-global_good : (limit : ℕ) (some : 1 ≤ limit) (all : List Placed) (d : Document) (at : At) (o : Order) (vs : Variables) (at_v : At) (n : List ℕ) (s : Symbol) (a : At) (f g ts : List Placed) → SoFar limit d all f → Starts true (kind o) at f g
-    → VariablesSoFar vs g (placed (name n) at_v ∷ placed s a ∷ ts) → AreOfOrder o vs → AreDomainsWithin limit vs → GoodNext limit all (behind_global d at o vs at_v n s ts)
-global_good limit some all d at o vs at_v n word_where a f g ts so_far words before ordered good =
+global_good : (limit : ℕ) (some : 1 ≤ limit) (all here : List Placed) (d : Document) (at : At) (o : Order) (vs : Variables) (at_v : At) (n : List ℕ) (s : Symbol) (a : At) (f g ts : List Placed) → SoFar limit d all f → Starts true (kind o) at f g
+    → VariablesSoFar vs g (placed (name n) at_v ∷ placed s a ∷ ts) → AreOfOrder o vs → AreDomainsWithin limit vs → GoodNext limit all (behind_global d at o vs at_v n s here ts)
+global_good limit some all here d at o vs at_v n word_where a f g ts so_far words before ordered good =
     (ts, (f, g, placed (name n) at_v ∷ placed word_where a ∷ ts, placed word_where a ∷ ts, so_far, words, before, (at_v, refl, refl), (a, refl), ordered, good), refl, omega arith)
-global_good limit some all d at o vs at_v n comma a f g ts so_far words before ordered good = (
+global_good limit some all here d at o vs at_v n comma a f g ts so_far words before ordered good = (
   f,
   g,
   so_far,
@@ -111,7 +111,7 @@ global_good limit some all d at o vs at_v n comma a f g ts so_far words before o
   (ordered, refl),
   good,
 )
-global_good limit some all d at o vs at_v n semicolon a f g ts so_far words before ordered good =
+global_good limit some all here d at o vs at_v n semicolon a f g ts so_far words before ordered good =
     declared_good limit all d at (variables (and_variable vs at_v o n unrestricted)) f (placed semicolon a ∷ ts) ts a so_far (begins_with (kind o) at f g words) (
       o,
       g,
@@ -119,18 +119,18 @@ global_good limit some all d at o vs at_v n semicolon a f g ts so_far words befo
       (ordered, refl),
       variables_extended vs at_v o n unrestricted g (placed (name n) at_v ∷ placed semicolon a ∷ ts) (placed semicolon a ∷ ts) (placed semicolon a ∷ ts) before (at_v, refl, refl) refl,
     ) refl good
-global_good limit some all d at o vs at_v n _ a f g ts so_far words before ordered good = tt
+global_good limit some all here d at o vs at_v n _ a f g ts so_far words before ordered good = tt
 
 next_global_good : (limit : ℕ) (some : 1 ≤ limit) (all : List Placed) (d : Document) (at : At) (o : Order) (vs : Variables) (ts : List Placed) → Good limit (global_wanted d at o vs) all ts → GoodNext limit all (next_global d at o vs ts)
-next_global_good limit some all d at o vs (placed (name n) at_v ∷ placed s a ∷ ts) (f, g, so_far, words, before, ordered, good) = global_good limit some all d at o vs at_v n s a f g ts so_far words before ordered good
+next_global_good limit some all d at o vs (placed (name n) at_v ∷ placed s a ∷ ts) (f, g, so_far, words, before, ordered, good) = global_good limit some all _ d at o vs at_v n s a f g ts so_far words before ordered good
 next_global_good limit some all d at o vs _ is = tt
 
-parameter_good : (limit : ℕ) (some : 1 ≤ limit) (all : List Placed) (d : Document) (at : At) (is_pred : Bool) (at_p : At) (p : List ℕ) (vs : Variables) (o : Order) (at_v : At) (n : List ℕ) (s : Symbol) (a : At) (f g h i j k ts : List Placed)
+parameter_good : (limit : ℕ) (some : 1 ≤ limit) (all here : List Placed) (d : Document) (at : At) (is_pred : Bool) (at_p : At) (p : List ℕ) (vs : Variables) (o : Order) (at_v : At) (n : List ℕ) (s : Symbol) (a : At) (f g h i j k ts : List Placed)
     → SoFar limit d all f → Starts true (predicate_word is_pred) at f g → Starts true (name p) at_p g h → Follows open_round h i → ParametersSoFar vs i j → ParameterKind vs o j (placed (name n) at_v ∷ placed s a ∷ ts) → AreDomainsWithin limit vs
-    → GoodNext limit all (behind_parameter d at is_pred at_p p vs o at_v n s ts)
-parameter_good limit some all d at is_pred at_p p vs o at_v n word_where a f g h i j k ts so_far words starts opens before kinds good =
+    → GoodNext limit all (behind_parameter d at is_pred at_p p vs o at_v n s here ts)
+parameter_good limit some all here d at is_pred at_p p vs o at_v n word_where a f g h i j k ts so_far words starts opens before kinds good =
     (ts, (f, g, h, i, j, placed (name n) at_v ∷ placed word_where a ∷ ts, placed word_where a ∷ ts, so_far, words, starts, opens, before, kinds, (at_v, refl, refl), (a, refl), good), refl, omega arith)
-parameter_good limit some all d at is_pred at_p p vs o at_v n comma a f g h i j k ts so_far words starts opens before kinds good = (
+parameter_good limit some all here d at is_pred at_p p vs o at_v n comma a f g h i j k ts so_far words starts opens before kinds good = (
   f,
   g,
   h,
@@ -142,7 +142,7 @@ parameter_good limit some all d at is_pred at_p p vs o at_v n comma a f g h i j 
   (placed comma a ∷ ts, parameters_extended vs at_v o n unrestricted i j (placed (name n) at_v ∷ placed comma a ∷ ts) (placed comma a ∷ ts) (placed comma a ∷ ts) before kinds (at_v, refl, refl) refl, (a, refl)),
   good,
 )
-parameter_good limit some all d at is_pred at_p p vs o at_v n close_round a f g h i j k ts so_far words starts opens before kinds good =
+parameter_good limit some all here d at is_pred at_p p vs o at_v n close_round a f g h i j k ts so_far words starts opens before kinds good =
     body_of_good limit some all d at is_pred at_p p (and_variable vs at_v o n unrestricted) f g h i ts so_far words starts (
       i,
       placed close_round a ∷ ts,
@@ -150,16 +150,16 @@ parameter_good limit some all d at is_pred at_p p vs o at_v n close_round a f g 
       parameters_extended vs at_v o n unrestricted i j (placed (name n) at_v ∷ placed close_round a ∷ ts) (placed close_round a ∷ ts) (placed close_round a ∷ ts) before kinds (at_v, refl, refl) refl,
       (a, refl),
     ) good
-parameter_good limit some all d at is_pred at_p p vs o at_v n _ a f g h i j k ts so_far words starts opens before kinds good = tt
+parameter_good limit some all here d at is_pred at_p p vs o at_v n _ a f g h i j k ts so_far words starts opens before kinds good = tt
 
 next_parameter_good : (limit : ℕ) (some : 1 ≤ limit) (all : List Placed) (d : Document) (at : At) (is_pred : Bool) (at_p : At) (p : List ℕ) (vs : Variables) (ts : List Placed) → Good limit (parameter_wanted d at is_pred at_p p vs) all ts
     → GoodNext limit all (next_parameter d at is_pred at_p p vs ts)
 next_parameter_good limit some all d at is_pred at_p p no_variables (placed (kind o) a1 ∷ placed (name n) at_v ∷ placed s a2 ∷ ts) (f, g, h, i, so_far, words, starts, opens, before, good) =
-    parameter_good limit some all d at is_pred at_p p no_variables o at_v n s a2 f g h i (placed (kind o) a1 ∷ placed (name n) at_v ∷ placed s a2 ∷ ts) ts ts so_far words starts opens before (a1, refl) good
+    parameter_good limit some all _ d at is_pred at_p p no_variables o at_v n s a2 f g h i (placed (kind o) a1 ∷ placed (name n) at_v ∷ placed s a2 ∷ ts) ts ts so_far words starts opens before (a1, refl) good
 next_parameter_good limit some all d at is_pred at_p p (and_variable vs at' o' n' x) (placed (kind o) a1 ∷ placed (name n) at_v ∷ placed s a2 ∷ ts) (f, g, h, i, so_far, words, starts, opens, before, good) =
-    parameter_good limit some all d at is_pred at_p p (and_variable vs at' o' n' x) o at_v n s a2 f g h i (placed (kind o) a1 ∷ placed (name n) at_v ∷ placed s a2 ∷ ts) ts ts so_far words starts opens before (inl (a1, refl)) good
+    parameter_good limit some all _ d at is_pred at_p p (and_variable vs at' o' n' x) o at_v n s a2 f g h i (placed (kind o) a1 ∷ placed (name n) at_v ∷ placed s a2 ∷ ts) ts ts so_far words starts opens before (inl (a1, refl)) good
 next_parameter_good limit some all d at is_pred at_p p (and_variable vs at' o' n' x) (placed (name n) at_v ∷ placed s a2 ∷ ts) (f, g, h, i, so_far, words, starts, opens, before, good) =
-    parameter_good limit some all d at is_pred at_p p (and_variable vs at' o' n' x) o' at_v n s a2 f g h i (placed (name n) at_v ∷ placed s a2 ∷ ts) ts ts so_far words starts opens before (inr (refl, refl)) good
+    parameter_good limit some all _ d at is_pred at_p p (and_variable vs at' o' n' x) o' at_v n s a2 f g h i (placed (name n) at_v ∷ placed s a2 ∷ ts) ts ts so_far words starts opens before (inr (refl, refl)) good
 next_parameter_good limit some all d at is_pred at_p p vs _ is = tt
 
 next_summand_good : (limit : ℕ) (all : List Placed) (d : Document) (at at_n : At) (n : List ℕ) (sum : List PlacedInt) (ts : List Placed) → Good limit (summand_wanted d at at_n n sum) all ts → GoodNext limit all (next_summand d at at_n n sum ts)
@@ -277,24 +277,24 @@ default_good limit some all d at o (placed open_round a1 ∷ placed (name n) a2 
 )
 default_good limit some all d at o _ so_far = tt
 
-declaration_good : (limit : ℕ) (some : 1 ≤ limit) (all : List Placed) (d : Document) (at : At) (s : Symbol) (ts : List Placed) → SoFar limit d all (placed s at ∷ ts) → GoodNext limit all (begin_declaration limit d at s ts)
-declaration_good limit some all d at (kind o) ts so_far = (placed (kind o) at ∷ ts, ts, so_far, (at, refl, refl), refl, tt, tt)
-declaration_good limit some all d at word_const ts so_far = constant_good limit all d at ts so_far
-declaration_good limit some all d at (predicate_word is_pred) ts so_far = predicate_good limit some all d at is_pred ts so_far
-declaration_good limit some all d at word_include ts so_far = include_good limit all d at ts so_far
-declaration_good limit some all d at (default_word o) ts so_far = default_good limit some all d at o ts so_far
-declaration_good limit some all d at s ts so_far = begin_good limit all (in_formula d at) [] at s (placed s at ∷ ts) ts (so_far, refl) refl (omega arith)
+declaration_good : (limit : ℕ) (some : 1 ≤ limit) (all here : List Placed) (d : Document) (at : At) (s : Symbol) (ts : List Placed) → SoFar limit d all (placed s at ∷ ts) → GoodNext limit all (begin_declaration limit d at s here ts)
+declaration_good limit some all here d at (kind o) ts so_far = (placed (kind o) at ∷ ts, ts, so_far, (at, refl, refl), refl, tt, tt)
+declaration_good limit some all here d at word_const ts so_far = constant_good limit all d at ts so_far
+declaration_good limit some all here d at (predicate_word is_pred) ts so_far = predicate_good limit some all d at is_pred ts so_far
+declaration_good limit some all here d at word_include ts so_far = include_good limit all d at ts so_far
+declaration_good limit some all here d at (default_word o) ts so_far = default_good limit some all d at o ts so_far
+declaration_good limit some all here d at s ts so_far = begin_good limit all here (in_formula d at) [] at s (placed s at ∷ ts) ts (so_far, refl) refl (omega arith)
 
-top_good : (limit : ℕ) (some : 1 ≤ limit) (all : List Placed) (c : Context) (s : Symbol) (inside : Bool) (top : Option Top) (from ts : List Placed) (a : At) → InContext limit c all from → CollapsedTo limit (bound inside s) inside top from (placed s a ∷ ts)
-    → GoodNext limit all (on_top (λ t. settle limit c s inside t ts) top)
-top_good limit some all c s inside None from ts a context is = tt
-top_good limit some all c s inside (Some top) from ts a context is = settle_good limit some all c s inside top from ts a context is
+top_good : (limit : ℕ) (some : 1 ≤ limit) (all here : List Placed) (c : Context) (s : Symbol) (inside : Bool) (top : Option Top) (from ts : List Placed) (a : At) → InContext limit c all from → CollapsedTo limit (bound inside s) inside top from (placed s a ∷ ts)
+    → GoodNext limit all (on_top (λ t. settle limit c s inside t here ts) here top)
+top_good limit some all here c s inside None from ts a context is = tt
+top_good limit some all here c s inside (Some top) from ts a context is = settle_good limit some all here c s inside top from ts a context is
 
 step_good : (limit : ℕ) (some : 1 ≤ limit) (s : State) (all ts : List Placed) → Good limit s all ts → GoodNext limit all (step limit s ts)
-step_good limit some (outside d) all (placed s at ∷ ts) is = declaration_good limit some all d at s ts is
-step_good limit some (wanted c st) all (placed s at ∷ ts) (from, context, frames, room) = begin_good limit all c st at s from ts context frames room
+step_good limit some (outside d) all (placed s at ∷ ts) is = declaration_good limit some all _ d at s ts is
+step_good limit some (wanted c st) all (placed s at ∷ ts) (from, context, frames, room) = begin_good limit all _ c st at s from ts context frames room
 step_good limit some (holding c e st) all (placed s at ∷ ts) (from, context, held, closed) =
-    top_good limit some all c s (in_part st) (collapse limit (bound (in_part st) s) e st) from ts at context (collapsed limit (bound (in_part st) s) st e from (placed s at ∷ ts) held (λ some. closed))
+    top_good limit some all _ c s (in_part st) (collapse limit (bound (in_part st) s) e st) from ts at context (collapsed limit (bound (in_part st) s) st e from (placed s at ∷ ts) held (λ some. closed))
 step_good limit some (variable_wanted c st at q o vs) all (placed s a ∷ ts) is = next_variable_good limit all c st at q o vs (placed s a ∷ ts) is
 step_good limit some (part_wanted c st at o parts) all (placed s a ∷ ts) is = next_part_good limit all c st at o parts (placed s a ∷ ts) is
 step_good limit some (pair_wanted c st at file pairs) all (placed s a ∷ ts) is = next_pair_good limit all c st at file pairs (placed s a ∷ ts) is
@@ -325,9 +325,10 @@ finished_good limit (parameter_wanted d0 at is_pred at_p p vs) all ts d is read 
 finished_good limit (summand_wanted d0 at at_n n sum) all ts d is read = let never : ⊥ = cc in absurd never
 
 next_good : (limit : ℕ) (r : State → List Placed → Option Document) (all : List Placed) (d : Document) → ((s : State) (ts : List Placed) → Good limit s all ts → r s ts ≡ Some d → SoFar limit d all [])
-    → (x : Next) → GoodNext limit all x → goes_on r x ≡ Some d → SoFar limit d all []
-next_good limit r all d further None is read = let never : ⊥ = cc in absurd never
-next_good limit r all d further (Some x) is read = further x.0 x.1 is read
+    → (x : Step) → GoodNext limit all x → goes_on r x ≡ Some d → SoFar limit d all []
+next_good limit r all d further (took s ts) is read = further s ts is read
+next_good limit r all d further (misplaced from) is read = let never : ⊥ = cc in absurd never
+next_good limit r all d further (too_deep from) is read = let never : ⊥ = cc in absurd never
 
 run_good : (limit : ℕ) (some : 1 ≤ limit) (n : ℕ) (s : State) (all ts : List Placed) (d : Document) → Good limit s all ts → run limit n s ts ≡ Some d → SoFar limit d all []
 run_good limit some zero s all ts d is read = finished_good limit s all ts d is read

@@ -15,9 +15,9 @@ use Rattle.ms_grammar.specs.Tree.{Declaration, variables, constant, predicate, i
 use Rattle.ms_grammar.specs.Grammar.{AreOfOrder}
 use Rattle.ms_grammar.specs.Reads.{int_symbol, Starts, Follows, ReadsExpression, ReadsDomain, ReadsVariables}
 use Rattle.ms_grammar.specs.Declarations.{ReadsParameters, ReadsParameterList, ReadsFurther, ReadsDeclaration, BeginsAt, ReadsDeclarations}
-use Rattle.ms_steps.specs.Machine.{Context, in_formula, in_global, in_parameter, in_predicate, in_default, outside, wanted, holding, global_wanted, parameter_wanted, summand_wanted, Next, declare, body_of, behind_parameter, step, finished, goes_on, run, Runs}
+use Rattle.ms_steps.specs.Machine.{Context, in_formula, in_global, in_parameter, in_predicate, in_default, outside, wanted, holding, global_wanted, parameter_wanted, summand_wanted, Step, took, starter, declare, body_of, behind_parameter, step, finished, goes_on, run, Runs}
 use Rattle.ms_steps.proofs.Levels.{yields-zero}
-use Rattle.ms_steps.proofs.Moves.{starter, begins}
+use Rattle.ms_steps.proofs.Moves.{begins}
 use Rattle.ms_steps.proofs.Steps.{by_step, Leads, by_lead, at_start}
 use Rattle.ms_steps.proofs.Completeness.{expression_read}
 use Rattle.ms_steps.proofs.Limits.{IsWithin, AreDomainsWithin, IsDeclarationWithin, AreDeclarationsWithin}
@@ -50,9 +50,9 @@ abbrev pub global_separator : Bool → Symbol
 global_separator true = comma
 global_separator false = semicolon
 
-abbrev pub ended_global : Document → At → Order → Variables → Bool → List Placed → Next
-ended_global d at o vs true ts = Some (global_wanted d at o vs, ts)
-ended_global d at o vs false ts = Some (outside (declare d at (variables vs)), ts)
+abbrev pub ended_global : Document → At → Order → Variables → Bool → List Placed → Step
+ended_global d at o vs true ts = took (global_wanted d at o vs) ts
+ended_global d at o vs false ts = took (outside (declare d at (variables vs))) ts
 
 global_whole : (m : Bool) → ends_whole (global_separator m) ≡ true
 global_whole true = refl
@@ -100,8 +100,8 @@ abbrev pub parameter_separator : Bool → Symbol
 parameter_separator true = comma
 parameter_separator false = close_round
 
-abbrev pub ended_parameter : Document → At → Bool → At → List ℕ → Variables → Bool → List Placed → Next
-ended_parameter d at is_pred at_p p vs true ts = Some (parameter_wanted d at is_pred at_p p vs, ts)
+abbrev pub ended_parameter : Document → At → Bool → At → List ℕ → Variables → Bool → List Placed → Step
+ended_parameter d at is_pred at_p p vs true ts = took (parameter_wanted d at is_pred at_p p vs) ts
 ended_parameter d at is_pred at_p p vs false ts = body_of d at is_pred at_p p vs ts
 
 parameter_whole : (m : Bool) → ends_whole (parameter_separator m) ≡ true
@@ -113,20 +113,20 @@ parameter_restricted : (limit : ℕ) (d : Document) (at : At) (is_pred : Bool) (
 parameter_restricted limit d at is_pred at_p p b o at_v n e true a ts = refl
 parameter_restricted limit d at is_pred at_p p b o at_v n e false a ts = refl
 
-parameter_unrestricted : (d : Document) (at : At) (is_pred : Bool) (at_p : At) (p : List ℕ) (b : Variables) (o : Order) (at_v : At) (n : List ℕ) (m : Bool) (ts : List Placed)
-    → behind_parameter d at is_pred at_p p b o at_v n (parameter_separator m) ts ≡ ended_parameter d at is_pred at_p p (and_variable b at_v o n unrestricted) m ts
-parameter_unrestricted d at is_pred at_p p b o at_v n true ts = refl
-parameter_unrestricted d at is_pred at_p p b o at_v n false ts = refl
+parameter_unrestricted : (d : Document) (at : At) (is_pred : Bool) (at_p : At) (p : List ℕ) (b : Variables) (o : Order) (at_v : At) (n : List ℕ) (m : Bool) (from ts : List Placed)
+    → behind_parameter d at is_pred at_p p b o at_v n (parameter_separator m) from ts ≡ ended_parameter d at is_pred at_p p (and_variable b at_v o n unrestricted) m ts
+parameter_unrestricted d at is_pred at_p p b o at_v n true from ts = refl
+parameter_unrestricted d at is_pred at_p p b o at_v n false from ts = refl
 
 -- a parameter from its name on, with its kind in front or nothing
 parameter_rest : (limit : ℕ) (x : Domain) (d : Document) (at : At) (is_pred : Bool) (at_p : At) (p : List ℕ) (b : Variables) (o : Order) (at_v : At) (n : List ℕ) (m : Bool) (from f0 f1 ts : List Placed) (a : At) (dd : Document) (front : List Placed → List Placed)
-    → GoodRestriction limit x → from ≡ front f0 → ((s : Symbol) (y : At) (rest : List Placed) → step limit (parameter_wanted d at is_pred at_p p b) (front (placed (name n) at_v ∷ placed s y ∷ rest)) ≡ behind_parameter d at is_pred at_p p b o at_v n s rest)
+    → GoodRestriction limit x → from ≡ front f0 → ((s : Symbol) (y : At) (rest : List Placed) → step limit (parameter_wanted d at is_pred at_p p b) (front (placed (name n) at_v ∷ placed s y ∷ rest)) ≡ behind_parameter d at is_pred at_p p b o at_v n s (placed s y ∷ rest) rest)
     → Starts true (name n) at_v f0 f1 → ReadsDomain true x f1 (placed (parameter_separator m) a ∷ ts)
     → Leads limit (ended_parameter d at is_pred at_p p (and_variable b at_v o n x) m ts) dd → Runs limit (parameter_wanted d at is_pred at_p p b) from dd
 parameter_rest limit unrestricted d at is_pred at_p p b o at_v n m from f0 f1 ts a dd front good here stepped starts reads leads =
     by_lead limit (parameter_wanted d at is_pred at_p p b) from (front (placed (name n) at_v ∷ placed (parameter_separator m) a ∷ ts)) (ended_parameter d at is_pred at_p p (and_variable b at_v o n unrestricted) m ts) dd
     (here ∙ ap front (at_start (name n) at_v f0 f1 starts ∙ ap (λ f. placed (name n) at_v ∷ f) reads))
-    (stepped (parameter_separator m) a ts ∙ parameter_unrestricted d at is_pred at_p p b o at_v n m ts) leads
+    (stepped (parameter_separator m) a ts ∙ parameter_unrestricted d at is_pred at_p p b o at_v n m (placed (parameter_separator m) a ∷ ts) ts) leads
 parameter_rest limit (restricted e) d at is_pred at_p p b o at_v n m from f0 f1 ts a dd front good here stepped starts (f2, follow, read_e) leads =
     by_step limit (parameter_wanted d at is_pred at_p p b) from (front (placed (name n) at_v ∷ placed word_where follow.0 ∷ f2)) (wanted (in_parameter d at is_pred at_p p b o at_v n) []) f2 dd
     (here ∙ ap front (at_start (name n) at_v f0 f1 starts ∙ ap (λ f. placed (name n) at_v ∷ f) follow.1)) (stepped word_where follow.0 f2)
@@ -159,7 +159,7 @@ further_front n x f = placed (sign n.minus) x ∷ placed (int_symbol n.value) n.
 
 summand_step : (limit : ℕ) (d : Document) (at at_n : At) (n : List ℕ) (sum : List PlacedInt) (minus : Bool) (v : Int) (a x : At) (ts : List Placed)
     → step limit (summand_wanted d at at_n n sum) (placed (sign minus) x ∷ placed (int_symbol v) a ∷ ts)
-    ≡ Some (summand_wanted d at at_n n (sum ++ record { at = a; value = v; minus = minus } ∷ []), ts)
+    ≡ took (summand_wanted d at at_n n (sum ++ record { at = a; value = v; minus = minus } ∷ [])) ts
 summand_step limit d at at_n n sum minus (Number k) a x ts = refl
 summand_step limit d at at_n n sum minus (Constant k) a x ts = refl
 
@@ -177,7 +177,7 @@ further_read limit (k ∷ ks) before d at at_n n from behind ts x dd (f1, f2, fo
 
 constant_step : (limit : ℕ) (d : Document) (at at_n : At) (n : List ℕ) (v : Int) (a b x : At) (ts : List Placed)
     → step limit (outside d) (placed word_const at ∷ placed (name n) at_n ∷ placed (infix_operator (Relation Equal)) x ∷ placed (int_symbol v) a ∷ ts)
-    ≡ Some (summand_wanted d at at_n n (record { at = a; value = v; minus = false } ∷ []), ts)
+    ≡ took (summand_wanted d at at_n n (record { at = a; value = v; minus = false } ∷ [])) ts
 constant_step limit d at at_n n (Number k) a b x ts = refl
 constant_step limit d at at_n n (Constant k) a b x ts = refl
 
@@ -212,7 +212,7 @@ body_read limit is_pred at_p p vs body d at a from f1 ts x dd is same reads clos
 
 -- `(` behind the name of a predicate, with parameters
 opened : (limit : ℕ) (d : Document) (a : At) (is_pred : Bool) (at_p : At) (p : List ℕ) (x : At) (s : Symbol) (y : At) (more : List Placed) → begins_parameter s ≡ true
-    → step limit (outside d) (placed (predicate_word is_pred) a ∷ placed (name p) at_p ∷ placed open_round x ∷ placed s y ∷ more) ≡ Some (parameter_wanted d a is_pred at_p p no_variables, placed s y ∷ more)
+    → step limit (outside d) (placed (predicate_word is_pred) a ∷ placed (name p) at_p ∷ placed open_round x ∷ placed s y ∷ more) ≡ took (parameter_wanted d a is_pred at_p p no_variables) (placed s y ∷ more)
 opened limit d a is_pred at_p p x close_round y more first = absurd (false≢true first)
 opened limit d a is_pred at_p p x _ y more first = refl
 
@@ -262,7 +262,7 @@ declaration_read limit (constant at_n n (k ∷ ks)) d at from f1 ts dd good begi
     (summand_wanted d words.0 at_n n (k ∷ [])) h dd
     (words.1 ∙ ap (λ f. placed word_const words.0 ∷ f) (at_start (name n) at_n g1 g2 starts ∙ ap (λ f. placed (name n) at_n ∷ f)
     (follow.1 ∙ ap (λ f. placed (infix_operator (Relation Equal)) follow.0 ∷ f) (at_start (int_symbol k.value) k.at g3 h int_is))))
-    (constant_step limit d words.0 at_n n k.value k.at at follow.0 h ∙ ap (λ m. Some (summand_wanted d words.0 at_n n (record { at = k.at; value = k.value; minus = m } ∷ []), h)) (sym plus))
+    (constant_step limit d words.0 at_n n k.value k.at at follow.0 h ∙ ap (λ m. took (summand_wanted d words.0 at_n n (record { at = k.at; value = k.value; minus = m } ∷ [])) h) (sym plus))
     (further_read limit ks (k ∷ []) d words.0 at_n n h f1 ts ends.0 dd further ends.1
     (subst (λ a. Runs limit (outside (declare d a (constant at_n n (k ∷ ks)))) ts dd) (begins_here at words.0 word_const from g1 begins_at words.1) runs))
 declaration_read limit (predicate is_pred at_p p vs body) d at from f1 ts dd good begins_at (g1, g2, g3, g4, words, starts, parameters, follow, read_body) ends runs =

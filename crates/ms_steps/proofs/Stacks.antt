@@ -1,18 +1,11 @@
 -- The stack of the code with one more frame.
-use Rattle.ms_grammar.specs.Symbol.{Placed}
-use Rattle.std.proofs.lemmas.Bool.{le-leb, lt-leb}
-use Rattle.std.proofs.Common.{◌≡◌, ◌≢◌, ℕ, ◌+◌, List, [], ◌∷◌, ◌++◌, length, Option, Some, None, refl, sym, ap, ◌∙◌, arith, suc, max, ◌<◌, ◌≤◌, cond, take, get_or}
+use Rattle.std.proofs.Common.{◌≡◌, ℕ, ◌+◌, List, [], ◌∷◌, ◌++◌, length, Option, Some, None, refl, sym, ap, ◌∙◌, arith, ◌<◌, take, get_or}
 use Rattle.std.proofs.lemmas.List.{take_more}
 use Rattle.std.proofs.Math.Seq.{take-length}
 use Rattle.std.specs.Prelude.{MatchOption, option_to_list}
 use Rattle.ms_steps.specs.declared.frame.Frame.{Frame}
 use Rattle.ms_steps.specs.Machine as machine
 use Rattle.ms_steps.specs.Opened.{frame_of}
-use Rattle.ms_text.specs.TokenList.{Lexed}
-use Rattle.std.specs.Prelude.{Err}
-use Rattle.ms_steps.specs.declared.stop.Stop.{Stop}
-use Rattle.ms_steps.specs.declared.stop.Stop.TheVariants as stops
-use Rattle.ms_steps.specs.Outcomes.{Took}
 use Rattle.ms_steps.specs.Stack.{stack_on, stack_of}
 
 stack_push_on : (below : List machine.Frame) (fs : List Frame) (f : Frame) → stack_on below (fs ++ f ∷ []) ≡ frame_of f.opened ∷ stack_on below fs
@@ -42,13 +35,6 @@ stack_on_length below (f ∷ fs) = omega (arith, stack_on_length (frame_of f.ope
 pub stack_length : (fs : List Frame) → length (stack_of fs) ≡ length fs
 stack_length fs = omega (arith, stack_on_length [] fs)
 
-pub enter_refused : (limit : ℕ) (c : machine.Context) (f : machine.Frame) (st : List machine.Frame) (ts : List Placed) → limit < suc (length st) + max 1 (machine.frame_depth f) → machine.enter limit c f st ts ≡ None
-enter_refused limit c f st ts deep = ap (λ b. cond b (Some (machine.wanted c (f ∷ st), ts)) None) (lt-leb (suc (length st) + max 1 (machine.frame_depth f)) limit deep)
-
-pub enter_taken : (limit : ℕ) (c : machine.Context) (f : machine.Frame) (st new : List machine.Frame) (ts : List Placed) → suc (length st) + max 1 (machine.frame_depth f) ≤ limit → new ≡ f ∷ st → machine.enter limit c f st ts ≡ Some (machine.wanted c new, ts)
-enter_taken limit c f st new ts small same =
-    ap (λ b. cond b (Some (machine.wanted c (f ∷ st), ts)) None) (le-leb (suc (length st) + max 1 (machine.frame_depth f)) limit small) ∙ ap (λ s. Some (machine.wanted c s, ts)) (sym same)
-
 -- the frames up to one of them, and that one on top
 pub stack_take : (fs : List Frame) (k : ℕ) (d : Frame) → k < length fs → stack_of (take (k + 1) fs) ≡ frame_of (get_or fs k d).opened ∷ stack_of (take k fs)
 stack_take fs k d within = ap stack_of (take_more fs k d within) ∙ stack_push (take k fs) (get_or fs k d)
@@ -61,15 +47,3 @@ stack_frame fs n k d next within = ap (λ m. stack_of (take m fs)) next ∙ stac
 
 pub stack_top : (fs : List Frame) (k : ℕ) (d : Frame) → k + 1 ≡ length fs → stack_of fs ≡ frame_of (get_or fs k d).opened ∷ stack_of (take k fs)
 stack_top fs k d whole = stack_whole fs (k + 1) whole ∙ stack_frame fs (k + 1) k d refl (omega arith)
-
--- a step that is not taken
-pub none_taken : (c : machine.Context) (file : ℕ) (lexed : Lexed) (next : machine.Next) (frames : List Frame) (stop : Stop) → next ≡ None → Took c file lexed next frames (Err stop)
-none_taken c file lexed next frames stops.Memory none = tt
-none_taken c file lexed next frames (stops.Refused i) none = none
-none_taken c file lexed next frames (stops.TooDeep i) none = none
-
--- a step that fails for something else than memory is not taken
-pub failed_taken : (c : machine.Context) (file : ℕ) (lexed : Lexed) (next : machine.Next) (frames : List Frame) (stop : Stop) → (stop ≢ stops.Memory → next ≡ None) → Took c file lexed next frames (Err stop)
-failed_taken c file lexed next frames stops.Memory none = tt
-failed_taken c file lexed next frames (stops.Refused i) none = none (λ same. let never : ⊥ = cc in never)
-failed_taken c file lexed next frames (stops.TooDeep i) none = none (λ same. let never : ⊥ = cc in never)

@@ -1,12 +1,10 @@
 pub mod Ends
-pub mod Faults
 pub mod Headers
 pub mod Kinds
 pub mod Links
 pub mod Machine
 pub mod Opened
 pub mod Outcomes
-pub mod Pairs
 pub mod Punctuations
 pub mod Rows
 pub mod Terminals

@@ -1,13 +1,15 @@
--- The states of the automaton that the code's outcomes stand for.
-use Rattle.std.specs.Prelude.{◌≡◌, ℕ, List, Some, None, Result, Ok, Err}
+-- The states of the automaton that the code's outcomes stand for, and when the code does what the automaton does.
+use Rattle.std.specs.Prelude.{◌≡◌, ℕ, List, Result}
+use Rattle.std.specs.Prelude.{Ok, Err}
 use Rattle.ms_text.specs.TokenList.{Lexed}
+use Rattle.ms_grammar.specs.Symbol.{Placed}
 use Rattle.ms_steps.specs.declared.frame.Frame.{Frame}
 use Rattle.ms_steps.specs.declared.outcome.Outcome.{Outcome}
 use Rattle.ms_steps.specs.declared.outcome.Outcome.TheVariants as outcomes
 use Rattle.ms_steps.specs.declared.stop.Stop.{Stop}
 use Rattle.ms_steps.specs.declared.stop.Stop.TheVariants.{Memory, Refused, TooDeep}
-use Rattle.ms_steps.specs.Faults.{Fault, refused_at, deep_at}
 use Rattle.ms_steps.specs.Machine as machine
+use Rattle.ms_steps.specs.Machine.{Step, took, misplaced, too_deep}
 use Rattle.ms_steps.specs.Terminals.{behind}
 use Rattle.ms_steps.specs.Stack.{stack_of}
 use Rattle.ms_grammar.specs.View.{expression_of, variables_of, parts_of}
@@ -19,15 +21,18 @@ outcome_of c st (outcomes.Variable at q o vs) = machine.variable_wanted c st at 
 outcome_of c st (outcomes.Part at o parts) = machine.part_wanted c st at o (parts_of parts.list)
 outcome_of c st (outcomes.Pair at file pairs) = machine.pair_wanted c st at file pairs
 
--- a step of the automaton has been taken, with this stack and from the token with this number on; or there is none
-abbrev pub Took : machine.Context → ℕ → Lexed → machine.Next → List Frame → Result (Outcome × ℕ) Stop → Type 0
-Took c file lexed next frames (Ok (o, i)) = next ≡ Some (outcome_of c (stack_of frames) o, behind file lexed i)
-Took c file lexed next frames (Err Memory) = Unit {0}
-Took c file lexed next frames (Err (Refused i)) = next ≡ None
-Took c file lexed next frames (Err (TooDeep i)) = next ≡ None
+-- the step is stuck, at the token with this number, or memory is wanting
+abbrev pub StopsAs : ℕ → Lexed → Step → Stop → Type 0
+StopsAs file lexed step Memory = Unit {0}
+StopsAs file lexed step (Refused i) = step ≡ misplaced (behind file lexed i)
+StopsAs file lexed step (TooDeep i) = step ≡ too_deep (behind file lexed i)
 
--- the stop says where the fault is
-abbrev pub Says : ℕ → Lexed → Fault → Stop → Type 0
-Says file lexed fault Memory = Unit {0}
-Says file lexed fault (Refused i) = fault ≡ refused_at (behind file lexed i)
-Says file lexed fault (TooDeep i) = fault ≡ deep_at (behind file lexed i)
+-- the step is taken, with this stack and from the token with this number on; or it is stuck
+abbrev pub ActsAs : machine.Context → ℕ → Lexed → Step → List Frame → Result (Outcome × ℕ) Stop → Type 0
+ActsAs c file lexed step frames (Ok (o, i)) = step ≡ took (outcome_of c (stack_of frames) o) (behind file lexed i)
+ActsAs c file lexed step frames (Err stop) = StopsAs file lexed step stop
+
+-- the step goes on with what has been read, from the token with this number on; or it is stuck
+abbrev pub Continues : {X : Type 0} → ℕ → Lexed → Step → (X → List Placed → Step) → Result (X × ℕ) Stop → Type 0
+Continues file lexed step further (Ok (x, i)) = step ≡ further x (behind file lexed i)
+Continues file lexed step further (Err stop) = StopsAs file lexed step stop

@@ -1,5 +1,5 @@
 -- The states of the automaton that the code's states stand for.
-use Rattle.std.specs.Prelude.{◌≡◌, ℕ, List, Some, None, Result, Ok, Err}
+use Rattle.std.specs.Prelude.{◌≡◌, ℕ, List, Result, Ok, Err}
 use Rattle.ms_text.specs.TokenList.{Lexed}
 use Rattle.ms_logic.specs.declared.source.Source.{Source}
 use Rattle.ms_steps.specs.declared.context.Context.{Context}
@@ -9,9 +9,9 @@ use Rattle.ms_steps.specs.declared.state.Parsed.{Parsed}
 use Rattle.ms_steps.specs.declared.state.State.{State}
 use Rattle.ms_steps.specs.declared.state.State.TheVariants as states
 use Rattle.ms_steps.specs.declared.stop.Stop.{Stop}
-use Rattle.ms_steps.specs.declared.stop.Stop.TheVariants.{Memory, Refused, TooDeep}
 use Rattle.ms_steps.specs.Machine as machine
-use Rattle.ms_steps.specs.Outcomes.{outcome_of}
+use Rattle.ms_steps.specs.Machine.{Step, took}
+use Rattle.ms_steps.specs.Outcomes.{outcome_of, StopsAs}
 use Rattle.ms_steps.specs.Terminals.{behind}
 use Rattle.ms_steps.specs.Stack.{stack_of}
 use Rattle.ms_grammar.specs.Tree.{Document}
@@ -38,10 +38,7 @@ state_of d st (states.Global g) = machine.global_wanted d g.at g.order (variable
 state_of d st (states.Parameter s) = machine.parameter_wanted d s.at s.is_pred s.at_name s.name (variables_of s.parameters)
 state_of d st (states.Summand at at_n n sum) = machine.summand_wanted d at at_n n sum
 
--- a step of the automaton has been taken, with these declarations, this stack and from the token with this number on; or
--- there is none
-abbrev pub Stepped : ℕ → Lexed → machine.Next → Parsed → List Frame → Result (State × ℕ) Stop → Type 0
-Stepped file lexed next made frames (Ok (s, i)) = next ≡ Some (state_of (read_of made) (stack_of frames) s, behind file lexed i)
-Stepped file lexed next made frames (Err Memory) = Unit {0}
-Stepped file lexed next made frames (Err (Refused i)) = next ≡ None
-Stepped file lexed next made frames (Err (TooDeep i)) = next ≡ None
+-- the step is taken, with these declarations, this stack and from the token with this number on; or it is stuck
+abbrev pub StepsAs : ℕ → Lexed → Step → Parsed → List Frame → Result (State × ℕ) Stop → Type 0
+StepsAs file lexed step made frames (Ok (s, i)) = step ≡ took (state_of (read_of made) (stack_of frames) s) (behind file lexed i)
+StepsAs file lexed step made frames (Err stop) = StopsAs file lexed step stop

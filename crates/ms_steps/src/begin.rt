@@ -1,12 +1,11 @@
-ghost use Rattle.std.specs.Prelude.{◌≡◌, ◌≤◌, ◌<◌, ℕ, List, length, IfErr, ◌-◌};
+ghost use Rattle.std.specs.Prelude.{◌≡◌, ◌≤◌, ◌<◌, ℕ, List, length, ◌-◌};
 ghost use Rattle.ms_grammar.specs.Grammar.{depth, greatest_depth};
 ghost use Rattle.ms_steps.specs.Machine.{Context, begin_name, begin_empty, begin_literal, begin_restrict, begin_export, begin_import, begin_pconst, with_room};
-ghost use Rattle.ms_steps.specs.Outcomes.{Took, Says};
+ghost use Rattle.ms_steps.specs.Outcomes.{ActsAs};
 ghost use Rattle.ms_grammar.specs.Reads.{place};
 ghost use Rattle.ms_steps.specs.Terminals.{behind};
 ghost use Rattle.ms_steps.specs.Stack.{stack_of};
 ghost use Rattle.ms_grammar.specs.View.{form_of};
-ghost use Rattle.ms_steps.specs.Faults.{empty_fault, export_fault, import_fault, literal_fault, name_fault, pconst_fault, restrict_fault, room_fault};
 
 use crate::complete::finish;
 use crate::enter::{enter, has_room, stop_inside};
@@ -34,9 +33,8 @@ pub fn begin_name(
     name: Name,
     i: u32,
 ) -> Result<(Outcome, u32), Stop>
-    ensures step { (c : Context) →
-        Took c file tokens.now (begin_name greatest_depth c (stack_of stack.old.items) at name (behind file tokens.now i)) stack.new.items result }
-    ensures fault { IfErr result (Says file tokens.now (name_fault greatest_depth (stack_of stack.old.items) (behind file tokens.now i))) }
+    ensures { (c : Context) →
+        ActsAs c file tokens.now (begin_name greatest_depth c (stack_of stack.old.items) at name (behind file tokens.now i)) stack.new.items result }
 {
     let Some(inside) = behind_mark(tokens, file, i, Punctuation::OpenRound) else {
         let operand = finish(at, Form::Name(name), 0, i)?;
@@ -62,9 +60,8 @@ pub fn begin_restrict(
     at: At,
     i: u32,
 ) -> Result<(Outcome, u32), Stop>
-    ensures step { (c : Context) →
-        Took c file tokens.now (with_room greatest_depth (stack_of stack.old.items) (begin_restrict greatest_depth c (stack_of stack.old.items) at (behind file tokens.now i))) stack.new.items result }
-    ensures fault { IfErr result (Says file tokens.now (room_fault greatest_depth (stack_of stack.old.items) (behind file tokens.now (i - 1)) (restrict_fault (behind file tokens.now i)))) }
+    ensures { (c : Context) →
+        ActsAs c file tokens.now (with_room greatest_depth (stack_of stack.old.items) (behind file tokens.now (i - 1)) (begin_restrict c (stack_of stack.old.items) at (behind file tokens.now i))) stack.new.items result }
 {
     if !has_room(stack) {
         return Err(Stop::TooDeep(i.saturating_sub(1)));
@@ -87,9 +84,8 @@ pub fn begin_empty(
     at: At,
     i: u32,
 ) -> Result<(Outcome, u32), Stop>
-    ensures step { (c : Context) →
-        Took c file tokens.now (begin_empty greatest_depth c (stack_of stack.old.items) at (behind file tokens.now i)) stack.new.items result }
-    ensures fault { IfErr result (Says file tokens.now (empty_fault greatest_depth (stack_of stack.old.items) (behind file tokens.now i))) }
+    ensures { (c : Context) →
+        ActsAs c file tokens.now (begin_empty greatest_depth c (stack_of stack.old.items) at (behind file tokens.now i)) stack.new.items result }
 {
     let Some(next) = behind_mark(tokens, file, i, Punctuation::OpenRound) else {
         let operand = finish(at, Form::EmptySet, 0, i)?;
@@ -111,9 +107,8 @@ pub fn begin_literal(
     at: At,
     i: u32,
 ) -> Result<(Outcome, u32), Stop>
-    ensures step { (c : Context) →
-        Took c file tokens.now (begin_literal greatest_depth c (stack_of stack.old.items) at (behind file tokens.now i)) stack.new.items result }
-    ensures fault { IfErr result (Says file tokens.now (literal_fault greatest_depth (stack_of stack.old.items) (behind file tokens.now i))) }
+    ensures { (c : Context) →
+        ActsAs c file tokens.now (begin_literal greatest_depth c (stack_of stack.old.items) at (behind file tokens.now i)) stack.new.items result }
 {
     let list = List::new(alloc);
     if let Some(next) = behind_mark(tokens, file, i, Punctuation::CloseCurly) {
@@ -136,9 +131,8 @@ pub fn begin_export(
     at: At,
     i: u32,
 ) -> Result<(Outcome, u32), Stop>
-    ensures step { (c : Context) →
-        Took c file tokens.now (with_room greatest_depth (stack_of stack.old.items) (begin_export greatest_depth c (stack_of stack.old.items) at (behind file tokens.now i))) stack.new.items result }
-    ensures fault { IfErr result (Says file tokens.now (room_fault greatest_depth (stack_of stack.old.items) (behind file tokens.now (i - 1)) (export_fault (behind file tokens.now i)))) }
+    ensures { (c : Context) →
+        ActsAs c file tokens.now (with_room greatest_depth (stack_of stack.old.items) (behind file tokens.now (i - 1)) (begin_export c (stack_of stack.old.items) at (behind file tokens.now i))) stack.new.items result }
 {
     if !has_room(stack) {
         return Err(Stop::TooDeep(i.saturating_sub(1)));
@@ -168,9 +162,8 @@ pub fn begin_import(
     at: At,
     i: u32,
 ) -> Result<(Outcome, u32), Stop>
-    ensures step { (c : Context) →
-        Took c file tokens.now (begin_import c (stack_of stack.old.items) at (behind file tokens.now i)) stack.new.items result }
-    ensures fault { IfErr result (Says file tokens.now (import_fault (behind file tokens.now i))) }
+    ensures { (c : Context) →
+        ActsAs c file tokens.now (begin_import c (stack_of stack.old.items) at (behind file tokens.now i)) stack.new.items result }
 {
     let Some(inside) = behind_mark(tokens, file, i, Punctuation::OpenRound) else {
         return Err(Stop::Refused(i));
@@ -190,9 +183,8 @@ pub fn begin_pconst(
     at: At,
     i: u32,
 ) -> Result<(Outcome, u32), Stop>
-    ensures step { (c : Context) →
-        Took c file tokens.now (begin_pconst c (stack_of stack.old.items) at (behind file tokens.now i)) stack.new.items result }
-    ensures fault { IfErr result (Says file tokens.now (pconst_fault (behind file tokens.now i))) }
+    ensures { (c : Context) →
+        ActsAs c file tokens.now (begin_pconst c (stack_of stack.old.items) at (behind file tokens.now i)) stack.new.items result }
 {
     let Some(inside) = behind_mark(tokens, file, i, Punctuation::OpenRound) else {
         return Err(Stop::Refused(i));

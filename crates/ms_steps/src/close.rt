@@ -1,11 +1,10 @@
-ghost use Rattle.std.specs.Prelude.{ℕ, List, suc, IfErr, ◌-◌};
+ghost use Rattle.std.specs.Prelude.{ℕ, List, suc, ◌-◌};
 ghost use Rattle.ms_text.specs.TokenList.{Lexed};
 ghost use Rattle.ms_grammar.specs.Grammar.{depth, depth_of_all, greatest_depth};
 ghost use Rattle.ms_grammar.specs.Tree.{and_expression, enclosed, listed};
 ghost use Rattle.ms_grammar.specs.View.{expression_of, expressions_of};
-ghost use Rattle.ms_steps.specs.Faults.{hold_fault};
 ghost use Rattle.ms_steps.specs.Machine.{Context, hold};
-ghost use Rattle.ms_steps.specs.Outcomes.{Took, Says};
+ghost use Rattle.ms_steps.specs.Outcomes.{ActsAs};
 ghost use Rattle.ms_steps.specs.Terminals.{behind};
 ghost use Rattle.ms_steps.specs.Stack.{stack_of};
 ghost use Rattle.ms_steps.specs.declared.frame.Frame.{Frame};
@@ -28,9 +27,8 @@ pub fn end_bracket(
     operand: Operand,
     i: u32,
 ) -> Result<(Outcome, u32), Stop>
-    ensures step { (c : Context) (file : ℕ) (lexed : Lexed) (frames : List Frame) →
-        Took c file lexed (hold greatest_depth c (enclosed at bracket (expression_of operand.expr)) (stack_of frames) (behind file lexed i)) frames result }
-    ensures fault { (file : ℕ) (lexed : Lexed) → IfErr result (Says file lexed (hold_fault greatest_depth (suc (depth (expression_of operand.expr))) (behind file lexed (i - 1)))) }
+    ensures { (c : Context) (file : ℕ) (lexed : Lexed) (frames : List Frame) →
+        ActsAs c file lexed (hold greatest_depth c (enclosed at bracket (expression_of operand.expr)) (stack_of frames) (behind file lexed (i - 1)) (behind file lexed i)) frames result }
 {
     let Operand { expr, height, .. } = operand;
     let form = enclosed(alloc, bracket, expr)?;
@@ -46,9 +44,8 @@ pub fn end_list(
     operand: Operand,
     i: u32,
 ) -> Result<(Outcome, u32), Stop>
-    ensures step { (c : Context) (file : ℕ) (lexed : Lexed) (frames : List Frame) →
-        Took c file lexed (hold greatest_depth c (listed at listing (and_expression (expressions_of operands.list) (expression_of operand.expr))) (stack_of frames) (behind file lexed i)) frames result }
-    ensures fault { (file : ℕ) (lexed : Lexed) → IfErr result (Says file lexed (hold_fault greatest_depth (suc (depth_of_all (and_expression (expressions_of operands.list) (expression_of operand.expr)))) (behind file lexed (i - 1)))) }
+    ensures { (c : Context) (file : ℕ) (lexed : Lexed) (frames : List Frame) →
+        ActsAs c file lexed (hold greatest_depth c (listed at listing (and_expression (expressions_of operands.list) (expression_of operand.expr))) (stack_of frames) (behind file lexed (i - 1)) (behind file lexed i)) frames result }
 {
     let Operands { list, height } = with_expression(operands, operand)?;
     let made = finish(at, listed(listing, list), height, i.saturating_sub(1))?;

@@ -1,12 +1,10 @@
-ghost use Rattle.std.specs.Prelude.{◌≡◌, [], ℕ, Bool, List, IfErr, ◌-◌};
+ghost use Rattle.std.specs.Prelude.{◌≡◌, [], ℕ, Bool, List, ◌-◌};
 ghost use Rattle.ms_grammar.specs.Grammar.{greatest_depth};
 ghost use Rattle.ms_grammar.specs.View.{expression_of};
 ghost use Rattle.ms_steps.specs.Ends.{IsEnd};
-ghost use Rattle.ms_steps.specs.Faults.{settle_fault};
 ghost use Rattle.ms_steps.specs.Machine.{settle};
-ghost use Rattle.ms_steps.specs.Outcomes.{Says};
 ghost use Rattle.ms_steps.specs.Terminals.{behind, symbol_with};
-ghost use Rattle.ms_steps.specs.States.{Stepped, context_of, read_of};
+ghost use Rattle.ms_steps.specs.States.{StepsAs, context_of, read_of};
 
 use crate::frame::Frame;
 use crate::globals::end_global;
@@ -83,9 +81,8 @@ impl Context {
         terminal: Terminal,
         i: u32,
     ) -> Result<(State, u32), Stop>
-        ensures step { (bytes : List ℕ) (inside : Bool) → IsEnd inside (symbol_with terminal bytes) →
-            Stepped file tokens.now (settle greatest_depth (context_of (read_of made.old) self) (symbol_with terminal bytes) inside (expression_of operand.expr, []) (behind file tokens.now i)) made.new stack.new.items result }
-        ensures fault { (bytes : List ℕ) (inside : Bool) → IsEnd inside (symbol_with terminal bytes) → IfErr result (Says file tokens.now (settle_fault greatest_depth (context_of (read_of made.old) self) (symbol_with terminal bytes) inside ((expression_of operand.expr), []) (behind file tokens.now (i - 1)) (behind file tokens.now i))) }
+        ensures { (bytes : List ℕ) (inside : Bool) → IsEnd inside (symbol_with terminal bytes) →
+            StepsAs file tokens.now (settle greatest_depth (context_of (read_of made.old) self) (symbol_with terminal bytes) inside (expression_of operand.expr, []) (behind file tokens.now (i - 1)) (behind file tokens.now i)) made.new stack.new.items result }
     {
         match self {
             Context::Formula(at) => end_formula(made, at, operand, terminal, i),

@@ -1,17 +1,12 @@
-ghost use Rattle.std.specs.Prelude.{◌≡◌, ◌∷◌, [], ℕ, List, Some, IfErr};
+ghost use Rattle.std.specs.Prelude.{◌≡◌, ◌∷◌, [], ℕ, List};
 ghost use Rattle.ms_text.specs.TokenList.{Lexed};
-ghost use Rattle.ms_grammar.specs.Symbol.{name, placed};
 ghost use Rattle.ms_grammar.specs.Tree.{no_variables};
-ghost use Rattle.ms_steps.specs.Machine as machine;
-ghost use Rattle.ms_steps.specs.Machine.{begin_constant, begin_default, begin_include, begin_predicate, global_wanted, in_formula, next_summand, outside, step, wanted};
+ghost use Rattle.ms_steps.specs.Machine.{begin_constant, begin_default, begin_include, behind_predicate, begin_predicate, global_wanted, in_formula, next_summand, outside, step, wanted, took};
 ghost use Rattle.ms_steps.specs.Terminals.{behind};
-ghost use Rattle.ms_steps.specs.States.{Stepped, read_of};
+ghost use Rattle.ms_steps.specs.States.{StepsAs, read_of};
 ghost use Rattle.ms_steps.specs.declared.frame.Frame.{Frame};
 ghost use Rattle.ms_steps.specs.declared.state.Parsed.{Parsed};
 ghost use Rattle.ms_grammar.specs.Grammar.{greatest_depth};
-ghost use Rattle.ms_steps.specs.Faults.{behind_predicate_fault, constant_fault, default_fault, include_fault, next_summand_fault, predicate_fault, step_fault};
-ghost use Rattle.ms_steps.specs.Outcomes.{Says};
-ghost use Rattle.ms_steps.specs.declared.stop.Stop.TheVariants.{Memory};
 
 use crate::context::{Context, Globals, Signature};
 use crate::declare::{begin_expression, declared, inside};
@@ -38,9 +33,8 @@ fn begin_constant(
     at: At,
     i: u32,
 ) -> Result<(State, u32), Stop>
-    ensures step { (made : Parsed) (frames : List Frame) →
-        Stepped file tokens.now (begin_constant (read_of made) at (behind file tokens.now i)) made frames result }
-    ensures fault { IfErr result (Says file tokens.now (constant_fault (behind file tokens.now i))) }
+    ensures { (made : Parsed) (frames : List Frame) →
+        StepsAs file tokens.now (begin_constant (read_of made) at (behind file tokens.now i)) made frames result }
 {
     let Some((name, at_name)) = name_at(alloc, tokens, file, i)? else {
         return Err(Stop::Refused(i));
@@ -68,9 +62,8 @@ pub fn next_summand(
     mut sum: List<PlacedInt>,
     i: u32,
 ) -> Result<(State, u32), Stop>
-    ensures step { (frames : List Frame) →
-        Stepped file tokens.now (next_summand (read_of made.old) at at_name name sum (behind file tokens.now i)) made.new frames result }
-    ensures fault { IfErr result (Says file tokens.now (next_summand_fault (behind file tokens.now i))) }
+    ensures { (frames : List Frame) →
+        StepsAs file tokens.now (next_summand (read_of made.old) at at_name name sum (behind file tokens.now i)) made.new frames result }
 {
     let Some((terminal, _)) = terminal_at(tokens, file, i) else {
         return Err(Stop::Refused(i));
@@ -97,9 +90,8 @@ fn behind_predicate(
     i: u32,
 ) -> Result<(State, u32), Stop>
     requires { signature.parameters ≡ [] }
-    ensures step { (made : Parsed) →
-        Stepped file tokens.now (begin_predicate (read_of made) signature.at signature.is_pred (placed (name signature.name) signature.at_name ∷ behind file tokens.now i)) made stack.new.items result }
-    ensures fault { IfErr result (Says file tokens.now (behind_predicate_fault (behind file tokens.now i))) }
+    ensures { (made : Parsed) →
+        StepsAs file tokens.now (behind_predicate (read_of made) signature.at signature.is_pred signature.at_name signature.name (behind file tokens.now i)) made stack.new.items result }
 {
     if let Some(next) = behind_mark(tokens, file, i, Punctuation::Equal) {
         return begin_expression(stack, Context::Predicate(signature), next);
@@ -123,9 +115,8 @@ fn begin_predicate(
     is_pred: bool,
     i: u32,
 ) -> Result<(State, u32), Stop>
-    ensures step { (made : Parsed) →
-        Stepped file tokens.now (begin_predicate (read_of made) at is_pred (behind file tokens.now i)) made stack.new.items result }
-    ensures fault { IfErr result (Says file tokens.now (predicate_fault (behind file tokens.now i))) }
+    ensures { (made : Parsed) →
+        StepsAs file tokens.now (begin_predicate (read_of made) at is_pred (behind file tokens.now i)) made stack.new.items result }
 {
     let Some((name, at_name)) = name_at(alloc, tokens, file, i)? else {
         return Err(Stop::Refused(i));
@@ -149,9 +140,8 @@ fn begin_include(
     at: At,
     i: u32,
 ) -> Result<(State, u32), Stop>
-    ensures step { (frames : List Frame) →
-        Stepped file tokens.now (begin_include (read_of made.old) at (behind file tokens.now i)) made.new frames result }
-    ensures fault { IfErr result (Says file tokens.now (include_fault (behind file tokens.now i))) }
+    ensures { (frames : List Frame) →
+        StepsAs file tokens.now (begin_include (read_of made.old) at (behind file tokens.now i)) made.new frames result }
 {
     let Some((text, at_text)) = text_at(alloc, tokens, file, i)? else {
         return Err(Stop::Refused(i));
@@ -172,9 +162,8 @@ fn begin_default(
     order: Order,
     i: u32,
 ) -> Result<(State, u32), Stop>
-    ensures step { (made : Parsed) →
-        Stepped file tokens.now (begin_default (read_of made) at order (behind file tokens.now i)) made stack.new.items result }
-    ensures fault { IfErr result (Says file tokens.now (default_fault (behind file tokens.now i))) }
+    ensures { (made : Parsed) →
+        StepsAs file tokens.now (begin_default (read_of made) at order (behind file tokens.now i)) made stack.new.items result }
 {
     let Some(inside) = behind_mark(tokens, file, i, Punctuation::OpenRound) else {
         return Err(Stop::Refused(i));
@@ -200,9 +189,8 @@ fn begin_formula(
     at: At,
     i: u32,
 ) -> Result<(State, u32), Stop>
-    ensures step { (made : Parsed) →
-        Stepped file tokens.now (step greatest_depth (wanted (in_formula (read_of made) at) []) (behind file tokens.now i)) made stack.new.items result }
-    ensures fault { (c : machine.Context) → IfErr result (Says file tokens.now (step_fault greatest_depth (wanted c []) (behind file tokens.now i))) }
+    ensures { (made : Parsed) →
+        StepsAs file tokens.now (step greatest_depth (wanted (in_formula (read_of made) at) []) (behind file tokens.now i)) made stack.new.items result }
 {
     stack.clear();
     let taken = begin(alloc, tokens, file, stack, i);
@@ -211,9 +199,8 @@ fn begin_formula(
 
 /// `var0`, `var1` or `var2` begins a declaration.
 fn begin_globals(alloc: Global, at: At, order: Order, i: u32) -> Result<(State, u32), Stop>
-    ensures step { (file : ℕ) (lexed : Lexed) (made : Parsed) (frames : List Frame) →
-        Stepped file lexed (Some (global_wanted (read_of made) at order no_variables, behind file lexed i)) made frames result }
-    ensures fault { IfErr result (λ stop. stop ≡ Memory) }
+    ensures { (file : ℕ) (lexed : Lexed) (made : Parsed) (frames : List Frame) →
+        StepsAs file lexed (took (global_wanted (read_of made) at order no_variables) (behind file lexed i)) made frames result }
 {
     let list = List::new(alloc);
     Ok((State::Global(Globals { at, order, list }), i))
@@ -228,8 +215,7 @@ pub fn begin_declaration(
     stack: &mut Vec<Frame>,
     i: u32,
 ) -> Result<(State, u32), Stop>
-    ensures step { Stepped file tokens.now (step greatest_depth (outside (read_of made.old)) (behind file tokens.now i)) made.new stack.new.items result }
-    ensures fault { IfErr result (Says file tokens.now (step_fault greatest_depth (outside (read_of made.old)) (behind file tokens.now i))) }
+    ensures { StepsAs file tokens.now (step greatest_depth (outside (read_of made.old)) (behind file tokens.now i)) made.new stack.new.items result }
 {
     let Some((terminal, at)) = terminal_at(tokens, file, i) else {
         return Err(Stop::Refused(i));

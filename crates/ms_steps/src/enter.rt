@@ -1,10 +1,9 @@
-ghost use Rattle.std.specs.Prelude.{◌≡◌, ◌≤◌, ◌<◌, ◌+◌, ℕ, suc, false, List, length, vec_len, IfErr, IsTrue};
+ghost use Rattle.std.specs.Prelude.{◌≡◌, ◌≤◌, ◌<◌, ◌+◌, ℕ, suc, false, List, length, vec_len, IsTrue};
 ghost use Rattle.ms_text.specs.TokenList.{Lexed};
-ghost use Rattle.ms_steps.specs.Faults.{Fault, enter_fault, inside_fault, starter};
-ghost use Rattle.ms_steps.specs.Machine.{Context, enter, frame_depth};
+ghost use Rattle.ms_steps.specs.Machine.{Context, Step, enter, starter, unopened};
 ghost use Rattle.ms_grammar.specs.Grammar.{level, greatest_depth};
 ghost use Rattle.ms_steps.specs.Opened.{frame_of};
-ghost use Rattle.ms_steps.specs.Outcomes.{Says, Took};
+ghost use Rattle.ms_steps.specs.Outcomes.{StopsAs, ActsAs};
 ghost use Rattle.ms_steps.specs.Terminals.{symbol_with, behind};
 ghost use Rattle.ms_steps.specs.Stack.{stack_of};
 ghost use Rattle.ms_grammar.specs.View.{expression_of};
@@ -52,7 +51,7 @@ fn may_begin(terminal: Terminal) -> bool
 
 /// Why the first token in a list cannot stand there, where the depth leaves no room for an expression.
 pub fn stop_inside(tokens: &Tokens, file: u32, i: u32) -> Stop
-    ensures { Says file tokens.now (inside_fault (behind file tokens.now i)) result }
+    ensures { StopsAs file tokens.now (unopened (behind file tokens.now i)) result }
 {
     let Some((terminal, _)) = terminal_at(tokens, file, i) else {
         return Stop::Refused(i);
@@ -70,10 +69,8 @@ pub fn enter(
     i: u32,
     otherwise: Stop,
 ) -> Result<(Outcome, u32), Stop>
-    ensures step { (c : Context) (file : ℕ) (lexed : Lexed) →
-        Took c file lexed (enter greatest_depth c (frame_of frame.opened) (stack_of stack.old.items) (behind file lexed i)) stack.new.items result }
-    ensures fault { (file : ℕ) (lexed : Lexed) (fault : Fault) → Says file lexed fault otherwise →
-        IfErr result (Says file lexed (enter_fault greatest_depth (frame_depth (frame_of frame.opened)) (stack_of stack.old.items) fault)) }
+    ensures { (c : Context) (file : ℕ) (lexed : Lexed) (stuck : Step) → StopsAs file lexed stuck otherwise →
+        ActsAs c file lexed (enter greatest_depth c (frame_of frame.opened) (stack_of stack.old.items) stuck (behind file lexed i)) stack.new.items result }
 {
     if !has_room(stack) {
         return Err(otherwise);

@@ -1,8 +1,8 @@
-ghost use Rattle.std.specs.Prelude.{◌≡◌, ◌≢◌, ◌≤◌, ℕ, List, Some, IfErr, ◌-◌};
+ghost use Rattle.std.specs.Prelude.{◌≡◌, ◌≢◌, ◌≤◌, ℕ, List, ◌-◌};
 ghost use Rattle.ms_text.specs.TokenList.{Lexed};
 ghost use Rattle.ms_grammar.specs.Grammar.{depth, prefix_level, greatest_depth};
-ghost use Rattle.ms_steps.specs.Machine.{Context, wanted, holding, begin, step};
-ghost use Rattle.ms_steps.specs.Outcomes.{Took, Says};
+ghost use Rattle.ms_steps.specs.Machine.{Context, wanted, holding, begin, step, took};
+ghost use Rattle.ms_steps.specs.Outcomes.{ActsAs};
 ghost use Rattle.ms_grammar.specs.Reads.{place};
 ghost use Rattle.ms_steps.specs.Terminals.{symbol_with, behind};
 ghost use Rattle.ms_steps.specs.Stack.{stack_of};
@@ -10,8 +10,6 @@ ghost use Rattle.ms_grammar.specs.Symbol.{prefix_operator, quantifier, let_word,
 ghost use Rattle.ms_grammar.specs.View.{form_of};
 ghost use Rattle.ms_steps.specs.declared.frame.Frame.{Frame};
 ghost use Rattle.ms_steps.specs.declared.terminal.Terminal.TheVariants as terminals;
-ghost use Rattle.ms_steps.specs.Faults.{begin_fault, step_fault};
-ghost use Rattle.ms_steps.specs.declared.stop.Stop.TheVariants.{Memory};
 
 use crate::begin::{
     begin_empty, begin_export, begin_import, begin_literal, begin_name, begin_pconst,
@@ -36,18 +34,16 @@ use std::alloc::Global;
 fn begin_atom(at: At, form: Form, i: u32) -> Result<(Outcome, u32), Stop>
     requires measured { depth (form_of form at) ≡ 1 }
     requires begins { place (form_of form at) ≡ at }
-    ensures step { (c : Context) (file : ℕ) (lexed : Lexed) (frames : List Frame) →
-        Took c file lexed (Some (holding c (form_of form at) (stack_of frames), behind file lexed i)) frames result }
-    ensures fault { IfErr result (λ stop. stop ≡ Memory) }
+    ensures { (c : Context) (file : ℕ) (lexed : Lexed) (frames : List Frame) →
+        ActsAs c file lexed (took (holding c (form_of form at) (stack_of frames)) (behind file lexed i)) frames result }
 {
     let operand = finish(at, form, 0, i)?;
     Ok((Outcome::Holding(operand), i))
 }
 
 fn begin_bracket(stack: &mut Vec<Frame>, at: At, i: u32) -> Result<(Outcome, u32), Stop>
-    ensures step { (c : Context) (file : ℕ) (lexed : Lexed) →
-        Took c file lexed (begin greatest_depth c (stack_of stack.old.items) at open_round (behind file lexed i)) stack.new.items result }
-    ensures fault { (file : ℕ) (lexed : Lexed) → IfErr result (Says file lexed (begin_fault greatest_depth (stack_of stack.old.items) open_round (behind file lexed (i - 1)) (behind file lexed i))) }
+    ensures { (c : Context) (file : ℕ) (lexed : Lexed) →
+        ActsAs c file lexed (begin greatest_depth c (stack_of stack.old.items) at open_round (behind file lexed (i - 1)) (behind file lexed i)) stack.new.items result }
 {
     let opened = Opened::Bracket(at, Bracket::Parentheses);
     enter(
@@ -69,9 +65,8 @@ fn level_of(op: Prefix) -> u32
 }
 
 fn begin_prefix(stack: &mut Vec<Frame>, at: At, op: Prefix, i: u32) -> Result<(Outcome, u32), Stop>
-    ensures step { (c : Context) (file : ℕ) (lexed : Lexed) →
-        Took c file lexed (begin greatest_depth c (stack_of stack.old.items) at (prefix_operator op) (behind file lexed i)) stack.new.items result }
-    ensures fault { (file : ℕ) (lexed : Lexed) → IfErr result (Says file lexed (begin_fault greatest_depth (stack_of stack.old.items) (prefix_operator op) (behind file lexed (i - 1)) (behind file lexed i))) }
+    ensures { (c : Context) (file : ℕ) (lexed : Lexed) →
+        ActsAs c file lexed (begin greatest_depth c (stack_of stack.old.items) at (prefix_operator op) (behind file lexed (i - 1)) (behind file lexed i)) stack.new.items result }
 {
     if need(stack) > level_of(op) {
         return Err(Stop::Refused(i.saturating_sub(1)));
@@ -93,9 +88,8 @@ fn begin_quantifier(
     order: Order,
     i: u32,
 ) -> Result<(Outcome, u32), Stop>
-    ensures step { (c : Context) (file : ℕ) (lexed : Lexed) →
-        Took c file lexed (begin greatest_depth c (stack_of stack.now) at (quantifier quant order) (behind file lexed i)) stack.now result }
-    ensures fault { (file : ℕ) (lexed : Lexed) → IfErr result (Says file lexed (begin_fault greatest_depth (stack_of stack.now) (quantifier quant order) (behind file lexed (i - 1)) (behind file lexed i))) }
+    ensures { (c : Context) (file : ℕ) (lexed : Lexed) →
+        ActsAs c file lexed (begin greatest_depth c (stack_of stack.now) at (quantifier quant order) (behind file lexed (i - 1)) (behind file lexed i)) stack.now result }
 {
     if need(stack) > 4 {
         return Err(Stop::Refused(i.saturating_sub(1)));
@@ -117,9 +111,8 @@ fn begin_let(
     order: Order,
     i: u32,
 ) -> Result<(Outcome, u32), Stop>
-    ensures step { (c : Context) (file : ℕ) (lexed : Lexed) →
-        Took c file lexed (begin greatest_depth c (stack_of stack.now) at (let_word order) (behind file lexed i)) stack.now result }
-    ensures fault { (file : ℕ) (lexed : Lexed) → IfErr result (Says file lexed (begin_fault greatest_depth (stack_of stack.now) (let_word order) (behind file lexed (i - 1)) (behind file lexed i))) }
+    ensures { (c : Context) (file : ℕ) (lexed : Lexed) →
+        ActsAs c file lexed (begin greatest_depth c (stack_of stack.now) at (let_word order) (behind file lexed (i - 1)) (behind file lexed i)) stack.now result }
 {
     if need(stack) > 4 {
         return Err(Stop::Refused(i.saturating_sub(1)));
@@ -144,9 +137,8 @@ fn begin_terminal(
     terminal: Terminal,
     i: u32,
 ) -> Result<(Outcome, u32), Stop>
-    ensures step { (c : Context) (bytes : List ℕ) → terminal ≢ terminals.Name →
-        Took c file tokens.now (begin greatest_depth c (stack_of stack.old.items) at (symbol_with terminal bytes) (behind file tokens.now i)) stack.new.items result }
-    ensures fault { (bytes : List ℕ) → terminal ≢ terminals.Name → IfErr result (Says file tokens.now (begin_fault greatest_depth (stack_of stack.old.items) (symbol_with terminal bytes) (behind file tokens.now (i - 1)) (behind file tokens.now i))) }
+    ensures { (c : Context) (bytes : List ℕ) → terminal ≢ terminals.Name →
+        ActsAs c file tokens.now (begin greatest_depth c (stack_of stack.old.items) at (symbol_with terminal bytes) (behind file tokens.now (i - 1)) (behind file tokens.now i)) stack.new.items result }
 {
     match terminal {
         Terminal::True => begin_atom(at, Form::True, i),
@@ -175,9 +167,8 @@ pub fn begin(
     stack: &mut Vec<Frame>,
     i: u32,
 ) -> Result<(Outcome, u32), Stop>
-    ensures step { (c : Context) →
-        Took c file tokens.now (step greatest_depth (wanted c (stack_of stack.old.items)) (behind file tokens.now i)) stack.new.items result }
-    ensures fault { (c : Context) → IfErr result (Says file tokens.now (step_fault greatest_depth (wanted c (stack_of stack.old.items)) (behind file tokens.now i))) }
+    ensures { (c : Context) →
+        ActsAs c file tokens.now (step greatest_depth (wanted c (stack_of stack.old.items)) (behind file tokens.now i)) stack.new.items result }
 {
     if let Some((name, at)) = name_at(alloc, tokens, file, i)? {
         return begin_name(alloc, tokens, file, stack, at, name, i + 1);

@@ -1,17 +1,14 @@
-ghost use Rattle.std.specs.Prelude.{◌≡◌, [], ℕ, Bool, List, Some, IfErr, ◌-◌};
+ghost use Rattle.std.specs.Prelude.{◌≡◌, [], ℕ, Bool, List, ◌-◌};
 ghost use Rattle.ms_text.specs.TokenList.{Lexed};
 ghost use Rattle.ms_grammar.specs.Tree.{and_variable, variables};
 ghost use Rattle.ms_grammar.specs.View.{domain_of, expression_of, variables_of};
 ghost use Rattle.ms_steps.specs.Ends.{IsEnd};
-ghost use Rattle.ms_steps.specs.Machine.{behind_global, declare, global_wanted, in_global, next_global, outside, settle};
+ghost use Rattle.ms_steps.specs.Machine.{behind_global, declare, global_wanted, in_global, next_global, outside, settle, took};
 ghost use Rattle.ms_steps.specs.Terminals.{behind, symbol_with};
-ghost use Rattle.ms_steps.specs.States.{Stepped, read_of};
+ghost use Rattle.ms_steps.specs.States.{StepsAs, read_of};
 ghost use Rattle.ms_steps.specs.declared.frame.Frame.{Frame};
 ghost use Rattle.ms_steps.specs.declared.state.Parsed.{Parsed};
 ghost use Rattle.ms_grammar.specs.Grammar.{greatest_depth};
-ghost use Rattle.ms_steps.specs.Faults.{behind_global_fault, next_global_fault, settle_fault};
-ghost use Rattle.ms_steps.specs.Outcomes.{Says};
-ghost use Rattle.ms_steps.specs.declared.stop.Stop.TheVariants.{Memory};
 
 use crate::context::{Context, Globals};
 use crate::declare::{begin_expression, declared};
@@ -36,9 +33,8 @@ fn another_global(
     domain: Option<Boxed<Expr>>,
     i: u32,
 ) -> Result<(State, u32), Stop>
-    ensures step { (file : ℕ) (lexed : Lexed) (made : Parsed) (frames : List Frame) →
-        Stepped file lexed (Some (global_wanted (read_of made) globals.at globals.order (and_variable (variables_of globals.list) at_name globals.order name (domain_of domain)), behind file lexed i)) made frames result }
-    ensures fault { IfErr result (λ stop. stop ≡ Memory) }
+    ensures { (file : ℕ) (lexed : Lexed) (made : Parsed) (frames : List Frame) →
+        StepsAs file lexed (took (global_wanted (read_of made) globals.at globals.order (and_variable (variables_of globals.list) at_name globals.order name (domain_of domain))) (behind file lexed i)) made frames result }
 {
     let Globals {
         at,
@@ -58,9 +54,8 @@ fn last_global(
     domain: Option<Boxed<Expr>>,
     i: u32,
 ) -> Result<(State, u32), Stop>
-    ensures step { (file : ℕ) (lexed : Lexed) (frames : List Frame) →
-        Stepped file lexed (Some (outside (declare (read_of made.old) globals.at (variables (and_variable (variables_of globals.list) at_name globals.order name (domain_of domain)))), behind file lexed i)) made.new frames result }
-    ensures fault { IfErr result (λ stop. stop ≡ Memory) }
+    ensures { (file : ℕ) (lexed : Lexed) (frames : List Frame) →
+        StepsAs file lexed (took (outside (declare (read_of made.old) globals.at (variables (and_variable (variables_of globals.list) at_name globals.order name (domain_of domain))))) (behind file lexed i)) made.new frames result }
 {
     let Globals {
         at,
@@ -81,9 +76,8 @@ fn behind_global(
     terminal: Terminal,
     i: u32,
 ) -> Result<(State, u32), Stop>
-    ensures step { (file : ℕ) (lexed : Lexed) (bytes : List ℕ) →
-        Stepped file lexed (behind_global (read_of made.old) globals.at globals.order (variables_of globals.list) at_name name (symbol_with terminal bytes) (behind file lexed i)) made.new stack.new.items result }
-    ensures fault { (file : ℕ) (lexed : Lexed) (bytes : List ℕ) → IfErr result (Says file lexed (behind_global_fault (symbol_with terminal bytes) (behind file lexed (i - 1)) (behind file lexed i))) }
+    ensures { (file : ℕ) (lexed : Lexed) (bytes : List ℕ) →
+        StepsAs file lexed (behind_global (read_of made.old) globals.at globals.order (variables_of globals.list) at_name name (symbol_with terminal bytes) (behind file lexed (i - 1)) (behind file lexed i)) made.new stack.new.items result }
 {
     match terminal {
         Terminal::Where => begin_expression(stack, Context::Global(globals, at_name, name), i),
@@ -103,8 +97,7 @@ pub fn next_global(
     globals: Globals,
     i: u32,
 ) -> Result<(State, u32), Stop>
-    ensures step { Stepped file tokens.now (next_global (read_of made.old) globals.at globals.order (variables_of globals.list) (behind file tokens.now i)) made.new stack.new.items result }
-    ensures fault { IfErr result (Says file tokens.now (next_global_fault (behind file tokens.now i))) }
+    ensures { StepsAs file tokens.now (next_global (read_of made.old) globals.at globals.order (variables_of globals.list) (behind file tokens.now i)) made.new stack.new.items result }
 {
     let Some((name, at_name)) = name_at(alloc, tokens, file, i)? else {
         return Err(Stop::Refused(i));
@@ -126,9 +119,8 @@ pub fn end_global(
     terminal: Terminal,
     i: u32,
 ) -> Result<(State, u32), Stop>
-    ensures step { (file : ℕ) (lexed : Lexed) (frames : List Frame) (bytes : List ℕ) (inside : Bool) → IsEnd inside (symbol_with terminal bytes) →
-        Stepped file lexed (settle greatest_depth (in_global (read_of made.old) globals.at globals.order (variables_of globals.list) at_name name) (symbol_with terminal bytes) inside (expression_of operand.expr, []) (behind file lexed i)) made.new frames result }
-    ensures fault { (file : ℕ) (lexed : Lexed) (bytes : List ℕ) (inside : Bool) → IsEnd inside (symbol_with terminal bytes) → IfErr result (Says file lexed (settle_fault greatest_depth (in_global (read_of made.old) globals.at globals.order (variables_of globals.list) at_name name) (symbol_with terminal bytes) inside ((expression_of operand.expr), []) (behind file lexed (i - 1)) (behind file lexed i))) }
+    ensures { (file : ℕ) (lexed : Lexed) (frames : List Frame) (bytes : List ℕ) (inside : Bool) → IsEnd inside (symbol_with terminal bytes) →
+        StepsAs file lexed (settle greatest_depth (in_global (read_of made.old) globals.at globals.order (variables_of globals.list) at_name name) (symbol_with terminal bytes) inside (expression_of operand.expr, []) (behind file lexed (i - 1)) (behind file lexed i)) made.new frames result }
 {
     let Operand { expr, .. } = operand;
     let domain = boxed(alloc, expr)?;

@@ -1,17 +1,16 @@
-ghost use Rattle.std.specs.Prelude.{◌≡◌, ◌∷◌, [], ℕ, Bool, List, false, IsTrue, IfErr, ◌-◌};
+ghost use Rattle.std.specs.Prelude.{◌≡◌, ◌∷◌, [], ℕ, Bool, List, false, IsTrue, ◌-◌};
 ghost use Rattle.ms_text.specs.TokenList.{Lexed};
 ghost use Rattle.ms_grammar.specs.View.{expression_of, variables_of};
 ghost use Rattle.ms_steps.specs.Ends.{ends_part, IsEnd, IsOperator};
 ghost use Rattle.ms_steps.specs.Machine as machine;
 ghost use Rattle.ms_steps.specs.Machine.{holding, in_default, in_formula, in_predicate, settle, step};
 ghost use Rattle.ms_steps.specs.Opened.{frame_of};
-ghost use Rattle.ms_steps.specs.Outcomes.{Took, Says};
+ghost use Rattle.ms_steps.specs.Outcomes.{ActsAs};
 ghost use Rattle.ms_steps.specs.Terminals.{behind, symbol_with};
 ghost use Rattle.ms_steps.specs.Stack.{stack_of};
-ghost use Rattle.ms_steps.specs.States.{Stepped, context_of, read_of};
+ghost use Rattle.ms_steps.specs.States.{StepsAs, context_of, read_of};
 ghost use Rattle.ms_steps.specs.declared.frame.Frame.{Frame};
 ghost use Rattle.ms_grammar.specs.Grammar.{greatest_depth};
-ghost use Rattle.ms_steps.specs.Faults.{settle_fault, step_fault};
 ghost use Rattle.ms_grammar.specs.Tree.{Document};
 
 use crate::bound::{bound, ends_part};
@@ -55,9 +54,8 @@ fn settle_operator(
     terminal: Terminal,
     i: u32,
 ) -> Result<(Outcome, u32), Stop>
-    ensures step { (c : machine.Context) (bytes : List ℕ) (inside : Bool) → IsOperator inside (symbol_with terminal bytes) →
-        Took c file tokens.now (settle greatest_depth c (symbol_with terminal bytes) inside (expression_of operand.expr, stack_of stack.old.items) (behind file tokens.now i)) stack.new.items result }
-    ensures fault { (c : machine.Context) (bytes : List ℕ) (inside : Bool) → IsOperator inside (symbol_with terminal bytes) → IfErr result (Says file tokens.now (settle_fault greatest_depth c (symbol_with terminal bytes) inside ((expression_of operand.expr), stack_of stack.old.items) (behind file tokens.now (i - 1)) (behind file tokens.now i))) }
+    ensures { (c : machine.Context) (bytes : List ℕ) (inside : Bool) → IsOperator inside (symbol_with terminal bytes) →
+        ActsAs c file tokens.now (settle greatest_depth c (symbol_with terminal bytes) inside (expression_of operand.expr, stack_of stack.old.items) (behind file tokens.now (i - 1)) (behind file tokens.now i)) stack.new.items result }
 {
     match terminal {
         Terminal::Infix(op) => shift(stack, op, operand, i),
@@ -76,9 +74,8 @@ fn settle_frame(
     terminal: Terminal,
     i: u32,
 ) -> Result<(Outcome, u32), Stop>
-    ensures step { (c : machine.Context) (file : ℕ) (lexed : Lexed) (bytes : List ℕ) (inside : Bool) → IsEnd inside (symbol_with terminal bytes) →
-        Took c file lexed (settle greatest_depth c (symbol_with terminal bytes) inside (expression_of operand.expr, frame_of frame.opened ∷ stack_of stack.old.items) (behind file lexed i)) stack.new.items result }
-    ensures fault { (c : machine.Context) (file : ℕ) (lexed : Lexed) (bytes : List ℕ) (inside : Bool) → IsEnd inside (symbol_with terminal bytes) → IfErr result (Says file lexed (settle_fault greatest_depth c (symbol_with terminal bytes) inside ((expression_of operand.expr), frame_of frame.opened ∷ stack_of stack.old.items) (behind file lexed (i - 1)) (behind file lexed i))) }
+    ensures { (c : machine.Context) (file : ℕ) (lexed : Lexed) (bytes : List ℕ) (inside : Bool) → IsEnd inside (symbol_with terminal bytes) →
+        ActsAs c file lexed (settle greatest_depth c (symbol_with terminal bytes) inside (expression_of operand.expr, frame_of frame.opened ∷ stack_of stack.old.items) (behind file lexed (i - 1)) (behind file lexed i)) stack.new.items result }
 {
     let row = row_of(frame);
     match terminal {
@@ -99,9 +96,8 @@ pub fn end_formula(
     terminal: Terminal,
     i: u32,
 ) -> Result<(State, u32), Stop>
-    ensures step { (file : ℕ) (lexed : Lexed) (frames : List Frame) (bytes : List ℕ) (inside : Bool) → IsEnd inside (symbol_with terminal bytes) →
-        Stepped file lexed (settle greatest_depth (in_formula (read_of made.old) at) (symbol_with terminal bytes) inside (expression_of operand.expr, []) (behind file lexed i)) made.new frames result }
-    ensures fault { (d : Document) (file : ℕ) (lexed : Lexed) (bytes : List ℕ) (inside : Bool) → IsEnd inside (symbol_with terminal bytes) → IfErr result (Says file lexed (settle_fault greatest_depth (in_formula d at) (symbol_with terminal bytes) inside ((expression_of operand.expr), []) (behind file lexed (i - 1)) (behind file lexed i))) }
+    ensures { (file : ℕ) (lexed : Lexed) (frames : List Frame) (bytes : List ℕ) (inside : Bool) → IsEnd inside (symbol_with terminal bytes) →
+        StepsAs file lexed (settle greatest_depth (in_formula (read_of made.old) at) (symbol_with terminal bytes) inside (expression_of operand.expr, []) (behind file lexed (i - 1)) (behind file lexed i)) made.new frames result }
 {
     let Operand { expr, .. } = operand;
     match terminal {
@@ -118,9 +114,8 @@ pub fn end_predicate(
     terminal: Terminal,
     i: u32,
 ) -> Result<(State, u32), Stop>
-    ensures step { (file : ℕ) (lexed : Lexed) (frames : List Frame) (bytes : List ℕ) (inside : Bool) → IsEnd inside (symbol_with terminal bytes) →
-        Stepped file lexed (settle greatest_depth (in_predicate (read_of made.old) signature.at signature.is_pred signature.at_name signature.name (variables_of signature.parameters)) (symbol_with terminal bytes) inside (expression_of operand.expr, []) (behind file lexed i)) made.new frames result }
-    ensures fault { (d : Document) (file : ℕ) (lexed : Lexed) (bytes : List ℕ) (inside : Bool) → IsEnd inside (symbol_with terminal bytes) → IfErr result (Says file lexed (settle_fault greatest_depth (in_predicate d signature.at signature.is_pred signature.at_name signature.name (variables_of signature.parameters)) (symbol_with terminal bytes) inside ((expression_of operand.expr), []) (behind file lexed (i - 1)) (behind file lexed i))) }
+    ensures { (file : ℕ) (lexed : Lexed) (frames : List Frame) (bytes : List ℕ) (inside : Bool) → IsEnd inside (symbol_with terminal bytes) →
+        StepsAs file lexed (settle greatest_depth (in_predicate (read_of made.old) signature.at signature.is_pred signature.at_name signature.name (variables_of signature.parameters)) (symbol_with terminal bytes) inside (expression_of operand.expr, []) (behind file lexed (i - 1)) (behind file lexed i)) made.new frames result }
 {
     let Signature {
         at,
@@ -149,9 +144,8 @@ pub fn end_default(
     terminal: Terminal,
     i: u32,
 ) -> Result<(State, u32), Stop>
-    ensures step { (file : ℕ) (lexed : Lexed) (frames : List Frame) (bytes : List ℕ) (inside : Bool) → IsEnd inside (symbol_with terminal bytes) →
-        Stepped file lexed (settle greatest_depth (in_default (read_of made.old) at order name) (symbol_with terminal bytes) inside (expression_of operand.expr, []) (behind file lexed i)) made.new frames result }
-    ensures fault { (d : Document) (file : ℕ) (lexed : Lexed) (bytes : List ℕ) (inside : Bool) → IsEnd inside (symbol_with terminal bytes) → IfErr result (Says file lexed (settle_fault greatest_depth (in_default d at order name) (symbol_with terminal bytes) inside ((expression_of operand.expr), []) (behind file lexed (i - 1)) (behind file lexed i))) }
+    ensures { (file : ℕ) (lexed : Lexed) (frames : List Frame) (bytes : List ℕ) (inside : Bool) → IsEnd inside (symbol_with terminal bytes) →
+        StepsAs file lexed (settle greatest_depth (in_default (read_of made.old) at order name) (symbol_with terminal bytes) inside (expression_of operand.expr, []) (behind file lexed (i - 1)) (behind file lexed i)) made.new frames result }
 {
     let Operand { expr, .. } = operand;
     match terminal {
@@ -173,9 +167,8 @@ fn settle(
     is_end: bool,
     i: u32,
 ) -> Result<(State, u32), Stop>
-    ensures step { (bytes : List ℕ) (inside : Bool) → is_end ≡ ends_part inside (symbol_with terminal bytes) →
-        Stepped file tokens.now (settle greatest_depth (context_of (read_of made.old) context) (symbol_with terminal bytes) inside (expression_of operand.expr, stack_of stack.old.items) (behind file tokens.now i)) made.new stack.new.items result }
-    ensures fault { (bytes : List ℕ) (inside : Bool) → is_end ≡ ends_part inside (symbol_with terminal bytes) → IfErr result (Says file tokens.now (settle_fault greatest_depth (context_of (read_of made.old) context) (symbol_with terminal bytes) inside ((expression_of operand.expr), stack_of stack.old.items) (behind file tokens.now (i - 1)) (behind file tokens.now i))) }
+    ensures { (bytes : List ℕ) (inside : Bool) → is_end ≡ ends_part inside (symbol_with terminal bytes) →
+        StepsAs file tokens.now (settle greatest_depth (context_of (read_of made.old) context) (symbol_with terminal bytes) inside (expression_of operand.expr, stack_of stack.old.items) (behind file tokens.now (i - 1)) (behind file tokens.now i)) made.new stack.new.items result }
 {
     if is_operator(terminal, is_end) {
         let taken = settle_operator(alloc, tokens, file, stack, operand, terminal, i);
@@ -201,8 +194,7 @@ pub fn go_on(
     operand: Operand,
     i: u32,
 ) -> Result<(State, u32), Stop>
-    ensures step { Stepped file tokens.now (step greatest_depth (holding (context_of (read_of made.old) context) (expression_of operand.expr) (stack_of stack.old.items)) (behind file tokens.now i)) made.new stack.new.items result }
-    ensures fault { IfErr result (Says file tokens.now (step_fault greatest_depth (holding (context_of (read_of made.old) context) (expression_of operand.expr) (stack_of stack.old.items)) (behind file tokens.now i))) }
+    ensures { StepsAs file tokens.now (step greatest_depth (holding (context_of (read_of made.old) context) (expression_of operand.expr) (stack_of stack.old.items)) (behind file tokens.now i)) made.new stack.new.items result }
 {
     let Some((terminal, _)) = terminal_at(tokens, file, i) else {
         return Err(Stop::Refused(i));

@@ -1,15 +1,14 @@
-ghost use Rattle.std.specs.Prelude.{◌≡◌, ℕ, IfErr, ◌-◌};
+ghost use Rattle.std.specs.Prelude.{◌≡◌, ℕ, ◌-◌};
 ghost use Rattle.ms_text.specs.TokenList.{Lexed};
 ghost use Rattle.ms_grammar.specs.Tree.{and_expression};
 ghost use Rattle.ms_grammar.specs.View.{expression_of, expressions_of};
 ghost use Rattle.ms_steps.specs.Links.{IsLink};
-ghost use Rattle.ms_steps.specs.Machine.{Context, enter, join, joined_frame};
+ghost use Rattle.ms_steps.specs.Machine.{Context, enter, join, joined_frame, too_deep};
 ghost use Rattle.ms_steps.specs.Opened.{frame_of};
-ghost use Rattle.ms_steps.specs.Outcomes.{Took, Says};
+ghost use Rattle.ms_steps.specs.Outcomes.{ActsAs};
 ghost use Rattle.ms_steps.specs.Terminals.{behind};
 ghost use Rattle.ms_steps.specs.Stack.{stack_of};
 ghost use Rattle.ms_grammar.specs.Grammar.{greatest_depth, depth_of_all};
-ghost use Rattle.ms_steps.specs.Faults.{deep_at, enter_fault, join_fault};
 
 use crate::append::with_expression;
 use crate::enter::enter;
@@ -48,9 +47,8 @@ fn join_further(
     operand: Operand,
     i: u32,
 ) -> Result<(Outcome, u32), Stop>
-    ensures step { (c : Context) (file : ℕ) (lexed : Lexed) →
-        Took c file lexed (enter greatest_depth c (joined_frame at op (and_expression (expressions_of operands.list) (expression_of operand.expr))) (stack_of stack.old.items) (behind file lexed i)) stack.new.items result }
-    ensures fault { (file : ℕ) (lexed : Lexed) → IfErr result (Says file lexed (enter_fault greatest_depth (depth_of_all (and_expression (expressions_of operands.list) (expression_of operand.expr))) (stack_of stack.old.items) (deep_at (behind file lexed (i - 1))))) }
+    ensures { (c : Context) (file : ℕ) (lexed : Lexed) →
+        ActsAs c file lexed (enter greatest_depth c (joined_frame at op (and_expression (expressions_of operands.list) (expression_of operand.expr))) (stack_of stack.old.items) (too_deep (behind file lexed (i - 1))) (behind file lexed i)) stack.new.items result }
 {
     let Operands { list, height } = with_expression(operands, operand)?;
     let opened = Opened::Joined(at, op, list);
@@ -70,9 +68,8 @@ pub fn join(
     operand: Operand,
     i: u32,
 ) -> Result<(Outcome, u32), Stop>
-    ensures step { (c : Context) (file : ℕ) (lexed : Lexed) →
-        Took c file lexed (join greatest_depth c op (expression_of operand.expr) (stack_of stack.old.items) (behind file lexed i)) stack.new.items result }
-    ensures fault { (file : ℕ) (lexed : Lexed) → IfErr result (Says file lexed (join_fault greatest_depth op (expression_of operand.expr) (stack_of stack.old.items) (behind file lexed (i - 1)))) }
+    ensures { (c : Context) (file : ℕ) (lexed : Lexed) →
+        ActsAs c file lexed (join greatest_depth c op (expression_of operand.expr) (stack_of stack.old.items) (behind file lexed (i - 1)) (behind file lexed i)) stack.new.items result }
 {
     let Some(frame) = pop_frame(stack) else {
         return join_new(alloc, stack, op, operand, i);

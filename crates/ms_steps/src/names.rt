@@ -1,14 +1,13 @@
-ghost use Rattle.std.specs.Prelude.{◌≡◌, ◌≢◌, ◌++◌, ◌∷◌, [], ℕ, List, IfOk, IfErr, ◌-◌};
-ghost use Rattle.ms_steps.specs.Machine.{Context, behind_variable, next_variable, next_part, next_pair};
-ghost use Rattle.ms_steps.specs.Outcomes.{Took, Says};
-ghost use Rattle.ms_steps.specs.Pairs.{IsPair, NoPair};
-ghost use Rattle.ms_steps.specs.declared.stop.Stop.TheVariants.{Memory};
+ghost use Rattle.std.specs.Prelude.{◌≡◌, ◌≢◌, ◌++◌, ◌∷◌, [], ℕ, List, IfOk, ◌-◌};
+ghost use Rattle.ms_steps.specs.Machine.{Context, Step, pair_then, behind_variable, next_variable, next_part, next_pair};
+ghost use Rattle.ms_steps.specs.Outcomes.{Continues, ActsAs};
+ghost use Rattle.ms_logic.specs.declared.source.Rename.{Rename};
+ghost use Rattle.ms_grammar.specs.Symbol.{Placed};
 ghost use Rattle.ms_steps.specs.Terminals.{symbol_with, behind};
 ghost use Rattle.ms_steps.specs.Stack.{stack_of};
 ghost use Rattle.ms_grammar.specs.View.{variables_of, parts_of};
 ghost use Rattle.ms_text.specs.TokenList.{Lexed};
 ghost use Rattle.ms_grammar.specs.Grammar.{greatest_depth};
-ghost use Rattle.ms_steps.specs.Faults.{behind_variable_fault, next_pair_fault, next_part_fault, next_variable_fault, pair_fault};
 
 use crate::complete::finish;
 use crate::enter::enter;
@@ -38,9 +37,8 @@ pub fn next_part(
     parts: Parts,
     i: u32,
 ) -> Result<(Outcome, u32), Stop>
-    ensures step { (c : Context) →
-        Took c file tokens.now (next_part greatest_depth c (stack_of stack.old.items) at order (parts_of parts.list) (behind file tokens.now i)) stack.new.items result }
-    ensures fault { IfErr result (Says file tokens.now (next_part_fault greatest_depth (stack_of stack.old.items) (parts_of parts.list) (behind file tokens.now i))) }
+    ensures { (c : Context) →
+        ActsAs c file tokens.now (next_part greatest_depth c (stack_of stack.old.items) at order (parts_of parts.list) (behind file tokens.now i)) stack.new.items result }
 {
     let Some((name, at_name)) = name_at(alloc, tokens, file, i)? else {
         return Err(Stop::Refused(i));
@@ -58,9 +56,7 @@ pub fn next_part(
 
 /// A pair of an import behind its comma, and the number behind it.
 fn pair_at(alloc: Global, tokens: &Tokens, file: u32, i: u32) -> Result<(Rename, u32), Stop>
-    ensures next { IfOk result (λ found. IsPair found.0 (behind file tokens.now i) (behind file tokens.now found.1)) }
-    ensures none { IfErr result (λ stop. stop ≢ Memory → NoPair (behind file tokens.now i)) }
-    ensures fault { IfErr result (Says file tokens.now (pair_fault (behind file tokens.now i))) }
+    ensures { (further : Rename → List Placed → Step) → Continues file tokens.now (pair_then further (behind file tokens.now i)) further result }
 {
     let Some((left, at)) = name_at(alloc, tokens, file, i)? else {
         return Err(Stop::Refused(i));
@@ -91,9 +87,8 @@ pub fn next_pair(
     mut pairs: List<Rename>,
     i: u32,
 ) -> Result<(Outcome, u32), Stop>
-    ensures step { (c : Context) →
-        Took c file tokens.now (next_pair c (stack_of stack.old.items) at text pairs (behind file tokens.now i)) stack.new.items result }
-    ensures fault { IfErr result (Says file tokens.now (next_pair_fault (behind file tokens.now i))) }
+    ensures { (c : Context) →
+        ActsAs c file tokens.now (next_pair c (stack_of stack.old.items) at text pairs (behind file tokens.now i)) stack.new.items result }
 {
     if let Some(next) = behind_mark(tokens, file, i, Punctuation::CloseRound) {
         let operand = finish(at, Form::Import(text, pairs), 0, i)?;
@@ -119,9 +114,8 @@ fn behind_variable(
     terminal: Terminal,
     i: u32,
 ) -> Result<(Outcome, u32), Stop>
-    ensures step { (c : Context) (file : ℕ) (lexed : Lexed) (bytes : List ℕ) →
-        Took c file lexed (behind_variable greatest_depth c (stack_of stack.old.items) at quant order (variables_of bounds.list) at_name name (symbol_with terminal bytes) (behind file lexed i)) stack.new.items result }
-    ensures fault { (file : ℕ) (lexed : Lexed) (bytes : List ℕ) → IfErr result (Says file lexed (behind_variable_fault greatest_depth (stack_of stack.old.items) (variables_of bounds.list) (symbol_with terminal bytes) (behind file lexed (i - 1)) (behind file lexed i))) }
+    ensures { (c : Context) (file : ℕ) (lexed : Lexed) (bytes : List ℕ) →
+        ActsAs c file lexed (behind_variable greatest_depth c (stack_of stack.old.items) at quant order (variables_of bounds.list) at_name name (symbol_with terminal bytes) (behind file lexed (i - 1)) (behind file lexed i)) stack.new.items result }
 {
     let Bounds { mut list, height } = bounds;
     match terminal {
@@ -167,9 +161,8 @@ pub fn next_variable(
     bounds: Bounds,
     i: u32,
 ) -> Result<(Outcome, u32), Stop>
-    ensures step { (c : Context) →
-        Took c file tokens.now (next_variable greatest_depth c (stack_of stack.old.items) at quant order (variables_of bounds.list) (behind file tokens.now i)) stack.new.items result }
-    ensures fault { IfErr result (Says file tokens.now (next_variable_fault greatest_depth (stack_of stack.old.items) (variables_of bounds.list) (behind file tokens.now i))) }
+    ensures { (c : Context) →
+        ActsAs c file tokens.now (next_variable greatest_depth c (stack_of stack.old.items) at quant order (variables_of bounds.list) (behind file tokens.now i)) stack.new.items result }
 {
     let Some((name, at_name)) = name_at(alloc, tokens, file, i)? else {
         return Err(Stop::Refused(i));

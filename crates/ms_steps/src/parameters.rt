@@ -1,18 +1,15 @@
-ghost use Rattle.std.specs.Prelude.{◌≡◌, [], ℕ, Bool, List, Option, Some, IfSome, IfNone, IfErr, ◌-◌};
+ghost use Rattle.std.specs.Prelude.{◌≡◌, [], ℕ, Bool, List, Option, IfSome, IfNone, ◌-◌};
 ghost use Rattle.ms_text.specs.TokenList.{Lexed};
 ghost use Rattle.ms_grammar.specs.Tree.{and_variable};
 ghost use Rattle.ms_grammar.specs.View.{domain_of, expression_of, variables_of};
 ghost use Rattle.ms_steps.specs.Ends.{IsEnd};
 ghost use Rattle.ms_steps.specs.Kinds.{last_order, IsKind, NoKind};
-ghost use Rattle.ms_steps.specs.Machine.{behind_parameter, body_of, in_parameter, next_parameter, parameter_wanted, settle};
+ghost use Rattle.ms_steps.specs.Machine.{behind_parameter, body_of, in_parameter, next_parameter, parameter_wanted, settle, took};
 ghost use Rattle.ms_steps.specs.Terminals.{behind, symbol_with};
-ghost use Rattle.ms_steps.specs.States.{Stepped, read_of};
+ghost use Rattle.ms_steps.specs.States.{StepsAs, read_of};
 ghost use Rattle.ms_steps.specs.declared.frame.Frame.{Frame};
 ghost use Rattle.ms_steps.specs.declared.state.Parsed.{Parsed};
 ghost use Rattle.ms_grammar.specs.Grammar.{greatest_depth};
-ghost use Rattle.ms_steps.specs.Faults.{behind_parameter_fault, body_fault, next_parameter_fault, settle_fault};
-ghost use Rattle.ms_steps.specs.Outcomes.{Says};
-ghost use Rattle.ms_steps.specs.declared.stop.Stop.TheVariants.{Memory};
 
 use crate::context::{Context, Signature};
 use crate::declare::begin_expression;
@@ -38,9 +35,8 @@ pub fn body_of(
     signature: Signature,
     i: u32,
 ) -> Result<(State, u32), Stop>
-    ensures step { (made : Parsed) →
-        Stepped file tokens.now (body_of (read_of made) signature.at signature.is_pred signature.at_name signature.name (variables_of signature.parameters) (behind file tokens.now i)) made stack.new.items result }
-    ensures fault { IfErr result (Says file tokens.now (body_fault (behind file tokens.now i))) }
+    ensures { (made : Parsed) →
+        StepsAs file tokens.now (body_of (read_of made) signature.at signature.is_pred signature.at_name signature.name (variables_of signature.parameters) (behind file tokens.now i)) made stack.new.items result }
 {
     let Some(next) = behind_mark(tokens, file, i, Punctuation::Equal) else {
         return Err(Stop::Refused(i));
@@ -57,9 +53,8 @@ fn another_parameter(
     domain: Option<Boxed<Expr>>,
     i: u32,
 ) -> Result<(State, u32), Stop>
-    ensures step { (file : ℕ) (lexed : Lexed) (made : Parsed) (frames : List Frame) →
-        Stepped file lexed (Some (parameter_wanted (read_of made) signature.at signature.is_pred signature.at_name signature.name (and_variable (variables_of signature.parameters) at_name order name (domain_of domain)), behind file lexed i)) made frames result }
-    ensures fault { IfErr result (λ stop. stop ≡ Memory) }
+    ensures { (file : ℕ) (lexed : Lexed) (made : Parsed) (frames : List Frame) →
+        StepsAs file lexed (took (parameter_wanted (read_of made) signature.at signature.is_pred signature.at_name signature.name (and_variable (variables_of signature.parameters) at_name order name (domain_of domain))) (behind file lexed i)) made frames result }
 {
     let mut signature = signature;
     push_variable(&mut signature.parameters, at_name, order, name, domain)?;
@@ -78,9 +73,8 @@ fn last_parameter(
     domain: Option<Boxed<Expr>>,
     i: u32,
 ) -> Result<(State, u32), Stop>
-    ensures step { (made : Parsed) →
-        Stepped file tokens.now (body_of (read_of made) signature.at signature.is_pred signature.at_name signature.name (and_variable (variables_of signature.parameters) at_name order name (domain_of domain)) (behind file tokens.now i)) made stack.new.items result }
-    ensures fault { IfErr result (Says file tokens.now (body_fault (behind file tokens.now i))) }
+    ensures { (made : Parsed) →
+        StepsAs file tokens.now (body_of (read_of made) signature.at signature.is_pred signature.at_name signature.name (and_variable (variables_of signature.parameters) at_name order name (domain_of domain)) (behind file tokens.now i)) made stack.new.items result }
 {
     let mut signature = signature;
     push_variable(&mut signature.parameters, at_name, order, name, domain)?;
@@ -99,9 +93,8 @@ fn behind_parameter(
     terminal: Terminal,
     i: u32,
 ) -> Result<(State, u32), Stop>
-    ensures step { (made : Parsed) (bytes : List ℕ) →
-        Stepped file tokens.now (behind_parameter (read_of made) signature.at signature.is_pred signature.at_name signature.name (variables_of signature.parameters) order at_name name (symbol_with terminal bytes) (behind file tokens.now i)) made stack.new.items result }
-    ensures fault { (bytes : List ℕ) → IfErr result (Says file tokens.now (behind_parameter_fault (symbol_with terminal bytes) (behind file tokens.now (i - 1)) (behind file tokens.now i))) }
+    ensures { (made : Parsed) (bytes : List ℕ) →
+        StepsAs file tokens.now (behind_parameter (read_of made) signature.at signature.is_pred signature.at_name signature.name (variables_of signature.parameters) order at_name name (symbol_with terminal bytes) (behind file tokens.now (i - 1)) (behind file tokens.now i)) made stack.new.items result }
 {
     match terminal {
         Terminal::Where => {
@@ -154,9 +147,8 @@ pub fn next_parameter(
     signature: Signature,
     i: u32,
 ) -> Result<(State, u32), Stop>
-    ensures step { (made : Parsed) →
-        Stepped file tokens.now (next_parameter (read_of made) signature.at signature.is_pred signature.at_name signature.name (variables_of signature.parameters) (behind file tokens.now i)) made stack.new.items result }
-    ensures fault { IfErr result (Says file tokens.now (next_parameter_fault (variables_of signature.parameters) (behind file tokens.now i))) }
+    ensures { (made : Parsed) →
+        StepsAs file tokens.now (next_parameter (read_of made) signature.at signature.is_pred signature.at_name signature.name (variables_of signature.parameters) (behind file tokens.now i)) made stack.new.items result }
 {
     let Some((order, from)) = kind_at(tokens, file, &signature.parameters, i) else {
         return Err(Stop::Refused(i));
@@ -194,9 +186,8 @@ pub fn end_parameter(
     terminal: Terminal,
     i: u32,
 ) -> Result<(State, u32), Stop>
-    ensures step { (made : Parsed) (bytes : List ℕ) (inside : Bool) → IsEnd inside (symbol_with terminal bytes) →
-        Stepped file tokens.now (settle greatest_depth (in_parameter (read_of made) signature.at signature.is_pred signature.at_name signature.name (variables_of signature.parameters) order at_name name) (symbol_with terminal bytes) inside (expression_of operand.expr, []) (behind file tokens.now i)) made stack.new.items result }
-    ensures fault { (made : Parsed) (bytes : List ℕ) (inside : Bool) → IsEnd inside (symbol_with terminal bytes) → IfErr result (Says file tokens.now (settle_fault greatest_depth (in_parameter (read_of made) signature.at signature.is_pred signature.at_name signature.name (variables_of signature.parameters) order at_name name) (symbol_with terminal bytes) inside ((expression_of operand.expr), []) (behind file tokens.now (i - 1)) (behind file tokens.now i))) }
+    ensures { (made : Parsed) (bytes : List ℕ) (inside : Bool) → IsEnd inside (symbol_with terminal bytes) →
+        StepsAs file tokens.now (settle greatest_depth (in_parameter (read_of made) signature.at signature.is_pred signature.at_name signature.name (variables_of signature.parameters) order at_name name) (symbol_with terminal bytes) inside (expression_of operand.expr, []) (behind file tokens.now (i - 1)) (behind file tokens.now i)) made stack.new.items result }
 {
     let Operand { expr, .. } = operand;
     let domain = boxed(alloc, expr)?;

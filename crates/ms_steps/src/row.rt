@@ -1,12 +1,11 @@
-ghost use Rattle.std.specs.Prelude.{◌≡◌, ◌∷◌, ℕ, List, IfErr, ◌-◌};
+ghost use Rattle.std.specs.Prelude.{◌≡◌, ◌∷◌, ℕ, List, ◌-◌};
 ghost use Rattle.ms_text.specs.TokenList.{Lexed};
 ghost use Rattle.ms_grammar.specs.Grammar.{greatest_depth};
 ghost use Rattle.ms_grammar.specs.View.{expression_of};
-ghost use Rattle.ms_steps.specs.Faults.{close_curly_fault, close_round_fault, colon_fault, comma_fault, in_fault};
 ghost use Rattle.ms_steps.specs.Machine as machine;
 ghost use Rattle.ms_steps.specs.Machine.{Context, close_curly_at, close_round_at, colon_at, comma_at, in_at};
 ghost use Rattle.ms_steps.specs.Opened.{frame_of};
-ghost use Rattle.ms_steps.specs.Outcomes.{Took, Says};
+ghost use Rattle.ms_steps.specs.Outcomes.{ActsAs};
 ghost use Rattle.ms_steps.specs.Rows.{IsRow};
 ghost use Rattle.ms_steps.specs.Terminals.{behind};
 ghost use Rattle.ms_steps.specs.Stack.{stack_of};
@@ -66,9 +65,8 @@ pub fn row_of(frame: Frame) -> Row
 impl Row {
     /// `}` behind an expression, in the row that stood on top of the stack.
     pub fn close_curly(self, operand: Operand, i: u32) -> Result<(Outcome, u32), Stop>
-        ensures step { (c : Context) (file : ℕ) (lexed : Lexed) (below : List Frame) (top : machine.Frame) → IsRow self top →
-            Took c file lexed (close_curly_at greatest_depth c (expression_of operand.expr) (top ∷ stack_of below) (behind file lexed i)) below result }
-        ensures fault { (file : ℕ) (lexed : Lexed) (below : List Frame) (top : machine.Frame) → IsRow self top → IfErr result (Says file lexed (close_curly_fault greatest_depth (expression_of operand.expr) (top ∷ stack_of below) (behind file lexed (i - 1)))) }
+        ensures { (c : Context) (file : ℕ) (lexed : Lexed) (below : List Frame) (top : machine.Frame) → IsRow self top →
+            ActsAs c file lexed (close_curly_at greatest_depth c (expression_of operand.expr) (top ∷ stack_of below) (behind file lexed (i - 1)) (behind file lexed i)) below result }
     {
         match self {
             Row::Listed(at, listing, operands) => match listing {
@@ -89,9 +87,8 @@ impl Row {
         operand: Operand,
         i: u32,
     ) -> Result<(Outcome, u32), Stop>
-        ensures step { (c : Context) (file : ℕ) (lexed : Lexed) (below : List Frame) (top : machine.Frame) → IsRow self top →
-            Took c file lexed (close_round_at greatest_depth c (expression_of operand.expr) (top ∷ stack_of below) (behind file lexed i)) below result }
-        ensures fault { (c : Context) (file : ℕ) (lexed : Lexed) (below : List Frame) (top : machine.Frame) → IsRow self top → IfErr result (Says file lexed (close_round_fault greatest_depth c (expression_of operand.expr) (top ∷ stack_of below) (behind file lexed (i - 1)) (behind file lexed i))) }
+        ensures { (c : Context) (file : ℕ) (lexed : Lexed) (below : List Frame) (top : machine.Frame) → IsRow self top →
+            ActsAs c file lexed (close_round_at greatest_depth c (expression_of operand.expr) (top ∷ stack_of below) (behind file lexed (i - 1)) (behind file lexed i)) below result }
     {
         match self {
             Row::Bracket(at, bracket) => end_bracket(alloc, at, bracket, operand, i),
@@ -113,9 +110,8 @@ impl Row {
         operand: Operand,
         i: u32,
     ) -> Result<(Outcome, u32), Stop>
-        ensures step { (c : Context) (file : ℕ) (lexed : Lexed) (top : machine.Frame) → IsRow self top →
-            Took c file lexed (comma_at greatest_depth c (expression_of operand.expr) (top ∷ stack_of stack.old.items) (behind file lexed i)) stack.new.items result }
-        ensures fault { (c : Context) (file : ℕ) (lexed : Lexed) (top : machine.Frame) → IsRow self top → IfErr result (Says file lexed (comma_fault greatest_depth c (expression_of operand.expr) (top ∷ stack_of stack.old.items) (behind file lexed (i - 1)))) }
+        ensures { (c : Context) (file : ℕ) (lexed : Lexed) (top : machine.Frame) → IsRow self top →
+            ActsAs c file lexed (comma_at greatest_depth c (expression_of operand.expr) (top ∷ stack_of stack.old.items) (behind file lexed (i - 1)) (behind file lexed i)) stack.new.items result }
     {
         match self {
             Row::Listed(at, listing, operands) => {
@@ -140,9 +136,8 @@ impl Row {
         operand: Operand,
         i: u32,
     ) -> Result<(Outcome, u32), Stop>
-        ensures step { (c : Context) (file : ℕ) (lexed : Lexed) (top : machine.Frame) → IsRow self top →
-            Took c file lexed (colon_at greatest_depth c (expression_of operand.expr) (top ∷ stack_of stack.old.items) (behind file lexed i)) stack.new.items result }
-        ensures fault { (file : ℕ) (lexed : Lexed) (top : machine.Frame) → IsRow self top → IfErr result (Says file lexed (colon_fault greatest_depth (expression_of operand.expr) (top ∷ stack_of stack.old.items) (behind file lexed (i - 1)))) }
+        ensures { (c : Context) (file : ℕ) (lexed : Lexed) (top : machine.Frame) → IsRow self top →
+            ActsAs c file lexed (colon_at greatest_depth c (expression_of operand.expr) (top ∷ stack_of stack.old.items) (behind file lexed (i - 1)) (behind file lexed i)) stack.new.items result }
     {
         match self {
             Row::Domain(at, quant, order, bounds, at_name, name) => {
@@ -164,9 +159,8 @@ impl Row {
         operand: Operand,
         i: u32,
     ) -> Result<(Outcome, u32), Stop>
-        ensures step { (c : Context) (file : ℕ) (lexed : Lexed) (top : machine.Frame) → IsRow self top →
-            Took c file lexed (in_at greatest_depth c (expression_of operand.expr) (top ∷ stack_of stack.old.items) (behind file lexed i)) stack.new.items result }
-        ensures fault { (file : ℕ) (lexed : Lexed) (top : machine.Frame) → IsRow self top → IfErr result (Says file lexed (in_fault greatest_depth (expression_of operand.expr) (top ∷ stack_of stack.old.items) (behind file lexed (i - 1)))) }
+        ensures { (c : Context) (file : ℕ) (lexed : Lexed) (top : machine.Frame) → IsRow self top →
+            ActsAs c file lexed (in_at greatest_depth c (expression_of operand.expr) (top ∷ stack_of stack.old.items) (behind file lexed (i - 1)) (behind file lexed i)) stack.new.items result }
     {
         match self {
             Row::Part(at, order, parts, at_name, name) => {

@@ -3,13 +3,12 @@ ghost use Rattle.ms_grammar.specs.Declarations.{ReadsAs};
 ghost use Rattle.ms_grammar.specs.Tree.{Document};
 ghost use Rattle.ms_steps.specs.Machine as machine;
 ghost use Rattle.ms_steps.specs.Machine.{finished};
-ghost use Rattle.ms_steps.specs.Outcomes.{outcome_of, Says};
+ghost use Rattle.ms_steps.specs.Outcomes.{outcome_of};
 ghost use Rattle.ms_steps.specs.Stops.{StopsAt};
 ghost use Rattle.ms_steps.specs.Terminals.{behind};
 ghost use Rattle.ms_steps.specs.Stack.{stack_of};
-ghost use Rattle.ms_steps.specs.States.{Stepped, context_of, read_of, source_of, state_of};
+ghost use Rattle.ms_steps.specs.States.{StepsAs, context_of, read_of, source_of, state_of};
 ghost use Rattle.ms_grammar.specs.Grammar.{greatest_depth};
-ghost use Rattle.ms_steps.specs.Faults.{step_fault};
 
 use crate::context::Context;
 use crate::declaration::{begin_declaration, next_summand};
@@ -40,8 +39,7 @@ fn step_expression(
     outcome: Outcome,
     i: u32,
 ) -> Result<(State, u32), Stop>
-    ensures step { Stepped file tokens.now (machine.step greatest_depth (outcome_of (context_of (read_of made.old) context) (stack_of stack.old.items) outcome) (behind file tokens.now i)) made.new stack.new.items result }
-    ensures fault { IfErr result (Says file tokens.now (step_fault greatest_depth (outcome_of (context_of (read_of made.old) context) (stack_of stack.old.items) outcome) (behind file tokens.now i))) }
+    ensures { StepsAs file tokens.now (machine.step greatest_depth (outcome_of (context_of (read_of made.old) context) (stack_of stack.old.items) outcome) (behind file tokens.now i)) made.new stack.new.items result }
 {
     match outcome {
         Outcome::Wanted => inside(context, begin(alloc, tokens, file, stack, i)),
@@ -73,8 +71,7 @@ fn step(
     state: State,
     i: u32,
 ) -> Result<(State, u32), Stop>
-    ensures step { Stepped file tokens.now (machine.step greatest_depth (state_of (read_of made.old) (stack_of stack.old.items) state) (behind file tokens.now i)) made.new stack.new.items result }
-    ensures fault { IfErr result (Says file tokens.now (step_fault greatest_depth (state_of (read_of made.old) (stack_of stack.old.items) state) (behind file tokens.now i))) }
+    ensures { StepsAs file tokens.now (machine.step greatest_depth (state_of (read_of made.old) (stack_of stack.old.items) state) (behind file tokens.now i)) made.new stack.new.items result }
 {
     match state {
         State::Outside => begin_declaration(alloc, tokens, file, made, stack, i),

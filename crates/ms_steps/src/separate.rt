@@ -1,15 +1,13 @@
-ghost use Rattle.std.specs.Prelude.{◌≡◌, ℕ, List, Some, IfErr, ◌-◌};
+ghost use Rattle.std.specs.Prelude.{◌≡◌, ℕ, List, ◌-◌};
 ghost use Rattle.ms_text.specs.TokenList.{Lexed};
-ghost use Rattle.ms_steps.specs.Machine.{Context, list_frame, body_frame, let_frame, variable_wanted, part_wanted, enter};
-ghost use Rattle.ms_steps.specs.Outcomes.{Took, Says};
+ghost use Rattle.ms_steps.specs.Machine.{Context, list_frame, body_frame, let_frame, variable_wanted, part_wanted, enter, took, too_deep};
+ghost use Rattle.ms_steps.specs.Outcomes.{ActsAs};
 ghost use Rattle.ms_steps.specs.Terminals.{behind};
 ghost use Rattle.ms_steps.specs.Stack.{stack_of};
 ghost use Rattle.ms_grammar.specs.Tree.{and_expression, and_variable, and_part, restricted};
 ghost use Rattle.ms_grammar.specs.View.{expression_of, expressions_of, variables_of, parts_of};
 ghost use Rattle.ms_steps.specs.declared.frame.Frame.{Frame};
 ghost use Rattle.ms_grammar.specs.Grammar.{greatest_depth, depth_of_all, depth_of_domains, depth_of_values};
-ghost use Rattle.ms_steps.specs.Faults.{deep_at, enter_fault};
-ghost use Rattle.ms_steps.specs.declared.stop.Stop.TheVariants.{Memory};
 
 use crate::append::{with_expression, with_part, with_restricted};
 use crate::enter::enter;
@@ -31,9 +29,8 @@ pub fn another_expression(
     operand: Operand,
     i: u32,
 ) -> Result<(Outcome, u32), Stop>
-    ensures step { (c : Context) (file : ℕ) (lexed : Lexed) →
-        Took c file lexed (enter greatest_depth c (list_frame at listing (and_expression (expressions_of operands.list) (expression_of operand.expr))) (stack_of stack.old.items) (behind file lexed i)) stack.new.items result }
-    ensures fault { (file : ℕ) (lexed : Lexed) → IfErr result (Says file lexed (enter_fault greatest_depth (depth_of_all (and_expression (expressions_of operands.list) (expression_of operand.expr))) (stack_of stack.old.items) (deep_at (behind file lexed (i - 1))))) }
+    ensures { (c : Context) (file : ℕ) (lexed : Lexed) →
+        ActsAs c file lexed (enter greatest_depth c (list_frame at listing (and_expression (expressions_of operands.list) (expression_of operand.expr))) (stack_of stack.old.items) (too_deep (behind file lexed (i - 1))) (behind file lexed i)) stack.new.items result }
 {
     let Operands { list, height } = with_expression(operands, operand)?;
     let opened = Opened::Listed(at, listing, list);
@@ -56,9 +53,8 @@ pub fn another_variable(
     operand: Operand,
     i: u32,
 ) -> Result<(Outcome, u32), Stop>
-    ensures step { (c : Context) (file : ℕ) (lexed : Lexed) (frames : List Frame) →
-        Took c file lexed (Some (variable_wanted c (stack_of frames) at quant order (and_variable (variables_of bounds.list) at_name order name (restricted (expression_of operand.expr))), behind file lexed i)) frames result }
-    ensures fault { IfErr result (λ stop. stop ≡ Memory) }
+    ensures { (c : Context) (file : ℕ) (lexed : Lexed) (frames : List Frame) →
+        ActsAs c file lexed (took (variable_wanted c (stack_of frames) at quant order (and_variable (variables_of bounds.list) at_name order name (restricted (expression_of operand.expr)))) (behind file lexed i)) frames result }
 {
     let more = with_restricted(alloc, bounds, at_name, order, name, operand)?;
     Ok((Outcome::Variable(at, quant, order, more), i))
@@ -73,9 +69,8 @@ pub fn another_part(
     operand: Operand,
     i: u32,
 ) -> Result<(Outcome, u32), Stop>
-    ensures step { (c : Context) (file : ℕ) (lexed : Lexed) (frames : List Frame) →
-        Took c file lexed (Some (part_wanted c (stack_of frames) at order (and_part (parts_of parts.list) at_name name (expression_of operand.expr)), behind file lexed i)) frames result }
-    ensures fault { IfErr result (λ stop. stop ≡ Memory) }
+    ensures { (c : Context) (file : ℕ) (lexed : Lexed) (frames : List Frame) →
+        ActsAs c file lexed (took (part_wanted c (stack_of frames) at order (and_part (parts_of parts.list) at_name name (expression_of operand.expr))) (behind file lexed i)) frames result }
 {
     let more = with_part(parts, at_name, name, operand)?;
     Ok((Outcome::Part(at, order, more), i))
@@ -93,9 +88,8 @@ pub fn begin_body(
     operand: Operand,
     i: u32,
 ) -> Result<(Outcome, u32), Stop>
-    ensures step { (c : Context) (file : ℕ) (lexed : Lexed) →
-        Took c file lexed (enter greatest_depth c (body_frame at quant order (and_variable (variables_of bounds.list) at_name order name (restricted (expression_of operand.expr)))) (stack_of stack.old.items) (behind file lexed i)) stack.new.items result }
-    ensures fault { (file : ℕ) (lexed : Lexed) → IfErr result (Says file lexed (enter_fault greatest_depth (depth_of_domains (and_variable (variables_of bounds.list) at_name order name (restricted (expression_of operand.expr)))) (stack_of stack.old.items) (deep_at (behind file lexed (i - 1))))) }
+    ensures { (c : Context) (file : ℕ) (lexed : Lexed) →
+        ActsAs c file lexed (enter greatest_depth c (body_frame at quant order (and_variable (variables_of bounds.list) at_name order name (restricted (expression_of operand.expr)))) (stack_of stack.old.items) (too_deep (behind file lexed (i - 1))) (behind file lexed i)) stack.new.items result }
 {
     let Bounds { list, height } = with_restricted(alloc, bounds, at_name, order, name, operand)?;
     let opened = Opened::Body(at, quant, order, list);
@@ -117,9 +111,8 @@ pub fn begin_scope(
     operand: Operand,
     i: u32,
 ) -> Result<(Outcome, u32), Stop>
-    ensures step { (c : Context) (file : ℕ) (lexed : Lexed) →
-        Took c file lexed (enter greatest_depth c (let_frame at order (and_part (parts_of parts.list) at_name name (expression_of operand.expr))) (stack_of stack.old.items) (behind file lexed i)) stack.new.items result }
-    ensures fault { (file : ℕ) (lexed : Lexed) → IfErr result (Says file lexed (enter_fault greatest_depth (depth_of_values (and_part (parts_of parts.list) at_name name (expression_of operand.expr))) (stack_of stack.old.items) (deep_at (behind file lexed (i - 1))))) }
+    ensures { (c : Context) (file : ℕ) (lexed : Lexed) →
+        ActsAs c file lexed (enter greatest_depth c (let_frame at order (and_part (parts_of parts.list) at_name name (expression_of operand.expr))) (stack_of stack.old.items) (too_deep (behind file lexed (i - 1))) (behind file lexed i)) stack.new.items result }
 {
     let Parts { list, height } = with_part(parts, at_name, name, operand)?;
     let opened = Opened::Let(at, order, list);

@@ -1,14 +1,13 @@
-ghost use Rattle.std.specs.Prelude.{◌≡◌, ◌≤◌, ◌<◌, ◌+◌, ◌⊎◌, ℕ, suc, true, false, List, length, IsTrue, IfErr, IfOk, None, ◌-◌, ◌≢◌};
+ghost use Rattle.std.specs.Prelude.{◌≡◌, ◌≤◌, ◌<◌, ◌+◌, ◌⊎◌, ℕ, suc, true, false, List, length, IsTrue, IfOk, ◌-◌, ◌≢◌};
 ghost use Rattle.ms_text.specs.TokenList.{Lexed};
 ghost use Rattle.ms_grammar.specs.Grammar.{level, depth, greatest_depth};
-ghost use Rattle.ms_steps.specs.Machine.{Context, shift, join_new, shift_by, shift_int};
-ghost use Rattle.ms_steps.specs.Outcomes.{Took, Says};
-ghost use Rattle.ms_grammar.specs.Reads.{int_symbol, Starts};
+ghost use Rattle.ms_steps.specs.Machine.{Context, holding, shift, join_new, shift_int, took};
+ghost use Rattle.ms_steps.specs.Outcomes.{Continues, ActsAs};
+ghost use Rattle.ms_grammar.specs.Reads.{place};
 ghost use Rattle.ms_steps.specs.Terminals.{behind};
 ghost use Rattle.ms_steps.specs.Stack.{stack_of};
+ghost use Rattle.ms_grammar.specs.Tree.{shifted};
 ghost use Rattle.ms_grammar.specs.View.{expression_of};
-ghost use Rattle.ms_steps.specs.Faults.{join_new_fault, shift_fault, shift_int_fault};
-ghost use Rattle.ms_steps.specs.declared.stop.Stop.TheVariants.{Memory};
 
 use crate::complete::finish;
 use crate::enter::{enter, level};
@@ -34,9 +33,8 @@ pub fn shift(
     left: Operand,
     i: u32,
 ) -> Result<(Outcome, u32), Stop>
-    ensures step { (c : Context) (file : ℕ) (lexed : Lexed) →
-        Took c file lexed (shift greatest_depth c op (expression_of left.expr, stack_of stack.old.items) (behind file lexed i)) stack.new.items result }
-    ensures fault { (file : ℕ) (lexed : Lexed) → IfErr result (Says file lexed (shift_fault greatest_depth op (expression_of left.expr) (stack_of stack.old.items) (behind file lexed (i - 1)))) }
+    ensures { (c : Context) (file : ℕ) (lexed : Lexed) →
+        ActsAs c file lexed (shift greatest_depth c op (expression_of left.expr, stack_of stack.old.items) (behind file lexed (i - 1)) (behind file lexed i)) stack.new.items result }
 {
     if level(&left.expr) < least_left(op) {
         return Err(Stop::Refused(i.saturating_sub(1)));
@@ -57,9 +55,8 @@ pub fn join_new(
     first: Operand,
     i: u32,
 ) -> Result<(Outcome, u32), Stop>
-    ensures step { (c : Context) (file : ℕ) (lexed : Lexed) →
-        Took c file lexed (join_new greatest_depth c op (expression_of first.expr) (stack_of stack.old.items) (behind file lexed i)) stack.new.items result }
-    ensures fault { (file : ℕ) (lexed : Lexed) → IfErr result (Says file lexed (join_new_fault greatest_depth op (expression_of first.expr) (stack_of stack.old.items) (behind file lexed (i - 1)))) }
+    ensures { (c : Context) (file : ℕ) (lexed : Lexed) →
+        ActsAs c file lexed (join_new greatest_depth c op (expression_of first.expr) (stack_of stack.old.items) (behind file lexed (i - 1)) (behind file lexed i)) stack.new.items result }
 {
     if level(&first.expr) < least_operand(op) {
         return Err(Stop::Refused(i.saturating_sub(1)));
@@ -95,11 +92,9 @@ fn shift_by(
     number: PlacedInt,
     i: u32,
 ) -> Result<(Outcome, u32), Stop>
-    requires high { 9 ≤ level (expression_of operand.expr) }
-    requires room { length stack.now + suc (depth (expression_of operand.expr)) ≤ 300 }
-    ensures step { (c : Context) (file : ℕ) (lexed : Lexed) →
-        Took c file lexed (shift_by greatest_depth c (expression_of operand.expr) (stack_of stack.now) number (behind file lexed i)) stack.now result }
-    ensures fault { IfErr result (λ stop. stop ≡ Memory) }
+    requires { length stack.now + suc (depth (expression_of operand.expr)) ≤ 300 }
+    ensures { (c : Context) (file : ℕ) (lexed : Lexed) →
+        ActsAs c file lexed (took (holding c (shifted (place (expression_of operand.expr)) (expression_of operand.expr) number) (stack_of stack.now)) (behind file lexed i)) stack.now result }
 {
     let Operand {
         expr,
@@ -121,12 +116,10 @@ fn summand_at(
     minus: bool,
     i: u32,
 ) -> Result<(PlacedInt, u32), Stop>
-    ensures high { IfOk result (λ found. 9 ≤ level (expression_of operand.now.expr)) }
     ensures room { IfOk result (λ found. length stack.now + suc (depth (expression_of operand.now.expr)) ≤ 300) }
-    ensures next { IfOk result (λ found. Starts true (int_symbol found.0.value) found.0.at (behind file tokens.now i) (behind file tokens.now found.1)) }
-    ensures minus { IfOk result (λ found. found.0.minus ≡ minus) }
-    ensures none { IfErr result (λ stop. stop ≢ Memory → (c : Context) → shift_int greatest_depth c minus (expression_of operand.now.expr) (stack_of stack.now) (behind file tokens.now i) ≡ None) }
-    ensures fault { IfErr result (Says file tokens.now (shift_int_fault greatest_depth (expression_of operand.now.expr) (stack_of stack.now) (behind file tokens.now (i - 1)) (behind file tokens.now i))) }
+    ensures step { (c : Context) →
+        Continues file tokens.now (shift_int greatest_depth c minus (expression_of operand.now.expr) (stack_of stack.now) (behind file tokens.now (i - 1)) (behind file tokens.now i))
+        (λ number. took (holding c (shifted (place (expression_of operand.now.expr)) (expression_of operand.now.expr) number) (stack_of stack.now))) result }
 {
     if level(&operand.expr) < 9 {
         return Err(Stop::Refused(i.saturating_sub(1)));
@@ -150,9 +143,8 @@ pub fn shift_int(
     minus: bool,
     i: u32,
 ) -> Result<(Outcome, u32), Stop>
-    ensures step { (c : Context) →
-        Took c file tokens.now (shift_int greatest_depth c minus (expression_of operand.expr) (stack_of stack.now) (behind file tokens.now i)) stack.now result }
-    ensures fault { IfErr result (Says file tokens.now (shift_int_fault greatest_depth (expression_of operand.expr) (stack_of stack.now) (behind file tokens.now (i - 1)) (behind file tokens.now i))) }
+    ensures { (c : Context) →
+        ActsAs c file tokens.now (shift_int greatest_depth c minus (expression_of operand.expr) (stack_of stack.now) (behind file tokens.now (i - 1)) (behind file tokens.now i)) stack.now result }
 {
     let (number, next) = summand_at(alloc, tokens, file, stack, &operand, minus, i)?;
     shift_by(alloc, stack, operand, number, next)

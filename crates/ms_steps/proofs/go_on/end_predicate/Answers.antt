@@ -4,18 +4,12 @@ use Rattle.ms_steps.specs.declared.terminal.Terminal.TheVariants as terminals
 use Rattle.ms_steps.specs.Machine.{in_predicate, settle}
 use Rattle.ms_steps.specs.Terminals.{behind, symbol_with}
 use Rattle.ms_steps.specs.States.{read_of}
-use Rattle.ms_steps.proofs.Stepping.{stepped_by}
-use Rattle.ms_steps.specs.Faults.{settle_fault}
-use Rattle.ms_steps.proofs.Faulting.{only_memory}
 use Rattle.ms_steps.proofs.go_on.end_predicate.Goals as goal
+use Rattle.ms_steps.proofs.Taking.{steps_by}
 use Rattle.ms_grammar.specs.Grammar.{greatest_depth}
 
-pub returns-in-Semicolon-clause-step : goal.returns-in-Semicolon-clause-step
-returns-in-Semicolon-clause-step c file lexed frames bytes inside is =
+pub returns-in-Semicolon : goal.returns-in-Semicolon
+returns-in-Semicolon c file lexed frames bytes inside is =
     let d = read_of c.args.made.now in
-    stepped_by file lexed (λ s. settle greatest_depth (in_predicate d c.args.signature.at c.args.signature.is_pred c.args.signature.at_name c.args.signature.name (variables_of c.args.signature.parameters)) (symbol_with s bytes) inside (expression_of c.args.operand.expr, []) (behind file lexed c.args.i)) c.args.terminal terminals.Semicolon c.declared.new.made frames c.declared.result c.in-Semicolon.is
-    (c.declared.ensures.step file lexed frames)
-
-pub returns-in-Semicolon-clause-fault : goal.returns-in-Semicolon-clause-fault
-returns-in-Semicolon-clause-fault c d file lexed bytes inside is =
-    only_memory file lexed (settle_fault greatest_depth (in_predicate d c.args.signature.at c.args.signature.is_pred c.args.signature.at_name c.args.signature.name (variables_of c.args.signature.parameters)) (symbol_with c.args.terminal bytes) inside (expression_of c.args.operand.expr, []) (behind file lexed (c.args.i - 1)) (behind file lexed c.args.i)) c.declared.result c.declared.ensures.fault
+    steps_by file lexed (λ s. settle greatest_depth (in_predicate d c.args.signature.at c.args.signature.is_pred c.args.signature.at_name c.args.signature.name (variables_of c.args.signature.parameters)) (symbol_with s bytes) inside (expression_of c.args.operand.expr, []) (behind file lexed (c.args.i - 1)) (behind file lexed c.args.i)) c.args.terminal terminals.Semicolon c.declared.new.made frames c.declared.result c.in-Semicolon.is
+    (c.declared.ensures file lexed frames)
