@@ -1,28 +1,28 @@
--- The first word of a sign encodes the first assignment of the value that the sign stands for.
-use Rattle.std.proofs.Common.{◌≡◌, ℕ, ◌<◌, Bool, ◌⊎◌, ◌↔◌, inl, inr, List, [], ◌∷◌, ◌++◌, length, map, Some, refl, sym, ap, subst, ◌∙◌, arith}
+-- The first word of a sign encodes the first assignment at which the sign is right.
+use Rattle.std.proofs.Common.{◌≡◌, ◌≢◌, ℕ, ◌<◌, Bool, ◌⊎◌, inl, inr, List, [], ◌∷◌, ◌++◌, length, map, Some, refl, sym, ap, subst, ◌∙◌, arith}
 use Rattle.std.specs.List.{flat_map}
 use Rattle.std.proofs.lemmas.Bool.{cases_eq}
 use Rattle.std.proofs.lemmas.Option.{same_Some}
 use Rattle.ms_edge.specs.declared.refusal.Word.{Word}
 use Rattle.ms_logic.specs.declared.mode.Mode.{Mode}
 use Rattle.ms_logic.specs.declared.assignment.Assignment.{Assignment}
-use Rattle.ms_logic.specs.Assignment.{Env, Variable, IsAssignment}
-use Rattle.ms_logic.specs.Content.{Content, IsWordOver, sign_of, shortest_word}
-use Rattle.ms_logic.specs.FiniteSet.{numbers_below}
-use Rattle.ms_logic.specs.First.{length_of, bits_of, IsLower, IsBefore, IsFirst, assignment_of}
-use Rattle.ms_logic.specs.Verdict.{Problem, variables_of, Assigns}
-use Rattle.ms_logic.specs.Word.{Encodes, IsEncoding, truth_values_of, letter_at}
-use Rattle.ms_logic.proofs.WordLaws.{encoding_is_over, length_is_least}
 use Rattle.ms_logic.specs.declared.sign.Sign.{Sign}
 use Rattle.ms_logic.specs.declared.sign.Sign.TheVariants.{Yes, No, Outside}
+use Rattle.ms_logic.specs.Assignment.{Env, Variable, IsAssignment}
+use Rattle.ms_logic.specs.Content.{Content, sign_of, shortest_word}
+use Rattle.ms_logic.specs.FiniteSet.{numbers_below}
+use Rattle.ms_logic.specs.First.{length_of, bits_of, IsLower, IsBefore, IsFirst, assignment_of}
+use Rattle.ms_logic.specs.Tree.{conjunction}
+use Rattle.ms_logic.specs.Verdict.{Problem, variables_of, Assigns, MainYes, MainNo}
+use Rattle.ms_logic.specs.Word.{Encodes, IsEncoding, truth_values_of, letter_at}
+use Rattle.ms_logic.proofs.Consistent.{yes_is_not_no}
+use Rattle.ms_logic.proofs.WordLaws.{encoding_is_over, length_is_least}
 use Rattle.ms_dfa.specs.Automaton.{IsAutomaton}
+use Rattle.ms_theory.specs.Values.{Meaning, IsMeaning, HasValues, main_meaning}
+use Rattle.ms_theory.proofs.ValuesLemmas.{IsMeaning-by, sign_if_right, right_if_sign}
 use Rattle.ms_best.specs.FirstWord.{bits_of_word, IsFirstWord, NoWordHas}
-use Rattle.ms_app.specs.Decision.{MainIs, ShowsFirst}
+use Rattle.ms_app.specs.Decision.{ShowsFirst}
 use Rattle.ms_app.specs.HasValue.{HasMainValue}
-
--- one of the two values that are looked for
-abbrev pub IsYesOrNo : Sign → Type 0
-IsYesOrNo sign = (sign ≡ Yes) ⊎ (sign ≡ No)
 
 -- letters one after the other are their bits
 flat_letters : (g : ℕ → List Bool) (ns : List ℕ) → flat_map (λ (letter : List Bool). letter) (map g ns) ≡ flat_map g ns
@@ -37,85 +37,85 @@ bits_encoded vs word e encodes long =
     ∙ ap (λ bits. truth_values_of vs e ++ bits) (flat_letters (letter_at vs e) (numbers_below (length word.letters)))
     ∙ ap (λ n. truth_values_of vs e ++ flat_map (letter_at vs e) (numbers_below n)) long
 
-module _ (problem : Problem) (content : Content Sign) (sign : Sign) (value : HasMainValue problem content) (one_of : IsYesOrNo sign) where
-  abbrev pub globals : List Variable
-  globals = variables_of problem.globals
+module _ (meaning : Meaning) (content : Content Sign) (is_meaning : IsMeaning content.mode content.variables meaning) (values : HasValues meaning content) (sign : Sign) where
+  -- the shortest word of an assignment at which the sign is right has it
+  shortest_has : (e : Env) → IsAssignment content.mode content.variables e → meaning e sign → sign_of content (shortest_word content.variables e) ≡ Some sign
+  shortest_has e assigned right =
+      sign_if_right meaning content is_meaning values (shortest_word content.variables e) e sign assigned (length_is_least content.mode content.variables e assigned).0 right
 
-  -- the sign of a word is the main value at what it encodes
-  sign_is_main : (word : Word) (e : Env) → Assigns problem e → Encodes globals word e → (sign_of content word ≡ Some sign) ↔ MainIs problem sign e
-  sign_is_main word e assigns encodes =
-      let P : Sign → Type 0 = λ s. (sign_of content word ≡ Some s) ↔ MainIs problem s e in
-      elim one_of [
-        | inl is_yes ↦ subst P (sym is_yes) (value.yes word e assigns encodes)
-        | inr is_no ↦ subst P (sym is_no) (value.no word e assigns encodes)
-      ]
+  -- where no word has the sign, it is right at no assignment
+  never_right : NoWordHas content sign → (e : Env) → IsAssignment content.mode content.variables e → ¬ meaning e sign
+  never_right none e assigned right =
+      let encodes = (length_is_least content.mode content.variables e assigned).0 in
+      none (shortest_word content.variables e) (encoding_is_over content.variables (shortest_word content.variables e) e encodes) (shortest_has e assigned right)
 
-  over_content : (word : Word) (e : Env) → Encodes globals word e → IsWordOver content.variables word
-  over_content word e encodes =
-      let P : List Variable → Type 0 = λ vs. IsWordOver vs word in
-      subst P (sym value.variables) (encoding_is_over globals word e encodes)
-
-  -- the shortest word of an assignment has the sign of its main value
-  shortest_has : (e : Env) → Assigns problem e → MainIs problem sign e → sign_of content (shortest_word globals e) ≡ Some sign
-  shortest_has e assigns holds = (sign_is_main (shortest_word globals e) e assigns (length_is_least problem.mode globals e assigns).0).1 holds
-
-  -- where no word has the sign, no assignment has the value
-  pub none_shown : NoWordHas content sign → (e : Env) → Assigns problem e → ¬ MainIs problem sign e
-  none_shown none e assigns holds =
-      none (shortest_word globals e) (over_content (shortest_word globals e) e (length_is_least problem.mode globals e assigns).0) (shortest_has e assigns holds)
-
-  module _ (word : Word) (first : IsFirstWord content sign word) (e : Env) (assigns : Assigns problem e) (encodes : Encodes globals word e) where
-    holds_first : MainIs problem sign e
-    holds_first = (sign_is_main word e assigns encodes).0 first.has_sign
+  module _ (word : Word) (first : IsFirstWord content sign word) (e : Env) (assigned : IsAssignment content.mode content.variables e) (encodes : Encodes content.variables word e) where
+    right_first : meaning e sign
+    right_first = right_if_sign meaning content is_meaning values word e sign assigned encodes first.has_sign
 
     -- the first word is as long as its assignment
-    as_long : length word.letters ≡ length_of globals e
+    as_long : length word.letters ≡ length_of content.variables e
     as_long =
-        let least = length_is_least problem.mode globals e assigns in
-        elim (cases_eq (length word.letters) (length_of globals e)) [
+        let least = length_is_least content.mode content.variables e assigned in
+        let other = shortest_word content.variables e in
+        elim (cases_eq (length word.letters) (length_of content.variables e)) [
           | inl same ↦ same
           | inr differ ↦
-              (let shorter : length (shortest_word globals e).letters < length word.letters = omega (arith, differ, least.1, least.2 word encodes) in
-              absurd (first.none_before (shortest_word globals e) (over_content (shortest_word globals e) e least.0) (shortest_has e assigns holds_first) (inl shorter)))
+              (let shorter : length other.letters < length word.letters = omega (arith, differ, least.1, least.2 word encodes) in
+              absurd (first.none_before other (encoding_is_over content.variables other e least.0) (shortest_has e assigned right_first) (inl shorter)))
         ]
 
-    -- no assignment of the value comes before it
-    none_before : (f : Env) → Assigns problem f → IsBefore globals f e → ¬ MainIs problem sign f
-    none_before f assigns_f before holds =
-        let least = length_is_least problem.mode globals f assigns_f in
-        let other = shortest_word globals f in
-        let not_before = first.none_before other (over_content other f least.0) (shortest_has f assigns_f holds) in
+    -- the sign is right at no assignment before it
+    none_before : (f : Env) → IsAssignment content.mode content.variables f → IsBefore content.variables f e → ¬ meaning f sign
+    none_before f assigned_f before right =
+        let least = length_is_least content.mode content.variables f assigned_f in
+        let other = shortest_word content.variables f in
+        let not_before = first.none_before other (encoding_is_over content.variables other f least.0) (shortest_has f assigned_f right) in
         elim before [
           | inl shorter ↦ not_before (inl (omega (arith, shorter, least.1, as_long)))
           | inr (same, lower) ↦
               (let P : List Bool → Type 0 = λ bits. IsLower bits (bits_of_word word) in
-              let Q : List Bool → Type 0 = λ bits. IsLower (bits_of globals f) bits in
-              not_before (inr (least.1 ∙ same ∙ sym as_long, subst P (sym (bits_encoded globals other f least.0 least.1)) (subst Q (sym (bits_encoded globals word e encodes as_long)) lower))))
+              let Q : List Bool → Type 0 = λ bits. IsLower (bits_of content.variables f) bits in
+              not_before (inr (least.1 ∙ same ∙ sym as_long, subst P (sym (bits_encoded content.variables other f least.0 least.1)) (subst Q (sym (bits_encoded content.variables word e encodes as_long)) lower))))
         ]
 
-    is_first_assignment : IsFirst problem.mode globals (MainIs problem sign) e
-    is_first_assignment = record { assignment = assigns; holds = holds_first; none_before = none_before }
+    first_right : IsFirst content.mode content.variables (λ e. meaning e sign) e
+    first_right = record { assignment = assigned; holds = right_first; none_before = none_before }
 
-  -- the first word encodes an assignment
-  pub first_encodes : (word : Word) → IsAutomaton content → IsFirstWord content sign word → IsEncoding content.mode content.variables word
-  first_encodes word automaton first =
-      (automaton.encodings word first.over).1 (λ outside.
-      let same : sign ≡ Outside = same_Some sign Outside (sym first.has_sign ∙ outside) in
-      elim one_of [
-        | inl is_yes ↦ (let never : ⊥ = cc in never)
-        | inr is_no ↦ (let never : ⊥ = cc in never)
-      ])
+  -- the first word of a sign other than Outside encodes an assignment
+  pub first_encodes : (word : Word) → sign ≢ Outside → IsAutomaton content → IsFirstWord content sign word → IsEncoding content.mode content.variables word
+  first_encodes word inside automaton first =
+      (automaton.encodings word first.over).1 (λ outside. inside (same_Some sign Outside (sym first.has_sign ∙ outside)))
 
-  -- so what is shown of it is the first assignment of the value
-  pub first_shown : (word : Word) (shown : Assignment) → IsAutomaton content → IsFirstWord content sign word
+-- Yes and No are not Outside
+not_outside : (sign : Sign) → (sign ≡ Yes) ⊎ (sign ≡ No) → sign ≢ Outside
+not_outside sign one_of outside = elim one_of as (λ _. ⊥) [ inl is_yes ↦ (let never : ⊥ = cc in never) | inr is_no ↦ (let never : ⊥ = cc in never) ]
+
+module _ (problem : Problem) (content : Content Sign) (sign : Sign) (value : HasMainValue problem content) where
+  -- the main value is a meaning, since no formula is Yes and No at once
+  main_is_meaning : IsMeaning content.mode content.variables (main_meaning problem)
+  main_is_meaning =
+      IsMeaning-by content.mode content.variables (MainYes problem) (MainNo problem) (λ e assigned yes no. yes_is_not_no problem.given (conjunction problem.formulas) e yes.1 no.1)
+
+  -- an assignment of the globals is one of the content's variables
+  assigned_by : (e : Env) → Assigns problem e → IsAssignment content.mode content.variables e
+  assigned_by e assigns =
+      subst (λ vs. IsAssignment content.mode vs e) (sym value.variables) (subst (λ mode. IsAssignment mode (variables_of problem.globals) e) (sym value.mode) assigns)
+
+  -- where no word has the sign, no assignment has the value
+  pub none_shown : NoWordHas content sign → (e : Env) → Assigns problem e → ¬ main_meaning problem e sign
+  none_shown none e assigns = never_right (main_meaning problem) content main_is_meaning value.values sign none e (assigned_by e assigns)
+
+  -- what is shown of the first word is the first assignment of the value
+  pub first_shown : (word : Word) (shown : Assignment) → (sign ≡ Yes) ⊎ (sign ≡ No) → IsAutomaton content → IsFirstWord content sign word
       → ((e : Env) → IsAssignment content.mode content.variables e → Encodes content.variables word e → shown ≡ assignment_of content.variables e)
-      → ShowsFirst problem (MainIs problem sign) (Some shown)
-  first_shown word shown automaton first shows =
-      let found = first_encodes word automaton first in
+      → ShowsFirst problem (λ e. main_meaning problem e sign) (Some shown)
+  first_shown word shown one_of automaton first shows =
+      let found = first_encodes (main_meaning problem) content main_is_meaning value.values sign word (not_outside sign one_of) automaton first in
       let e = found.0 in
-      let A : Mode → Type 0 = λ mode. IsAssignment mode content.variables e in
-      let B : List Variable → Type 0 = λ vs. IsAssignment problem.mode vs e in
-      let C : List Variable → Type 0 = λ vs. Encodes vs word e in
-      let D : List Variable → Type 0 = λ vs. shown ≡ assignment_of vs e in
-      let assigns : Assigns problem e = subst B value.variables (subst A value.mode found.1) in
-      (e, is_first_assignment word first e assigns (subst C value.variables found.2), subst D value.variables (shows e found.1 found.2))
+      let is_first = first_right (main_meaning problem) content main_is_meaning value.values sign word first e found.1 found.2 in
+      let Holds : Env → Type 0 = λ f. main_meaning problem f sign in (
+        e,
+        subst (λ vs. IsFirst problem.mode vs Holds e) value.variables (subst (λ mode. IsFirst mode content.variables Holds e) value.mode is_first),
+        subst (λ vs. shown ≡ assignment_of vs e) value.variables (shows e found.1 found.2),
+      )

@@ -1,13 +1,9 @@
-pub mod Always
 pub mod Beyond
 pub mod Building
 pub mod Claims
 pub mod Deciding
-pub mod Excess
 pub mod FirstAssignments
-pub mod InclusionAutomaton
-pub mod InclusionRun
-pub mod InclusionValue
+pub mod InclusionLemmas
 pub mod Members
 pub mod PlainGlobals
 pub mod Results

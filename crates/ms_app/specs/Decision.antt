@@ -4,18 +4,9 @@ use Rattle.ms_logic.specs.declared.assignment.Assignment.{Assignment}
 use Rattle.ms_logic.specs.Assignment.{Env}
 use Rattle.ms_logic.specs.First.{IsFirst, assignment_of}
 use Rattle.ms_logic.specs.Verdict.{Problem, variables_of, Assigns, MainYes, MainNo, IsValid, IsUnsatisfiable, IsContingent, IsVacuous}
-use Rattle.ms_logic.specs.declared.sign.Sign.{Sign}
-use Rattle.ms_logic.specs.declared.sign.Sign.TheVariants.{Yes, No, Undefined, Outside}
 use Rattle.ms_report.specs.declared.found.Verdict.{Verdict}
 use Rattle.ms_report.specs.declared.found.Verdict.TheVariants.{Valid, Unsatisfiable, Contingent, Vacuous}
 use Rattle.ms_report.specs.declared.found.Found.{Found}
-
--- the main value at an assignment is the one that the sign stands for
-abbrev pub MainIs : Problem → Sign → Env → Type 0
-MainIs problem Yes e = MainYes problem e
-MainIs problem No e = MainNo problem e
-MainIs problem Undefined e = (¬ MainYes problem e) × (¬ MainNo problem e)
-MainIs problem Outside e = ⊥
 
 -- what is shown is the first assignment of the globals that has the property; nothing is shown where none has it
 abbrev pub ShowsFirst : Problem → (Env → Type 0) → Option Assignment → Type 0

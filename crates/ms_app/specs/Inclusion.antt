@@ -1,13 +1,10 @@
--- Automata of what is built: one for the inclusion of a set in another, and one for what always holds.
-use Rattle.std.specs.Prelude.{◌≡◌, ℕ, List, [], ◌∷◌}
-use Rattle.ms_logic.specs.declared.mode.Mode.TheVariants.{Ws1s}
+-- The machine of a claim about sets: from the state 0 it goes over to the state 1 at the first letter that has the bit 1 for
+-- the left set and 0 for the right one, and stays there.
+use Rattle.std.specs.Prelude.{ℕ, nat_eq, Bool, false, not, ◌&&◌, if◌then◌else◌, List}
+use Rattle.ms_explore.specs.declared.small.TrackBits.{TrackBits}
+use Rattle.ms_explore.specs.Small.{Table, bit_at}
 use Rattle.ms_logic.specs.Assignment.{Variable}
-use Rattle.ms_logic.specs.Content.{Content}
 use Rattle.ms_logic.specs.Verdict.{variables_of}
-use Rattle.ms_arena.specs.declared.node.Ref.{Ref}
-use Rattle.ms_arena.specs.declared.node.Ref.TheVariants.{Leaf}
-use Rattle.ms_arena.specs.declared.node.Node.{Node}
-use Rattle.ms_logic.specs.declared.sign.Sign.{Sign}
 use Rattle.ms_logic.specs.declared.sign.Sign.TheVariants.{Yes, No}
 use Rattle.ms_app.specs.Claim.{set_globals}
 use Rattle.ms_app.specs.declared.claim.Claim.{Claim}
@@ -17,30 +14,15 @@ use Rattle.ms_app.specs.declared.claim.Claim.TheVariants.{Nothing, Inclusion}
 abbrev pub sets : ℕ → List Variable
 sets count = variables_of (set_globals count)
 
-abbrev pub two_sets : List Variable
-two_sets = sets 2
+-- the bits contradict the claim: they have a position of the left set that is none of the right one
+abbrev pub contradicts : Claim → TrackBits → Bool
+contradicts Nothing bits = false
+contradicts (Inclusion left right) bits = bit_at bits left && not (bit_at bits right)
 
--- the content of an inclusion: it begins in a state with the sign Yes, and the diagram leads on from there
-abbrev pub inclusion_content : List Node → Ref → Content Sign
-inclusion_content nodes excess = record {
-  mode = Ws1s;
-  variables = two_sets;
-  start = Leaf 0;
-  states = record { sign = Yes; next = excess } ∷ record { sign = No; next = Leaf 1 } ∷ [];
-  nodes = nodes;
+abbrev pub table_of : Claim → Table
+table_of claim = record {
+  states = 2;
+  start = λ bits. 0;
+  step = λ state bits. if nat_eq state 0 then (if contradicts claim bits then 1 else 0) else state;
+  sign = λ state. if nat_eq state 0 then Yes else No;
 }
-
--- the content of what always holds: its one state has the sign Yes
-abbrev pub always_content : ℕ → Content Sign
-always_content count = record {
-  mode = Ws1s;
-  variables = sets count;
-  start = Leaf 0;
-  states = record { sign = Yes; next = Leaf 0 } ∷ [];
-  nodes = [];
-}
-
--- the claim always holds: there is none, or that a set lies in itself
-abbrev pub AlwaysHolds : Claim → Type 0
-AlwaysHolds Nothing = Unit {0}
-AlwaysHolds (Inclusion left right) = left ≡ right

@@ -2,8 +2,9 @@ ghost use Rattle.std.specs.Prelude.{◌≡◌, ◌⊎◌, [], map, IfOk};
 ghost use Rattle.ms_logic.specs.Verdict.{Problem};
 ghost use Rattle.ms_logic.specs.View.{problem_of};
 ghost use Rattle.ms_app.specs.Claim.{IsBuilt};
-ghost use Rattle.ms_app.specs.Decision.{MainIs, ShowsFirst, IsFound, verdict_by};
+ghost use Rattle.ms_app.specs.Decision.{ShowsFirst, IsFound, verdict_by};
 ghost use Rattle.ms_app.specs.HasValue.{HasMainValue};
+ghost use Rattle.ms_theory.specs.Values.{main_meaning};
 
 use crate::automaton::automaton;
 use crate::claim::claim_of;
@@ -20,7 +21,7 @@ const NODE_LIMIT: u64 = 16_777_216;
 /// The first assignment at which the automaton has the sign, if there is one.
 fn shown(alloc: Global, automaton: &Automaton, sign: Sign) -> Result<Option<Assignment>, NoMemory>
     requires { (sign ≡ Sign.Yes) ⊎ (sign ≡ Sign.No) }
-    ensures { IfOk result (λ found. (problem : Problem) → HasMainValue problem automaton.now → ShowsFirst problem (MainIs problem sign) found) }
+    ensures { IfOk result (λ found. (problem : Problem) → HasMainValue problem automaton.now → ShowsFirst problem (λ e. main_meaning problem e sign) found) }
 {
     match first(alloc, automaton, sign)? {
         Some(word) => {

@@ -1,0 +1,5 @@
+pub mod ExploredLemmas
+pub mod RunLemmas
+pub mod SmallLemmas
+pub mod PlacesLemmas
+pub mod TableLemmas

@@ -1,0 +1,4 @@
+pub mod Examples
+pub mod Explored
+pub mod Run
+pub mod Small
