@@ -7,7 +7,7 @@ ghost use Rattle.ms_names.specs.Progress.{IsEnd, checked_with};
 ghost use Rattle.std.specs.Prelude.{◌≡◌, ◌⊎◌, None, map, IfErr, IfOk};
 
 use crate::progress::Progress;
-use ms_edge::{List, NoMemory, Refusal, Text, push};
+use ms_edge::{List, NoMemory, Refusal, Text, let_go, push};
 use ms_logic::{Checked, Loaded, Mode};
 use std::alloc::Global;
 
@@ -30,8 +30,13 @@ fn passed(alloc: Global, loaded: &Loaded) -> Result<Progress, Refusal>
     let Ok(mut progress) = Progress::begin(alloc, loaded.mode, loaded.items.slice()) else {
         return Err(Refusal::Memory);
     };
-    progress.declare_all(loaded.items.slice())?;
-    Ok(progress)
+    match progress.declare_all(loaded.items.slice()) {
+        Ok(()) => Ok(progress),
+        Err(refusal) => {
+            let_go(progress);
+            Err(refusal)
+        }
+    }
 }
 
 // What all declarations gave, and the names of the files.
@@ -67,8 +72,9 @@ pub fn check(alloc: Global, loaded: &Loaded) -> Result<Checked, Refusal>
     ensures refused { IfErr result (λ refusal. (refusal ≡ Refusal.Memory) ⊎ IsFirstFault loaded.now refusal) }
 {
     let progress = passed(alloc, loaded)?;
-    match copy_texts(alloc, loaded.files.slice()) {
-        Ok(files) => Ok(checked(progress, loaded.mode, files)),
-        Err(_) => Err(Refusal::Memory),
-    }
+    let Ok(files) = copy_texts(alloc, loaded.files.slice()) else {
+        let_go(progress);
+        return Err(Refusal::Memory);
+    };
+    Ok(checked(progress, loaded.mode, files))
 }

@@ -6,8 +6,8 @@ use Rattle.ms_rules.specs.View.{placed_of}
 use Rattle.ms_rules.proofs.NumberedChecked.{well-numbered}
 use Rattle.ms_names.proofs.source.check.Goals as goal
 
-pub returns-in-Ok-clause-numbered : goal.returns-in-Ok-clause-numbered
-returns-in-Ok-clause-numbered c =
+pub returns-clause-numbered : goal.returns-clause-numbered
+returns-clause-numbered c =
     let is_typed : IsTyped c.args.loaded.now c.checked.result = first_of (search rules, grind (arith, common_steps)) in
     let right : first_fault_of c.args.loaded.now.mode (map placed_of c.args.loaded.now.items) ≡ None = first_of (search rules, grind (arith, common_steps)) in
     well-numbered c.args.loaded.now c.checked.result is_typed right
