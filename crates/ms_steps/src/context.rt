@@ -9,14 +9,13 @@ ghost use Rattle.ms_steps.specs.States.{StepsAs, context_of, read_of};
 use crate::frame::Frame;
 use crate::globals::end_global;
 use crate::go_on::{end_default, end_formula, end_predicate};
+use crate::input::Input;
 use crate::operand::Operand;
-use crate::parameters::end_parameter;
 use crate::state::{Parsed, State};
 use crate::stop::Stop;
 use crate::terminal::Terminal;
 use ms_edge::{At, List, Name};
 use ms_logic::{Bound, Order};
-use ms_text::Tokens;
 use std::alloc::Global;
 
 /// A declaration of variables that has been begun: the place of its word, and the variables so far.
@@ -72,9 +71,7 @@ impl Context {
     /// What ends the expression of a declaration.
     pub fn end_expression(
         self,
-        alloc: Global,
-        tokens: &Tokens,
-        file: u32,
+        input: Input<'_>,
         made: &mut Parsed,
         stack: &mut Vec<Frame>,
         operand: Operand,
@@ -82,15 +79,24 @@ impl Context {
         i: u32,
     ) -> Result<(State, u32), Stop>
         ensures { (bytes : List ℕ) (inside : Bool) → IsEnd inside (symbol_with terminal bytes) →
-            StepsAs file tokens.now (settle greatest_depth (context_of (read_of made.old) self) (symbol_with terminal bytes) inside (expression_of operand.expr, []) (behind file tokens.now (i - 1)) (behind file tokens.now i)) made.new stack.new.items result }
+            StepsAs input.entry.file input.entry.tokens.now (settle greatest_depth (context_of (read_of made.old) self) (symbol_with terminal bytes) inside (expression_of operand.expr, []) (behind input.entry.file input.entry.tokens.now (i - 1)) (behind input.entry.file input.entry.tokens.now i)) made.new stack.new.items result }
     {
         match self {
             Context::Formula(at) => end_formula(made, at, operand, terminal, i),
             Context::Global(globals, at_name, name) => {
-                end_global(alloc, made, globals, at_name, name, operand, terminal, i)
+                end_global(
+                    input.alloc,
+                    made,
+                    globals,
+                    at_name,
+                    name,
+                    operand,
+                    terminal,
+                    i,
+                )
             }
-            Context::Parameter(signature, order, at_name, name) => end_parameter(
-                alloc, tokens, file, stack, signature, order, at_name, name, operand, terminal, i,
+            Context::Parameter(signature, order, at_name, name) => input.end_parameter(
+                stack, signature, order, at_name, name, operand, terminal, i,
             ),
             Context::Predicate(signature) => end_predicate(made, signature, operand, terminal, i),
             Context::Default(at, order, name) => end_default(

@@ -9,14 +9,13 @@ ghost use Rattle.ms_steps.specs.Stack.{stack_of};
 ghost use Rattle.ms_grammar.specs.View.{expression_of};
 
 use crate::frame::Frame;
-use crate::input::terminal_at;
+use crate::input::Input;
 use crate::operand::GREATEST_DEPTH;
 use crate::outcome::Outcome;
 use crate::stack::push_frame;
 use crate::stop::Stop;
 use crate::terminal::Terminal;
 use ms_logic::{Expr, Form};
-use ms_text::Tokens;
 
 /// Whether the depth leaves room for an expression in a new frame.
 pub fn has_room(stack: &[Frame]) -> bool
@@ -49,17 +48,19 @@ fn may_begin(terminal: Terminal) -> bool
     }
 }
 
-/// Why the first token in a list cannot stand there, where the depth leaves no room for an expression.
-pub fn stop_inside(tokens: &Tokens, file: u32, i: u32) -> Stop
-    ensures { StopsAs file tokens.now (unopened (behind file tokens.now i)) result }
-{
-    let Some((terminal, _)) = terminal_at(tokens, file, i) else {
-        return Stop::Refused(i);
-    };
-    if may_begin(terminal) {
-        return Stop::TooDeep(i);
+impl Input<'_> {
+    /// Why the first token in a list cannot stand there, where the depth leaves no room for an expression.
+    pub fn stop_inside(self, i: u32) -> Stop
+        ensures { StopsAs self.entry.file self.entry.tokens.now (unopened (behind self.entry.file self.entry.tokens.now i)) result }
+    {
+        let Some((terminal, _)) = self.terminal_at(i) else {
+            return Stop::Refused(i);
+        };
+        if may_begin(terminal) {
+            return Stop::TooDeep(i);
+        }
+        Stop::Refused(i)
     }
-    Stop::Refused(i)
 }
 
 /// Puts a frame on the stack, where the depth leaves room for an expression in it, and else stops.

@@ -11,14 +11,10 @@ ghost use Rattle.ms_grammar.specs.View.{form_of};
 ghost use Rattle.ms_steps.specs.declared.frame.Frame.{Frame};
 ghost use Rattle.ms_steps.specs.declared.terminal.Terminal.TheVariants as terminals;
 
-use crate::begin::{
-    begin_empty, begin_export, begin_import, begin_literal, begin_name, begin_pconst,
-    begin_restrict,
-};
 use crate::complete::finish;
 use crate::enter::{enter, has_room};
 use crate::frame::Frame;
-use crate::input::{name_at, terminal_at};
+use crate::input::Input;
 use crate::opened::Opened;
 use crate::operand::{Bounds, Parts};
 use crate::outcome::Outcome;
@@ -28,7 +24,6 @@ use crate::top::need;
 use ms_edge::{At, List};
 use ms_grammar::{Bracket, Prefix};
 use ms_logic::{Form, Order, Quant};
-use ms_text::Tokens;
 use std::alloc::Global;
 
 fn begin_atom(at: At, form: Form, i: u32) -> Result<(Outcome, u32), Stop>
@@ -127,54 +122,50 @@ fn begin_let(
     Ok((Outcome::Part(at, order, parts), i))
 }
 
-/// A symbol other than a name begins an expression.
-fn begin_terminal(
-    alloc: Global,
-    tokens: &Tokens,
-    file: u32,
-    stack: &mut Vec<Frame>,
-    at: At,
-    terminal: Terminal,
-    i: u32,
-) -> Result<(Outcome, u32), Stop>
-    ensures { (c : Context) (bytes : List ℕ) → terminal ≢ terminals.Name →
-        ActsAs c file tokens.now (begin greatest_depth c (stack_of stack.old.items) at (symbol_with terminal bytes) (behind file tokens.now (i - 1)) (behind file tokens.now i)) stack.new.items result }
-{
-    match terminal {
-        Terminal::True => begin_atom(at, Form::True, i),
-        Terminal::False => begin_atom(at, Form::False, i),
-        Terminal::Dollar => begin_atom(at, Form::Whole, i),
-        Terminal::Number(number) => begin_atom(at, Form::Number(number), i),
-        Terminal::Empty => begin_empty(tokens, file, stack, at, i),
-        Terminal::Pconst => begin_pconst(alloc, tokens, file, stack, at, i),
-        Terminal::Import => begin_import(alloc, tokens, file, stack, at, i),
-        Terminal::Restrict => begin_restrict(tokens, file, stack, at, i),
-        Terminal::Export => begin_export(alloc, tokens, file, stack, at, i),
-        Terminal::OpenCurly => begin_literal(alloc, tokens, file, stack, at, i),
-        Terminal::OpenRound => begin_bracket(stack, at, i),
-        Terminal::Prefix(op) => begin_prefix(stack, at, op, i),
-        Terminal::Quantifier(quant, order) => begin_quantifier(alloc, stack, at, quant, order, i),
-        Terminal::Let(order) => begin_let(alloc, stack, at, order, i),
-        _ => Err(Stop::Refused(i.saturating_sub(1))),
+impl Input<'_> {
+    /// A symbol other than a name begins an expression.
+    fn begin_terminal(
+        self,
+        stack: &mut Vec<Frame>,
+        at: At,
+        terminal: Terminal,
+        i: u32,
+    ) -> Result<(Outcome, u32), Stop>
+        ensures { (c : Context) (bytes : List ℕ) → terminal ≢ terminals.Name →
+            ActsAs c self.entry.file self.entry.tokens.now (begin greatest_depth c (stack_of stack.old.items) at (symbol_with terminal bytes) (behind self.entry.file self.entry.tokens.now (i - 1)) (behind self.entry.file self.entry.tokens.now i)) stack.new.items result }
+    {
+        match terminal {
+            Terminal::True => begin_atom(at, Form::True, i),
+            Terminal::False => begin_atom(at, Form::False, i),
+            Terminal::Dollar => begin_atom(at, Form::Whole, i),
+            Terminal::Number(number) => begin_atom(at, Form::Number(number), i),
+            Terminal::Empty => self.begin_empty(stack, at, i),
+            Terminal::Pconst => self.begin_pconst(stack, at, i),
+            Terminal::Import => self.begin_import(stack, at, i),
+            Terminal::Restrict => self.begin_restrict(stack, at, i),
+            Terminal::Export => self.begin_export(stack, at, i),
+            Terminal::OpenCurly => self.begin_literal(stack, at, i),
+            Terminal::OpenRound => begin_bracket(stack, at, i),
+            Terminal::Prefix(op) => begin_prefix(stack, at, op, i),
+            Terminal::Quantifier(quant, order) => begin_quantifier(
+                self.alloc, stack, at, quant, order, i,
+            ),
+            Terminal::Let(order) => begin_let(self.alloc, stack, at, order, i),
+            _ => Err(Stop::Refused(i.saturating_sub(1))),
+        }
     }
-}
 
-/// A step where an expression is wanted.
-pub fn begin(
-    alloc: Global,
-    tokens: &Tokens,
-    file: u32,
-    stack: &mut Vec<Frame>,
-    i: u32,
-) -> Result<(Outcome, u32), Stop>
-    ensures { (c : Context) →
-        ActsAs c file tokens.now (step greatest_depth (wanted c (stack_of stack.old.items)) (behind file tokens.now i)) stack.new.items result }
-{
-    if let Some((name, at)) = name_at(alloc, tokens, file, i)? {
-        return begin_name(alloc, tokens, file, stack, at, name, i + 1);
+    /// A step where an expression is wanted.
+    pub fn begin(self, stack: &mut Vec<Frame>, i: u32) -> Result<(Outcome, u32), Stop>
+        ensures { (c : Context) →
+            ActsAs c self.entry.file self.entry.tokens.now (step greatest_depth (wanted c (stack_of stack.old.items)) (behind self.entry.file self.entry.tokens.now i)) stack.new.items result }
+    {
+        if let Some((name, at)) = self.name_at(i)? {
+            return self.begin_name(stack, at, name, i + 1);
+        }
+        let Some((terminal, at)) = self.terminal_at(i) else {
+            return Err(Stop::Refused(i));
+        };
+        self.begin_terminal(stack, at, terminal, i + 1)
     }
-    let Some((terminal, at)) = terminal_at(tokens, file, i) else {
-        return Err(Stop::Refused(i));
-    };
-    begin_terminal(alloc, tokens, file, stack, at, terminal, i + 1)
 }

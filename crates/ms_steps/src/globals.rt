@@ -13,7 +13,7 @@ ghost use Rattle.ms_grammar.specs.Grammar.{greatest_depth};
 use crate::context::{Context, Globals};
 use crate::declare::{begin_expression, declared};
 use crate::frame::Frame;
-use crate::input::{name_at, terminal_at};
+use crate::input::Input;
 use crate::lists::push_variable;
 use crate::memory::boxed;
 use crate::operand::Operand;
@@ -22,7 +22,6 @@ use crate::stop::Stop;
 use crate::terminal::Terminal;
 use ms_edge::{At, Boxed, Name};
 use ms_logic::{Decl, Expr};
-use ms_text::Tokens;
 use std::alloc::Global;
 
 /// A comma behind a variable that is declared.
@@ -87,25 +86,25 @@ fn behind_global(
     }
 }
 
-/// A variable that is declared and what stands behind it, where a variable is wanted.
-pub fn next_global(
-    alloc: Global,
-    tokens: &Tokens,
-    file: u32,
-    made: &mut Parsed,
-    stack: &mut Vec<Frame>,
-    globals: Globals,
-    i: u32,
-) -> Result<(State, u32), Stop>
-    ensures { StepsAs file tokens.now (next_global (read_of made.old) globals.at globals.order (variables_of globals.list) (behind file tokens.now i)) made.new stack.new.items result }
-{
-    let Some((name, at_name)) = name_at(alloc, tokens, file, i)? else {
-        return Err(Stop::Refused(i));
-    };
-    let Some((terminal, _)) = terminal_at(tokens, file, i + 1) else {
-        return Err(Stop::Refused(i + 1));
-    };
-    behind_global(made, stack, globals, at_name, name, terminal, i + 2)
+impl Input<'_> {
+    /// A variable that is declared and what stands behind it, where a variable is wanted.
+    pub fn next_global(
+        self,
+        made: &mut Parsed,
+        stack: &mut Vec<Frame>,
+        globals: Globals,
+        i: u32,
+    ) -> Result<(State, u32), Stop>
+        ensures { StepsAs self.entry.file self.entry.tokens.now (next_global (read_of made.old) globals.at globals.order (variables_of globals.list) (behind self.entry.file self.entry.tokens.now i)) made.new stack.new.items result }
+    {
+        let Some((name, at_name)) = self.name_at(i)? else {
+            return Err(Stop::Refused(i));
+        };
+        let Some((terminal, _)) = self.terminal_at(i + 1) else {
+            return Err(Stop::Refused(i + 1));
+        };
+        behind_global(made, stack, globals, at_name, name, terminal, i + 2)
+    }
 }
 
 /// What ends the restriction of a variable that is declared.

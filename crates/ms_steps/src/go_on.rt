@@ -17,19 +17,18 @@ use crate::bound::{bound, ends_part};
 use crate::context::{Context, Signature};
 use crate::declare::{declared, inside};
 use crate::frame::Frame;
-use crate::input::terminal_at;
+use crate::input::Input;
 use crate::join::join;
 use crate::operand::Operand;
 use crate::outcome::Outcome;
 use crate::row::row_of;
-use crate::settle::{shift, shift_int};
+use crate::settle::shift;
 use crate::stack::{collapse, pop_frame};
 use crate::state::{Parsed, State};
 use crate::stop::Stop;
 use crate::terminal::Terminal;
 use ms_edge::{At, Name};
 use ms_logic::{Decl, Order};
-use ms_text::Tokens;
 use std::alloc::Global;
 
 fn is_operator(terminal: Terminal, is_end: bool) -> bool
@@ -44,24 +43,24 @@ fn is_operator(terminal: Terminal, is_end: bool) -> bool
     }
 }
 
-/// An operator behind its left operand, with the frames around it that go on.
-fn settle_operator(
-    alloc: Global,
-    tokens: &Tokens,
-    file: u32,
-    stack: &mut Vec<Frame>,
-    operand: Operand,
-    terminal: Terminal,
-    i: u32,
-) -> Result<(Outcome, u32), Stop>
-    ensures { (c : machine.Context) (bytes : List ℕ) (inside : Bool) → IsOperator inside (symbol_with terminal bytes) →
-        ActsAs c file tokens.now (settle greatest_depth c (symbol_with terminal bytes) inside (expression_of operand.expr, stack_of stack.old.items) (behind file tokens.now (i - 1)) (behind file tokens.now i)) stack.new.items result }
-{
-    match terminal {
-        Terminal::Infix(op) => shift(stack, op, operand, i),
-        Terminal::Joining(op) => join(alloc, stack, op, operand, i),
-        Terminal::Shift(minus) => shift_int(alloc, tokens, file, stack, operand, minus, i),
-        _ => Err(Stop::Refused(i.saturating_sub(1))),
+impl Input<'_> {
+    /// An operator behind its left operand, with the frames around it that go on.
+    fn settle_operator(
+        self,
+        stack: &mut Vec<Frame>,
+        operand: Operand,
+        terminal: Terminal,
+        i: u32,
+    ) -> Result<(Outcome, u32), Stop>
+        ensures { (c : machine.Context) (bytes : List ℕ) (inside : Bool) → IsOperator inside (symbol_with terminal bytes) →
+            ActsAs c self.entry.file self.entry.tokens.now (settle greatest_depth c (symbol_with terminal bytes) inside (expression_of operand.expr, stack_of stack.old.items) (behind self.entry.file self.entry.tokens.now (i - 1)) (behind self.entry.file self.entry.tokens.now i)) stack.new.items result }
+    {
+        match terminal {
+            Terminal::Infix(op) => shift(stack, op, operand, i),
+            Terminal::Joining(op) => join(self.alloc, stack, op, operand, i),
+            Terminal::Shift(minus) => self.shift_int(stack, operand, minus, i),
+            _ => Err(Stop::Refused(i.saturating_sub(1))),
+        }
     }
 }
 
@@ -154,63 +153,50 @@ pub fn end_default(
     }
 }
 
-/// A terminal behind an expression, once the frames that end before it are completed.
-fn settle(
-    alloc: Global,
-    tokens: &Tokens,
-    file: u32,
-    made: &mut Parsed,
-    stack: &mut Vec<Frame>,
-    context: Context,
-    operand: Operand,
-    terminal: Terminal,
-    is_end: bool,
-    i: u32,
-) -> Result<(State, u32), Stop>
-    ensures { (bytes : List ℕ) (inside : Bool) → is_end ≡ ends_part inside (symbol_with terminal bytes) →
-        StepsAs file tokens.now (settle greatest_depth (context_of (read_of made.old) context) (symbol_with terminal bytes) inside (expression_of operand.expr, stack_of stack.old.items) (behind file tokens.now (i - 1)) (behind file tokens.now i)) made.new stack.new.items result }
-{
-    if is_operator(terminal, is_end) {
-        let taken = settle_operator(alloc, tokens, file, stack, operand, terminal, i);
-        return inside(context, taken);
+impl Input<'_> {
+    /// A terminal behind an expression, once the frames that end before it are completed.
+    fn settle(
+        self,
+        made: &mut Parsed,
+        stack: &mut Vec<Frame>,
+        context: Context,
+        operand: Operand,
+        terminal: Terminal,
+        is_end: bool,
+        i: u32,
+    ) -> Result<(State, u32), Stop>
+        ensures { (bytes : List ℕ) (inside : Bool) → is_end ≡ ends_part inside (symbol_with terminal bytes) →
+            StepsAs self.entry.file self.entry.tokens.now (settle greatest_depth (context_of (read_of made.old) context) (symbol_with terminal bytes) inside (expression_of operand.expr, stack_of stack.old.items) (behind self.entry.file self.entry.tokens.now (i - 1)) (behind self.entry.file self.entry.tokens.now i)) made.new stack.new.items result }
+    {
+        if is_operator(terminal, is_end) {
+            let taken = self.settle_operator(stack, operand, terminal, i);
+            return inside(context, taken);
+        }
+        match pop_frame(stack) {
+            Some(frame) => inside(
+                context,
+                settle_frame(self.alloc, stack, frame, operand, terminal, i),
+            ),
+            None => context.end_expression(self, made, stack, operand, terminal, i),
+        }
     }
-    match pop_frame(stack) {
-        Some(frame) => inside(
-            context,
-            settle_frame(alloc, stack, frame, operand, terminal, i),
-        ),
-        None => context.end_expression(alloc, tokens, file, made, stack, operand, terminal, i),
-    }
-}
 
-/// A step where an expression has been read.
-pub fn go_on(
-    alloc: Global,
-    tokens: &Tokens,
-    file: u32,
-    made: &mut Parsed,
-    stack: &mut Vec<Frame>,
-    context: Context,
-    operand: Operand,
-    i: u32,
-) -> Result<(State, u32), Stop>
-    ensures { StepsAs file tokens.now (step greatest_depth (holding (context_of (read_of made.old) context) (expression_of operand.expr) (stack_of stack.old.items)) (behind file tokens.now i)) made.new stack.new.items result }
-{
-    let Some((terminal, _)) = terminal_at(tokens, file, i) else {
-        return Err(Stop::Refused(i));
-    };
-    let is_end = ends_part(stack, terminal);
-    let operand = collapse(alloc, stack, operand, bound(terminal, is_end), i)?;
-    settle(
-        alloc,
-        tokens,
-        file,
-        made,
-        stack,
-        context,
-        operand,
-        terminal,
-        is_end,
-        i + 1,
-    )
+    /// A step where an expression has been read.
+    pub fn go_on(
+        self,
+        made: &mut Parsed,
+        stack: &mut Vec<Frame>,
+        context: Context,
+        operand: Operand,
+        i: u32,
+    ) -> Result<(State, u32), Stop>
+        ensures { StepsAs self.entry.file self.entry.tokens.now (step greatest_depth (holding (context_of (read_of made.old) context) (expression_of operand.expr) (stack_of stack.old.items)) (behind self.entry.file self.entry.tokens.now i)) made.new stack.new.items result }
+    {
+        let Some((terminal, _)) = self.terminal_at(i) else {
+            return Err(Stop::Refused(i));
+        };
+        let is_end = ends_part(stack, terminal);
+        let operand = collapse(self.alloc, stack, operand, bound(terminal, is_end), i)?;
+        self.settle(made, stack, context, operand, terminal, is_end, i + 1)
+    }
 }

@@ -8,6 +8,14 @@ use ms_text::{Kind, Tokens};
 use std::alloc::Global;
 use std::str;
 
+/// The tokens of a source, and the number of its file.
+#[derive(Clone, Copy)]
+pub struct Input<'a> {
+    pub alloc: Global,
+    pub tokens: &'a Tokens,
+    pub file: u32,
+}
+
 pub fn at_of(file: u32, place: u64) -> At
     ensures { result ≡ record { file = file; place = place } }
 {
@@ -40,51 +48,52 @@ fn is_text(kind: Kind) -> bool
     matches!(kind, Kind::Text)
 }
 
-/// The name that the token with a number is, and its place.
-pub fn name_at(
-    alloc: Global,
-    tokens: &Tokens,
-    file: u32,
-    i: u32,
-) -> Result<Option<(Name, At)>, NoMemory>
-    ensures next { IfOk result (λ found. IfSome found (λ one. IsNext file tokens.now i (name one.0) one.1)) }
-    ensures within { IfOk result (λ found. IfSome found (λ one. i < 67108864)) }
-    ensures other { IfOk result (λ found. IfNone found (NoName (behind file tokens.now i))) }
-{
-    if i >= tokens.len() {
-        return Ok(None);
+impl Input<'_> {
+    /// The terminal and the place of the token with a number, where there is one.
+    pub fn terminal_at(self, i: u32) -> Option<(Terminal, At)>
+        ensures next { IfSome result (λ found. (bytes : List ℕ) × IsNext self.entry.file self.entry.tokens.now i (symbol_with found.0 bytes) found.1) }
+        ensures within { IfSome result (λ found. i < 67108864) }
+        ensures end { IfNone result (behind self.entry.file self.entry.tokens.now i ≡ []) }
+    {
+        terminal_at(self.tokens, self.file, i)
     }
-    let token = tokens.get(i);
-    if !is_name(token.kind) {
-        return Ok(None);
-    }
-    match str::from_utf8(tokens.slice(i)) {
-        Ok(name) => Ok(Some((Name::new(alloc, name)?, at_of(file, token.place)))),
-        Err(_) => Ok(None),
-    }
-}
 
-/// What stands between the quotes of the text that the token with a number is, and its place.
-pub fn text_at(
-    alloc: Global,
-    tokens: &Tokens,
-    file: u32,
-    i: u32,
-) -> Result<Option<(Text, At)>, NoMemory>
-    ensures next { IfOk result (λ found. IfSome found (λ one. IsNext file tokens.now i (text one.0) one.1)) }
-    ensures within { IfOk result (λ found. IfSome found (λ one. i < 67108864)) }
-    ensures other { IfOk result (λ found. IfNone found (NoText (behind file tokens.now i))) }
-{
-    if i >= tokens.len() {
-        return Ok(None);
+    /// The name that the token with a number is, and its place.
+    pub fn name_at(self, i: u32) -> Result<Option<(Name, At)>, NoMemory>
+        ensures next { IfOk result (λ found. IfSome found (λ one. IsNext self.entry.file self.entry.tokens.now i (name one.0) one.1)) }
+        ensures within { IfOk result (λ found. IfSome found (λ one. i < 67108864)) }
+        ensures other { IfOk result (λ found. IfNone found (NoName (behind self.entry.file self.entry.tokens.now i))) }
+    {
+        if i >= self.tokens.len() {
+            return Ok(None);
+        }
+        let token = self.tokens.get(i);
+        if !is_name(token.kind) {
+            return Ok(None);
+        }
+        match str::from_utf8(self.tokens.slice(i)) {
+            Ok(name) => Ok(Some((Name::new(self.alloc, name)?, at_of(self.file, token.place)))),
+            Err(_) => Ok(None),
+        }
     }
-    let token = tokens.get(i);
-    if !is_text(token.kind) {
-        return Ok(None);
-    }
-    match str::from_utf8(between_quotes(tokens.slice(i))) {
-        Ok(text) => Ok(Some((Text::new(alloc, text)?, at_of(file, token.place)))),
-        Err(_) => Ok(None),
+
+    /// What stands between the quotes of the text that the token with a number is, and its place.
+    pub fn text_at(self, i: u32) -> Result<Option<(Text, At)>, NoMemory>
+        ensures next { IfOk result (λ found. IfSome found (λ one. IsNext self.entry.file self.entry.tokens.now i (text one.0) one.1)) }
+        ensures within { IfOk result (λ found. IfSome found (λ one. i < 67108864)) }
+        ensures other { IfOk result (λ found. IfNone found (NoText (behind self.entry.file self.entry.tokens.now i))) }
+    {
+        if i >= self.tokens.len() {
+            return Ok(None);
+        }
+        let token = self.tokens.get(i);
+        if !is_text(token.kind) {
+            return Ok(None);
+        }
+        match str::from_utf8(between_quotes(self.tokens.slice(i))) {
+            Ok(text) => Ok(Some((Text::new(self.alloc, text)?, at_of(self.file, token.place)))),
+            Err(_) => Ok(None),
+        }
     }
 }
 

@@ -12,94 +12,90 @@ ghost use Rattle.ms_grammar.specs.Grammar.{greatest_depth};
 use crate::complete::finish;
 use crate::enter::enter;
 use crate::frame::Frame;
-use crate::input::{name_at, terminal_at};
+use crate::input::Input;
 use crate::lists::push_variable;
 use crate::memory::push;
 use crate::opened::Opened;
 use crate::operand::{Bounds, Parts};
 use crate::outcome::Outcome;
-use crate::punctuation::{Punctuation, behind_mark};
+use crate::punctuation::Punctuation;
 use crate::stop::Stop;
 use crate::terminal::Terminal;
 use ms_edge::{At, List, Name, Text};
 use ms_logic::{Form, Order, Quant, Rename};
-use ms_text::Tokens;
-use std::alloc::Global;
 
-/// A name of a `let` and `=`, where a name is wanted.
-pub fn next_part(
-    alloc: Global,
-    tokens: &Tokens,
-    file: u32,
-    stack: &mut Vec<Frame>,
-    at: At,
-    order: Order,
-    parts: Parts,
-    i: u32,
-) -> Result<(Outcome, u32), Stop>
-    ensures { (c : Context) →
-        ActsAs c file tokens.now (next_part greatest_depth c (stack_of stack.old.items) at order (parts_of parts.list) (behind file tokens.now i)) stack.new.items result }
-{
-    let Some((name, at_name)) = name_at(alloc, tokens, file, i)? else {
-        return Err(Stop::Refused(i));
-    };
-    let Some(next) = behind_mark(tokens, file, i + 1, Punctuation::Equal) else {
-        return Err(Stop::Refused(i + 1));
-    };
-    let Parts { list, height } = parts;
-    let frame = Frame {
-        opened: Opened::Part(at, order, list, at_name, name),
-        height,
-    };
-    enter(stack, frame, next, Stop::TooDeep(i + 1))
-}
-
-/// A pair of an import behind its comma, and the number behind it.
-fn pair_at(alloc: Global, tokens: &Tokens, file: u32, i: u32) -> Result<(Rename, u32), Stop>
-    ensures { (further : Rename → List Placed → Step) → Continues file tokens.now (pair_then further (behind file tokens.now i)) further result }
-{
-    let Some((left, at)) = name_at(alloc, tokens, file, i)? else {
-        return Err(Stop::Refused(i));
-    };
-    let Some(to) = behind_mark(tokens, file, i + 1, Punctuation::Arrow) else {
-        return Err(Stop::Refused(i + 1));
-    };
-    let Some((right, at_right)) = name_at(alloc, tokens, file, to)? else {
-        return Err(Stop::Refused(to));
-    };
-    let pair = Rename {
-        at,
-        left,
-        at_right,
-        right,
-    };
-    Ok((pair, to + 1))
-}
-
-/// A pair of an import or its end, where these are wanted.
-pub fn next_pair(
-    alloc: Global,
-    tokens: &Tokens,
-    file: u32,
-    stack: &mut Vec<Frame>,
-    at: At,
-    text: Text,
-    mut pairs: List<Rename>,
-    i: u32,
-) -> Result<(Outcome, u32), Stop>
-    ensures { (c : Context) →
-        ActsAs c file tokens.now (next_pair c (stack_of stack.old.items) at text pairs (behind file tokens.now i)) stack.new.items result }
-{
-    if let Some(next) = behind_mark(tokens, file, i, Punctuation::CloseRound) {
-        let operand = finish(at, Form::Import(text, pairs), 0, i)?;
-        return Ok((Outcome::Holding(operand), next));
+impl Input<'_> {
+    /// A name of a `let` and `=`, where a name is wanted.
+    pub fn next_part(
+        self,
+        stack: &mut Vec<Frame>,
+        at: At,
+        order: Order,
+        parts: Parts,
+        i: u32,
+    ) -> Result<(Outcome, u32), Stop>
+        ensures { (c : Context) →
+            ActsAs c self.entry.file self.entry.tokens.now (next_part greatest_depth c (stack_of stack.old.items) at order (parts_of parts.list) (behind self.entry.file self.entry.tokens.now i)) stack.new.items result }
+    {
+        let Some((name, at_name)) = self.name_at(i)? else {
+            return Err(Stop::Refused(i));
+        };
+        let Some(next) = self.behind_mark(i + 1, Punctuation::Equal) else {
+            return Err(Stop::Refused(i + 1));
+        };
+        let Parts { list, height } = parts;
+        let frame = Frame {
+            opened: Opened::Part(at, order, list, at_name, name),
+            height,
+        };
+        enter(stack, frame, next, Stop::TooDeep(i + 1))
     }
-    let Some(from) = behind_mark(tokens, file, i, Punctuation::Comma) else {
-        return Err(Stop::Refused(i));
-    };
-    let (pair, next) = pair_at(alloc, tokens, file, from)?;
-    push(&mut pairs, pair)?;
-    Ok((Outcome::Pair(at, text, pairs), next))
+
+    /// A pair of an import behind its comma, and the number behind it.
+    fn pair_at(self, i: u32) -> Result<(Rename, u32), Stop>
+        ensures { (further : Rename → List Placed → Step) → Continues self.entry.file self.entry.tokens.now (pair_then further (behind self.entry.file self.entry.tokens.now i)) further result }
+    {
+        let Some((left, at)) = self.name_at(i)? else {
+            return Err(Stop::Refused(i));
+        };
+        let Some(to) = self.behind_mark(i + 1, Punctuation::Arrow) else {
+            return Err(Stop::Refused(i + 1));
+        };
+        let Some((right, at_right)) = self.name_at(to)? else {
+            return Err(Stop::Refused(to));
+        };
+        let pair = Rename {
+            at,
+            left,
+            at_right,
+            right,
+        };
+        Ok((pair, to + 1))
+    }
+
+    /// A pair of an import or its end, where these are wanted.
+    pub fn next_pair(
+        self,
+        stack: &mut Vec<Frame>,
+        at: At,
+        text: Text,
+        mut pairs: List<Rename>,
+        i: u32,
+    ) -> Result<(Outcome, u32), Stop>
+        ensures { (c : Context) →
+            ActsAs c self.entry.file self.entry.tokens.now (next_pair c (stack_of stack.old.items) at text pairs (behind self.entry.file self.entry.tokens.now i)) stack.new.items result }
+    {
+        if let Some(next) = self.behind_mark(i, Punctuation::CloseRound) {
+            let operand = finish(at, Form::Import(text, pairs), 0, i)?;
+            return Ok((Outcome::Holding(operand), next));
+        }
+        let Some(from) = self.behind_mark(i, Punctuation::Comma) else {
+            return Err(Stop::Refused(i));
+        };
+        let (pair, next) = self.pair_at(from)?;
+        push(&mut pairs, pair)?;
+        Ok((Outcome::Pair(at, text, pairs), next))
+    }
 }
 
 /// What stands behind a variable of a binder.
@@ -149,36 +145,36 @@ fn behind_variable(
     }
 }
 
-/// A variable of a binder and what stands behind it, where a variable is wanted.
-pub fn next_variable(
-    alloc: Global,
-    tokens: &Tokens,
-    file: u32,
-    stack: &mut Vec<Frame>,
-    at: At,
-    quant: Quant,
-    order: Order,
-    bounds: Bounds,
-    i: u32,
-) -> Result<(Outcome, u32), Stop>
-    ensures { (c : Context) →
-        ActsAs c file tokens.now (next_variable greatest_depth c (stack_of stack.old.items) at quant order (variables_of bounds.list) (behind file tokens.now i)) stack.new.items result }
-{
-    let Some((name, at_name)) = name_at(alloc, tokens, file, i)? else {
-        return Err(Stop::Refused(i));
-    };
-    let Some((terminal, _)) = terminal_at(tokens, file, i + 1) else {
-        return Err(Stop::Refused(i + 1));
-    };
-    behind_variable(
-        stack,
-        at,
-        quant,
-        order,
-        bounds,
-        at_name,
-        name,
-        terminal,
-        i + 2,
-    )
+impl Input<'_> {
+    /// A variable of a binder and what stands behind it, where a variable is wanted.
+    pub fn next_variable(
+        self,
+        stack: &mut Vec<Frame>,
+        at: At,
+        quant: Quant,
+        order: Order,
+        bounds: Bounds,
+        i: u32,
+    ) -> Result<(Outcome, u32), Stop>
+        ensures { (c : Context) →
+            ActsAs c self.entry.file self.entry.tokens.now (next_variable greatest_depth c (stack_of stack.old.items) at quant order (variables_of bounds.list) (behind self.entry.file self.entry.tokens.now i)) stack.new.items result }
+    {
+        let Some((name, at_name)) = self.name_at(i)? else {
+            return Err(Stop::Refused(i));
+        };
+        let Some((terminal, _)) = self.terminal_at(i + 1) else {
+            return Err(Stop::Refused(i + 1));
+        };
+        behind_variable(
+            stack,
+            at,
+            quant,
+            order,
+            bounds,
+            at_name,
+            name,
+            terminal,
+            i + 2,
+        )
+    }
 }

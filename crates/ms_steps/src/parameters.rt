@@ -14,34 +14,33 @@ ghost use Rattle.ms_grammar.specs.Grammar.{greatest_depth};
 use crate::context::{Context, Signature};
 use crate::declare::begin_expression;
 use crate::frame::Frame;
-use crate::input::{name_at, terminal_at};
+use crate::input::Input;
 use crate::lists::push_variable;
 use crate::memory::boxed;
 use crate::operand::Operand;
-use crate::punctuation::{Punctuation, behind_mark};
+use crate::punctuation::Punctuation;
 use crate::state::State;
 use crate::stop::Stop;
 use crate::terminal::Terminal;
 use ms_edge::{At, Boxed, List, Name};
 use ms_logic::{Bound, Expr, Order};
-use ms_text::Tokens;
-use std::alloc::Global;
 
-/// `=` behind the parameters of a predicate.
-pub fn body_of(
-    tokens: &Tokens,
-    file: u32,
-    stack: &mut Vec<Frame>,
-    signature: Signature,
-    i: u32,
-) -> Result<(State, u32), Stop>
-    ensures { (made : Parsed) →
-        StepsAs file tokens.now (body_of (read_of made) signature.at signature.is_pred signature.at_name signature.name (variables_of signature.parameters) (behind file tokens.now i)) made stack.new.items result }
-{
-    let Some(next) = behind_mark(tokens, file, i, Punctuation::Equal) else {
-        return Err(Stop::Refused(i));
-    };
-    begin_expression(stack, Context::Predicate(signature), next)
+impl Input<'_> {
+    /// `=` behind the parameters of a predicate.
+    pub fn body_of(
+        self,
+        stack: &mut Vec<Frame>,
+        signature: Signature,
+        i: u32,
+    ) -> Result<(State, u32), Stop>
+        ensures { (made : Parsed) →
+            StepsAs self.entry.file self.entry.tokens.now (body_of (read_of made) signature.at signature.is_pred signature.at_name signature.name (variables_of signature.parameters) (behind self.entry.file self.entry.tokens.now i)) made stack.new.items result }
+    {
+        let Some(next) = self.behind_mark(i, Punctuation::Equal) else {
+            return Err(Stop::Refused(i));
+        };
+        begin_expression(stack, Context::Predicate(signature), next)
+    }
 }
 
 /// A comma behind a parameter.
@@ -61,56 +60,54 @@ fn another_parameter(
     Ok((State::Parameter(signature), i))
 }
 
-/// The bracket behind the last parameter.
-fn last_parameter(
-    tokens: &Tokens,
-    file: u32,
-    stack: &mut Vec<Frame>,
-    signature: Signature,
-    order: Order,
-    at_name: At,
-    name: Name,
-    domain: Option<Boxed<Expr>>,
-    i: u32,
-) -> Result<(State, u32), Stop>
-    ensures { (made : Parsed) →
-        StepsAs file tokens.now (body_of (read_of made) signature.at signature.is_pred signature.at_name signature.name (and_variable (variables_of signature.parameters) at_name order name (domain_of domain)) (behind file tokens.now i)) made stack.new.items result }
-{
-    let mut signature = signature;
-    push_variable(&mut signature.parameters, at_name, order, name, domain)?;
-    body_of(tokens, file, stack, signature, i)
-}
+impl Input<'_> {
+    /// The bracket behind the last parameter.
+    fn last_parameter(
+        self,
+        stack: &mut Vec<Frame>,
+        signature: Signature,
+        order: Order,
+        at_name: At,
+        name: Name,
+        domain: Option<Boxed<Expr>>,
+        i: u32,
+    ) -> Result<(State, u32), Stop>
+        ensures { (made : Parsed) →
+            StepsAs self.entry.file self.entry.tokens.now (body_of (read_of made) signature.at signature.is_pred signature.at_name signature.name (and_variable (variables_of signature.parameters) at_name order name (domain_of domain)) (behind self.entry.file self.entry.tokens.now i)) made stack.new.items result }
+    {
+        let mut signature = signature;
+        push_variable(&mut signature.parameters, at_name, order, name, domain)?;
+        self.body_of(stack, signature, i)
+    }
 
-/// What stands behind a parameter.
-fn behind_parameter(
-    tokens: &Tokens,
-    file: u32,
-    stack: &mut Vec<Frame>,
-    signature: Signature,
-    order: Order,
-    at_name: At,
-    name: Name,
-    terminal: Terminal,
-    i: u32,
-) -> Result<(State, u32), Stop>
-    ensures { (made : Parsed) (bytes : List ℕ) →
-        StepsAs file tokens.now (behind_parameter (read_of made) signature.at signature.is_pred signature.at_name signature.name (variables_of signature.parameters) order at_name name (symbol_with terminal bytes) (behind file tokens.now (i - 1)) (behind file tokens.now i)) made stack.new.items result }
-{
-    match terminal {
-        Terminal::Where => {
-            begin_expression(
-                stack,
-                Context::Parameter(signature, order, at_name, name),
-                i,
-            )
+    /// What stands behind a parameter.
+    fn behind_parameter(
+        self,
+        stack: &mut Vec<Frame>,
+        signature: Signature,
+        order: Order,
+        at_name: At,
+        name: Name,
+        terminal: Terminal,
+        i: u32,
+    ) -> Result<(State, u32), Stop>
+        ensures { (made : Parsed) (bytes : List ℕ) →
+            StepsAs self.entry.file self.entry.tokens.now (behind_parameter (read_of made) signature.at signature.is_pred signature.at_name signature.name (variables_of signature.parameters) order at_name name (symbol_with terminal bytes) (behind self.entry.file self.entry.tokens.now (i - 1)) (behind self.entry.file self.entry.tokens.now i)) made stack.new.items result }
+    {
+        match terminal {
+            Terminal::Where => {
+                begin_expression(
+                    stack,
+                    Context::Parameter(signature, order, at_name, name),
+                    i,
+                )
+            }
+            Terminal::Comma => another_parameter(signature, order, at_name, name, None, i),
+            Terminal::CloseRound => {
+                self.last_parameter(stack, signature, order, at_name, name, None, i)
+            }
+            _ => Err(Stop::Refused(i.saturating_sub(1))),
         }
-        Terminal::Comma => another_parameter(signature, order, at_name, name, None, i),
-        Terminal::CloseRound => {
-            last_parameter(
-                tokens, file, stack, signature, order, at_name, name, None, i,
-            )
-        }
-        _ => Err(Stop::Refused(i.saturating_sub(1))),
     }
 }
 
@@ -124,86 +121,72 @@ fn last_order(parameters: &List<Bound>) -> Option<Order>
     Some(parameters.get(parameters.len() - 1).order)
 }
 
-/// The order of the parameter that begins at a token, and the number of its name's token.
-fn kind_at(tokens: &Tokens, file: u32, parameters: &List<Bound>, i: u32) -> Option<(Order, u32)>
-    ensures some { IfSome result (λ found. IsKind (variables_of parameters.now) found.0 (behind file tokens.now i) (behind file tokens.now found.1)) }
-    ensures none { IfNone result (NoKind (variables_of parameters.now) (behind file tokens.now i)) }
-{
-    if let Some((Terminal::Variables(order), _)) = terminal_at(tokens, file, i) {
-        return Some((order, i + 1));
+impl Input<'_> {
+    /// The order of the parameter that begins at a token, and the number of its name's token.
+    fn kind_at(self, parameters: &List<Bound>, i: u32) -> Option<(Order, u32)>
+        ensures some { IfSome result (λ found. IsKind (variables_of parameters.now) found.0 (behind self.entry.file self.entry.tokens.now i) (behind self.entry.file self.entry.tokens.now found.1)) }
+        ensures none { IfNone result (NoKind (variables_of parameters.now) (behind self.entry.file self.entry.tokens.now i)) }
+    {
+        if let Some((Terminal::Variables(order), _)) = self.terminal_at(i) {
+            return Some((order, i + 1));
+        }
+        match last_order(parameters) {
+            Some(order) => Some((order, i)),
+            None => None,
+        }
     }
-    match last_order(parameters) {
-        Some(order) => Some((order, i)),
-        None => None,
+
+    /// A parameter and what stands behind it, where a parameter is wanted.
+    pub fn next_parameter(
+        self,
+        stack: &mut Vec<Frame>,
+        signature: Signature,
+        i: u32,
+    ) -> Result<(State, u32), Stop>
+        ensures { (made : Parsed) →
+            StepsAs self.entry.file self.entry.tokens.now (next_parameter (read_of made) signature.at signature.is_pred signature.at_name signature.name (variables_of signature.parameters) (behind self.entry.file self.entry.tokens.now i)) made stack.new.items result }
+    {
+        let Some((order, from)) = self.kind_at(&signature.parameters, i) else {
+            return Err(Stop::Refused(i));
+        };
+        let Some((name, at_name)) = self.name_at(from)? else {
+            return Err(Stop::Refused(from));
+        };
+        let Some((terminal, _)) = self.terminal_at(from + 1) else {
+            return Err(Stop::Refused(from + 1));
+        };
+        self.behind_parameter(stack, signature, order, at_name, name, terminal, from + 2)
     }
-}
 
-/// A parameter and what stands behind it, where a parameter is wanted.
-pub fn next_parameter(
-    alloc: Global,
-    tokens: &Tokens,
-    file: u32,
-    stack: &mut Vec<Frame>,
-    signature: Signature,
-    i: u32,
-) -> Result<(State, u32), Stop>
-    ensures { (made : Parsed) →
-        StepsAs file tokens.now (next_parameter (read_of made) signature.at signature.is_pred signature.at_name signature.name (variables_of signature.parameters) (behind file tokens.now i)) made stack.new.items result }
-{
-    let Some((order, from)) = kind_at(tokens, file, &signature.parameters, i) else {
-        return Err(Stop::Refused(i));
-    };
-    let Some((name, at_name)) = name_at(alloc, tokens, file, from)? else {
-        return Err(Stop::Refused(from));
-    };
-    let Some((terminal, _)) = terminal_at(tokens, file, from + 1) else {
-        return Err(Stop::Refused(from + 1));
-    };
-    behind_parameter(
-        tokens,
-        file,
-        stack,
-        signature,
-        order,
-        at_name,
-        name,
-        terminal,
-        from + 2,
-    )
-}
-
-/// What ends the restriction of a parameter.
-pub fn end_parameter(
-    alloc: Global,
-    tokens: &Tokens,
-    file: u32,
-    stack: &mut Vec<Frame>,
-    signature: Signature,
-    order: Order,
-    at_name: At,
-    name: Name,
-    operand: Operand,
-    terminal: Terminal,
-    i: u32,
-) -> Result<(State, u32), Stop>
-    ensures { (made : Parsed) (bytes : List ℕ) (inside : Bool) → IsEnd inside (symbol_with terminal bytes) →
-        StepsAs file tokens.now (settle greatest_depth (in_parameter (read_of made) signature.at signature.is_pred signature.at_name signature.name (variables_of signature.parameters) order at_name name) (symbol_with terminal bytes) inside (expression_of operand.expr, []) (behind file tokens.now (i - 1)) (behind file tokens.now i)) made stack.new.items result }
-{
-    let Operand { expr, .. } = operand;
-    let domain = boxed(alloc, expr)?;
-    match terminal {
-        Terminal::Comma => another_parameter(signature, order, at_name, name, Some(domain), i),
-        Terminal::CloseRound => last_parameter(
-            tokens,
-            file,
-            stack,
-            signature,
-            order,
-            at_name,
-            name,
-            Some(domain),
-            i,
-        ),
-        _ => Err(Stop::Refused(i.saturating_sub(1))),
+    /// What ends the restriction of a parameter.
+    pub fn end_parameter(
+        self,
+        stack: &mut Vec<Frame>,
+        signature: Signature,
+        order: Order,
+        at_name: At,
+        name: Name,
+        operand: Operand,
+        terminal: Terminal,
+        i: u32,
+    ) -> Result<(State, u32), Stop>
+        ensures { (made : Parsed) (bytes : List ℕ) (inside : Bool) → IsEnd inside (symbol_with terminal bytes) →
+            StepsAs self.entry.file self.entry.tokens.now (settle greatest_depth (in_parameter (read_of made) signature.at signature.is_pred signature.at_name signature.name (variables_of signature.parameters) order at_name name) (symbol_with terminal bytes) inside (expression_of operand.expr, []) (behind self.entry.file self.entry.tokens.now (i - 1)) (behind self.entry.file self.entry.tokens.now i)) made stack.new.items result }
+    {
+        let Operand { expr, .. } = operand;
+        let domain = boxed(self.alloc, expr)?;
+        match terminal {
+            Terminal::Comma => another_parameter(signature, order, at_name, name, Some(domain), i),
+            Terminal::CloseRound => self.last_parameter(
+                stack,
+                signature,
+                order,
+                at_name,
+                name,
+                Some(domain),
+                i,
+            ),
+            _ => Err(Stop::Refused(i.saturating_sub(1))),
+        }
     }
 }

@@ -3,7 +3,7 @@ ghost use Rattle.ms_steps.specs.Punctuations.{punctuation, IsNot};
 ghost use Rattle.ms_grammar.specs.Reads.{Follows};
 ghost use Rattle.ms_steps.specs.Terminals.{symbol_with, behind};
 
-use crate::input::terminal_at;
+use crate::input::{Input, terminal_at};
 use crate::terminal::Terminal;
 use ms_grammar::Binary;
 use ms_logic::Rel;
@@ -54,5 +54,15 @@ pub fn behind_mark(tokens: &Tokens, file: u32, i: u32, mark: Punctuation) -> Opt
             }
         }
         None => None,
+    }
+}
+
+impl Input<'_> {
+    /// The number behind that of a token, where it is this symbol.
+    pub fn behind_mark(self, i: u32, mark: Punctuation) -> Option<u32>
+        ensures some { IfSome result (λ next. Follows (punctuation mark) (behind self.entry.file self.entry.tokens.now i) (behind self.entry.file self.entry.tokens.now next)) }
+        ensures none { IfNone result (IsNot (punctuation mark) (behind self.entry.file self.entry.tokens.now i)) }
+    {
+        behind_mark(self.tokens, self.file, i, mark)
     }
 }

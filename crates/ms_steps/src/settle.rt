@@ -12,7 +12,7 @@ ghost use Rattle.ms_grammar.specs.View.{expression_of};
 use crate::complete::finish;
 use crate::enter::{enter, level};
 use crate::frame::Frame;
-use crate::int::int_at;
+use crate::input::Input;
 use crate::lists::push_expression;
 use crate::memory::boxed;
 use crate::opened::Opened;
@@ -23,7 +23,6 @@ use ms_edge::List;
 use ms_grammar::{Binary, Junction};
 use ms_levels::{least_left, least_operand};
 use ms_logic::{Form, PlacedInt};
-use ms_text::Tokens;
 use std::alloc::Global;
 
 /// An operator behind its left operand.
@@ -106,46 +105,44 @@ fn shift_by(
     Ok((Outcome::Holding(made), i))
 }
 
-/// The number behind `+` or `-`, which can be added to the expression.
-fn summand_at(
-    alloc: Global,
-    tokens: &Tokens,
-    file: u32,
-    stack: &[Frame],
-    operand: &Operand,
-    minus: bool,
-    i: u32,
-) -> Result<(PlacedInt, u32), Stop>
-    ensures room { IfOk result (λ found. length stack.now + suc (depth (expression_of operand.now.expr)) ≤ 300) }
-    ensures step { (c : Context) →
-        Continues file tokens.now (shift_int greatest_depth c minus (expression_of operand.now.expr) (stack_of stack.now) (behind file tokens.now (i - 1)) (behind file tokens.now i))
-        (λ number. took (holding c (shifted (place (expression_of operand.now.expr)) (expression_of operand.now.expr) number) (stack_of stack.now))) result }
-{
-    if level(&operand.expr) < 9 {
-        return Err(Stop::Refused(i.saturating_sub(1)));
+impl Input<'_> {
+    /// The number behind `+` or `-`, which can be added to the expression.
+    fn summand_at(
+        self,
+        stack: &[Frame],
+        operand: &Operand,
+        minus: bool,
+        i: u32,
+    ) -> Result<(PlacedInt, u32), Stop>
+        ensures room { IfOk result (λ found. length stack.now + suc (depth (expression_of operand.now.expr)) ≤ 300) }
+        ensures step { (c : Context) →
+            Continues self.entry.file self.entry.tokens.now (shift_int greatest_depth c minus (expression_of operand.now.expr) (stack_of stack.now) (behind self.entry.file self.entry.tokens.now (i - 1)) (behind self.entry.file self.entry.tokens.now i))
+            (λ number. took (holding c (shifted (place (expression_of operand.now.expr)) (expression_of operand.now.expr) number) (stack_of stack.now))) result }
+    {
+        if level(&operand.expr) < 9 {
+            return Err(Stop::Refused(i.saturating_sub(1)));
+        }
+        if !may_shift(stack, operand) {
+            return Err(Stop::TooDeep(i.saturating_sub(1)));
+        }
+        match self.int_at(i, minus)? {
+            Some(found) => Ok(found),
+            None => Err(Stop::Refused(i)),
+        }
     }
-    if !may_shift(stack, operand) {
-        return Err(Stop::TooDeep(i.saturating_sub(1)));
-    }
-    match int_at(alloc, tokens, file, i, minus)? {
-        Some(found) => Ok(found),
-        None => Err(Stop::Refused(i)),
-    }
-}
 
-/// `+` or `-` behind an expression.
-pub fn shift_int(
-    alloc: Global,
-    tokens: &Tokens,
-    file: u32,
-    stack: &[Frame],
-    operand: Operand,
-    minus: bool,
-    i: u32,
-) -> Result<(Outcome, u32), Stop>
-    ensures { (c : Context) →
-        ActsAs c file tokens.now (shift_int greatest_depth c minus (expression_of operand.expr) (stack_of stack.now) (behind file tokens.now (i - 1)) (behind file tokens.now i)) stack.now result }
-{
-    let (number, next) = summand_at(alloc, tokens, file, stack, &operand, minus, i)?;
-    shift_by(alloc, stack, operand, number, next)
+    /// `+` or `-` behind an expression.
+    pub fn shift_int(
+        self,
+        stack: &[Frame],
+        operand: Operand,
+        minus: bool,
+        i: u32,
+    ) -> Result<(Outcome, u32), Stop>
+        ensures { (c : Context) →
+            ActsAs c self.entry.file self.entry.tokens.now (shift_int greatest_depth c minus (expression_of operand.expr) (stack_of stack.now) (behind self.entry.file self.entry.tokens.now (i - 1)) (behind self.entry.file self.entry.tokens.now i)) stack.now result }
+    {
+        let (number, next) = self.summand_at(stack, &operand, minus, i)?;
+        shift_by(self.alloc, stack, operand, number, next)
+    }
 }

@@ -8,10 +8,8 @@ ghost use Rattle.ms_grammar.specs.Grammar.{greatest_depth};
 
 use crate::complete::{complete, ends};
 use crate::frame::Frame;
-use crate::opened::Opened;
 use crate::operand::Operand;
 use crate::stop::Stop;
-use ms_grammar::{Binary, Junction, Prefix};
 use std::alloc::Global;
 
 /// Appends the item, which is dropped where memory is refused.
