@@ -12,14 +12,12 @@ use Rattle.ms_logic.specs.Assignment.{Env, Variable, IsAssignment}
 use Rattle.ms_logic.specs.Content.{Content, sign_of, shortest_word}
 use Rattle.ms_logic.specs.FiniteSet.{numbers_below}
 use Rattle.ms_logic.specs.First.{length_of, bits_of, IsLower, IsBefore, IsFirst, assignment_of}
-use Rattle.ms_logic.specs.Tree.{conjunction}
-use Rattle.ms_logic.specs.Verdict.{Problem, variables_of, Assigns, MainYes, MainNo}
+use Rattle.ms_logic.specs.Verdict.{Problem, variables_of, Assigns}
 use Rattle.ms_logic.specs.Word.{Encodes, IsEncoding, truth_values_of, letter_at}
-use Rattle.ms_logic.proofs.Consistent.{yes_is_not_no}
 use Rattle.ms_logic.proofs.WordLaws.{encoding_is_over, length_is_least}
 use Rattle.ms_dfa.specs.Automaton.{IsAutomaton}
 use Rattle.ms_theory.specs.Values.{Meaning, IsMeaning, HasValues, main_meaning}
-use Rattle.ms_theory.proofs.ValuesLemmas.{IsMeaning-by, sign_if_right, right_if_sign}
+use Rattle.ms_theory.proofs.ValuesLemmas.{IsMeaning-main, sign_if_right, right_if_sign}
 use Rattle.ms_best.specs.FirstWord.{bits_of_word, IsFirstWord, NoWordHas}
 use Rattle.ms_app.specs.Decision.{ShowsFirst}
 use Rattle.ms_app.specs.HasValue.{HasMainValue}
@@ -92,10 +90,8 @@ not_outside : (sign : Sign) → (sign ≡ Yes) ⊎ (sign ≡ No) → sign ≢ Ou
 not_outside sign one_of outside = elim one_of as (λ _. ⊥) [ inl is_yes ↦ (let never : ⊥ = cc in never) | inr is_no ↦ (let never : ⊥ = cc in never) ]
 
 module _ (problem : Problem) (content : Content Sign) (sign : Sign) (value : HasMainValue problem content) where
-  -- the main value is a meaning, since no formula is Yes and No at once
   main_is_meaning : IsMeaning content.mode content.variables (main_meaning problem)
-  main_is_meaning =
-      IsMeaning-by content.mode content.variables (MainYes problem) (MainNo problem) (λ e assigned yes no. yes_is_not_no problem.given (conjunction problem.formulas) e yes.1 no.1)
+  main_is_meaning = IsMeaning-main content.mode content.variables problem
 
   -- an assignment of the globals is one of the content's variables
   assigned_by : (e : Env) → Assigns problem e → IsAssignment content.mode content.variables e

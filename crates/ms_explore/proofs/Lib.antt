@@ -3,3 +3,4 @@ pub mod RunLemmas
 pub mod SmallLemmas
 pub mod PlacesLemmas
 pub mod TableLemmas
+pub mod TracksLemmas

@@ -1,5 +1,5 @@
 -- A table, variables and words for worked examples.
-use Rattle.std.specs.Prelude.{nat_eq, Bool, if◌then◌else◌, List, [], ◌∷◌}
+use Rattle.std.specs.Prelude.{ℕ, nat_eq, Bool, if◌then◌else◌, List, [], ◌∷◌}
 use Rattle.ms_edge.specs.declared.refusal.Word.{Word}
 use Rattle.ms_logic.specs.declared.mode.Order.TheVariants.{Zero, One, Two}
 use Rattle.ms_logic.specs.declared.sign.Sign.TheVariants.{Yes, No}
@@ -22,3 +22,7 @@ flips = record {
 -- a word of one truth value
 abbrev pub word : Bool → List (List Bool) → Word
 word truth letters = record { truth = truth ∷ []; letters = letters }
+
+-- a set by its number
+abbrev pub set : ℕ → Variable
+set name = record { name = name; order = Two }

@@ -1,7 +1,8 @@
 ghost use Rattle.std.specs.Prelude.{◌≡◌, true, false, [], ◌∷◌, None, Some};
 ghost use Rattle.ms_logic.specs.declared.sign.Sign.TheVariants.{Yes, No};
 ghost use Rattle.ms_logic.specs.Content.{is_truth_value, is_in_letters};
-ghost use Rattle.ms_explore.specs.Examples.{flips, one_of_each, word};
+ghost use Rattle.ms_explore.specs.Examples.{flips, one_of_each, set, word};
+ghost use Rattle.ms_explore.specs.Tracks.{distinct, joined, place_of};
 ghost use Rattle.ms_explore.specs.Small.{bit_at, lead_by, most_nodes, places_of, read_tracks, sign_by, with_bit_at, zero_bits};
 
 /// The bits of tracks, and where a table leads by them.
@@ -28,4 +29,14 @@ pub fn worked_table_signs()
     ensures one_flip { sign_by flips one_of_each (word true ((false ∷ true ∷ []) ∷ [])) ≡ No }
     ensures two_flips { sign_by flips one_of_each (word true ((false ∷ true ∷ []) ∷ (true ∷ false ∷ []) ∷ (true ∷ true ∷ []) ∷ [])) ≡ Yes }
     ensures begun_false { sign_by flips one_of_each (word false ((false ∷ true ∷ []) ∷ [])) ≡ Yes }
+{}
+
+/// The variables of two lists in one, and those of one list, each once.
+pub fn worked_joins()
+    ensures both { joined (set 1 ∷ set 3 ∷ []) (set 2 ∷ set 3 ∷ set 4 ∷ []) ≡ set 1 ∷ set 2 ∷ set 3 ∷ set 4 ∷ [] }
+    ensures nothing_on_the_right { joined (set 1 ∷ []) [] ≡ set 1 ∷ [] }
+    ensures one_behind { joined (set 5 ∷ []) (set 7 ∷ []) ≡ set 5 ∷ set 7 ∷ [] }
+    ensures falling { distinct (set 7 ∷ set 5 ∷ set 7 ∷ []) ≡ set 5 ∷ set 7 ∷ [] }
+    ensures place { place_of 7 (set 5 ∷ set 7 ∷ []) ≡ 1 }
+    ensures no_place { place_of 6 (set 5 ∷ set 7 ∷ []) ≡ 2 }
 {}

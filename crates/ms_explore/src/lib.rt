@@ -7,9 +7,11 @@ mod exploration;
 mod machine;
 mod small;
 mod tabulate;
+mod tracks;
 
 pub use builder::build;
-pub use examples::{worked_places, worked_table_signs, worked_track_bits};
+pub use examples::{worked_joins, worked_places, worked_table_signs, worked_track_bits};
 pub use exploration::explore;
 pub use machine::Machine;
 pub use small::{SmallMachine, TrackBits};
+pub use tracks::{distinct, join, place_of};

@@ -1,5 +1,5 @@
 -- What diagrams represent: leaves, nodes, longer lists, and what is left once a bit is fixed.
-use Rattle.std.proofs.Common.{◌≡◌, ℕ, ◌<◌, ◌⊎◌, Bool, true, false, if◌then◌else◌, List, length, slice_get, Some, sym, ap, subst, ◌∙◌, ⊎_elim}
+use Rattle.std.proofs.Common.{◌≡◌, ℕ, ◌<◌, ◌⊎◌, inl, inr, Bool, true, false, if◌then◌else◌, List, length, slice_get, Some, sym, ap, subst, ◌∙◌, ⊎_elim}
 use Rattle.std.proofs.lemmas.Option.{slice_get_within, same_Some}
 use Rattle.ms_arena.specs.declared.node.Ref.{Ref}
 use Rattle.ms_arena.specs.declared.node.Ref.TheVariants.{Leaf, Inner}
@@ -87,6 +87,23 @@ Represents-node nodes low high Reads place node ordered held own is_low is_high 
       ];
   tests = TestsOnly-held nodes Reads node (Inner place) held own is_low.tests is_high.tests;
 }
+
+-- what is made of two ends, an end where they are one and else a node that is held, represents the same choice
+pub Represents-made : (nodes : List Node) (low high : Bits → ℕ) (Reads : ℕ → Type 0) (node : Node) (made : Ref) → IsOrdered nodes
+    → ((node.low ≡ node.high) × (made ≡ node.low)) ⊎ HoldsAt nodes node made → Reads node.var
+    → Represents nodes (record { number = low; Reads = Reads }) node.low → Represents nodes (record { number = high; Reads = Reads }) node.high
+    → Represents nodes (record { number = λ bits. if bits node.var then high bits else low bits; Reads = Reads }) made
+Represents-made nodes low high Reads node made ordered (inl same) own is_low is_high = record {
+  valid = subst (IsValid nodes) (sym same.1) is_low.valid;
+  leaves = λ bits. ap (λ (r : Ref). leaf_of nodes r bits) same.1
+      ∙ elim (bits node.var) as (λ bit. leaf_of nodes node.low bits ≡ (if bit then high bits else low bits)) [
+        | true ↦ ap (λ (r : Ref). leaf_of nodes r bits) same.0 ∙ is_high.leaves bits
+        | false ↦ is_low.leaves bits
+      ];
+  tests = subst (TestsOnly nodes Reads) (sym same.1) is_low.tests;
+}
+Represents-made nodes low high Reads node (Leaf value) ordered (inr held) own is_low is_high = absurd held
+Represents-made nodes low high Reads node (Inner place) ordered (inr held) own is_low is_high = Represents-node nodes low high Reads place node ordered held own is_low is_high
 
 -- a reference represents the same in a longer list
 pub Represents-extends : (old new : List Node) (function : Function) (reference : Ref) → IsOrdered old → Extends old new

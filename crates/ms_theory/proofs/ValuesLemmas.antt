@@ -10,9 +10,15 @@ use Rattle.ms_logic.specs.Assignment.{Env, Variable, IsAssignment}
 use Rattle.ms_logic.specs.Content.{Content, IsClosed, sign_of, with_zero_letter}
 use Rattle.ms_logic.specs.Roots.{AreRising}
 use Rattle.ms_logic.specs.Word.{Encodes}
+use Rattle.ms_logic.specs.CoreForm.{CoreForm, CoreYes, CoreNo}
+use Rattle.ms_logic.specs.Tree.{conjunction}
+use Rattle.ms_logic.specs.Truth.{Import}
+use Rattle.ms_logic.specs.Verdict.{Problem, MainYes, MainNo}
+use Rattle.ms_logic.proofs.Consistent.{yes_is_not_no}
+use Rattle.ms_logic.proofs.CoreConsistent.{core_never_both}
 use Rattle.ms_logic.proofs.WordLaws.{zero_letter_keeps}
 use Rattle.ms_dfa.specs.Automaton.{TellsEncodings, IsSettled, IsAutomaton}
-use Rattle.ms_theory.specs.Values.{Meaning, meaning_by, IsMeaning, HasValues}
+use Rattle.ms_theory.specs.Values.{Meaning, meaning_by, core_meaning, main_meaning, IsMeaning, HasValues}
 use Rattle.ms_theory.proofs.EncodingLemmas.{encoding_or_not}
 
 -- where Yes and No exclude each other, there is one right sign at most
@@ -39,6 +45,15 @@ IsMeaning-by mode variables HoldsYes HoldsNo never = record {
   one = λ e first second assigned. one_by HoldsYes HoldsNo e first second (never e assigned);
   inside = λ e assigned outside. outside;
 }
+
+-- the main value is a meaning, since no formula is Yes and No at once
+pub IsMeaning-main : (mode : Mode) (variables : List Variable) (problem : Problem) → IsMeaning mode variables (main_meaning problem)
+IsMeaning-main mode variables problem =
+    IsMeaning-by mode variables (MainYes problem) (MainNo problem) (λ e assigned yes no. yes_is_not_no problem.given (conjunction problem.formulas) e yes.1 no.1)
+
+-- and so is the value of a core formula
+pub IsMeaning-core : (mode : Mode) (variables : List Variable) (imports : List Import) (f : CoreForm) → IsMeaning mode variables (core_meaning imports f)
+IsMeaning-core mode variables imports f = IsMeaning-by mode variables (CoreYes imports f) (CoreNo imports f) (λ e assigned yes no. core_never_both imports f e yes no)
 
 module _ (meaning : Meaning) (content : Content Sign) (is_meaning : IsMeaning content.mode content.variables meaning) (values : HasValues meaning content) where
   -- a word that encodes an assignment has each sign that is right there
