@@ -79,7 +79,7 @@ impl<M: SmallMachine + Drop> Machine for Known<M> {
 
     ghost findings = { λ known. findings_of (M.table known.machine) known.reads.0 known.reads.1 };
 
-    ghost base = { λ known. [] };
+    ghost IsReady = { λ known nodes. Unit {0} };
 
     ghost IsLater = { λ early late. early ≡ late };
 
@@ -87,7 +87,7 @@ impl<M: SmallMachine + Drop> Machine for Known<M> {
 
     ghost later_later = { λ one two three first second. first ∙ second };
 
-    ghost later_base = { λ early late same. refl };
+    ghost later_ready = { λ early late old new same ordered extends ready. tt };
 
     ghost later_findings = { λ early late same.
         subst (λ known. AreMore (findings_of (M.table early.machine) early.reads.0 early.reads.1) (findings_of (M.table known.machine) known.reads.0 known.reads.1)) same

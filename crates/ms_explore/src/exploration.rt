@@ -1,5 +1,4 @@
 ghost use Rattle.std.specs.Prelude.{◌≡◌, ◌≤◌, ◌+◌, ◌∷◌, ◌++◌, [], length, OnOk};
-ghost use Rattle.ms_arena.specs.Target.{Extends};
 ghost use Rattle.ms_diagram.specs.Growth.{OnNodes};
 ghost use Rattle.ms_dfa.specs.declared.state.State.{State};
 ghost use Rattle.ms_explore.specs.Explored.{Explores, OnRefused};
@@ -42,10 +41,12 @@ pub fn explore<M: Machine>(
 ) -> Result<Ref, StepFault>
     requires empty { states.old ≡ [] }
     requires limit { limit ≡ store.old.limit }
-    requires base { Extends (M.base machine.old) store.old.nodes }
+    requires ready { M.IsReady machine.old store.old.nodes }
     ensures later { M.IsLater machine.old machine.new }
     ensures explored { Explores store.old store.new (M.findings machine.new) states.new result }
 {
+    // The length tells that the nodes are those of a store.
+    let _ = store.len();
     let start = machine.start(store)?;
     let mut state = 0;
     while state < machine.count() {
@@ -54,7 +55,8 @@ pub fn explore<M: Machine>(
             Err(fault) => return Err(fault),
         };
         let sign = machine.sign(state);
-        match add_state(store.len(), limit, states, State { sign, next }) {
+        let nodes = store.len();
+        match add_state(nodes, limit, states, State { sign, next }) {
             Ok(()) => state += 1,
             Err(fault) => return Err(fault),
         }

@@ -1,5 +1,6 @@
 ghost use Rattle.std.specs.Prelude.{◌≡◌, ◌<◌, ◌≤◌, ◌+◌, List, length};
 ghost use Rattle.ms_arena.specs.declared.node.Node.{Node};
+ghost use Rattle.ms_arena.specs.Diagram.{IsOrdered};
 ghost use Rattle.ms_arena.specs.Target.{Extends};
 ghost use Rattle.ms_diagram.specs.Growth.{Builds};
 ghost use Rattle.ms_explore.specs.Explored.{Findings, AreMore};
@@ -15,15 +16,15 @@ pub trait Machine {
     /// What has been found so far.
     ghost findings: { Self → Findings };
 
-    /// The nodes of the store that the diagrams of the machine itself stand on.
-    ghost base: { Self → List Node };
+    /// The nodes of a store have the diagrams that the machine itself is made of.
+    ghost IsReady: { Self → List Node → Type 0 };
 
     /// The second is the first with more states found.
     ghost IsLater: { Self → Self → Type 0 };
 
     /// Where the truth values lead from the start.
     fn start(&mut self, store: &mut Store) -> Result<Ref, StepFault>
-        requires { Extends (base self.old) store.old.nodes }
+        requires { IsReady self.old store.old.nodes }
         ensures later { IsLater self.old self.new }
         ensures builds { Builds store.old store.new (findings self.new).starts (findings self.new).LacksNumber result }
         ensures few { length store.new.nodes ≤ length store.old.nodes + (findings self.new).most_nodes };
@@ -31,7 +32,7 @@ pub trait Machine {
     /// Where a letter leads from a state.
     fn next(&mut self, store: &mut Store, state: u32) -> Result<Ref, StepFault>
         requires state { state < (findings self.old).count }
-        requires base { Extends (base self.old) store.old.nodes }
+        requires ready { IsReady self.old store.old.nodes }
         ensures later { IsLater self.old self.new }
         ensures builds { Builds store.old store.new ((findings self.new).steps state) (findings self.new).LacksNumber result }
         ensures few { length store.new.nodes ≤ length store.old.nodes + (findings self.new).most_nodes };
@@ -49,7 +50,7 @@ pub trait Machine {
 
     ghost later_later: { (one two three : Self) → IsLater one two → IsLater two three → IsLater one three };
 
-    ghost later_base: { (early late : Self) → IsLater early late → base late ≡ base early };
+    ghost later_ready: { (early late : Self) (old new : List Node) → IsLater early late → IsOrdered old → Extends old new → IsReady early old → IsReady late new };
 
     ghost later_findings: { (early late : Self) → IsLater early late → AreMore (findings early) (findings late) };
 }
