@@ -20,7 +20,7 @@ finished_stops limit (variable_wanted c st at q o vs) ts d done = let never : �
 finished_stops limit (part_wanted c st at o parts) ts d done = let never : ⊥ = cc in absurd never
 finished_stops limit (pair_wanted c st at file pairs) ts d done = let never : ⊥ = cc in absurd never
 finished_stops limit (global_wanted d0 at o vs) ts d done = let never : ⊥ = cc in absurd never
-finished_stops limit (parameter_wanted d0 at is_pred at_p p vs) ts d done = let never : ⊥ = cc in absurd never
+finished_stops limit (parameter_wanted d0 head vs) ts d done = let never : ⊥ = cc in absurd never
 finished_stops limit (summand_wanted d0 at at_n n sum) ts d done = let never : ⊥ = cc in absurd never
 
 stuck : (limit : ℕ) (s : State) (ts : List Placed) (d d' : Document) (n : ℕ) → finished s ts ≡ Some d → run limit (suc n) s ts ≡ Some d' → ⊥

@@ -26,7 +26,7 @@ symbol s = placed s anywhere
 
 -- what ends the declaration
 abbrev pub ending : Context → List Placed
-ending (in_parameter d at is_pred at_p p vs o at_v n) = symbol close_round ∷ symbol (infix_operator (Relation Equal)) ∷ symbol word_true ∷ symbol semicolon ∷ []
+ending (in_parameter d head vs o at_v n) = symbol close_round ∷ symbol (infix_operator (Relation Equal)) ∷ symbol word_true ∷ symbol semicolon ∷ []
 ending _ = symbol semicolon ∷ []
 
 abbrev pub closing_bracket : Listing → Symbol
@@ -56,11 +56,11 @@ record Closes (inside : Bool) (ts : List Placed) : Type 0 where
   pub apart : lacks open_round ts ≡ true
 
 ending_closes : (c : Context) → Closes false (ending c)
-ending_closes (in_parameter d at is_pred at_p p vs o at_v n) =
+ending_closes (in_parameter d head vs o at_v n) =
     record { first = close_round; at = anywhere; more = symbol (infix_operator (Relation Equal)) ∷ symbol word_true ∷ symbol semicolon ∷ []; split = refl; loose = refl; apart = refl }
 ending_closes (in_formula d at) = record { first = semicolon; at = anywhere; more = []; split = refl; loose = refl; apart = refl }
 ending_closes (in_global d at o vs at_v n) = record { first = semicolon; at = anywhere; more = []; split = refl; loose = refl; apart = refl }
-ending_closes (in_predicate d at is_pred at_p p vs) = record { first = semicolon; at = anywhere; more = []; split = refl; loose = refl; apart = refl }
+ending_closes (in_predicate d head vs) = record { first = semicolon; at = anywhere; more = []; split = refl; loose = refl; apart = refl }
 ending_closes (in_default d at o n) = record { first = semicolon; at = anywhere; more = []; split = refl; loose = refl; apart = refl }
 
 closes : (c : Context) (st : List Frame) → Closes (in_part st) (closing c st)
@@ -112,10 +112,10 @@ body_ends limit c f st ends_with deep same runs =
 
 -- the declaration ends
 whole_ends : (limit : ℕ) (c : Context) (e : Expression) → RunsToEnd limit (holding c e []) (ending c)
-whole_ends limit (in_parameter d at is_pred at_p p vs o at_v n) e = (_, (3, refl))
+whole_ends limit (in_parameter d head vs o at_v n) e = (_, (3, refl))
 whole_ends limit (in_formula d at) e = (_, (1, refl))
 whole_ends limit (in_global d at o vs at_v n) e = (_, (1, refl))
-whole_ends limit (in_predicate d at is_pred at_p p vs) e = (_, (1, refl))
+whole_ends limit (in_predicate d head vs) e = (_, (1, refl))
 whole_ends limit (in_default d at o n) e = (_, (1, refl))
 
 pub held_ends : (limit : ℕ) (c : Context) (st : List Frame) (e : Expression) → FramesFit limit st → length st + depth e ≤ limit → RunsToEnd limit (holding c e st) (closing c st)

@@ -23,7 +23,7 @@ Fits limit (variable_wanted c st at q o vs) = FramesFit limit st × (suc (suc (l
 Fits limit (part_wanted c st at o parts) = FramesFit limit st × (suc (suc (length st)) ≤ limit) × (suc (length st) + depth_of_values parts ≤ limit)
 Fits limit (pair_wanted c st at file pairs) = FramesFit limit st × (suc (length st) ≤ limit)
 Fits limit (global_wanted d at o vs) = Unit {0}
-Fits limit (parameter_wanted d at is_pred at_p p vs) = Unit {0}
+Fits limit (parameter_wanted d head vs) = Unit {0}
 Fits limit (summand_wanted d at at_n n sum) = Unit {0}
 
 -- symbols that may follow lead to the end
@@ -81,12 +81,12 @@ can_end limit (pair_wanted c st at file pairs) fits = record {
       (held_ends limit c st (atom at (imported file pairs)) fits.0 (omega arith));
 }
 can_end limit (global_wanted d at o vs) fits = record { more = symbol (name a_name) ∷ symbol semicolon ∷ []; follows = refl; ends = (_, (1, refl)) }
-can_end limit (parameter_wanted d at is_pred at_p p no_variables) fits = record {
+can_end limit (parameter_wanted d head no_variables) fits = record {
   more = symbol (kind Zero) ∷ symbol (name a_name) ∷ symbol close_round ∷ symbol (infix_operator (Relation Equal)) ∷ symbol word_true ∷ symbol semicolon ∷ [];
   follows = refl;
   ends = (_, (3, refl));
 }
-can_end limit (parameter_wanted d at is_pred at_p p (and_variable vs a o n x)) fits = record {
+can_end limit (parameter_wanted d head (and_variable vs a o n x)) fits = record {
   more = symbol (kind Zero) ∷ symbol (name a_name) ∷ symbol close_round ∷ symbol (infix_operator (Relation Equal)) ∷ symbol word_true ∷ symbol semicolon ∷ [];
   follows = refl;
   ends = (_, (3, refl));

@@ -27,8 +27,8 @@ in_settled limit c s op bytes inside e st from ts same is =
 semicolon_inside : (c : Context) (e : Expression) (f : Frame) (st : List Frame) (from ts : List Placed) → semicolon_at c e (f ∷ st) from ts ≡ misplaced from
 semicolon_inside (in_formula d at) e f st from ts = refl
 semicolon_inside (in_global d at o vs at_v n) e f st from ts = refl
-semicolon_inside (in_parameter d at is_pred at_p p vs o at_v n) e f st from ts = refl
-semicolon_inside (in_predicate d at is_pred at_p p vs) e f st from ts = refl
+semicolon_inside (in_parameter d head vs o at_v n) e f st from ts = refl
+semicolon_inside (in_predicate d head vs) e f st from ts = refl
 semicolon_inside (in_default d at o n) e f st from ts = refl
 
 -- the terminals that end nothing in a frame

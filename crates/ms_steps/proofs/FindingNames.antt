@@ -11,7 +11,7 @@ use Rattle.ms_grammar.specs.declared.operator.Binary.TheVariants.{Relation}
 use Rattle.ms_grammar.specs.Tree.{Variables, no_variables, and_variable, unrestricted, Parts}
 use Rattle.ms_grammar.specs.Tree.{atom, imported, variables, constant, included, Document}
 use Rattle.ms_grammar.specs.Grammar.{depth_of_domains, depth_of_values}
-use Rattle.ms_steps.specs.Machine.{Frame, domain_frame, body_frame, part_frame, Context, in_global, in_parameter, in_predicate, in_default, outside, wanted, holding, variable_wanted, pair_wanted, global_wanted, parameter_wanted, summand_wanted, Step, took, misplaced, too_deep, frame_depth, enter, is_mark, either_mark, mark_then, equal_then, name_then, int_then, symbol_then, kind_then, pair_then, declare, body_of, behind_variable, next_variable, part_value, next_part, next_pair, behind_global, next_global, behind_parameter, next_parameter, summand, next_summand, begin_constant, behind_predicate, begin_predicate, begin_include, begin_default}
+use Rattle.ms_steps.specs.Machine.{Head, head_with, Frame, domain_frame, body_frame, part_frame, Context, in_global, in_parameter, in_predicate, in_default, outside, wanted, holding, variable_wanted, pair_wanted, global_wanted, parameter_wanted, summand_wanted, Step, took, misplaced, too_deep, frame_depth, enter, is_mark, either_mark, mark_then, equal_then, name_then, int_then, symbol_then, kind_then, pair_then, declare, body_of, behind_variable, next_variable, part_value, next_part, next_pair, behind_global, next_global, behind_parameter, next_parameter, summand, next_summand, begin_constant, behind_predicate, begin_predicate, begin_include, begin_default}
 use Rattle.ms_steps.proofs.Closing.{symbol, FramesFit}
 use Rattle.ms_steps.proofs.Finding.{Finds, Tells, first, refuse, takes, goes, took_tells, mark_tells, name_tells, text_tells, int_tells, symbol_tells, mark_or_tells, two_marks_tells, entered_at, enter_finds}
 use Rattle.ms_steps.proofs.Frames.{chosen, chosen_yes, chosen_no}
@@ -20,9 +20,9 @@ use Rattle.ms_steps.proofs.Lookahead.{may_follow}
 equal_tells : (limit : ℕ) (f : ℕ → List Placed → Step) → Tells limit f → Tells limit (λ l. equal_then (f l))
 equal_tells limit f tells = mark_tells limit (infix_operator (Relation Equal)) f refl tells
 
-pub body_tells : (limit : ℕ) (d : Document) (at : At) (is_pred : Bool) (at_p : At) (p : List ℕ) (vs : Variables) → 1 ≤ limit → Tells limit (λ l. body_of d at is_pred at_p p vs)
-body_tells limit d at is_pred at_p p vs some =
-    let s = wanted (in_predicate d at is_pred at_p p vs) [] in equal_tells limit (λ l. took s) (took_tells limit s (tt, some) (λ ts. refl))
+pub body_tells : (limit : ℕ) (d : Document) (head : Head) (vs : Variables) → 1 ≤ limit → Tells limit (λ l. body_of d head vs)
+body_tells limit d head vs some =
+    let s = wanted (in_predicate d head vs) [] in equal_tells limit (λ l. took s) (took_tells limit s (tt, some) (λ ts. refl))
 
 -- a variable of a binder
 
@@ -95,16 +95,16 @@ global_tells limit d at o vs some =
 
 -- a parameter of a predicate
 
-parameter_finds : (limit : ℕ) (d : Document) (at : At) (is_pred : Bool) (at_p : At) (p : List ℕ) (vs : Variables) (o : Order) (at_v : At) (n : List ℕ) → 1 ≤ limit → (a : At) (s : Symbol) (ts : List Placed)
-    → Finds limit (λ l. symbol_then (λ a. behind_parameter d at is_pred at_p p vs o at_v n)) (placed s a ∷ ts) (behind_parameter d at is_pred at_p p vs o at_v n s (placed s a ∷ ts) ts)
-parameter_finds limit d at is_pred at_p p vs o at_v n some a word_where ts =
-    takes limit (λ l. symbol_then (λ a. behind_parameter d at is_pred at_p p vs o at_v n)) (placed word_where a) ts (wanted (in_parameter d at is_pred at_p p vs o at_v n) []) (tt, some) refl (λ l more above may. refl)
-parameter_finds limit d at is_pred at_p p vs o at_v n some a comma ts =
-    takes limit (λ l. symbol_then (λ a. behind_parameter d at is_pred at_p p vs o at_v n)) (placed comma a) ts (parameter_wanted d at is_pred at_p p (and_variable vs at_v o n unrestricted)) tt refl (λ l more above may. refl)
-parameter_finds limit d at is_pred at_p p vs o at_v n some a close_round ts =
+parameter_finds : (limit : ℕ) (d : Document) (head : Head) (vs : Variables) (o : Order) (at_v : At) (n : List ℕ) → 1 ≤ limit → (a : At) (s : Symbol) (ts : List Placed)
+    → Finds limit (λ l. symbol_then (λ a. behind_parameter d head vs o at_v n)) (placed s a ∷ ts) (behind_parameter d head vs o at_v n s (placed s a ∷ ts) ts)
+parameter_finds limit d head vs o at_v n some a word_where ts =
+    takes limit (λ l. symbol_then (λ a. behind_parameter d head vs o at_v n)) (placed word_where a) ts (wanted (in_parameter d head vs o at_v n) []) (tt, some) refl (λ l more above may. refl)
+parameter_finds limit d head vs o at_v n some a comma ts =
+    takes limit (λ l. symbol_then (λ a. behind_parameter d head vs o at_v n)) (placed comma a) ts (parameter_wanted d head (and_variable vs at_v o n unrestricted)) tt refl (λ l more above may. refl)
+parameter_finds limit d head vs o at_v n some a close_round ts =
     let body = and_variable vs at_v o n unrestricted in
-    goes limit (λ l. body_of d at is_pred at_p p body) (λ l. symbol_then (λ a. behind_parameter d at is_pred at_p p vs o at_v n)) (placed close_round a) ts (λ l more above. refl) (body_tells limit d at is_pred at_p p body some)
-parameter_finds limit d at is_pred at_p p vs o at_v n some a s ts = refuse limit (λ l. symbol_then (λ a. behind_parameter d at is_pred at_p p vs o at_v n)) (placed s a) ts (λ l more above. refl)
+    goes limit (λ l. body_of d head body) (λ l. symbol_then (λ a. behind_parameter d head vs o at_v n)) (placed close_round a) ts (λ l more above. refl) (body_tells limit d head body some)
+parameter_finds limit d head vs o at_v n some a s ts = refuse limit (λ l. symbol_then (λ a. behind_parameter d head vs o at_v n)) (placed s a) ts (λ l more above. refl)
 
 kind_finds : (limit : ℕ) (vs : Variables) (h : Order → At → List ℕ → ℕ → List Placed → Step) → ((o : Order) (a : At) (n : List ℕ) → Tells limit (h o a n)) → (ts : List Placed)
     → Finds limit (λ l. kind_then vs (λ o. name_then (λ a n. h o a n l))) ts (kind_then vs (λ o. name_then (λ a n. h o a n limit)) ts)
@@ -119,11 +119,11 @@ kind_finds limit (and_variable vs at p n x) h tells (placed (name k) a ∷ ts) =
 kind_finds limit (and_variable vs at p n x) h tells [] = first limit (λ l. kind_then (and_variable vs at p n x) (λ o. name_then (λ a n. h o a n l))) [] tt
 kind_finds limit (and_variable vs at p n x) h tells (t ∷ ts) = first limit (λ l. kind_then (and_variable vs at p n x) (λ o. name_then (λ a n. h o a n l))) (t ∷ ts) (λ above more is. tt)
 
-pub parameter_tells : (limit : ℕ) (d : Document) (at : At) (is_pred : Bool) (at_p : At) (p : List ℕ) (vs : Variables) → 1 ≤ limit → (ts : List Placed)
-    → Finds limit (λ l. next_parameter d at is_pred at_p p vs) ts (next_parameter d at is_pred at_p p vs ts)
-parameter_tells limit d at is_pred at_p p vs some ts =
-    kind_finds limit vs (λ o at_v n l. symbol_then (λ a. behind_parameter d at is_pred at_p p vs o at_v n))
-    (λ o at_v n. symbol_tells limit (λ l a. behind_parameter d at is_pred at_p p vs o at_v n) (symbol comma ∷ [], _, refl) (parameter_finds limit d at is_pred at_p p vs o at_v n some)) ts
+pub parameter_tells : (limit : ℕ) (d : Document) (head : Head) (vs : Variables) → 1 ≤ limit → (ts : List Placed)
+    → Finds limit (λ l. next_parameter d head vs) ts (next_parameter d head vs ts)
+parameter_tells limit d head vs some ts =
+    kind_finds limit vs (λ o at_v n l. symbol_then (λ a. behind_parameter d head vs o at_v n))
+    (λ o at_v n. symbol_tells limit (λ l a. behind_parameter d head vs o at_v n) (symbol comma ∷ [], _, refl) (parameter_finds limit d head vs o at_v n some)) ts
 
 -- a summand of a constant
 
@@ -149,11 +149,11 @@ constant_tells limit d at =
 
 pub predicate_tells : (limit : ℕ) (d : Document) (at : At) (is_pred : Bool) → 1 ≤ limit → Tells limit (λ l. begin_predicate d at is_pred)
 predicate_tells limit d at is_pred some =
-    name_tells limit (λ at_p p l. behind_predicate d at is_pred at_p p) (λ at_p p.
-    let s = wanted (in_predicate d at is_pred at_p p no_variables) [] in
-    let t = parameter_wanted d at is_pred at_p p no_variables in
-    two_marks_tells limit (infix_operator (Relation Equal)) open_round (λ l. took s) (λ l. either_mark close_round (body_of d at is_pred at_p p no_variables) (took t)) refl (took_tells limit s (tt, some) (λ ts. refl))
-    (mark_or_tells limit close_round (λ l. body_of d at is_pred at_p p no_variables) t (body_tells limit d at is_pred at_p p no_variables some) tt (λ ts. refl)))
+    name_tells limit (λ at_p p l. behind_predicate d (head_with at is_pred at_p p)) (λ at_p p.
+    let s = wanted (in_predicate d (head_with at is_pred at_p p) no_variables) [] in
+    let t = parameter_wanted d (head_with at is_pred at_p p) no_variables in
+    two_marks_tells limit (infix_operator (Relation Equal)) open_round (λ l. took s) (λ l. either_mark close_round (body_of d (head_with at is_pred at_p p) no_variables) (took t)) refl (took_tells limit s (tt, some) (λ ts. refl))
+    (mark_or_tells limit close_round (λ l. body_of d (head_with at is_pred at_p p) no_variables) t (body_tells limit d (head_with at is_pred at_p p) no_variables some) tt (λ ts. refl)))
 
 pub include_tells : (limit : ℕ) (d : Document) (at : At) → Tells limit (λ l. begin_include d at)
 include_tells limit d at =

@@ -81,8 +81,8 @@ close_round_finds : (limit : ℕ) (c : Context) (e : Expression) (st : List Fram
     → ((l : ℕ) (more : List Placed) → limit ≤ l → g l (y ∷ more) ≡ close_round_at l c e st (y ∷ more) more) → Finds limit g (y ∷ ts) (close_round_at limit c e st (y ∷ ts) ts)
 close_round_finds limit c e (bracket_frame at b ∷ st) g y ts some fit deep same = hold_finds limit c (enclosed at b e) st g y ts fit.0 (omega arith) (λ more. refl) same
 close_round_finds limit c e (list_frame at (Call p) es ∷ st) g y ts some fit deep same = hold_finds limit c (listed at (Call p) (and_expression es e)) st g y ts fit.0 (omega (arith, fit.1)) (λ more. refl) same
-close_round_finds limit (in_parameter d at is_pred at_p p vs o at_v n) e [] g y ts some fit deep same =
-    let body = and_variable vs at_v o n (restricted e) in goes limit (λ l. body_of d at is_pred at_p p body) g y ts same (body_tells limit d at is_pred at_p p body some)
+close_round_finds limit (in_parameter d head vs o at_v n) e [] g y ts some fit deep same =
+    let body = and_variable vs at_v o n (restricted e) in goes limit (λ l. body_of d head body) g y ts same (body_tells limit d head body some)
 close_round_finds limit c e _ g y ts some fit deep same = refuse limit g y ts same
 
 close_curly_finds : (limit : ℕ) (c : Context) (e : Expression) (st : List Frame) (g : ℕ → List Placed → Step) (y : Placed) (ts : List Placed) → FramesFit limit st → length st + depth e ≤ limit
@@ -98,8 +98,8 @@ comma_finds limit c e (domain_frame at q o vs at_v n ∷ st) g y ts fit deep sam
 comma_finds limit c e (part_frame at o parts at_n n ∷ st) g y ts fit deep same =
     let some = depth_positive e in takes limit g y ts (part_wanted c st at o (and_part parts at_n n e)) (fit.0, omega arith, omega (arith, fit.1)) refl (λ l more above may. same l more above)
 comma_finds limit (in_global d at o vs at_v n) e [] g y ts fit deep same = takes limit g y ts (global_wanted d at o (and_variable vs at_v o n (restricted e))) tt refl (λ l more above may. same l more above)
-comma_finds limit (in_parameter d at is_pred at_p p vs o at_v n) e [] g y ts fit deep same =
-    takes limit g y ts (parameter_wanted d at is_pred at_p p (and_variable vs at_v o n (restricted e))) tt refl (λ l more above may. same l more above)
+comma_finds limit (in_parameter d head vs o at_v n) e [] g y ts fit deep same =
+    takes limit g y ts (parameter_wanted d head (and_variable vs at_v o n (restricted e))) tt refl (λ l more above may. same l more above)
 comma_finds limit c e _ g y ts fit deep same = refuse limit g y ts same
 
 colon_finds : (limit : ℕ) (c : Context) (e : Expression) (st : List Frame) (g : ℕ → List Placed → Step) (y : Placed) (ts : List Placed) → FramesFit limit st → length st + depth e ≤ limit
@@ -117,7 +117,7 @@ semicolon_finds : (limit : ℕ) (c : Context) (e : Expression) (st : List Frame)
     → ((l : ℕ) (more : List Placed) → limit ≤ l → g l (y ∷ more) ≡ semicolon_at c e st (y ∷ more) more) → Finds limit g (y ∷ ts) (semicolon_at c e st (y ∷ ts) ts)
 semicolon_finds limit (in_formula d at) e [] g y ts same = takes limit g y ts (outside (declare d at (formula e))) tt refl (λ l more above may. same l more above)
 semicolon_finds limit (in_global d at o vs at_v n) e [] g y ts same = takes limit g y ts (outside (declare d at (variables (and_variable vs at_v o n (restricted e))))) tt refl (λ l more above may. same l more above)
-semicolon_finds limit (in_predicate d at is_pred at_p p vs) e [] g y ts same = takes limit g y ts (outside (declare d at (predicate is_pred at_p p vs e))) tt refl (λ l more above may. same l more above)
+semicolon_finds limit (in_predicate d head vs) e [] g y ts same = takes limit g y ts (outside (declare d head.at (predicate head.is_pred head.at_name head.name vs e))) tt refl (λ l more above may. same l more above)
 semicolon_finds limit (in_default d at o n) e [] g y ts same = takes limit g y ts (outside (declare d at (default_restriction o n e))) tt refl (λ l more above may. same l more above)
 semicolon_finds limit c e _ g y ts same = refuse limit g y ts same
 

@@ -89,5 +89,5 @@ step_finds limit (variable_wanted c st at q o vs) ts some fits = (variable_tells
 step_finds limit (part_wanted c st at o parts) ts some fits = (part_tells limit c st at o parts fits.0 fits.1 fits.2).finds ts
 step_finds limit (pair_wanted c st at file pairs) ts some fits = (pair_tells limit c st at file pairs fits.0 fits.1).finds ts
 step_finds limit (global_wanted d at o vs) ts some fits = (global_tells limit d at o vs some).finds ts
-step_finds limit (parameter_wanted d at is_pred at_p p vs) ts some fits = parameter_tells limit d at is_pred at_p p vs some ts
+step_finds limit (parameter_wanted d head vs) ts some fits = parameter_tells limit d head vs some ts
 step_finds limit (summand_wanted d at at_n n sum) ts some fits = (summand_tells limit d at at_n n sum).finds ts

@@ -16,5 +16,5 @@ abbrev pub may_follow : State → List Placed → Bool
 may_follow (holding c (atom at (named n)) st) ts = lacks open_round ts
 may_follow (holding c (atom at empty_set) st) ts = lacks open_round ts
 may_follow (wanted c (list_frame at l no_expressions ∷ st)) ts = lacks (closing l) ts
-may_follow (parameter_wanted d at is_pred at_p p no_variables) ts = lacks close_round ts
+may_follow (parameter_wanted d head no_variables) ts = lacks close_round ts
 may_follow s ts = true

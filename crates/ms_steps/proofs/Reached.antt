@@ -21,14 +21,14 @@ pub may_follow_first : (s : State) (x : Placed) (ts other : List Placed) → may
 may_follow_first (holding c (atom at (named n)) st) x ts other = lacks_first open_round x ts other
 may_follow_first (holding c (atom at empty_set) st) x ts other = lacks_first open_round x ts other
 may_follow_first (wanted c (list_frame at l no_expressions ∷ st)) x ts other = lacks_first (closing l) x ts other
-may_follow_first (parameter_wanted d at is_pred at_p p no_variables) x ts other = lacks_first close_round x ts other
+may_follow_first (parameter_wanted d head no_variables) x ts other = lacks_first close_round x ts other
 may_follow_first _ x ts other = refl
 
 pub may_follow_nothing : (s : State) → may_follow s [] ≡ true
 may_follow_nothing (holding c (atom at (named n)) st) = refl
 may_follow_nothing (holding c (atom at empty_set) st) = refl
 may_follow_nothing (wanted c (list_frame at l no_expressions ∷ st)) = refl
-may_follow_nothing (parameter_wanted d at is_pred at_p p no_variables) = refl
+may_follow_nothing (parameter_wanted d head no_variables) = refl
 may_follow_nothing _ = refl
 
 -- no step is taken where nothing is left
@@ -40,8 +40,8 @@ nothing_left limit (variable_wanted c st at q o vs) = tt
 nothing_left limit (part_wanted c st at o parts) = tt
 nothing_left limit (pair_wanted c st at file pairs) = tt
 nothing_left limit (global_wanted d at o vs) = tt
-nothing_left limit (parameter_wanted d at is_pred at_p p no_variables) = tt
-nothing_left limit (parameter_wanted d at is_pred at_p p (and_variable vs a o n x)) = tt
+nothing_left limit (parameter_wanted d head no_variables) = tt
+nothing_left limit (parameter_wanted d head (and_variable vs a o n x)) = tt
 nothing_left limit (summand_wanted d at at_n n sum) = tt
 
 pub unfinished : (s : State) (x : Placed) (ts : List Placed) → finished s (x ∷ ts) ≡ None
@@ -52,7 +52,7 @@ unfinished (variable_wanted c st at q o vs) x ts = refl
 unfinished (part_wanted c st at o parts) x ts = refl
 unfinished (pair_wanted c st at file pairs) x ts = refl
 unfinished (global_wanted d at o vs) x ts = refl
-unfinished (parameter_wanted d at is_pred at_p p vs) x ts = refl
+unfinished (parameter_wanted d head vs) x ts = refl
 unfinished (summand_wanted d at at_n n sum) x ts = refl
 
 -- what a step has taken is not nothing

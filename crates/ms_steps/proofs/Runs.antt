@@ -17,7 +17,7 @@ use Rattle.ms_grammar.specs.Tree.{variables, constant, included, Document}
 use Rattle.ms_grammar.specs.Grammar.{domain_bare_in, HaveGrammaticalDomains, AreOfOrder, depth_of_domains}
 use Rattle.ms_grammar.specs.Reads.{Starts, Follows}
 use Rattle.ms_grammar.specs.Declarations.{ReadsString}
-use Rattle.ms_steps.specs.Machine.{Frame, domain_frame, body_frame, part_frame, Context, in_formula, State, outside, wanted, holding, variable_wanted, part_wanted, pair_wanted, global_wanted, parameter_wanted, summand_wanted, Step, took, misplaced, too_deep, need, in_part, Top, on_top, settle, ends, collapse, bound, behind_variable, next_variable, next_part, next_pair, behind_global, next_global, behind_parameter, next_parameter, next_summand, begin_constant, begin_predicate, begin_include, begin_default, begin_declaration, step, headed, start, finished, goes_on, run, Runs}
+use Rattle.ms_steps.specs.Machine.{Head, head_with, Frame, domain_frame, body_frame, part_frame, Context, in_formula, State, outside, wanted, holding, variable_wanted, part_wanted, pair_wanted, global_wanted, parameter_wanted, summand_wanted, Step, took, misplaced, too_deep, need, in_part, Top, on_top, settle, ends, collapse, bound, behind_variable, next_variable, next_part, next_pair, behind_global, next_global, behind_parameter, next_parameter, next_summand, begin_constant, begin_predicate, begin_include, begin_default, begin_declaration, step, headed, start, finished, goes_on, run, Runs}
 use Rattle.ms_steps.proofs.Frames.{VariablesSoFar, InFrames, CollapsedTo, chosen, collapsed}
 use Rattle.ms_steps.proofs.Extensions.{variables_extended, ParametersSoFar, ParameterKind, parameters_extended, pairs_extended, sum_extended}
 use Rattle.ms_steps.proofs.Settling.{declared_good, begins_with, body_of_good, settle_good}
@@ -125,12 +125,12 @@ next_global_good : (limit : ℕ) (some : 1 ≤ limit) (all : List Placed) (d : D
 next_global_good limit some all d at o vs (placed (name n) at_v ∷ placed s a ∷ ts) (f, g, so_far, words, before, ordered, good) = global_good limit some all _ d at o vs at_v n s a f g ts so_far words before ordered good
 next_global_good limit some all d at o vs _ is = tt
 
-parameter_good : (limit : ℕ) (some : 1 ≤ limit) (all here : List Placed) (d : Document) (at : At) (is_pred : Bool) (at_p : At) (p : List ℕ) (vs : Variables) (o : Order) (at_v : At) (n : List ℕ) (s : Symbol) (a : At) (f g h i j k ts : List Placed)
-    → SoFar limit d all f → Starts true (predicate_word is_pred) at f g → Starts true (name p) at_p g h → Follows open_round h i → ParametersSoFar vs i j → ParameterKind vs o j (placed (name n) at_v ∷ placed s a ∷ ts) → AreDomainsWithin limit vs
-    → GoodNext limit all (behind_parameter d at is_pred at_p p vs o at_v n s here ts)
-parameter_good limit some all here d at is_pred at_p p vs o at_v n word_where a f g h i j k ts so_far words starts opens before kinds good =
+parameter_good : (limit : ℕ) (some : 1 ≤ limit) (all here : List Placed) (d : Document) (head : Head) (vs : Variables) (o : Order) (at_v : At) (n : List ℕ) (s : Symbol) (a : At) (f g h i j k ts : List Placed)
+    → SoFar limit d all f → Starts true (predicate_word head.is_pred) head.at f g → Starts true (name head.name) head.at_name g h → Follows open_round h i → ParametersSoFar vs i j → ParameterKind vs o j (placed (name n) at_v ∷ placed s a ∷ ts) → AreDomainsWithin limit vs
+    → GoodNext limit all (behind_parameter d head vs o at_v n s here ts)
+parameter_good limit some all here d head vs o at_v n word_where a f g h i j k ts so_far words starts opens before kinds good =
     (ts, (f, g, h, i, j, placed (name n) at_v ∷ placed word_where a ∷ ts, placed word_where a ∷ ts, so_far, words, starts, opens, before, kinds, (at_v, refl, refl), (a, refl), good), refl, omega arith)
-parameter_good limit some all here d at is_pred at_p p vs o at_v n comma a f g h i j k ts so_far words starts opens before kinds good = (
+parameter_good limit some all here d head vs o at_v n comma a f g h i j k ts so_far words starts opens before kinds good = (
   f,
   g,
   h,
@@ -142,25 +142,25 @@ parameter_good limit some all here d at is_pred at_p p vs o at_v n comma a f g h
   (placed comma a ∷ ts, parameters_extended vs at_v o n unrestricted i j (placed (name n) at_v ∷ placed comma a ∷ ts) (placed comma a ∷ ts) (placed comma a ∷ ts) before kinds (at_v, refl, refl) refl, (a, refl)),
   good,
 )
-parameter_good limit some all here d at is_pred at_p p vs o at_v n close_round a f g h i j k ts so_far words starts opens before kinds good =
-    body_of_good limit some all d at is_pred at_p p (and_variable vs at_v o n unrestricted) f g h i ts so_far words starts (
+parameter_good limit some all here d head vs o at_v n close_round a f g h i j k ts so_far words starts opens before kinds good =
+    body_of_good limit some all d head (and_variable vs at_v o n unrestricted) f g h i ts so_far words starts (
       i,
       placed close_round a ∷ ts,
       opens,
       parameters_extended vs at_v o n unrestricted i j (placed (name n) at_v ∷ placed close_round a ∷ ts) (placed close_round a ∷ ts) (placed close_round a ∷ ts) before kinds (at_v, refl, refl) refl,
       (a, refl),
     ) good
-parameter_good limit some all here d at is_pred at_p p vs o at_v n _ a f g h i j k ts so_far words starts opens before kinds good = tt
+parameter_good limit some all here d head vs o at_v n _ a f g h i j k ts so_far words starts opens before kinds good = tt
 
-next_parameter_good : (limit : ℕ) (some : 1 ≤ limit) (all : List Placed) (d : Document) (at : At) (is_pred : Bool) (at_p : At) (p : List ℕ) (vs : Variables) (ts : List Placed) → Good limit (parameter_wanted d at is_pred at_p p vs) all ts
-    → GoodNext limit all (next_parameter d at is_pred at_p p vs ts)
-next_parameter_good limit some all d at is_pred at_p p no_variables (placed (kind o) a1 ∷ placed (name n) at_v ∷ placed s a2 ∷ ts) (f, g, h, i, so_far, words, starts, opens, before, good) =
-    parameter_good limit some all _ d at is_pred at_p p no_variables o at_v n s a2 f g h i (placed (kind o) a1 ∷ placed (name n) at_v ∷ placed s a2 ∷ ts) ts ts so_far words starts opens before (a1, refl) good
-next_parameter_good limit some all d at is_pred at_p p (and_variable vs at' o' n' x) (placed (kind o) a1 ∷ placed (name n) at_v ∷ placed s a2 ∷ ts) (f, g, h, i, so_far, words, starts, opens, before, good) =
-    parameter_good limit some all _ d at is_pred at_p p (and_variable vs at' o' n' x) o at_v n s a2 f g h i (placed (kind o) a1 ∷ placed (name n) at_v ∷ placed s a2 ∷ ts) ts ts so_far words starts opens before (inl (a1, refl)) good
-next_parameter_good limit some all d at is_pred at_p p (and_variable vs at' o' n' x) (placed (name n) at_v ∷ placed s a2 ∷ ts) (f, g, h, i, so_far, words, starts, opens, before, good) =
-    parameter_good limit some all _ d at is_pred at_p p (and_variable vs at' o' n' x) o' at_v n s a2 f g h i (placed (name n) at_v ∷ placed s a2 ∷ ts) ts ts so_far words starts opens before (inr (refl, refl)) good
-next_parameter_good limit some all d at is_pred at_p p vs _ is = tt
+next_parameter_good : (limit : ℕ) (some : 1 ≤ limit) (all : List Placed) (d : Document) (head : Head) (vs : Variables) (ts : List Placed) → Good limit (parameter_wanted d head vs) all ts
+    → GoodNext limit all (next_parameter d head vs ts)
+next_parameter_good limit some all d head no_variables (placed (kind o) a1 ∷ placed (name n) at_v ∷ placed s a2 ∷ ts) (f, g, h, i, so_far, words, starts, opens, before, good) =
+    parameter_good limit some all _ d head no_variables o at_v n s a2 f g h i (placed (kind o) a1 ∷ placed (name n) at_v ∷ placed s a2 ∷ ts) ts ts so_far words starts opens before (a1, refl) good
+next_parameter_good limit some all d head (and_variable vs at' o' n' x) (placed (kind o) a1 ∷ placed (name n) at_v ∷ placed s a2 ∷ ts) (f, g, h, i, so_far, words, starts, opens, before, good) =
+    parameter_good limit some all _ d head (and_variable vs at' o' n' x) o at_v n s a2 f g h i (placed (kind o) a1 ∷ placed (name n) at_v ∷ placed s a2 ∷ ts) ts ts so_far words starts opens before (inl (a1, refl)) good
+next_parameter_good limit some all d head (and_variable vs at' o' n' x) (placed (name n) at_v ∷ placed s a2 ∷ ts) (f, g, h, i, so_far, words, starts, opens, before, good) =
+    parameter_good limit some all _ d head (and_variable vs at' o' n' x) o' at_v n s a2 f g h i (placed (name n) at_v ∷ placed s a2 ∷ ts) ts ts so_far words starts opens before (inr (refl, refl)) good
+next_parameter_good limit some all d head vs _ is = tt
 
 next_summand_good : (limit : ℕ) (all : List Placed) (d : Document) (at at_n : At) (n : List ℕ) (sum : List PlacedInt) (ts : List Placed) → Good limit (summand_wanted d at at_n n sum) all ts → GoodNext limit all (next_summand d at at_n n sum ts)
 next_summand_good limit all d at at_n n sum (placed semicolon a ∷ ts) (f, g, h, i, so_far, words, starts, equal, sums) =
@@ -233,7 +233,7 @@ predicate_good limit some all d at is_pred (placed (name p) at_p ∷ placed (inf
   omega arith,
 )
 predicate_good limit some all d at is_pred (placed (name p) at_p ∷ placed open_round a1 ∷ placed close_round a2 ∷ ts) so_far =
-    body_of_good limit some all d at is_pred at_p p no_variables (placed (predicate_word is_pred) at ∷ placed (name p) at_p ∷ placed open_round a1 ∷ placed close_round a2 ∷ ts)
+    body_of_good limit some all d (head_with at is_pred at_p p) no_variables (placed (predicate_word is_pred) at ∷ placed (name p) at_p ∷ placed open_round a1 ∷ placed close_round a2 ∷ ts)
     (placed (name p) at_p ∷ placed open_round a1 ∷ placed close_round a2 ∷ ts) (placed open_round a1 ∷ placed close_round a2 ∷ ts) ts ts so_far (at, refl, refl) (at_p, refl, refl)
     (inr (placed close_round a2 ∷ ts, (a1, refl), (a2, refl))) tt
 predicate_good limit some all d at is_pred (placed (name p) at_p ∷ placed open_round a1 ∷ ts) so_far = (
@@ -299,7 +299,7 @@ step_good limit some (variable_wanted c st at q o vs) all (placed s a ∷ ts) is
 step_good limit some (part_wanted c st at o parts) all (placed s a ∷ ts) is = next_part_good limit all c st at o parts (placed s a ∷ ts) is
 step_good limit some (pair_wanted c st at file pairs) all (placed s a ∷ ts) is = next_pair_good limit all c st at file pairs (placed s a ∷ ts) is
 step_good limit some (global_wanted d at o vs) all (placed s a ∷ ts) is = next_global_good limit some all d at o vs (placed s a ∷ ts) is
-step_good limit some (parameter_wanted d at is_pred at_p p vs) all (placed s a ∷ ts) is = next_parameter_good limit some all d at is_pred at_p p vs (placed s a ∷ ts) is
+step_good limit some (parameter_wanted d head vs) all (placed s a ∷ ts) is = next_parameter_good limit some all d head vs (placed s a ∷ ts) is
 step_good limit some (summand_wanted d at at_n n sum) all (placed s a ∷ ts) is = next_summand_good limit all d at at_n n sum (placed s a ∷ ts) is
 step_good limit some (outside d) all [] is = tt
 step_good limit some (wanted c st) all [] is = tt
@@ -308,8 +308,8 @@ step_good limit some (variable_wanted c st at q o vs) all [] is = tt
 step_good limit some (part_wanted c st at o parts) all [] is = tt
 step_good limit some (pair_wanted c st at file pairs) all [] is = tt
 step_good limit some (global_wanted d at o vs) all [] is = tt
-step_good limit some (parameter_wanted d at is_pred at_p p no_variables) all [] is = tt
-step_good limit some (parameter_wanted d at is_pred at_p p (and_variable vs a o n x)) all [] is = tt
+step_good limit some (parameter_wanted d head no_variables) all [] is = tt
+step_good limit some (parameter_wanted d head (and_variable vs a o n x)) all [] is = tt
 step_good limit some (summand_wanted d at at_n n sum) all [] is = tt
 
 finished_good : (limit : ℕ) (s : State) (all ts : List Placed) (d : Document) → Good limit s all ts → finished s ts ≡ Some d → SoFar limit d all []
@@ -321,7 +321,7 @@ finished_good limit (variable_wanted c st at q o vs) all ts d is read = let neve
 finished_good limit (part_wanted c st at o parts) all ts d is read = let never : ⊥ = cc in absurd never
 finished_good limit (pair_wanted c st at file pairs) all ts d is read = let never : ⊥ = cc in absurd never
 finished_good limit (global_wanted d0 at o vs) all ts d is read = let never : ⊥ = cc in absurd never
-finished_good limit (parameter_wanted d0 at is_pred at_p p vs) all ts d is read = let never : ⊥ = cc in absurd never
+finished_good limit (parameter_wanted d0 head vs) all ts d is read = let never : ⊥ = cc in absurd never
 finished_good limit (summand_wanted d0 at at_n n sum) all ts d is read = let never : ⊥ = cc in absurd never
 
 next_good : (limit : ℕ) (r : State → List Placed → Option Document) (all : List Placed) (d : Document) → ((s : State) (ts : List Placed) → Good limit s all ts → r s ts ≡ Some d → SoFar limit d all [])

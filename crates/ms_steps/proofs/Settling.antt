@@ -17,7 +17,7 @@ use Rattle.ms_grammar.specs.Tree.{Declaration, variables, predicate, default_res
 use Rattle.ms_grammar.specs.Grammar.{binary_level, left_level, junction_level, level, ends_open, is_in, right_level, operand_level, has_bare_in, some_bare_in, domain_bare_in, depth}
 use Rattle.ms_grammar.specs.Reads.{Starts, ReadsInt, place, FirstIsAt, ReadsExpression}
 use Rattle.ms_grammar.specs.Declarations.{ReadsParameterList, ReadsDeclaration, BeginsAt}
-use Rattle.ms_steps.specs.Machine.{Frame, prefix_frame, left_frame, joined_frame, bracket_frame, list_frame, domain_frame, body_frame, part_frame, let_frame, Context, in_formula, in_global, in_parameter, in_predicate, in_default, holding, need, enter, ends, bound, shift, join_new, join, took, misplaced, too_deep, int_then, shift_int, declare, body_of, close_round_at, close_curly_at, comma_at, colon_at, in_at, semicolon_at, settle}
+use Rattle.ms_steps.specs.Machine.{Head, Frame, prefix_frame, left_frame, joined_frame, bracket_frame, list_frame, domain_frame, body_frame, part_frame, let_frame, Context, in_formula, in_global, in_parameter, in_predicate, in_default, holding, need, enter, ends, bound, shift, join_new, join, took, misplaced, too_deep, int_then, shift_int, declare, body_of, close_round_at, close_curly_at, comma_at, colon_at, in_at, semicolon_at, settle}
 use Rattle.ms_steps.proofs.Frames.{Held, both_false, Stands, Collapsed, chosen}
 use Rattle.ms_steps.proofs.Extensions.{entries_extended, variables_extended, parts_extended, parameters_extended, declarations_extended, all_declared}
 use Rattle.ms_steps.proofs.Soundness.{SoFar, InContext, Good, GoodNext, need_small, enter_good}
@@ -172,11 +172,11 @@ whole_expression limit e from ts held = record { grammatical = held.grammatical;
 whole_reads : (limit : ℕ) (e : Expression) (from ts : List Placed) → Held limit e [] from ts → ReadsExpression true e from ts
 whole_reads limit e from ts held = subst (λ f. ReadsExpression true e f ts) (sym held.frames) held.reads
 
-pub body_of_good : (limit : ℕ) (some : 1 ≤ limit) (all : List Placed) (d : Document) (at : At) (is_pred : Bool) (at_p : At) (p : List ℕ) (vs : Variables) (f g h i ts : List Placed)
-    → SoFar limit d all f → Starts true (predicate_word is_pred) at f g → Starts true (name p) at_p g h → ReadsParameterList true vs h ts → AreDomainsWithin limit vs → GoodNext limit all (body_of d at is_pred at_p p vs ts)
-body_of_good limit some all d at is_pred at_p p vs f g h i (placed (infix_operator (Relation Equal)) a ∷ ts) so_far words starts list good =
+pub body_of_good : (limit : ℕ) (some : 1 ≤ limit) (all : List Placed) (d : Document) (head : Head) (vs : Variables) (f g h i ts : List Placed)
+    → SoFar limit d all f → Starts true (predicate_word head.is_pred) head.at f g → Starts true (name head.name) head.at_name g h → ReadsParameterList true vs h ts → AreDomainsWithin limit vs → GoodNext limit all (body_of d head vs ts)
+body_of_good limit some all d head vs f g h i (placed (infix_operator (Relation Equal)) a ∷ ts) so_far words starts list good =
     (ts, (f, g, h, placed (infix_operator (Relation Equal)) a ∷ ts, so_far, words, starts, list, (a, refl), good), refl, omega arith)
-body_of_good limit some all d at is_pred at_p p vs f g h i _ so_far words starts list good = tt
+body_of_good limit some all d head vs f g h i _ so_far words starts list good = tt
 
 close_round_good : (limit : ℕ) (some : 1 ≤ limit) (all here : List Placed) (c : Context) (e : Expression) (st : List Frame) (from ts : List Placed) (a : At) → InContext limit c all from → Held limit e st from (placed close_round a ∷ ts)
     → GoodNext limit all (close_round_at limit c e st here ts)
@@ -212,8 +212,8 @@ close_round_good limit some all here c e (list_frame at (Call p) es ∷ st) from
       },
       refl,
     )) (λ large. tt)
-close_round_good limit some all here (in_parameter d at is_pred at_p p vs o at_v n) e [] from ts a (f, g, h, i, j, k, l, so_far, words, starts, opens, before, kinds, names, follow, good) held =
-    body_of_good limit some all d at is_pred at_p p (and_variable vs at_v o n (restricted e)) f g h i ts so_far words starts (
+close_round_good limit some all here (in_parameter d head vs o at_v n) e [] from ts a (f, g, h, i, j, k, l, so_far, words, starts, opens, before, kinds, names, follow, good) held =
+    body_of_good limit some all d head (and_variable vs at_v o n (restricted e)) f g h i ts so_far words starts (
       i,
       placed close_round a ∷ ts,
       opens,
@@ -287,7 +287,7 @@ comma_good limit all here (in_global d at o vs at_v n) e [] from ts a (f, g, h, 
   (ordered, refl),
   (good, whole_expression limit e from (placed comma a ∷ ts) held),
 )
-comma_good limit all here (in_parameter d at is_pred at_p p vs o at_v n) e [] from ts a (f, g, h, i, j, k, l, so_far, words, starts, opens, before, kinds, names, follow, good) held = (
+comma_good limit all here (in_parameter d head vs o at_v n) e [] from ts a (f, g, h, i, j, k, l, so_far, words, starts, opens, before, kinds, names, follow, good) held = (
   f,
   g,
   h,
@@ -371,8 +371,8 @@ semicolon_good limit all here (in_global d at o vs at_v n) e [] from ts a (f, g,
       variables_extended vs at_v o n (restricted e) g h i (placed semicolon a ∷ ts) before names (from, follow, whole_reads limit e from (placed semicolon a ∷ ts) held),
     ) refl
     (good, whole_expression limit e from (placed semicolon a ∷ ts) held)
-semicolon_good limit all here (in_predicate d at is_pred at_p p vs) e [] from ts a (f, g, h, i, so_far, words, starts, list, equal, good) held =
-    declared_good limit all d at (predicate is_pred at_p p vs e) f (placed semicolon a ∷ ts) ts a so_far (begins_with (predicate_word is_pred) at f g words)
+semicolon_good limit all here (in_predicate d head vs) e [] from ts a (f, g, h, i, so_far, words, starts, list, equal, good) held =
+    declared_good limit all d head.at (predicate head.is_pred head.at_name head.name vs e) f (placed semicolon a ∷ ts) ts a so_far (begins_with (predicate_word head.is_pred) head.at f g words)
     (g, h, i, from, (words.0, words.1), starts, list, equal, whole_reads limit e from (placed semicolon a ∷ ts) held) refl
     (good, whole_expression limit e from (placed semicolon a ∷ ts) held)
 semicolon_good limit all here (in_default d at o n) e [] from ts a (f, g, h, i, j, so_far, words, opens, names, closes, equal) held =

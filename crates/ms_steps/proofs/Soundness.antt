@@ -30,11 +30,11 @@ abbrev pub InContext : ℕ → Context → List Placed → List Placed → Type 
 InContext limit (in_formula d at) all ts = SoFar limit d all ts × BeginsAt true at ts
 InContext limit (in_global d at o vs at_v n) all ts =
     (f g h i : List Placed) × SoFar limit d all f × Starts true (kind o) at f g × VariablesSoFar vs g h × Starts true (name n) at_v h i × Follows word_where i ts × AreOfOrder o vs × AreDomainsWithin limit vs
-InContext limit (in_parameter d at is_pred at_p p vs o at_v n) all ts =
-    (f g h i j k l : List Placed) × SoFar limit d all f × Starts true (predicate_word is_pred) at f g × Starts true (name p) at_p g h × Follows open_round h i
+InContext limit (in_parameter d head vs o at_v n) all ts =
+    (f g h i j k l : List Placed) × SoFar limit d all f × Starts true (predicate_word head.is_pred) head.at f g × Starts true (name head.name) head.at_name g h × Follows open_round h i
     × ParametersSoFar vs i j × ParameterKind vs o j k × Starts true (name n) at_v k l × Follows word_where l ts × AreDomainsWithin limit vs
-InContext limit (in_predicate d at is_pred at_p p vs) all ts =
-    (f g h i : List Placed) × SoFar limit d all f × Starts true (predicate_word is_pred) at f g × Starts true (name p) at_p g h × ReadsParameterList true vs h i
+InContext limit (in_predicate d head vs) all ts =
+    (f g h i : List Placed) × SoFar limit d all f × Starts true (predicate_word head.is_pred) head.at f g × Starts true (name head.name) head.at_name g h × ReadsParameterList true vs h i
     × Follows (infix_operator (Relation Equal)) i ts × AreDomainsWithin limit vs
 InContext limit (in_default d at o n) all ts =
     (f g h i j : List Placed) × SoFar limit d all f × Starts true (default_word o) at f g × Follows open_round g h × Follows (name n) h i × Follows close_round i j
@@ -56,8 +56,8 @@ Good limit (pair_wanted c st at file pairs) all ts =
     × ReadsPairs true pairs i ts × (suc (length st) ≤ limit)
 Good limit (global_wanted d at o vs) all ts =
     (f g : List Placed) × SoFar limit d all f × Starts true (kind o) at f g × VariablesSoFar vs g ts × AreOfOrder o vs × AreDomainsWithin limit vs
-Good limit (parameter_wanted d at is_pred at_p p vs) all ts =
-    (f g h i : List Placed) × SoFar limit d all f × Starts true (predicate_word is_pred) at f g × Starts true (name p) at_p g h × Follows open_round h i
+Good limit (parameter_wanted d head vs) all ts =
+    (f g h i : List Placed) × SoFar limit d all f × Starts true (predicate_word head.is_pred) head.at f g × Starts true (name head.name) head.at_name g h × Follows open_round h i
     × ParametersSoFar vs i ts × AreDomainsWithin limit vs
 Good limit (summand_wanted d at at_n n sum) all ts =
     (f g h i : List Placed) × SoFar limit d all f × Starts true word_const at f g × Starts true (name n) at_n g h × Follows (infix_operator (Relation Equal)) h i

@@ -15,7 +15,7 @@ use Rattle.ms_grammar.specs.Tree.{Declaration, variables, constant, predicate, i
 use Rattle.ms_grammar.specs.Grammar.{AreOfOrder}
 use Rattle.ms_grammar.specs.Reads.{int_symbol, Starts, Follows, ReadsExpression, ReadsDomain, ReadsVariables}
 use Rattle.ms_grammar.specs.Declarations.{ReadsParameters, ReadsParameterList, ReadsFurther, ReadsDeclaration, BeginsAt, ReadsDeclarations}
-use Rattle.ms_steps.specs.Machine.{Context, in_formula, in_global, in_parameter, in_predicate, in_default, outside, wanted, holding, global_wanted, parameter_wanted, summand_wanted, Step, took, starter, declare, body_of, behind_parameter, step, finished, goes_on, run, Runs}
+use Rattle.ms_steps.specs.Machine.{Head, head_with, Context, in_formula, in_global, in_parameter, in_predicate, in_default, outside, wanted, holding, global_wanted, parameter_wanted, summand_wanted, Step, took, starter, declare, body_of, behind_parameter, step, finished, goes_on, run, Runs}
 use Rattle.ms_steps.proofs.Levels.{yields-zero}
 use Rattle.ms_steps.proofs.Moves.{begins}
 use Rattle.ms_steps.proofs.Steps.{by_step, Leads, by_lead, at_start}
@@ -100,56 +100,56 @@ abbrev pub parameter_separator : Bool → Symbol
 parameter_separator true = comma
 parameter_separator false = close_round
 
-abbrev pub ended_parameter : Document → At → Bool → At → List ℕ → Variables → Bool → List Placed → Step
-ended_parameter d at is_pred at_p p vs true ts = took (parameter_wanted d at is_pred at_p p vs) ts
-ended_parameter d at is_pred at_p p vs false ts = body_of d at is_pred at_p p vs ts
+abbrev pub ended_parameter : Document → Head → Variables → Bool → List Placed → Step
+ended_parameter d head vs true ts = took (parameter_wanted d head vs) ts
+ended_parameter d head vs false ts = body_of d head vs ts
 
 parameter_whole : (m : Bool) → ends_whole (parameter_separator m) ≡ true
 parameter_whole true = refl
 parameter_whole false = refl
 
-parameter_restricted : (limit : ℕ) (d : Document) (at : At) (is_pred : Bool) (at_p : At) (p : List ℕ) (b : Variables) (o : Order) (at_v : At) (n : List ℕ) (e : Expression) (m : Bool) (a : At) (ts : List Placed)
-    → step limit (holding (in_parameter d at is_pred at_p p b o at_v n) e []) (placed (parameter_separator m) a ∷ ts) ≡ ended_parameter d at is_pred at_p p (and_variable b at_v o n (restricted e)) m ts
-parameter_restricted limit d at is_pred at_p p b o at_v n e true a ts = refl
-parameter_restricted limit d at is_pred at_p p b o at_v n e false a ts = refl
+parameter_restricted : (limit : ℕ) (d : Document) (head : Head) (b : Variables) (o : Order) (at_v : At) (n : List ℕ) (e : Expression) (m : Bool) (a : At) (ts : List Placed)
+    → step limit (holding (in_parameter d head b o at_v n) e []) (placed (parameter_separator m) a ∷ ts) ≡ ended_parameter d head (and_variable b at_v o n (restricted e)) m ts
+parameter_restricted limit d head b o at_v n e true a ts = refl
+parameter_restricted limit d head b o at_v n e false a ts = refl
 
-parameter_unrestricted : (d : Document) (at : At) (is_pred : Bool) (at_p : At) (p : List ℕ) (b : Variables) (o : Order) (at_v : At) (n : List ℕ) (m : Bool) (from ts : List Placed)
-    → behind_parameter d at is_pred at_p p b o at_v n (parameter_separator m) from ts ≡ ended_parameter d at is_pred at_p p (and_variable b at_v o n unrestricted) m ts
-parameter_unrestricted d at is_pred at_p p b o at_v n true from ts = refl
-parameter_unrestricted d at is_pred at_p p b o at_v n false from ts = refl
+parameter_unrestricted : (d : Document) (head : Head) (b : Variables) (o : Order) (at_v : At) (n : List ℕ) (m : Bool) (from ts : List Placed)
+    → behind_parameter d head b o at_v n (parameter_separator m) from ts ≡ ended_parameter d head (and_variable b at_v o n unrestricted) m ts
+parameter_unrestricted d head b o at_v n true from ts = refl
+parameter_unrestricted d head b o at_v n false from ts = refl
 
 -- a parameter from its name on, with its kind in front or nothing
-parameter_rest : (limit : ℕ) (x : Domain) (d : Document) (at : At) (is_pred : Bool) (at_p : At) (p : List ℕ) (b : Variables) (o : Order) (at_v : At) (n : List ℕ) (m : Bool) (from f0 f1 ts : List Placed) (a : At) (dd : Document) (front : List Placed → List Placed)
-    → GoodRestriction limit x → from ≡ front f0 → ((s : Symbol) (y : At) (rest : List Placed) → step limit (parameter_wanted d at is_pred at_p p b) (front (placed (name n) at_v ∷ placed s y ∷ rest)) ≡ behind_parameter d at is_pred at_p p b o at_v n s (placed s y ∷ rest) rest)
+parameter_rest : (limit : ℕ) (x : Domain) (d : Document) (head : Head) (b : Variables) (o : Order) (at_v : At) (n : List ℕ) (m : Bool) (from f0 f1 ts : List Placed) (a : At) (dd : Document) (front : List Placed → List Placed)
+    → GoodRestriction limit x → from ≡ front f0 → ((s : Symbol) (y : At) (rest : List Placed) → step limit (parameter_wanted d head b) (front (placed (name n) at_v ∷ placed s y ∷ rest)) ≡ behind_parameter d head b o at_v n s (placed s y ∷ rest) rest)
     → Starts true (name n) at_v f0 f1 → ReadsDomain true x f1 (placed (parameter_separator m) a ∷ ts)
-    → Leads limit (ended_parameter d at is_pred at_p p (and_variable b at_v o n x) m ts) dd → Runs limit (parameter_wanted d at is_pred at_p p b) from dd
-parameter_rest limit unrestricted d at is_pred at_p p b o at_v n m from f0 f1 ts a dd front good here stepped starts reads leads =
-    by_lead limit (parameter_wanted d at is_pred at_p p b) from (front (placed (name n) at_v ∷ placed (parameter_separator m) a ∷ ts)) (ended_parameter d at is_pred at_p p (and_variable b at_v o n unrestricted) m ts) dd
+    → Leads limit (ended_parameter d head (and_variable b at_v o n x) m ts) dd → Runs limit (parameter_wanted d head b) from dd
+parameter_rest limit unrestricted d head b o at_v n m from f0 f1 ts a dd front good here stepped starts reads leads =
+    by_lead limit (parameter_wanted d head b) from (front (placed (name n) at_v ∷ placed (parameter_separator m) a ∷ ts)) (ended_parameter d head (and_variable b at_v o n unrestricted) m ts) dd
     (here ∙ ap front (at_start (name n) at_v f0 f1 starts ∙ ap (λ f. placed (name n) at_v ∷ f) reads))
-    (stepped (parameter_separator m) a ts ∙ parameter_unrestricted d at is_pred at_p p b o at_v n m (placed (parameter_separator m) a ∷ ts) ts) leads
-parameter_rest limit (restricted e) d at is_pred at_p p b o at_v n m from f0 f1 ts a dd front good here stepped starts (f2, follow, read_e) leads =
-    by_step limit (parameter_wanted d at is_pred at_p p b) from (front (placed (name n) at_v ∷ placed word_where follow.0 ∷ f2)) (wanted (in_parameter d at is_pred at_p p b o at_v n) []) f2 dd
+    (stepped (parameter_separator m) a ts ∙ parameter_unrestricted d head b o at_v n m (placed (parameter_separator m) a ∷ ts) ts) leads
+parameter_rest limit (restricted e) d head b o at_v n m from f0 f1 ts a dd front good here stepped starts (f2, follow, read_e) leads =
+    by_step limit (parameter_wanted d head b) from (front (placed (name n) at_v ∷ placed word_where follow.0 ∷ f2)) (wanted (in_parameter d head b o at_v n) []) f2 dd
     (here ∙ ap front (at_start (name n) at_v f0 f1 starts ∙ ap (λ f. placed (name n) at_v ∷ f) follow.1)) (stepped word_where follow.0 f2)
-    (whole_read limit e (in_parameter d at is_pred at_p p b o at_v n) f2 ts (parameter_separator m) a dd good (parameter_whole m) read_e
-    (by_lead limit (holding (in_parameter d at is_pred at_p p b o at_v n) e []) (placed (parameter_separator m) a ∷ ts) (placed (parameter_separator m) a ∷ ts)
-    (ended_parameter d at is_pred at_p p (and_variable b at_v o n (restricted e)) m ts) dd refl (parameter_restricted limit d at is_pred at_p p b o at_v n e m a ts) leads))
+    (whole_read limit e (in_parameter d head b o at_v n) f2 ts (parameter_separator m) a dd good (parameter_whole m) read_e
+    (by_lead limit (holding (in_parameter d head b o at_v n) e []) (placed (parameter_separator m) a ∷ ts) (placed (parameter_separator m) a ∷ ts)
+    (ended_parameter d head (and_variable b at_v o n (restricted e)) m ts) dd refl (parameter_restricted limit d head b o at_v n e m a ts) leads))
 
-parameters_read : (limit : ℕ) (vs : Variables) (d : Document) (at : At) (is_pred : Bool) (at_p : At) (p : List ℕ) (m : Bool) (from ts : List Placed) (a : At) (dd : Document)
+parameters_read : (limit : ℕ) (vs : Variables) (d : Document) (head : Head) (m : Bool) (from ts : List Placed) (a : At) (dd : Document)
     → AreDomainsWithin limit vs → ReadsParameters true vs from (placed (parameter_separator m) a ∷ ts)
-    → Leads limit (ended_parameter d at is_pred at_p p vs m ts) dd → Runs limit (parameter_wanted d at is_pred at_p p no_variables) from dd
-parameters_read limit no_variables d at is_pred at_p p m from ts a dd good reads leads = absurd reads
-parameters_read limit (and_variable no_variables at_v o n x) d at is_pred at_p p m from ts a dd good (f1, f2, kinds, starts, read_x) leads =
-    parameter_rest limit x d at is_pred at_p p no_variables o at_v n m from f1 f2 ts a dd (λ f. placed (kind o) kinds.0 ∷ f) (restriction_good limit no_variables at_v o n x good).1
+    → Leads limit (ended_parameter d head vs m ts) dd → Runs limit (parameter_wanted d head no_variables) from dd
+parameters_read limit no_variables d head m from ts a dd good reads leads = absurd reads
+parameters_read limit (and_variable no_variables at_v o n x) d head m from ts a dd good (f1, f2, kinds, starts, read_x) leads =
+    parameter_rest limit x d head no_variables o at_v n m from f1 f2 ts a dd (λ f. placed (kind o) kinds.0 ∷ f) (restriction_good limit no_variables at_v o n x good).1
     kinds.1 (λ s y rest. refl) starts read_x leads
-parameters_read limit (and_variable (and_variable b at1 o1 n1 x1) at_v o n x) d at is_pred at_p p m from ts a dd good (f1, f2, f3, f4, read_b, follow, kinds, starts, read_x) leads =
-    parameters_read limit (and_variable b at1 o1 n1 x1) d at is_pred at_p p true from f2 follow.0 dd (restriction_good limit (and_variable b at1 o1 n1 x1) at_v o n x good).0
+parameters_read limit (and_variable (and_variable b at1 o1 n1 x1) at_v o n x) d head m from ts a dd good (f1, f2, f3, f4, read_b, follow, kinds, starts, read_x) leads =
+    parameters_read limit (and_variable b at1 o1 n1 x1) d head true from f2 follow.0 dd (restriction_good limit (and_variable b at1 o1 n1 x1) at_v o n x good).0
     (subst (λ f. ReadsParameters true (and_variable b at1 o1 n1 x1) from f) follow.1 read_b)
     (⊎_elim
-    (λ (k : Follows (kind o) f2 f3). parameter_rest limit x d at is_pred at_p p (and_variable b at1 o1 n1 x1) o at_v n m f2 f3 f4 ts a dd (λ f. placed (kind o) k.0 ∷ f)
+    (λ (k : Follows (kind o) f2 f3). parameter_rest limit x d head (and_variable b at1 o1 n1 x1) o at_v n m f2 f3 f4 ts a dd (λ f. placed (kind o) k.0 ∷ f)
     (restriction_good limit (and_variable b at1 o1 n1 x1) at_v o n x good).1 k.1 (λ s y rest. refl) starts read_x leads)
-    (λ (k : (o ≡ o1) × (f2 ≡ f3)). parameter_rest limit x d at is_pred at_p p (and_variable b at1 o1 n1 x1) o1 at_v n m f2 f3 f4 ts a dd (λ f. f)
+    (λ (k : (o ≡ o1) × (f2 ≡ f3)). parameter_rest limit x d head (and_variable b at1 o1 n1 x1) o1 at_v n m f2 f3 f4 ts a dd (λ f. f)
     (restriction_good limit (and_variable b at1 o1 n1 x1) at_v o n x good).1 k.1 (λ s y rest. refl) starts read_x
-    (subst (λ y. Leads limit (ended_parameter d at is_pred at_p p (and_variable (and_variable b at1 o1 n1 x1) at_v y n x) m ts) dd) k.0 leads))
+    (subst (λ y. Leads limit (ended_parameter d head (and_variable (and_variable b at1 o1 n1 x1) at_v y n x) m ts) dd) k.0 leads))
     kinds)
 
 -- sums
@@ -204,15 +204,15 @@ begins_parameter _ = false
 
 -- the body of a predicate
 body_read : (limit : ℕ) (is_pred : Bool) (at_p : At) (p : List ℕ) (vs : Variables) (body : Expression) (d : Document) (at a : At) (from f1 ts : List Placed) (x : At) (dd : Document) → IsWithin limit body → at ≡ a
-    → ReadsExpression true body from f1 → f1 ≡ placed semicolon x ∷ ts → Runs limit (outside (declare d at (predicate is_pred at_p p vs body))) ts dd → Runs limit (wanted (in_predicate d a is_pred at_p p vs) []) from dd
+    → ReadsExpression true body from f1 → f1 ≡ placed semicolon x ∷ ts → Runs limit (outside (declare d at (predicate is_pred at_p p vs body))) ts dd → Runs limit (wanted (in_predicate d (head_with a is_pred at_p p) vs) []) from dd
 body_read limit is_pred at_p p vs body d at a from f1 ts x dd is same reads closes runs =
-    whole_read limit body (in_predicate d a is_pred at_p p vs) from ts semicolon x dd is refl (subst (λ f. ReadsExpression true body from f) closes reads)
-    (by_step limit (holding (in_predicate d a is_pred at_p p vs) body []) (placed semicolon x ∷ ts) (placed semicolon x ∷ ts) (outside (declare d a (predicate is_pred at_p p vs body))) ts dd refl refl
+    whole_read limit body (in_predicate d (head_with a is_pred at_p p) vs) from ts semicolon x dd is refl (subst (λ f. ReadsExpression true body from f) closes reads)
+    (by_step limit (holding (in_predicate d (head_with a is_pred at_p p) vs) body []) (placed semicolon x ∷ ts) (placed semicolon x ∷ ts) (outside (declare d a (predicate is_pred at_p p vs body))) ts dd refl refl
     (subst (λ y. Runs limit (outside (declare d y (predicate is_pred at_p p vs body))) ts dd) same runs))
 
 -- `(` behind the name of a predicate, with parameters
 opened : (limit : ℕ) (d : Document) (a : At) (is_pred : Bool) (at_p : At) (p : List ℕ) (x : At) (s : Symbol) (y : At) (more : List Placed) → begins_parameter s ≡ true
-    → step limit (outside d) (placed (predicate_word is_pred) a ∷ placed (name p) at_p ∷ placed open_round x ∷ placed s y ∷ more) ≡ took (parameter_wanted d a is_pred at_p p no_variables) (placed s y ∷ more)
+    → step limit (outside d) (placed (predicate_word is_pred) a ∷ placed (name p) at_p ∷ placed open_round x ∷ placed s y ∷ more) ≡ took (parameter_wanted d (head_with a is_pred at_p p) no_variables) (placed s y ∷ more)
 opened limit d a is_pred at_p p x close_round y more first = absurd (false≢true first)
 opened limit d a is_pred at_p p x _ y more first = refl
 
@@ -230,23 +230,23 @@ predicate_read limit no_variables is_pred at_p p body d at a from g1 g2 g3 g4 f1
     let then_body = body_read limit is_pred at_p p no_variables body d at a g4 f1 ts x dd good.1 same read_body closes runs in
     ⊎_elim
     (λ (none : g2 ≡ g3). by_step limit (outside d) from (placed (predicate_word is_pred) a ∷ placed (name p) at_p ∷ placed (infix_operator (Relation Equal)) e ∷ g4)
-    (wanted (in_predicate d a is_pred at_p p no_variables) []) g4 dd
+    (wanted (in_predicate d (head_with a is_pred at_p p) no_variables) []) g4 dd
     (front ∙ ap (λ f. placed (predicate_word is_pred) a ∷ placed (name p) at_p ∷ f) (none ∙ equal)) refl then_body)
     (λ (empty : (h : List Placed) × Follows open_round g2 h × Follows close_round h g3).
     by_step limit (outside d) from (placed (predicate_word is_pred) a ∷ placed (name p) at_p ∷ placed open_round empty.1.0 ∷ placed close_round empty.2.0 ∷ placed (infix_operator (Relation Equal)) e ∷ g4)
-    (wanted (in_predicate d a is_pred at_p p no_variables) []) g4 dd
+    (wanted (in_predicate d (head_with a is_pred at_p p) no_variables) []) g4 dd
     (front ∙ ap (λ f. placed (predicate_word is_pred) a ∷ placed (name p) at_p ∷ f) (empty.1.1 ∙ ap (λ f. placed open_round empty.1.0 ∷ f)
     (empty.2.1 ∙ ap (λ f. placed close_round empty.2.0 ∷ f) equal))) refl then_body)
     list
 predicate_read limit (and_variable vs at_v o n y) is_pred at_p p body d at a from g1 g2 g3 g4 f1 ts e x dd good same word_is name_is (h1, h2, opens, read_vs, shuts) equal read_body closes runs =
     let first = parameters_begin (and_variable vs at_v o n y) h1 h2 read_vs in
     by_step limit (outside d) from (placed (predicate_word is_pred) a ∷ placed (name p) at_p ∷ placed open_round opens.0 ∷ placed first.0 first.1 ∷ first.2)
-    (parameter_wanted d a is_pred at_p p no_variables) (placed first.0 first.1 ∷ first.2) dd
+    (parameter_wanted d (head_with a is_pred at_p p) no_variables) (placed first.0 first.1 ∷ first.2) dd
     (word_is ∙ ap (λ f. placed (predicate_word is_pred) a ∷ f) (name_is ∙ ap (λ f. placed (name p) at_p ∷ f) (opens.1 ∙ ap (λ f. placed open_round opens.0 ∷ f) first.3)))
     (opened limit d a is_pred at_p p opens.0 first.0 first.1 first.2 first.4)
-    (subst (λ f. Runs limit (parameter_wanted d a is_pred at_p p no_variables) f dd) first.3
-    (parameters_read limit (and_variable vs at_v o n y) d a is_pred at_p p false h1 g3 shuts.0 dd good.0 (subst (λ f. ReadsParameters true (and_variable vs at_v o n y) h1 f) shuts.1 read_vs)
-    (subst (λ f. Leads limit (body_of d a is_pred at_p p (and_variable vs at_v o n y) f) dd) (sym equal)
+    (subst (λ f. Runs limit (parameter_wanted d (head_with a is_pred at_p p) no_variables) f dd) first.3
+    (parameters_read limit (and_variable vs at_v o n y) d (head_with a is_pred at_p p) false h1 g3 shuts.0 dd good.0 (subst (λ f. ReadsParameters true (and_variable vs at_v o n y) h1 f) shuts.1 read_vs)
+    (subst (λ f. Leads limit (body_of d (head_with a is_pred at_p p) (and_variable vs at_v o n y) f) dd) (sym equal)
     (body_read limit is_pred at_p p (and_variable vs at_v o n y) body d at a g4 f1 ts x dd good.1 same read_body closes runs))))
 
 -- a declaration, with its semicolon

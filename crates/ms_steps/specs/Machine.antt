@@ -45,12 +45,22 @@ pub data Frame : Type 0 where
   part_frame : (at : At) (o : Order) (parts : Parts) (at_n : At) (n : List ℕ) → Frame
   let_frame : (at : At) (o : Order) (parts : Parts) → Frame
 
+-- what stands before the parameters of a predicate or a macro: its word and its name
+pub record Head : Type 0 where
+  pub at : At
+  pub is_pred : Bool
+  pub at_name : At
+  pub name : List ℕ
+
+abbrev pub head_with : At → Bool → At → List ℕ → Head
+head_with at is_pred at_p p = record { at = at; is_pred = is_pred; at_name = at_p; name = p }
+
 -- the declaration that has been begun, behind those of a document
 pub data Context : Type 0 where
   in_formula : (d : Document) (at : At) → Context
   in_global : (d : Document) (at : At) (o : Order) (vs : Variables) (at_v : At) (n : List ℕ) → Context
-  in_parameter : (d : Document) (at : At) (is_pred : Bool) (at_p : At) (p : List ℕ) (vs : Variables) (o : Order) (at_v : At) (n : List ℕ) → Context
-  in_predicate : (d : Document) (at : At) (is_pred : Bool) (at_p : At) (p : List ℕ) (vs : Variables) → Context
+  in_parameter : (d : Document) (head : Head) (vs : Variables) (o : Order) (at_v : At) (n : List ℕ) → Context
+  in_predicate : (d : Document) (head : Head) (vs : Variables) → Context
   in_default : (d : Document) (at : At) (o : Order) (n : List ℕ) → Context
 
 pub data State : Type 0 where
@@ -64,7 +74,7 @@ pub data State : Type 0 where
   part_wanted : (c : Context) (st : List Frame) (at : At) (o : Order) (parts : Parts) → State
   pair_wanted : (c : Context) (st : List Frame) (at : At) (file : List ℕ) (pairs : List Rename) → State
   global_wanted : (d : Document) (at : At) (o : Order) (vs : Variables) → State
-  parameter_wanted : (d : Document) (at : At) (is_pred : Bool) (at_p : At) (p : List ℕ) (vs : Variables) → State
+  parameter_wanted : (d : Document) (head : Head) (vs : Variables) → State
   summand_wanted : (d : Document) (at : At) (at_n : At) (n : List ℕ) (sum : List PlacedInt) → State
 
 -- What a step comes to. Where it is stuck, the symbols are those from the one at fault on.
@@ -313,8 +323,8 @@ abbrev pub declare : Document → At → Declaration → Document
 declare d at x = record { header = d.header; declarations = d.declarations ++ record { at = at; declaration = x } ∷ [] }
 
 -- the parameters of a predicate have ended
-abbrev pub body_of : Document → At → Bool → At → List ℕ → Variables → List Placed → Step
-body_of d at is_pred at_p p vs ts = equal_then (took (wanted (in_predicate d at is_pred at_p p vs) [])) ts
+abbrev pub body_of : Document → Head → Variables → List Placed → Step
+body_of d head vs ts = equal_then (took (wanted (in_predicate d head vs) [])) ts
 
 -- an expression that a bracket has ended
 abbrev pub hold : ℕ → Context → Expression → List Frame → List Placed → List Placed → Step
@@ -323,7 +333,7 @@ hold limit c e st from ts = cond (leb (depth e) limit) (took (holding c e st) ts
 abbrev pub close_round_at : ℕ → Context → Expression → List Frame → List Placed → List Placed → Step
 close_round_at limit c e (bracket_frame at b ∷ st) from ts = hold limit c (enclosed at b e) st from ts
 close_round_at limit c e (list_frame at (Call p) es ∷ st) from ts = hold limit c (listed at (Call p) (and_expression es e)) st from ts
-close_round_at limit (in_parameter d at is_pred at_p p vs o at_v n) e [] from ts = body_of d at is_pred at_p p (and_variable vs at_v o n (restricted e)) ts
+close_round_at limit (in_parameter d head vs o at_v n) e [] from ts = body_of d head (and_variable vs at_v o n (restricted e)) ts
 close_round_at limit c e _ from ts = misplaced from
 
 abbrev pub close_curly_at : ℕ → Context → Expression → List Frame → List Placed → List Placed → Step
@@ -335,7 +345,7 @@ comma_at limit c e (list_frame at l es ∷ st) from ts = enter limit c (list_fra
 comma_at limit c e (domain_frame at q o vs at_v n ∷ st) from ts = took (variable_wanted c st at q o (and_variable vs at_v o n (restricted e))) ts
 comma_at limit c e (part_frame at o parts at_n n ∷ st) from ts = took (part_wanted c st at o (and_part parts at_n n e)) ts
 comma_at limit (in_global d at o vs at_v n) e [] from ts = took (global_wanted d at o (and_variable vs at_v o n (restricted e))) ts
-comma_at limit (in_parameter d at is_pred at_p p vs o at_v n) e [] from ts = took (parameter_wanted d at is_pred at_p p (and_variable vs at_v o n (restricted e))) ts
+comma_at limit (in_parameter d head vs o at_v n) e [] from ts = took (parameter_wanted d head (and_variable vs at_v o n (restricted e))) ts
 comma_at limit c e _ from ts = misplaced from
 
 abbrev pub colon_at : ℕ → Context → Expression → List Frame → List Placed → List Placed → Step
@@ -349,7 +359,7 @@ in_at limit c e _ from ts = misplaced from
 abbrev pub semicolon_at : Context → Expression → List Frame → List Placed → List Placed → Step
 semicolon_at (in_formula d at) e [] from ts = took (outside (declare d at (formula e))) ts
 semicolon_at (in_global d at o vs at_v n) e [] from ts = took (outside (declare d at (variables (and_variable vs at_v o n (restricted e))))) ts
-semicolon_at (in_predicate d at is_pred at_p p vs) e [] from ts = took (outside (declare d at (predicate is_pred at_p p vs e))) ts
+semicolon_at (in_predicate d head vs) e [] from ts = took (outside (declare d head.at (predicate head.is_pred head.at_name head.name vs e))) ts
 semicolon_at (in_default d at o n) e [] from ts = took (outside (declare d at (default_restriction o n e))) ts
 semicolon_at c e _ from ts = misplaced from
 
@@ -399,14 +409,14 @@ behind_global d at o vs at_v n _ from ts = misplaced from
 abbrev pub next_global : Document → At → Order → Variables → List Placed → Step
 next_global d at o vs ts = name_then (λ at_v n. symbol_then (λ a. behind_global d at o vs at_v n)) ts
 
-abbrev pub behind_parameter : Document → At → Bool → At → List ℕ → Variables → Order → At → List ℕ → Symbol → List Placed → List Placed → Step
-behind_parameter d at is_pred at_p p vs o at_v n word_where from ts = took (wanted (in_parameter d at is_pred at_p p vs o at_v n) []) ts
-behind_parameter d at is_pred at_p p vs o at_v n comma from ts = took (parameter_wanted d at is_pred at_p p (and_variable vs at_v o n unrestricted)) ts
-behind_parameter d at is_pred at_p p vs o at_v n close_round from ts = body_of d at is_pred at_p p (and_variable vs at_v o n unrestricted) ts
-behind_parameter d at is_pred at_p p vs o at_v n _ from ts = misplaced from
+abbrev pub behind_parameter : Document → Head → Variables → Order → At → List ℕ → Symbol → List Placed → List Placed → Step
+behind_parameter d head vs o at_v n word_where from ts = took (wanted (in_parameter d head vs o at_v n) []) ts
+behind_parameter d head vs o at_v n comma from ts = took (parameter_wanted d head (and_variable vs at_v o n unrestricted)) ts
+behind_parameter d head vs o at_v n close_round from ts = body_of d head (and_variable vs at_v o n unrestricted) ts
+behind_parameter d head vs o at_v n _ from ts = misplaced from
 
-abbrev pub next_parameter : Document → At → Bool → At → List ℕ → Variables → List Placed → Step
-next_parameter d at is_pred at_p p vs ts = kind_then vs (λ o. name_then (λ at_v n. symbol_then (λ a. behind_parameter d at is_pred at_p p vs o at_v n))) ts
+abbrev pub next_parameter : Document → Head → Variables → List Placed → Step
+next_parameter d head vs ts = kind_then vs (λ o. name_then (λ at_v n. symbol_then (λ a. behind_parameter d head vs o at_v n))) ts
 
 abbrev pub summand : Document → At → At → List ℕ → List PlacedInt → Symbol → List Placed → List Placed → Step
 summand d at at_n n sum semicolon from ts = took (outside (declare d at (constant at_n n sum))) ts
@@ -421,13 +431,13 @@ next_summand d at at_n n sum ts = symbol_then (λ a. summand d at at_n n sum) ts
 abbrev pub begin_constant : Document → At → List Placed → Step
 begin_constant d at ts = name_then (λ at_n n. equal_then (int_then false (λ k. took (summand_wanted d at at_n n (k ∷ []))))) ts
 
-abbrev pub behind_predicate : Document → At → Bool → At → List ℕ → List Placed → Step
-behind_predicate d at is_pred at_p p ts =
-    either_mark (infix_operator (Relation Equal)) (took (wanted (in_predicate d at is_pred at_p p no_variables) []))
-    (mark_then open_round (either_mark close_round (body_of d at is_pred at_p p no_variables) (took (parameter_wanted d at is_pred at_p p no_variables)))) ts
+abbrev pub behind_predicate : Document → Head → List Placed → Step
+behind_predicate d head ts =
+    either_mark (infix_operator (Relation Equal)) (took (wanted (in_predicate d head no_variables) []))
+    (mark_then open_round (either_mark close_round (body_of d head no_variables) (took (parameter_wanted d head no_variables)))) ts
 
 abbrev pub begin_predicate : Document → At → Bool → List Placed → Step
-begin_predicate d at is_pred ts = name_then (behind_predicate d at is_pred) ts
+begin_predicate d at is_pred ts = name_then (λ at_p p. behind_predicate d (head_with at is_pred at_p p)) ts
 
 abbrev pub begin_include : Document → At → List Placed → Step
 begin_include d at ts = text_then (λ a file. mark_then semicolon (took (outside (declare d at (included a file))))) ts
@@ -452,7 +462,7 @@ step limit (variable_wanted c st at q o vs) ts = next_variable limit c st at q o
 step limit (part_wanted c st at o parts) ts = next_part limit c st at o parts ts
 step limit (pair_wanted c st at file pairs) ts = next_pair c st at file pairs ts
 step limit (global_wanted d at o vs) ts = next_global d at o vs ts
-step limit (parameter_wanted d at is_pred at_p p vs) ts = next_parameter d at is_pred at_p p vs ts
+step limit (parameter_wanted d head vs) ts = next_parameter d head vs ts
 step limit (summand_wanted d at at_n n sum) ts = next_summand d at at_n n sum ts
 
 -- the header, and the symbols behind it

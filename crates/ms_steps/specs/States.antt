@@ -3,6 +3,7 @@ use Rattle.std.specs.Prelude.{◌≡◌, ℕ, List, Result, Ok, Err}
 use Rattle.ms_text.specs.TokenList.{Lexed}
 use Rattle.ms_logic.specs.declared.source.Source.{Source}
 use Rattle.ms_steps.specs.declared.context.Context.{Context}
+use Rattle.ms_steps.specs.declared.context.Signature.{Signature}
 use Rattle.ms_steps.specs.declared.context.Context.TheVariants as contexts
 use Rattle.ms_steps.specs.declared.frame.Frame.{Frame}
 use Rattle.ms_steps.specs.declared.state.Parsed.{Parsed}
@@ -24,18 +25,21 @@ source_of made = record { header = made.header; items = made.items.items }
 abbrev pub read_of : Parsed → Document
 read_of made = document_of (source_of made)
 
+abbrev pub head_of : Signature → machine.Head
+head_of s = machine.head_with s.at s.is_pred s.at_name s.name
+
 abbrev pub context_of : Document → Context → machine.Context
 context_of d (contexts.Formula at) = machine.in_formula d at
 context_of d (contexts.Global g at_v n) = machine.in_global d g.at g.order (variables_of g.list) at_v n
-context_of d (contexts.Parameter s o at_v n) = machine.in_parameter d s.at s.is_pred s.at_name s.name (variables_of s.parameters) o at_v n
-context_of d (contexts.Predicate s) = machine.in_predicate d s.at s.is_pred s.at_name s.name (variables_of s.parameters)
+context_of d (contexts.Parameter s o at_v n) = machine.in_parameter d (head_of s) (variables_of s.parameters) o at_v n
+context_of d (contexts.Predicate s) = machine.in_predicate d (head_of s) (variables_of s.parameters)
 context_of d (contexts.Default at o n) = machine.in_default d at o n
 
 abbrev pub state_of : Document → List machine.Frame → State → machine.State
 state_of d st states.Outside = machine.outside d
 state_of d st (states.Expression c o) = outcome_of (context_of d c) st o
 state_of d st (states.Global g) = machine.global_wanted d g.at g.order (variables_of g.list)
-state_of d st (states.Parameter s) = machine.parameter_wanted d s.at s.is_pred s.at_name s.name (variables_of s.parameters)
+state_of d st (states.Parameter s) = machine.parameter_wanted d (head_of s) (variables_of s.parameters)
 state_of d st (states.Summand at at_n n sum) = machine.summand_wanted d at at_n n sum
 
 -- the step is taken, with these declarations, this stack and from the token with this number on; or it is stuck

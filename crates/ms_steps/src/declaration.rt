@@ -3,7 +3,7 @@ ghost use Rattle.ms_text.specs.TokenList.{Lexed};
 ghost use Rattle.ms_grammar.specs.Tree.{no_variables};
 ghost use Rattle.ms_steps.specs.Machine.{begin_constant, begin_default, begin_include, behind_predicate, begin_predicate, global_wanted, in_formula, next_summand, outside, step, wanted, took};
 ghost use Rattle.ms_steps.specs.Terminals.{behind};
-ghost use Rattle.ms_steps.specs.States.{StepsAs, read_of};
+ghost use Rattle.ms_steps.specs.States.{head_of, StepsAs, read_of};
 ghost use Rattle.ms_steps.specs.declared.frame.Frame.{Frame};
 ghost use Rattle.ms_steps.specs.declared.state.Parsed.{Parsed};
 ghost use Rattle.ms_grammar.specs.Grammar.{greatest_depth};
@@ -79,7 +79,7 @@ impl Input<'_> {
     ) -> Result<(State, u32), Stop>
         requires { signature.parameters ≡ [] }
         ensures { (made : Parsed) →
-            StepsAs self.entry.file self.entry.tokens.now (behind_predicate (read_of made) signature.at signature.is_pred signature.at_name signature.name (behind self.entry.file self.entry.tokens.now i)) made stack.new.items result }
+            StepsAs self.entry.file self.entry.tokens.now (behind_predicate (read_of made) (head_of signature) (behind self.entry.file self.entry.tokens.now i)) made stack.new.items result }
     {
         if let Some(next) = self.behind_mark(i, Punctuation::Equal) {
             return begin_expression(stack, Context::Predicate(signature), next);

@@ -8,7 +8,7 @@ ghost use Rattle.ms_steps.specs.Opened.{frame_of};
 ghost use Rattle.ms_steps.specs.Outcomes.{ActsAs};
 ghost use Rattle.ms_steps.specs.Terminals.{behind, symbol_with};
 ghost use Rattle.ms_steps.specs.Stack.{stack_of};
-ghost use Rattle.ms_steps.specs.States.{StepsAs, context_of, read_of};
+ghost use Rattle.ms_steps.specs.States.{head_of, StepsAs, context_of, read_of};
 ghost use Rattle.ms_steps.specs.declared.frame.Frame.{Frame};
 ghost use Rattle.ms_grammar.specs.Grammar.{greatest_depth};
 ghost use Rattle.ms_grammar.specs.Tree.{Document};
@@ -114,7 +114,7 @@ pub fn end_predicate(
     i: u32,
 ) -> Result<(State, u32), Stop>
     ensures { (file : ℕ) (lexed : Lexed) (frames : List Frame) (bytes : List ℕ) (inside : Bool) → IsEnd inside (symbol_with terminal bytes) →
-        StepsAs file lexed (settle greatest_depth (in_predicate (read_of made.old) signature.at signature.is_pred signature.at_name signature.name (variables_of signature.parameters)) (symbol_with terminal bytes) inside (expression_of operand.expr, []) (behind file lexed (i - 1)) (behind file lexed i)) made.new frames result }
+        StepsAs file lexed (settle greatest_depth (in_predicate (read_of made.old) (head_of signature) (variables_of signature.parameters)) (symbol_with terminal bytes) inside (expression_of operand.expr, []) (behind file lexed (i - 1)) (behind file lexed i)) made.new frames result }
 {
     let Signature {
         at,

@@ -6,7 +6,7 @@ ghost use Rattle.ms_steps.specs.Ends.{IsEnd};
 ghost use Rattle.ms_steps.specs.Kinds.{last_order, IsKind, NoKind};
 ghost use Rattle.ms_steps.specs.Machine.{behind_parameter, body_of, in_parameter, next_parameter, parameter_wanted, settle, took};
 ghost use Rattle.ms_steps.specs.Terminals.{behind, symbol_with};
-ghost use Rattle.ms_steps.specs.States.{StepsAs, read_of};
+ghost use Rattle.ms_steps.specs.States.{head_of, StepsAs, read_of};
 ghost use Rattle.ms_steps.specs.declared.frame.Frame.{Frame};
 ghost use Rattle.ms_steps.specs.declared.state.Parsed.{Parsed};
 ghost use Rattle.ms_grammar.specs.Grammar.{greatest_depth};
@@ -34,7 +34,7 @@ impl Input<'_> {
         i: u32,
     ) -> Result<(State, u32), Stop>
         ensures { (made : Parsed) →
-            StepsAs self.entry.file self.entry.tokens.now (body_of (read_of made) signature.at signature.is_pred signature.at_name signature.name (variables_of signature.parameters) (behind self.entry.file self.entry.tokens.now i)) made stack.new.items result }
+            StepsAs self.entry.file self.entry.tokens.now (body_of (read_of made) (head_of signature) (variables_of signature.parameters) (behind self.entry.file self.entry.tokens.now i)) made stack.new.items result }
     {
         let Some(next) = self.behind_mark(i, Punctuation::Equal) else {
             return Err(Stop::Refused(i));
@@ -53,7 +53,7 @@ fn another_parameter(
     i: u32,
 ) -> Result<(State, u32), Stop>
     ensures { (file : ℕ) (lexed : Lexed) (made : Parsed) (frames : List Frame) →
-        StepsAs file lexed (took (parameter_wanted (read_of made) signature.at signature.is_pred signature.at_name signature.name (and_variable (variables_of signature.parameters) at_name order name (domain_of domain))) (behind file lexed i)) made frames result }
+        StepsAs file lexed (took (parameter_wanted (read_of made) (head_of signature) (and_variable (variables_of signature.parameters) at_name order name (domain_of domain))) (behind file lexed i)) made frames result }
 {
     let mut signature = signature;
     push_variable(&mut signature.parameters, at_name, order, name, domain)?;
@@ -73,7 +73,7 @@ impl Input<'_> {
         i: u32,
     ) -> Result<(State, u32), Stop>
         ensures { (made : Parsed) →
-            StepsAs self.entry.file self.entry.tokens.now (body_of (read_of made) signature.at signature.is_pred signature.at_name signature.name (and_variable (variables_of signature.parameters) at_name order name (domain_of domain)) (behind self.entry.file self.entry.tokens.now i)) made stack.new.items result }
+            StepsAs self.entry.file self.entry.tokens.now (body_of (read_of made) (head_of signature) (and_variable (variables_of signature.parameters) at_name order name (domain_of domain)) (behind self.entry.file self.entry.tokens.now i)) made stack.new.items result }
     {
         let mut signature = signature;
         push_variable(&mut signature.parameters, at_name, order, name, domain)?;
@@ -92,7 +92,7 @@ impl Input<'_> {
         i: u32,
     ) -> Result<(State, u32), Stop>
         ensures { (made : Parsed) (bytes : List ℕ) →
-            StepsAs self.entry.file self.entry.tokens.now (behind_parameter (read_of made) signature.at signature.is_pred signature.at_name signature.name (variables_of signature.parameters) order at_name name (symbol_with terminal bytes) (behind self.entry.file self.entry.tokens.now (i - 1)) (behind self.entry.file self.entry.tokens.now i)) made stack.new.items result }
+            StepsAs self.entry.file self.entry.tokens.now (behind_parameter (read_of made) (head_of signature) (variables_of signature.parameters) order at_name name (symbol_with terminal bytes) (behind self.entry.file self.entry.tokens.now (i - 1)) (behind self.entry.file self.entry.tokens.now i)) made stack.new.items result }
     {
         match terminal {
             Terminal::Where => {
@@ -144,7 +144,7 @@ impl Input<'_> {
         i: u32,
     ) -> Result<(State, u32), Stop>
         ensures { (made : Parsed) →
-            StepsAs self.entry.file self.entry.tokens.now (next_parameter (read_of made) signature.at signature.is_pred signature.at_name signature.name (variables_of signature.parameters) (behind self.entry.file self.entry.tokens.now i)) made stack.new.items result }
+            StepsAs self.entry.file self.entry.tokens.now (next_parameter (read_of made) (head_of signature) (variables_of signature.parameters) (behind self.entry.file self.entry.tokens.now i)) made stack.new.items result }
     {
         let Some((order, from)) = self.kind_at(&signature.parameters, i) else {
             return Err(Stop::Refused(i));
@@ -171,7 +171,7 @@ impl Input<'_> {
         i: u32,
     ) -> Result<(State, u32), Stop>
         ensures { (made : Parsed) (bytes : List ℕ) (inside : Bool) → IsEnd inside (symbol_with terminal bytes) →
-            StepsAs self.entry.file self.entry.tokens.now (settle greatest_depth (in_parameter (read_of made) signature.at signature.is_pred signature.at_name signature.name (variables_of signature.parameters) order at_name name) (symbol_with terminal bytes) inside (expression_of operand.expr, []) (behind self.entry.file self.entry.tokens.now (i - 1)) (behind self.entry.file self.entry.tokens.now i)) made stack.new.items result }
+            StepsAs self.entry.file self.entry.tokens.now (settle greatest_depth (in_parameter (read_of made) (head_of signature) (variables_of signature.parameters) order at_name name) (symbol_with terminal bytes) inside (expression_of operand.expr, []) (behind self.entry.file self.entry.tokens.now (i - 1)) (behind self.entry.file self.entry.tokens.now i)) made stack.new.items result }
     {
         let Operand { expr, .. } = operand;
         let domain = boxed(self.alloc, expr)?;

@@ -1,7 +1,7 @@
 use Rattle.std.proofs.Common.{ap}
 use Rattle.ms_grammar.specs.View.{variables_of}
 use Rattle.ms_steps.specs.Machine.{body_of}
-use Rattle.ms_steps.specs.States.{read_of}
+use Rattle.ms_steps.specs.States.{head_of, read_of}
 use Rattle.ms_steps.proofs.Taking.{steps_as}
 use Rattle.ms_steps.proofs.input.Input.body_of.Goals as goal
 
@@ -14,4 +14,4 @@ returns c made =
     let vs = variables_of s.parameters in
     steps_as file lexed _ _
     made c.begin_expression.new.stack.items c.begin_expression.result
-    (ap (body_of d s.at s.is_pred s.at_name s.name vs) c.in-Some.ensures.some.1) (c.begin_expression.ensures file lexed made)
+    (ap (body_of d (head_of s) vs) c.in-Some.ensures.some.1) (c.begin_expression.ensures file lexed made)

@@ -1,7 +1,7 @@
 use Rattle.std.proofs.Common.{ap, sym}
 use Rattle.ms_steps.specs.Machine.{body_of}
 use Rattle.ms_steps.specs.Terminals.{behind}
-use Rattle.ms_steps.specs.States.{read_of}
+use Rattle.ms_steps.specs.States.{head_of, read_of}
 use Rattle.ms_steps.proofs.Taking.{steps_as}
 use Rattle.ms_steps.proofs.input.Input.last_parameter.Goals as goal
 
@@ -13,4 +13,4 @@ returns c made =
     let s = c.args.signature in
     let ts = behind file lexed c.args.i in
     steps_as file lexed _ _ made c.body_of.new.stack.items c.body_of.result
-    (ap (λ vs. body_of d s.at s.is_pred s.at_name s.name vs ts) (sym c.in_ok-push_variable.ensures.ok)) (c.body_of.ensures made)
+    (ap (λ vs. body_of d (head_of s) vs ts) (sym c.in_ok-push_variable.ensures.ok)) (c.body_of.ensures made)

@@ -3,7 +3,7 @@ use Rattle.ms_grammar.specs.Symbol.{name}
 use Rattle.ms_grammar.specs.View.{variables_of}
 use Rattle.ms_steps.specs.Kinds.{IsKind}
 use Rattle.ms_steps.specs.Machine.{behind_parameter, name_then, symbol_then}
-use Rattle.ms_steps.specs.States.{read_of}
+use Rattle.ms_steps.specs.States.{head_of, read_of}
 use Rattle.ms_steps.specs.Terminals.{symbol_with, behind, IsNext}
 use Rattle.ms_steps.proofs.Taking.{steps_as, kind_found, name_found, symbol_second}
 use Rattle.ms_steps.proofs.input.Input.next_parameter.Goals as goal
@@ -15,7 +15,7 @@ returns c made =
     let s = c.args.signature in
     let vs = variables_of s.parameters in
     let from = c.in-Some.from in
-    let further = behind_parameter (read_of made) s.at s.is_pred s.at_name s.name vs in
+    let further = behind_parameter (read_of made) (head_of s) vs in
     let kinds : IsKind vs c.in-Some.order (behind file lexed c.args.i) (behind file lexed from) = search rules in
     let names : IsNext file lexed from (name c.in-Some-2.name) c.in-Some-2.at_name = search rules in
     let next : (bytes : List ℕ) × IsNext file lexed (from + 1) (symbol_with c.in-Some-terminal_at.terminal bytes) c.in-Some-terminal_at.field-0-1 = search rules in
