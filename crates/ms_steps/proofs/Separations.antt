@@ -32,27 +32,27 @@ in_at-other limit c e _ st from ts is = refl
 abbrev pub NoDomain : Row → Type 0
 NoDomain (rows.Bracket at b) = Unit {0}
 NoDomain (rows.Listed at l es) = Unit {0}
-NoDomain (rows.Domain at q o vs at_v n) = ⊥
-NoDomain (rows.Part at o parts at_n n) = Unit {0}
+NoDomain (rows.Domain b v) = ⊥
+NoDomain (rows.Part l v) = Unit {0}
 NoDomain rows.Other = Unit {0}
 
 abbrev pub NoPart : Row → Type 0
 NoPart (rows.Bracket at b) = Unit {0}
 NoPart (rows.Listed at l es) = Unit {0}
-NoPart (rows.Domain at q o vs at_v n) = Unit {0}
-NoPart (rows.Part at o parts at_n n) = ⊥
+NoPart (rows.Domain b v) = Unit {0}
+NoPart (rows.Part l v) = ⊥
 NoPart rows.Other = Unit {0}
 
 pub colon_refused : (limit : ℕ) (c : Context) (e : Expression) (row : Row) (top : Frame) (st : List Frame) (from ts : List Placed) → IsRow row top → NoDomain row → colon_at limit c e (top ∷ st) from ts ≡ misplaced from
 colon_refused limit c e (rows.Bracket at b) top st from ts is other = ap (λ x. colon_at limit c e (x ∷ st) from ts) is
 colon_refused limit c e (rows.Listed at l es) top st from ts is other = ap (λ x. colon_at limit c e (x ∷ st) from ts) is
-colon_refused limit c e (rows.Domain at q o vs at_v n) top st from ts is other = absurd other
-colon_refused limit c e (rows.Part at o parts at_n n) top st from ts is other = ap (λ x. colon_at limit c e (x ∷ st) from ts) is
+colon_refused limit c e (rows.Domain b v) top st from ts is other = absurd other
+colon_refused limit c e (rows.Part l v) top st from ts is other = ap (λ x. colon_at limit c e (x ∷ st) from ts) is
 colon_refused limit c e rows.Other top st from ts is other = colon_at-other limit c e top st from ts is
 
 pub in_refused : (limit : ℕ) (c : Context) (e : Expression) (row : Row) (top : Frame) (st : List Frame) (from ts : List Placed) → IsRow row top → NoPart row → in_at limit c e (top ∷ st) from ts ≡ misplaced from
 in_refused limit c e (rows.Bracket at b) top st from ts is other = ap (λ x. in_at limit c e (x ∷ st) from ts) is
 in_refused limit c e (rows.Listed at l es) top st from ts is other = ap (λ x. in_at limit c e (x ∷ st) from ts) is
-in_refused limit c e (rows.Domain at q o vs at_v n) top st from ts is other = ap (λ x. in_at limit c e (x ∷ st) from ts) is
-in_refused limit c e (rows.Part at o parts at_n n) top st from ts is other = absurd other
+in_refused limit c e (rows.Domain b v) top st from ts is other = ap (λ x. in_at limit c e (x ∷ st) from ts) is
+in_refused limit c e (rows.Part l v) top st from ts is other = absurd other
 in_refused limit c e rows.Other top st from ts is other = in_at-other limit c e top st from ts is

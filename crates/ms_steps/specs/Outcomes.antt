@@ -17,8 +17,8 @@ use Rattle.ms_grammar.specs.View.{expression_of, variables_of, parts_of}
 abbrev pub outcome_of : machine.Context → List machine.Frame → Outcome → machine.State
 outcome_of c st outcomes.Wanted = machine.wanted c st
 outcome_of c st (outcomes.Holding operand) = machine.holding c (expression_of operand.expr) st
-outcome_of c st (outcomes.Variable at q o vs) = machine.variable_wanted c st at q o (variables_of vs.list)
-outcome_of c st (outcomes.Part at o parts) = machine.part_wanted c st at o (parts_of parts.list)
+outcome_of c st (outcomes.Variable b) = machine.variable_wanted c st b.at b.quant b.order (variables_of b.bounds.list)
+outcome_of c st (outcomes.Part l) = machine.part_wanted c st l.at l.order (parts_of l.parts.list)
 outcome_of c st (outcomes.Pair at file pairs) = machine.pair_wanted c st at file pairs
 
 -- the step is stuck, at the token with this number, or memory is wanting

@@ -15,6 +15,6 @@ IsOther _ = Unit {0}
 abbrev pub IsRow : Row → Frame → Type 0
 IsRow (rows.Bracket at b) f = f ≡ bracket_frame at b
 IsRow (rows.Listed at l es) f = f ≡ list_frame at l (expressions_of es.list)
-IsRow (rows.Domain at q o vs at_v n) f = f ≡ domain_frame at q o (variables_of vs.list) at_v n
-IsRow (rows.Part at o parts at_n n) f = f ≡ part_frame at o (parts_of parts.list) at_n n
+IsRow (rows.Domain b v) f = f ≡ domain_frame b.at b.quant b.order (variables_of b.bounds.list) v.at v.name
+IsRow (rows.Part l v) f = f ≡ part_frame l.at l.order (parts_of l.parts.list) v.at v.name
 IsRow rows.Other f = IsOther f

@@ -30,8 +30,8 @@ head_of s = machine.head_with s.at s.is_pred s.at_name s.name
 
 abbrev pub context_of : Document → Context → machine.Context
 context_of d (contexts.Formula at) = machine.in_formula d at
-context_of d (contexts.Global g at_v n) = machine.in_global d g.at g.order (variables_of g.list) at_v n
-context_of d (contexts.Parameter s o at_v n) = machine.in_parameter d (head_of s) (variables_of s.parameters) o at_v n
+context_of d (contexts.Global g v) = machine.in_global d g.at g.order (variables_of g.list) v.at v.name
+context_of d (contexts.Parameter s o v) = machine.in_parameter d (head_of s) (variables_of s.parameters) o v.at v.name
 context_of d (contexts.Predicate s) = machine.in_predicate d (head_of s) (variables_of s.parameters)
 context_of d (contexts.Default at o n) = machine.in_default d at o n
 

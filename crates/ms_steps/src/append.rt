@@ -4,9 +4,8 @@ ghost use Rattle.ms_grammar.specs.View.{expression_of, expressions_of, variables
 ghost use Rattle.ms_steps.specs.declared.stop.Stop.TheVariants.{Memory};
 
 use crate::lists::{push_expression, push_part, push_restricted};
-use crate::operand::{Bounds, Operand, Operands, Parts};
+use crate::operand::{Bounds, Identifier, Operand, Operands, Parts};
 use crate::stop::Stop;
-use ms_edge::{At, Name};
 use ms_logic::Order;
 use std::alloc::Global;
 
@@ -26,29 +25,29 @@ pub fn with_expression(operands: Operands, operand: Operand) -> Result<Operands,
 pub fn with_restricted(
     alloc: Global,
     bounds: Bounds,
-    at: At,
     order: Order,
-    name: Name,
+    variable: Identifier,
     domain: Operand,
 ) -> Result<Bounds, Stop>
-    ensures ok { IfOk result (λ made. variables_of made.list ≡ and_variable (variables_of bounds.list) at order name (restricted (expression_of domain.expr))) }
+    ensures ok { IfOk result (λ made. variables_of made.list ≡ and_variable (variables_of bounds.list) variable.at order variable.name (restricted (expression_of domain.expr))) }
     ensures err { IfErr result (λ stop. stop ≡ Memory) }
 {
     let height = bounds.height.max(domain.height);
     let Bounds { mut list, .. } = bounds;
     let Operand { expr, .. } = domain;
-    push_restricted(alloc, &mut list, at, order, name, expr)?;
+    push_restricted(alloc, &mut list, order, variable, expr)?;
     Ok(Bounds { list, height })
 }
 
 /// The parts of a `let` and one more.
-pub fn with_part(parts: Parts, at: At, name: Name, value: Operand) -> Result<Parts, Stop>
-    ensures ok { IfOk result (λ made. parts_of made.list ≡ and_part (parts_of parts.list) at name (expression_of value.expr)) }
+pub fn with_part(parts: Parts, variable: Identifier, value: Operand) -> Result<Parts, Stop>
+    ensures ok { IfOk result (λ made. parts_of made.list ≡ and_part (parts_of parts.list) variable.at variable.name (expression_of value.expr)) }
     ensures err { IfErr result (λ stop. stop ≡ Memory) }
 {
     let height = parts.height.max(value.height);
     let Parts { mut list, .. } = parts;
     let Operand { expr, .. } = value;
+    let Identifier { at, name } = variable;
     push_part(&mut list, at, name, expr)?;
     Ok(Parts { list, height })
 }

@@ -10,7 +10,7 @@ use crate::frame::Frame;
 use crate::globals::end_global;
 use crate::go_on::{end_default, end_formula, end_predicate};
 use crate::input::Input;
-use crate::operand::Operand;
+use crate::operand::{Identifier, Operand};
 use crate::state::{Parsed, State};
 use crate::stop::Stop;
 use crate::terminal::Terminal;
@@ -40,9 +40,9 @@ pub struct Signature {
 pub enum Context {
     Formula(At),
     /// The restriction of a variable, with its name.
-    Global(Globals, At, Name),
+    Global(Globals, Identifier),
     /// The restriction of a parameter, with its order and name.
-    Parameter(Signature, Order, At, Name),
+    Parameter(Signature, Order, Identifier),
     /// The body of a predicate or a macro.
     Predicate(Signature),
     /// A default restriction of an order, with its parameter.
@@ -53,13 +53,13 @@ impl Drop for Context {
     fn drop(self) {
         match self {
             Context::Formula(_) => {}
-            Context::Global(globals, _, name) => {
+            Context::Global(globals, variable) => {
                 drop(globals);
-                drop(name)
+                drop(variable)
             }
-            Context::Parameter(signature, _, _, name) => {
+            Context::Parameter(signature, _, variable) => {
                 drop(signature);
-                drop(name)
+                drop(variable)
             }
             Context::Predicate(signature) => drop(signature),
             Context::Default(_, _, name) => drop(name),
@@ -83,20 +83,11 @@ impl Context {
     {
         match self {
             Context::Formula(at) => end_formula(made, at, operand, terminal, i),
-            Context::Global(globals, at_name, name) => {
-                end_global(
-                    input.alloc,
-                    made,
-                    globals,
-                    at_name,
-                    name,
-                    operand,
-                    terminal,
-                    i,
-                )
+            Context::Global(globals, variable) => {
+                end_global(input.alloc, made, globals, variable, operand, terminal, i)
             }
-            Context::Parameter(signature, order, at_name, name) => input.end_parameter(
-                stack, signature, order, at_name, name, operand, terminal, i,
+            Context::Parameter(signature, order, variable) => input.end_parameter(
+                stack, signature, order, variable, operand, terminal, i,
             ),
             Context::Predicate(signature) => end_predicate(made, signature, operand, terminal, i),
             Context::Default(at, order, name) => end_default(

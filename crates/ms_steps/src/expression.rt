@@ -16,7 +16,7 @@ use crate::enter::{enter, has_room};
 use crate::frame::Frame;
 use crate::input::Input;
 use crate::opened::Opened;
-use crate::operand::{Bounds, Parts};
+use crate::operand::{Binder, Bounds, Locals, Parts};
 use crate::outcome::Outcome;
 use crate::stop::Stop;
 use crate::terminal::Terminal;
@@ -96,7 +96,15 @@ fn begin_quantifier(
         list: List::new(alloc),
         height: 0,
     };
-    Ok((Outcome::Variable(at, quant, order, bounds), i))
+    Ok((
+        Outcome::Variable(Binder {
+            at,
+            quant,
+            order,
+            bounds,
+        }),
+        i,
+    ))
 }
 
 fn begin_let(
@@ -119,7 +127,7 @@ fn begin_let(
         list: List::new(alloc),
         height: 0,
     };
-    Ok((Outcome::Part(at, order, parts), i))
+    Ok((Outcome::Part(Locals { at, order, parts }), i))
 }
 
 impl Input<'_> {

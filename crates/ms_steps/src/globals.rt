@@ -16,30 +16,30 @@ use crate::frame::Frame;
 use crate::input::Input;
 use crate::lists::push_variable;
 use crate::memory::boxed;
-use crate::operand::Operand;
+use crate::operand::{Identifier, Operand};
 use crate::state::{Parsed, State};
 use crate::stop::Stop;
 use crate::terminal::Terminal;
-use ms_edge::{At, Boxed, Name};
+use ms_edge::Boxed;
 use ms_logic::{Decl, Expr};
 use std::alloc::Global;
 
 /// A comma behind a variable that is declared.
 fn another_global(
     globals: Globals,
-    at_name: At,
-    name: Name,
+    variable: Identifier,
     domain: Option<Boxed<Expr>>,
     i: u32,
 ) -> Result<(State, u32), Stop>
     ensures { (file : ℕ) (lexed : Lexed) (made : Parsed) (frames : List Frame) →
-        StepsAs file lexed (took (global_wanted (read_of made) globals.at globals.order (and_variable (variables_of globals.list) at_name globals.order name (domain_of domain))) (behind file lexed i)) made frames result }
+        StepsAs file lexed (took (global_wanted (read_of made) globals.at globals.order (and_variable (variables_of globals.list) variable.at globals.order variable.name (domain_of domain))) (behind file lexed i)) made frames result }
 {
     let Globals {
         at,
         order,
         mut list,
     } = globals;
+    let Identifier { at: at_name, name } = variable;
     push_variable(&mut list, at_name, order, name, domain)?;
     Ok((State::Global(Globals { at, order, list }), i))
 }
@@ -48,19 +48,19 @@ fn another_global(
 fn last_global(
     made: &mut Parsed,
     globals: Globals,
-    at_name: At,
-    name: Name,
+    variable: Identifier,
     domain: Option<Boxed<Expr>>,
     i: u32,
 ) -> Result<(State, u32), Stop>
     ensures { (file : ℕ) (lexed : Lexed) (frames : List Frame) →
-        StepsAs file lexed (took (outside (declare (read_of made.old) globals.at (variables (and_variable (variables_of globals.list) at_name globals.order name (domain_of domain))))) (behind file lexed i)) made.new frames result }
+        StepsAs file lexed (took (outside (declare (read_of made.old) globals.at (variables (and_variable (variables_of globals.list) variable.at globals.order variable.name (domain_of domain))))) (behind file lexed i)) made.new frames result }
 {
     let Globals {
         at,
         order,
         mut list,
     } = globals;
+    let Identifier { at: at_name, name } = variable;
     push_variable(&mut list, at_name, order, name, domain)?;
     declared(made, at, Decl::Vars(list), i)
 }
@@ -70,18 +70,17 @@ fn behind_global(
     made: &mut Parsed,
     stack: &mut Vec<Frame>,
     globals: Globals,
-    at_name: At,
-    name: Name,
+    variable: Identifier,
     terminal: Terminal,
     i: u32,
 ) -> Result<(State, u32), Stop>
     ensures { (file : ℕ) (lexed : Lexed) (bytes : List ℕ) →
-        StepsAs file lexed (behind_global (read_of made.old) globals.at globals.order (variables_of globals.list) at_name name (symbol_with terminal bytes) (behind file lexed (i - 1)) (behind file lexed i)) made.new stack.new.items result }
+        StepsAs file lexed (behind_global (read_of made.old) globals.at globals.order (variables_of globals.list) variable.at variable.name (symbol_with terminal bytes) (behind file lexed (i - 1)) (behind file lexed i)) made.new stack.new.items result }
 {
     match terminal {
-        Terminal::Where => begin_expression(stack, Context::Global(globals, at_name, name), i),
-        Terminal::Comma => another_global(globals, at_name, name, None, i),
-        Terminal::Semicolon => last_global(made, globals, at_name, name, None, i),
+        Terminal::Where => begin_expression(stack, Context::Global(globals, variable), i),
+        Terminal::Comma => another_global(globals, variable, None, i),
+        Terminal::Semicolon => last_global(made, globals, variable, None, i),
         _ => Err(Stop::Refused(i.saturating_sub(1))),
     }
 }
@@ -103,7 +102,8 @@ impl Input<'_> {
         let Some((terminal, _)) = self.terminal_at(i + 1) else {
             return Err(Stop::Refused(i + 1));
         };
-        behind_global(made, stack, globals, at_name, name, terminal, i + 2)
+        let variable = Identifier { at: at_name, name };
+        behind_global(made, stack, globals, variable, terminal, i + 2)
     }
 }
 
@@ -112,20 +112,19 @@ pub fn end_global(
     alloc: Global,
     made: &mut Parsed,
     globals: Globals,
-    at_name: At,
-    name: Name,
+    variable: Identifier,
     operand: Operand,
     terminal: Terminal,
     i: u32,
 ) -> Result<(State, u32), Stop>
     ensures { (file : ℕ) (lexed : Lexed) (frames : List Frame) (bytes : List ℕ) (inside : Bool) → IsEnd inside (symbol_with terminal bytes) →
-        StepsAs file lexed (settle greatest_depth (in_global (read_of made.old) globals.at globals.order (variables_of globals.list) at_name name) (symbol_with terminal bytes) inside (expression_of operand.expr, []) (behind file lexed (i - 1)) (behind file lexed i)) made.new frames result }
+        StepsAs file lexed (settle greatest_depth (in_global (read_of made.old) globals.at globals.order (variables_of globals.list) variable.at variable.name) (symbol_with terminal bytes) inside (expression_of operand.expr, []) (behind file lexed (i - 1)) (behind file lexed i)) made.new frames result }
 {
     let Operand { expr, .. } = operand;
     let domain = boxed(alloc, expr)?;
     match terminal {
-        Terminal::Comma => another_global(globals, at_name, name, Some(domain), i),
-        Terminal::Semicolon => last_global(made, globals, at_name, name, Some(domain), i),
+        Terminal::Comma => another_global(globals, variable, Some(domain), i),
+        Terminal::Semicolon => last_global(made, globals, variable, Some(domain), i),
         _ => Err(Stop::Refused(i.saturating_sub(1))),
     }
 }

@@ -4,6 +4,7 @@ ghost use Rattle.ms_grammar.specs.View.{expression_of, expressions_of, variables
 ghost use Rattle.ms_steps.specs.declared.stop.Stop.TheVariants.{Memory};
 
 use crate::memory::{boxed, push};
+use crate::operand::Identifier;
 use crate::stop::Stop;
 use ms_edge::{At, Boxed, List, Name};
 use ms_logic::{Bound, Expr, LetPart, Order};
@@ -58,14 +59,14 @@ pub fn push_part(list: &mut List<LetPart>, at: At, name: Name, value: Expr) -> R
 pub fn push_restricted(
     alloc: Global,
     list: &mut List<Bound>,
-    at: At,
     order: Order,
-    name: Name,
+    variable: Identifier,
     domain: Expr,
 ) -> Result<(), Stop>
-    ensures ok { OnOk result (variables_of list.new ≡ and_variable (variables_of list.old) at order name (restricted (expression_of domain))) }
+    ensures ok { OnOk result (variables_of list.new ≡ and_variable (variables_of list.old) variable.at order variable.name (restricted (expression_of domain))) }
     ensures err { IfErr result (λ stop. stop ≡ Memory) }
 {
     let domain = boxed(alloc, domain)?;
+    let Identifier { at, name } = variable;
     push_variable(list, at, order, name, Some(domain))
 }

@@ -1,3 +1,4 @@
+ghost use Rattle.ms_steps.specs.declared.frame.Frame.{Frame};
 ghost use Rattle.std.specs.Prelude.{◌≡◌, ◌≢◌, ◌++◌, ◌∷◌, [], ℕ, List, IfOk, ◌-◌};
 ghost use Rattle.ms_steps.specs.Machine.{Context, Step, pair_then, behind_variable, next_variable, next_part, next_pair};
 ghost use Rattle.ms_steps.specs.Outcomes.{Continues, ActsAs};
@@ -16,26 +17,24 @@ use crate::input::Input;
 use crate::lists::push_variable;
 use crate::memory::push;
 use crate::opened::Opened;
-use crate::operand::{Bounds, Parts};
+use crate::operand::{Binder, Bounds, Identifier, Locals, Parts};
 use crate::outcome::Outcome;
 use crate::punctuation::Punctuation;
 use crate::stop::Stop;
 use crate::terminal::Terminal;
-use ms_edge::{At, List, Name, Text};
-use ms_logic::{Form, Order, Quant, Rename};
+use ms_edge::{At, List, Text};
+use ms_logic::{Form, Rename};
 
 impl Input<'_> {
     /// A name of a `let` and `=`, where a name is wanted.
     pub fn next_part(
         self,
         stack: &mut Vec<Frame>,
-        at: At,
-        order: Order,
-        parts: Parts,
+        locals: Locals,
         i: u32,
     ) -> Result<(Outcome, u32), Stop>
         ensures { (c : Context) →
-            ActsAs c self.entry.file self.entry.tokens.now (next_part greatest_depth c (stack_of stack.old.items) at order (parts_of parts.list) (behind self.entry.file self.entry.tokens.now i)) stack.new.items result }
+            ActsAs c self.entry.file self.entry.tokens.now (next_part greatest_depth c (stack_of stack.old.items) locals.at locals.order (parts_of locals.parts.list) (behind self.entry.file self.entry.tokens.now i)) stack.new.items result }
     {
         let Some((name, at_name)) = self.name_at(i)? else {
             return Err(Stop::Refused(i));
@@ -43,6 +42,7 @@ impl Input<'_> {
         let Some(next) = self.behind_mark(i + 1, Punctuation::Equal) else {
             return Err(Stop::Refused(i + 1));
         };
+        let Locals { at, order, parts } = locals;
         let Parts { list, height } = parts;
         let frame = Frame {
             opened: Opened::Part(at, order, list, at_name, name),
@@ -76,14 +76,13 @@ impl Input<'_> {
     /// A pair of an import or its end, where these are wanted.
     pub fn next_pair(
         self,
-        stack: &mut Vec<Frame>,
         at: At,
         text: Text,
         mut pairs: List<Rename>,
         i: u32,
     ) -> Result<(Outcome, u32), Stop>
-        ensures { (c : Context) →
-            ActsAs c self.entry.file self.entry.tokens.now (next_pair c (stack_of stack.old.items) at text pairs (behind self.entry.file self.entry.tokens.now i)) stack.new.items result }
+        ensures { (c : Context) (frames : List Frame) →
+            ActsAs c self.entry.file self.entry.tokens.now (next_pair c (stack_of frames) at text pairs (behind self.entry.file self.entry.tokens.now i)) frames result }
     {
         if let Some(next) = self.behind_mark(i, Punctuation::CloseRound) {
             let operand = finish(at, Form::Import(text, pairs), 0, i)?;
@@ -101,19 +100,22 @@ impl Input<'_> {
 /// What stands behind a variable of a binder.
 fn behind_variable(
     stack: &mut Vec<Frame>,
-    at: At,
-    quant: Quant,
-    order: Order,
-    bounds: Bounds,
-    at_name: At,
-    name: Name,
+    binder: Binder,
+    variable: Identifier,
     terminal: Terminal,
     i: u32,
 ) -> Result<(Outcome, u32), Stop>
     ensures { (c : Context) (file : ℕ) (lexed : Lexed) (bytes : List ℕ) →
-        ActsAs c file lexed (behind_variable greatest_depth c (stack_of stack.old.items) at quant order (variables_of bounds.list) at_name name (symbol_with terminal bytes) (behind file lexed (i - 1)) (behind file lexed i)) stack.new.items result }
+        ActsAs c file lexed (behind_variable greatest_depth c (stack_of stack.old.items) binder.at binder.quant binder.order (variables_of binder.bounds.list) variable.at variable.name (symbol_with terminal bytes) (behind file lexed (i - 1)) (behind file lexed i)) stack.new.items result }
 {
+    let Binder {
+        at,
+        quant,
+        order,
+        bounds,
+    } = binder;
     let Bounds { mut list, height } = bounds;
+    let Identifier { at: at_name, name } = variable;
     match terminal {
         Terminal::Where => {
             let opened = Opened::Domain(at, quant, order, list, at_name, name);
@@ -127,7 +129,12 @@ fn behind_variable(
         Terminal::Comma => {
             push_variable(&mut list, at_name, order, name, None)?;
             Ok((
-                Outcome::Variable(at, quant, order, Bounds { list, height }),
+                Outcome::Variable(Binder {
+                    at,
+                    quant,
+                    order,
+                    bounds: Bounds { list, height },
+                }),
                 i,
             ))
         }
@@ -150,14 +157,11 @@ impl Input<'_> {
     pub fn next_variable(
         self,
         stack: &mut Vec<Frame>,
-        at: At,
-        quant: Quant,
-        order: Order,
-        bounds: Bounds,
+        binder: Binder,
         i: u32,
     ) -> Result<(Outcome, u32), Stop>
         ensures { (c : Context) →
-            ActsAs c self.entry.file self.entry.tokens.now (next_variable greatest_depth c (stack_of stack.old.items) at quant order (variables_of bounds.list) (behind self.entry.file self.entry.tokens.now i)) stack.new.items result }
+            ActsAs c self.entry.file self.entry.tokens.now (next_variable greatest_depth c (stack_of stack.old.items) binder.at binder.quant binder.order (variables_of binder.bounds.list) (behind self.entry.file self.entry.tokens.now i)) stack.new.items result }
     {
         let Some((name, at_name)) = self.name_at(i)? else {
             return Err(Stop::Refused(i));
@@ -165,16 +169,7 @@ impl Input<'_> {
         let Some((terminal, _)) = self.terminal_at(i + 1) else {
             return Err(Stop::Refused(i + 1));
         };
-        behind_variable(
-            stack,
-            at,
-            quant,
-            order,
-            bounds,
-            at_name,
-            name,
-            terminal,
-            i + 2,
-        )
+        let variable = Identifier { at: at_name, name };
+        behind_variable(stack, binder, variable, terminal, i + 2)
     }
 }

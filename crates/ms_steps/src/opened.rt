@@ -12,7 +12,7 @@ use crate::complete::{
 };
 use crate::frame::Frame;
 use crate::join::Link;
-use crate::operand::{Bounds, Operand, Operands, Parts};
+use crate::operand::{Binder, Bounds, Identifier, Locals, Operand, Operands, Parts};
 use crate::row::Row;
 use crate::stop::Stop;
 use ms_edge::{At, List, Name};
@@ -102,10 +102,19 @@ impl Opened {
                 Row::Listed(at, listing, Operands { list, height })
             }
             Opened::Domain(at, quant, order, list, at_name, name) => {
-                Row::Domain(at, quant, order, Bounds { list, height }, at_name, name)
+                let bounds = Bounds { list, height };
+                let binder = Binder {
+                    at,
+                    quant,
+                    order,
+                    bounds,
+                };
+                Row::Domain(binder, Identifier { at: at_name, name })
             }
             Opened::Part(at, order, list, at_name, name) => {
-                Row::Part(at, order, Parts { list, height }, at_name, name)
+                let parts = Parts { list, height };
+                let locals = Locals { at, order, parts };
+                Row::Part(locals, Identifier { at: at_name, name })
             }
             Opened::Prefix(..) => Row::Other,
             Opened::Left(..) => Row::Other,

@@ -3,8 +3,8 @@ ghost use Rattle.ms_grammar.specs.Grammar.{depth, depth_of_all, depth_of_domains
 ghost use Rattle.ms_grammar.specs.Reads.{place};
 ghost use Rattle.ms_grammar.specs.View.{expression_of, expressions_of, variables_of, parts_of};
 
-use ms_edge::{At, List};
-use ms_logic::{Bound, Expr, LetPart};
+use ms_edge::{At, List, Name};
+use ms_logic::{Bound, Expr, LetPart, Order, Quant};
 
 /// The greatest depth of an expression.
 pub const GREATEST_DEPTH: u32 = 300;
@@ -45,4 +45,28 @@ pub struct Parts {
     pub height: u32,
     ghost measured: { height ≡ depth_of_values (parts_of list) },
     ghost bounded: { height ≤ 300 },
+}
+
+/// A name where it stands.
+#[derive(Drop)]
+pub struct Identifier {
+    pub at: At,
+    pub name: Name,
+}
+
+/// A quantifier with its variables so far.
+#[derive(Drop)]
+pub struct Binder {
+    pub at: At,
+    pub quant: Quant,
+    pub order: Order,
+    pub bounds: Bounds,
+}
+
+/// A `let` with its parts so far.
+#[derive(Drop)]
+pub struct Locals {
+    pub at: At,
+    pub order: Order,
+    pub parts: Parts,
 }

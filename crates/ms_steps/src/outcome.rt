@@ -1,6 +1,6 @@
-use crate::operand::{Bounds, Operand, Parts};
+use crate::operand::{Binder, Locals, Operand};
 use ms_edge::{At, List, Text};
-use ms_logic::{Order, Quant, Rename};
+use ms_logic::Rename;
 
 /// Where an expression stands after a step.
 #[derive(Drop)]
@@ -10,9 +10,9 @@ pub enum Outcome {
     /// An expression has been read, which may go on.
     Holding(Operand),
     /// A variable of a binder is wanted.
-    Variable(At, Quant, Order, Bounds),
+    Variable(Binder),
     /// A name of a `let` is wanted.
-    Part(At, Order, Parts),
+    Part(Locals),
     /// A pair of an import or its end is wanted.
     Pair(At, Text, List<Rename>),
 }

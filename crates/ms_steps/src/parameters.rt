@@ -17,12 +17,12 @@ use crate::frame::Frame;
 use crate::input::Input;
 use crate::lists::push_variable;
 use crate::memory::boxed;
-use crate::operand::Operand;
+use crate::operand::{Identifier, Operand};
 use crate::punctuation::Punctuation;
 use crate::state::State;
 use crate::stop::Stop;
 use crate::terminal::Terminal;
-use ms_edge::{At, Boxed, List, Name};
+use ms_edge::{Boxed, List};
 use ms_logic::{Bound, Expr, Order};
 
 impl Input<'_> {
@@ -47,16 +47,16 @@ impl Input<'_> {
 fn another_parameter(
     signature: Signature,
     order: Order,
-    at_name: At,
-    name: Name,
+    variable: Identifier,
     domain: Option<Boxed<Expr>>,
     i: u32,
 ) -> Result<(State, u32), Stop>
     ensures { (file : ℕ) (lexed : Lexed) (made : Parsed) (frames : List Frame) →
-        StepsAs file lexed (took (parameter_wanted (read_of made) (head_of signature) (and_variable (variables_of signature.parameters) at_name order name (domain_of domain))) (behind file lexed i)) made frames result }
+        StepsAs file lexed (took (parameter_wanted (read_of made) (head_of signature) (and_variable (variables_of signature.parameters) variable.at order variable.name (domain_of domain))) (behind file lexed i)) made frames result }
 {
     let mut signature = signature;
-    push_variable(&mut signature.parameters, at_name, order, name, domain)?;
+    let Identifier { at, name } = variable;
+    push_variable(&mut signature.parameters, at, order, name, domain)?;
     Ok((State::Parameter(signature), i))
 }
 
@@ -67,16 +67,16 @@ impl Input<'_> {
         stack: &mut Vec<Frame>,
         signature: Signature,
         order: Order,
-        at_name: At,
-        name: Name,
+        variable: Identifier,
         domain: Option<Boxed<Expr>>,
         i: u32,
     ) -> Result<(State, u32), Stop>
         ensures { (made : Parsed) →
-            StepsAs self.entry.file self.entry.tokens.now (body_of (read_of made) (head_of signature) (and_variable (variables_of signature.parameters) at_name order name (domain_of domain)) (behind self.entry.file self.entry.tokens.now i)) made stack.new.items result }
+            StepsAs self.entry.file self.entry.tokens.now (body_of (read_of made) (head_of signature) (and_variable (variables_of signature.parameters) variable.at order variable.name (domain_of domain)) (behind self.entry.file self.entry.tokens.now i)) made stack.new.items result }
     {
         let mut signature = signature;
-        push_variable(&mut signature.parameters, at_name, order, name, domain)?;
+        let Identifier { at, name } = variable;
+        push_variable(&mut signature.parameters, at, order, name, domain)?;
         self.body_of(stack, signature, i)
     }
 
@@ -86,25 +86,20 @@ impl Input<'_> {
         stack: &mut Vec<Frame>,
         signature: Signature,
         order: Order,
-        at_name: At,
-        name: Name,
+        variable: Identifier,
         terminal: Terminal,
         i: u32,
     ) -> Result<(State, u32), Stop>
         ensures { (made : Parsed) (bytes : List ℕ) →
-            StepsAs self.entry.file self.entry.tokens.now (behind_parameter (read_of made) (head_of signature) (variables_of signature.parameters) order at_name name (symbol_with terminal bytes) (behind self.entry.file self.entry.tokens.now (i - 1)) (behind self.entry.file self.entry.tokens.now i)) made stack.new.items result }
+            StepsAs self.entry.file self.entry.tokens.now (behind_parameter (read_of made) (head_of signature) (variables_of signature.parameters) order variable.at variable.name (symbol_with terminal bytes) (behind self.entry.file self.entry.tokens.now (i - 1)) (behind self.entry.file self.entry.tokens.now i)) made stack.new.items result }
     {
         match terminal {
             Terminal::Where => {
-                begin_expression(
-                    stack,
-                    Context::Parameter(signature, order, at_name, name),
-                    i,
-                )
+                begin_expression(stack, Context::Parameter(signature, order, variable), i)
             }
-            Terminal::Comma => another_parameter(signature, order, at_name, name, None, i),
+            Terminal::Comma => another_parameter(signature, order, variable, None, i),
             Terminal::CloseRound => {
-                self.last_parameter(stack, signature, order, at_name, name, None, i)
+                self.last_parameter(stack, signature, order, variable, None, i)
             }
             _ => Err(Stop::Refused(i.saturating_sub(1))),
         }
@@ -155,7 +150,8 @@ impl Input<'_> {
         let Some((terminal, _)) = self.terminal_at(from + 1) else {
             return Err(Stop::Refused(from + 1));
         };
-        self.behind_parameter(stack, signature, order, at_name, name, terminal, from + 2)
+        let variable = Identifier { at: at_name, name };
+        self.behind_parameter(stack, signature, order, variable, terminal, from + 2)
     }
 
     /// What ends the restriction of a parameter.
@@ -164,25 +160,23 @@ impl Input<'_> {
         stack: &mut Vec<Frame>,
         signature: Signature,
         order: Order,
-        at_name: At,
-        name: Name,
+        variable: Identifier,
         operand: Operand,
         terminal: Terminal,
         i: u32,
     ) -> Result<(State, u32), Stop>
         ensures { (made : Parsed) (bytes : List ℕ) (inside : Bool) → IsEnd inside (symbol_with terminal bytes) →
-            StepsAs self.entry.file self.entry.tokens.now (settle greatest_depth (in_parameter (read_of made) (head_of signature) (variables_of signature.parameters) order at_name name) (symbol_with terminal bytes) inside (expression_of operand.expr, []) (behind self.entry.file self.entry.tokens.now (i - 1)) (behind self.entry.file self.entry.tokens.now i)) made stack.new.items result }
+            StepsAs self.entry.file self.entry.tokens.now (settle greatest_depth (in_parameter (read_of made) (head_of signature) (variables_of signature.parameters) order variable.at variable.name) (symbol_with terminal bytes) inside (expression_of operand.expr, []) (behind self.entry.file self.entry.tokens.now (i - 1)) (behind self.entry.file self.entry.tokens.now i)) made stack.new.items result }
     {
         let Operand { expr, .. } = operand;
         let domain = boxed(self.alloc, expr)?;
         match terminal {
-            Terminal::Comma => another_parameter(signature, order, at_name, name, Some(domain), i),
+            Terminal::Comma => another_parameter(signature, order, variable, Some(domain), i),
             Terminal::CloseRound => self.last_parameter(
                 stack,
                 signature,
                 order,
-                at_name,
-                name,
+                variable,
                 Some(domain),
                 i,
             ),

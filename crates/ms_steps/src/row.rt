@@ -13,23 +13,22 @@ ghost use Rattle.ms_steps.specs.declared.frame.Frame.{Frame};
 
 use crate::close::{end_bracket, end_list};
 use crate::frame::Frame;
-use crate::operand::{Bounds, Operand, Operands, Parts};
+use crate::operand::{Binder, Identifier, Locals, Operand, Operands};
 use crate::outcome::Outcome;
 use crate::separate::{
     another_expression, another_part, another_variable, begin_body, begin_scope,
 };
 use crate::stop::Stop;
-use ms_edge::{At, Name};
+use ms_edge::At;
 use ms_grammar::{Bracket, Listing};
-use ms_logic::{Order, Quant};
 use std::alloc::Global;
 
 /// What a bracket, a comma, a colon or `in` may end.
 pub enum Row {
     Bracket(At, Bracket),
     Listed(At, Listing, Operands),
-    Domain(At, Quant, Order, Bounds, At, Name),
-    Part(At, Order, Parts, At, Name),
+    Domain(Binder, Identifier),
+    Part(Locals, Identifier),
     Other,
 }
 
@@ -41,13 +40,13 @@ impl Drop for Row {
                 drop(listing);
                 drop(operands)
             }
-            Row::Domain(_, _, _, bounds, _, name) => {
-                drop(bounds);
-                drop(name)
+            Row::Domain(binder, variable) => {
+                drop(binder);
+                drop(variable)
             }
-            Row::Part(_, _, parts, _, name) => {
-                drop(parts);
-                drop(name)
+            Row::Part(locals, variable) => {
+                drop(locals);
+                drop(variable)
             }
             Row::Other => {}
         }
@@ -117,12 +116,10 @@ impl Row {
             Row::Listed(at, listing, operands) => {
                 another_expression(stack, at, listing, operands, operand, i)
             }
-            Row::Domain(at, quant, order, bounds, at_name, name) => {
-                another_variable(alloc, at, quant, order, bounds, at_name, name, operand, i)
+            Row::Domain(binder, variable) => {
+                another_variable(alloc, binder, variable, operand, i)
             }
-            Row::Part(at, order, parts, at_name, name) => {
-                another_part(at, order, parts, at_name, name, operand, i)
-            }
+            Row::Part(locals, variable) => { another_part(locals, variable, operand, i) }
             Row::Bracket(..) => Err(Stop::Refused(i.saturating_sub(1))),
             Row::Other => Err(Stop::Refused(i.saturating_sub(1))),
         }
@@ -140,10 +137,8 @@ impl Row {
             ActsAs c file lexed (colon_at greatest_depth c (expression_of operand.expr) (top ∷ stack_of stack.old.items) (behind file lexed (i - 1)) (behind file lexed i)) stack.new.items result }
     {
         match self {
-            Row::Domain(at, quant, order, bounds, at_name, name) => {
-                begin_body(
-                    alloc, stack, at, quant, order, bounds, at_name, name, operand, i,
-                )
+            Row::Domain(binder, variable) => {
+                begin_body(alloc, stack, binder, variable, operand, i)
             }
             Row::Listed(..) => Err(Stop::Refused(i.saturating_sub(1))),
             Row::Part(..) => Err(Stop::Refused(i.saturating_sub(1))),
@@ -163,9 +158,7 @@ impl Row {
             ActsAs c file lexed (in_at greatest_depth c (expression_of operand.expr) (top ∷ stack_of stack.old.items) (behind file lexed (i - 1)) (behind file lexed i)) stack.new.items result }
     {
         match self {
-            Row::Part(at, order, parts, at_name, name) => {
-                begin_scope(stack, at, order, parts, at_name, name, operand, i)
-            }
+            Row::Part(locals, variable) => { begin_scope(stack, locals, variable, operand, i) }
             Row::Listed(..) => Err(Stop::Refused(i.saturating_sub(1))),
             Row::Domain(..) => Err(Stop::Refused(i.saturating_sub(1))),
             Row::Bracket(..) => Err(Stop::Refused(i.saturating_sub(1))),

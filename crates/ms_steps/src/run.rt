@@ -37,18 +37,9 @@ impl Input<'_> {
         match outcome {
             Outcome::Wanted => inside(context, self.begin(stack, i)),
             Outcome::Holding(operand) => { self.go_on(made, stack, context, operand, i) }
-            Outcome::Variable(at, quant, order, bounds) => inside(
-                context,
-                self.next_variable(stack, at, quant, order, bounds, i),
-            ),
-            Outcome::Part(at, order, parts) => inside(
-                context,
-                self.next_part(stack, at, order, parts, i),
-            ),
-            Outcome::Pair(at, text, pairs) => inside(
-                context,
-                self.next_pair(stack, at, text, pairs, i),
-            ),
+            Outcome::Variable(binder) => inside(context, self.next_variable(stack, binder, i)),
+            Outcome::Part(locals) => inside(context, self.next_part(stack, locals, i)),
+            Outcome::Pair(at, text, pairs) => inside(context, self.next_pair(at, text, pairs, i)),
         }
     }
 

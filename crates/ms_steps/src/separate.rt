@@ -13,12 +13,11 @@ use crate::append::{with_expression, with_part, with_restricted};
 use crate::enter::enter;
 use crate::frame::Frame;
 use crate::opened::Opened;
-use crate::operand::{Bounds, Operand, Operands, Parts};
+use crate::operand::{Binder, Bounds, Identifier, Locals, Operand, Operands, Parts};
 use crate::outcome::Outcome;
 use crate::stop::Stop;
-use ms_edge::{At, Name};
+use ms_edge::At;
 use ms_grammar::Listing;
-use ms_logic::{Order, Quant};
 use std::alloc::Global;
 
 pub fn another_expression(
@@ -44,54 +43,62 @@ pub fn another_expression(
 
 pub fn another_variable(
     alloc: Global,
-    at: At,
-    quant: Quant,
-    order: Order,
-    bounds: Bounds,
-    at_name: At,
-    name: Name,
+    binder: Binder,
+    variable: Identifier,
     operand: Operand,
     i: u32,
 ) -> Result<(Outcome, u32), Stop>
     ensures { (c : Context) (file : ℕ) (lexed : Lexed) (frames : List Frame) →
-        ActsAs c file lexed (took (variable_wanted c (stack_of frames) at quant order (and_variable (variables_of bounds.list) at_name order name (restricted (expression_of operand.expr)))) (behind file lexed i)) frames result }
+        ActsAs c file lexed (took (variable_wanted c (stack_of frames) binder.at binder.quant binder.order (and_variable (variables_of binder.bounds.list) variable.at binder.order variable.name (restricted (expression_of operand.expr)))) (behind file lexed i)) frames result }
 {
-    let more = with_restricted(alloc, bounds, at_name, order, name, operand)?;
-    Ok((Outcome::Variable(at, quant, order, more), i))
+    let Binder {
+        at,
+        quant,
+        order,
+        bounds,
+    } = binder;
+    let bounds = with_restricted(alloc, bounds, order, variable, operand)?;
+    let binder = Binder {
+        at,
+        quant,
+        order,
+        bounds,
+    };
+    Ok((Outcome::Variable(binder), i))
 }
 
 pub fn another_part(
-    at: At,
-    order: Order,
-    parts: Parts,
-    at_name: At,
-    name: Name,
+    locals: Locals,
+    variable: Identifier,
     operand: Operand,
     i: u32,
 ) -> Result<(Outcome, u32), Stop>
     ensures { (c : Context) (file : ℕ) (lexed : Lexed) (frames : List Frame) →
-        ActsAs c file lexed (took (part_wanted c (stack_of frames) at order (and_part (parts_of parts.list) at_name name (expression_of operand.expr))) (behind file lexed i)) frames result }
+        ActsAs c file lexed (took (part_wanted c (stack_of frames) locals.at locals.order (and_part (parts_of locals.parts.list) variable.at variable.name (expression_of operand.expr))) (behind file lexed i)) frames result }
 {
-    let more = with_part(parts, at_name, name, operand)?;
-    Ok((Outcome::Part(at, order, more), i))
+    let Locals { at, order, parts } = locals;
+    let parts = with_part(parts, variable, operand)?;
+    Ok((Outcome::Part(Locals { at, order, parts }), i))
 }
 
 pub fn begin_body(
     alloc: Global,
     stack: &mut Vec<Frame>,
-    at: At,
-    quant: Quant,
-    order: Order,
-    bounds: Bounds,
-    at_name: At,
-    name: Name,
+    binder: Binder,
+    variable: Identifier,
     operand: Operand,
     i: u32,
 ) -> Result<(Outcome, u32), Stop>
     ensures { (c : Context) (file : ℕ) (lexed : Lexed) →
-        ActsAs c file lexed (enter greatest_depth c (body_frame at quant order (and_variable (variables_of bounds.list) at_name order name (restricted (expression_of operand.expr)))) (stack_of stack.old.items) (too_deep (behind file lexed (i - 1))) (behind file lexed i)) stack.new.items result }
+        ActsAs c file lexed (enter greatest_depth c (body_frame binder.at binder.quant binder.order (and_variable (variables_of binder.bounds.list) variable.at binder.order variable.name (restricted (expression_of operand.expr)))) (stack_of stack.old.items) (too_deep (behind file lexed (i - 1))) (behind file lexed i)) stack.new.items result }
 {
-    let Bounds { list, height } = with_restricted(alloc, bounds, at_name, order, name, operand)?;
+    let Binder {
+        at,
+        quant,
+        order,
+        bounds,
+    } = binder;
+    let Bounds { list, height } = with_restricted(alloc, bounds, order, variable, operand)?;
     let opened = Opened::Body(at, quant, order, list);
     enter(
         stack,
@@ -103,18 +110,16 @@ pub fn begin_body(
 
 pub fn begin_scope(
     stack: &mut Vec<Frame>,
-    at: At,
-    order: Order,
-    parts: Parts,
-    at_name: At,
-    name: Name,
+    locals: Locals,
+    variable: Identifier,
     operand: Operand,
     i: u32,
 ) -> Result<(Outcome, u32), Stop>
     ensures { (c : Context) (file : ℕ) (lexed : Lexed) →
-        ActsAs c file lexed (enter greatest_depth c (let_frame at order (and_part (parts_of parts.list) at_name name (expression_of operand.expr))) (stack_of stack.old.items) (too_deep (behind file lexed (i - 1))) (behind file lexed i)) stack.new.items result }
+        ActsAs c file lexed (enter greatest_depth c (let_frame locals.at locals.order (and_part (parts_of locals.parts.list) variable.at variable.name (expression_of operand.expr))) (stack_of stack.old.items) (too_deep (behind file lexed (i - 1))) (behind file lexed i)) stack.new.items result }
 {
-    let Parts { list, height } = with_part(parts, at_name, name, operand)?;
+    let Locals { at, order, parts } = locals;
+    let Parts { list, height } = with_part(parts, variable, operand)?;
     let opened = Opened::Let(at, order, list);
     enter(
         stack,

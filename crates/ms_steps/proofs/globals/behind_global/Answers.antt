@@ -10,17 +10,17 @@ use Rattle.ms_steps.proofs.globals.behind_global.Goals as goal
 pub returns-in-Where : goal.returns-in-Where
 returns-in-Where c file lexed bytes =
     let g = c.args.globals in
-    steps_by file lexed (λ s. behind_global (read_of c.args.made.now) g.at g.order (variables_of g.list) c.args.at_name c.args.name (symbol_with s bytes) (behind file lexed (c.args.i - 1)) (behind file lexed c.args.i))
+    steps_by file lexed (λ s. behind_global (read_of c.args.made.now) g.at g.order (variables_of g.list) c.args.variable.at c.args.variable.name (symbol_with s bytes) (behind file lexed (c.args.i - 1)) (behind file lexed c.args.i))
     c.args.terminal terminals.Where c.args.made.now c.begin_expression.new.stack.items c.begin_expression.result c.in-Where.is (c.begin_expression.ensures file lexed c.args.made.now)
 
 pub returns-in-Comma : goal.returns-in-Comma
 returns-in-Comma c file lexed bytes =
     let g = c.args.globals in
-    steps_by file lexed (λ s. behind_global (read_of c.args.made.now) g.at g.order (variables_of g.list) c.args.at_name c.args.name (symbol_with s bytes) (behind file lexed (c.args.i - 1)) (behind file lexed c.args.i))
+    steps_by file lexed (λ s. behind_global (read_of c.args.made.now) g.at g.order (variables_of g.list) c.args.variable.at c.args.variable.name (symbol_with s bytes) (behind file lexed (c.args.i - 1)) (behind file lexed c.args.i))
     c.args.terminal terminals.Comma c.args.made.now c.args.stack.now.items c.another_global.result c.in-Comma.is (c.another_global.ensures file lexed c.args.made.now c.args.stack.now.items)
 
 pub returns-in-Semicolon : goal.returns-in-Semicolon
 returns-in-Semicolon c file lexed bytes =
     let g = c.args.globals in
-    steps_by file lexed (λ s. behind_global (read_of c.args.made.now) g.at g.order (variables_of g.list) c.args.at_name c.args.name (symbol_with s bytes) (behind file lexed (c.args.i - 1)) (behind file lexed c.args.i))
+    steps_by file lexed (λ s. behind_global (read_of c.args.made.now) g.at g.order (variables_of g.list) c.args.variable.at c.args.variable.name (symbol_with s bytes) (behind file lexed (c.args.i - 1)) (behind file lexed c.args.i))
     c.args.terminal terminals.Semicolon c.last_global.new.made c.args.stack.now.items c.last_global.result c.in-Semicolon.is (c.last_global.ensures file lexed c.args.stack.now.items)

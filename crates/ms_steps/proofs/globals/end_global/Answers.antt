@@ -16,10 +16,10 @@ returns-in-Comma c file lexed frames bytes inside is =
     let vs = variables_of g.list in
     let e = expression_of c.args.operand.expr in
     let ts = behind file lexed c.args.i in
-    let context = in_global d g.at g.order vs c.args.at_name c.args.name in
+    let context = in_global d g.at g.order vs c.args.variable.at c.args.variable.name in
     steps_by file lexed (λ s. settle greatest_depth context (symbol_with s bytes) inside (e, []) (behind file lexed (c.args.i - 1)) ts) c.args.terminal terminals.Comma c.args.made.now frames c.another_global.result c.in-Comma.is
     (steps_as file lexed _ _ c.args.made.now frames c.another_global.result
-    (ap (λ x. took (global_wanted d g.at g.order (and_variable vs c.args.at_name g.order c.args.name (restricted (expression_of x)))) ts) (sym c.in_ok-domain.ensures.ok))
+    (ap (λ x. took (global_wanted d g.at g.order (and_variable vs c.args.variable.at g.order c.args.variable.name (restricted (expression_of x)))) ts) (sym c.in_ok-domain.ensures.ok))
     (c.another_global.ensures file lexed c.args.made.now frames))
 
 pub returns-in-Semicolon : goal.returns-in-Semicolon
@@ -29,8 +29,8 @@ returns-in-Semicolon c file lexed frames bytes inside is =
     let vs = variables_of g.list in
     let e = expression_of c.args.operand.expr in
     let ts = behind file lexed c.args.i in
-    let context = in_global d g.at g.order vs c.args.at_name c.args.name in
+    let context = in_global d g.at g.order vs c.args.variable.at c.args.variable.name in
     steps_by file lexed (λ s. settle greatest_depth context (symbol_with s bytes) inside (e, []) (behind file lexed (c.args.i - 1)) ts) c.args.terminal terminals.Semicolon c.last_global.new.made frames c.last_global.result c.in-Semicolon.is
     (steps_as file lexed _ _ c.last_global.new.made frames c.last_global.result
-    (ap (λ x. took (outside (declare d g.at (variables (and_variable vs c.args.at_name g.order c.args.name (restricted (expression_of x)))))) ts) (sym c.in_ok-domain.ensures.ok))
+    (ap (λ x. took (outside (declare d g.at (variables (and_variable vs c.args.variable.at g.order c.args.variable.name (restricted (expression_of x)))))) ts) (sym c.in_ok-domain.ensures.ok))
     (c.last_global.ensures file lexed frames))

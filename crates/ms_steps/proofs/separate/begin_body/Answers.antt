@@ -12,6 +12,6 @@ pub returns : goal.returns
 returns c context file lexed =
     let st = stack_of c.args.stack.now.items in
     let ts = behind file lexed c.args.i in
-    let more = and_variable (variables_of c.args.bounds.list) c.args.at_name c.args.order c.args.name (restricted (expression_of c.args.operand.expr)) in
+    let more = and_variable (variables_of c.args.binder.bounds.list) c.args.variable.at c.args.binder.order c.args.variable.name (restricted (expression_of c.args.operand.expr)) in
     acts_as context file lexed _ _ c.enter.new.stack.items c.enter.result
-    (ap (λ x. enter greatest_depth context (body_frame c.args.at c.args.quant c.args.order x) st (too_deep (behind file lexed (c.args.i - 1))) ts) (sym c.in_ok-list.ensures.ok)) (c.enter.ensures context file lexed (too_deep (behind file lexed (c.args.i - 1))) (search rules))
+    (ap (λ x. enter greatest_depth context (body_frame c.args.binder.at c.args.binder.quant c.args.binder.order x) st (too_deep (behind file lexed (c.args.i - 1))) ts) (sym c.in_ok-list.ensures.ok)) (c.enter.ensures context file lexed (too_deep (behind file lexed (c.args.i - 1))) (search rules))

@@ -12,6 +12,6 @@ pub returns : goal.returns
 returns c context file lexed =
     let st = stack_of c.args.stack.now.items in
     let ts = behind file lexed c.args.i in
-    let more = and_part (parts_of c.args.parts.list) c.args.at_name c.args.name (expression_of c.args.operand.expr) in
+    let more = and_part (parts_of c.args.locals.parts.list) c.args.variable.at c.args.variable.name (expression_of c.args.operand.expr) in
     acts_as context file lexed _ _ c.enter.new.stack.items c.enter.result
-    (ap (λ x. enter greatest_depth context (let_frame c.args.at c.args.order x) st (too_deep (behind file lexed (c.args.i - 1))) ts) (sym c.in_ok-list.ensures.ok)) (c.enter.ensures context file lexed (too_deep (behind file lexed (c.args.i - 1))) (search rules))
+    (ap (λ x. enter greatest_depth context (let_frame c.args.locals.at c.args.locals.order x) st (too_deep (behind file lexed (c.args.i - 1))) ts) (sym c.in_ok-list.ensures.ok)) (c.enter.ensures context file lexed (too_deep (behind file lexed (c.args.i - 1))) (search rules))

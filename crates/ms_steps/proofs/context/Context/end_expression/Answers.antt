@@ -16,12 +16,12 @@ returns-in-Formula c bytes inside is =
 pub returns-in-Global : goal.returns-in-Global
 returns-in-Global c bytes inside is =
     steps_by c.args.input.file c.args.input.tokens.now (λ x. settle greatest_depth (context_of (read_of c.args.made.now) x) (symbol_with c.args.terminal bytes) inside (expression_of c.args.operand.expr, []) (behind c.args.input.file c.args.input.tokens.now (c.args.i - 1)) (behind c.args.input.file c.args.input.tokens.now c.args.i))
-    c.args.self (contexts.Global c.in-Global.globals c.in-Global.at_name c.in-Global.name) c.end_global.new.made c.args.stack.now.items c.end_global.result c.in-Global.is (c.end_global.ensures c.args.input.file c.args.input.tokens.now c.args.stack.now.items bytes inside is)
+    c.args.self (contexts.Global c.in-Global.globals c.in-Global.variable) c.end_global.new.made c.args.stack.now.items c.end_global.result c.in-Global.is (c.end_global.ensures c.args.input.file c.args.input.tokens.now c.args.stack.now.items bytes inside is)
 
 pub returns-in-Parameter : goal.returns-in-Parameter
 returns-in-Parameter c bytes inside is =
     steps_by c.args.input.file c.args.input.tokens.now (λ x. settle greatest_depth (context_of (read_of c.args.made.now) x) (symbol_with c.args.terminal bytes) inside (expression_of c.args.operand.expr, []) (behind c.args.input.file c.args.input.tokens.now (c.args.i - 1)) (behind c.args.input.file c.args.input.tokens.now c.args.i))
-    c.args.self (contexts.Parameter c.in-Parameter.signature c.in-Parameter.order c.in-Parameter.at_name c.in-Parameter.name) c.args.made.now c.end_parameter.new.stack.items c.end_parameter.result c.in-Parameter.is (c.end_parameter.ensures c.args.made.now bytes inside is)
+    c.args.self (contexts.Parameter c.in-Parameter.signature c.in-Parameter.order c.in-Parameter.variable) c.args.made.now c.end_parameter.new.stack.items c.end_parameter.result c.in-Parameter.is (c.end_parameter.ensures c.args.made.now bytes inside is)
 
 pub returns-in-Predicate : goal.returns-in-Predicate
 returns-in-Predicate c bytes inside is =

@@ -12,24 +12,24 @@ use Rattle.ms_steps.proofs.Taking.{stops_as, mark_missing}
 use Rattle.ms_steps.proofs.input.Input.next_pair.Goals as goal
 
 pub returns : goal.returns
-returns c context =
+returns c context frames =
     let file = c.args.self.file in
     let lexed = c.args.self.tokens.now in
-    let st = stack_of c.args.stack.now.items in
+    let st = stack_of frames in
     let further : Rename → List Placed → Step = λ pair. took (pair_wanted context st c.args.at c.args.text (c.args.pairs ++ pair ∷ [])) in
     mark_missing marks.CloseRound (took (holding context (atom c.args.at (imported c.args.text c.args.pairs)) st)) (mark_then comma (pair_then further)) (behind file lexed c.args.i) c.in_default.ensures.none
     ∙ ap (mark_then comma (pair_then further)) c.in-Some-behind_mark.ensures.some.1 ∙ c.in_ok-pair.ensures further
     ∙ ap (λ xs. took (pair_wanted context st c.args.at c.args.text xs) (behind file lexed c.in_ok-pair.next)) (sym c.in_ok-push.ensures.ok)
 
 pub returns-in_err-pair : goal.returns-in_err-pair
-returns-in_err-pair c context =
+returns-in_err-pair c context frames =
     let file = c.args.self.file in
     let lexed = c.args.self.tokens.now in
-    let st = stack_of c.args.stack.now.items in
+    let st = stack_of frames in
     let stop = c.in_err-pair.field-0.0 in
     let is : c.from_residual-in_err-pair.result ≡ Err stop = search rules in
     let further : Rename → List Placed → Step = λ pair. took (pair_wanted context st c.args.at c.args.text (c.args.pairs ++ pair ∷ [])) in
-    subst (λ r. ActsAs context file lexed (next_pair context st c.args.at c.args.text c.args.pairs (behind file lexed c.args.i)) c.args.stack.now.items r) (sym is)
+    subst (λ r. ActsAs context file lexed (next_pair context st c.args.at c.args.text c.args.pairs (behind file lexed c.args.i)) frames r) (sym is)
     (stops_as file lexed (next_pair context st c.args.at c.args.text c.args.pairs (behind file lexed c.args.i)) (pair_then further (behind file lexed c.in-Some-behind_mark.from)) stop
     (mark_missing marks.CloseRound (took (holding context (atom c.args.at (imported c.args.text c.args.pairs)) st)) (mark_then comma (pair_then further)) (behind file lexed c.args.i) c.in_default.ensures.none
     ∙ ap (mark_then comma (pair_then further)) c.in-Some-behind_mark.ensures.some.1)

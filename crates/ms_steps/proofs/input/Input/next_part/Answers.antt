@@ -14,12 +14,12 @@ returns c context =
     let file = c.args.self.file in
     let lexed = c.args.self.tokens.now in
     let st = stack_of c.args.stack.now.items in
-    let parts = parts_of c.args.parts.list in
+    let parts = parts_of c.args.locals.parts.list in
     let from = behind file lexed (c.args.i + 1) in
     let names : IsNext file lexed c.args.i (name c.in-Some.name) c.in-Some.at_name = search rules in
     acts_as context file lexed _ _ c.enter.new.stack.items c.enter.result
-    (name_found (λ a n. part_value greatest_depth context (part_frame c.args.at c.args.order parts a n) st) file lexed c.args.i c.in-Some.name c.in-Some.at_name names
-    ∙ mark_found marks.Equal (enter greatest_depth context (part_frame c.args.at c.args.order parts c.in-Some.at_name c.in-Some.name) st (too_deep from)) misplaced from (behind file lexed c.in-Some-behind_mark.next) c.in-Some-behind_mark.ensures.some)
+    (name_found (λ a n. part_value greatest_depth context (part_frame c.args.locals.at c.args.locals.order parts a n) st) file lexed c.args.i c.in-Some.name c.in-Some.at_name names
+    ∙ mark_found marks.Equal (enter greatest_depth context (part_frame c.args.locals.at c.args.locals.order parts c.in-Some.at_name c.in-Some.name) st (too_deep from)) misplaced from (behind file lexed c.in-Some-behind_mark.next) c.in-Some-behind_mark.ensures.some)
     (c.enter.ensures context file lexed (too_deep from) refl)
 
 pub returns-in_default-behind_mark : goal.returns-in_default-behind_mark
@@ -27,8 +27,8 @@ returns-in_default-behind_mark c context =
     let file = c.args.self.file in
     let lexed = c.args.self.tokens.now in
     let st = stack_of c.args.stack.now.items in
-    let parts = parts_of c.args.parts.list in
+    let parts = parts_of c.args.locals.parts.list in
     let from = behind file lexed (c.args.i + 1) in
     let names : IsNext file lexed c.args.i (name c.in-Some.name) c.in-Some.at_name = search rules in
-    name_found (λ a n. part_value greatest_depth context (part_frame c.args.at c.args.order parts a n) st) file lexed c.args.i c.in-Some.name c.in-Some.at_name names
-    ∙ mark_missing marks.Equal (enter greatest_depth context (part_frame c.args.at c.args.order parts c.in-Some.at_name c.in-Some.name) st (too_deep from)) misplaced from c.in_default-behind_mark.ensures.none
+    name_found (λ a n. part_value greatest_depth context (part_frame c.args.locals.at c.args.locals.order parts a n) st) file lexed c.args.i c.in-Some.name c.in-Some.at_name names
+    ∙ mark_missing marks.Equal (enter greatest_depth context (part_frame c.args.locals.at c.args.locals.order parts c.in-Some.at_name c.in-Some.name) st (too_deep from)) misplaced from c.in_default-behind_mark.ensures.none

@@ -13,7 +13,7 @@ returns c context =
     let file = c.args.self.file in
     let lexed = c.args.self.tokens.now in
     let i = c.args.i in
-    let further = behind_variable greatest_depth context (stack_of c.args.stack.now.items) c.args.at c.args.quant c.args.order (variables_of c.args.bounds.list) in
+    let further = behind_variable greatest_depth context (stack_of c.args.stack.now.items) c.args.binder.at c.args.binder.quant c.args.binder.order (variables_of c.args.binder.bounds.list) in
     let names : IsNext file lexed i (name c.in-Some.name) c.in-Some.at_name = search rules in
     let next : (bytes : List ℕ) × IsNext file lexed (i + 1) (symbol_with c.in-Some-terminal_at.terminal bytes) c.in-Some-terminal_at.field-0-1 = search rules in
     acts_as context file lexed _ _ c.behind_variable.new.stack.items c.behind_variable.result

@@ -25,8 +25,8 @@ returns-in-Variable c =
     let context = context_of (read_of c.args.made.now) c.args.context in
     let ts = behind file lexed c.args.i in
     let st = stack_of c.args.stack.now.items in
-    steps_by file lexed (λ o. step greatest_depth (outcome_of context st o) ts) c.args.outcome (outcomes.Variable c.in-Variable.at c.in-Variable.quant c.in-Variable.order c.in-Variable.bounds) c.args.made.now c.next_variable.new.stack.items c.inside-in-Variable.result c.in-Variable.is
-    (c.inside-in-Variable.ensures file lexed (step greatest_depth (outcome_of context st (outcomes.Variable c.in-Variable.at c.in-Variable.quant c.in-Variable.order c.in-Variable.bounds)) ts) c.args.made.now c.next_variable.new.stack.items (c.next_variable.ensures context))
+    steps_by file lexed (λ o. step greatest_depth (outcome_of context st o) ts) c.args.outcome (outcomes.Variable c.in-Variable.binder) c.args.made.now c.next_variable.new.stack.items c.inside-in-Variable.result c.in-Variable.is
+    (c.inside-in-Variable.ensures file lexed (step greatest_depth (outcome_of context st (outcomes.Variable c.in-Variable.binder)) ts) c.args.made.now c.next_variable.new.stack.items (c.next_variable.ensures context))
 
 pub returns-in-Part : goal.returns-in-Part
 returns-in-Part c =
@@ -35,8 +35,8 @@ returns-in-Part c =
     let context = context_of (read_of c.args.made.now) c.args.context in
     let ts = behind file lexed c.args.i in
     let st = stack_of c.args.stack.now.items in
-    steps_by file lexed (λ o. step greatest_depth (outcome_of context st o) ts) c.args.outcome (outcomes.Part c.in-Part.at c.in-Part.order c.in-Part.parts) c.args.made.now c.next_part.new.stack.items c.inside-in-Part.result c.in-Part.is
-    (c.inside-in-Part.ensures file lexed (step greatest_depth (outcome_of context st (outcomes.Part c.in-Part.at c.in-Part.order c.in-Part.parts)) ts) c.args.made.now c.next_part.new.stack.items (c.next_part.ensures context))
+    steps_by file lexed (λ o. step greatest_depth (outcome_of context st o) ts) c.args.outcome (outcomes.Part c.in-Part.locals) c.args.made.now c.next_part.new.stack.items c.inside-in-Part.result c.in-Part.is
+    (c.inside-in-Part.ensures file lexed (step greatest_depth (outcome_of context st (outcomes.Part c.in-Part.locals)) ts) c.args.made.now c.next_part.new.stack.items (c.next_part.ensures context))
 
 pub returns-in-Pair : goal.returns-in-Pair
 returns-in-Pair c =
@@ -45,5 +45,5 @@ returns-in-Pair c =
     let context = context_of (read_of c.args.made.now) c.args.context in
     let ts = behind file lexed c.args.i in
     let st = stack_of c.args.stack.now.items in
-    steps_by file lexed (λ o. step greatest_depth (outcome_of context st o) ts) c.args.outcome (outcomes.Pair c.in-Pair.at c.in-Pair.text c.in-Pair.pairs) c.args.made.now c.next_pair.new.stack.items c.inside-in-Pair.result c.in-Pair.is
-    (c.inside-in-Pair.ensures file lexed (step greatest_depth (outcome_of context st (outcomes.Pair c.in-Pair.at c.in-Pair.text c.in-Pair.pairs)) ts) c.args.made.now c.next_pair.new.stack.items (c.next_pair.ensures context))
+    steps_by file lexed (λ o. step greatest_depth (outcome_of context st o) ts) c.args.outcome (outcomes.Pair c.in-Pair.at c.in-Pair.text c.in-Pair.pairs) c.args.made.now c.args.stack.now.items c.inside-in-Pair.result c.in-Pair.is
+    (c.inside-in-Pair.ensures file lexed (step greatest_depth (outcome_of context st (outcomes.Pair c.in-Pair.at c.in-Pair.text c.in-Pair.pairs)) ts) c.args.made.now c.args.stack.now.items (c.next_pair.ensures context c.args.stack.now.items))

@@ -27,5 +27,5 @@ returns-in-Other c context file lexed top is =
 
 pub returns-in-Domain : goal.returns-in-Domain
 returns-in-Domain c context file lexed top is =
-    let same : top ≡ domain_frame c.in-Domain.at c.in-Domain.quant c.in-Domain.order (variables_of c.in-Domain.bounds.list) c.in-Domain.at_name c.in-Domain.name = subst (λ r. IsRow r top) c.in-Domain.is is in
+    let same : top ≡ domain_frame c.in-Domain.binder.at c.in-Domain.binder.quant c.in-Domain.binder.order (variables_of c.in-Domain.binder.bounds.list) c.in-Domain.variable.at c.in-Domain.variable.name = subst (λ r. IsRow r top) c.in-Domain.is is in
     subst (λ x. ActsAs context file lexed (colon_at greatest_depth context (expression_of c.args.operand.expr) (x ∷ stack_of c.args.stack.now.items) (behind file lexed (c.args.i - 1)) (behind file lexed c.args.i)) c.begin_body.new.stack.items c.begin_body.result) (sym same) (c.begin_body.ensures context file lexed)

@@ -24,10 +24,10 @@ returns-in-Listed c context file lexed top is =
 
 pub returns-in-Domain : goal.returns-in-Domain
 returns-in-Domain c context file lexed top is =
-    let same : top ≡ domain_frame c.in-Domain.at c.in-Domain.quant c.in-Domain.order (variables_of c.in-Domain.bounds.list) c.in-Domain.at_name c.in-Domain.name = subst (λ r. IsRow r top) c.in-Domain.is is in
+    let same : top ≡ domain_frame c.in-Domain.binder.at c.in-Domain.binder.quant c.in-Domain.binder.order (variables_of c.in-Domain.binder.bounds.list) c.in-Domain.variable.at c.in-Domain.variable.name = subst (λ r. IsRow r top) c.in-Domain.is is in
     subst (λ x. ActsAs context file lexed (comma_at greatest_depth context (expression_of c.args.operand.expr) (x ∷ stack_of c.args.stack.now.items) (behind file lexed (c.args.i - 1)) (behind file lexed c.args.i)) c.args.stack.now.items c.another_variable.result) (sym same) (c.another_variable.ensures context file lexed c.args.stack.now.items)
 
 pub returns-in-Part : goal.returns-in-Part
 returns-in-Part c context file lexed top is =
-    let same : top ≡ part_frame c.in-Part.at c.in-Part.order (parts_of c.in-Part.parts.list) c.in-Part.at_name c.in-Part.name = subst (λ r. IsRow r top) c.in-Part.is is in
+    let same : top ≡ part_frame c.in-Part.locals.at c.in-Part.locals.order (parts_of c.in-Part.locals.parts.list) c.in-Part.variable.at c.in-Part.variable.name = subst (λ r. IsRow r top) c.in-Part.is is in
     subst (λ x. ActsAs context file lexed (comma_at greatest_depth context (expression_of c.args.operand.expr) (x ∷ stack_of c.args.stack.now.items) (behind file lexed (c.args.i - 1)) (behind file lexed c.args.i)) c.args.stack.now.items c.another_part.result) (sym same) (c.another_part.ensures context file lexed c.args.stack.now.items)

@@ -27,5 +27,5 @@ returns-in-Other c context file lexed top is =
 
 pub returns-in-Part : goal.returns-in-Part
 returns-in-Part c context file lexed top is =
-    let same : top ≡ part_frame c.in-Part.at c.in-Part.order (parts_of c.in-Part.parts.list) c.in-Part.at_name c.in-Part.name = subst (λ r. IsRow r top) c.in-Part.is is in
+    let same : top ≡ part_frame c.in-Part.locals.at c.in-Part.locals.order (parts_of c.in-Part.locals.parts.list) c.in-Part.variable.at c.in-Part.variable.name = subst (λ r. IsRow r top) c.in-Part.is is in
     subst (λ x. ActsAs context file lexed (in_at greatest_depth context (expression_of c.args.operand.expr) (x ∷ stack_of c.args.stack.now.items) (behind file lexed (c.args.i - 1)) (behind file lexed c.args.i)) c.begin_scope.new.stack.items c.begin_scope.result) (sym same) (c.begin_scope.ensures context file lexed)
