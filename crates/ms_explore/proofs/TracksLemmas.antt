@@ -1,10 +1,12 @@
 -- The join of two rising lists of variables rises, and has the variables of both.
-use Rattle.std.proofs.Common.{◌≡◌, ℕ, suc, ◌<◌, ◌≤◌, nat_lt, nat_eq, ◌⊎◌, inl, inr, ⊎_elim, Bool, true, false, if◌then◌else◌, List, [], ◌∷◌, ◌++◌, slice_get, Some, refl, sym, ap, subst, ◌∙◌, arith}
+use Rattle.std.proofs.Common.{◌≡◌, ℕ, zero, suc, ◌+◌, ◌<◌, ◌≤◌, nat_lt, nat_eq, ◌⊎◌, inl, inr, ⊎_elim, Bool, true, false, if◌then◌else◌, List, [], ◌∷◌, ◌++◌, drop, slice_get, Some, refl, sym, ap, subst, ◌∙◌, arith}
 use Rattle.std.proofs.lemmas.Bool.{eqb-true}
 use Rattle.std.proofs.lemmas.Bool.Decides.{nat_tests}
+use Rattle.ms_dfa.specs.declared.track.Track.{Track}
+use Rattle.ms_dfa.specs.Automaton.{variable_of, variables_of}
 use Rattle.ms_logic.specs.Assignment.{Variable}
 use Rattle.ms_logic.specs.Roots.{AreRising, IsBelowFirst}
-use Rattle.ms_explore.specs.Tracks.{before, from, without_first, joined, gathered_with, distinct, place_of}
+use Rattle.ms_explore.specs.Tracks.{before, from, without_first, joined, gathered_with, distinct, place_of, IsAmong}
 
 -- each variable of the list has a number above this one, or below it
 abbrev pub AreAbove : ℕ → List Variable → Type 0
@@ -113,11 +115,6 @@ joined-rising (v ∷ vs) right rising_l rising_r =
       joined-rising vs rest rising_l.1 (without-rising v.name (from v.name right) (from-rising v.name right rising_r)),
     )
 
--- the variable is one of the list
-abbrev pub IsAmong : List Variable → Variable → Type 0
-IsAmong [] w = ⊥
-IsAmong (v ∷ vs) w = (v ≡ w) ⊎ IsAmong vs w
-
 among-left : (xs ys : List Variable) (w : Variable) → IsAmong xs w → IsAmong (xs ++ ys) w
 among-left [] ys w among = absurd among
 among-left (x ∷ xs) ys w among = ⊎_elim inl (λ there. inr (among-left xs ys w there)) among
@@ -187,3 +184,60 @@ place_of-among (first ∷ vs) v rising among = by_test (nat_eq first.name v.name
         differs : first.name ≡ v.name → ⊥
         differs equal = grind (arith, nat_tests, is, equal)
     by_test false is rest (inr there) = rest there
+
+-- a variable of a rising list is above the first, or is the first
+among-above : (first : Variable) (vs : List Variable) (v : Variable) → AreAbove first.name vs → IsAmong vs v → first.name < v.name
+among-above first [] v above among = absurd among
+among-above first (u ∷ vs) v above among =
+    ⊎_elim (λ same. let equal : u.name ≡ v.name = ap (λ (w : Variable). w.name) same in omega (arith, above.0, equal)) (λ there. among-above first vs v above.1 there) among
+
+-- a number above that of a variable of a rising list is sought behind that variable
+pub place_of-behind : (vs : List Variable) (u : Variable) (name : ℕ) → AreRising vs → IsAmong vs u → u.name < name
+    → place_of name vs ≡ place_of u.name vs + place_of name (drop (place_of u.name vs) vs)
+place_of-behind [] u name rising among less = absurd among
+place_of-behind (first ∷ vs) u name rising among less = by_test (nat_eq first.name u.name) refl (λ there. place_of-behind vs u name rising.1 there less) among
+  where
+    later : IsAmong vs u → nat_eq first.name name ≡ false
+    later there = (let below = among-above first vs u (above-first first vs rising) there in grind (arith, nat_tests, below, less))
+
+    by_test : (test : Bool) → nat_eq first.name u.name ≡ test → (IsAmong vs u → place_of name vs ≡ place_of u.name vs + place_of name (drop (place_of u.name vs) vs)) → (first ≡ u) ⊎ IsAmong vs u
+        → place_of name (first ∷ vs) ≡ (if test then 0 else suc (place_of u.name vs)) + place_of name (drop (if test then 0 else suc (place_of u.name vs)) (first ∷ vs))
+    by_test true is rest among = (let same : place_of name (first ∷ vs) ≡ 0 + place_of name (first ∷ vs) = omega arith in same)
+    by_test false is rest (inl here) =
+        (let equal : first.name ≡ u.name = ap (λ (w : Variable). w.name) here in let never : ⊥ = grind (arith, nat_tests, is, equal) in absurd never)
+    by_test false is rest (inr there) =
+        ap (λ test. if test then 0 else suc (place_of name vs)) (later there)
+        ∙ (let counted = rest there in let same : suc (place_of name vs) ≡ suc (place_of u.name vs) + place_of name (drop (place_of u.name vs) vs) = omega (arith, counted) in same)
+
+-- the variables of a list that rises are above those before them
+pub drop-above : (tracks : List Track) (i : ℕ) (track : Track) (more : List Track) → drop i tracks ≡ track ∷ more → AreRising (variables_of tracks) → AreAbove track.variable (variables_of more)
+drop-above [] zero track more is rising = let never : ⊥ = cc in absurd never
+drop-above [] (suc i) track more is rising = let never : ⊥ = cc in absurd never
+drop-above (first ∷ tracks) zero track more is rising =
+    let same_first : first ≡ track = cc in
+    let same_rest : tracks ≡ more = cc in
+    subst (λ (t : Track). AreAbove t.variable (variables_of more)) same_first (subst (λ (ts : List Track). AreAbove first.variable (variables_of ts)) same_rest (above-first (variable_of first) (variables_of tracks) rising))
+drop-above (first ∷ tracks) (suc i) track more is rising = drop-above tracks i track more is rising.1
+
+-- and are all among them
+pub drop-among : (tracks : List Track) (i : ℕ) (v : Variable) → IsAmong (variables_of (drop i tracks)) v → IsAmong (variables_of tracks) v
+drop-among tracks zero v among = among
+drop-among [] (suc i) v among = absurd among
+drop-among (first ∷ tracks) (suc i) v among = inr (drop-among tracks i v among)
+
+-- what is sought behind the variable that was found last
+pub next_place : (narrow wide : List Track) (i found : ℕ) (track : Track) (more : List Track) → AreRising (variables_of narrow) → AreRising (variables_of wide)
+    → ((v : Variable) → IsAmong (variables_of narrow) v → IsAmong (variables_of wide) v) → drop i narrow ≡ track ∷ more → place_of track.variable (variables_of wide) ≡ found
+    → (v : Variable) → IsAmong (variables_of more) v → place_of v.name (variables_of wide) ≡ found + place_of v.name (variables_of (drop found wide))
+next_place narrow wide i found track more rising_n rising_w among is at v there =
+    let here : IsAmong (variables_of (drop i narrow)) (variable_of track) = subst (λ (ts : List Track). IsAmong (variables_of ts) (variable_of track)) (sym is) (inl refl) in
+    let held = among (variable_of track) (drop-among narrow i (variable_of track) here) in
+    let less = among-above (variable_of track) (variables_of more) v (drop-above narrow i track more is rising_n) there in
+    place_of-behind (variables_of wide) (variable_of track) v.name rising_w held less
+    ∙ ap (λ n. n + place_of v.name (drop n (variables_of wide))) at
+    ∙ ap (λ (vs : List Variable). found + place_of v.name vs) (sym (drop-variables wide found))
+  where
+    drop-variables : (tracks : List Track) (n : ℕ) → variables_of (drop n tracks) ≡ drop n (variables_of tracks)
+    drop-variables tracks zero = refl
+    drop-variables [] (suc n) = refl
+    drop-variables (first ∷ tracks) (suc n) = drop-variables tracks n

@@ -1,5 +1,5 @@
 -- The variables of two lists in one list, and where those of one list stand in another.
-use Rattle.std.specs.Prelude.{ℕ, suc, nat_lt, nat_eq, if◌then◌else◌, List, [], ◌∷◌, ◌++◌}
+use Rattle.std.specs.Prelude.{◌≡◌, ℕ, suc, nat_lt, nat_eq, ◌⊎◌, if◌then◌else◌, List, [], ◌∷◌, ◌++◌, map}
 use Rattle.ms_logic.specs.Assignment.{Variable}
 
 -- the variables at the beginning of a list whose numbers are below this one, and those behind them
@@ -33,3 +33,12 @@ distinct vs = gathered_with [] vs
 abbrev pub place_of : ℕ → List Variable → ℕ
 place_of name [] = 0
 place_of name (v ∷ vs) = if nat_eq v.name name then 0 else suc (place_of name vs)
+
+-- the variable is one of the list
+abbrev pub IsAmong : List Variable → Variable → Type 0
+IsAmong [] w = ⊥
+IsAmong (v ∷ vs) w = (v ≡ w) ⊎ IsAmong vs w
+
+-- the places of variables in a list
+abbrev pub places_among : List Variable → List Variable → List ℕ
+places_among narrow wide = map (λ v. place_of v.name wide) narrow

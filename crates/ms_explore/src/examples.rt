@@ -2,7 +2,7 @@ ghost use Rattle.std.specs.Prelude.{◌≡◌, true, false, [], ◌∷◌, None,
 ghost use Rattle.ms_logic.specs.declared.sign.Sign.TheVariants.{Yes, No};
 ghost use Rattle.ms_logic.specs.Content.{is_truth_value, is_in_letters};
 ghost use Rattle.ms_explore.specs.Examples.{flips, one_of_each, set, word};
-ghost use Rattle.ms_explore.specs.Tracks.{distinct, joined, place_of};
+ghost use Rattle.ms_explore.specs.Tracks.{distinct, joined, place_of, places_among};
 ghost use Rattle.ms_explore.specs.Small.{bit_at, lead_by, most_nodes, places_of, read_tracks, sign_by, with_bit_at, zero_bits};
 
 /// The bits of tracks, and where a table leads by them.
@@ -38,5 +38,6 @@ pub fn worked_joins()
     ensures one_behind { joined (set 5 ∷ []) (set 7 ∷ []) ≡ set 5 ∷ set 7 ∷ [] }
     ensures falling { distinct (set 7 ∷ set 5 ∷ set 7 ∷ []) ≡ set 5 ∷ set 7 ∷ [] }
     ensures place { place_of 7 (set 5 ∷ set 7 ∷ []) ≡ 1 }
+    ensures places { places_among (set 5 ∷ set 9 ∷ []) (set 3 ∷ set 5 ∷ set 7 ∷ set 9 ∷ []) ≡ 1 ∷ 3 ∷ [] }
     ensures no_place { place_of 6 (set 5 ∷ set 7 ∷ []) ≡ 2 }
 {}

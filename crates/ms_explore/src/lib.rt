@@ -14,4 +14,4 @@ pub use examples::{worked_joins, worked_places, worked_table_signs, worked_track
 pub use exploration::explore;
 pub use machine::Machine;
 pub use small::{SmallMachine, TrackBits};
-pub use tracks::{distinct, join, place_of};
+pub use tracks::{distinct, join, place_of, places_among};

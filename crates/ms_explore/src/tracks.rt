@@ -1,6 +1,8 @@
-ghost use Rattle.std.specs.Prelude.{◌≡◌, ◌≤◌, ◌++◌, ◌∷◌, drop, length, IfOk, OnOk};
+ghost use Rattle.std.specs.Prelude.{◌≡◌, ◌≤◌, ◌+◌, ◌++◌, ◌∷◌, drop, length, IfOk, OnOk};
 ghost use Rattle.ms_dfa.specs.Automaton.{variables_of};
-ghost use Rattle.ms_explore.specs.Tracks.{before, distinct, from, joined, place_of, without_first};
+ghost use Rattle.ms_explore.specs.Tracks.{IsAmong, before, distinct, from, joined, place_of, places_among, without_first};
+ghost use Rattle.ms_logic.specs.Assignment.{Variable};
+ghost use Rattle.ms_logic.specs.Roots.{AreRising};
 
 use ms_dfa::Track;
 use ms_edge::{List, NoMemory, push};
@@ -67,13 +69,41 @@ pub fn distinct(alloc: Global, places: &[Track]) -> Result<List<Track>, NoMemory
     Ok(made)
 }
 
-/// Where the first track of a variable stands, and past the end where there is none.
-pub fn place_of(tracks: &[Track], variable: u32) -> usize
-    ensures { result ≡ place_of variable (variables_of tracks.now) }
+/// Where the first track of a variable stands from a place on, and past the end where there is none.
+fn seek(tracks: &[Track], from: usize, variable: u32) -> usize
+    requires { from ≤ length tracks.now }
+    ensures place { result ≡ from + place_of variable (variables_of (drop from tracks.now)) }
+    ensures within { result ≤ length tracks.now }
 {
-    let mut place = 0;
+    let mut place = from;
     while place < tracks.len() && tracks[place].variable != variable {
         place += 1;
     }
     place
+}
+
+/// Where the first track of a variable stands, and past the end where there is none.
+pub fn place_of(tracks: &[Track], variable: u32) -> usize
+    ensures { result ≡ place_of variable (variables_of tracks.now) }
+{
+    seek(tracks, 0, variable)
+}
+
+/// Where the variables of tracks stand among others. Both lists rise, and the second has the variables of the first.
+pub fn places_among(alloc: Global, narrow: &[Track], wide: &[Track]) -> Result<List<u32>, NoMemory>
+    requires narrow { AreRising (variables_of narrow.now) }
+    requires wide { AreRising (variables_of wide.now) }
+    requires among { (v : Variable) → IsAmong (variables_of narrow.now) v → IsAmong (variables_of wide.now) v }
+    ensures { IfOk result (λ made. made ≡ places_among (variables_of narrow.now) (variables_of wide.now)) }
+{
+    let mut made = List::new(alloc);
+    let mut from = 0;
+    for track in narrow {
+        from = seek(wide, from, track.variable);
+        let Ok(place) = u32::try_from(from) else {
+            return Err(NoMemory);
+        };
+        push(&mut made, place)?;
+    }
+    Ok(made)
 }
