@@ -1,41 +1,24 @@
 -- Declarations: constants, names of globals, predicates and default restrictions.
 use Rattle.std.proofs.Common.{◌≡◌, ℕ, Bool, false, List, [], ◌∷◌, ◌++◌, drop, Option, refl, sym, ap, ◌∙◌}
-use Rattle.std.specs.Prelude.{flat_map}
 use Rattle.std.specs.Option.{option_map}
 use Rattle.ms_logic.specs.declared.mode.Order.{Order}
-use Rattle.ms_logic.specs.declared.source.PlacedInt.{PlacedInt}
 use Rattle.ms_logic.specs.Tree as tree
 use Rattle.ms_logic.specs.Tree.{Argument}
-use Rattle.ms_rules.specs.declared.fault.Fault.{Fault}
 use Rattle.ms_rules.specs.declared.meaning.Meaning.TheVariants.{Variable}
 use Rattle.ms_rules.specs.Syntax.{Bytes, Expression, Bounds}
 use Rattle.ms_rules.specs.Before.{after, after_bounds, with_names}
 use Rattle.ms_rules.specs.Binder.{restricted_variable, restricted_variables, predicate_with}
 use Rattle.ms_rules.specs.Declarations.{occurrences_in_default, occurrences_in_predicate}
 use Rattle.ms_rules.specs.Occurrence.{occurrences, inside_bounds, formula_wanted}
-use Rattle.ms_rules.specs.Rules.{faults_of_placed}
 use Rattle.ms_rules.specs.Scope.{Scope, bind, count_of_bounds, under_bounds, without_exports}
 use Rattle.ms_rules.specs.Typed.{both, formula_in, typed}
 use Rattle.ms_rules.specs.TypedSource.{parameters_of_bounds, typed_default, typed_predicate}
 use Rattle.ms_rules.proofs.Exports.{typed-same, under_bounds-same}
 use Rattle.ms_rules.proofs.Lists.{parameters-all}
 use Rattle.ms_rules.proofs.Declaring.{restricted-same}
-use Rattle.ms_names.specs.State.{after_restrictions, unbound, State, with_faults, passed}
-use Rattle.ms_names.proofs.Repeats.{faults-faults}
-use Rattle.ms_names.proofs.States.{passed-passed}
+use Rattle.ms_scopes.specs.State.{after_restrictions, unbound, State, passed}
+use Rattle.ms_scopes.proofs.States.{passed-passed}
 use Rattle.ms_names.proofs.Walk.{unbound-bounds}
-
-pub ints-next : (t u : State) (i : PlacedInt) (rest : List PlacedInt) → u ≡ with_faults t (faults_of_placed t.scope i) →
-    with_faults u (flat_map (faults_of_placed u.scope) rest) ≡ with_faults t (flat_map (faults_of_placed t.scope) (i ∷ rest))
-ints-next t u i rest checked =
-    ap (λ (there : State). with_faults there (flat_map (faults_of_placed there.scope) rest)) checked
-    ∙ faults-faults t (faults_of_placed t.scope i) (flat_map (faults_of_placed t.scope) rest)
-
-pub three-faults : (s r t u : State) (fs gs hs : List Fault) → r ≡ with_faults s fs → t ≡ with_faults r gs → u ≡ with_faults t hs →
-    u ≡ with_faults s (fs ++ (gs ++ hs))
-three-faults s r t u fs gs hs first second third =
-    third ∙ (ap (λ there. with_faults there hs) second
-    ∙ (faults-faults r gs hs ∙ (ap (λ there. with_faults there (gs ++ hs)) first ∙ faults-faults s fs (gs ++ hs))))
 
 pub predicate-passed : (s r q t u v w : State) (vs : Bounds) (e : Expression) (x n m : ℕ) (allowed : Bool) →
     x ≡ s.before.next → n ≡ count_of_bounds vs → m ≡ count_of_bounds vs →

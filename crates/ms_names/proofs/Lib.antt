@@ -1,12 +1,8 @@
 pub mod Declaring
-pub mod FreeVariables
 pub mod Lists
 pub mod Makes
 pub mod Operands
-pub mod Repeats
 pub mod Sources
-pub mod States
-pub mod Tables
 pub mod Told
 pub mod Values
 pub mod Walk

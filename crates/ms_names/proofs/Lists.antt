@@ -9,16 +9,14 @@ use Rattle.ms_rules.specs.declared.meaning.Meaning.TheVariants.{Variable}
 use Rattle.ms_rules.specs.declared.wanted.Wanted.TheVariants.{Exactly}
 use Rattle.ms_rules.specs.Syntax.{Bytes, Expression, Expressions, more_expressions, Bounds, more_bounds, Domain, Parts, more_parts}
 use Rattle.ms_rules.specs.Before.{after, after_all, after_bounds, after_domain, after_parts}
-use Rattle.ms_rules.specs.Binder.{argument_for, default_for, restricted_variable, restricted_variables, restriction_in, with_front}
+use Rattle.ms_rules.specs.Binder.{argument_for, restricted_variable, restricted_variables, restriction_in, with_front}
 use Rattle.ms_rules.specs.Occurrence.{occurrences, inside_arguments, inside_bounds, inside_domain, inside_parts}
 use Rattle.ms_rules.specs.Order.{later_parameters, wanted_by}
-use Rattle.ms_rules.specs.Reads.{readings_of_bounds, readings_of_default}
-use Rattle.ms_rules.specs.Scope.{bind, under_bounds, under_parts, without_exports}
+use Rattle.ms_rules.specs.Scope.{bind, under_bounds, without_exports}
 use Rattle.ms_rules.specs.Typed.{both, numbers_of_parts, of_order, typed, typed_arguments, typed_parts}
-use Rattle.ms_rules.proofs.Lists.{argument-typed, default-readings, front-wanted, in_front, side-behind, sides_behind, variable-behind}
-use Rattle.ms_names.specs.State.{after_restriction, after_restrictions, State, passed, noted}
-use Rattle.ms_names.proofs.Repeats.{noted-noted}
-use Rattle.ms_names.proofs.States.{passed-passed}
+use Rattle.ms_rules.proofs.Lists.{argument-typed, front-wanted, in_front, side-behind, sides_behind, variable-behind}
+use Rattle.ms_scopes.specs.State.{after_restriction, after_restrictions, State, passed}
+use Rattle.ms_scopes.proofs.States.{passed-passed}
 
 pub arguments-next : (t u : State) (ps rest : List Order) (o : Option Order) (e : Expression) (es : Expressions) →
     ps ≡ with_front o (later_parameters ps) → rest ≡ later_parameters ps →
@@ -91,20 +89,3 @@ restrictions-typed t u takes_defaults x at o n d vs found more value here is add
     ap (λ there. both (λ front later. front ++ later) more (restricted_variables takes_defaults there.scope (x + 1) there.before vs)) here
     ∙ (ap (λ front. both (λ front later. front ++ later) front rest) (added ∙ ap (λ v. both (λ front w. front ++ w ∷ []) found v) is)
     ∙ variable-behind found x o (restriction_in takes_defaults inner t.before o x d) rest)
-
-pub defaults-next : (t u : State) (at : At) (o : Order) (n : Bytes) (d : Domain) (vs : Bounds) →
-    u ≡ noted t [] (readings_of_default (default_for t.scope o d)) →
-    noted u [] (readings_of_bounds u.scope vs) ≡ noted t [] (readings_of_bounds t.scope (more_bounds at o n d vs))
-defaults-next t u at o n d vs here =
-    ap (λ there. noted there [] (readings_of_bounds there.scope vs)) here
-    ∙ (noted-noted t [] [] (readings_of_default (default_for t.scope o d)) (readings_of_bounds t.scope vs)
-    ∙ ap (noted t []) (default-readings t.scope at o n d vs))
-
--- the next name of a `let`
-pub names-next : (t u : State) (x y : ℕ) (o : Order) (at : At) (n : Bytes) (e : Expression) (ps : Parts) →
-    u ≡ record t { scope = bind n (Variable x o) t.scope } → y ≡ x + 1 →
-    record u { scope = under_parts u.scope y o ps } ≡ record t { scope = under_parts t.scope x o (more_parts at n e ps) }
-names-next t u x y o at n e ps here next_is =
-    let F : State → State = λ there. record there { scope = under_parts there.scope y o ps } in
-    ap F here
-    ∙ ap (λ z. record t { scope = under_parts (bind n (Variable x o) t.scope) z o ps }) next_is

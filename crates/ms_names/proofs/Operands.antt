@@ -9,8 +9,8 @@ use Rattle.ms_rules.specs.Occurrence.{occurrences, inside_operands}
 use Rattle.ms_rules.specs.Typed.{both, formula_in, number_in, typed, typed_formulas, typed_numbers}
 use Rattle.ms_rules.specs.View.{expressions}
 use Rattle.ms_rules.proofs.Operands.{after_all-more, inside_operands-more, typed_formulas-more, typed_numbers-more}
-use Rattle.ms_names.specs.State.{State, passed}
-use Rattle.ms_names.proofs.States.{passed-passed}
+use Rattle.ms_scopes.specs.State.{State, passed}
+use Rattle.ms_scopes.proofs.States.{passed-passed}
 
 -- after some operands and one more
 pub operands-more : (s t u : State) (w : Wanted) (es : List Expression) (e : Expression) →

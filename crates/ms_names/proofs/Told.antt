@@ -19,10 +19,10 @@ use Rattle.ms_rules.specs.Reads.{readings_at}
 use Rattle.ms_rules.specs.Rules.{faults_at, faults_of_bounds, faults_of_exports, faults_of_placed, faults_of_repeat}
 use Rattle.ms_rules.specs.Scope.{bind, count_of_bounds, under_bounds, with_default}
 use Rattle.ms_rules.specs.Uses.{import_at, export_at, with_files}
-use Rattle.ms_names.specs.State.{after_restrictions, State, with_faults, passed}
-use Rattle.ms_names.specs.Declaration.{Files, known_at, read_through, told}
+use Rattle.ms_scopes.specs.State.{after_restrictions, State, with_faults, passed}
+use Rattle.ms_scopes.specs.Declaration.{Files, known_at, read_through, told}
 use Rattle.ms_names.specs.Outcome.{declared_in}
-use Rattle.ms_names.proofs.States.{first_with-append}
+use Rattle.ms_scopes.proofs.States.{first_with-append}
 
 kept-reads : (u v : State) → u ≡ v → u ≡ record v { reads = u.reads }
 kept-reads u v same = let P : State → Type 0 = λ there. u ≡ record there { reads = u.reads } in subst P same refl

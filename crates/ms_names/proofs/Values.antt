@@ -18,7 +18,7 @@ use Rattle.ms_rules.specs.Scope.{bind, count_of_bounds, count_of_parts, meaning_
 use Rattle.ms_rules.specs.Typed.{both, formula_in, numbers_of_parts, typed, typed_arguments, typed_call, typed_parts, typed_restriction}
 use Rattle.ms_rules.proofs.Exports.{arguments-same, parts-same, typed-same, under_parts-same}
 use Rattle.ms_rules.proofs.Lists.{call-typed, quantifiers-all, restriction-own}
-use Rattle.ms_names.specs.State.{after_restrictions, State, with_faults, passed, noted}
+use Rattle.ms_scopes.specs.State.{after_restrictions, State, with_faults, passed, noted}
 
 pub call-value : (s r q u v : State) (fs : List Fault) (rs : List Reading) (os : List Occurrence) (b : Before) (at : At) (n : Bytes) (es : Expressions)
     (parameters : List Order) (allowed : Bool) (made : Option Arguments) (value : Option Argument) →

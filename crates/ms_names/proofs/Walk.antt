@@ -25,8 +25,8 @@ use Rattle.ms_rules.specs.Rules.{count, faults_at, faults_of_bounds, faults_of_c
 use Rattle.ms_rules.specs.Scope.{Scope, bind, count_of_bounds, count_of_parts, meaning_of, under_bounds, under_parts, without_exports}
 use Rattle.ms_rules.specs.Typed.{both, typed}
 use Rattle.ms_rules.specs.Uses.{import_at, export_at}
-use Rattle.ms_names.specs.State.{after_restrictions, unbound, State, with_faults, passed, noted, formed}
-use Rattle.ms_names.proofs.States.{first_with-append, passed-passed}
+use Rattle.ms_scopes.specs.State.{after_restrictions, unbound, State, with_faults, passed, noted, formed}
+use Rattle.ms_scopes.proofs.States.{first_with-append, passed-passed}
 
 -- after some faults and readings, and then some expressions
 abbrev pub with_inside : State → List Fault → List Reading → List Occurrence → Before → State

@@ -16,7 +16,7 @@ use Rattle.ms_rules.specs.TypedSource.{typed_default, typed_predicate}
 use Rattle.ms_rules.specs.Uses.{import_at}
 use Rattle.ms_names.specs.declared.outcome.Outcome.{Outcome}
 use Rattle.ms_names.specs.declared.outcome.Outcome.TheVariants.{Globals, Predicate, Formula, Nothing}
-use Rattle.ms_names.specs.State.{State}
+use Rattle.ms_scopes.specs.State.{State}
 
 pub data Made : Type 0 where
   made_globals : (vs : Option (List tree.Declaration)) → Made

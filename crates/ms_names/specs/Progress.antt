@@ -19,7 +19,7 @@ use Rattle.ms_rules.specs.TypedSource.{TypedFormula, TypedGlobal, collected, for
 use Rattle.ms_rules.specs.Uses.{export_at, import_at}
 use Rattle.ms_rules.specs.View.{placed_of}
 use Rattle.ms_names.specs.declared.progress.Progress.{Progress}
-use Rattle.ms_names.specs.Declaration.{known_at}
+use Rattle.ms_scopes.specs.Declaration.{known_at}
 use Rattle.ms_names.specs.Outcome.{Made, made_globals, made_predicate, made_formula, made_nothing, made_in}
 
 -- what is known there

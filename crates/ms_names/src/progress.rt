@@ -5,13 +5,10 @@ ghost use Rattle.ms_names.specs.Outcome.{outcome_of};
 ghost use Rattle.ms_names.specs.Progress.{IsAfter, IsBeginning, IsFirstOf, IsMade, IsNext, Keeps, bounds_in, globals_with, kept_globals, known};
 ghost use Rattle.std.specs.Prelude.{◌≡◌, ◌+◌, ◌∷◌, ◌++◌, ◌⊎◌, [], map, IfErr, IfOk, OnOk};
 
-use crate::checker::Checker;
-use crate::memory::copy_name;
-use crate::name::small;
-use crate::outcome::Outcome;
-use crate::seen::Seen;
+use crate::outcome::{Outcome, declare};
 use ms_edge::{At, List, NoMemory, Refusal, push};
 use ms_logic::{Bound, Decl, Item, Mode, Param, Placed, Predicate};
+use ms_scopes::{Checker, Seen, copy_name, small};
 use std::alloc::Global;
 
 /// A check of a source that stands between two declarations: what it knows there, and what those before gave.
@@ -159,10 +156,7 @@ impl Progress {
         ensures next { OnOk result (IsNext self.old self.new (placed_of item.now)) }
         ensures refused { IfErr result (λ refusal. (refusal ≡ Refusal.Memory) ⊎ IsFirstOf (known self.old) (placed_of item.now ∷ []) refusal) }
     {
-        let Ok(made) = self
-            .checker
-            .declare(self.count, &mut self.files, &item.decl)
-        else {
+        let Ok(made) = declare(&mut self.checker, self.count, &mut self.files, &item.decl) else {
             return Err(Refusal::Memory);
         };
         if let Some(fault) = self.checker.take_first() {

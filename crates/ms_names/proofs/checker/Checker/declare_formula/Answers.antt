@@ -1,7 +1,0 @@
-use Rattle.ms_rules.specs.View.{expression_of}
-use Rattle.ms_names.proofs.Told.{formula-told}
-use Rattle.ms_names.proofs.checker.Checker.declare_formula.Goals as goal
-
-pub returns-clause-state : goal.returns-clause-state
-returns-clause-state c = λ count files.
-    formula-told c.args.self.now c.expression.new.self count files (expression_of c.args.e.now) c.in_ok-value.ensures.state

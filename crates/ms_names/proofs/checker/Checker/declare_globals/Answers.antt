@@ -1,8 +1,0 @@
-use Rattle.ms_rules.specs.View.{bounds_of}
-use Rattle.ms_names.proofs.Told.{globals-told}
-use Rattle.ms_names.proofs.checker.Checker.declare_globals.Goals as goal
-
-pub returns-clause-state : goal.returns-clause-state
-returns-clause-state c = λ files.
-    globals-told c.args.self.now c.check_globals.new.self c.bounds.new.self c.args.first files (bounds_of c.args.bounds.now)
-    c.in_ok-check_globals.ensures c.in_ok-made.ensures.state

@@ -1,0 +1,67 @@
+use Rattle.std.proofs.Common.{◌≡◌, ◌++◌, drop, map, take}
+use Rattle.std.specs.Option.{option_map}
+use Rattle.ms_logic.specs.View.{argument_of, binding_of, declaration_of}
+use Rattle.ms_rules.specs.Before.{after_all, after_parts}
+use Rattle.ms_rules.specs.Binder.{restricted_variables, typed_sides}
+use Rattle.ms_rules.specs.Lists.{expressions_of, forms_of, terms_of}
+use Rattle.ms_rules.specs.Occurrence.{formula_wanted, inside_arguments, inside_operands, inside_parts, number_wanted}
+use Rattle.ms_rules.specs.Typed.{both, typed_arguments, typed_formulas, typed_numbers}
+use Rattle.ms_rules.specs.View.{bounds_of, parts_of}
+use Rattle.ms_rules.proofs.Lists.{in_front, sides_behind}
+use Rattle.ms_scopes.specs.State.{after_restrictions, passed}
+use Rattle.ms_names.proofs.expression.+expression.Given as goal
+
+-- what is found so far and what the rest gives is what all give
+
+abbrev pub invariant-arguments_for-loop-i : goal.invariant-arguments_for-loop-i
+invariant-arguments_for-loop-i l = record {
+  state :
+      passed l.checker (inside_arguments l.checker.scope l.checker.before (drop l.i l.parameters) (expressions_of (drop l.i l.arguments))) (after_all l.checker.before (expressions_of (drop l.i l.arguments)))
+      ≡ passed l.initial.checker (inside_arguments l.initial.checker.scope l.initial.checker.before l.parameters (expressions_of l.arguments)) (after_all l.initial.checker.before (expressions_of l.arguments));
+  value :
+      both in_front (option_map (map argument_of) l.made) (typed_arguments l.checker.scope l.checker.before (drop l.i l.parameters) (expressions_of (drop l.i l.arguments)))
+      ≡ typed_arguments l.initial.checker.scope l.initial.checker.before l.parameters (expressions_of l.arguments);
+}
+
+abbrev pub invariant-variables-loop-bound : goal.invariant-variables-loop-bound
+invariant-variables-loop-bound l = record {
+  state :
+      after_restrictions l.checker l.x (bounds_of (drop l.bound-index l.bounds))
+      ≡ after_restrictions l.initial.checker l.first (bounds_of l.bounds);
+  value :
+      both (λ front later. front ++ later) (option_map (λ ps. map declaration_of ps.items) l.made)
+      (restricted_variables l.takes_defaults l.checker.scope l.x l.checker.before (bounds_of (drop l.bound-index l.bounds)))
+      ≡ restricted_variables l.takes_defaults l.initial.checker.scope l.first l.initial.checker.before (bounds_of l.bounds);
+}
+
+abbrev pub invariant-formulas-loop-operand : goal.invariant-formulas-loop-operand
+invariant-formulas-loop-operand l = record {
+  state :
+      l.checker
+      ≡ passed l.initial.checker (inside_operands l.initial.checker.scope l.initial.checker.before formula_wanted (expressions_of (take l.operand-index l.operands)))
+      (after_all l.initial.checker.before (expressions_of (take l.operand-index l.operands)));
+  value :
+      option_map forms_of l.made
+      ≡ typed_formulas l.initial.checker.scope l.initial.checker.before (expressions_of (take l.operand-index l.operands));
+}
+
+abbrev pub invariant-numbers-loop-element : goal.invariant-numbers-loop-element
+invariant-numbers-loop-element l = record {
+  state :
+      l.checker
+      ≡ passed l.initial.checker (inside_operands l.initial.checker.scope l.initial.checker.before number_wanted (expressions_of (take l.element-index l.elements)))
+      (after_all l.initial.checker.before (expressions_of (take l.element-index l.elements)));
+  value :
+      option_map terms_of l.made
+      ≡ typed_numbers l.initial.checker.scope l.initial.checker.before (expressions_of (take l.element-index l.elements));
+}
+
+abbrev pub invariant-right_sides-loop-part : goal.invariant-right_sides-loop-part
+invariant-right_sides-loop-part l = record {
+  state :
+      passed l.checker (inside_parts l.checker.scope l.checker.before l.order (parts_of (drop l.part-index l.parts))) (after_parts l.checker.before (parts_of (drop l.part-index l.parts)))
+      ≡ passed l.initial.checker (inside_parts l.initial.checker.scope l.initial.checker.before l.order (parts_of l.parts)) (after_parts l.initial.checker.before (parts_of l.parts));
+  value :
+      both sides_behind (option_map (map binding_of) l.made) (typed_sides l.checker.scope l.x l.checker.before l.order (parts_of (drop l.part-index l.parts)))
+      ≡ typed_sides l.initial.checker.scope l.first l.initial.checker.before l.order (parts_of l.parts);
+}

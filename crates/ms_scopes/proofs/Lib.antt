@@ -1,0 +1,6 @@
+pub mod FreeVariables
+pub mod Lists
+pub mod Repeats
+pub mod States
+pub mod Sums
+pub mod Tables

@@ -1,0 +1,4 @@
+pub mod Declaration
+pub mod Read
+pub mod State
+pub mod Table
