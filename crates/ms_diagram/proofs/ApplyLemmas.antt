@@ -19,7 +19,7 @@ use Rattle.ms_diagram.specs.Growth.{OnNodes, IsFull, Builds}
 use Rattle.ms_diagram.specs.Store.{Contents, IsStore}
 use Rattle.ms_diagram.proofs.Building.{Grows-same, Builds-found}
 use Rattle.ms_diagram.specs.Numbering.{HasNoRepeats, IsMissing, IsLeafOf}
-use Rattle.ms_diagram.specs.Apply.{leaves_at, PairNumber, LacksPair, IsPaired, IsPairBranch}
+use Rattle.ms_diagram.specs.Apply.{leaves_at, HasLeaves, PairNumber, LacksPair, IsPaired, IsPairBranch}
 
 module _ (old new : List Node) (ordered : IsOrdered old) (ordered_new : IsOrdered new) (extends : Extends old new) (var : ℕ) (bit : Bool) (root : Ref)
     (valid : IsValid old root) (from : TestsFrom old var root) where
@@ -59,6 +59,10 @@ module _ (old new : List Node) (ordered : IsOrdered old) (ordered_new : IsOrdere
   -- a pair that is missing for the halves is missing for the whole
   pub LacksPair-part : LacksPair new pairs (half_of old var bit f) (half_of old var bit g) → LacksPair old pairs f g
   LacksPair-part lacks = (lacks.0, (with_bit lacks.1.0 var bit, subst (λ pair. IsMissing pairs pair) (halves_leaves lacks.1.0) lacks.1.1))
+
+  -- the halves have leaves that the whole has
+  pub HasLeaves-part : (pair : ℕ × ℕ) → HasLeaves new (half_of old var bit f) (half_of old var bit g) pair → HasLeaves old f g pair
+  HasLeaves-part pair has = (with_bit has.0 var bit, sym (halves_leaves has.0) ∙ has.1)
 
 -- more pairs leave the numbers of the old ones
 pub PairNumber-more : (nodes : List Node) (pairs more : List (ℕ × ℕ)) → Extends pairs more → (f g : Ref) → Implies (PairNumber nodes pairs f g) (PairNumber nodes more f g)
@@ -140,6 +144,24 @@ module _ (nodes : List Node) (ordered : IsOrdered nodes) (f g : Ref) (var : ℕ)
     highs_lack lacks =
         LacksPair-part nodes new ordered ordered_new extends pairs var true f g valid_f valid_g branch.from_f branch.from_g
         (subst (λ (p : Ref × Ref). LacksPair new pairs p.0 p.1) branch.high_is lacks)
+
+    -- and the leaves that they have, the whole has
+    pub lows_leaves : (pair : ℕ × ℕ) → HasLeaves new low.0 low.1 pair → HasLeaves nodes f g pair
+    lows_leaves pair has =
+        HasLeaves-part nodes new ordered ordered_new extends pairs var false f g valid_f valid_g branch.from_f branch.from_g pair
+        (subst (λ (p : Ref × Ref). HasLeaves new p.0 p.1 pair) branch.low_is has)
+
+    pub highs_leaves : (pair : ℕ × ℕ) → HasLeaves new high.0 high.1 pair → HasLeaves nodes f g pair
+    highs_leaves pair has =
+        HasLeaves-part nodes new ordered ordered_new extends pairs var true f g valid_f valid_g branch.from_f branch.from_g pair
+        (subst (λ (p : Ref × Ref). HasLeaves new p.0 p.1 pair) branch.high_is has)
+
+-- two leaves have their pair
+pub HasLeaves-leaf : (nodes : List Node) (left right : ℕ) (f g : Ref) → f ≡ Leaf left → g ≡ Leaf right → HasLeaves nodes f g (left, right)
+HasLeaves-leaf nodes left right f g left_is right_is =
+    let first = ap (λ (r : Ref). leaf_of nodes r (λ _. false)) left_is ∙ leaf_of-leaf nodes (λ _. false) left in
+    let second = ap (λ (r : Ref). leaf_of nodes r (λ _. false)) right_is ∙ leaf_of-leaf nodes (λ _. false) right in
+    ((λ _. false), λ i. (first i, second i))
 
 -- two leaves have the number of their pair at all bits
 pub Builds-leaf : (store : Contents) (pairs : List (ℕ × ℕ)) (left right : ℕ) (f g : Ref) (result : Result Ref StepFault) → IsStore store.nodes store.limit

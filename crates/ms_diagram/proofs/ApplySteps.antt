@@ -2,16 +2,18 @@
 use Rattle.std.proofs.Common.{ℕ, true, false, List, Result, Ok, Err}
 use Rattle.ms_edge.specs.declared.fault.StepFault.{StepFault}
 use Rattle.ms_arena.specs.declared.node.Ref.{Ref}
-use Rattle.ms_arena.specs.Diagram.{IsValid, TestsAbove}
+use Rattle.ms_arena.specs.declared.node.Node.{Node}
+use Rattle.ms_arena.specs.Diagram.{IsOrdered, IsValid, TestsAbove}
 use Rattle.ms_arena.specs.Target.{Extends}
 use Rattle.ms_arena.proofs.Appending.{Extends-same}
 use Rattle.ms_arena.proofs.Needs.{IsPart}
-use Rattle.ms_diagram.specs.Apply.{PairNumber, LacksPair, IsPairBranch}
+use Rattle.ms_diagram.specs.Apply.{HasLeaves, PairNumber, LacksPair, IsPairBranch}
 use Rattle.ms_diagram.specs.Growth.{Builds}
-use Rattle.ms_diagram.specs.Numbering.{IsNumbering}
+use Rattle.ms_diagram.specs.Numbering.{AddsOnly, IsNumbering}
 use Rattle.ms_diagram.specs.Store.{Contents, IsStore}
 use Rattle.ms_diagram.proofs.Building.{Makes, Builds-part, Builds-high_refused, TestsAbove-low_built, TestsAbove-high_built, Builds-node}
-use Rattle.ms_diagram.proofs.ApplyLemmas.{PairNumber-more, lows_part, highs_part, lows_lack, highs_lack}
+use Rattle.ms_diagram.proofs.ApplyLemmas.{PairNumber-more, lows_part, highs_part, lows_lack, highs_lack, lows_leaves, highs_leaves}
+use Rattle.ms_diagram.proofs.NumberingLemmas.{AddsOnly-implies, AddsOnly-then}
 
 module _ (zero : Contents) (store : IsStore zero.nodes zero.limit) (f g : Ref) (valid_f : IsValid zero.nodes f) (valid_g : IsValid zero.nodes g)
     (var : ℕ) (low high : Ref × Ref) (branch : IsPairBranch zero.nodes f g var low high) (one : Contents) (early : List (ℕ × ℕ)) (numbering : IsNumbering early) where
@@ -64,3 +66,16 @@ module _ (zero : Contents) (store : IsStore zero.nodes zero.limit) (f g : Ref) (
           (LacksPair zero.nodes late f g) (LacksPair zero.nodes early low.0 low.1) (LacksPair one.nodes late high.0 high.1) var low_end high_end store
           (PairNumber-more zero.nodes early late more f g) (PairNumber-more zero.nodes early late more low.0 low.1)
           (low_is early numbering) (low_is late numbering_late) high_is builds_low builds_high
+
+-- the pairs that the halves add are pairs of leaves of the whole
+module _ (nodes : List Node) (ordered : IsOrdered nodes) (f g : Ref) (valid_f : IsValid nodes f) (valid_g : IsValid nodes g)
+    (var : ℕ) (low high : Ref × Ref) (branch : IsPairBranch nodes f g var low high) (before early : List (ℕ × ℕ)) where
+  pub added_low : AddsOnly (HasLeaves nodes low.0 low.1) before early → AddsOnly (HasLeaves nodes f g) before early
+  added_low = AddsOnly-implies (HasLeaves nodes low.0 low.1) (HasLeaves nodes f g) before early
+      (lows_leaves nodes ordered f g var low high valid_f valid_g branch nodes ordered (Extends-same nodes) early)
+
+  pub added_both : (later : List Node) → IsOrdered later → Extends nodes later → (late : List (ℕ × ℕ)) → Extends early late
+      → AddsOnly (HasLeaves nodes low.0 low.1) before early → AddsOnly (HasLeaves later high.0 high.1) early late → AddsOnly (HasLeaves nodes f g) before late
+  added_both later ordered_later extends late = AddsOnly-then (HasLeaves nodes low.0 low.1) (HasLeaves later high.0 high.1) (HasLeaves nodes f g) before early late
+      (lows_leaves nodes ordered f g var low high valid_f valid_g branch nodes ordered (Extends-same nodes) early)
+      (highs_leaves nodes ordered f g var low high valid_f valid_g branch later ordered_later extends late)

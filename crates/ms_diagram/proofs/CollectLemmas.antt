@@ -14,7 +14,7 @@ use Rattle.ms_arena.proofs.BitsLemmas.{with_bit-swap, with_bit-twice, AgreeAbove
 use Rattle.ms_arena.proofs.HalvesLemmas.{leaf_of-half}
 use Rattle.ms_arena.proofs.Needs.{Implies, IsPart}
 use Rattle.ms_arena.proofs.Paths.{leaf_of-leaf}
-use Rattle.ms_diagram.specs.Collect.{IsLeafThere, IsRisingSet, SetNumber, LacksSet, IsCollected, AreHalves, AreBothHalves, IsSetOf, IsSetLeaf, IsSetMissing, leaf_values}
+use Rattle.ms_diagram.specs.Collect.{IsLeafThere, IsRisingSet, HasLeafSet, SetNumber, LacksSet, IsCollected, AreHalves, AreBothHalves, IsSetOf, IsSetLeaf, IsSetMissing, leaf_values}
 use Rattle.ms_diagram.specs.Growth.{OnNodes, IsFull, Builds}
 use Rattle.ms_diagram.specs.Numbering.{HasNoRepeats}
 use Rattle.ms_diagram.specs.Store.{Contents, IsStore}
@@ -97,6 +97,13 @@ module _ (old new : List Node) (ordered : IsOrdered old) (ordered_new : IsOrdere
     ),
   )
 
+  -- they have sets of leaves that the whole has
+  pub HasLeafSet-part : (set : List ℕ) → HasLeafSet new halves track set → HasLeafSet old roots track set
+  HasLeafSet-part set has = (
+    with_bit has.0 var bit,
+    IsRisingSet-same set (IsLeafThere new halves track has.0) (IsLeafThere old roots track (with_bit has.0 var bit)) (to_whole has.0) (to_part has.0) has.1,
+  )
+
 module _ (nodes : List Node) (ordered : IsOrdered nodes) (sets : List (List ℕ)) (track : ℕ) (roots halves : List Ref) (valid : All (IsValid nodes) roots)
     (from : (root : Ref) → Contains roots root → TestsFrom nodes track root) (are : AreBothHalves nodes track roots halves) where
   -- a half at the track does not read the track
@@ -127,6 +134,10 @@ module _ (nodes : List Node) (ordered : IsOrdered nodes) (sets : List (List ℕ)
           (IsRisingSet-same set (IsLeafThere nodes roots track lacks.1.0) (IsLeafThere nodes halves track lacks.1.0) (to_both lacks.1.0) (from_both lacks.1.0) is),
     ),
   )
+
+  -- and its sets of leaves
+  pub HasLeafSet-both : (set : List ℕ) → HasLeafSet nodes halves track set → HasLeafSet nodes roots track set
+  HasLeafSet-both set has = (has.0, IsRisingSet-same set (IsLeafThere nodes halves track has.0) (IsLeafThere nodes roots track has.0) (from_both has.0) (to_both has.0) has.1)
 
 -- more sets leave the numbers of the old ones
 pub SetNumber-more : (nodes : List Node) (sets more : List (List ℕ)) → Extends sets more → (roots : List Ref) (track : ℕ) → Implies (SetNumber nodes sets roots track) (SetNumber nodes more roots track)
@@ -184,6 +195,9 @@ module _ (store : Contents) (is : IsStore store.nodes store.limit) (sets : List 
       leaf_is : (root : Ref) (item : ℕ) → IsLeaf root → (at : Bits) → leaf_of store.nodes root at ≡ item → root ≡ Leaf item
       leaf_is (Leaf value) item leaf at same = ap Leaf (sym (leaf_of-leaf store.nodes at value) ∙ same)
       leaf_is (Inner place) item leaf at same = absurd leaf
+
+  pub HasLeafSet-leaves : (set : List ℕ) → IsSetOf (leaf_values roots) set → HasLeafSet store.nodes roots track set
+  HasLeafSet-leaves set set_is = ((λ _. false), leaf_members (λ _. false) set set_is)
 
   pub Builds-set_leaf : (result : Result Ref StepFault) → IfOk result (IsSetLeaf sets (leaf_values roots))
       → OnNodes result (λ limit. (limit ≡ store.limit) × IsSetMissing sets (leaf_values roots))

@@ -10,11 +10,13 @@ use Rattle.ms_arena.specs.Target.{Extends}
 use Rattle.ms_arena.proofs.Appending.{Extends-same, IsValid-extends, TestsAbove-extends}
 use Rattle.ms_arena.proofs.HalvesLemmas.{IsValid-half, TestsAbove-half, TestsFrom-level, level_of-above}
 use Rattle.ms_arena.proofs.Needs.{IsPart}
-use Rattle.ms_diagram.specs.Collect.{SetNumber, LacksSet, AreHalves, AreBothHalves, IsSetNumbering, least_level}
+use Rattle.ms_diagram.specs.Collect.{HasLeafSet, SetNumber, LacksSet, AreHalves, AreBothHalves, IsSetNumbering, least_level}
 use Rattle.ms_diagram.specs.Growth.{Builds}
+use Rattle.ms_diagram.specs.Numbering.{AddsOnly}
 use Rattle.ms_diagram.specs.Store.{Contents, IsStore}
 use Rattle.ms_diagram.proofs.Building.{Makes, Builds-part, Builds-implies, Builds-high_refused, TestsAbove-low_built, TestsAbove-high_built, Builds-node}
-use Rattle.ms_diagram.proofs.CollectLemmas.{All-member, SetNumber-part, SetNumber-more, SetNumber-both, LacksSet-part, LacksSet-both}
+use Rattle.ms_diagram.proofs.CollectLemmas.{All-member, SetNumber-part, SetNumber-more, SetNumber-both, LacksSet-part, LacksSet-both, HasLeafSet-part, HasLeafSet-both}
+use Rattle.ms_diagram.proofs.NumberingLemmas.{AddsOnly-implies, AddsOnly-then}
 use Rattle.ms_diagram.proofs.RootLemmas.{least_level-each, least_level-above}
 
 -- a level that is none of a leaf is a variable
@@ -65,8 +67,29 @@ module _ (zero : Contents) (store : IsStore zero.nodes zero.limit) (track : ℕ)
       (SetNumber-both zero.nodes store.ordered sets track roots both valid from are_both)
       (LacksSet-both zero.nodes store.ordered sets track roots both valid from are_both) result
 
+  -- and the sets of their leaves are sets of leaves of the roots
+  pub added_track : var ≡ track → (both : List Ref) → AreBothHalves zero.nodes var roots both → (before sets : List (List ℕ))
+      → AddsOnly (HasLeafSet zero.nodes both track) before sets → AddsOnly (HasLeafSet zero.nodes roots track) before sets
+  added_track same both are before sets =
+      let from = subst (λ v. (root : Ref) → Contains roots root → TestsFrom zero.nodes v root) same from_least in
+      let are_both = subst (λ v. AreBothHalves zero.nodes v roots both) same are in
+      AddsOnly-implies (HasLeafSet zero.nodes both track) (HasLeafSet zero.nodes roots track) before sets
+      (HasLeafSet-both zero.nodes store.ordered sets track roots both valid from are_both)
+
   module _ (apart : var ≢ track) (low high : List Ref) (low_are : AreHalves zero.nodes var false roots low) (high_are : AreHalves zero.nodes var true roots high)
       (one : Contents) (early : List (List ℕ)) (numbering : IsSetNumbering early) where
+    -- the sets that the halves add are sets of leaves of the roots
+    pub added_low_set : (before : List (List ℕ)) → AddsOnly (HasLeafSet zero.nodes low track) before early → AddsOnly (HasLeafSet zero.nodes roots track) before early
+    added_low_set before = AddsOnly-implies (HasLeafSet zero.nodes low track) (HasLeafSet zero.nodes roots track) before early
+        (HasLeafSet-part zero.nodes zero.nodes store.ordered store.ordered (Extends-same zero.nodes) early track var false roots low valid from_least low_are (λ same. apart (sym same)))
+
+    pub added_both_sets : (later : Contents) → IsStore later.nodes later.limit → Extends zero.nodes later.nodes → (before late : List (List ℕ)) → Extends early late
+        → AddsOnly (HasLeafSet zero.nodes low track) before early → AddsOnly (HasLeafSet later.nodes high track) early late → AddsOnly (HasLeafSet zero.nodes roots track) before late
+    added_both_sets later store_later extends before late =
+        AddsOnly-then (HasLeafSet zero.nodes low track) (HasLeafSet later.nodes high track) (HasLeafSet zero.nodes roots track) before early late
+        (HasLeafSet-part zero.nodes zero.nodes store.ordered store.ordered (Extends-same zero.nodes) early track var false roots low valid from_least low_are (λ same. apart (sym same)))
+        (HasLeafSet-part zero.nodes later.nodes store.ordered store_later.ordered extends late track var true roots high valid from_least high_are (λ same. apart (sym same)))
+
     low_is : (sets : List (List ℕ)) → IsSetNumbering sets → IsPart (SetNumber zero.nodes sets roots track) (SetNumber zero.nodes sets low track) var false
     low_is sets is = SetNumber-part zero.nodes zero.nodes store.ordered store.ordered (Extends-same zero.nodes) sets track var false roots low valid from_least low_are
         (λ same. apart (sym same)) is.numbering.no_repeats

@@ -14,6 +14,10 @@ use Rattle.ms_diagram.specs.Numbering.{IsMissing}
 abbrev pub leaves_at : List Node → Ref → Ref → Bits → ℕ × ℕ
 leaves_at nodes f g bits = (leaf_of nodes f bits, leaf_of nodes g bits)
 
+-- the leaves are this pair at some bits
+abbrev pub HasLeaves : List Node → Ref → Ref → ℕ × ℕ → Type 0
+HasLeaves nodes f g pair = (bits : Bits) × (leaves_at nodes f g bits ≡ pair)
+
 -- the number of the pair of the leaves
 abbrev pub PairNumber : List Node → List (ℕ × ℕ) → Ref → Ref → Target
 PairNumber nodes pairs f g = λ bits number. slice_get pairs number ≡ Some (leaves_at nodes f g bits)

@@ -21,6 +21,10 @@ pub record IsRisingSet (set : List ℕ) (IsMember : ℕ → Type 0) : Type 0 whe
   pub all : (item : ℕ) → IsMember item → Contains set item
   pub only : (item : ℕ) → Contains set item → IsMember item
 
+-- the leaves of the roots are this set at some bits
+abbrev pub HasLeafSet : List Node → List Ref → ℕ → List ℕ → Type 0
+HasLeafSet nodes roots track set = (bits : Bits) × IsRisingSet set (IsLeafThere nodes roots track bits)
+
 -- the number of the set of the leaves of the roots
 abbrev pub SetNumber : List Node → List (List ℕ) → List Ref → ℕ → Target
 SetNumber nodes sets roots track = λ bits number.

@@ -21,6 +21,10 @@ IsMissing items item = (place : ℕ) → slice_get items place ≢ Some item
 abbrev pub Numbers : {X : Type 0} → List X → List X → X → Type 0
 Numbers old new item = (new ≡ old) ⊎ (IsMissing old item × (new ≡ old ++ item ∷ []))
 
+-- the fact holds of each item behind the old ones
+abbrev pub AddsOnly : {X : Type 0} → (X → Type 0) → List X → List X → Type 0
+AddsOnly {X} fact old new = (number : ℕ) (item : X) → length old ≤ number → slice_get new number ≡ Some item → fact item
+
 -- the reference is the leaf with the number of an item
 abbrev pub IsLeafOf : {X : Type 0} → List X → X → Ref → Type 0
 IsLeafOf items item (Leaf number) = slice_get items number ≡ Some item

@@ -25,19 +25,20 @@ enum PairSplit {
 }
 
 impl Store {
-    ghost use Rattle.ms_diagram.specs.Apply.{IsPaired, IsPairSplit, LacksPair, PairNumber};
+    ghost use Rattle.ms_diagram.specs.Apply.{HasLeaves, IsPaired, IsPairSplit, LacksPair, PairNumber};
     ghost use Rattle.ms_diagram.specs.Growth.{Builds, OnNodes};
-    ghost use Rattle.ms_diagram.specs.Numbering.{IsLeafOf, IsMissing, IsNumbering};
+    ghost use Rattle.ms_diagram.specs.Numbering.{AddsOnly, IsLeafOf, IsMissing, IsNumbering};
     ghost use Rattle.ms_diagram.specs.Store.{IsStore};
     ghost use Rattle.ms_diagram.specs.Table.{EachEntry};
 
     /// The function that has at each bits the number of the pair of the leaves of `f` and `g`. A pair that is new
-    /// gets its number at first sight.
+    /// gets its number at first sight; no other gets one.
     pub fn apply(&mut self, f: Ref, g: Ref, pairs: &mut Pairs) -> Result<Ref, StepFault>
         requires valid_f { IsValid self.old.nodes f }
         requires valid_g { IsValid self.old.nodes g }
         ensures builds { Builds self.old self.new (PairNumber self.old.nodes pairs.new f g) (LacksPair self.old.nodes pairs.new f g) result }
         ensures pairs { Extends pairs.old pairs.new }
+        ensures added { AddsOnly (HasLeaves self.old.nodes f g) pairs.old pairs.new }
     {
         // The length tells that the pairs are a numbering.
         let _ = pairs.len();
@@ -60,6 +61,7 @@ impl Store {
         requires table { EachEntry (IsPaired self.old.nodes pairs.old) table.old.entries }
         ensures builds { Builds self.old self.new (PairNumber self.old.nodes pairs.new f g) (LacksPair self.old.nodes pairs.new f g) result }
         ensures pairs { Extends pairs.old pairs.new }
+        ensures added { AddsOnly (HasLeaves self.old.nodes f g) pairs.old pairs.new }
         ensures numbering { IsNumbering pairs.new }
         ensures table { EachEntry (IsPaired self.new.nodes pairs.new) table.new.entries }
     {
@@ -81,6 +83,7 @@ impl Store {
     fn pair_leaf(&self, left: u32, right: u32, pairs: &mut Pairs) -> Result<Ref, StepFault>
         ensures made { IfOk result (IsLeafOf pairs.new (left, right)) }
         ensures pairs { Extends pairs.old pairs.new }
+        ensures added { AddsOnly (λ pair. pair ≡ (left, right)) pairs.old pairs.new }
         ensures numbering { IsNumbering pairs.new }
         ensures nodes { OnNodes result (λ limit. (limit ≡ self.now.limit)
             × (length pairs.new ≡ 4294967295) × IsMissing pairs.new (left, right)) }

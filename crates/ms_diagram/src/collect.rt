@@ -15,17 +15,20 @@ use ms_edge::StepFault;
 type RootTable = IndexMap<Vec<Ref>, Ref>;
 
 impl Store {
-    ghost use Rattle.ms_diagram.specs.Collect.{IsCollected, IsSetLeaf, IsSetMissing, IsSetNumbering, LacksSet, SetNumber, leaf_values};
+    ghost use Rattle.ms_diagram.specs.Collect.{HasLeafSet, IsCollected, IsSetOf, IsSetLeaf, IsSetMissing, IsSetNumbering, LacksSet, SetNumber, leaf_values};
     ghost use Rattle.ms_diagram.specs.Growth.{Builds, OnNodes};
+    ghost use Rattle.ms_diagram.specs.Numbering.{AddsOnly};
     ghost use Rattle.ms_diagram.specs.Store.{IsStore};
     ghost use Rattle.ms_diagram.specs.Table.{EachEntry};
 
     /// The function that has at each bits the number of the set of the leaves that the roots have there, with the bit
-    /// of the track at 0 and at 1. A set that is new gets its number at first sight.
+    /// of the track at 0 and at 1. A set that is new gets its number at first sight; no other gets
+    /// one.
     pub fn collect(&mut self, roots: &[Ref], track: u32, sets: &mut Sets) -> Result<Ref, StepFault>
         requires { All (IsValid self.old.nodes) roots.now }
         ensures builds { Builds self.old self.new (SetNumber self.old.nodes sets.new roots.now track) (LacksSet self.old.nodes sets.new roots.now track) result }
         ensures sets { Extends sets.old sets.new }
+        ensures added { AddsOnly (HasLeafSet self.old.nodes roots.now track) sets.old sets.new }
     {
         // The length tells that the sets are a numbering.
         let _ = sets.len();
@@ -50,6 +53,7 @@ impl Store {
         requires table { EachEntry (λ key. IsCollected self.old.nodes sets.old track key.items) table.old.entries }
         ensures builds { Builds self.old self.new (SetNumber self.old.nodes sets.new roots.items track) (LacksSet self.old.nodes sets.new roots.items track) result }
         ensures sets { Extends sets.old sets.new }
+        ensures added { AddsOnly (HasLeafSet self.old.nodes roots.items track) sets.old sets.new }
         ensures numbering { IsSetNumbering sets.new }
         ensures table { EachEntry (λ key. IsCollected self.new.nodes sets.new track key.items) table.new.entries }
     {
@@ -85,6 +89,7 @@ impl Store {
     fn set_leaf(&self, roots: &[Ref], sets: &mut Sets) -> Result<Ref, StepFault>
         ensures made { IfOk result (IsSetLeaf sets.new (leaf_values roots.now)) }
         ensures sets { Extends sets.old sets.new }
+        ensures added { AddsOnly (IsSetOf (leaf_values roots.now)) sets.old sets.new }
         ensures numbering { IsSetNumbering sets.new }
         ensures nodes { OnNodes result (λ limit. (limit ≡ self.now.limit) × IsSetMissing sets.new (leaf_values roots.now)) }
     {

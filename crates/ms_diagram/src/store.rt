@@ -5,7 +5,7 @@ ghost use Rattle.ms_arena.specs.Target.{Appends, HoldsAt, IsFormed, IsNew};
 
 use indexmap::IndexSet;
 use ms_arena::{Node, Ref};
-use ms_edge::StepFault;
+use ms_edge::{NoMemory, StepFault};
 use std::alloc::Global;
 use std::marker::Model;
 
@@ -60,11 +60,25 @@ impl Store {
         self.nodes.len() as u64
     }
 
-    // How many nodes the store may hold.
-    pub(crate) fn limit(&self) -> u64
+    /// How many nodes the store may hold.
+    pub fn limit(&self) -> u64
         ensures { result ≡ self.now.limit }
     {
         self.limit
+    }
+
+    /// An equal store.
+    pub fn copy(&self) -> Result<Store, NoMemory>
+        ensures { IfOk result (λ made. made ≡ self.now) }
+    {
+        let Ok(nodes) = self.nodes.clone() else {
+            return Err(NoMemory);
+        };
+        Ok(Store {
+            alloc: self.alloc,
+            nodes,
+            limit: self.limit,
+        })
     }
 
     /// The node at a place.

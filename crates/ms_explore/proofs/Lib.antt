@@ -1,3 +1,4 @@
+pub mod AmongLemmas
 pub mod ExploredLemmas
 pub mod RunLemmas
 pub mod SmallLemmas

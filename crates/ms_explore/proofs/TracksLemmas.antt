@@ -23,7 +23,7 @@ above-lower low name [] less above = tt
 above-lower low name (v ∷ vs) less above = (omega (arith, less, above.0), above-lower low name vs less above.1)
 
 -- in a rising list all are above the first
-above-first : (v : Variable) (vs : List Variable) → AreRising (v ∷ vs) → AreAbove v.name vs
+pub above-first : (v : Variable) (vs : List Variable) → AreRising (v ∷ vs) → AreAbove v.name vs
 above-first v [] rising = tt
 above-first v (w ∷ vs) rising =
     let less : v.name < w.name = rising.0 in (less, above-lower v.name w.name vs (omega (arith, less)) (above-first w vs rising.1))
@@ -115,11 +115,11 @@ joined-rising (v ∷ vs) right rising_l rising_r =
       joined-rising vs rest rising_l.1 (without-rising v.name (from v.name right) (from-rising v.name right rising_r)),
     )
 
-among-left : (xs ys : List Variable) (w : Variable) → IsAmong xs w → IsAmong (xs ++ ys) w
+pub among-left : (xs ys : List Variable) (w : Variable) → IsAmong xs w → IsAmong (xs ++ ys) w
 among-left [] ys w among = absurd among
 among-left (x ∷ xs) ys w among = ⊎_elim inl (λ there. inr (among-left xs ys w there)) among
 
-among-right : (xs ys : List Variable) (w : Variable) → IsAmong ys w → IsAmong (xs ++ ys) w
+pub among-right : (xs ys : List Variable) (w : Variable) → IsAmong ys w → IsAmong (xs ++ ys) w
 among-right [] ys w among = among
 among-right (x ∷ xs) ys w among = inr (among-right xs ys w among)
 
@@ -186,7 +186,7 @@ place_of-among (first ∷ vs) v rising among = by_test (nat_eq first.name v.name
     by_test false is rest (inr there) = rest there
 
 -- a variable of a rising list is above the first, or is the first
-among-above : (first : Variable) (vs : List Variable) (v : Variable) → AreAbove first.name vs → IsAmong vs v → first.name < v.name
+pub among-above : (first : Variable) (vs : List Variable) (v : Variable) → AreAbove first.name vs → IsAmong vs v → first.name < v.name
 among-above first [] v above among = absurd among
 among-above first (u ∷ vs) v above among =
     ⊎_elim (λ same. let equal : u.name ≡ v.name = ap (λ (w : Variable). w.name) same in omega (arith, above.0, equal)) (λ there. among-above first vs v above.1 there) among

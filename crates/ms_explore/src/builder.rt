@@ -140,7 +140,7 @@ pub fn build<M: SmallMachine + Drop>(
     let mut store = Store::new(alloc, limit);
     let mut states = List::new(alloc);
     let mut known = Known { machine, reads };
-    let start = match explore(&mut known, &mut store, limit, &mut states) {
+    let start = match explore(&mut known, &mut store, &mut states) {
         Ok(start) => start,
         Err(fault) => return Err(fault),
     };

@@ -31,16 +31,14 @@ pub(crate) fn add_state(
 }
 
 /// The states that a machine reaches, in the order of their numbers, and the reference from which truth values lead to
-/// them. Nodes and states are together at most `limit`, which is the store's own. What is added to the store is needed for
+/// them. Nodes and states are together at most the limit of the store. What is added to the store is needed for
 /// the start or for a state, also where the work is given up.
 pub fn explore<M: Machine>(
     machine: &mut M,
     store: &mut Store,
-    limit: u64,
     states: &mut List<State>,
 ) -> Result<Ref, StepFault>
     requires empty { states.old ≡ [] }
-    requires limit { limit ≡ store.old.limit }
     requires ready { M.IsReady machine.old store.old.nodes }
     ensures later { M.IsLater machine.old machine.new }
     ensures explored { Explores store.old store.new (M.findings machine.new) states.new result }
@@ -56,7 +54,7 @@ pub fn explore<M: Machine>(
         };
         let sign = machine.sign(state);
         let nodes = store.len();
-        match add_state(nodes, limit, states, State { sign, next }) {
+        match add_state(nodes, store.limit(), states, State { sign, next }) {
             Ok(()) => state += 1,
             Err(fault) => return Err(fault),
         }

@@ -49,8 +49,8 @@ returns-in-Err-add_state-clause-explored g c =
     let most = one_more c.args.store.now.nodes c.loop-state.store.nodes c.next.new.store.nodes c.loop-state.state late.count late.most_nodes found few c.in-Ok.ensures.few in
     Explores-refused c.args.store.now c.next.new.store late c.add_state.new.states c.in-Err-add_state.fault
     (GrowsForSome-then early late more c.args.store.now c.loop-state.store c.next.new.store (Some c.loop-state.state) was.grows found grows) most.1
-    (too_many_by c.args.store.now c.next.new.store late c.len-nodes.result c.args.limit (length c.loop-state.states) c.in-Err-add_state.fault
-    c.len-nodes.ensures.len c.requires.limit (grows.limit ∙ was.grows.limit) (omega (arith, found, was.count)) c.in-Err-add_state.ensures.full)
+    (too_many_by c.args.store.now c.next.new.store late c.len-nodes.result c.limit.result (length c.loop-state.states) c.in-Err-add_state.fault
+    c.len-nodes.ensures.len (c.limit.ensures ∙ grows.limit ∙ was.grows.limit) (grows.limit ∙ was.grows.limit) (omega (arith, found, was.count)) c.in-Err-add_state.ensures.full)
 
 pub loop-state-preserved : goal.loop-state-preserved
 loop-state-preserved g c =
@@ -80,7 +80,7 @@ loop-state-preserved g c =
             (omega (arith, here, was.count)) was.follows
             (subst (λ n. Leads c.next.new.store.nodes (late.steps n) c.in-Ok.next) (sym was.count) leads)
             (subst (λ n. c.sign-sign.result ≡ late.sign_of n) (sym was.count) c.sign-sign.ensures));
-        limited = omega (arith, c.in-Ok-add_state.ensures.within, c.len-nodes.ensures.len, c.requires.limit, builds.grows.limit, was.grows.limit);
+        limited = omega (arith, c.in-Ok-add_state.ensures.within, c.len-nodes.ensures.len, c.limit.ensures, builds.grows.limit, was.grows.limit);
         few = most.0;
       },
     )

@@ -1,16 +1,17 @@
-use Rattle.std.proofs.Common.{Ok, Err, sym, ap, ◌∙◌, arith}
+use Rattle.std.proofs.Common.{ℕ, ◌≡◌, Ok, Err, sym, subst, ap, ◌∙◌, arith}
 use Rattle.std.specs.Option.{option_copied}
 use Rattle.std.proofs.lemmas.Result.{err_from_is_err_and}
 use Rattle.ms_arena.specs.contracts.node.RefPartialEq.TheImpl as of_ref
 use Rattle.ms_arena.specs.declared.node.Node.{Node}
 use Rattle.ms_arena.proofs.Equality.{same_ref}
 use Rattle.ms_arena.proofs.Appending.{Extends-same, Extends-from_appends, IsValid-extends}
-use Rattle.ms_diagram.specs.Apply.{PairNumber, LacksPair, IsPaired}
+use Rattle.ms_diagram.specs.Apply.{HasLeaves, PairNumber, LacksPair, IsPaired}
 use Rattle.ms_diagram.proofs.PairLemmas.{pair_eq, same_pair}
 use Rattle.ms_diagram.proofs.TableLemmas.{EachEntry-found, EachEntry-weaker, EachEntry-remembered}
 use Rattle.ms_diagram.proofs.Building.{Builds-found, Builds-handed}
-use Rattle.ms_diagram.proofs.ApplyLemmas.{valid_lows, valid_highs, smaller_lows, smaller_highs, IsPaired-grows, IsPaired-built, Builds-leaf}
-use Rattle.ms_diagram.proofs.ApplySteps.{low_refused, high_refused, above_low, above_high, node_built}
+use Rattle.ms_diagram.proofs.NumberingLemmas.{AddsOnly-same, AddsOnly-implies}
+use Rattle.ms_diagram.proofs.ApplyLemmas.{HasLeaves-leaf, valid_lows, valid_highs, smaller_lows, smaller_highs, IsPaired-grows, IsPaired-built, Builds-leaf}
+use Rattle.ms_diagram.proofs.ApplySteps.{added_low, added_both, low_refused, high_refused, above_low, above_high, node_built}
 use Rattle.ms_diagram.proofs.store.Store.+apply_at.Goals as goal
 
 pub returns-in-Some-clause-builds : goal.returns-in-Some-clause-builds
@@ -130,3 +131,41 @@ returns-in_ok-made-in-Branch-clause-table t c =
     (IsPaired-grows two.nodes three.nodes c.in_ok-high_end-in-Branch.ensures.builds.grows.store.ordered (Extends-from_appends two.nodes three.nodes node makes.appends)
     pairs pairs (Extends-same pairs))
     c.apply_at-in-Branch.new.table.entries c.apply_at-in-Branch.ensures.table)
+
+pub returns-in-Some-clause-added : goal.returns-in-Some-clause-added
+returns-in-Some-clause-added t c =
+    AddsOnly-same (HasLeaves c.args.self.now.nodes c.args.f c.args.g) c.args.pairs.now
+
+pub returns-in_err-low_end-in-Branch-clause-added : goal.returns-in_err-low_end-in-Branch-clause-added
+returns-in_err-low_end-in-Branch-clause-added t c =
+    added_low c.args.self.now.nodes c.requires.store.ordered c.args.f c.args.g c.requires.valid_f c.requires.valid_g c.in-Branch.var c.in-Branch.low c.in-Branch.high c.in-Branch.ensures
+    c.args.pairs.now c.apply_at.new.pairs c.apply_at.ensures.added
+
+pub returns-in_err-high_end-in-Branch-clause-added : goal.returns-in_err-high_end-in-Branch-clause-added
+returns-in_err-high_end-in-Branch-clause-added t c =
+    let grows = c.in_ok-low_end-in-Branch.ensures.builds.grows in
+    added_both c.args.self.now.nodes c.requires.store.ordered c.args.f c.args.g c.requires.valid_f c.requires.valid_g c.in-Branch.var c.in-Branch.low c.in-Branch.high c.in-Branch.ensures
+    c.args.pairs.now c.apply_at.new.pairs c.apply_at.new.self.nodes grows.store.ordered grows.extends
+    c.apply_at-in-Branch.new.pairs c.apply_at-in-Branch.ensures.pairs c.apply_at.ensures.added c.apply_at-in-Branch.ensures.added
+
+pub returns-in_err-made-in-Branch-clause-added : goal.returns-in_err-made-in-Branch-clause-added
+returns-in_err-made-in-Branch-clause-added t c =
+    let grows = c.in_ok-low_end-in-Branch.ensures.builds.grows in
+    added_both c.args.self.now.nodes c.requires.store.ordered c.args.f c.args.g c.requires.valid_f c.requires.valid_g c.in-Branch.var c.in-Branch.low c.in-Branch.high c.in-Branch.ensures
+    c.args.pairs.now c.apply_at.new.pairs c.apply_at.new.self.nodes grows.store.ordered grows.extends
+    c.apply_at-in-Branch.new.pairs c.apply_at-in-Branch.ensures.pairs c.apply_at.ensures.added c.apply_at-in-Branch.ensures.added
+
+pub returns-in_ok-made-in-Branch-clause-added : goal.returns-in_ok-made-in-Branch-clause-added
+returns-in_ok-made-in-Branch-clause-added t c =
+    let grows = c.in_ok-low_end-in-Branch.ensures.builds.grows in
+    added_both c.args.self.now.nodes c.requires.store.ordered c.args.f c.args.g c.requires.valid_f c.requires.valid_g c.in-Branch.var c.in-Branch.low c.in-Branch.high c.in-Branch.ensures
+    c.args.pairs.now c.apply_at.new.pairs c.apply_at.new.self.nodes grows.store.ordered grows.extends
+    c.apply_at-in-Branch.new.pairs c.apply_at-in-Branch.ensures.pairs c.apply_at.ensures.added c.apply_at-in-Branch.ensures.added
+
+pub returns-in-Leaves-clause-added : goal.returns-in-Leaves-clause-added
+returns-in-Leaves-clause-added t c =
+    let nodes = c.args.self.now.nodes in
+    let pair : ℕ × ℕ = (c.in-Leaves.left, c.in-Leaves.right) in
+    AddsOnly-implies (λ other. other ≡ pair) (HasLeaves nodes c.args.f c.args.g) c.args.pairs.now c.pair_leaf.new.pairs
+    (λ other same. subst (HasLeaves nodes c.args.f c.args.g) (sym same)
+    (HasLeaves-leaf nodes c.in-Leaves.left c.in-Leaves.right c.args.f c.args.g c.in-Leaves.ensures.0 c.in-Leaves.ensures.1)) c.pair_leaf.ensures.added

@@ -7,13 +7,15 @@ use Rattle.ms_arena.specs.contracts.node.RefPartialEq.TheImpl as of_ref
 use Rattle.ms_arena.specs.Halves.{IsLeaf}
 use Rattle.ms_arena.proofs.Equality.{same_ref}
 use Rattle.ms_arena.proofs.Appending.{Extends-same, Extends-from_appends}
-use Rattle.ms_diagram.specs.Collect.{SetNumber, LacksSet, IsCollected, AreHalves, AreBothHalves, IsSetLeaf, IsSetMissing, least_level, leaf_values}
+use Rattle.ms_diagram.specs.Collect.{HasLeafSet, IsSetOf, SetNumber, LacksSet, IsCollected, AreHalves, AreBothHalves, IsSetLeaf, IsSetMissing, least_level, leaf_values}
 use Rattle.ms_diagram.specs.Growth.{OnNodes}
+use Rattle.ms_diagram.specs.Numbering.{AddsOnly}
 use Rattle.ms_diagram.proofs.ListLemmas.{same_list}
 use Rattle.ms_diagram.proofs.TableLemmas.{EachEntry-passed, EachEntry-weaker, EachEntry-tried}
 use Rattle.ms_diagram.proofs.Building.{Builds-found, Builds-handed, Builds-memory}
-use Rattle.ms_diagram.proofs.CollectLemmas.{IsCollected-grows, IsCollected-built, Builds-set_leaf}
-use Rattle.ms_diagram.proofs.CollectSteps.{below_leaves, halves_valid, halves_smaller, Builds-track, low_set_refused, high_set_refused, above_low_set, above_high_set, set_node_built}
+use Rattle.ms_diagram.proofs.NumberingLemmas.{AddsOnly-same, AddsOnly-implies}
+use Rattle.ms_diagram.proofs.CollectLemmas.{HasLeafSet-leaves, IsCollected-grows, IsCollected-built, Builds-set_leaf}
+use Rattle.ms_diagram.proofs.CollectSteps.{added_low_set, added_both_sets, added_track, below_leaves, halves_valid, halves_smaller, Builds-track, low_set_refused, high_set_refused, above_low_set, above_high_set, set_node_built}
 use Rattle.ms_diagram.proofs.store.Store.+collect_at.Goals as goal
 
 pub returns-then-level-eq-LEAF_LEVEL-clause-builds : goal.returns-then-level-eq-LEAF_LEVEL-clause-builds
@@ -181,3 +183,71 @@ returns-clause-table t c =
     (λ key made. IsCollected-grows c.collect_at-3.new.self.nodes c.mk.new.self.nodes c.in_ok-high_end.ensures.builds.grows.store.ordered (Extends-from_appends c.collect_at-3.new.self.nodes c.mk.new.self.nodes node makes.appends)
     c.collect_at-3.new.sets c.collect_at-3.new.sets (Extends-same c.collect_at-3.new.sets) c.args.track key.items made)
     c.collect_at-3.new.table.entries c.collect_at-3.ensures.table)
+
+pub returns-in-Some-clause-added : goal.returns-in-Some-clause-added
+returns-in-Some-clause-added t c =
+    AddsOnly-same (HasLeafSet c.args.self.now.nodes c.args.roots.items c.args.track) c.args.sets.now
+
+pub returns-in_default-both_halves-clause-added : goal.returns-in_default-both_halves-clause-added
+returns-in_default-both_halves-clause-added t c =
+    AddsOnly-same (HasLeafSet c.args.self.now.nodes c.args.roots.items c.args.track) c.args.sets.now
+
+pub returns-in_default-half_set-clause-added : goal.returns-in_default-half_set-clause-added
+returns-in_default-half_set-clause-added t c =
+    AddsOnly-same (HasLeafSet c.args.self.now.nodes c.args.roots.items c.args.track) c.args.sets.now
+
+pub returns-in_default-half_set-2-clause-added : goal.returns-in_default-half_set-2-clause-added
+returns-in_default-half_set-2-clause-added t c =
+    AddsOnly-same (HasLeafSet c.args.self.now.nodes c.args.roots.items c.args.track) c.args.sets.now
+
+pub returns-then-level-eq-LEAF_LEVEL-clause-added : goal.returns-then-level-eq-LEAF_LEVEL-clause-added
+returns-then-level-eq-LEAF_LEVEL-clause-added t c =
+    let roots = c.args.roots.items in
+    AddsOnly-implies (IsSetOf (leaf_values roots)) (HasLeafSet c.args.self.now.nodes roots c.args.track) c.args.sets.now c.set_leaf.new.sets
+    (HasLeafSet-leaves c.args.self.now c.requires.store c.set_leaf.new.sets c.args.track roots
+    (subst (λ l. All IsLeaf l) c.as_slice-list.ensures.value (c.least_level-level.ensures.leaves c.if-level-eq-LEAF_LEVEL.true)))
+    (subst (λ l. AddsOnly (IsSetOf (leaf_values l)) c.args.sets.now c.set_leaf.new.sets) c.as_slice-list.ensures.value c.set_leaf.ensures.added)
+
+pub returns-then-var-track-clause-added : goal.returns-then-var-track-clause-added
+returns-then-var-track-clause-added t c =
+    let small : c.least_level-level.result < 4294967296 = below_leaves c.least_level-level.result c.least_level-level.ensures.most c.if-level-eq-LEAF_LEVEL.false in
+    let are = subst (λ l. AreBothHalves c.args.self.now.nodes c.least_level-level.result l c.in-Ok.both.items) c.as_slice-list.ensures.value c.in-Ok.ensures in
+    added_track c.args.self.now c.requires.store c.args.track c.args.roots.items c.requires.valid c.least_level-level.result (c.least_level-level.ensures.level ∙ ap (least_level c.args.self.now.nodes) c.as_slice-list.ensures.value) small c.if-var-track.true c.in-Ok.both.items are c.args.sets.now c.collect_at.new.sets c.collect_at.ensures.added
+
+pub returns-in_err-low_end-clause-added : goal.returns-in_err-low_end-clause-added
+returns-in_err-low_end-clause-added t c =
+    let small : c.least_level-level.result < 4294967296 = below_leaves c.least_level-level.result c.least_level-level.ensures.most c.if-level-eq-LEAF_LEVEL.false in
+    added_low_set c.args.self.now c.requires.store c.args.track c.args.roots.items c.requires.valid c.least_level-level.result (c.least_level-level.ensures.level ∙ ap (least_level c.args.self.now.nodes) c.as_slice-list.ensures.value) small c.if-var-track.false c.in-Ok-half_set.low.items c.in-Ok-half_set-2.high.items
+    (subst (λ l. AreHalves c.args.self.now.nodes c.least_level-level.result false l c.in-Ok-half_set.low.items) c.as_slice-list.ensures.value c.in-Ok-half_set.ensures)
+    (subst (λ l. AreHalves c.args.self.now.nodes c.least_level-level.result true l c.in-Ok-half_set-2.high.items) c.as_slice-list.ensures.value c.in-Ok-half_set-2.ensures)
+    c.collect_at-2.new.self c.collect_at-2.new.sets c.collect_at-2.ensures.numbering c.args.sets.now c.collect_at-2.ensures.added
+
+pub returns-in_err-high_end-clause-added : goal.returns-in_err-high_end-clause-added
+returns-in_err-high_end-clause-added t c =
+    let small : c.least_level-level.result < 4294967296 = below_leaves c.least_level-level.result c.least_level-level.ensures.most c.if-level-eq-LEAF_LEVEL.false in
+    let grows = c.in_ok-low_end.ensures.builds.grows in
+    added_both_sets c.args.self.now c.requires.store c.args.track c.args.roots.items c.requires.valid c.least_level-level.result (c.least_level-level.ensures.level ∙ ap (least_level c.args.self.now.nodes) c.as_slice-list.ensures.value) small c.if-var-track.false c.in-Ok-half_set.low.items c.in-Ok-half_set-2.high.items
+    (subst (λ l. AreHalves c.args.self.now.nodes c.least_level-level.result false l c.in-Ok-half_set.low.items) c.as_slice-list.ensures.value c.in-Ok-half_set.ensures)
+    (subst (λ l. AreHalves c.args.self.now.nodes c.least_level-level.result true l c.in-Ok-half_set-2.high.items) c.as_slice-list.ensures.value c.in-Ok-half_set-2.ensures)
+    c.collect_at-2.new.self c.collect_at-2.new.sets c.collect_at-2.ensures.numbering c.collect_at-2.new.self grows.store grows.extends
+    c.args.sets.now c.collect_at-3.new.sets c.collect_at-3.ensures.sets c.collect_at-2.ensures.added c.collect_at-3.ensures.added
+
+pub returns-in_err-made-clause-added : goal.returns-in_err-made-clause-added
+returns-in_err-made-clause-added t c =
+    let small : c.least_level-level.result < 4294967296 = below_leaves c.least_level-level.result c.least_level-level.ensures.most c.if-level-eq-LEAF_LEVEL.false in
+    let grows = c.in_ok-low_end.ensures.builds.grows in
+    added_both_sets c.args.self.now c.requires.store c.args.track c.args.roots.items c.requires.valid c.least_level-level.result (c.least_level-level.ensures.level ∙ ap (least_level c.args.self.now.nodes) c.as_slice-list.ensures.value) small c.if-var-track.false c.in-Ok-half_set.low.items c.in-Ok-half_set-2.high.items
+    (subst (λ l. AreHalves c.args.self.now.nodes c.least_level-level.result false l c.in-Ok-half_set.low.items) c.as_slice-list.ensures.value c.in-Ok-half_set.ensures)
+    (subst (λ l. AreHalves c.args.self.now.nodes c.least_level-level.result true l c.in-Ok-half_set-2.high.items) c.as_slice-list.ensures.value c.in-Ok-half_set-2.ensures)
+    c.collect_at-2.new.self c.collect_at-2.new.sets c.collect_at-2.ensures.numbering c.collect_at-2.new.self grows.store grows.extends
+    c.args.sets.now c.collect_at-3.new.sets c.collect_at-3.ensures.sets c.collect_at-2.ensures.added c.collect_at-3.ensures.added
+
+pub returns-clause-added : goal.returns-clause-added
+returns-clause-added t c =
+    let small : c.least_level-level.result < 4294967296 = below_leaves c.least_level-level.result c.least_level-level.ensures.most c.if-level-eq-LEAF_LEVEL.false in
+    let grows = c.in_ok-low_end.ensures.builds.grows in
+    added_both_sets c.args.self.now c.requires.store c.args.track c.args.roots.items c.requires.valid c.least_level-level.result (c.least_level-level.ensures.level ∙ ap (least_level c.args.self.now.nodes) c.as_slice-list.ensures.value) small c.if-var-track.false c.in-Ok-half_set.low.items c.in-Ok-half_set-2.high.items
+    (subst (λ l. AreHalves c.args.self.now.nodes c.least_level-level.result false l c.in-Ok-half_set.low.items) c.as_slice-list.ensures.value c.in-Ok-half_set.ensures)
+    (subst (λ l. AreHalves c.args.self.now.nodes c.least_level-level.result true l c.in-Ok-half_set-2.high.items) c.as_slice-list.ensures.value c.in-Ok-half_set-2.ensures)
+    c.collect_at-2.new.self c.collect_at-2.new.sets c.collect_at-2.ensures.numbering c.collect_at-2.new.self grows.store grows.extends
+    c.args.sets.now c.collect_at-3.new.sets c.collect_at-3.ensures.sets c.collect_at-2.ensures.added c.collect_at-3.ensures.added

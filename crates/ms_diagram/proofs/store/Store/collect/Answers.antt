@@ -1,8 +1,10 @@
 use Rattle.std.proofs.Common.{subst}
-use Rattle.ms_diagram.specs.Collect.{SetNumber, LacksSet}
+use Rattle.ms_diagram.specs.Collect.{HasLeafSet, SetNumber, LacksSet}
 use Rattle.ms_diagram.specs.Growth.{Builds}
+use Rattle.ms_diagram.specs.Numbering.{AddsOnly}
 use Rattle.ms_diagram.specs.Store.{IsStore}
 use Rattle.ms_diagram.proofs.Building.{Builds-memory}
+use Rattle.ms_diagram.proofs.NumberingLemmas.{AddsOnly-same}
 use Rattle.ms_diagram.proofs.store.Store.collect.Goals as goal
 
 pub returns-in_default-clause-builds : goal.returns-in_default-clause-builds
@@ -17,3 +19,11 @@ returns-clause-builds c =
     let sets = c.collect_at.new.sets in
     subst (λ roots. Builds c.args.self.now c.collect_at.new.self (SetNumber nodes sets roots c.args.track) (LacksSet nodes sets roots c.args.track) c.collect_at.result)
     c.in-Ok.ensures.items c.collect_at.ensures.builds
+
+pub returns-in_default-clause-added : goal.returns-in_default-clause-added
+returns-in_default-clause-added c = AddsOnly-same (HasLeafSet c.args.self.now.nodes c.args.roots.now c.args.track) c.args.sets.now
+
+pub returns-clause-added : goal.returns-clause-added
+returns-clause-added c =
+    subst (λ roots. AddsOnly (HasLeafSet c.args.self.now.nodes roots c.args.track) c.args.sets.now c.collect_at.new.sets)
+    c.in-Ok.ensures.items c.collect_at.ensures.added
