@@ -1,0 +1,6 @@
+pub mod ChangeLemmas
+pub mod CombineSteps
+pub mod CombinedLemmas
+pub mod ProductLemmas
+pub mod SizeLemmas
+pub mod WidenedLemmas

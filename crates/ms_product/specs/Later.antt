@@ -1,0 +1,76 @@
+-- What stays true of a product when more pairs get numbers: the laws that an exploration asks of it.
+use Rattle.std.proofs.Common.{◌≡◌, ℕ, ◌≤◌, List, length, slice_get, Option, Some, None, refl, sym, ap, subst, ◌∙◌}
+use Rattle.std.proofs.Math.Nat.{le_refl, le_trans}
+use Rattle.ms_arena.specs.declared.node.Ref.{Ref}
+use Rattle.ms_arena.specs.declared.node.Node.{Node}
+use Rattle.ms_arena.specs.Diagram.{Bits, IsOrdered}
+use Rattle.ms_arena.specs.Target.{Extends}
+use Rattle.ms_arena.proofs.Appending.{Extends-same, Extends-further}
+use Rattle.ms_arena.proofs.Lists.{slice_get-held}
+use Rattle.ms_arena.proofs.Appending.{slice_get-extends}
+use Rattle.ms_dfa.specs.declared.state.State.{State}
+use Rattle.ms_logic.specs.declared.sign.Sign.{Sign}
+use Rattle.ms_logic.specs.Content.{Content}
+use Rattle.ms_explore.specs.Explored.{AreMore}
+use Rattle.ms_explore.proofs.ExploredLemmas.{Leads-later}
+use Rattle.ms_product.specs.declared.op.Op.{Op}
+use Rattle.ms_product.specs.Widened.{widened_findings, IsBroughtIn}
+use Rattle.ms_product.specs.Pairing.{Operands, Pairing, AreBroughtIn, IsLaterPairing, next_pair, first_pair, behind_pair, sign_of_number, product_findings}
+
+pub pairing_later_itself : (pairing : Pairing) → IsLaterPairing pairing pairing
+pairing_later_itself pairing = record { same = refl; pairs = Extends-same pairing.pairs; count = le_refl (length pairing.pairs) }
+
+pub pairing_later_later : (one two three : Pairing) → IsLaterPairing one two → IsLaterPairing two three → IsLaterPairing one three
+pairing_later_later one two three first second = record {
+  same = second.same ∙ ap (λ (p : Pairing). record p { pairs = three.pairs }) first.same;
+  pairs = Extends-further one.pairs two.pairs three.pairs first.pairs second.pairs;
+  count = le_trans first.count second.count;
+}
+
+-- what was brought into a store stays there
+pub brought_later : (old new : List Node) → IsOrdered old → Extends old new → (content : Content Sign) (map : List ℕ) (start : Ref) (states : List State)
+    → IsBroughtIn old content map start states → IsBroughtIn new content map start states
+brought_later old new ordered extends content map start states was = record {
+  closed = was.closed;
+  starts = Leads-later old new (widened_findings content map).starts (widened_findings content map).starts start ordered extends (λ bits number right. right) was.starts;
+  all = was.all;
+  follows = λ number state held. (
+    Leads-later old new ((widened_findings content map).steps number) ((widened_findings content map).steps number) state.next ordered extends (λ bits after right. right)
+        (was.follows number state held).0,
+    (was.follows number state held).1,
+  );
+}
+
+pub pairing_later_ready : (early late : Pairing) (old new : List Node) → IsLaterPairing early late → IsOrdered old → Extends old new
+    → AreBroughtIn old early.operands early.left early.right → AreBroughtIn new late.operands late.left late.right
+pairing_later_ready early late old new later ordered extends ready =
+    subst (λ (p : Pairing). AreBroughtIn new p.operands p.left p.right) (sym later.same) (record {
+      left_in = brought_later old new ordered extends early.operands.left early.operands.left_map early.left.start early.left.states ready.left_in;
+      right_in = brought_later old new ordered extends early.operands.right early.operands.right_map early.right.start early.right.states ready.right_in;
+    })
+
+module _ (op : Op) (operands : Operands) (early late : List (ℕ × ℕ)) (extends : Extends early late) where
+  -- where the pair of a number leads, it leads later
+  step_later : (state : ℕ) (bits : Bits) (number : ℕ) (found : Option (ℕ × ℕ)) → slice_get early state ≡ found → behind_pair operands early found bits number
+      → behind_pair operands late (slice_get late state) bits number
+  step_later state bits number None is right = absurd right
+  step_later state bits number (Some pair) is right =
+      subst (λ found. behind_pair operands late found bits number) (sym (slice_get-extends early late extends state pair is))
+      (slice_get-extends early late extends number (next_pair operands pair bits) right)
+
+  more_found : length early ≤ length late → AreMore (product_findings op operands early) (product_findings op operands late)
+  more_found count = record {
+    count = count;
+    starts = λ bits number right. slice_get-extends early late extends number (first_pair operands bits) right;
+    steps = λ state found bits number right. step_later state bits number (slice_get early state) refl right;
+    signs = λ state found.
+        let held = slice_get-held early state found in
+        ap (sign_of_number op operands) (slice_get-extends early late extends state held.0 held.1 ∙ sym held.1);
+    most_nodes = refl;
+  }
+
+pub pairing_later_findings : (early late : Pairing) → IsLaterPairing early late
+    → AreMore (product_findings early.op early.operands early.pairs) (product_findings late.op late.operands late.pairs)
+pairing_later_findings early late later =
+    subst (λ (p : Pairing). AreMore (product_findings early.op early.operands early.pairs) (product_findings p.op p.operands p.pairs)) (sym later.same)
+    (more_found early.op early.operands early.pairs late.pairs later.pairs later.count)

@@ -1,0 +1,5 @@
+pub mod Signs
+pub mod Widened
+pub mod Pairing
+pub mod Combined
+pub mod Later

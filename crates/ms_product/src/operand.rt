@@ -1,0 +1,106 @@
+ghost use Rattle.std.specs.Prelude.{◌≡◌, ◌≤◌, ◌+◌, length, IfOk};
+ghost use Rattle.ms_logic.specs.Assignment.{Variable};
+ghost use Rattle.ms_logic.specs.Roots.{AreRising};
+ghost use Rattle.ms_dfa.specs.Automaton.{variables_of};
+ghost use Rattle.ms_explore.specs.Explored.{GrowsForSome, OnRefused};
+ghost use Rattle.ms_explore.specs.Tracks.{IsAmong, places_among};
+ghost use Rattle.ms_product.specs.Widened.{IsBroughtIn, widened_findings};
+
+use ms_arena::Ref;
+use ms_dfa::{Automaton, State, Track};
+use ms_diagram::Store;
+use ms_edge::{List, StepFault};
+use ms_explore::{Machine, explore, places_among};
+use ms_logic::Sign;
+use std::alloc::Global;
+
+/// An automaton over more tracks: the map has the place of each of its own among them.
+#[derive(Drop)]
+pub struct Widened<'a> {
+    pub automaton: &'a Automaton,
+    pub map: List<u32>,
+}
+
+impl<'a> Machine for Widened<'a> {
+    ghost use Rattle.std.proofs.Common.{◌≡◌, length, refl, ◌∙◌, sym, subst};
+    ghost use Rattle.std.proofs.Math.Nat.{le_refl};
+    ghost use Rattle.ms_explore.specs.Explored.{AreMore};
+    ghost use Rattle.ms_product.specs.Widened.{IsRisingMap, widened_findings};
+
+    ghost findings = { λ widened. widened_findings widened.automaton.now widened.map };
+
+    ghost IsReady = { λ widened nodes. IsRisingMap (length widened.automaton.now.variables) widened.map };
+
+    ghost IsLater = { λ early late. early ≡ late };
+
+    ghost later_itself = { λ widened. refl };
+
+    ghost later_later = { λ one two three first second. first ∙ second };
+
+    ghost later_ready = { λ early late old new same ordered extends ready.
+        subst (λ widened. IsRisingMap (length widened.automaton.now.variables) widened.map) same ready };
+
+    ghost later_findings = { λ early late same.
+        subst (λ widened. AreMore (widened_findings early.automaton.now early.map) (widened_findings widened.automaton.now widened.map)) same
+        (record { count = le_refl (length early.automaton.now.states); starts = λ bits number right. right; steps = λ state found bits number right. right; signs = λ state found. refl; most_nodes = refl }) };
+
+    fn start(&mut self, store: &mut Store) -> Result<Ref, StepFault> {
+        let root = self.automaton.start_ref();
+        store.bring(self.automaton.store(), root, self.map.slice())
+    }
+
+    fn next(&mut self, store: &mut Store, state: u32) -> Result<Ref, StepFault> {
+        let root = self.automaton.next_ref(state);
+        store.bring(self.automaton.store(), root, self.map.slice())
+    }
+
+    fn sign(&self, state: u32) -> Sign {
+        self.automaton.sign(state)
+    }
+
+    fn count(&self) -> u32 {
+        self.automaton.states()
+    }
+}
+
+/// An operand whose start and states have been brought into the store of the answer.
+#[derive(Drop)]
+pub struct Operand<'a> {
+    pub widened: Widened<'a>,
+    pub start: Ref,
+    pub states: List<State>,
+}
+
+/// The automaton over these tracks, brought into a store.
+pub fn bring<'a>(
+    alloc: Global,
+    store: &mut Store,
+    automaton: &'a Automaton,
+    tracks: &[Track],
+) -> Result<Operand<'a>, StepFault>
+    requires rising { AreRising (variables_of tracks.now) }
+    requires among { (v : Variable) → IsAmong automaton.now.variables v → IsAmong (variables_of tracks.now) v }
+    ensures automaton { IfOk result (λ made. made.widened.automaton.now ≡ automaton.now) }
+    ensures map { IfOk result (λ made. made.widened.map ≡ places_among automaton.now.variables (variables_of tracks.now)) }
+    ensures brought { IfOk result (λ made. IsBroughtIn store.new.nodes automaton.now (places_among automaton.now.variables (variables_of tracks.now)) made.start made.states) }
+    ensures grows { GrowsForSome store.old store.new (widened_findings automaton.now (places_among automaton.now.variables (variables_of tracks.now))) }
+    ensures nodes { OnRefused result (λ limit. (limit ≡ store.old.limit) × (limit ≤ length store.new.nodes + length automaton.now.states)) }
+{
+    // The length tells that the nodes are those of a store.
+    let _ = store.len();
+    let map = match places_among(alloc, automaton.tracks(), tracks) {
+        Ok(map) => map,
+        Err(_) => return Err(StepFault::Memory),
+    };
+    let mut states = List::new(alloc);
+    let mut widened = Widened { automaton, map };
+    let start = match explore(&mut widened, store, &mut states) {
+        Ok(start) => start,
+        Err(fault) => return Err(fault),
+    };
+    Ok(Operand {
+        widened,
+        start,
+        states,
+    })
+}
