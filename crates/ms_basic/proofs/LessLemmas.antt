@@ -1,0 +1,135 @@
+-- The machine of x < y decides it.
+use Rattle.std.proofs.Common.{◌≡◌, ℕ, zero, suc, ◌+◌, ◌<◌, ◌≤◌, ◌⊎◌, inl, inr, Bool, true, false, if◌then◌else◌, refl, arith}
+use Rattle.ms_logic.specs.declared.core_formula.Basic.TheVariants.{Less}
+use Rattle.ms_logic.specs.declared.mode.Mode.{Mode}
+use Rattle.ms_basic.specs.Decides.{Decides, IsRight, IsTally}
+use Rattle.ms_basic.specs.Less.{less_step, less_table}
+use Rattle.ms_basic.specs.Operands.{operands_of}
+use Rattle.ms_basic.specs.Verdict.{sign_by_verdict}
+use Rattle.ms_basic.proofs.BitLemmas.{Tells, told}
+use Rattle.ms_basic.proofs.ReadingLemmas.{kept}
+use Rattle.ms_basic.proofs.VerdictLemmas.{count_first, count_second, first_signed, second_signed}
+
+-- what a state says of the numbers behind the positions so far
+abbrev LessAt : ℕ → ℕ → ℕ → ℕ → Type 0
+LessAt x y position zero = ⊥
+LessAt x y position (suc zero) = (x < position) × (y < position) × (x < y)
+LessAt x y position (suc (suc zero)) = (x < position) × (y < position) × (y ≤ x)
+LessAt x y position (suc (suc (suc zero))) = (position ≤ x) × (position ≤ y)
+LessAt x y position (suc (suc (suc (suc zero)))) = (x < position) × (position ≤ y)
+LessAt x y position (suc (suc (suc (suc (suc more))))) = (position ≤ x) × (y < position)
+
+less_next : (x y position state : ℕ) (a b : Bool) → Tells a x position → Tells b y position → LessAt x y position state → LessAt x y (suc position) (less_step state a b)
+less_next x y position zero a b first second at = absurd at
+less_next x y position (suc zero) true b first second at = absurd (omega arith)
+less_next x y position (suc zero) false true first second at = absurd (omega arith)
+less_next x y position (suc zero) false false first second at = (omega arith, omega arith, omega arith)
+less_next x y position (suc (suc zero)) true b first second at = absurd (omega arith)
+less_next x y position (suc (suc zero)) false true first second at = absurd (omega arith)
+less_next x y position (suc (suc zero)) false false first second at = (omega arith, omega arith, omega arith)
+less_next x y position (suc (suc (suc zero))) true true first second at = (omega arith, omega arith, omega arith)
+less_next x y position (suc (suc (suc zero))) true false first second at = (omega arith, omega arith)
+less_next x y position (suc (suc (suc zero))) false true first second at = (omega arith, omega arith)
+less_next x y position (suc (suc (suc zero))) false false first second at = (omega arith, omega arith)
+less_next x y position (suc (suc (suc (suc zero)))) true b first second at = absurd (omega arith)
+less_next x y position (suc (suc (suc (suc zero)))) false true first second at = (omega arith, omega arith, omega arith)
+less_next x y position (suc (suc (suc (suc zero)))) false false first second at = (omega arith, omega arith)
+less_next x y position (suc (suc (suc (suc (suc more))))) true true first second at = absurd (omega arith)
+less_next x y position (suc (suc (suc (suc (suc more))))) false true first second at = absurd (omega arith)
+less_next x y position (suc (suc (suc (suc (suc more))))) true false first second at = (omega arith, omega arith, omega arith)
+less_next x y position (suc (suc (suc (suc (suc more))))) false false first second at = (omega arith, omega arith)
+
+-- behind both numbers the sign is right
+less_right : (x y count state : ℕ) → LessAt x y count state → x < count → y < count → IsRight (x < y) (sign_by_verdict state)
+less_right x y count zero at first second = at
+less_right x y count (suc zero) at first second = omega arith
+less_right x y count (suc (suc zero)) at first second = λ less. omega arith
+less_right x y count (suc (suc (suc zero))) at first second = omega arith
+less_right x y count (suc (suc (suc (suc zero)))) at first second = omega arith
+less_right x y count (suc (suc (suc (suc (suc more))))) at first second = omega arith
+
+-- how many ones each of the two has had
+first_told : (state : ℕ) (a b : Bool) → (less_step state a b ≡ 0) ⊎ (count_first (less_step state a b) ≡ count_first state + (if a then 1 else 0))
+first_told zero a b = inl refl
+first_told (suc zero) true b = inl refl
+first_told (suc zero) false true = inl refl
+first_told (suc zero) false false = inr refl
+first_told (suc (suc zero)) true b = inl refl
+first_told (suc (suc zero)) false true = inl refl
+first_told (suc (suc zero)) false false = inr refl
+first_told (suc (suc (suc zero))) true true = inr refl
+first_told (suc (suc (suc zero))) true false = inr refl
+first_told (suc (suc (suc zero))) false true = inr refl
+first_told (suc (suc (suc zero))) false false = inr refl
+first_told (suc (suc (suc (suc zero)))) true b = inl refl
+first_told (suc (suc (suc (suc zero)))) false true = inr refl
+first_told (suc (suc (suc (suc zero)))) false false = inr refl
+first_told (suc (suc (suc (suc (suc more))))) a true = inl refl
+first_told (suc (suc (suc (suc (suc more))))) true false = inr refl
+first_told (suc (suc (suc (suc (suc more))))) false false = inr refl
+
+second_told : (state : ℕ) (a b : Bool) → (less_step state a b ≡ 0) ⊎ (count_second (less_step state a b) ≡ count_second state + (if b then 1 else 0))
+second_told zero a b = inl refl
+second_told (suc zero) true b = inl refl
+second_told (suc zero) false true = inl refl
+second_told (suc zero) false false = inr refl
+second_told (suc (suc zero)) true b = inl refl
+second_told (suc (suc zero)) false true = inl refl
+second_told (suc (suc zero)) false false = inr refl
+second_told (suc (suc (suc zero))) true true = inr refl
+second_told (suc (suc (suc zero))) true false = inr refl
+second_told (suc (suc (suc zero))) false true = inr refl
+second_told (suc (suc (suc zero))) false false = inr refl
+second_told (suc (suc (suc (suc zero)))) true b = inl refl
+second_told (suc (suc (suc (suc zero)))) false true = inr refl
+second_told (suc (suc (suc (suc zero)))) false false = inr refl
+second_told (suc (suc (suc (suc (suc more))))) a true = inl refl
+second_told (suc (suc (suc (suc (suc more))))) true false = inr refl
+second_told (suc (suc (suc (suc (suc more))))) false false = inr refl
+
+first_tally : IsTally less_table 0 count_first
+first_tally = record {
+  start = λ bits. refl;
+  lost = λ bits. refl;
+  step = λ state bits. first_told state bits.first bits.second;
+  sign = first_signed;
+}
+
+second_tally : IsTally less_table 1 count_second
+second_tally = record {
+  start = λ bits. refl;
+  lost = λ bits. refl;
+  step = λ state bits. second_told state bits.first bits.second;
+  sign = second_signed;
+}
+
+-- each step leads to one of the states
+less_closed : (state : ℕ) (a b : Bool) → state < 6 → less_step state a b < 6
+less_closed zero a b small = omega arith
+less_closed (suc zero) true b small = omega arith
+less_closed (suc zero) false true small = omega arith
+less_closed (suc zero) false false small = omega arith
+less_closed (suc (suc zero)) true b small = omega arith
+less_closed (suc (suc zero)) false true small = omega arith
+less_closed (suc (suc zero)) false false small = omega arith
+less_closed (suc (suc (suc zero))) true true small = omega arith
+less_closed (suc (suc (suc zero))) true false small = omega arith
+less_closed (suc (suc (suc zero))) false true small = omega arith
+less_closed (suc (suc (suc zero))) false false small = omega arith
+less_closed (suc (suc (suc (suc zero)))) true b small = omega arith
+less_closed (suc (suc (suc (suc zero)))) false true small = omega arith
+less_closed (suc (suc (suc (suc zero)))) false false small = omega arith
+less_closed (suc (suc (suc (suc (suc more))))) a true small = omega arith
+less_closed (suc (suc (suc (suc (suc more))))) true false small = omega arith
+less_closed (suc (suc (suc (suc (suc more))))) false false small = omega arith
+
+pub decides_less : (mode : Mode) (x y : ℕ) → Decides mode (operands_of (Less x y)) (Less x y) less_table
+decides_less mode x y = record {
+  closed = record { start = λ bits. omega arith; step = λ state bits small. less_closed state bits.first bits.second small };
+  tallies = ((count_first, first_tally), ((count_second, second_tally), tt));
+  right = λ e count assigned room string.
+      less_right (e.number x) (e.number y) count _
+      (kept less_table (operands_of (Less x y)) e count (LessAt (e.number x) (e.number y)) (omega arith, omega arith)
+      (λ position state at. less_next (e.number x) (e.number y) position state _ _ (told (e.number x) position) (told (e.number y) position) at))
+      (omega (arith, room)) (omega (arith, room));
+}

@@ -1,0 +1,80 @@
+-- The machine of x in S decides it.
+use Rattle.std.proofs.Common.{◌≡◌, ℕ, zero, suc, ◌+◌, ◌<◌, ◌≤◌, ◌⊎◌, inl, inr, Bool, true, false, if◌then◌else◌, List, refl, sym, subst, ◌∙◌, arith}
+use Rattle.std.proofs.lemmas.Bool.{false≢true}
+use Rattle.ms_logic.specs.declared.core_formula.Basic.TheVariants.{Member}
+use Rattle.ms_logic.specs.declared.mode.Mode.{Mode}
+use Rattle.ms_logic.specs.FiniteSet.{IsMember, is_member}
+use Rattle.ms_basic.specs.Decides.{Decides, IsRight, IsTally}
+use Rattle.ms_basic.specs.Member.{member_step, member_table}
+use Rattle.ms_basic.specs.Operands.{operands_of}
+use Rattle.ms_basic.specs.Verdict.{sign_by_verdict}
+use Rattle.ms_basic.proofs.BitLemmas.{Tells, told}
+use Rattle.ms_basic.proofs.ReadingLemmas.{kept}
+use Rattle.ms_basic.proofs.VerdictLemmas.{count_met, met_signed}
+
+-- what a state says behind the positions so far
+abbrev MemberAt : ℕ → List ℕ → ℕ → ℕ → Type 0
+MemberAt x members position zero = ⊥
+MemberAt x members position (suc zero) = (x < position) × (is_member x members ≡ true)
+MemberAt x members position (suc (suc zero)) = (x < position) × (is_member x members ≡ false)
+MemberAt x members position (suc (suc (suc more))) = position ≤ x
+
+-- whether the position of the number is a member
+at_number : (x position : ℕ) (members : List ℕ) (bit : Bool) → x ≡ position → is_member position members ≡ bit → is_member x members ≡ bit
+at_number x position members bit same is = subst (λ k. is_member k members ≡ bit) (sym same) is
+
+member_next : (x : ℕ) (members : List ℕ) (position state : ℕ) (a b : Bool) → Tells a x position → is_member position members ≡ b → MemberAt x members position state
+    → MemberAt x members (suc position) (member_step state a b)
+member_next x members position zero a b first second at = absurd at
+member_next x members position (suc zero) true b first second at = absurd (omega arith)
+member_next x members position (suc zero) false b first second at = (omega arith, at.1)
+member_next x members position (suc (suc zero)) true b first second at = absurd (omega arith)
+member_next x members position (suc (suc zero)) false b first second at = (omega arith, at.1)
+member_next x members position (suc (suc (suc more))) true true first second at = (omega arith, at_number x position members true first second)
+member_next x members position (suc (suc (suc more))) true false first second at = (omega arith, at_number x position members false first second)
+member_next x members position (suc (suc (suc more))) false b first second at = omega arith
+
+member_right : (x : ℕ) (members : List ℕ) (count state : ℕ) → MemberAt x members count state → x < count → IsRight (IsMember x members) (sign_by_verdict state)
+member_right x members count zero at within = at
+member_right x members count (suc zero) at within = at.1
+member_right x members count (suc (suc zero)) at within = λ member. false≢true (sym at.1 ∙ member)
+member_right x members count (suc (suc (suc more))) at within = omega arith
+
+member_told : (state : ℕ) (a b : Bool) → (member_step state a b ≡ 0) ⊎ (count_met (member_step state a b) ≡ count_met state + (if a then 1 else 0))
+member_told zero a b = inl refl
+member_told (suc zero) true b = inl refl
+member_told (suc zero) false b = inr refl
+member_told (suc (suc zero)) true b = inl refl
+member_told (suc (suc zero)) false b = inr refl
+member_told (suc (suc (suc more))) true true = inr refl
+member_told (suc (suc (suc more))) true false = inr refl
+member_told (suc (suc (suc more))) false b = inr refl
+
+member_closed : (state : ℕ) (a b : Bool) → member_step state a b < 4
+member_closed zero a b = omega arith
+member_closed (suc zero) true b = omega arith
+member_closed (suc zero) false b = omega arith
+member_closed (suc (suc zero)) true b = omega arith
+member_closed (suc (suc zero)) false b = omega arith
+member_closed (suc (suc (suc more))) true true = omega arith
+member_closed (suc (suc (suc more))) true false = omega arith
+member_closed (suc (suc (suc more))) false b = omega arith
+
+member_tally : IsTally member_table 0 count_met
+member_tally = record {
+  start = λ bits. refl;
+  lost = λ bits. refl;
+  step = λ state bits. member_told state bits.first bits.second;
+  sign = met_signed;
+}
+
+pub decides_member : (mode : Mode) (x s : ℕ) → Decides mode (operands_of (Member x s)) (Member x s) member_table
+decides_member mode x s = record {
+  closed = record { start = λ bits. omega arith; step = λ state bits small. member_closed state bits.first bits.second };
+  tallies = ((count_met, member_tally), (tt, tt));
+  right = λ e count assigned room string.
+      member_right (e.number x) (e.set s) count _
+      (kept member_table (operands_of (Member x s)) e count (MemberAt (e.number x) (e.set s)) (omega arith)
+      (λ position state at. member_next (e.number x) (e.set s) position state _ _ (told (e.number x) position) refl at))
+      (omega (arith, room));
+}

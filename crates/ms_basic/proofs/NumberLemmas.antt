@@ -1,0 +1,94 @@
+-- The machine of x = n decides it.
+use Rattle.std.proofs.Common.{◌≡◌, ◌≢◌, ℕ, zero, suc, ◌+◌, ◌<◌, ◌≤◌, ◌==◌, ◌⊎◌, inl, inr, Bool, true, false, if◌then◌else◌, refl, arith}
+use Rattle.ms_logic.specs.declared.core_formula.Basic.TheVariants.{Number}
+use Rattle.ms_logic.specs.declared.mode.Mode.{Mode}
+use Rattle.ms_basic.specs.Decides.{Decides, IsRight, IsTally}
+use Rattle.ms_basic.specs.Number.{number_at, number_step, number_table}
+use Rattle.ms_basic.specs.Operands.{operands_of}
+use Rattle.ms_basic.specs.Verdict.{sign_by_verdict}
+use Rattle.ms_basic.proofs.BitLemmas.{Tells, told}
+use Rattle.ms_basic.proofs.ReadingLemmas.{kept}
+use Rattle.ms_basic.proofs.VerdictLemmas.{count_met, met_signed}
+
+-- what a state says behind the positions so far
+abbrev NumberAt : ℕ → ℕ → ℕ → ℕ → Type 0
+NumberAt n x position zero = ⊥
+NumberAt n x position (suc zero) = (x < position) × (x ≡ n)
+NumberAt n x position (suc (suc zero)) = (x < position) × (x ≢ n)
+NumberAt n x position (suc (suc (suc zero))) = (position ≤ x) × (n < position)
+NumberAt n x position (suc (suc (suc (suc k)))) = (position ≤ x) × (position ≡ k) × (k ≤ n)
+
+number_next_at : (n x position k : ℕ) (last a : Bool) → Tells last k n → Tells a x position → (position ≤ x) × (position ≡ k) × (k ≤ n)
+    → NumberAt n x (suc position) (number_at last (suc (suc (suc (suc k)))) a)
+number_next_at n x position k true true at_n first at = (omega arith, omega arith)
+number_next_at n x position k true false at_n first at = (omega arith, omega arith)
+number_next_at n x position k false true at_n first at = (omega arith, omega arith)
+number_next_at n x position k false false at_n first at = (omega arith, omega arith, omega arith)
+
+number_next : (n x position state : ℕ) (a : Bool) → Tells a x position → NumberAt n x position state → NumberAt n x (suc position) (number_step n state a)
+number_next n x position zero a first at = absurd at
+number_next n x position (suc zero) true first at = absurd (omega arith)
+number_next n x position (suc zero) false first at = (omega arith, at.1)
+number_next n x position (suc (suc zero)) true first at = absurd (omega arith)
+number_next n x position (suc (suc zero)) false first at = (omega arith, at.1)
+number_next n x position (suc (suc (suc zero))) true first at = (omega arith, omega arith)
+number_next n x position (suc (suc (suc zero))) false first at = (omega arith, omega arith)
+number_next n x position (suc (suc (suc (suc k)))) a first at = number_next_at n x position k (k == n) a (told k n) first at
+
+number_right : (n x count state : ℕ) → NumberAt n x count state → x < count → IsRight (x ≡ n) (sign_by_verdict state)
+number_right n x count zero at within = at
+number_right n x count (suc zero) at within = at.1
+number_right n x count (suc (suc zero)) at within = at.1
+number_right n x count (suc (suc (suc zero))) at within = omega arith
+number_right n x count (suc (suc (suc (suc k)))) at within = omega arith
+
+number_told_at : (k : ℕ) (last a : Bool) → count_met (number_at last (suc (suc (suc (suc k)))) a) ≡ 0 + (if a then 1 else 0)
+number_told_at k true true = refl
+number_told_at k true false = refl
+number_told_at k false true = refl
+number_told_at k false false = refl
+
+number_told : (n state : ℕ) (a : Bool) → (number_step n state a ≡ 0) ⊎ (count_met (number_step n state a) ≡ count_met state + (if a then 1 else 0))
+number_told n zero a = inl refl
+number_told n (suc zero) true = inl refl
+number_told n (suc zero) false = inr refl
+number_told n (suc (suc zero)) true = inl refl
+number_told n (suc (suc zero)) false = inr refl
+number_told n (suc (suc (suc zero))) true = inr refl
+number_told n (suc (suc (suc zero))) false = inr refl
+number_told n (suc (suc (suc (suc k)))) a = inr (number_told_at k (k == n) a)
+
+number_closed_at : (n k : ℕ) (last a : Bool) → Tells last k n → k < n + 1 → number_at last (suc (suc (suc (suc k)))) a < n + 5
+number_closed_at n k true true at_n small = omega arith
+number_closed_at n k true false at_n small = omega arith
+number_closed_at n k false true at_n small = omega arith
+number_closed_at n k false false at_n small = omega arith
+
+number_closed : (n state : ℕ) (a : Bool) → state < n + 5 → number_step n state a < n + 5
+number_closed n zero a small = omega arith
+number_closed n (suc zero) true small = omega arith
+number_closed n (suc zero) false small = omega arith
+number_closed n (suc (suc zero)) true small = omega arith
+number_closed n (suc (suc zero)) false small = omega arith
+number_closed n (suc (suc (suc zero))) true small = omega arith
+number_closed n (suc (suc (suc zero))) false small = omega arith
+number_closed n (suc (suc (suc (suc k)))) a small = number_closed_at n k (k == n) a (told k n) (omega arith)
+
+number_tally : (n : ℕ) → IsTally (number_table n) 0 count_met
+number_tally n = record {
+  start = λ bits. refl;
+  lost = λ bits. refl;
+  step = λ state bits. number_told n state bits.first;
+  sign = met_signed;
+}
+
+pub decides_number : (mode : Mode) (x n : ℕ) → Decides mode (operands_of (Number x n)) (Number x n) (number_table n)
+decides_number mode x n = record {
+  closed = record { start = λ bits. omega arith; step = λ state bits small. number_closed n state bits.first small };
+  tallies = ((count_met, number_tally n), tt);
+  right = λ e count assigned room string.
+      number_right n (e.number x) count _
+      (kept (number_table n) (operands_of (Number x n)) e count (NumberAt n (e.number x)) (omega arith, omega arith, omega arith)
+      (λ position state at. number_next n (e.number x) position state _ (told (e.number x) position) at))
+      (omega (arith, room));
+}

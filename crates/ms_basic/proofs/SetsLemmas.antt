@@ -1,0 +1,133 @@
+-- The machines of relations between sets that are tested position by position decide them.
+use Rattle.std.proofs.Common.{◌≡◌, ℕ, zero, suc, ◌<◌, ◌≤◌, Bool, true, false, not, ◌&&◌, ◌||◌, ⊎_elim, List, ◌++◌, refl, sym, ap, subst, ◌∙◌, arith}
+use Rattle.std.proofs.lemmas.Bool.{cases_lt, false≢true}
+use Rattle.ms_logic.specs.declared.core_formula.Basic.TheVariants.{Sub, Union, Inter, Diff}
+use Rattle.ms_logic.specs.declared.mode.Mode.{Mode}
+use Rattle.ms_logic.specs.Assignment.{Env, Variable}
+use Rattle.ms_logic.specs.FiniteSet.{is_member, IsRising, IsSubset, union_of, intersection_of, difference_of}
+use Rattle.ms_logic.specs.Word.{bound_of_set}
+use Rattle.ms_logic.proofs.Members.{is_member-union_of, is_member-filter, no_member_from_bound, member_below_bound, IsRising-set_of, IsRising-filter}
+use Rattle.ms_logic.proofs.SetLaws.{subset_law}
+use Rattle.ms_explore.specs.Small.{IsClosedTable}
+use Rattle.ms_basic.specs.declared.sets.SetRelation.{SetRelation}
+use Rattle.ms_basic.specs.declared.sets.SetRelation as relations
+use Rattle.ms_basic.specs.Decides.{Decides, IsRight}
+use Rattle.ms_basic.specs.Operands.{operands_of}
+use Rattle.ms_basic.specs.Reading.{bits_at, state_behind}
+use Rattle.ms_basic.specs.Sets.{agrees, is_same, sets_table, tested_step}
+use Rattle.ms_basic.specs.Verdict.{sign_by_contradiction}
+use Rattle.ms_basic.proofs.ReadingLemmas.{kept}
+use Rattle.ms_basic.proofs.SetLemmas.{no_and, no_or, other_bits, other_sets, same_bits, same_sets}
+
+-- in the state 0 all positions so far agreed, and in the others some did not
+abbrev TestedAt : (ℕ → Bool) → ℕ → ℕ → Type 0
+TestedAt agree position zero = (k : ℕ) → k < position → agree k ≡ true
+TestedAt agree position (suc more) = (k : ℕ) × (k < position) × (agree k ≡ false)
+
+tested_next : (agree : ℕ → Bool) (position state : ℕ) (test : Bool) → agree position ≡ test → TestedAt agree position state
+    → TestedAt agree (suc position) (tested_step test state)
+tested_next agree position zero true here at = λ k below.
+    ⊎_elim (λ less. at k less) (λ at_least. (let same : position ≡ k = omega (arith, at_least, below) in subst (λ n. agree n ≡ true) same here)) (cases_lt k position)
+tested_next agree position zero false here at = (position, omega arith, here)
+tested_next agree position (suc more) test here at = (at.0, omega (arith, at.1), at.2)
+
+tested_closed : (test : Bool) (state : ℕ) → tested_step test state < 2
+tested_closed true zero = omega arith
+tested_closed false zero = omega arith
+tested_closed test (suc more) = omega arith
+
+tested_right : (Fact : Type 0) (agree : ℕ → Bool) (count state : ℕ) → TestedAt agree count state → (((k : ℕ) → k < count → agree k ≡ true) → Fact)
+    → ((k : ℕ) → k < count → agree k ≡ false → ¬ Fact) → IsRight Fact (sign_by_contradiction state)
+tested_right Fact agree count zero at holds fails = holds at
+tested_right Fact agree count (suc more) at holds fails = fails at.0 at.1 at.2
+
+pub sets_closed : (relation : SetRelation) → IsClosedTable (sets_table relation)
+sets_closed relation = record { start = λ bits. omega arith; step = λ state bits small. tested_closed (agrees relation bits) state }
+
+-- behind all positions the sign is right, where the relation holds exactly if all agree
+pub sets_right : (relation : SetRelation) (operands : List Variable) (e : Env) (count : ℕ) (Fact : Type 0)
+    → (((k : ℕ) → k < count → agrees relation (bits_at operands e k) ≡ true) → Fact)
+    → ((k : ℕ) → k < count → agrees relation (bits_at operands e k) ≡ false → ¬ Fact)
+    → IsRight Fact ((sets_table relation).sign (state_behind (sets_table relation) operands e count))
+sets_right relation operands e count Fact holds fails =
+    tested_right Fact (λ k. agrees relation (bits_at operands e k)) count (state_behind (sets_table relation) operands e count)
+    (kept (sets_table relation) operands e count (TestedAt (λ k. agrees relation (bits_at operands e k))) (λ k below. absurd (omega (arith, below)))
+    (λ position state at. tested_next (λ k. agrees relation (bits_at operands e k)) position state _ refl at))
+    holds fails
+
+-- a member agrees with an inclusion where it is one of the second set too
+agreed : (a b : Bool) → (not a || b) ≡ true → a ≡ true → b ≡ true
+agreed true b agree member = agree
+agreed false b agree member = let never : ⊥ = cc in absurd never
+
+broken : (a b : Bool) → (not a || b) ≡ false → (a ≡ true) × (b ≡ false)
+broken true b breaks = (refl, breaks)
+broken false b breaks = let never : ⊥ = cc in absurd never
+
+pub decides_sub : (mode : Mode) (s t : ℕ) → Decides mode (operands_of (Sub s t)) (Sub s t) (sets_table relations.TheVariants.Sub)
+decides_sub mode s t = record {
+  closed = sets_closed relations.TheVariants.Sub;
+  tallies = (tt, (tt, tt));
+  right = λ e count assigned room string.
+      sets_right relations.TheVariants.Sub (operands_of (Sub s t)) e count (IsSubset (e.set s) (e.set t))
+      (λ all. (subset_law (e.set s) (e.set t)).1 (λ n member.
+      agreed (is_member n (e.set s)) (is_member n (e.set t)) (all n (omega (arith, room, member_below_bound (e.set s) n member))) member))
+      (λ k below breaks subset.
+      let parts = broken (is_member k (e.set s)) (is_member k (e.set t)) breaks in
+      false≢true (sym parts.1 ∙ (subset_law (e.set s) (e.set t)).0 subset k parts.0));
+}
+
+-- a set that is another exactly where their members are the same at each position
+pub equal_right : (left right : List ℕ) (count : ℕ) → IsRising left → IsRising right → ((k : ℕ) → count ≤ k → is_member k left ≡ false)
+    → ((k : ℕ) → count ≤ k → is_member k right ≡ false) → ((k : ℕ) → k < count → is_same (is_member k left) (is_member k right) ≡ true) → left ≡ right
+equal_right left right count rising_left rising_right none_left none_right all =
+    same_sets left right count rising_left rising_right (λ k below. same_bits (is_member k left) (is_member k right) (all k below)) none_left none_right
+
+-- the same with the members of the other set told
+equal_decides : (relation : SetRelation) (operands : List Variable) (e : Env) (count : ℕ) (left right : List ℕ) (told : ℕ → Bool) → IsRising left → IsRising right
+    → bound_of_set left ≤ count → ((k : ℕ) → is_member k right ≡ told k) → ((k : ℕ) → count ≤ k → told k ≡ false)
+    → ((k : ℕ) → agrees relation (bits_at operands e k) ≡ is_same (is_member k left) (told k))
+    → IsRight (left ≡ right) ((sets_table relation).sign (state_behind (sets_table relation) operands e count))
+equal_decides relation operands e count left right told rising_left rising_right bound tells none agree =
+    sets_right relation operands e count (left ≡ right)
+    (λ all.
+    equal_right left right count rising_left rising_right (λ k above. no_member_from_bound left k (omega (arith, bound, above))) (λ k above. tells k ∙ none k above)
+    (λ k below. ap (is_same (is_member k left)) (tells k) ∙ sym (agree k) ∙ all k below))
+    (λ k below breaks.
+    other_sets left right k (λ same. other_bits (is_member k left) (told k) (sym (agree k) ∙ breaks) (same ∙ tells k)))
+
+pub decides_union : (mode : Mode) (s t u : ℕ) → Decides mode (operands_of (Union s t u)) (Union s t u) (sets_table relations.TheVariants.Union)
+decides_union mode s t u = record {
+  closed = sets_closed relations.TheVariants.Union;
+  tallies = (tt, (tt, (tt, tt)));
+  right = λ e count assigned room string.
+      equal_decides relations.TheVariants.Union (operands_of (Union s t u)) e count (e.set s) (union_of (e.set t) (e.set u))
+      (λ k. is_member k (e.set t) || is_member k (e.set u)) assigned.values.0.0 (IsRising-set_of (e.set t ++ e.set u)) (omega (arith, room))
+      (λ k. is_member-union_of k (e.set t) (e.set u))
+      (λ k above. no_or (is_member k (e.set t)) (is_member k (e.set u)) (no_member_from_bound (e.set t) k (omega (arith, room, above))) (no_member_from_bound (e.set u) k (omega (arith, room, above))))
+      (λ k. refl);
+}
+
+pub decides_inter : (mode : Mode) (s t u : ℕ) → Decides mode (operands_of (Inter s t u)) (Inter s t u) (sets_table relations.TheVariants.Inter)
+decides_inter mode s t u = record {
+  closed = sets_closed relations.TheVariants.Inter;
+  tallies = (tt, (tt, (tt, tt)));
+  right = λ e count assigned room string.
+      equal_decides relations.TheVariants.Inter (operands_of (Inter s t u)) e count (e.set s) (intersection_of (e.set t) (e.set u))
+      (λ k. is_member k (e.set t) && is_member k (e.set u)) assigned.values.0.0 (IsRising-filter (λ n. is_member n (e.set u)) (e.set t) assigned.values.1.0.0) (omega (arith, room))
+      (λ k. is_member-filter k (λ n. is_member n (e.set u)) (e.set t))
+      (λ k above. no_and (is_member k (e.set t)) (is_member k (e.set u)) (no_member_from_bound (e.set t) k (omega (arith, room, above))))
+      (λ k. refl);
+}
+
+pub decides_diff : (mode : Mode) (s t u : ℕ) → Decides mode (operands_of (Diff s t u)) (Diff s t u) (sets_table relations.TheVariants.Diff)
+decides_diff mode s t u = record {
+  closed = sets_closed relations.TheVariants.Diff;
+  tallies = (tt, (tt, (tt, tt)));
+  right = λ e count assigned room string.
+      equal_decides relations.TheVariants.Diff (operands_of (Diff s t u)) e count (e.set s) (difference_of (e.set t) (e.set u))
+      (λ k. is_member k (e.set t) && not (is_member k (e.set u))) assigned.values.0.0 (IsRising-filter (λ n. not (is_member n (e.set u))) (e.set t) assigned.values.1.0.0) (omega (arith, room))
+      (λ k. is_member-filter k (λ n. not (is_member n (e.set u))) (e.set t))
+      (λ k above. no_and (is_member k (e.set t)) (not (is_member k (e.set u))) (no_member_from_bound (e.set t) k (omega (arith, room, above))))
+      (λ k. refl);
+}

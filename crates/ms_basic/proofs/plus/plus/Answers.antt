@@ -1,0 +1,17 @@
+use Rattle.std.proofs.Common.{◌==◌, [], ◌∷◌, subst}
+use Rattle.ms_logic.specs.declared.core_formula.Basic.TheVariants.{Plus}
+use Rattle.ms_basic.specs.Decides.{Decides}
+use Rattle.ms_basic.specs.Operands.{number}
+use Rattle.ms_basic.specs.Repeated.{one_number_table}
+use Rattle.ms_basic.proofs.BitLemmas.{told}
+use Rattle.ms_basic.proofs.PlusLemmas.{decides_plus}
+use Rattle.ms_basic.proofs.RepeatedLemmas.{decides_plus_itself}
+use Rattle.ms_basic.proofs.plus.plus.Goals as goal
+
+pub made-requires-clause-decides : goal.made-requires-clause-decides
+made-requires-clause-decides c =
+    subst (λ y. Decides c.args.setting.mode (number c.args.x ∷ []) (Plus c.args.x y c.args.n) (one_number_table (c.args.n == 0))) c.if-x-y.true
+    (decides_plus_itself c.args.setting.mode c.args.x c.args.n (c.args.n == 0) (told c.args.n 0))
+
+pub made-requires-2-clause-decides : goal.made-requires-2-clause-decides
+made-requires-2-clause-decides c = decides_plus c.args.setting.mode c.args.x c.args.y c.args.n

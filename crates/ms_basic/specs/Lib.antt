@@ -1,0 +1,17 @@
+pub mod Bits
+pub mod Decides
+pub mod Examples
+pub mod Greatest
+pub mod Least
+pub mod Less
+pub mod Member
+pub mod Number
+pub mod Operands
+pub mod Plus
+pub mod Reading
+pub mod Repeated
+pub mod Sets
+pub mod States
+pub mod Truth
+pub mod Verdict
+pub mod Windows

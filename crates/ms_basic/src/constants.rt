@@ -1,0 +1,23 @@
+ghost use Rattle.std.specs.Prelude.{◌≡◌, [], IfOk, if◌then◌else◌};
+ghost use Rattle.ms_logic.specs.CoreForm.{falsity, truth};
+ghost use Rattle.ms_theory.specs.Values.{HasValues, core_meaning};
+
+use crate::repeated::ConstantMachine;
+use ms_dfa::Automaton;
+use ms_edge::{List, NoMemory, StepFault};
+use ms_explore::build;
+use ms_logic::Mode;
+use std::alloc::Global;
+
+/// The automaton of `true` or of `false`, over no variable. Its one state is within the limit that is asked for.
+pub fn constant(alloc: Global, holds: bool, mode: Mode) -> Result<Automaton, NoMemory>
+    ensures mode { IfOk result (λ made. made.mode ≡ mode) }
+    ensures variables { IfOk result (λ made. made.variables ≡ []) }
+    ensures values { IfOk result (λ made. HasValues (core_meaning [] (if holds then truth else falsity)) made) }
+{
+    match build(alloc, ConstantMachine { holds }, mode, List::new(alloc), 16) {
+        Ok(made) => Ok(made),
+        Err(StepFault::Memory) => Err(NoMemory),
+        Err(StepFault::Nodes { .. }) => unreachable!(),
+    }
+}

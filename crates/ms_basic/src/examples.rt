@@ -1,0 +1,86 @@
+ghost use Rattle.std.specs.Prelude.{◌≡◌, ◌≤◌, true, false, [], ◌∷◌};
+ghost use Rattle.ms_logic.specs.declared.core_formula.Basic.TheVariants.{Bits, Down, Less, Max, Member, Min, Number, Plus, Sub, Truth, Union, Up};
+ghost use Rattle.ms_logic.specs.declared.mode.Mode.TheVariants.{M2lStr, Ws1s};
+ghost use Rattle.ms_logic.specs.declared.sign.Sign.TheVariants.{No, Outside, Undefined, Yes};
+ghost use Rattle.ms_basic.specs.Bits.{bits_table, digits_of};
+ghost use Rattle.ms_basic.specs.Decides.{IsRight};
+ghost use Rattle.ms_basic.specs.Examples.{on_four_letters};
+ghost use Rattle.ms_basic.specs.Greatest.{greatest_table};
+ghost use Rattle.ms_basic.specs.Least.{least_table};
+ghost use Rattle.ms_basic.specs.Less.{less_table};
+ghost use Rattle.ms_basic.specs.Member.{member_table};
+ghost use Rattle.ms_basic.specs.Number.{number_table};
+ghost use Rattle.ms_basic.specs.Operands.{HaveOneOrder, number, operands_of, set, truth_value};
+ghost use Rattle.ms_basic.specs.Plus.{plus_table};
+ghost use Rattle.ms_basic.specs.Reading.{bits_at, state_behind, track_at};
+ghost use Rattle.ms_basic.specs.States.{states_of};
+ghost use Rattle.ms_basic.specs.Verdict.{sign_by_verdict};
+ghost use Rattle.ms_basic.specs.Windows.{down_table, shifted, up_table};
+
+/// The operands of relations, and which orders they have.
+pub fn worked_operands()
+    ensures truth { operands_of (Truth 4) ≡ truth_value 4 ∷ [] }
+    ensures sum { operands_of (Plus 1 2 7) ≡ number 1 ∷ number 2 ∷ [] }
+    ensures union { operands_of (Union 5 3 3) ≡ set 5 ∷ set 3 ∷ set 3 ∷ [] }
+    ensures one_order { HaveOneOrder (operands_of (Sub 3 3)) }
+    ensures two_orders { ¬ HaveOneOrder (operands_of (Member 3 3)) }
+{}
+
+/// What a machine reads of an assignment.
+pub fn worked_readings()
+    ensures behind_another { track_at (number 9 ∷ set 4 ∷ []) (set 4 ∷ number 9 ∷ []) 0 ≡ 1 }
+    ensures no_operand { track_at (number 9 ∷ set 4 ∷ []) (set 4 ∷ number 9 ∷ []) 2 ≡ 3 }
+    ensures neither { bits_at (number 9 ∷ set 4 ∷ []) on_four_letters 1 ≡ record { first = false; second = false; third = false } }
+    ensures both { bits_at (number 9 ∷ set 4 ∷ []) on_four_letters 2 ≡ record { first = true; second = true; third = false } }
+{}
+
+/// The states of machines behind the four positions of an assignment, and their signs.
+pub fn worked_machines()
+    ensures below { state_behind less_table (number 9 ∷ number 1 ∷ []) on_four_letters 4 ≡ 1 }
+    ensures above { state_behind less_table (number 1 ∷ number 9 ∷ []) on_four_letters 4 ≡ 2 }
+    ensures waiting { state_behind less_table (number 9 ∷ number 1 ∷ []) on_four_letters 3 ≡ 4 }
+    ensures lost { less_table.step 1 (record { first = true; second = false; third = false }) ≡ 0 }
+    ensures sum { state_behind (plus_table 1) (number 1 ∷ number 9 ∷ []) on_four_letters 4 ≡ 1 }
+    ensures other_sum { state_behind (plus_table 2) (number 1 ∷ number 9 ∷ []) on_four_letters 4 ≡ 2 }
+    ensures two { state_behind (number_table 2) (number 9 ∷ []) on_four_letters 4 ≡ 1 }
+    ensures member { state_behind member_table (number 9 ∷ set 4 ∷ []) on_four_letters 4 ≡ 1 }
+    ensures not_least { state_behind least_table (number 9 ∷ set 4 ∷ []) on_four_letters 4 ≡ 2 }
+    ensures greatest { state_behind greatest_table (number 9 ∷ set 4 ∷ []) on_four_letters 4 ≡ 1 }
+    ensures one_and_four { digits_of 5 ≡ 3 }
+    ensures lost_sign { sign_by_verdict 0 ≡ Outside }
+    ensures waiting_sign { sign_by_verdict 4 ≡ Outside }
+{}
+
+/// Windows of two bits.
+pub fn worked_windows()
+    ensures one_more { shifted 2 true ≡ 5 }
+    ensures moved_up { (up_table M2lStr 4).step 3 (record { first = true; second = false; third = false }) ≡ 1 }
+    ensures not_moved_up { (up_table M2lStr 4).step 3 (record { first = false; second = false; third = false }) ≡ 0 }
+    ensures left_over { (up_table Ws1s 4).sign 3 ≡ No }
+    ensures past_the_end { (up_table M2lStr 4).sign 3 ≡ Yes }
+    ensures shorter { (down_table 4).step 3 (record { first = false; second = true; third = false }) ≡ 6 }
+    ensures full { (down_table 4).step 6 (record { first = false; second = true; third = false }) ≡ 4 }
+    ensures not_moved_down { (down_table 4).step 6 (record { first = false; second = false; third = false }) ≡ 0 }
+{}
+
+/// How many states the machines of relations have.
+pub fn worked_states()
+    ensures number { states_of (Number 1 3) ≡ 8 }
+    ensures less { states_of (Less 1 2) ≡ 6 }
+    ensures less_itself { states_of (Less 1 1) ≡ 3 }
+    ensures up { states_of (Up 1 2 3) ≡ 9 }
+    ensures down { states_of (Down 1 2 3) ≡ 16 }
+    ensures up_itself { states_of (Up 1 1 3) ≡ 2 }
+    ensures bits { states_of (Bits 1 5) ≡ 5 }
+    ensures least { states_of (Min 1 2) ≡ 7 }
+    ensures greatest { states_of (Max 1 2) ≡ 5 }
+{}
+
+/// Which sign is right of a fact.
+pub fn worked_signs()
+    ensures yes { IsRight (1 ≤ 2) Yes }
+    ensures no { IsRight (2 ≤ 1) No }
+    ensures not_yes { ¬ (IsRight (2 ≤ 1) Yes) }
+    ensures never_undefined { ¬ (IsRight (1 ≤ 2) Undefined) }
+    ensures never_outside { ¬ (IsRight (2 ≤ 1) Outside) }
+{}

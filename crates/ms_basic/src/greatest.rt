@@ -1,0 +1,72 @@
+ghost use Rattle.std.specs.Prelude.{◌≤◌};
+ghost use Rattle.ms_basic.specs.Decides.{IsMade};
+ghost use Rattle.ms_basic.specs.Operands.{HaveOneOrder, operands_of};
+ghost use Rattle.ms_basic.specs.States.{states_of};
+
+use crate::made::{Setting, made};
+use crate::verdict::{LOST, NO, YES, sign_by_verdict};
+use ms_dfa::Automaton;
+use ms_edge::StepFault;
+use ms_explore::{SmallMachine, TrackBits};
+use ms_logic::{Basic, Sign};
+use std::alloc::Global;
+
+/// No position has been read.
+const START: u32 = 3;
+
+/// The number has not been met.
+const WAITING: u32 = 4;
+
+/// The machine of `x = max S`.
+#[derive(Clone, Copy)]
+struct GreatestMachine;
+
+impl SmallMachine for GreatestMachine {
+    ghost use Rattle.ms_basic.specs.Greatest.{greatest_table};
+
+    ghost table = { λ machine. greatest_table };
+
+    fn states(&self) -> u32 {
+        5
+    }
+
+    fn start(&self, bits: TrackBits) -> u32 {
+        let _ = bits;
+        START
+    }
+
+    fn step(&self, state: u32, bits: TrackBits) -> u32 {
+        match (state, bits.first, bits.second) {
+            (LOST, _, _) => LOST,
+            (YES, true, _) => LOST,
+            (YES, false, true) => NO,
+            (YES, false, false) => YES,
+            (NO, true, _) => LOST,
+            (NO, false, _) => NO,
+            (START, true, _) => YES,
+            (START, false, _) => WAITING,
+            (_, true, true) => YES,
+            (_, true, false) => NO,
+            (_, false, _) => WAITING,
+        }
+    }
+
+    fn sign(&self, state: u32) -> Sign {
+        sign_by_verdict(state)
+    }
+}
+
+/// The automaton of `x = max S`.
+pub(crate) fn greatest(
+    alloc: Global,
+    x: u32,
+    s: u32,
+    setting: Setting,
+) -> Result<Automaton, StepFault>
+    requires orders { HaveOneOrder (operands_of (Basic.Max x s)) }
+    requires some { 1 ≤ setting.limit }
+    requires small { setting.limit ≤ 4000000000 }
+    ensures { IsMade setting.mode (Basic.Max x s) setting.limit (states_of (Basic.Max x s)) result }
+{
+    made(alloc, GreatestMachine, Basic::Max(x, s), 2, setting)
+}

@@ -1,0 +1,77 @@
+ghost use Rattle.std.specs.Prelude.{◌≤◌};
+ghost use Rattle.ms_basic.specs.Decides.{IsMade};
+ghost use Rattle.ms_basic.specs.States.{states_of};
+
+use crate::made::{Setting, made};
+use crate::repeated::OneNumberMachine;
+use crate::verdict::{LOST, NO, YES, sign_by_verdict};
+use ms_dfa::Automaton;
+use ms_edge::StepFault;
+use ms_explore::{SmallMachine, TrackBits};
+use ms_logic::{Basic, Sign};
+use std::alloc::Global;
+
+/// Neither number has been met.
+const NEITHER: u32 = 3;
+
+/// The first number alone has been met, or the second alone.
+const FIRST: u32 = 4;
+
+const SECOND: u32 = 5;
+
+/// The machine of `x < y`.
+#[derive(Clone, Copy)]
+struct LessMachine;
+
+impl SmallMachine for LessMachine {
+    ghost use Rattle.ms_basic.specs.Less.{less_table};
+
+    ghost table = { λ machine. less_table };
+
+    fn states(&self) -> u32 {
+        6
+    }
+
+    fn start(&self, bits: TrackBits) -> u32 {
+        let _ = bits;
+        NEITHER
+    }
+
+    fn step(&self, state: u32, bits: TrackBits) -> u32 {
+        match (state, bits.first, bits.second) {
+            (LOST, _, _) => LOST,
+            (YES, false, false) => YES,
+            (YES, _, _) => LOST,
+            (NO, false, false) => NO,
+            (NO, _, _) => LOST,
+            (NEITHER, false, false) => NEITHER,
+            (NEITHER, true, false) => FIRST,
+            (NEITHER, false, true) => SECOND,
+            (NEITHER, true, true) => NO,
+            (FIRST, true, _) => LOST,
+            (FIRST, false, true) => YES,
+            (FIRST, false, false) => FIRST,
+            (_, _, true) => LOST,
+            (_, true, false) => NO,
+            (_, false, false) => SECOND,
+        }
+    }
+
+    fn sign(&self, state: u32) -> Sign {
+        sign_by_verdict(state)
+    }
+}
+
+/// The automaton of `x < y`.
+pub(crate) fn less(alloc: Global, x: u32, y: u32, setting: Setting) -> Result<Automaton, StepFault>
+    requires some { 1 ≤ setting.limit }
+    requires small { setting.limit ≤ 4000000000 }
+    ensures { IsMade setting.mode (Basic.Less x y) setting.limit (states_of (Basic.Less x y)) result }
+{
+    let form = Basic::Less(x, y);
+    if x == y {
+        made(alloc, OneNumberMachine { holds: false }, form, 1, setting)
+    } else {
+        made(alloc, LessMachine, form, 2, setting)
+    }
+}

@@ -1,0 +1,29 @@
+//! The basic relations as automata: each is a small machine that reads the bits of its operands.
+#![tactic(auto)]
+
+mod bits;
+mod constants;
+mod down;
+mod examples;
+mod greatest;
+mod least;
+mod less;
+mod made;
+mod member;
+mod number;
+mod operands;
+mod plus;
+mod reading;
+mod relation;
+mod repeated;
+mod sets;
+mod truth;
+mod up;
+mod verdict;
+mod windows;
+
+pub use constants::constant;
+pub use examples::{
+    worked_machines, worked_operands, worked_readings, worked_signs, worked_states, worked_windows,
+};
+pub use relation::basic;

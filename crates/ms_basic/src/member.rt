@@ -1,0 +1,66 @@
+ghost use Rattle.std.specs.Prelude.{◌≤◌};
+ghost use Rattle.ms_basic.specs.Decides.{IsMade};
+ghost use Rattle.ms_basic.specs.Operands.{HaveOneOrder, operands_of};
+ghost use Rattle.ms_basic.specs.States.{states_of};
+
+use crate::made::{Setting, made};
+use crate::verdict::{LOST, NO, YES, sign_by_verdict};
+use ms_dfa::Automaton;
+use ms_edge::StepFault;
+use ms_explore::{SmallMachine, TrackBits};
+use ms_logic::{Basic, Sign};
+use std::alloc::Global;
+
+/// The number has not been met.
+const WAITING: u32 = 3;
+
+/// The machine of `x in S`.
+#[derive(Clone, Copy)]
+struct MemberMachine;
+
+impl SmallMachine for MemberMachine {
+    ghost use Rattle.ms_basic.specs.Member.{member_table};
+
+    ghost table = { λ machine. member_table };
+
+    fn states(&self) -> u32 {
+        4
+    }
+
+    fn start(&self, bits: TrackBits) -> u32 {
+        let _ = bits;
+        WAITING
+    }
+
+    fn step(&self, state: u32, bits: TrackBits) -> u32 {
+        match (state, bits.first, bits.second) {
+            (LOST, _, _) => LOST,
+            (YES, false, _) => YES,
+            (YES, true, _) => LOST,
+            (NO, false, _) => NO,
+            (NO, true, _) => LOST,
+            (_, false, _) => WAITING,
+            (_, true, true) => YES,
+            (_, true, false) => NO,
+        }
+    }
+
+    fn sign(&self, state: u32) -> Sign {
+        sign_by_verdict(state)
+    }
+}
+
+/// The automaton of `x in S`.
+pub(crate) fn member(
+    alloc: Global,
+    x: u32,
+    s: u32,
+    setting: Setting,
+) -> Result<Automaton, StepFault>
+    requires orders { HaveOneOrder (operands_of (Basic.Member x s)) }
+    requires some { 1 ≤ setting.limit }
+    requires small { setting.limit ≤ 4000000000 }
+    ensures { IsMade setting.mode (Basic.Member x s) setting.limit (states_of (Basic.Member x s)) result }
+{
+    made(alloc, MemberMachine, Basic::Member(x, s), 2, setting)
+}

@@ -1,0 +1,92 @@
+ghost use Rattle.std.specs.Prelude.{◌≤◌};
+ghost use Rattle.ms_basic.specs.Decides.{IsMade};
+ghost use Rattle.ms_basic.specs.States.{states_of};
+
+use crate::made::{Setting, made};
+use crate::verdict::{LOST, NO, YES, sign_by_verdict};
+use ms_dfa::Automaton;
+use ms_edge::StepFault;
+use ms_explore::{SmallMachine, TrackBits};
+use ms_logic::{Basic, Sign};
+use std::alloc::Global;
+
+/// The position has been passed without the number.
+const LATE: u32 = 3;
+
+/// The number has not been met, and the next position is the first; the others follow this state.
+const START: u32 = 4;
+
+/// The greatest number for which a machine is made: with a greater one there are more states than any limit.
+const GREATEST: u64 = 4_000_000_000;
+
+/// The machine of `x = n`.
+#[derive(Drop)]
+struct NumberMachine {
+    number: u32,
+    ghost small: { number ≤ 4000000000 },
+}
+
+impl SmallMachine for NumberMachine {
+    ghost use Rattle.ms_basic.specs.Number.{number_table};
+
+    ghost table = { λ machine. number_table machine.number };
+
+    fn states(&self) -> u32 {
+        self.number + 5
+    }
+
+    fn start(&self, bits: TrackBits) -> u32 {
+        let _ = bits;
+        START
+    }
+
+    fn step(&self, state: u32, bits: TrackBits) -> u32 {
+        match (state, bits.first) {
+            (LOST, _) => LOST,
+            (YES, false) => YES,
+            (NO, false) => NO,
+            (YES, true) => LOST,
+            (NO, true) => LOST,
+            (LATE, false) => LATE,
+            (LATE, true) => NO,
+            (_, true) => {
+                if state - START == self.number {
+                    YES
+                } else {
+                    NO
+                }
+            }
+            (_, false) => {
+                if state - START == self.number {
+                    LATE
+                } else {
+                    state + 1
+                }
+            }
+        }
+    }
+
+    fn sign(&self, state: u32) -> Sign {
+        sign_by_verdict(state)
+    }
+}
+
+/// The automaton of `x = n`.
+pub(crate) fn number(
+    alloc: Global,
+    x: u32,
+    n: u64,
+    setting: Setting,
+) -> Result<Automaton, StepFault>
+    requires some { 1 ≤ setting.limit }
+    requires small { setting.limit ≤ 4000000000 }
+    ensures { IsMade setting.mode (Basic.Number x n) setting.limit (states_of (Basic.Number x n)) result }
+{
+    if n > GREATEST {
+        return Err(StepFault::Nodes {
+            limit: setting.limit,
+        });
+    }
+    let machine = NumberMachine { number: n as u32 };
+    made(alloc, machine, Basic::Number(x, n), 1, setting)
+}

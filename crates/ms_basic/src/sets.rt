@@ -1,0 +1,144 @@
+ghost use Rattle.std.specs.Prelude.{◌≡◌, ◌≤◌};
+ghost use Rattle.ms_basic.specs.Decides.{IsMade};
+ghost use Rattle.ms_basic.specs.Sets.{agrees};
+ghost use Rattle.ms_basic.specs.States.{states_of};
+
+use crate::made::{Setting, made};
+use crate::repeated::ConstantMachine;
+use crate::verdict::sign_by_contradiction;
+use ms_dfa::Automaton;
+use ms_edge::StepFault;
+use ms_explore::{SmallMachine, TrackBits};
+use ms_logic::{Basic, Sign};
+use std::alloc::Global;
+
+/// A relation between sets that holds where the bits of each position agree with it.
+#[derive(Clone, Copy)]
+pub(crate) enum SetRelation {
+    Sub,
+    Union,
+    Inter,
+    Diff,
+}
+
+/// Whether the bits of a position agree with the relation.
+fn agrees(relation: SetRelation, bits: TrackBits) -> bool
+    ensures { result ≡ agrees relation bits }
+{
+    match relation {
+        SetRelation::Sub => !bits.first || bits.second,
+        SetRelation::Union => bits.first == (bits.second || bits.third),
+        SetRelation::Inter => bits.first == (bits.second && bits.third),
+        SetRelation::Diff => bits.first == (bits.second && !bits.third),
+    }
+}
+
+/// The machine of a relation between sets: from the state 0 it goes over to the state 1 at the first position that does not
+/// agree, and stays there.
+#[derive(Clone, Copy)]
+struct SetsMachine {
+    relation: SetRelation,
+}
+
+impl SmallMachine for SetsMachine {
+    ghost use Rattle.ms_basic.specs.Sets.{sets_table};
+
+    ghost table = { λ machine. sets_table machine.relation };
+
+    fn states(&self) -> u32 {
+        2
+    }
+
+    fn start(&self, bits: TrackBits) -> u32 {
+        let _ = bits;
+        0
+    }
+
+    fn step(&self, state: u32, bits: TrackBits) -> u32 {
+        if state == 0 {
+            u32::from(!agrees(self.relation, bits))
+        } else {
+            1
+        }
+    }
+
+    fn sign(&self, state: u32) -> Sign {
+        sign_by_contradiction(state)
+    }
+}
+
+/// The automaton of `S sub T`.
+pub(crate) fn sub(alloc: Global, s: u32, t: u32, setting: Setting) -> Result<Automaton, StepFault>
+    requires some { 1 ≤ setting.limit }
+    requires small { setting.limit ≤ 4000000000 }
+    ensures { IsMade setting.mode (Basic.Sub s t) setting.limit (states_of (Basic.Sub s t)) result }
+{
+    let form = Basic::Sub(s, t);
+    if s == t {
+        return made(alloc, ConstantMachine { holds: true }, form, 1, setting);
+    }
+    let relation = SetRelation::Sub;
+    made(alloc, SetsMachine { relation }, form, 2, setting)
+}
+
+/// The automaton of `S = T union U`.
+pub(crate) fn union(
+    alloc: Global,
+    s: u32,
+    t: u32,
+    u: u32,
+    setting: Setting,
+) -> Result<Automaton, StepFault>
+    requires some { 1 ≤ setting.limit }
+    requires small { setting.limit ≤ 4000000000 }
+    ensures { IsMade setting.mode (Basic.Union s t u) setting.limit (states_of (Basic.Union s t u)) result }
+{
+    let form = Basic::Union(s, t, u);
+    if s == t && t == u {
+        return made(alloc, ConstantMachine { holds: true }, form, 1, setting);
+    }
+    let relation = SetRelation::Union;
+    made(alloc, SetsMachine { relation }, form, 3, setting)
+}
+
+/// The automaton of `S = T inter U`.
+pub(crate) fn inter(
+    alloc: Global,
+    s: u32,
+    t: u32,
+    u: u32,
+    setting: Setting,
+) -> Result<Automaton, StepFault>
+    requires some { 1 ≤ setting.limit }
+    requires small { setting.limit ≤ 4000000000 }
+    ensures { IsMade setting.mode (Basic.Inter s t u) setting.limit (states_of (Basic.Inter s t u)) result }
+{
+    let form = Basic::Inter(s, t, u);
+    if s == t && t == u {
+        return made(alloc, ConstantMachine { holds: true }, form, 1, setting);
+    }
+    let relation = SetRelation::Inter;
+    made(alloc, SetsMachine { relation }, form, 3, setting)
+}
+
+/// The automaton of `S = T \ U`.
+pub(crate) fn diff(
+    alloc: Global,
+    s: u32,
+    t: u32,
+    u: u32,
+    setting: Setting,
+) -> Result<Automaton, StepFault>
+    requires some { 1 ≤ setting.limit }
+    requires small { setting.limit ≤ 4000000000 }
+    ensures { IsMade setting.mode (Basic.Diff s t u) setting.limit (states_of (Basic.Diff s t u)) result }
+{
+    let relation = SetRelation::Diff;
+    made(
+        alloc,
+        SetsMachine { relation },
+        Basic::Diff(s, t, u),
+        3,
+        setting,
+    )
+}

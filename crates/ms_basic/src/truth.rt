@@ -1,0 +1,47 @@
+ghost use Rattle.std.specs.Prelude.{◌≤◌};
+ghost use Rattle.ms_basic.specs.Decides.{IsMade};
+ghost use Rattle.ms_basic.specs.States.{states_of};
+
+use crate::made::{Setting, made};
+use crate::verdict::sign_by_contradiction;
+use ms_dfa::Automaton;
+use ms_edge::StepFault;
+use ms_explore::{SmallMachine, TrackBits};
+use ms_logic::{Basic, Sign};
+use std::alloc::Global;
+
+/// The machine of a truth value.
+#[derive(Clone, Copy)]
+struct TruthMachine;
+
+impl SmallMachine for TruthMachine {
+    ghost use Rattle.ms_basic.specs.Truth.{truth_table};
+
+    ghost table = { λ machine. truth_table };
+
+    fn states(&self) -> u32 {
+        2
+    }
+
+    fn start(&self, bits: TrackBits) -> u32 {
+        u32::from(!bits.first)
+    }
+
+    fn step(&self, state: u32, bits: TrackBits) -> u32 {
+        let _ = bits;
+        state
+    }
+
+    fn sign(&self, state: u32) -> Sign {
+        sign_by_contradiction(state)
+    }
+}
+
+/// The automaton of a truth value.
+pub(crate) fn truth(alloc: Global, a: u32, setting: Setting) -> Result<Automaton, StepFault>
+    requires some { 1 ≤ setting.limit }
+    requires small { setting.limit ≤ 4000000000 }
+    ensures { IsMade setting.mode (Basic.Truth a) setting.limit (states_of (Basic.Truth a)) result }
+{
+    made(alloc, TruthMachine, Basic::Truth(a), 1, setting)
+}
