@@ -1,0 +1,15 @@
+//! The signs of all words up to a length: of basic relations, and of what connectives make of them. A row of the data names
+//! steps, from left to right: a basic relation with its variables, by number, is one automaton more, and a connective takes
+//! the last ones and leaves one.
+#![tactic(auto)]
+
+mod orders;
+mod rows;
+mod steps;
+mod words;
+
+use anyhow::Result;
+
+fn main(rt: HostRuntime) -> Result<()> {
+    rows::tell(&rt)
+}
