@@ -1,25 +1,13 @@
 ghost use Rattle.std.specs.Prelude.{◌≡◌, ◌⊎◌, true, IfOk, IfErr};
 ghost use Rattle.ms_grammar.specs.Declarations.{ReadsAs};
 ghost use Rattle.ms_parse.specs.Refused.{IsGrammarFault};
-ghost use Rattle.ms_steps.specs.States.{source_of};
 
 use crate::refuse::refusal_of;
-use ms_edge::{List, Refusal};
+use ms_edge::Refusal;
 use ms_logic::Source;
-use ms_steps::{Parsed, read};
+use ms_steps::read;
 use ms_text::Tokens;
 use std::alloc::Global;
-
-/// The source that has been read.
-fn source(parsed: Parsed) -> Source
-    ensures { result ≡ source_of parsed }
-{
-    let Parsed { header, items } = parsed;
-    Source {
-        header,
-        items: List::from(items),
-    }
-}
 
 /// The tree that the tokens read as. `file` is the number of their file, which a refusal names.
 pub fn parse(alloc: Global, tokens: &Tokens, file: u32) -> Result<Source, Refusal>
@@ -27,7 +15,7 @@ pub fn parse(alloc: Global, tokens: &Tokens, file: u32) -> Result<Source, Refusa
     ensures refused { IfErr result (λ refusal. (refusal ≡ Refusal.Memory) ⊎ IsGrammarFault file tokens.now refusal) }
 {
     match read(alloc, tokens, file) {
-        Ok(parsed) => Ok(source(parsed)),
+        Ok(source) => Ok(source),
         Err(stop) => Err(refusal_of(alloc, tokens, file, stop)),
     }
 }

@@ -10,21 +10,26 @@ use Rattle.ms_logic.specs.declared.mode.Rel.TheVariants.{Equal}
 use Rattle.ms_grammar.specs.declared.operator.Binary.TheVariants.{Relation}
 use Rattle.ms_grammar.specs.Reads.{int_symbol, Starts, Follows}
 use Rattle.ms_grammar.specs.Symbol.{Symbol, name, number, text, infix_operator, sign, kind, word_ws1s, open_round, close_round, close_curly, comma, semicolon, arrow, Placed, placed}
+use Rattle.ms_grammar.specs.Grammar.{greatest_depth}
 use Rattle.ms_grammar.specs.Tree.{Variables, no_variables, and_variable, Domain}
+use Rattle.ms_grammar.specs.View.{expression_of}
 use Rattle.ms_steps.specs.declared.frame.Frame.{Frame}
+use Rattle.ms_steps.specs.declared.followed.Followed.{Followed}
 use Rattle.ms_steps.specs.declared.outcome.Outcome.{Outcome}
 use Rattle.ms_steps.specs.declared.punctuation.Punctuation.{Punctuation}
 use Rattle.ms_steps.specs.declared.punctuation.Punctuation.TheVariants as marks
-use Rattle.ms_steps.specs.declared.state.Parsed.{Parsed}
+use Rattle.ms_steps.specs.declared.parser.Parser.{Parser}
 use Rattle.ms_steps.specs.declared.state.State.{State}
 use Rattle.ms_steps.specs.declared.stop.Stop.{Stop}
+use Rattle.ms_steps.specs.declared.terminal.Terminal.{Terminal}
+use Rattle.ms_steps.specs.Followed.{settled}
 use Rattle.ms_steps.specs.Kinds.{IsKind, IsNoKind, last_order}
 use Rattle.ms_steps.specs.Machine as machine
-use Rattle.ms_steps.specs.Machine.{Step, took, misplaced, too_deep, is_mark, either_mark, mark_then, name_then, text_then, int_then, symbol_then, kind_then}
+use Rattle.ms_steps.specs.Machine.{Step, took, misplaced, too_deep, is_mark, either_mark, mark_then, name_then, text_then, int_then, symbol_then, kind_then, settle}
 use Rattle.ms_steps.specs.Outcomes.{StopsAs, ActsAs}
 use Rattle.ms_steps.specs.Punctuations.{punctuation, IsNot}
 use Rattle.ms_steps.specs.States.{StepsAs}
-use Rattle.ms_steps.specs.Terminals.{behind, IsNext, NoName, NoInt}
+use Rattle.ms_steps.specs.Terminals.{behind, symbol_with, IsNext, NoName, NoInt}
 use Rattle.ms_steps.proofs.Frames.{chosen_yes, chosen_no}
 use Rattle.ms_steps.proofs.Moves.{int_read}
 use Rattle.ms_steps.proofs.Steps.{at_start}
@@ -34,8 +39,8 @@ use Rattle.ms_steps.proofs.Steps.{at_start}
 pub acts_as : (c : machine.Context) (file : ℕ) (lexed : Lexed) (step step' : Step) (frames : List Frame) (r : Result (Outcome × ℕ) Stop) → step ≡ step' → ActsAs c file lexed step' frames r → ActsAs c file lexed step frames r
 acts_as c file lexed step step' frames r same is_so = subst (λ x. ActsAs c file lexed x frames r) (sym same) is_so
 
-pub steps_as : (file : ℕ) (lexed : Lexed) (step step' : Step) (made : Parsed) (frames : List Frame) (r : Result (State × ℕ) Stop) → step ≡ step' → StepsAs file lexed step' made frames r → StepsAs file lexed step made frames r
-steps_as file lexed step step' made frames r same stepped = subst (λ x. StepsAs file lexed x made frames r) (sym same) stepped
+pub steps_as : (file : ℕ) (lexed : Lexed) (step step' : Step) (parser : Parser) (r : Result (State × ℕ) Stop) → step ≡ step' → StepsAs file lexed step' parser r → StepsAs file lexed step parser r
+steps_as file lexed step step' parser r same stepped = subst (λ x. StepsAs file lexed x parser r) (sym same) stepped
 
 pub stops_as : (file : ℕ) (lexed : Lexed) (step step' : Step) (stop : Stop) → step ≡ step' → StopsAs file lexed step' stop → StopsAs file lexed step stop
 stops_as file lexed step step' stop same stops = subst (λ x. StopsAs file lexed x stop) (sym same) stops
@@ -154,9 +159,15 @@ kind_found vs o further ts ts' (inr (none, last, same)) = kind_kept vs o further
 
 -- the same step, where it depends on what is known
 
-pub steps_by : {X : Type 0} (file : ℕ) (lexed : Lexed) (step : X → Step) (x is : X) (made : Parsed) (frames : List Frame) (r : Result (State × ℕ) Stop) → x ≡ is → StepsAs file lexed (step is) made frames r → StepsAs file lexed (step x) made frames r
-steps_by file lexed step x is made frames r same stepped = subst (λ y. StepsAs file lexed (step y) made frames r) (sym same) stepped
+pub steps_by : {X : Type 0} (file : ℕ) (lexed : Lexed) (step : X → Step) (x is : X) (parser : Parser) (r : Result (State × ℕ) Stop) → x ≡ is → StepsAs file lexed (step is) parser r → StepsAs file lexed (step x) parser r
+steps_by file lexed step x is parser r same stepped = subst (λ y. StepsAs file lexed (step y) parser r) (sym same) stepped
 
 -- a step for which the stack was lent
 pub lent_acts : (c : machine.Context) (file : ℕ) (lexed : Lexed) (step : List Frame → Step) (lent old : List Frame) (r : Result (Outcome × ℕ) Stop) → lent ≡ old → ActsAs c file lexed (step lent) lent r → ActsAs c file lexed (step old) old r
 lent_acts c file lexed step lent old r whole is_so = subst (λ x. ActsAs c file lexed (step x) x r) whole is_so
+
+-- a step that depends on the terminal behind a whole expression
+pub ends_by : (file : ℕ) (lexed : Lexed) (c : machine.Context) (bytes : List ℕ) (inside : Bool) (followed : Followed) (is : Terminal) (parser : Parser) (r : Result (State × ℕ) Stop) → followed.terminal ≡ is
+    → StepsAs file lexed (settle greatest_depth c (symbol_with is bytes) inside (expression_of followed.operand.expr, []) (behind file lexed (followed.next - 1)) (behind file lexed followed.next)) parser r → StepsAs file lexed (settled file lexed c bytes inside followed []) parser r
+ends_by file lexed c bytes inside followed is parser r same stepped =
+    steps_by file lexed (λ s. settle greatest_depth c (symbol_with s bytes) inside (expression_of followed.operand.expr, []) (behind file lexed (followed.next - 1)) (behind file lexed followed.next)) followed.terminal is parser r same stepped

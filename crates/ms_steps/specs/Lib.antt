@@ -1,4 +1,5 @@
 pub mod Ends
+pub mod Followed
 pub mod Headers
 pub mod Kinds
 pub mod Links

@@ -1,22 +1,27 @@
-ghost use Rattle.std.specs.Prelude.{◌≡◌, [], ℕ, Bool, List, ◌-◌};
-ghost use Rattle.ms_grammar.specs.Grammar.{greatest_depth};
-ghost use Rattle.ms_grammar.specs.View.{expression_of};
+ghost use Rattle.std.specs.Prelude.{◌≡◌, [], ℕ, Bool, List};
+ghost use Rattle.ms_grammar.specs.View.{document_of};
 ghost use Rattle.ms_steps.specs.Ends.{IsEnd};
-ghost use Rattle.ms_steps.specs.Machine.{settle};
-ghost use Rattle.ms_steps.specs.Terminals.{behind, symbol_with};
-ghost use Rattle.ms_steps.specs.States.{StepsAs, context_of, read_of};
+ghost use Rattle.ms_steps.specs.Followed.{settled};
+ghost use Rattle.ms_steps.specs.Terminals.{symbol_with};
+ghost use Rattle.ms_steps.specs.States.{StepsAs, context_of};
 
-use crate::frame::Frame;
-use crate::globals::end_global;
-use crate::go_on::{end_default, end_formula, end_predicate};
+use crate::followed::Followed;
 use crate::input::Input;
-use crate::operand::{Identifier, Operand};
-use crate::state::{Parsed, State};
+use crate::operand::Identifier;
+use crate::parser::Parser;
+use crate::state::State;
 use crate::stop::Stop;
-use crate::terminal::Terminal;
 use ms_edge::{At, List, Name};
-use ms_logic::{Bound, Order};
-use std::alloc::Global;
+use ms_logic::{Bound, Order, PlacedInt};
+
+/// A constant whose declaration has been begun: the place of its word, its name, and its numbers so far.
+#[derive(Drop)]
+pub struct Constant {
+    pub at: At,
+    pub at_name: At,
+    pub name: Name,
+    pub sum: List<PlacedInt>,
+}
 
 /// A declaration of variables that has been begun: the place of its word, and the variables so far.
 #[derive(Drop)]
@@ -36,13 +41,21 @@ pub struct Signature {
     pub parameters: List<Bound>,
 }
 
+/// A parameter that has been begun behind those of a predicate or a macro: its order and its name.
+#[derive(Drop)]
+pub struct Parameter {
+    pub signature: Signature,
+    pub order: Order,
+    pub variable: Identifier,
+}
+
 /// A declaration of which an expression has been begun.
 pub enum Context {
     Formula(At),
     /// The restriction of a variable, with its name.
     Global(Globals, Identifier),
-    /// The restriction of a parameter, with its order and name.
-    Parameter(Signature, Order, Identifier),
+    /// The restriction of a parameter.
+    Parameter(Parameter),
     /// The body of a predicate or a macro.
     Predicate(Signature),
     /// A default restriction of an order, with its parameter.
@@ -57,10 +70,7 @@ impl Drop for Context {
                 drop(globals);
                 drop(variable)
             }
-            Context::Parameter(signature, _, variable) => {
-                drop(signature);
-                drop(variable)
-            }
+            Context::Parameter(parameter) => drop(parameter),
             Context::Predicate(signature) => drop(signature),
             Context::Default(_, _, name) => drop(name),
         }
@@ -72,27 +82,20 @@ impl Context {
     pub fn end_expression(
         self,
         input: Input<'_>,
-        made: &mut Parsed,
-        stack: &mut Vec<Frame>,
-        operand: Operand,
-        terminal: Terminal,
-        i: u32,
+        parser: &mut Parser,
+        followed: Followed,
     ) -> Result<(State, u32), Stop>
-        ensures { (bytes : List ℕ) (inside : Bool) → IsEnd inside (symbol_with terminal bytes) →
-            StepsAs input.entry.file input.entry.tokens.now (settle greatest_depth (context_of (read_of made.old) self) (symbol_with terminal bytes) inside (expression_of operand.expr, []) (behind input.entry.file input.entry.tokens.now (i - 1)) (behind input.entry.file input.entry.tokens.now i)) made.new stack.new.items result }
+        ensures { (bytes : List ℕ) (inside : Bool) → IsEnd inside (symbol_with followed.terminal bytes) →
+            StepsAs input.entry.file input.entry.tokens.now (settled input.entry.file input.entry.tokens.now (context_of (document_of parser.old.source) self) bytes inside followed []) parser.new result }
     {
         match self {
-            Context::Formula(at) => end_formula(made, at, operand, terminal, i),
+            Context::Formula(at) => parser.end_formula(at, followed),
             Context::Global(globals, variable) => {
-                end_global(input.alloc, made, globals, variable, operand, terminal, i)
+                parser.end_global(input.alloc, globals, variable, followed)
             }
-            Context::Parameter(signature, order, variable) => input.end_parameter(
-                stack, signature, order, variable, operand, terminal, i,
-            ),
-            Context::Predicate(signature) => end_predicate(made, signature, operand, terminal, i),
-            Context::Default(at, order, name) => end_default(
-                made, at, order, name, operand, terminal, i,
-            ),
+            Context::Parameter(parameter) => input.end_parameter(parser, parameter, followed),
+            Context::Predicate(signature) => parser.end_predicate(signature, followed),
+            Context::Default(at, order, name) => parser.end_default(at, order, name, followed),
         }
     }
 }

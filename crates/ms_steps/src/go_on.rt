@@ -1,30 +1,31 @@
-ghost use Rattle.std.specs.Prelude.{◌≡◌, ◌∷◌, [], ℕ, Bool, List, false, IsTrue, ◌-◌};
+ghost use Rattle.std.specs.Prelude.{◌≡◌, ◌∷◌, [], ℕ, Bool, List, false, IsTrue};
 ghost use Rattle.ms_text.specs.TokenList.{Lexed};
-ghost use Rattle.ms_grammar.specs.View.{expression_of, variables_of};
+ghost use Rattle.ms_grammar.specs.View.{document_of, expression_of, variables_of};
 ghost use Rattle.ms_steps.specs.Ends.{ends_part, IsEnd, IsOperator};
+ghost use Rattle.ms_steps.specs.Followed.{settled};
 ghost use Rattle.ms_steps.specs.Machine as machine;
-ghost use Rattle.ms_steps.specs.Machine.{holding, in_default, in_formula, in_predicate, settle, step};
+ghost use Rattle.ms_steps.specs.Machine.{holding, in_default, in_formula, in_predicate, step};
 ghost use Rattle.ms_steps.specs.Opened.{frame_of};
 ghost use Rattle.ms_steps.specs.Outcomes.{ActsAs};
 ghost use Rattle.ms_steps.specs.Terminals.{behind, symbol_with};
 ghost use Rattle.ms_steps.specs.Stack.{stack_of};
-ghost use Rattle.ms_steps.specs.States.{head_of, StepsAs, context_of, read_of};
-ghost use Rattle.ms_steps.specs.declared.frame.Frame.{Frame};
+ghost use Rattle.ms_steps.specs.States.{head_of, StepsAs, context_of};
 ghost use Rattle.ms_grammar.specs.Grammar.{greatest_depth};
-ghost use Rattle.ms_grammar.specs.Tree.{Document};
 
 use crate::bound::{bound, ends_part};
 use crate::context::{Context, Signature};
-use crate::declare::{declared, inside};
+use crate::declare::inside;
+use crate::followed::Followed;
 use crate::frame::Frame;
 use crate::input::Input;
 use crate::join::join;
 use crate::operand::Operand;
 use crate::outcome::Outcome;
+use crate::parser::Parser;
 use crate::row::row_of;
 use crate::settle::shift;
 use crate::stack::{collapse, pop_frame};
-use crate::state::{Parsed, State};
+use crate::state::State;
 use crate::stop::Stop;
 use crate::terminal::Terminal;
 use ms_edge::{At, Name};
@@ -48,18 +49,21 @@ impl Input<'_> {
     fn settle_operator(
         self,
         stack: &mut Vec<Frame>,
-        operand: Operand,
-        terminal: Terminal,
-        i: u32,
+        followed: Followed,
     ) -> Result<(Outcome, u32), Stop>
-        ensures { (c : machine.Context) (bytes : List ℕ) (inside : Bool) → IsOperator inside (symbol_with terminal bytes) →
-            ActsAs c self.entry.file self.entry.tokens.now (settle greatest_depth c (symbol_with terminal bytes) inside (expression_of operand.expr, stack_of stack.old.items) (behind self.entry.file self.entry.tokens.now (i - 1)) (behind self.entry.file self.entry.tokens.now i)) stack.new.items result }
+        ensures { (c : machine.Context) (bytes : List ℕ) (inside : Bool) → IsOperator inside (symbol_with followed.terminal bytes) →
+            ActsAs c self.entry.file self.entry.tokens.now (settled self.entry.file self.entry.tokens.now c bytes inside followed (stack_of stack.old.items)) stack.new.items result }
     {
+        let Followed {
+            operand,
+            terminal,
+            next,
+        } = followed;
         match terminal {
-            Terminal::Infix(op) => shift(stack, op, operand, i),
-            Terminal::Joining(op) => join(self.alloc, stack, op, operand, i),
-            Terminal::Shift(minus) => self.shift_int(stack, operand, minus, i),
-            _ => Err(Stop::Refused(i.saturating_sub(1))),
+            Terminal::Infix(op) => shift(stack, op, operand, next),
+            Terminal::Joining(op) => join(self.alloc, stack, op, operand, next),
+            Terminal::Shift(minus) => self.shift_int(stack, operand, minus, next),
+            _ => Err(Stop::Refused(next.saturating_sub(1))),
         }
     }
 }
@@ -69,87 +73,97 @@ fn settle_frame(
     alloc: Global,
     stack: &mut Vec<Frame>,
     frame: Frame,
-    operand: Operand,
-    terminal: Terminal,
-    i: u32,
+    followed: Followed,
 ) -> Result<(Outcome, u32), Stop>
-    ensures { (c : machine.Context) (file : ℕ) (lexed : Lexed) (bytes : List ℕ) (inside : Bool) → IsEnd inside (symbol_with terminal bytes) →
-        ActsAs c file lexed (settle greatest_depth c (symbol_with terminal bytes) inside (expression_of operand.expr, frame_of frame.opened ∷ stack_of stack.old.items) (behind file lexed (i - 1)) (behind file lexed i)) stack.new.items result }
+    ensures { (c : machine.Context) (file : ℕ) (lexed : Lexed) (bytes : List ℕ) (inside : Bool) → IsEnd inside (symbol_with followed.terminal bytes) →
+        ActsAs c file lexed (settled file lexed c bytes inside followed (frame_of frame.opened ∷ stack_of stack.old.items)) stack.new.items result }
 {
     let row = row_of(frame);
+    let Followed {
+        operand,
+        terminal,
+        next,
+    } = followed;
     match terminal {
-        Terminal::CloseRound => row.close_round(alloc, operand, i),
-        Terminal::CloseCurly => row.close_curly(operand, i),
-        Terminal::Comma => row.comma(alloc, stack, operand, i),
-        Terminal::Colon => row.colon(alloc, stack, operand, i),
-        Terminal::Infix(_) => row.end_parts(stack, operand, i),
-        _ => Err(Stop::Refused(i.saturating_sub(1))),
+        Terminal::CloseRound => row.close_round(alloc, operand, next),
+        Terminal::CloseCurly => row.close_curly(operand, next),
+        Terminal::Comma => row.comma(alloc, stack, operand, next),
+        Terminal::Colon => row.colon(alloc, stack, operand, next),
+        Terminal::Infix(_) => row.end_parts(stack, operand, next),
+        _ => Err(Stop::Refused(next.saturating_sub(1))),
     }
 }
 
-/// What ends a formula that is declared.
-pub fn end_formula(
-    made: &mut Parsed,
-    at: At,
-    operand: Operand,
-    terminal: Terminal,
-    i: u32,
-) -> Result<(State, u32), Stop>
-    ensures { (file : ℕ) (lexed : Lexed) (frames : List Frame) (bytes : List ℕ) (inside : Bool) → IsEnd inside (symbol_with terminal bytes) →
-        StepsAs file lexed (settle greatest_depth (in_formula (read_of made.old) at) (symbol_with terminal bytes) inside (expression_of operand.expr, []) (behind file lexed (i - 1)) (behind file lexed i)) made.new frames result }
-{
-    let Operand { expr, .. } = operand;
-    match terminal {
-        Terminal::Semicolon => declared(made, at, Decl::Formula(expr), i),
-        _ => Err(Stop::Refused(i.saturating_sub(1))),
-    }
-}
-
-/// What ends the body of a predicate.
-pub fn end_predicate(
-    made: &mut Parsed,
-    signature: Signature,
-    operand: Operand,
-    terminal: Terminal,
-    i: u32,
-) -> Result<(State, u32), Stop>
-    ensures { (file : ℕ) (lexed : Lexed) (frames : List Frame) (bytes : List ℕ) (inside : Bool) → IsEnd inside (symbol_with terminal bytes) →
-        StepsAs file lexed (settle greatest_depth (in_predicate (read_of made.old) (head_of signature) (variables_of signature.parameters)) (symbol_with terminal bytes) inside (expression_of operand.expr, []) (behind file lexed (i - 1)) (behind file lexed i)) made.new frames result }
-{
-    let Signature {
-        at,
-        is_pred,
-        at_name,
-        name,
-        parameters,
-    } = signature;
-    let Operand { expr, .. } = operand;
-    match terminal {
-        Terminal::Semicolon => {
-            let decl = Decl::Pred(is_pred, at_name, name, parameters, expr);
-            declared(made, at, decl, i)
+impl Parser {
+    /// What ends a formula that is declared.
+    pub fn end_formula(&mut self, at: At, followed: Followed) -> Result<(State, u32), Stop>
+        ensures { (file : ℕ) (lexed : Lexed) (bytes : List ℕ) (inside : Bool) → IsEnd inside (symbol_with followed.terminal bytes) →
+            StepsAs file lexed (settled file lexed (in_formula (document_of self.old.source) at) bytes inside followed []) self.new result }
+    {
+        let Followed {
+            operand,
+            terminal,
+            next,
+        } = followed;
+        let Operand { expr, .. } = operand;
+        match terminal {
+            Terminal::Semicolon => self.declared(at, Decl::Formula(expr), next),
+            _ => Err(Stop::Refused(next.saturating_sub(1))),
         }
-        _ => Err(Stop::Refused(i.saturating_sub(1))),
     }
-}
 
-/// What ends the body of a default restriction.
-pub fn end_default(
-    made: &mut Parsed,
-    at: At,
-    order: Order,
-    name: Name,
-    operand: Operand,
-    terminal: Terminal,
-    i: u32,
-) -> Result<(State, u32), Stop>
-    ensures { (file : ℕ) (lexed : Lexed) (frames : List Frame) (bytes : List ℕ) (inside : Bool) → IsEnd inside (symbol_with terminal bytes) →
-        StepsAs file lexed (settle greatest_depth (in_default (read_of made.old) at order name) (symbol_with terminal bytes) inside (expression_of operand.expr, []) (behind file lexed (i - 1)) (behind file lexed i)) made.new frames result }
-{
-    let Operand { expr, .. } = operand;
-    match terminal {
-        Terminal::Semicolon => declared(made, at, Decl::Default(order, name, expr), i),
-        _ => Err(Stop::Refused(i.saturating_sub(1))),
+    /// What ends the body of a predicate.
+    pub fn end_predicate(
+        &mut self,
+        signature: Signature,
+        followed: Followed,
+    ) -> Result<(State, u32), Stop>
+        ensures { (file : ℕ) (lexed : Lexed) (bytes : List ℕ) (inside : Bool) → IsEnd inside (symbol_with followed.terminal bytes) →
+            StepsAs file lexed (settled file lexed (in_predicate (document_of self.old.source) (head_of signature) (variables_of signature.parameters)) bytes inside followed []) self.new result }
+    {
+        let Signature {
+            at,
+            is_pred,
+            at_name,
+            name,
+            parameters,
+        } = signature;
+        let Followed {
+            operand,
+            terminal,
+            next,
+        } = followed;
+        let Operand { expr, .. } = operand;
+        match terminal {
+            Terminal::Semicolon => {
+                let decl = Decl::Pred(is_pred, at_name, name, parameters, expr);
+                self.declared(at, decl, next)
+            }
+            _ => Err(Stop::Refused(next.saturating_sub(1))),
+        }
+    }
+
+    /// What ends the body of a default restriction.
+    pub fn end_default(
+        &mut self,
+        at: At,
+        order: Order,
+        name: Name,
+        followed: Followed,
+    ) -> Result<(State, u32), Stop>
+        ensures { (file : ℕ) (lexed : Lexed) (bytes : List ℕ) (inside : Bool) → IsEnd inside (symbol_with followed.terminal bytes) →
+            StepsAs file lexed (settled file lexed (in_default (document_of self.old.source) at order name) bytes inside followed []) self.new result }
+    {
+        let Followed {
+            operand,
+            terminal,
+            next,
+        } = followed;
+        let Operand { expr, .. } = operand;
+        match terminal {
+            Terminal::Semicolon => self.declared(at, Decl::Default(order, name, expr), next),
+            _ => Err(Stop::Refused(next.saturating_sub(1))),
+        }
     }
 }
 
@@ -157,46 +171,48 @@ impl Input<'_> {
     /// A terminal behind an expression, once the frames that end before it are completed.
     fn settle(
         self,
-        made: &mut Parsed,
-        stack: &mut Vec<Frame>,
+        parser: &mut Parser,
         context: Context,
-        operand: Operand,
-        terminal: Terminal,
+        followed: Followed,
         is_end: bool,
-        i: u32,
     ) -> Result<(State, u32), Stop>
-        ensures { (bytes : List ℕ) (inside : Bool) → is_end ≡ ends_part inside (symbol_with terminal bytes) →
-            StepsAs self.entry.file self.entry.tokens.now (settle greatest_depth (context_of (read_of made.old) context) (symbol_with terminal bytes) inside (expression_of operand.expr, stack_of stack.old.items) (behind self.entry.file self.entry.tokens.now (i - 1)) (behind self.entry.file self.entry.tokens.now i)) made.new stack.new.items result }
+        ensures { (bytes : List ℕ) (inside : Bool) → is_end ≡ ends_part inside (symbol_with followed.terminal bytes) →
+            StepsAs self.entry.file self.entry.tokens.now (settled self.entry.file self.entry.tokens.now (context_of (document_of parser.old.source) context) bytes inside followed (stack_of parser.old.stack.items)) parser.new result }
     {
-        if is_operator(terminal, is_end) {
-            let taken = self.settle_operator(stack, operand, terminal, i);
+        if is_operator(followed.terminal, is_end) {
+            let taken = self.settle_operator(&mut parser.stack, followed);
             return inside(context, taken);
         }
-        match pop_frame(stack) {
+        match pop_frame(&mut parser.stack) {
             Some(frame) => inside(
                 context,
-                settle_frame(self.alloc, stack, frame, operand, terminal, i),
+                settle_frame(self.alloc, &mut parser.stack, frame, followed),
             ),
-            None => context.end_expression(self, made, stack, operand, terminal, i),
+            None => context.end_expression(self, parser, followed),
         }
     }
 
     /// A step where an expression has been read.
     pub fn go_on(
         self,
-        made: &mut Parsed,
-        stack: &mut Vec<Frame>,
+        parser: &mut Parser,
         context: Context,
         operand: Operand,
         i: u32,
     ) -> Result<(State, u32), Stop>
-        ensures { StepsAs self.entry.file self.entry.tokens.now (step greatest_depth (holding (context_of (read_of made.old) context) (expression_of operand.expr) (stack_of stack.old.items)) (behind self.entry.file self.entry.tokens.now i)) made.new stack.new.items result }
+        ensures { StepsAs self.entry.file self.entry.tokens.now (step greatest_depth (holding (context_of (document_of parser.old.source) context) (expression_of operand.expr) (stack_of parser.old.stack.items)) (behind self.entry.file self.entry.tokens.now i)) parser.new result }
     {
         let Some((terminal, _)) = self.terminal_at(i) else {
             return Err(Stop::Refused(i));
         };
-        let is_end = ends_part(stack, terminal);
-        let operand = collapse(self.alloc, stack, operand, bound(terminal, is_end), i)?;
-        self.settle(made, stack, context, operand, terminal, is_end, i + 1)
+        let is_end = ends_part(&parser.stack, terminal);
+        let looseness = bound(terminal, is_end);
+        let operand = collapse(self.alloc, &mut parser.stack, operand, looseness, i)?;
+        let followed = Followed {
+            operand,
+            terminal,
+            next: i + 1,
+        };
+        self.settle(parser, context, followed, is_end)
     }
 }

@@ -5,13 +5,12 @@ ghost use Rattle.ms_steps.specs.Headers.{IsNoString, IsNoWs1s};
 ghost use Rattle.ms_steps.specs.Machine.{start};
 ghost use Rattle.ms_steps.specs.Punctuations.{IsNot};
 ghost use Rattle.ms_steps.specs.Terminals.{behind, IsNext};
-ghost use Rattle.ms_steps.specs.States.{read_of};
+ghost use Rattle.ms_grammar.specs.View.{document_of};
 
 use crate::input::{at_of, is_name, terminal_at};
 use crate::punctuation::{Punctuation, behind_mark};
-use crate::state::Parsed;
-use ms_edge::At;
-use ms_logic::Mode;
+use ms_edge::{At, List};
+use ms_logic::{Mode, Source};
 use ms_text::Tokens;
 use std::alloc::Global;
 
@@ -58,18 +57,18 @@ fn string_header(tokens: &Tokens, file: u32) -> Option<(At, u32)>
 }
 
 /// The header or none, and the number behind it.
-pub fn start(alloc: Global, tokens: &Tokens, file: u32) -> (Parsed, u32)
-    ensures { start (symbols file tokens.now) ≡ (read_of result.0, behind file tokens.now result.1) }
+pub fn start(alloc: Global, tokens: &Tokens, file: u32) -> (Source, u32)
+    ensures { start (symbols file tokens.now) ≡ (document_of result.0, behind file tokens.now result.1) }
 {
-    let items = Vec::new(alloc);
+    let items = List::new(alloc);
     if let Some((at, next)) = ws1s_header(tokens, file) {
         let header = Some((at, Mode::Ws1s));
-        return (Parsed { header, items }, next);
+        return (Source { header, items }, next);
     }
     if let Some((at, next)) = string_header(tokens, file) {
         let header = Some((at, Mode::M2lStr));
-        return (Parsed { header, items }, next);
+        return (Source { header, items }, next);
     }
     let header = None;
-    (Parsed { header, items }, 0)
+    (Source { header, items }, 0)
 }

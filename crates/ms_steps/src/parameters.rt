@@ -1,23 +1,22 @@
 ghost use Rattle.std.specs.Prelude.{◌≡◌, [], ℕ, Bool, List, Option, IfSome, IfNone, ◌-◌};
 ghost use Rattle.ms_text.specs.TokenList.{Lexed};
 ghost use Rattle.ms_grammar.specs.Tree.{and_variable};
-ghost use Rattle.ms_grammar.specs.View.{domain_of, expression_of, variables_of};
+ghost use Rattle.ms_grammar.specs.View.{document_of, domain_of, variables_of};
 ghost use Rattle.ms_steps.specs.Ends.{IsEnd};
+ghost use Rattle.ms_steps.specs.Followed.{settled};
 ghost use Rattle.ms_steps.specs.Kinds.{last_order, IsKind, NoKind};
-ghost use Rattle.ms_steps.specs.Machine.{behind_parameter, body_of, in_parameter, next_parameter, parameter_wanted, settle, took};
+ghost use Rattle.ms_steps.specs.Machine.{behind_parameter, body_of, in_parameter, next_parameter, parameter_wanted, took};
 ghost use Rattle.ms_steps.specs.Terminals.{behind, symbol_with};
-ghost use Rattle.ms_steps.specs.States.{head_of, StepsAs, read_of};
-ghost use Rattle.ms_steps.specs.declared.frame.Frame.{Frame};
-ghost use Rattle.ms_steps.specs.declared.state.Parsed.{Parsed};
-ghost use Rattle.ms_grammar.specs.Grammar.{greatest_depth};
+ghost use Rattle.ms_steps.specs.States.{head_of, StepsAs};
+ghost use Rattle.ms_steps.specs.declared.parser.Parser.{Parser};
 
-use crate::context::{Context, Signature};
-use crate::declare::begin_expression;
-use crate::frame::Frame;
+use crate::context::{Context, Parameter, Signature};
+use crate::followed::Followed;
 use crate::input::Input;
 use crate::lists::push_variable;
 use crate::memory::boxed;
 use crate::operand::{Identifier, Operand};
+use crate::parser::Parser;
 use crate::punctuation::Punctuation;
 use crate::state::State;
 use crate::stop::Stop;
@@ -29,32 +28,33 @@ impl Input<'_> {
     /// `=` behind the parameters of a predicate.
     pub fn body_of(
         self,
-        stack: &mut Vec<Frame>,
+        parser: &mut Parser,
         signature: Signature,
         i: u32,
     ) -> Result<(State, u32), Stop>
-        ensures { (made : Parsed) →
-            StepsAs self.entry.file self.entry.tokens.now (body_of (read_of made) (head_of signature) (variables_of signature.parameters) (behind self.entry.file self.entry.tokens.now i)) made stack.new.items result }
+        ensures { StepsAs self.entry.file self.entry.tokens.now (body_of (document_of parser.old.source) (head_of signature) (variables_of signature.parameters) (behind self.entry.file self.entry.tokens.now i)) parser.new result }
     {
         let Some(next) = self.behind_mark(i, Punctuation::Equal) else {
             return Err(Stop::Refused(i));
         };
-        begin_expression(stack, Context::Predicate(signature), next)
+        parser.begin_expression(Context::Predicate(signature), next)
     }
 }
 
 /// A comma behind a parameter.
 fn another_parameter(
-    signature: Signature,
-    order: Order,
-    variable: Identifier,
+    parameter: Parameter,
     domain: Option<Boxed<Expr>>,
     i: u32,
 ) -> Result<(State, u32), Stop>
-    ensures { (file : ℕ) (lexed : Lexed) (made : Parsed) (frames : List Frame) →
-        StepsAs file lexed (took (parameter_wanted (read_of made) (head_of signature) (and_variable (variables_of signature.parameters) variable.at order variable.name (domain_of domain))) (behind file lexed i)) made frames result }
+    ensures { (file : ℕ) (lexed : Lexed) (parser : Parser) →
+        StepsAs file lexed (took (parameter_wanted (document_of parser.source) (head_of parameter.signature) (and_variable (variables_of parameter.signature.parameters) parameter.variable.at parameter.order parameter.variable.name (domain_of domain))) (behind file lexed i)) parser result }
 {
-    let mut signature = signature;
+    let Parameter {
+        mut signature,
+        order,
+        variable,
+    } = parameter;
     let Identifier { at, name } = variable;
     push_variable(&mut signature.parameters, at, order, name, domain)?;
     Ok((State::Parameter(signature), i))
@@ -64,43 +64,38 @@ impl Input<'_> {
     /// The bracket behind the last parameter.
     fn last_parameter(
         self,
-        stack: &mut Vec<Frame>,
-        signature: Signature,
-        order: Order,
-        variable: Identifier,
+        parser: &mut Parser,
+        parameter: Parameter,
         domain: Option<Boxed<Expr>>,
         i: u32,
     ) -> Result<(State, u32), Stop>
-        ensures { (made : Parsed) →
-            StepsAs self.entry.file self.entry.tokens.now (body_of (read_of made) (head_of signature) (and_variable (variables_of signature.parameters) variable.at order variable.name (domain_of domain)) (behind self.entry.file self.entry.tokens.now i)) made stack.new.items result }
+        ensures { StepsAs self.entry.file self.entry.tokens.now (body_of (document_of parser.old.source) (head_of parameter.signature) (and_variable (variables_of parameter.signature.parameters) parameter.variable.at parameter.order parameter.variable.name (domain_of domain)) (behind self.entry.file self.entry.tokens.now i)) parser.new result }
     {
-        let mut signature = signature;
+        let Parameter {
+            mut signature,
+            order,
+            variable,
+        } = parameter;
         let Identifier { at, name } = variable;
         push_variable(&mut signature.parameters, at, order, name, domain)?;
-        self.body_of(stack, signature, i)
+        self.body_of(parser, signature, i)
     }
 
     /// What stands behind a parameter.
     fn behind_parameter(
         self,
-        stack: &mut Vec<Frame>,
-        signature: Signature,
-        order: Order,
-        variable: Identifier,
+        parser: &mut Parser,
+        parameter: Parameter,
         terminal: Terminal,
         i: u32,
     ) -> Result<(State, u32), Stop>
-        ensures { (made : Parsed) (bytes : List ℕ) →
-            StepsAs self.entry.file self.entry.tokens.now (behind_parameter (read_of made) (head_of signature) (variables_of signature.parameters) order variable.at variable.name (symbol_with terminal bytes) (behind self.entry.file self.entry.tokens.now (i - 1)) (behind self.entry.file self.entry.tokens.now i)) made stack.new.items result }
+        ensures { (bytes : List ℕ) →
+            StepsAs self.entry.file self.entry.tokens.now (behind_parameter (document_of parser.old.source) (head_of parameter.signature) (variables_of parameter.signature.parameters) parameter.order parameter.variable.at parameter.variable.name (symbol_with terminal bytes) (behind self.entry.file self.entry.tokens.now (i - 1)) (behind self.entry.file self.entry.tokens.now i)) parser.new result }
     {
         match terminal {
-            Terminal::Where => {
-                begin_expression(stack, Context::Parameter(signature, order, variable), i)
-            }
-            Terminal::Comma => another_parameter(signature, order, variable, None, i),
-            Terminal::CloseRound => {
-                self.last_parameter(stack, signature, order, variable, None, i)
-            }
+            Terminal::Where => parser.begin_expression(Context::Parameter(parameter), i),
+            Terminal::Comma => another_parameter(parameter, None, i),
+            Terminal::CloseRound => self.last_parameter(parser, parameter, None, i),
             _ => Err(Stop::Refused(i.saturating_sub(1))),
         }
     }
@@ -134,12 +129,11 @@ impl Input<'_> {
     /// A parameter and what stands behind it, where a parameter is wanted.
     pub fn next_parameter(
         self,
-        stack: &mut Vec<Frame>,
+        parser: &mut Parser,
         signature: Signature,
         i: u32,
     ) -> Result<(State, u32), Stop>
-        ensures { (made : Parsed) →
-            StepsAs self.entry.file self.entry.tokens.now (next_parameter (read_of made) (head_of signature) (variables_of signature.parameters) (behind self.entry.file self.entry.tokens.now i)) made stack.new.items result }
+        ensures { StepsAs self.entry.file self.entry.tokens.now (next_parameter (document_of parser.old.source) (head_of signature) (variables_of signature.parameters) (behind self.entry.file self.entry.tokens.now i)) parser.new result }
     {
         let Some((order, from)) = self.kind_at(&signature.parameters, i) else {
             return Err(Stop::Refused(i));
@@ -150,37 +144,35 @@ impl Input<'_> {
         let Some((terminal, _)) = self.terminal_at(from + 1) else {
             return Err(Stop::Refused(from + 1));
         };
-        let variable = Identifier { at: at_name, name };
-        self.behind_parameter(stack, signature, order, variable, terminal, from + 2)
+        let parameter = Parameter {
+            signature,
+            order,
+            variable: Identifier { at: at_name, name },
+        };
+        self.behind_parameter(parser, parameter, terminal, from + 2)
     }
 
     /// What ends the restriction of a parameter.
     pub fn end_parameter(
         self,
-        stack: &mut Vec<Frame>,
-        signature: Signature,
-        order: Order,
-        variable: Identifier,
-        operand: Operand,
-        terminal: Terminal,
-        i: u32,
+        parser: &mut Parser,
+        parameter: Parameter,
+        followed: Followed,
     ) -> Result<(State, u32), Stop>
-        ensures { (made : Parsed) (bytes : List ℕ) (inside : Bool) → IsEnd inside (symbol_with terminal bytes) →
-            StepsAs self.entry.file self.entry.tokens.now (settle greatest_depth (in_parameter (read_of made) (head_of signature) (variables_of signature.parameters) order variable.at variable.name) (symbol_with terminal bytes) inside (expression_of operand.expr, []) (behind self.entry.file self.entry.tokens.now (i - 1)) (behind self.entry.file self.entry.tokens.now i)) made stack.new.items result }
+        ensures { (bytes : List ℕ) (inside : Bool) → IsEnd inside (symbol_with followed.terminal bytes) →
+            StepsAs self.entry.file self.entry.tokens.now (settled self.entry.file self.entry.tokens.now (in_parameter (document_of parser.old.source) (head_of parameter.signature) (variables_of parameter.signature.parameters) parameter.order parameter.variable.at parameter.variable.name) bytes inside followed []) parser.new result }
     {
+        let Followed {
+            operand,
+            terminal,
+            next,
+        } = followed;
         let Operand { expr, .. } = operand;
         let domain = boxed(self.alloc, expr)?;
         match terminal {
-            Terminal::Comma => another_parameter(signature, order, variable, Some(domain), i),
-            Terminal::CloseRound => self.last_parameter(
-                stack,
-                signature,
-                order,
-                variable,
-                Some(domain),
-                i,
-            ),
-            _ => Err(Stop::Refused(i.saturating_sub(1))),
+            Terminal::Comma => another_parameter(parameter, Some(domain), next),
+            Terminal::CloseRound => self.last_parameter(parser, parameter, Some(domain), next),
+            _ => Err(Stop::Refused(next.saturating_sub(1))),
         }
     }
 }

@@ -1,24 +1,26 @@
-ghost use Rattle.std.specs.Prelude.{◌≡◌, ◌⊎◌, ℕ, List, true, false, None, Some, IfOk, IfErr, IsTrue};
+ghost use Rattle.std.specs.Prelude.{◌≡◌, true, false, None, Some, List, IfOk, IfErr, IsTrue};
 ghost use Rattle.ms_grammar.specs.Declarations.{ReadsAs};
 ghost use Rattle.ms_grammar.specs.Tree.{Document};
+ghost use Rattle.ms_grammar.specs.View.{document_of};
 ghost use Rattle.ms_steps.specs.Machine as machine;
 ghost use Rattle.ms_steps.specs.Machine.{finished};
 ghost use Rattle.ms_steps.specs.Outcomes.{outcome_of};
 ghost use Rattle.ms_steps.specs.Stops.{StopsAt};
 ghost use Rattle.ms_steps.specs.Terminals.{behind};
 ghost use Rattle.ms_steps.specs.Stack.{stack_of};
-ghost use Rattle.ms_steps.specs.States.{StepsAs, context_of, read_of, source_of, state_of};
+ghost use Rattle.ms_steps.specs.States.{StepsAs, context_of, state_of};
 ghost use Rattle.ms_grammar.specs.Grammar.{greatest_depth};
 
 use crate::context::Context;
 use crate::declare::inside;
-use crate::frame::Frame;
 use crate::header::start;
 use crate::input::Input;
 use crate::outcome::Outcome;
-use crate::state::{Parsed, State};
+use crate::parser::Parser;
+use crate::state::State;
 use crate::stop::Stop;
 use ms_edge::let_go;
+use ms_logic::Source;
 use ms_text::Tokens;
 use std::alloc::Global;
 
@@ -26,43 +28,38 @@ impl Input<'_> {
     /// A step in an expression of a declaration.
     fn step_expression(
         self,
-        made: &mut Parsed,
-        stack: &mut Vec<Frame>,
+        parser: &mut Parser,
         context: Context,
         outcome: Outcome,
         i: u32,
     ) -> Result<(State, u32), Stop>
-        ensures { StepsAs self.entry.file self.entry.tokens.now (machine.step greatest_depth (outcome_of (context_of (read_of made.old) context) (stack_of stack.old.items) outcome) (behind self.entry.file self.entry.tokens.now i)) made.new stack.new.items result }
+        ensures { StepsAs self.entry.file self.entry.tokens.now (machine.step greatest_depth (outcome_of (context_of (document_of parser.old.source) context) (stack_of parser.old.stack.items) outcome) (behind self.entry.file self.entry.tokens.now i)) parser.new result }
     {
         match outcome {
-            Outcome::Wanted => inside(context, self.begin(stack, i)),
-            Outcome::Holding(operand) => { self.go_on(made, stack, context, operand, i) }
-            Outcome::Variable(binder) => inside(context, self.next_variable(stack, binder, i)),
-            Outcome::Part(locals) => inside(context, self.next_part(stack, locals, i)),
+            Outcome::Wanted => inside(context, self.begin(&mut parser.stack, i)),
+            Outcome::Holding(operand) => self.go_on(parser, context, operand, i),
+            Outcome::Variable(binder) => {
+                inside(context, self.next_variable(&mut parser.stack, binder, i))
+            }
+            Outcome::Part(locals) => {
+                inside(context, self.next_part(&mut parser.stack, locals, i))
+            }
             Outcome::Pair(at, text, pairs) => inside(context, self.next_pair(at, text, pairs, i)),
         }
     }
 
     /// A step.
-    fn step(
-        self,
-        made: &mut Parsed,
-        stack: &mut Vec<Frame>,
-        state: State,
-        i: u32,
-    ) -> Result<(State, u32), Stop>
-        ensures { StepsAs self.entry.file self.entry.tokens.now (machine.step greatest_depth (state_of (read_of made.old) (stack_of stack.old.items) state) (behind self.entry.file self.entry.tokens.now i)) made.new stack.new.items result }
+    fn step(self, parser: &mut Parser, state: State, i: u32) -> Result<(State, u32), Stop>
+        ensures { StepsAs self.entry.file self.entry.tokens.now (machine.step greatest_depth (state_of (document_of parser.old.source) (stack_of parser.old.stack.items) state) (behind self.entry.file self.entry.tokens.now i)) parser.new result }
     {
         match state {
-            State::Outside => self.begin_declaration(made, stack, i),
+            State::Outside => self.begin_declaration(parser, i),
             State::Expression(context, outcome) => {
-                self.step_expression(made, stack, context, outcome, i)
+                self.step_expression(parser, context, outcome, i)
             }
-            State::Global(globals) => self.next_global(made, stack, globals, i),
-            State::Parameter(signature) => { self.next_parameter(stack, signature, i) }
-            State::Summand(at, at_name, name, sum) => {
-                self.next_summand(made, at, at_name, name, sum, i)
-            }
+            State::Global(globals) => self.next_global(parser, globals, i),
+            State::Parameter(signature) => self.next_parameter(parser, signature, i),
+            State::Summand(constant) => self.next_summand(parser, constant, i),
         }
     }
 
@@ -76,14 +73,14 @@ impl Input<'_> {
             State::Expression(..) => false,
             State::Global(_) => false,
             State::Parameter(_) => false,
-            State::Summand(..) => false,
+            State::Summand(_) => false,
         }
     }
 }
 
 /// Takes the automaton's steps to the end.
-pub fn read(alloc: Global, tokens: &Tokens, file: u32) -> Result<Parsed, Stop>
-    ensures ok { IfOk result (λ made. ReadsAs true file tokens.now (source_of made)) }
+pub fn read(alloc: Global, tokens: &Tokens, file: u32) -> Result<Source, Stop>
+    ensures ok { IfOk result (λ source. ReadsAs true file tokens.now source) }
     ensures err { IfErr result (StopsAt file tokens.now) }
 {
     let input = Input {
@@ -91,11 +88,12 @@ pub fn read(alloc: Global, tokens: &Tokens, file: u32) -> Result<Parsed, Stop>
         tokens,
         file,
     };
-    let (mut made, mut i) = start(alloc, tokens, file);
-    let mut stack = Vec::new(alloc);
+    let (source, mut i) = start(alloc, tokens, file);
+    let stack = Vec::new(alloc);
+    let mut parser = Parser { source, stack };
     let mut state = State::Outside;
     'steps: while !input.is_finished(&state, i) {
-        match input.step(&mut made, &mut stack, state, i) {
+        match input.step(&mut parser, state, i) {
             Ok((next, behind)) => {
                 state = next;
                 i = behind;
@@ -104,5 +102,6 @@ pub fn read(alloc: Global, tokens: &Tokens, file: u32) -> Result<Parsed, Stop>
         }
     }
     let_go(state);
-    Ok(made)
+    let Parser { source, .. } = parser;
+    Ok(source)
 }

@@ -1,17 +1,19 @@
 use Rattle.std.proofs.Common.{ap, sym}
 use Rattle.ms_grammar.specs.Grammar.{greatest_depth}
+use Rattle.ms_grammar.specs.View.{document_of}
+use Rattle.ms_steps.specs.declared.parser.Parser.{Parser}
 use Rattle.ms_steps.specs.Machine.{in_formula, step, wanted}
 use Rattle.ms_steps.specs.Stack.{stack_of}
-use Rattle.ms_steps.specs.States.{read_of}
 use Rattle.ms_steps.specs.Terminals.{behind}
 use Rattle.ms_steps.proofs.Taking.{steps_as}
 use Rattle.ms_steps.proofs.input.Input.begin_formula.Goals as goal
 
 pub returns : goal.returns
-returns c made =
+returns c =
     let file = c.args.self.file in
     let lexed = c.args.self.tokens.now in
     let ts = behind file lexed c.args.i in
-    let context = in_formula (read_of made) c.args.at in
-    steps_as file lexed _ _ made c.begin-taken.new.stack.items c.inside.result (ap (λ x. step greatest_depth (wanted context (stack_of x)) ts) (sym c.clear.ensures.items))
-    (c.inside.ensures file lexed (step greatest_depth (wanted context (stack_of c.clear.new.self.items)) ts) made c.begin-taken.new.stack.items (c.begin-taken.ensures context))
+    let context = in_formula (document_of c.args.parser.now.source) c.args.at in
+    let after : Parser = record { source = c.args.parser.now.source; stack = c.begin-taken.new.stack } in
+    steps_as file lexed _ _ after c.inside.result (ap (λ x. step greatest_depth (wanted context (stack_of x)) ts) (sym c.clear.ensures.items))
+    (c.inside.ensures file lexed (step greatest_depth (wanted context (stack_of c.clear.new.self.items)) ts) after (c.begin-taken.ensures context))

@@ -1,8 +1,7 @@
 use Rattle.std.proofs.Common.{rules, ◌+◌, ℕ, List, ◌∙◌}
 use Rattle.ms_grammar.specs.Symbol.{name}
-use Rattle.ms_grammar.specs.View.{variables_of}
+use Rattle.ms_grammar.specs.View.{document_of, variables_of}
 use Rattle.ms_steps.specs.Machine.{behind_global, symbol_then}
-use Rattle.ms_steps.specs.States.{read_of}
 use Rattle.ms_steps.specs.Terminals.{symbol_with, IsNext}
 use Rattle.ms_steps.proofs.Taking.{steps_as, name_found, symbol_second}
 use Rattle.ms_steps.proofs.input.Input.next_global.Goals as goal
@@ -13,10 +12,10 @@ returns c =
     let lexed = c.args.self.tokens.now in
     let i = c.args.i in
     let g = c.args.globals in
-    let further = behind_global (read_of c.args.made.now) g.at g.order (variables_of g.list) in
+    let further = behind_global (document_of c.args.parser.now.source) g.at g.order (variables_of g.list) in
     let names : IsNext file lexed i (name c.in-Some.name) c.in-Some.at_name = search rules in
     let next : (bytes : List ℕ) × IsNext file lexed (i + 1) (symbol_with c.in-Some-terminal_at.terminal bytes) c.in-Some-terminal_at.field-0-1 = search rules in
-    steps_as file lexed _ _ c.behind_global.new.made c.behind_global.new.stack.items c.behind_global.result
+    steps_as file lexed _ _ c.behind_global.new.self c.behind_global.result
     (name_found (λ a n. symbol_then (λ x. further a n)) file lexed i c.in-Some.name c.in-Some.at_name names
     ∙ symbol_second (λ x. further c.in-Some.at_name c.in-Some.name) file lexed i (symbol_with c.in-Some-terminal_at.terminal next.0) c.in-Some-terminal_at.field-0-1 next.1)
     (c.behind_global.ensures file lexed next.0)

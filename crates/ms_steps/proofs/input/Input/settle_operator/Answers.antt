@@ -13,28 +13,28 @@ returns-in-Infix c context bytes inside is =
     let file = c.args.self.file in
     let lexed = c.args.self.tokens.now in
     let st = stack_of c.args.stack.now.items in
-    let e = expression_of c.args.operand.expr in
-    let ts = behind file lexed c.args.i in
+    let e = expression_of c.args.followed.operand.expr in
+    let ts = behind file lexed c.args.followed.next in
     acts_as context file lexed _ _ c.shift.new.stack.items c.shift.result
-    (infix_settled greatest_depth context c.args.terminal c.in-Infix.op bytes inside e st (behind file lexed (c.args.i - 1)) ts c.in-Infix.is is) (c.shift.ensures context file lexed)
+    (infix_settled greatest_depth context c.args.followed.terminal c.in-Infix.op bytes inside e st (behind file lexed (c.args.followed.next - 1)) ts c.in-Infix.is is) (c.shift.ensures context file lexed)
 
 pub returns-in-Joining : goal.returns-in-Joining
 returns-in-Joining c context bytes inside is =
     let file = c.args.self.file in
     let lexed = c.args.self.tokens.now in
     let st = stack_of c.args.stack.now.items in
-    let e = expression_of c.args.operand.expr in
-    let ts = behind file lexed c.args.i in
+    let e = expression_of c.args.followed.operand.expr in
+    let ts = behind file lexed c.args.followed.next in
     acts_as context file lexed _ _ c.join.new.stack.items c.join.result
-    (ap (λ s. settle greatest_depth context (symbol_with s bytes) inside (e, st) (behind file lexed (c.args.i - 1)) ts) c.in-Joining.is) (c.join.ensures context file lexed)
+    (ap (λ s. settle greatest_depth context (symbol_with s bytes) inside (e, st) (behind file lexed (c.args.followed.next - 1)) ts) c.in-Joining.is) (c.join.ensures context file lexed)
 
 pub returns-in-Shift : goal.returns-in-Shift
 returns-in-Shift c context bytes inside is =
     let file = c.args.self.file in
     let lexed = c.args.self.tokens.now in
     let old = c.args.stack.now.items in
-    let e = expression_of c.args.operand.expr in
-    let ts = behind file lexed c.args.i in
+    let e = expression_of c.args.followed.operand.expr in
+    let ts = behind file lexed c.args.followed.next in
     acts_as context file lexed _ _ old c.shift_int.result
-    (ap (λ s. settle greatest_depth context (symbol_with s bytes) inside (e, stack_of old) (behind file lexed (c.args.i - 1)) ts) c.in-Shift.is)
-    (lent_acts context file lexed (λ x. shift_int greatest_depth context c.in-Shift.minus e (stack_of x) (behind file lexed (c.args.i - 1)) ts) c.deref.result.now old c.shift_int.result c.deref.ensures.value (c.shift_int.ensures context))
+    (ap (λ s. settle greatest_depth context (symbol_with s bytes) inside (e, stack_of old) (behind file lexed (c.args.followed.next - 1)) ts) c.in-Shift.is)
+    (lent_acts context file lexed (λ x. shift_int greatest_depth context c.in-Shift.minus e (stack_of x) (behind file lexed (c.args.followed.next - 1)) ts) c.deref.result.now old c.shift_int.result c.deref.ensures.value (c.shift_int.ensures context))
