@@ -1,58 +1,43 @@
--- Marks that separate, behind an expression in a frame that they do not stand in.
-use Rattle.std.proofs.Common.{◌≡◌, List, ◌∷◌, refl, ap}
-use Rattle.ms_steps.specs.declared.row.Row.{Row}
-use Rattle.ms_steps.specs.declared.row.Row.TheVariants as rows
-use Rattle.ms_steps.specs.Machine.{Frame, bracket_frame, list_frame, domain_frame, part_frame, Context, misplaced, comma_at, colon_at, in_at}
-use Rattle.ms_steps.specs.Rows.{IsOther, IsRow}
+-- Marks behind an expression in a frame that they end nothing in.
+use Rattle.std.proofs.Common.{◌≡◌, ℕ, List, ◌∷◌, refl}
+use Rattle.ms_edge.specs.declared.at.At.{At}
+use Rattle.ms_grammar.specs.declared.operator.Bracket.{Bracket}
 use Rattle.ms_grammar.specs.Symbol.{Placed}
 use Rattle.ms_grammar.specs.Tree.{Expression}
-use Rattle.std.specs.Prelude.{ℕ}
+use Rattle.ms_steps.specs.declared.frame.Frame.{Frame}
+use Rattle.ms_steps.specs.declared.frame.Frame.TheVariants as frames
+use Rattle.ms_steps.specs.declared.operand.Domain.{Domain}
+use Rattle.ms_steps.specs.declared.operand.Entries.{Entries}
+use Rattle.ms_steps.specs.declared.operand.Identifier.{Identifier}
+use Rattle.ms_steps.specs.declared.operand.Locals.{Locals}
+use Rattle.ms_steps.specs.Frames.{frame_of}
+use Rattle.ms_steps.specs.Machine as machine
+use Rattle.ms_steps.specs.Machine.{Context, misplaced, close_curly_at, close_round_at, comma_at, colon_at, in_at}
 
-pub comma_at-other : (limit : ℕ) (c : Context) (e : Expression) (f : Frame) (st : List Frame) (from ts : List Placed) → IsOther f → comma_at limit c e (f ∷ st) from ts ≡ misplaced from
-comma_at-other limit c e (bracket_frame at b) st from ts is = absurd is
-comma_at-other limit c e (list_frame at l es) st from ts is = absurd is
-comma_at-other limit c e (domain_frame at q o vs at_v n) st from ts is = absurd is
-comma_at-other limit c e (part_frame at o parts at_n n) st from ts is = absurd is
-comma_at-other limit c e _ st from ts is = refl
+pub no_curly : (limit : ℕ) (c : Context) (e : Expression) (f : Frame) (st : List machine.Frame) (from ts : List Placed) → ((entries : Entries) → f ≡ frames.Listed entries → ⊥)
+    → close_curly_at limit c e (frame_of f ∷ st) from ts ≡ misplaced from
+no_curly limit c e (frames.Listed entries) st from ts no_list = absurd (no_list entries refl)
+no_curly limit c e _ st from ts no_list = refl
 
-pub colon_at-other : (limit : ℕ) (c : Context) (e : Expression) (f : Frame) (st : List Frame) (from ts : List Placed) → IsOther f → colon_at limit c e (f ∷ st) from ts ≡ misplaced from
-colon_at-other limit c e (bracket_frame at b) st from ts is = absurd is
-colon_at-other limit c e (list_frame at l es) st from ts is = absurd is
-colon_at-other limit c e (domain_frame at q o vs at_v n) st from ts is = absurd is
-colon_at-other limit c e (part_frame at o parts at_n n) st from ts is = absurd is
-colon_at-other limit c e _ st from ts is = refl
+pub no_round : (limit : ℕ) (c : Context) (e : Expression) (f : Frame) (st : List machine.Frame) (from ts : List Placed) → ((at : At) (bracket : Bracket) → f ≡ frames.Bracket at bracket → ⊥) → ((entries : Entries) → f ≡ frames.Listed entries → ⊥)
+    → close_round_at limit c e (frame_of f ∷ st) from ts ≡ misplaced from
+no_round limit c e (frames.Bracket at bracket) st from ts no_bracket no_list = absurd (no_bracket at bracket refl)
+no_round limit c e (frames.Listed entries) st from ts no_bracket no_list = absurd (no_list entries refl)
+no_round limit c e _ st from ts no_bracket no_list = refl
 
-pub in_at-other : (limit : ℕ) (c : Context) (e : Expression) (f : Frame) (st : List Frame) (from ts : List Placed) → IsOther f → in_at limit c e (f ∷ st) from ts ≡ misplaced from
-in_at-other limit c e (bracket_frame at b) st from ts is = absurd is
-in_at-other limit c e (list_frame at l es) st from ts is = absurd is
-in_at-other limit c e (domain_frame at q o vs at_v n) st from ts is = absurd is
-in_at-other limit c e (part_frame at o parts at_n n) st from ts is = absurd is
-in_at-other limit c e _ st from ts is = refl
+pub no_comma : (limit : ℕ) (c : Context) (e : Expression) (f : Frame) (st : List machine.Frame) (from ts : List Placed) → ((entries : Entries) → f ≡ frames.Listed entries → ⊥) → ((domain : Domain) → f ≡ frames.Domain domain → ⊥)
+    → ((locals : Locals) (variable : Identifier) → f ≡ frames.Part locals variable → ⊥) → comma_at limit c e (frame_of f ∷ st) from ts ≡ misplaced from
+no_comma limit c e (frames.Listed entries) st from ts no_list no_domain no_part = absurd (no_list entries refl)
+no_comma limit c e (frames.Domain domain) st from ts no_list no_domain no_part = absurd (no_domain domain refl)
+no_comma limit c e (frames.Part locals variable) st from ts no_list no_domain no_part = absurd (no_part locals variable refl)
+no_comma limit c e _ st from ts no_list no_domain no_part = refl
 
-abbrev pub NoDomain : Row → Type 0
-NoDomain (rows.Bracket at b) = Unit {0}
-NoDomain (rows.Listed at l es) = Unit {0}
-NoDomain (rows.Domain b v) = ⊥
-NoDomain (rows.Part l v) = Unit {0}
-NoDomain rows.Other = Unit {0}
+pub no_colon : (limit : ℕ) (c : Context) (e : Expression) (f : Frame) (st : List machine.Frame) (from ts : List Placed) → ((domain : Domain) → f ≡ frames.Domain domain → ⊥)
+    → colon_at limit c e (frame_of f ∷ st) from ts ≡ misplaced from
+no_colon limit c e (frames.Domain domain) st from ts no_domain = absurd (no_domain domain refl)
+no_colon limit c e _ st from ts no_domain = refl
 
-abbrev pub NoPart : Row → Type 0
-NoPart (rows.Bracket at b) = Unit {0}
-NoPart (rows.Listed at l es) = Unit {0}
-NoPart (rows.Domain b v) = Unit {0}
-NoPart (rows.Part l v) = ⊥
-NoPart rows.Other = Unit {0}
-
-pub colon_refused : (limit : ℕ) (c : Context) (e : Expression) (row : Row) (top : Frame) (st : List Frame) (from ts : List Placed) → IsRow row top → NoDomain row → colon_at limit c e (top ∷ st) from ts ≡ misplaced from
-colon_refused limit c e (rows.Bracket at b) top st from ts is other = ap (λ x. colon_at limit c e (x ∷ st) from ts) is
-colon_refused limit c e (rows.Listed at l es) top st from ts is other = ap (λ x. colon_at limit c e (x ∷ st) from ts) is
-colon_refused limit c e (rows.Domain b v) top st from ts is other = absurd other
-colon_refused limit c e (rows.Part l v) top st from ts is other = ap (λ x. colon_at limit c e (x ∷ st) from ts) is
-colon_refused limit c e rows.Other top st from ts is other = colon_at-other limit c e top st from ts is
-
-pub in_refused : (limit : ℕ) (c : Context) (e : Expression) (row : Row) (top : Frame) (st : List Frame) (from ts : List Placed) → IsRow row top → NoPart row → in_at limit c e (top ∷ st) from ts ≡ misplaced from
-in_refused limit c e (rows.Bracket at b) top st from ts is other = ap (λ x. in_at limit c e (x ∷ st) from ts) is
-in_refused limit c e (rows.Listed at l es) top st from ts is other = ap (λ x. in_at limit c e (x ∷ st) from ts) is
-in_refused limit c e (rows.Domain b v) top st from ts is other = ap (λ x. in_at limit c e (x ∷ st) from ts) is
-in_refused limit c e (rows.Part l v) top st from ts is other = absurd other
-in_refused limit c e rows.Other top st from ts is other = in_at-other limit c e top st from ts is
+pub no_in : (limit : ℕ) (c : Context) (e : Expression) (f : Frame) (st : List machine.Frame) (from ts : List Placed) → ((locals : Locals) (variable : Identifier) → f ≡ frames.Part locals variable → ⊥)
+    → in_at limit c e (frame_of f ∷ st) from ts ≡ misplaced from
+no_in limit c e (frames.Part locals variable) st from ts no_part = absurd (no_part locals variable refl)
+no_in limit c e _ st from ts no_part = refl

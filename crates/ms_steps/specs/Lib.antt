@@ -1,13 +1,12 @@
 pub mod Ends
 pub mod Followed
+pub mod Frames
 pub mod Headers
 pub mod Kinds
 pub mod Links
 pub mod Machine
-pub mod Opened
 pub mod Outcomes
 pub mod Punctuations
-pub mod Rows
 pub mod Terminals
 pub mod Stack
 pub mod States

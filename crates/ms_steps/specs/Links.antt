@@ -5,7 +5,7 @@ use Rattle.ms_grammar.specs.View.{expressions_of}
 use Rattle.ms_steps.specs.declared.join.Link.{Link}
 use Rattle.ms_steps.specs.declared.join.Link.TheVariants as links
 use Rattle.ms_steps.specs.Machine.{Frame, joined_frame}
-use Rattle.ms_steps.specs.Opened.{frame_of}
+use Rattle.ms_steps.specs.Frames.{frame_of}
 
 -- no operands of this operator
 abbrev pub IsApart : Junction → Frame → Type 0
@@ -14,4 +14,4 @@ IsApart op _ = Unit {0}
 
 abbrev pub IsLink : Junction → Link → Frame → Type 0
 IsLink op (links.Further at es) f = f ≡ joined_frame at op (expressions_of es.list)
-IsLink op (links.Other frame) f = (frame_of frame.opened ≡ f) × IsApart op f
+IsLink op (links.Other frame) f = (frame_of frame ≡ f) × IsApart op f

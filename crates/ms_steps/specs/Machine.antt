@@ -230,6 +230,10 @@ enter limit c f st otherwise ts = cond (leb (suc (length st) + max 1 (frame_dept
 abbrev pub with_room : ℕ → List Frame → List Placed → Step → Step
 with_room limit st from step = cond (leb (suc (suc (length st))) limit) step (too_deep from)
 
+-- a quantifier or a `let` begins an expression, which leads to the state
+abbrev pub begin_binding : ℕ → List Frame → State → List Placed → List Placed → Step
+begin_binding limit st s from ts = cond (leb (need st) 4) (with_room limit st from (took s ts)) (misplaced from)
+
 -- a symbol that an expression may begin with
 abbrev pub starter : Symbol → Bool
 starter (name n) = true
@@ -297,8 +301,8 @@ begin limit c st at word_export from ts = with_room limit st from (begin_export 
 begin limit c st at open_round from ts = enter limit c (bracket_frame at Parentheses) st (too_deep from) ts
 begin limit c st at open_curly from ts = begin_literal limit c st at ts
 begin limit c st at (prefix_operator op) from ts = cond (leb (need st) (prefix_level op)) (enter limit c (prefix_frame at op) st (too_deep from) ts) (misplaced from)
-begin limit c st at (quantifier q o) from ts = cond (leb (need st) 4) (with_room limit st from (took (variable_wanted c st at q o no_variables) ts)) (misplaced from)
-begin limit c st at (let_word o) from ts = cond (leb (need st) 4) (with_room limit st from (took (part_wanted c st at o no_parts) ts)) (misplaced from)
+begin limit c st at (quantifier q o) from ts = begin_binding limit st (variable_wanted c st at q o no_variables) from ts
+begin limit c st at (let_word o) from ts = begin_binding limit st (part_wanted c st at o no_parts) from ts
 begin limit c st at _ from ts = misplaced from
 
 -- an expression goes on, or ends

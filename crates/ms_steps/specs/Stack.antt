@@ -7,13 +7,13 @@ use Rattle.ms_steps.specs.declared.stop.Stop.{Stop}
 use Rattle.ms_steps.specs.declared.stop.Stop.TheVariants.{Memory, Refused, TooDeep}
 use Rattle.ms_grammar.specs.Grammar.{depth}
 use Rattle.ms_steps.specs.Machine as machine
-use Rattle.ms_steps.specs.Opened.{frame_of}
+use Rattle.ms_steps.specs.Frames.{frame_of}
 use Rattle.ms_grammar.specs.Tree.{Expression}
 use Rattle.ms_grammar.specs.View.{expression_of}
 
 abbrev pub stack_on : List machine.Frame → List Frame → List machine.Frame
 stack_on below [] = below
-stack_on below (f ∷ fs) = stack_on (frame_of f.opened ∷ below) fs
+stack_on below (f ∷ fs) = stack_on (frame_of f ∷ below) fs
 
 abbrev pub stack_of : List Frame → List machine.Frame
 stack_of frames = stack_on [] frames

@@ -1,9 +1,9 @@
 ghost use Rattle.std.specs.Prelude.{◌≡◌, IfOk, IfErr};
-ghost use Rattle.ms_grammar.specs.Tree.{and_expression, and_variable, and_part, restricted};
+ghost use Rattle.ms_grammar.specs.Tree.{and_expression, and_variable, and_part, restricted, unrestricted};
 ghost use Rattle.ms_grammar.specs.View.{expression_of, expressions_of, variables_of, parts_of};
 ghost use Rattle.ms_steps.specs.declared.stop.Stop.TheVariants.{Memory};
 
-use crate::lists::{push_expression, push_part, push_restricted};
+use crate::lists::{push_expression, push_part, push_restricted, push_variable};
 use crate::operand::{Bounds, Identifier, Operand, Operands, Parts};
 use crate::stop::Stop;
 use ms_logic::Order;
@@ -19,6 +19,17 @@ pub fn with_expression(operands: Operands, operand: Operand) -> Result<Operands,
     let Operand { expr, .. } = operand;
     push_expression(&mut list, expr)?;
     Ok(Operands { list, height })
+}
+
+/// The variables and one more, without a restriction.
+pub fn with_unrestricted(bounds: Bounds, order: Order, variable: Identifier) -> Result<Bounds, Stop>
+    ensures ok { IfOk result (λ made. variables_of made.list ≡ and_variable (variables_of bounds.list) variable.at order variable.name unrestricted) }
+    ensures err { IfErr result (λ stop. stop ≡ Memory) }
+{
+    let Bounds { mut list, height } = bounds;
+    let Identifier { at, name } = variable;
+    push_variable(&mut list, at, order, name, None)?;
+    Ok(Bounds { list, height })
 }
 
 /// The variables and one more, with its restriction.

@@ -12,7 +12,7 @@ use crate::enter::{enter, has_room};
 use crate::form::listed;
 use crate::frame::Frame;
 use crate::input::Input;
-use crate::opened::Opened;
+use crate::operand::{Entries, Operands};
 use crate::outcome::Outcome;
 use crate::punctuation::Punctuation;
 use crate::stop::Stop;
@@ -41,10 +41,11 @@ impl Input<'_> {
             let operand = finish(at, listed(Listing::Call(name), list), 0, i)?;
             return Ok((Outcome::Holding(operand), next));
         }
-        let frame = Frame {
-            opened: Opened::Listed(at, Listing::Call(name), list),
-            height: 0,
-        };
+        let frame = Frame::Listed(Entries {
+            at,
+            listing: Listing::Call(name),
+            operands: Operands { list, height: 0 },
+        });
         enter(stack, frame, inside, self.stop_inside(inside))
     }
 
@@ -64,10 +65,7 @@ impl Input<'_> {
         let Some(next) = self.behind_mark(i, Punctuation::OpenRound) else {
             return Err(Stop::Refused(i));
         };
-        let frame = Frame {
-            opened: Opened::Bracket(at, Bracket::Restriction),
-            height: 0,
-        };
+        let frame = Frame::Bracket(at, Bracket::Restriction);
         enter(stack, frame, next, Stop::TooDeep(i.saturating_sub(1)))
     }
 
@@ -80,10 +78,7 @@ impl Input<'_> {
             let operand = finish(at, Form::EmptySet, 0, i)?;
             return Ok((Outcome::Holding(operand), i));
         };
-        let frame = Frame {
-            opened: Opened::Bracket(at, Bracket::Emptiness),
-            height: 0,
-        };
+        let frame = Frame::Bracket(at, Bracket::Emptiness);
         enter(stack, frame, next, Stop::TooDeep(i))
     }
 
@@ -102,10 +97,11 @@ impl Input<'_> {
             let operand = finish(at, listed(Listing::Literal, list), 0, i)?;
             return Ok((Outcome::Holding(operand), next));
         }
-        let frame = Frame {
-            opened: Opened::Listed(at, Listing::Literal, list),
-            height: 0,
-        };
+        let frame = Frame::Listed(Entries {
+            at,
+            listing: Listing::Literal,
+            operands: Operands { list, height: 0 },
+        });
         enter(stack, frame, i, self.stop_inside(i))
     }
 
@@ -131,10 +127,7 @@ impl Input<'_> {
         let Some(next) = self.behind_mark(inside + 1, Punctuation::Comma) else {
             return Err(Stop::Refused(inside + 1));
         };
-        let frame = Frame {
-            opened: Opened::Bracket(at, Bracket::Export(at_text, text)),
-            height: 0,
-        };
+        let frame = Frame::Bracket(at, Bracket::Export(at_text, text));
         enter(stack, frame, next, Stop::TooDeep(i.saturating_sub(1)))
     }
 

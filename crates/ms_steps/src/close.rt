@@ -1,9 +1,9 @@
-ghost use Rattle.std.specs.Prelude.{ℕ, List, suc, ◌-◌};
+ghost use Rattle.std.specs.Prelude.{ℕ, List, ◌∷◌, suc, ◌-◌};
 ghost use Rattle.ms_text.specs.TokenList.{Lexed};
 ghost use Rattle.ms_grammar.specs.Grammar.{depth, depth_of_all, greatest_depth};
 ghost use Rattle.ms_grammar.specs.Tree.{and_expression, enclosed, listed};
 ghost use Rattle.ms_grammar.specs.View.{expression_of, expressions_of};
-ghost use Rattle.ms_steps.specs.Machine.{Context, hold};
+ghost use Rattle.ms_steps.specs.Machine.{Context, close_curly_at, close_round_at, hold, list_frame};
 ghost use Rattle.ms_steps.specs.Outcomes.{ActsAs};
 ghost use Rattle.ms_steps.specs.Terminals.{behind};
 ghost use Rattle.ms_steps.specs.Stack.{stack_of};
@@ -12,7 +12,7 @@ ghost use Rattle.ms_steps.specs.declared.frame.Frame.{Frame};
 use crate::append::with_expression;
 use crate::complete::finish;
 use crate::form::{enclosed, listed};
-use crate::operand::{Operand, Operands};
+use crate::operand::{Entries, Operand, Operands};
 use crate::outcome::Outcome;
 use crate::stop::Stop;
 use ms_edge::At;
@@ -37,7 +37,7 @@ pub fn end_bracket(
 }
 
 /// The bracket behind the last expression of a list.
-pub fn end_list(
+fn end_list(
     at: At,
     listing: Listing,
     operands: Operands,
@@ -50,4 +50,36 @@ pub fn end_list(
     let Operands { list, height } = with_expression(operands, operand)?;
     let made = finish(at, listed(listing, list), height, i.saturating_sub(1))?;
     Ok((Outcome::Holding(made), i))
+}
+
+/// `}` behind an entry, which ends a set.
+pub fn end_literal(entries: Entries, operand: Operand, i: u32) -> Result<(Outcome, u32), Stop>
+    ensures { (c : Context) (file : ℕ) (lexed : Lexed) (below : List Frame) →
+        ActsAs c file lexed (close_curly_at greatest_depth c (expression_of operand.expr) (list_frame entries.at entries.listing (expressions_of entries.operands.list) ∷ stack_of below) (behind file lexed (i - 1)) (behind file lexed i)) below result }
+{
+    let Entries {
+        at,
+        listing,
+        operands,
+    } = entries;
+    match listing {
+        Listing::Literal => end_list(at, Listing::Literal, operands, operand, i),
+        Listing::Call(_) => Err(Stop::Refused(i.saturating_sub(1))),
+    }
+}
+
+/// `)` behind an entry, which ends a call.
+pub fn end_call(entries: Entries, operand: Operand, i: u32) -> Result<(Outcome, u32), Stop>
+    ensures { (c : Context) (file : ℕ) (lexed : Lexed) (below : List Frame) →
+        ActsAs c file lexed (close_round_at greatest_depth c (expression_of operand.expr) (list_frame entries.at entries.listing (expressions_of entries.operands.list) ∷ stack_of below) (behind file lexed (i - 1)) (behind file lexed i)) below result }
+{
+    let Entries {
+        at,
+        listing,
+        operands,
+    } = entries;
+    match listing {
+        Listing::Call(name) => end_list(at, Listing::Call(name), operands, operand, i),
+        Listing::Literal => Err(Stop::Refused(i.saturating_sub(1))),
+    }
 }

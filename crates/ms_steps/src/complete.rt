@@ -1,23 +1,22 @@
 ghost use Rattle.std.specs.Prelude.{◌≡◌, ◌≤◌, ◌<◌, ◌+◌, ◌↔◌, ℕ, max, IfOk, IfErr, IsTrue};
 ghost use Rattle.ms_grammar.specs.Grammar.{depth, depth_of_all, depth_of_domains, depth_of_values};
-ghost use Rattle.ms_steps.specs.Machine.{completed, ends};
-ghost use Rattle.ms_steps.specs.Opened.{frame_of};
+ghost use Rattle.ms_steps.specs.Machine.{ends};
+ghost use Rattle.ms_steps.specs.Frames.{frame_of};
 ghost use Rattle.ms_grammar.specs.Reads.{place};
 ghost use Rattle.ms_steps.specs.Stack.{IsTooDeep};
 ghost use Rattle.ms_grammar.specs.Tree.{prefixed, binary, joined, quantified, let_in, and_expression};
 ghost use Rattle.ms_grammar.specs.View.{expression_of, form_of, expressions_of, variables_of, parts_of};
 
+use crate::append::with_expression;
 use crate::form::{infixed, joined, placed, prefixed};
 use crate::frame::Frame;
-use crate::lists::push_expression;
 use crate::memory::boxed;
-use crate::opened::Opened;
-use crate::operand::{GREATEST_DEPTH, Operand};
+use crate::operand::{Binder, Bounds, Chain, GREATEST_DEPTH, Locals, Operand, Operands, Parts};
 use crate::stop::Stop;
-use ms_edge::{At, List};
-use ms_grammar::{Binary, Junction, Prefix};
+use ms_edge::At;
+use ms_grammar::{Binary, Prefix};
 use ms_levels::{infix_reach, junction_reach, prefix_reach};
-use ms_logic::{Bound, Expr, Form, LetPart, Order, Quant};
+use ms_logic::Form;
 use std::alloc::Global;
 
 /// The form at a place, where it is not too deep. `i` is the number of the token that ends it.
@@ -41,20 +40,35 @@ pub fn finish(at: At, form: Form, inside: u32, i: u32) -> Result<Operand, Stop>
 }
 
 /// Whether a frame ends before an operator that binds so loosely.
-pub fn ends(bound: u32, opened: &Opened) -> bool
-    ensures { result ≡ ends bound (frame_of opened.now) }
+pub fn ends(bound: u32, frame: &Frame) -> bool
+    ensures { result ≡ ends bound (frame_of frame.now) }
 {
-    match opened {
-        Opened::Prefix(_, op) => bound <= prefix_reach(*op),
-        Opened::Left(op, _) => bound <= infix_reach(*op),
-        Opened::Joined(_, op, _) => bound <= junction_reach(*op),
-        Opened::Body(..) => bound == 0,
-        Opened::Let(..) => bound == 0,
-        Opened::Bracket(..) => false,
-        Opened::Listed(..) => false,
-        Opened::Domain(..) => false,
-        Opened::Part(..) => false,
+    match frame {
+        Frame::Prefix(_, op) => bound <= prefix_reach(*op),
+        Frame::Left(op, _) => bound <= infix_reach(*op),
+        Frame::Joined(chain) => bound <= junction_reach(chain.op),
+        Frame::Body(_) => bound == 0,
+        Frame::Let(_) => bound == 0,
+        Frame::Bracket(..) => false,
+        Frame::Listed(_) => false,
+        Frame::Domain(_) => false,
+        Frame::Part(..) => false,
     }
+}
+
+pub fn complete_prefix(
+    alloc: Global,
+    at: At,
+    op: Prefix,
+    operand: Operand,
+    i: u32,
+) -> Result<Operand, Stop>
+    ensures ok { IfOk result (λ made. expression_of made.expr ≡ prefixed at op (expression_of operand.expr)) }
+    ensures err { IfErr result (IsTooDeep (prefixed at op (expression_of operand.expr)) i) }
+{
+    let inside = operand.height;
+    let Operand { expr, .. } = operand;
+    finish(at, prefixed(alloc, op, expr)?, inside, i)
 }
 
 pub fn complete_left(
@@ -74,84 +88,50 @@ pub fn complete_left(
     finish(at, infixed(alloc, op, l, r)?, inside, i)
 }
 
-pub fn complete_prefix(
-    alloc: Global,
-    at: At,
-    op: Prefix,
-    operand: Operand,
-    i: u32,
-) -> Result<Operand, Stop>
-    ensures ok { IfOk result (λ made. expression_of made.expr ≡ prefixed at op (expression_of operand.expr)) }
-    ensures err { IfErr result (IsTooDeep (prefixed at op (expression_of operand.expr)) i) }
+pub fn complete_joined(chain: Chain, operand: Operand, i: u32) -> Result<Operand, Stop>
+    ensures ok { IfOk result (λ made. expression_of made.expr ≡ joined chain.at chain.op (and_expression (expressions_of chain.operands.list) (expression_of operand.expr))) }
+    ensures err { IfErr result (IsTooDeep (joined chain.at chain.op (and_expression (expressions_of chain.operands.list) (expression_of operand.expr))) i) }
 {
-    let inside = operand.height;
-    let Operand { expr, .. } = operand;
-    finish(at, prefixed(alloc, op, expr)?, inside, i)
-}
-
-/// The expression of a frame that ends with the operand.
-pub fn complete(alloc: Global, frame: Frame, operand: Operand, i: u32) -> Result<Operand, Stop>
-    ensures ok { IfOk result (λ made. expression_of made.expr ≡ completed (frame_of frame.opened) (expression_of operand.expr)) }
-    ensures err { IfErr result (IsTooDeep (completed (frame_of frame.opened) (expression_of operand.expr)) i) }
-{
-    let inside = frame.height.max(operand.height);
-    let Frame { opened, .. } = frame;
-    opened.complete(alloc, operand, inside, i)
-}
-
-pub fn complete_joined(
-    at: At,
-    op: Junction,
-    mut list: List<Expr>,
-    operand: Operand,
-    inside: u32,
-    i: u32,
-) -> Result<Operand, Stop>
-    requires bounded { inside ≤ 300 }
-    requires measured { inside ≡ max (depth_of_all (expressions_of list)) (depth (expression_of operand.expr)) }
-    ensures ok { IfOk result (λ made. expression_of made.expr ≡ joined at op (and_expression (expressions_of list) (expression_of operand.expr))) }
-    ensures err { IfErr result (IsTooDeep (joined at op (and_expression (expressions_of list) (expression_of operand.expr))) i) }
-{
-    let Operand { expr, .. } = operand;
-    push_expression(&mut list, expr)?;
-    finish(at, joined(op, list), inside, i)
+    let Chain { at, op, operands } = chain;
+    let Operands { list, height } = with_expression(operands, operand)?;
+    finish(at, joined(op, list), height, i)
 }
 
 pub fn complete_body(
     alloc: Global,
-    at: At,
-    quant: Quant,
-    order: Order,
-    bounds: List<Bound>,
+    binder: Binder,
     operand: Operand,
-    inside: u32,
     i: u32,
 ) -> Result<Operand, Stop>
-    requires bounded { inside ≤ 300 }
-    requires measured { inside ≡ max (depth_of_domains (variables_of bounds)) (depth (expression_of operand.expr)) }
-    ensures ok { IfOk result (λ made. expression_of made.expr ≡ quantified at quant order (variables_of bounds) (expression_of operand.expr)) }
-    ensures err { IfErr result (IsTooDeep (quantified at quant order (variables_of bounds) (expression_of operand.expr)) i) }
+    ensures ok { IfOk result (λ made. expression_of made.expr ≡ quantified binder.at binder.quant binder.order (variables_of binder.bounds.list) (expression_of operand.expr)) }
+    ensures err { IfErr result (IsTooDeep (quantified binder.at binder.quant binder.order (variables_of binder.bounds.list) (expression_of operand.expr)) i) }
 {
+    let Binder {
+        at,
+        quant,
+        order,
+        bounds,
+    } = binder;
+    let inside = bounds.height.max(operand.height);
+    let Bounds { list, .. } = bounds;
     let Operand { expr, .. } = operand;
     let body = boxed(alloc, expr)?;
-    finish(at, Form::Bind(quant, order, bounds, body), inside, i)
+    finish(at, Form::Bind(quant, order, list, body), inside, i)
 }
 
 pub fn complete_let(
     alloc: Global,
-    at: At,
-    order: Order,
-    parts: List<LetPart>,
+    locals: Locals,
     operand: Operand,
-    inside: u32,
     i: u32,
 ) -> Result<Operand, Stop>
-    requires bounded { inside ≤ 300 }
-    requires measured { inside ≡ max (depth_of_values (parts_of parts)) (depth (expression_of operand.expr)) }
-    ensures ok { IfOk result (λ made. expression_of made.expr ≡ let_in at order (parts_of parts) (expression_of operand.expr)) }
-    ensures err { IfErr result (IsTooDeep (let_in at order (parts_of parts) (expression_of operand.expr)) i) }
+    ensures ok { IfOk result (λ made. expression_of made.expr ≡ let_in locals.at locals.order (parts_of locals.parts.list) (expression_of operand.expr)) }
+    ensures err { IfErr result (IsTooDeep (let_in locals.at locals.order (parts_of locals.parts.list) (expression_of operand.expr)) i) }
 {
+    let Locals { at, order, parts } = locals;
+    let inside = parts.height.max(operand.height);
+    let Parts { list, .. } = parts;
     let Operand { expr, .. } = operand;
     let body = boxed(alloc, expr)?;
-    finish(at, Form::Let(order, parts, body), inside, i)
+    finish(at, Form::Let(order, list, body), inside, i)
 }

@@ -2,7 +2,7 @@ ghost use Rattle.std.specs.Prelude.{◌≡◌, ◌≤◌, ◌<◌, ◌+◌, ℕ,
 ghost use Rattle.ms_text.specs.TokenList.{Lexed};
 ghost use Rattle.ms_steps.specs.Machine.{Context, Step, enter, starter, unopened};
 ghost use Rattle.ms_grammar.specs.Grammar.{level, greatest_depth};
-ghost use Rattle.ms_steps.specs.Opened.{frame_of};
+ghost use Rattle.ms_steps.specs.Frames.{frame_of};
 ghost use Rattle.ms_steps.specs.Outcomes.{StopsAs, ActsAs};
 ghost use Rattle.ms_steps.specs.Terminals.{symbol_with, behind};
 ghost use Rattle.ms_steps.specs.Stack.{stack_of};
@@ -71,12 +71,12 @@ pub fn enter(
     otherwise: Stop,
 ) -> Result<(Outcome, u32), Stop>
     ensures { (c : Context) (file : ℕ) (lexed : Lexed) (stuck : Step) → StopsAs file lexed stuck otherwise →
-        ActsAs c file lexed (enter greatest_depth c (frame_of frame.opened) (stack_of stack.old.items) stuck (behind file lexed i)) stack.new.items result }
+        ActsAs c file lexed (enter greatest_depth c (frame_of frame) (stack_of stack.old.items) stuck (behind file lexed i)) stack.new.items result }
 {
     if !has_room(stack) {
         return Err(otherwise);
     }
-    let inside = frame.height.max(1);
+    let inside = frame.height().max(1);
     if stack.len() as u32 + 1 + inside > GREATEST_DEPTH {
         return Err(otherwise);
     }

@@ -1,12 +1,14 @@
 ghost use Rattle.std.specs.Prelude.{◌≡◌, ◌≢◌, ◌≤◌, ℕ, List, ◌-◌};
 ghost use Rattle.ms_text.specs.TokenList.{Lexed};
 ghost use Rattle.ms_grammar.specs.Grammar.{depth, prefix_level, greatest_depth};
-ghost use Rattle.ms_steps.specs.Machine.{Context, wanted, holding, begin, step, took};
-ghost use Rattle.ms_steps.specs.Outcomes.{ActsAs};
+ghost use Rattle.ms_grammar.specs.Tree.{no_parts, no_variables};
+ghost use Rattle.ms_steps.specs.Machine as machine;
+ghost use Rattle.ms_steps.specs.Machine.{Context, wanted, holding, begin, begin_binding, part_wanted, step, took, variable_wanted};
+ghost use Rattle.ms_steps.specs.Outcomes.{ActsAs, outcome_of};
 ghost use Rattle.ms_grammar.specs.Reads.{place};
 ghost use Rattle.ms_steps.specs.Terminals.{symbol_with, behind};
 ghost use Rattle.ms_steps.specs.Stack.{stack_of};
-ghost use Rattle.ms_grammar.specs.Symbol.{prefix_operator, quantifier, let_word, open_round};
+ghost use Rattle.ms_grammar.specs.Symbol.{prefix_operator, open_round};
 ghost use Rattle.ms_grammar.specs.View.{form_of};
 ghost use Rattle.ms_steps.specs.declared.frame.Frame.{Frame};
 ghost use Rattle.ms_steps.specs.declared.terminal.Terminal.TheVariants as terminals;
@@ -15,7 +17,6 @@ use crate::complete::finish;
 use crate::enter::{enter, has_room};
 use crate::frame::Frame;
 use crate::input::Input;
-use crate::opened::Opened;
 use crate::operand::{Binder, Bounds, Locals, Parts};
 use crate::outcome::Outcome;
 use crate::stop::Stop;
@@ -40,13 +41,8 @@ fn begin_bracket(stack: &mut Vec<Frame>, at: At, i: u32) -> Result<(Outcome, u32
     ensures { (c : Context) (file : ℕ) (lexed : Lexed) →
         ActsAs c file lexed (begin greatest_depth c (stack_of stack.old.items) at open_round (behind file lexed (i - 1)) (behind file lexed i)) stack.new.items result }
 {
-    let opened = Opened::Bracket(at, Bracket::Parentheses);
-    enter(
-        stack,
-        Frame { opened, height: 0 },
-        i,
-        Stop::TooDeep(i.saturating_sub(1)),
-    )
+    let frame = Frame::Bracket(at, Bracket::Parentheses);
+    enter(stack, frame, i, Stop::TooDeep(i.saturating_sub(1)))
 }
 
 fn level_of(op: Prefix) -> u32
@@ -66,56 +62,45 @@ fn begin_prefix(stack: &mut Vec<Frame>, at: At, op: Prefix, i: u32) -> Result<(O
     if need(stack) > level_of(op) {
         return Err(Stop::Refused(i.saturating_sub(1)));
     }
-    let opened = Opened::Prefix(at, op);
     enter(
         stack,
-        Frame { opened, height: 0 },
+        Frame::Prefix(at, op),
         i,
         Stop::TooDeep(i.saturating_sub(1)),
     )
 }
 
-fn begin_quantifier(
-    alloc: Global,
-    stack: &[Frame],
-    at: At,
-    quant: Quant,
-    order: Order,
-    i: u32,
-) -> Result<(Outcome, u32), Stop>
-    ensures { (c : Context) (file : ℕ) (lexed : Lexed) →
-        ActsAs c file lexed (begin greatest_depth c (stack_of stack.now) at (quantifier quant order) (behind file lexed (i - 1)) (behind file lexed i)) stack.now result }
+/// A quantifier wants its first variable.
+fn first_variable(alloc: Global, at: At, quant: Quant, order: Order) -> Outcome
+    ensures { (c : Context) (st : List machine.Frame) → outcome_of c st result ≡ variable_wanted c st at quant order no_variables }
 {
-    if need(stack) > 4 {
-        return Err(Stop::Refused(i.saturating_sub(1)));
-    }
-    if !has_room(stack) {
-        return Err(Stop::TooDeep(i.saturating_sub(1)));
-    }
     let bounds = Bounds {
         list: List::new(alloc),
         height: 0,
     };
-    Ok((
-        Outcome::Variable(Binder {
-            at,
-            quant,
-            order,
-            bounds,
-        }),
-        i,
-    ))
+    Outcome::Variable(Binder {
+        at,
+        quant,
+        order,
+        bounds,
+    })
 }
 
-fn begin_let(
-    alloc: Global,
-    stack: &[Frame],
-    at: At,
-    order: Order,
-    i: u32,
-) -> Result<(Outcome, u32), Stop>
+/// A `let` wants its first part.
+fn first_part(alloc: Global, at: At, order: Order) -> Outcome
+    ensures { (c : Context) (st : List machine.Frame) → outcome_of c st result ≡ part_wanted c st at order no_parts }
+{
+    let parts = Parts {
+        list: List::new(alloc),
+        height: 0,
+    };
+    Outcome::Part(Locals { at, order, parts })
+}
+
+/// A quantifier or a `let` begins an expression, and wants what the outcome says.
+fn begin_binding(stack: &[Frame], outcome: Outcome, i: u32) -> Result<(Outcome, u32), Stop>
     ensures { (c : Context) (file : ℕ) (lexed : Lexed) →
-        ActsAs c file lexed (begin greatest_depth c (stack_of stack.now) at (let_word order) (behind file lexed (i - 1)) (behind file lexed i)) stack.now result }
+        ActsAs c file lexed (begin_binding greatest_depth (stack_of stack.now) (outcome_of c (stack_of stack.now) outcome) (behind file lexed (i - 1)) (behind file lexed i)) stack.now result }
 {
     if need(stack) > 4 {
         return Err(Stop::Refused(i.saturating_sub(1)));
@@ -123,11 +108,7 @@ fn begin_let(
     if !has_room(stack) {
         return Err(Stop::TooDeep(i.saturating_sub(1)));
     }
-    let parts = Parts {
-        list: List::new(alloc),
-        height: 0,
-    };
-    Ok((Outcome::Part(Locals { at, order, parts }), i))
+    Ok((outcome, i))
 }
 
 impl Input<'_> {
@@ -155,10 +136,14 @@ impl Input<'_> {
             Terminal::OpenCurly => self.begin_literal(stack, at, i),
             Terminal::OpenRound => begin_bracket(stack, at, i),
             Terminal::Prefix(op) => begin_prefix(stack, at, op, i),
-            Terminal::Quantifier(quant, order) => begin_quantifier(
-                self.alloc, stack, at, quant, order, i,
-            ),
-            Terminal::Let(order) => begin_let(self.alloc, stack, at, order, i),
+            Terminal::Quantifier(quant, order) => {
+                let outcome = first_variable(self.alloc, at, quant, order);
+                begin_binding(stack, outcome, i)
+            }
+            Terminal::Let(order) => {
+                let outcome = first_part(self.alloc, at, order);
+                begin_binding(stack, outcome, i)
+            }
             _ => Err(Stop::Refused(i.saturating_sub(1))),
         }
     }

@@ -5,7 +5,7 @@ ghost use Rattle.ms_steps.specs.Ends.{ends_part, IsEnd, IsOperator};
 ghost use Rattle.ms_steps.specs.Followed.{settled};
 ghost use Rattle.ms_steps.specs.Machine as machine;
 ghost use Rattle.ms_steps.specs.Machine.{holding, in_default, in_formula, in_predicate, step};
-ghost use Rattle.ms_steps.specs.Opened.{frame_of};
+ghost use Rattle.ms_steps.specs.Frames.{frame_of};
 ghost use Rattle.ms_steps.specs.Outcomes.{ActsAs};
 ghost use Rattle.ms_steps.specs.Terminals.{behind, symbol_with};
 ghost use Rattle.ms_steps.specs.Stack.{stack_of};
@@ -22,7 +22,6 @@ use crate::join::join;
 use crate::operand::Operand;
 use crate::outcome::Outcome;
 use crate::parser::Parser;
-use crate::row::row_of;
 use crate::settle::shift;
 use crate::stack::{collapse, pop_frame};
 use crate::state::State;
@@ -76,20 +75,19 @@ fn settle_frame(
     followed: Followed,
 ) -> Result<(Outcome, u32), Stop>
     ensures { (c : machine.Context) (file : ℕ) (lexed : Lexed) (bytes : List ℕ) (inside : Bool) → IsEnd inside (symbol_with followed.terminal bytes) →
-        ActsAs c file lexed (settled file lexed c bytes inside followed (frame_of frame.opened ∷ stack_of stack.old.items)) stack.new.items result }
+        ActsAs c file lexed (settled file lexed c bytes inside followed (frame_of frame ∷ stack_of stack.old.items)) stack.new.items result }
 {
-    let row = row_of(frame);
     let Followed {
         operand,
         terminal,
         next,
     } = followed;
     match terminal {
-        Terminal::CloseRound => row.close_round(alloc, operand, next),
-        Terminal::CloseCurly => row.close_curly(operand, next),
-        Terminal::Comma => row.comma(alloc, stack, operand, next),
-        Terminal::Colon => row.colon(alloc, stack, operand, next),
-        Terminal::Infix(_) => row.end_parts(stack, operand, next),
+        Terminal::CloseRound => frame.close_round(alloc, operand, next),
+        Terminal::CloseCurly => frame.close_curly(operand, next),
+        Terminal::Comma => frame.comma(alloc, stack, operand, next),
+        Terminal::Colon => frame.colon(alloc, stack, operand, next),
+        Terminal::Infix(_) => frame.end_parts(stack, operand, next),
         _ => Err(Stop::Refused(next.saturating_sub(1))),
     }
 }

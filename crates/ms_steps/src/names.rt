@@ -10,14 +10,13 @@ ghost use Rattle.ms_grammar.specs.View.{variables_of, parts_of};
 ghost use Rattle.ms_text.specs.TokenList.{Lexed};
 ghost use Rattle.ms_grammar.specs.Grammar.{greatest_depth};
 
+use crate::append::with_unrestricted;
 use crate::complete::finish;
 use crate::enter::enter;
 use crate::frame::Frame;
 use crate::input::Input;
-use crate::lists::push_variable;
 use crate::memory::push;
-use crate::opened::Opened;
-use crate::operand::{Binder, Bounds, Identifier, Locals, Parts};
+use crate::operand::{Binder, Domain, Identifier, Locals};
 use crate::outcome::Outcome;
 use crate::punctuation::Punctuation;
 use crate::stop::Stop;
@@ -42,13 +41,13 @@ impl Input<'_> {
         let Some(next) = self.behind_mark(i + 1, Punctuation::Equal) else {
             return Err(Stop::Refused(i + 1));
         };
-        let Locals { at, order, parts } = locals;
-        let Parts { list, height } = parts;
-        let frame = Frame {
-            opened: Opened::Part(at, order, list, at_name, name),
-            height,
-        };
-        enter(stack, frame, next, Stop::TooDeep(i + 1))
+        let variable = Identifier { at: at_name, name };
+        enter(
+            stack,
+            Frame::Part(locals, variable),
+            next,
+            Stop::TooDeep(i + 1),
+        )
     }
 
     /// A pair of an import behind its comma, and the number behind it.
@@ -114,39 +113,36 @@ fn behind_variable(
         order,
         bounds,
     } = binder;
-    let Bounds { mut list, height } = bounds;
-    let Identifier { at: at_name, name } = variable;
     match terminal {
         Terminal::Where => {
-            let opened = Opened::Domain(at, quant, order, list, at_name, name);
-            enter(
-                stack,
-                Frame { opened, height },
-                i,
-                Stop::TooDeep(i.saturating_sub(1)),
-            )
+            let binder = Binder {
+                at,
+                quant,
+                order,
+                bounds,
+            };
+            let frame = Frame::Domain(Domain { binder, variable });
+            enter(stack, frame, i, Stop::TooDeep(i.saturating_sub(1)))
         }
         Terminal::Comma => {
-            push_variable(&mut list, at_name, order, name, None)?;
-            Ok((
-                Outcome::Variable(Binder {
-                    at,
-                    quant,
-                    order,
-                    bounds: Bounds { list, height },
-                }),
-                i,
-            ))
+            let bounds = with_unrestricted(bounds, order, variable)?;
+            let binder = Binder {
+                at,
+                quant,
+                order,
+                bounds,
+            };
+            Ok((Outcome::Variable(binder), i))
         }
         Terminal::Colon => {
-            push_variable(&mut list, at_name, order, name, None)?;
-            let opened = Opened::Body(at, quant, order, list);
-            enter(
-                stack,
-                Frame { opened, height },
-                i,
-                Stop::TooDeep(i.saturating_sub(1)),
-            )
+            let bounds = with_unrestricted(bounds, order, variable)?;
+            let frame = Frame::Body(Binder {
+                at,
+                quant,
+                order,
+                bounds,
+            });
+            enter(stack, frame, i, Stop::TooDeep(i.saturating_sub(1)))
         }
         _ => Err(Stop::Refused(i.saturating_sub(1))),
     }

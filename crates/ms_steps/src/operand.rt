@@ -4,6 +4,7 @@ ghost use Rattle.ms_grammar.specs.Reads.{place};
 ghost use Rattle.ms_grammar.specs.View.{expression_of, expressions_of, variables_of, parts_of};
 
 use ms_edge::{At, List, Name};
+use ms_grammar::{Junction, Listing};
 use ms_logic::{Bound, Expr, LetPart, Order, Quant};
 
 /// The greatest depth of an expression.
@@ -54,6 +55,22 @@ pub struct Identifier {
     pub name: Name,
 }
 
+/// Operands of `&` or `|` so far, each with the operator behind it.
+#[derive(Drop)]
+pub struct Chain {
+    pub at: At,
+    pub op: Junction,
+    pub operands: Operands,
+}
+
+/// A set or a call with its entries so far, each with a comma behind it.
+#[derive(Drop)]
+pub struct Entries {
+    pub at: At,
+    pub listing: Listing,
+    pub operands: Operands,
+}
+
 /// A quantifier with its variables so far.
 #[derive(Drop)]
 pub struct Binder {
@@ -61,6 +78,13 @@ pub struct Binder {
     pub quant: Quant,
     pub order: Order,
     pub bounds: Bounds,
+}
+
+/// Variables of a quantifier, and one whose restriction follows.
+#[derive(Drop)]
+pub struct Domain {
+    pub binder: Binder,
+    pub variable: Identifier,
 }
 
 /// A `let` with its parts so far.

@@ -7,50 +7,49 @@ ghost use Rattle.ms_steps.specs.Stack.{stack_of};
 ghost use Rattle.ms_grammar.specs.Tree.{and_expression, and_variable, and_part, restricted};
 ghost use Rattle.ms_grammar.specs.View.{expression_of, expressions_of, variables_of, parts_of};
 ghost use Rattle.ms_steps.specs.declared.frame.Frame.{Frame};
-ghost use Rattle.ms_grammar.specs.Grammar.{greatest_depth, depth_of_all, depth_of_domains, depth_of_values};
+ghost use Rattle.ms_grammar.specs.Grammar.{greatest_depth};
 
 use crate::append::{with_expression, with_part, with_restricted};
 use crate::enter::enter;
 use crate::frame::Frame;
-use crate::opened::Opened;
-use crate::operand::{Binder, Bounds, Identifier, Locals, Operand, Operands, Parts};
+use crate::operand::{Binder, Domain, Entries, Identifier, Locals, Operand};
 use crate::outcome::Outcome;
 use crate::stop::Stop;
-use ms_edge::At;
-use ms_grammar::Listing;
 use std::alloc::Global;
 
 pub fn another_expression(
     stack: &mut Vec<Frame>,
-    at: At,
-    listing: Listing,
-    operands: Operands,
+    entries: Entries,
     operand: Operand,
     i: u32,
 ) -> Result<(Outcome, u32), Stop>
     ensures { (c : Context) (file : ℕ) (lexed : Lexed) →
-        ActsAs c file lexed (enter greatest_depth c (list_frame at listing (and_expression (expressions_of operands.list) (expression_of operand.expr))) (stack_of stack.old.items) (too_deep (behind file lexed (i - 1))) (behind file lexed i)) stack.new.items result }
+        ActsAs c file lexed (enter greatest_depth c (list_frame entries.at entries.listing (and_expression (expressions_of entries.operands.list) (expression_of operand.expr))) (stack_of stack.old.items) (too_deep (behind file lexed (i - 1))) (behind file lexed i)) stack.new.items result }
 {
-    let Operands { list, height } = with_expression(operands, operand)?;
-    let opened = Opened::Listed(at, listing, list);
-    enter(
-        stack,
-        Frame { opened, height },
-        i,
-        Stop::TooDeep(i.saturating_sub(1)),
-    )
+    let Entries {
+        at,
+        listing,
+        operands,
+    } = entries;
+    let operands = with_expression(operands, operand)?;
+    let frame = Frame::Listed(Entries {
+        at,
+        listing,
+        operands,
+    });
+    enter(stack, frame, i, Stop::TooDeep(i.saturating_sub(1)))
 }
 
 pub fn another_variable(
     alloc: Global,
-    binder: Binder,
-    variable: Identifier,
+    domain: Domain,
     operand: Operand,
     i: u32,
 ) -> Result<(Outcome, u32), Stop>
     ensures { (c : Context) (file : ℕ) (lexed : Lexed) (frames : List Frame) →
-        ActsAs c file lexed (took (variable_wanted c (stack_of frames) binder.at binder.quant binder.order (and_variable (variables_of binder.bounds.list) variable.at binder.order variable.name (restricted (expression_of operand.expr)))) (behind file lexed i)) frames result }
+        ActsAs c file lexed (took (variable_wanted c (stack_of frames) domain.binder.at domain.binder.quant domain.binder.order (and_variable (variables_of domain.binder.bounds.list) domain.variable.at domain.binder.order domain.variable.name (restricted (expression_of operand.expr)))) (behind file lexed i)) frames result }
 {
+    let Domain { binder, variable } = domain;
     let Binder {
         at,
         quant,
@@ -84,28 +83,28 @@ pub fn another_part(
 pub fn begin_body(
     alloc: Global,
     stack: &mut Vec<Frame>,
-    binder: Binder,
-    variable: Identifier,
+    domain: Domain,
     operand: Operand,
     i: u32,
 ) -> Result<(Outcome, u32), Stop>
     ensures { (c : Context) (file : ℕ) (lexed : Lexed) →
-        ActsAs c file lexed (enter greatest_depth c (body_frame binder.at binder.quant binder.order (and_variable (variables_of binder.bounds.list) variable.at binder.order variable.name (restricted (expression_of operand.expr)))) (stack_of stack.old.items) (too_deep (behind file lexed (i - 1))) (behind file lexed i)) stack.new.items result }
+        ActsAs c file lexed (enter greatest_depth c (body_frame domain.binder.at domain.binder.quant domain.binder.order (and_variable (variables_of domain.binder.bounds.list) domain.variable.at domain.binder.order domain.variable.name (restricted (expression_of operand.expr)))) (stack_of stack.old.items) (too_deep (behind file lexed (i - 1))) (behind file lexed i)) stack.new.items result }
 {
+    let Domain { binder, variable } = domain;
     let Binder {
         at,
         quant,
         order,
         bounds,
     } = binder;
-    let Bounds { list, height } = with_restricted(alloc, bounds, order, variable, operand)?;
-    let opened = Opened::Body(at, quant, order, list);
-    enter(
-        stack,
-        Frame { opened, height },
-        i,
-        Stop::TooDeep(i.saturating_sub(1)),
-    )
+    let bounds = with_restricted(alloc, bounds, order, variable, operand)?;
+    let frame = Frame::Body(Binder {
+        at,
+        quant,
+        order,
+        bounds,
+    });
+    enter(stack, frame, i, Stop::TooDeep(i.saturating_sub(1)))
 }
 
 pub fn begin_scope(
@@ -119,12 +118,7 @@ pub fn begin_scope(
         ActsAs c file lexed (enter greatest_depth c (let_frame locals.at locals.order (and_part (parts_of locals.parts.list) variable.at variable.name (expression_of operand.expr))) (stack_of stack.old.items) (too_deep (behind file lexed (i - 1))) (behind file lexed i)) stack.new.items result }
 {
     let Locals { at, order, parts } = locals;
-    let Parts { list, height } = with_part(parts, variable, operand)?;
-    let opened = Opened::Let(at, order, list);
-    enter(
-        stack,
-        Frame { opened, height },
-        i,
-        Stop::TooDeep(i.saturating_sub(1)),
-    )
+    let parts = with_part(parts, variable, operand)?;
+    let frame = Frame::Let(Locals { at, order, parts });
+    enter(stack, frame, i, Stop::TooDeep(i.saturating_sub(1)))
 }

@@ -15,8 +15,7 @@ use crate::frame::Frame;
 use crate::input::Input;
 use crate::lists::push_expression;
 use crate::memory::boxed;
-use crate::opened::Opened;
-use crate::operand::{GREATEST_DEPTH, Operand};
+use crate::operand::{Chain, GREATEST_DEPTH, Operand, Operands};
 use crate::outcome::Outcome;
 use crate::stop::Stop;
 use ms_edge::List;
@@ -38,12 +37,12 @@ pub fn shift(
     if level(&left.expr) < least_left(op) {
         return Err(Stop::Refused(i.saturating_sub(1)));
     }
-    let height = left.height;
-    let frame = Frame {
-        opened: Opened::Left(op, left),
-        height,
-    };
-    enter(stack, frame, i, Stop::TooDeep(i.saturating_sub(1)))
+    enter(
+        stack,
+        Frame::Left(op, left),
+        i,
+        Stop::TooDeep(i.saturating_sub(1)),
+    )
 }
 
 /// The first operand of `&` or `|`, with the operator behind it.
@@ -65,10 +64,8 @@ pub fn join_new(
     let Operand { expr, .. } = first;
     let mut list = List::new(alloc);
     push_expression(&mut list, expr)?;
-    let frame = Frame {
-        opened: Opened::Joined(at, op, list),
-        height,
-    };
+    let operands = Operands { list, height };
+    let frame = Frame::Joined(Chain { at, op, operands });
     enter(stack, frame, i, Stop::TooDeep(i.saturating_sub(1)))
 }
 

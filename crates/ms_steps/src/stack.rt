@@ -1,12 +1,12 @@
 ghost use Rattle.std.specs.Prelude.{◌≡◌, ◌+◌, ◌≤◌, ◌++◌, ◌∷◌, [], ℕ, List, length, vec_len, IfErr, OnOk, MatchOption};
 ghost use Rattle.ms_steps.specs.Machine.{need, in_part, collapse};
-ghost use Rattle.ms_steps.specs.Opened.{frame_of};
+ghost use Rattle.ms_steps.specs.Frames.{frame_of};
 ghost use Rattle.ms_steps.specs.Stack.{stack_of, CollapsesTo};
 ghost use Rattle.ms_grammar.specs.View.{expression_of};
 ghost use Rattle.ms_steps.specs.declared.stop.Stop.TheVariants.{Memory};
 ghost use Rattle.ms_grammar.specs.Grammar.{greatest_depth};
 
-use crate::complete::{complete, ends};
+use crate::complete::ends;
 use crate::frame::Frame;
 use crate::operand::Operand;
 use crate::stop::Stop;
@@ -25,7 +25,7 @@ pub fn push_item<T: Drop>(items: &mut Vec<T>, item: T) -> Result<(), Stop>
 
 /// Puts a frame on the stack.
 pub fn push_frame(stack: &mut Vec<Frame>, frame: Frame) -> Result<(), Stop>
-    ensures ok { OnOk result (stack_of stack.new.items ≡ frame_of frame.opened ∷ stack_of stack.old.items) }
+    ensures ok { OnOk result (stack_of stack.new.items ≡ frame_of frame ∷ stack_of stack.old.items) }
     ensures err { IfErr result (λ stop. stop ≡ Memory) }
 {
     push_item(stack, frame)
@@ -33,7 +33,7 @@ pub fn push_frame(stack: &mut Vec<Frame>, frame: Frame) -> Result<(), Stop>
 
 /// Takes the frame on top.
 pub fn pop_frame(stack: &mut Vec<Frame>) -> Option<Frame>
-    ensures top { MatchOption result (stack_of stack.old.items ≡ []) (λ frame. stack_of stack.old.items ≡ frame_of frame.opened ∷ stack_of stack.new.items) }
+    ensures top { MatchOption result (stack_of stack.old.items ≡ []) (λ frame. stack_of stack.old.items ≡ frame_of frame ∷ stack_of stack.new.items) }
     ensures none { MatchOption result (stack_of stack.new.items ≡ []) (λ frame. vec_len stack.new + 1 ≡ vec_len stack.old) }
 {
     stack.pop()
@@ -51,11 +51,11 @@ pub fn collapse(
 {
     let mut held = operand;
     while let Some(frame) = pop_frame(stack) {
-        if !ends(bound, &frame.opened) {
+        if !ends(bound, &frame) {
             push_frame(stack, frame)?;
             return Ok(held);
         }
-        held = complete(alloc, frame, held, i)?;
+        held = frame.complete(alloc, held, i)?;
     }
     Ok(held)
 }

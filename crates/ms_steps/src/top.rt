@@ -1,26 +1,25 @@
 ghost use Rattle.std.specs.Prelude.{◌≡◌, ◌∷◌, ℕ, List, MatchOption};
 ghost use Rattle.ms_steps.specs.Machine as machine;
 ghost use Rattle.ms_steps.specs.Machine.{need, in_part};
-ghost use Rattle.ms_steps.specs.Opened.{frame_of};
+ghost use Rattle.ms_steps.specs.Frames.{frame_of};
 ghost use Rattle.ms_steps.specs.Stack.{stack_of};
 
 use crate::frame::Frame;
-use crate::opened::Opened;
 use ms_levels::{infix_reach, junction_reach, prefix_reach};
 
-fn need_in(opened: &Opened) -> u32
-    ensures { (below : List machine.Frame) → result ≡ need (frame_of opened.now ∷ below) }
+fn need_in(frame: &Frame) -> u32
+    ensures { (below : List machine.Frame) → result ≡ need (frame_of frame.now ∷ below) }
 {
-    match opened {
-        Opened::Prefix(_, op) => prefix_reach(*op),
-        Opened::Left(op, _) => infix_reach(*op),
-        Opened::Joined(_, op, _) => junction_reach(*op) + 1,
-        Opened::Bracket(..) => 0,
-        Opened::Listed(..) => 0,
-        Opened::Domain(..) => 0,
-        Opened::Body(..) => 0,
-        Opened::Part(..) => 0,
-        Opened::Let(..) => 0,
+    match frame {
+        Frame::Prefix(_, op) => prefix_reach(*op),
+        Frame::Left(op, _) => infix_reach(*op),
+        Frame::Joined(chain) => junction_reach(chain.op) + 1,
+        Frame::Bracket(..) => 0,
+        Frame::Listed(_) => 0,
+        Frame::Domain(_) => 0,
+        Frame::Body(_) => 0,
+        Frame::Part(..) => 0,
+        Frame::Let(_) => 0,
     }
 }
 
@@ -31,23 +30,23 @@ pub fn need(stack: &[Frame]) -> u32
     if stack.is_empty() {
         return 0;
     }
-    need_in(&stack[stack.len() - 1].opened)
+    need_in(&stack[stack.len() - 1])
 }
 
 /// Whether the top of the stack stands in a right side of a `let`, where it is known without the frames below.
-fn part_in(opened: &Opened) -> Option<bool>
-    ensures { (below : List machine.Frame) → MatchOption result (in_part (frame_of opened.now ∷ below) ≡ in_part below) (λ inside. in_part (frame_of opened.now ∷ below) ≡ inside) }
+fn part_in(frame: &Frame) -> Option<bool>
+    ensures { (below : List machine.Frame) → MatchOption result (in_part (frame_of frame.now ∷ below) ≡ in_part below) (λ inside. in_part (frame_of frame.now ∷ below) ≡ inside) }
 {
-    match opened {
-        Opened::Bracket(..) => Some(false),
-        Opened::Listed(..) => Some(false),
-        Opened::Part(..) => Some(true),
-        Opened::Prefix(..) => None,
-        Opened::Left(..) => None,
-        Opened::Joined(..) => None,
-        Opened::Domain(..) => None,
-        Opened::Body(..) => None,
-        Opened::Let(..) => None,
+    match frame {
+        Frame::Bracket(..) => Some(false),
+        Frame::Listed(_) => Some(false),
+        Frame::Part(..) => Some(true),
+        Frame::Prefix(..) => None,
+        Frame::Left(..) => None,
+        Frame::Joined(_) => None,
+        Frame::Domain(_) => None,
+        Frame::Body(_) => None,
+        Frame::Let(_) => None,
     }
 }
 
@@ -58,7 +57,7 @@ pub fn in_part(stack: &[Frame]) -> bool
     let mut left = stack.len();
     while left > 0 {
         left -= 1;
-        if let Some(inside) = part_in(&stack[left].opened) {
+        if let Some(inside) = part_in(&stack[left]) {
             return inside;
         }
     }

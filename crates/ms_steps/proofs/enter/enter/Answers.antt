@@ -2,7 +2,7 @@ use Rattle.std.proofs.Common.{◌<◌, ◌≤◌, ◌+◌, suc, max, length, sub
 use Rattle.std.proofs.lemmas.Bool.{le-leb, lt-leb}
 use Rattle.ms_grammar.specs.Grammar.{greatest_depth}
 use Rattle.ms_steps.specs.Machine.{frame_depth, wanted, took}
-use Rattle.ms_steps.specs.Opened.{frame_of}
+use Rattle.ms_steps.specs.Frames.{frame_of}
 use Rattle.ms_steps.specs.Stack.{stack_of}
 use Rattle.ms_steps.specs.Terminals.{behind}
 use Rattle.ms_steps.proofs.Frames.{chosen_yes, chosen_no}
@@ -12,21 +12,21 @@ use Rattle.ms_steps.proofs.enter.enter.Goals as goal
 
 pub returns-then-not-has_room : goal.returns-then-not-has_room
 returns-then-not-has_room c context file lexed stuck stops =
-    let n = suc (length (stack_of c.args.stack.now.items)) + max 1 (frame_depth (frame_of c.args.frame.opened)) in
+    let n = suc (length (stack_of c.args.stack.now.items)) + max 1 (frame_depth (frame_of c.args.frame)) in
     let room : greatest_depth < suc (suc (length (stack_of c.args.stack.now.items))) = subst (λ x. greatest_depth < suc (suc (length (stack_of x)))) c.deref.ensures.value (c.has_room.ensures.no c.if-not-has_room.true) in
     let full : greatest_depth < n = omega arith in
     stops_as file lexed _ stuck c.args.otherwise (chosen_no _ _ _ (lt-leb n greatest_depth full)) stops
 
 pub returns-then-len-inside-gt-GREATEST_DEPTH : goal.returns-then-len-inside-gt-GREATEST_DEPTH
 returns-then-len-inside-gt-GREATEST_DEPTH c context file lexed stuck stops =
-    let n = suc (length (stack_of c.args.stack.now.items)) + max 1 (frame_depth (frame_of c.args.frame.opened)) in
-    let full : greatest_depth < n = omega (arith, stack_length c.args.stack.now.items, c.args.stack.now.ok.0, c.len.ensures, c.args.frame.measured) in
+    let n = suc (length (stack_of c.args.stack.now.items)) + max 1 (frame_depth (frame_of c.args.frame)) in
+    let full : greatest_depth < n = omega (arith, stack_length c.args.stack.now.items, c.args.stack.now.ok.0, c.len.ensures, c.height.ensures.measured) in
     stops_as file lexed _ stuck c.args.otherwise (chosen_no _ _ _ (lt-leb n greatest_depth full)) stops
 
 pub returns : goal.returns
 returns c context file lexed stuck stops =
-    let n = suc (length (stack_of c.args.stack.now.items)) + max 1 (frame_depth (frame_of c.args.frame.opened)) in
-    let small : n ≤ greatest_depth = omega (arith, stack_length c.args.stack.now.items, c.args.stack.now.ok.0, c.len.ensures, c.args.frame.measured) in
+    let n = suc (length (stack_of c.args.stack.now.items)) + max 1 (frame_depth (frame_of c.args.frame)) in
+    let small : n ≤ greatest_depth = omega (arith, stack_length c.args.stack.now.items, c.args.stack.now.ok.0, c.len.ensures, c.height.ensures.measured) in
     chosen_yes _ _ _ (le-leb n greatest_depth small) ∙ ap (λ st. took (wanted context st) (behind file lexed c.args.i)) (sym c.in_ok-push_frame.ensures.ok)
 
 pub overflow_cast-len : goal.overflow_cast-len
@@ -42,4 +42,4 @@ overflow_add-len c =
 pub overflow_add-len-2 : goal.overflow_add-len-2
 overflow_add-len-2 c =
     let room = subst (λ x. suc (suc (length (stack_of x))) ≤ greatest_depth) c.deref.ensures.value (c.has_room.ensures.yes c.if-not-has_room.false) in
-    omega (arith, stack_length c.args.stack.now.items, c.len.ensures, c.max-inside.ensures, c.args.frame.bounded)
+    omega (arith, stack_length c.args.stack.now.items, c.len.ensures, c.max-inside.ensures, c.height.ensures.bounded)

@@ -1,7 +1,7 @@
 use Rattle.std.proofs.Common.{ap, sym, ◌∙◌, ◌∷◌, ◌-◌}
 use Rattle.ms_grammar.specs.View.{expression_of, expressions_of}
 use Rattle.ms_steps.specs.Machine.{join, join_new}
-use Rattle.ms_steps.specs.Opened.{frame_of}
+use Rattle.ms_steps.specs.Frames.{frame_of}
 use Rattle.ms_steps.specs.Terminals.{behind}
 use Rattle.ms_steps.specs.Stack.{stack_of}
 use Rattle.ms_steps.proofs.Joins.{first_joined, other_joined}
@@ -33,7 +33,7 @@ returns-in_ok-push_frame-in-Other c context file lexed =
     let e = expression_of c.args.operand.expr in
     let ts = behind file lexed c.args.i in
     let below = stack_of c.pop_frame.new.stack.items in
-    let f = frame_of c.in-Some.frame.opened in
+    let f = frame_of c.in-Some.frame in
     acts_as context file lexed _ _ c.join_new-in-Other.new.stack.items c.join_new-in-Other.result
     (ap (λ x. join greatest_depth context c.args.op e x (behind file lexed (c.args.i - 1)) ts) c.in-Some.ensures.top ∙ other_joined greatest_depth context c.args.op e f below (behind file lexed (c.args.i - 1)) ts c.in-Other.ensures.1
     ∙ ap (λ x. join_new greatest_depth context c.args.op e x (behind file lexed (c.args.i - 1)) ts) (sym (c.in_ok-push_frame-in-Other.ensures.ok ∙ ap (λ g. g ∷ below) c.in-Other.ensures.0)))

@@ -1,6 +1,4 @@
 use Rattle.std.proofs.Common.{ap, sym, rules, ◌-◌}
-use Rattle.ms_grammar.specs.Tree.{and_expression}
-use Rattle.ms_grammar.specs.View.{expression_of, expressions_of}
 use Rattle.ms_steps.specs.Machine.{joined_frame, enter, too_deep}
 use Rattle.ms_steps.specs.Terminals.{behind}
 use Rattle.ms_steps.specs.Stack.{stack_of}
@@ -12,6 +10,5 @@ pub returns : goal.returns
 returns c context file lexed =
     let st = stack_of c.args.stack.now.items in
     let ts = behind file lexed c.args.i in
-    let more = and_expression (expressions_of c.args.operands.list) (expression_of c.args.operand.expr) in
     acts_as context file lexed _ _ c.enter.new.stack.items c.enter.result
-    (ap (λ x. enter greatest_depth context (joined_frame c.args.at c.args.op x) st (too_deep (behind file lexed (c.args.i - 1))) ts) (sym c.in_ok-list.ensures.ok)) (c.enter.ensures context file lexed (too_deep (behind file lexed (c.args.i - 1))) (search rules))
+    (ap (λ x. enter greatest_depth context (joined_frame c.args.chain.at c.args.chain.op x) st (too_deep (behind file lexed (c.args.i - 1))) ts) (sym c.in_ok-operands.ensures.ok)) (c.enter.ensures context file lexed (too_deep (behind file lexed (c.args.i - 1))) (search rules))

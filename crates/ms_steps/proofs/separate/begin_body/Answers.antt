@@ -2,8 +2,6 @@ use Rattle.std.proofs.Common.{ap, sym, rules, ◌-◌}
 use Rattle.ms_steps.specs.Machine.{body_frame, enter, too_deep}
 use Rattle.ms_steps.specs.Terminals.{behind}
 use Rattle.ms_steps.specs.Stack.{stack_of}
-use Rattle.ms_grammar.specs.Tree.{and_variable, restricted}
-use Rattle.ms_grammar.specs.View.{expression_of, variables_of}
 use Rattle.ms_steps.proofs.separate.begin_body.Goals as goal
 use Rattle.ms_steps.proofs.Taking.{acts_as}
 use Rattle.ms_grammar.specs.Grammar.{greatest_depth}
@@ -12,6 +10,6 @@ pub returns : goal.returns
 returns c context file lexed =
     let st = stack_of c.args.stack.now.items in
     let ts = behind file lexed c.args.i in
-    let more = and_variable (variables_of c.args.binder.bounds.list) c.args.variable.at c.args.binder.order c.args.variable.name (restricted (expression_of c.args.operand.expr)) in
+    let b = c.args.domain.binder in
     acts_as context file lexed _ _ c.enter.new.stack.items c.enter.result
-    (ap (λ x. enter greatest_depth context (body_frame c.args.binder.at c.args.binder.quant c.args.binder.order x) st (too_deep (behind file lexed (c.args.i - 1))) ts) (sym c.in_ok-list.ensures.ok)) (c.enter.ensures context file lexed (too_deep (behind file lexed (c.args.i - 1))) (search rules))
+    (ap (λ x. enter greatest_depth context (body_frame b.at b.quant b.order x) st (too_deep (behind file lexed (c.args.i - 1))) ts) (sym c.in_ok-bounds.ensures.ok)) (c.enter.ensures context file lexed (too_deep (behind file lexed (c.args.i - 1))) (search rules))

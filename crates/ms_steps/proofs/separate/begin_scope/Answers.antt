@@ -2,8 +2,6 @@ use Rattle.std.proofs.Common.{ap, sym, rules, ◌-◌}
 use Rattle.ms_steps.specs.Machine.{let_frame, enter, too_deep}
 use Rattle.ms_steps.specs.Terminals.{behind}
 use Rattle.ms_steps.specs.Stack.{stack_of}
-use Rattle.ms_grammar.specs.Tree.{and_part}
-use Rattle.ms_grammar.specs.View.{expression_of, parts_of}
 use Rattle.ms_steps.proofs.separate.begin_scope.Goals as goal
 use Rattle.ms_steps.proofs.Taking.{acts_as}
 use Rattle.ms_grammar.specs.Grammar.{greatest_depth}
@@ -12,6 +10,5 @@ pub returns : goal.returns
 returns c context file lexed =
     let st = stack_of c.args.stack.now.items in
     let ts = behind file lexed c.args.i in
-    let more = and_part (parts_of c.args.locals.parts.list) c.args.variable.at c.args.variable.name (expression_of c.args.operand.expr) in
     acts_as context file lexed _ _ c.enter.new.stack.items c.enter.result
-    (ap (λ x. enter greatest_depth context (let_frame c.args.locals.at c.args.locals.order x) st (too_deep (behind file lexed (c.args.i - 1))) ts) (sym c.in_ok-list.ensures.ok)) (c.enter.ensures context file lexed (too_deep (behind file lexed (c.args.i - 1))) (search rules))
+    (ap (λ x. enter greatest_depth context (let_frame c.args.locals.at c.args.locals.order x) st (too_deep (behind file lexed (c.args.i - 1))) ts) (sym c.in_ok-parts.ensures.ok)) (c.enter.ensures context file lexed (too_deep (behind file lexed (c.args.i - 1))) (search rules))

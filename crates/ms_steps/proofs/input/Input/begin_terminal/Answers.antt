@@ -1,6 +1,6 @@
-use Rattle.std.proofs.Common.{sym, ap}
+use Rattle.std.proofs.Common.{sym, ap, ◌-◌}
 use Rattle.ms_steps.specs.declared.terminal.Terminal.TheVariants as terminals
-use Rattle.ms_steps.specs.Machine.{holding, took}
+use Rattle.ms_steps.specs.Machine.{begin_binding, holding, took}
 use Rattle.ms_steps.specs.Terminals.{behind}
 use Rattle.ms_steps.specs.Stack.{stack_of}
 use Rattle.ms_steps.proofs.Expressions.{begun, begun_on}
@@ -75,10 +75,18 @@ returns-in-Prefix c context bytes other =
 
 pub returns-in-Quantifier : goal.returns-in-Quantifier
 returns-in-Quantifier c context bytes other =
-    begun_on greatest_depth context c.args.self.file c.args.self.tokens.now c.deref.result.now c.args.stack.now.items c.args.at c.args.terminal (terminals.Quantifier c.in-Quantifier.quant c.in-Quantifier.order) bytes c.args.i c.begin_quantifier.result c.in-Quantifier.is c.deref.ensures.value
-    (c.begin_quantifier.ensures context c.args.self.file c.args.self.tokens.now)
+    let lent = c.deref.result.now in
+    let from = behind c.args.self.file c.args.self.tokens.now (c.args.i - 1) in
+    let ts = behind c.args.self.file c.args.self.tokens.now c.args.i in
+    begun_on greatest_depth context c.args.self.file c.args.self.tokens.now lent c.args.stack.now.items c.args.at c.args.terminal (terminals.Quantifier c.in-Quantifier.quant c.in-Quantifier.order) bytes c.args.i c.begin_binding.result c.in-Quantifier.is c.deref.ensures.value
+    (acts_as context c.args.self.file c.args.self.tokens.now _ _ lent c.begin_binding.result
+    (ap (λ s. begin_binding greatest_depth (stack_of lent) s from ts) (sym (c.first_variable-outcome.ensures context (stack_of lent)))) (c.begin_binding.ensures context c.args.self.file c.args.self.tokens.now))
 
 pub returns-in-Let : goal.returns-in-Let
 returns-in-Let c context bytes other =
-    begun_on greatest_depth context c.args.self.file c.args.self.tokens.now c.deref-in-Let.result.now c.args.stack.now.items c.args.at c.args.terminal (terminals.Let c.in-Let.order) bytes c.args.i c.begin_let.result c.in-Let.is c.deref-in-Let.ensures.value
-    (c.begin_let.ensures context c.args.self.file c.args.self.tokens.now)
+    let lent = c.deref-in-Let.result.now in
+    let from = behind c.args.self.file c.args.self.tokens.now (c.args.i - 1) in
+    let ts = behind c.args.self.file c.args.self.tokens.now c.args.i in
+    begun_on greatest_depth context c.args.self.file c.args.self.tokens.now lent c.args.stack.now.items c.args.at c.args.terminal (terminals.Let c.in-Let.order) bytes c.args.i c.begin_binding-in-Let.result c.in-Let.is c.deref-in-Let.ensures.value
+    (acts_as context c.args.self.file c.args.self.tokens.now _ _ lent c.begin_binding-in-Let.result
+    (ap (λ s. begin_binding greatest_depth (stack_of lent) s from ts) (sym (c.first_part-outcome.ensures context (stack_of lent)))) (c.begin_binding-in-Let.ensures context c.args.self.file c.args.self.tokens.now))

@@ -2,7 +2,7 @@ use Rattle.std.proofs.Common.{◌∷◌, ap}
 use Rattle.ms_grammar.specs.View.{document_of}
 use Rattle.ms_steps.specs.declared.parser.Parser.{Parser}
 use Rattle.ms_steps.specs.Followed.{settled}
-use Rattle.ms_steps.specs.Opened.{frame_of}
+use Rattle.ms_steps.specs.Frames.{frame_of}
 use Rattle.ms_steps.specs.Stack.{stack_of}
 use Rattle.ms_steps.specs.States.{context_of}
 use Rattle.ms_steps.proofs.Taking.{steps_as}
@@ -24,7 +24,7 @@ returns-in-Some c bytes inside same =
     let context = context_of (document_of c.args.parser.now.source) c.args.context in
     let after : Parser = record { source = c.args.parser.now.source; stack = c.settle_frame.new.stack } in
     steps_as file lexed _ _ after c.inside-in-Some.result (ap (settled file lexed context bytes inside c.args.followed) c.in-Some.ensures.top)
-    (c.inside-in-Some.ensures file lexed (settled file lexed context bytes inside c.args.followed (frame_of c.in-Some.frame.opened ∷ stack_of c.pop_frame.new.stack.items)) after
+    (c.inside-in-Some.ensures file lexed (settled file lexed context bytes inside c.args.followed (frame_of c.in-Some.frame ∷ stack_of c.pop_frame.new.stack.items)) after
     (c.settle_frame.ensures context file lexed bytes inside (c.is_operator.ensures.no bytes inside same c.if-is_operator.false)))
 
 pub returns-in-None : goal.returns-in-None
