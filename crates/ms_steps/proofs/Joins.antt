@@ -4,12 +4,8 @@ use Rattle.ms_grammar.specs.Symbol.{Placed}
 use Rattle.ms_grammar.specs.declared.operator.Junction.{Junction}
 use Rattle.ms_grammar.specs.declared.operator.Junction.TheVariants.{Conjunction, Disjunction}
 use Rattle.ms_grammar.specs.Tree.{Expression}
-use Rattle.ms_steps.specs.declared.frame.Frame as code
-use Rattle.ms_steps.specs.declared.frame.Frame.TheVariants as frames
-use Rattle.ms_steps.specs.declared.operand.Chain.{Chain}
 use Rattle.ms_steps.specs.Links.{IsApart}
 use Rattle.ms_steps.specs.Machine.{Frame, joined_frame, Context, join, join_new}
-use Rattle.ms_steps.specs.Frames.{frame_of}
 use Rattle.std.specs.Prelude.{ℕ}
 
 -- an operand in another frame is the first of its list
@@ -24,8 +20,3 @@ other_joined limit c Disjunction e _ st from ts apart = refl
 pub first_joined : (limit : ℕ) (c : Context) (op : Junction) (e : Expression) (from ts : List Placed) → join limit c op e [] from ts ≡ join_new limit c op e [] from ts
 first_joined limit c Conjunction e from ts = refl
 first_joined limit c Disjunction e from ts = refl
-
-pub is_apart : (op : Junction) (f : code.Frame) → ((chain : Chain) → f ≡ frames.Joined chain → ⊥) → IsApart op (frame_of f)
-is_apart op (frames.Joined chain) other = absurd (other chain refl)
-is_apart op (frames.Prefix at p) other = tt
-is_apart op _ other = tt

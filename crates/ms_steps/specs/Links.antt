@@ -13,5 +13,5 @@ IsApart op (joined_frame at found es) = found ≢ op
 IsApart op _ = Unit {0}
 
 abbrev pub IsLink : Junction → Link → Frame → Type 0
-IsLink op (links.Further at es) f = f ≡ joined_frame at op (expressions_of es.list)
+IsLink op (links.Further chain) f = (f ≡ joined_frame chain.at chain.op (expressions_of chain.operands.list)) × (chain.op ≡ op)
 IsLink op (links.Other frame) f = (frame_of frame ≡ f) × IsApart op f

@@ -1,11 +1,9 @@
-ghost use Rattle.std.specs.Prelude.{◌≡◌, ◌≤◌, ◌<◌, ℕ, List, length, ◌-◌};
-ghost use Rattle.ms_grammar.specs.Grammar.{depth, greatest_depth};
+ghost use Rattle.std.specs.Prelude.{◌<◌, List, ◌-◌};
+ghost use Rattle.ms_grammar.specs.Grammar.{greatest_depth};
 ghost use Rattle.ms_steps.specs.Machine.{Context, begin_name, begin_empty, begin_literal, begin_restrict, begin_export, begin_import, begin_pconst, with_room};
 ghost use Rattle.ms_steps.specs.Outcomes.{ActsAs};
-ghost use Rattle.ms_grammar.specs.Reads.{place};
 ghost use Rattle.ms_steps.specs.Terminals.{behind};
 ghost use Rattle.ms_steps.specs.Stack.{stack_of};
-ghost use Rattle.ms_grammar.specs.View.{form_of};
 
 use crate::complete::finish;
 use crate::enter::{enter, has_room};

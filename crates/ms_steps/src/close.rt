@@ -1,6 +1,6 @@
-ghost use Rattle.std.specs.Prelude.{ℕ, List, ◌∷◌, suc, ◌-◌};
+ghost use Rattle.std.specs.Prelude.{ℕ, List, ◌∷◌, ◌-◌};
 ghost use Rattle.ms_text.specs.TokenList.{Lexed};
-ghost use Rattle.ms_grammar.specs.Grammar.{depth, depth_of_all, greatest_depth};
+ghost use Rattle.ms_grammar.specs.Grammar.{greatest_depth};
 ghost use Rattle.ms_grammar.specs.Tree.{and_expression, enclosed, listed};
 ghost use Rattle.ms_grammar.specs.View.{expression_of, expressions_of};
 ghost use Rattle.ms_steps.specs.Machine.{Context, close_curly_at, close_round_at, hold, list_frame};

@@ -1,5 +1,5 @@
-ghost use Rattle.std.specs.Prelude.{◌≡◌, ◌≤◌, ◌<◌, ◌+◌, ◌↔◌, ℕ, max, IfOk, IfErr, IsTrue};
-ghost use Rattle.ms_grammar.specs.Grammar.{depth, depth_of_all, depth_of_domains, depth_of_values};
+ghost use Rattle.std.specs.Prelude.{◌≡◌, ◌≤◌, ◌<◌, ◌+◌, IfOk, IfErr};
+ghost use Rattle.ms_grammar.specs.Grammar.{depth};
 ghost use Rattle.ms_steps.specs.Machine.{ends};
 ghost use Rattle.ms_steps.specs.Frames.{frame_of};
 ghost use Rattle.ms_grammar.specs.Reads.{place};

@@ -1,4 +1,4 @@
-ghost use Rattle.std.specs.Prelude.{◌≡◌, [], ℕ, Bool, List};
+ghost use Rattle.std.specs.Prelude.{[], ℕ, Bool, List};
 ghost use Rattle.ms_grammar.specs.View.{document_of};
 ghost use Rattle.ms_steps.specs.Ends.{IsEnd};
 ghost use Rattle.ms_steps.specs.Followed.{settled};

@@ -1,4 +1,4 @@
-ghost use Rattle.std.specs.Prelude.{◌≡◌, [], ℕ};
+ghost use Rattle.std.specs.Prelude.{[], ℕ};
 ghost use Rattle.ms_text.specs.TokenList.{Lexed};
 ghost use Rattle.ms_grammar.specs.View.{declaration_of, document_of};
 ghost use Rattle.ms_steps.specs.Machine.{Step, declare, outside, wanted, took};

@@ -1,4 +1,4 @@
-ghost use Rattle.std.specs.Prelude.{◌≡◌, ◌≢◌, ◌≤◌, ℕ, List, ◌-◌};
+ghost use Rattle.std.specs.Prelude.{◌≡◌, ◌≢◌, ℕ, List, ◌-◌};
 ghost use Rattle.ms_text.specs.TokenList.{Lexed};
 ghost use Rattle.ms_grammar.specs.Grammar.{depth, prefix_level, greatest_depth};
 ghost use Rattle.ms_grammar.specs.Tree.{no_parts, no_variables};
@@ -62,12 +62,8 @@ fn begin_prefix(stack: &mut Vec<Frame>, at: At, op: Prefix, i: u32) -> Result<(O
     if need(stack) > level_of(op) {
         return Err(Stop::Refused(i.saturating_sub(1)));
     }
-    enter(
-        stack,
-        Frame::Prefix(at, op),
-        i,
-        Stop::TooDeep(i.saturating_sub(1)),
-    )
+    let frame = Frame::Prefix(at, op);
+    enter(stack, frame, i, Stop::TooDeep(i.saturating_sub(1)))
 }
 
 /// A quantifier wants its first variable.

@@ -101,8 +101,7 @@ impl Frame {
         match self {
             Frame::Joined(chain) => {
                 if chain.op == op {
-                    let Chain { at, operands, .. } = chain;
-                    Link::Further(at, operands)
+                    Link::Further(chain)
                 } else {
                     Link::Other(Frame::Joined(chain))
                 }
@@ -110,9 +109,7 @@ impl Frame {
             frame => Link::Other(frame),
         }
     }
-}
 
-impl Frame {
     /// `}` behind an expression, in the frame that stood on top of the stack.
     pub fn close_curly(self, operand: Operand, i: u32) -> Result<(Outcome, u32), Stop>
         ensures { (c : Context) (file : ℕ) (lexed : Lexed) (below : List Frame) →

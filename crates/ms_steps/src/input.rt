@@ -1,4 +1,4 @@
-ghost use Rattle.std.specs.Prelude.{◌≡◌, ◌<◌, ◌↔◌, ℕ, List, [], length, IfSome, IfNone, IfOk, IsTrue};
+ghost use Rattle.std.specs.Prelude.{◌≡◌, ◌<◌, ◌↔◌, ℕ, List, [], IfSome, IfNone, IfOk, IsTrue};
 ghost use Rattle.ms_steps.specs.Terminals.{symbol_with, behind, IsNext, NoName, NoText};
 ghost use Rattle.ms_grammar.specs.Symbol.{name, text, between_quotes};
 

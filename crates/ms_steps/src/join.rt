@@ -1,4 +1,4 @@
-ghost use Rattle.std.specs.Prelude.{◌≡◌, ℕ, ◌-◌};
+ghost use Rattle.std.specs.Prelude.{ℕ, ◌-◌};
 ghost use Rattle.ms_text.specs.TokenList.{Lexed};
 ghost use Rattle.ms_grammar.specs.Tree.{and_expression};
 ghost use Rattle.ms_grammar.specs.View.{expression_of, expressions_of};
@@ -6,17 +6,16 @@ ghost use Rattle.ms_steps.specs.Machine.{Context, enter, join, joined_frame, too
 ghost use Rattle.ms_steps.specs.Outcomes.{ActsAs};
 ghost use Rattle.ms_steps.specs.Terminals.{behind};
 ghost use Rattle.ms_steps.specs.Stack.{stack_of};
-ghost use Rattle.ms_grammar.specs.Grammar.{greatest_depth, depth_of_all};
+ghost use Rattle.ms_grammar.specs.Grammar.{greatest_depth};
 
 use crate::append::with_expression;
 use crate::enter::enter;
 use crate::frame::Frame;
-use crate::operand::{Chain, Operand, Operands};
+use crate::operand::{Chain, Operand};
 use crate::outcome::Outcome;
 use crate::settle::join_new;
 use crate::stack::{pop_frame, push_frame};
 use crate::stop::Stop;
-use ms_edge::At;
 use ms_grammar::Junction;
 use std::alloc::Global;
 
@@ -24,7 +23,7 @@ use std::alloc::Global;
 #[derive(Drop)]
 pub enum Link {
     /// Operands with the same operator behind each of them.
-    Further(At, Operands),
+    Further(Chain),
     /// Another frame.
     Other(Frame),
 }
@@ -59,10 +58,7 @@ pub fn join(
         return join_new(alloc, stack, op, operand, i);
     };
     match frame.into_link(op) {
-        Link::Further(at, operands) => {
-            let chain = Chain { at, op, operands };
-            join_further(stack, chain, operand, i)
-        }
+        Link::Further(chain) => join_further(stack, chain, operand, i),
         Link::Other(frame) => {
             push_frame(stack, frame)?;
             join_new(alloc, stack, op, operand, i)

@@ -1,5 +1,5 @@
 ghost use Rattle.std.specs.Prelude.{◌≡◌, IfErr, OnOk};
-ghost use Rattle.ms_grammar.specs.Tree.{and_expression, and_variable, and_part, unrestricted, restricted};
+ghost use Rattle.ms_grammar.specs.Tree.{and_expression, and_variable, and_part, restricted};
 ghost use Rattle.ms_grammar.specs.View.{expression_of, expressions_of, variables_of, parts_of, domain_of, variable_of, part_of};
 ghost use Rattle.ms_steps.specs.declared.stop.Stop.TheVariants.{Memory};
 

@@ -1,5 +1,5 @@
 ghost use Rattle.ms_steps.specs.declared.frame.Frame.{Frame};
-ghost use Rattle.std.specs.Prelude.{◌≡◌, ◌≢◌, ◌++◌, ◌∷◌, [], ℕ, List, IfOk, ◌-◌};
+ghost use Rattle.std.specs.Prelude.{ℕ, List, ◌-◌};
 ghost use Rattle.ms_steps.specs.Machine.{Context, Step, pair_then, behind_variable, next_variable, next_part, next_pair};
 ghost use Rattle.ms_steps.specs.Outcomes.{Continues, ActsAs};
 ghost use Rattle.ms_logic.specs.declared.source.Rename.{Rename};

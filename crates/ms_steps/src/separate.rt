@@ -1,4 +1,4 @@
-ghost use Rattle.std.specs.Prelude.{◌≡◌, ℕ, List, ◌-◌};
+ghost use Rattle.std.specs.Prelude.{ℕ, List, ◌-◌};
 ghost use Rattle.ms_text.specs.TokenList.{Lexed};
 ghost use Rattle.ms_steps.specs.Machine.{Context, list_frame, body_frame, let_frame, variable_wanted, part_wanted, enter, took, too_deep};
 ghost use Rattle.ms_steps.specs.Outcomes.{ActsAs};

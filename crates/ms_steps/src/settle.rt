@@ -1,4 +1,4 @@
-ghost use Rattle.std.specs.Prelude.{◌≡◌, ◌≤◌, ◌<◌, ◌+◌, ◌⊎◌, ℕ, suc, true, false, List, length, IsTrue, IfOk, ◌-◌, ◌≢◌};
+ghost use Rattle.std.specs.Prelude.{◌≡◌, ◌≤◌, ◌<◌, ◌+◌, ℕ, suc, false, List, length, IsTrue, IfOk, ◌-◌};
 ghost use Rattle.ms_text.specs.TokenList.{Lexed};
 ghost use Rattle.ms_grammar.specs.Grammar.{level, depth, greatest_depth};
 ghost use Rattle.ms_steps.specs.Machine.{Context, holding, shift, join_new, shift_int, took};

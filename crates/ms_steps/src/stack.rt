@@ -1,5 +1,5 @@
-ghost use Rattle.std.specs.Prelude.{◌≡◌, ◌+◌, ◌≤◌, ◌++◌, ◌∷◌, [], ℕ, List, length, vec_len, IfErr, OnOk, MatchOption};
-ghost use Rattle.ms_steps.specs.Machine.{need, in_part, collapse};
+ghost use Rattle.std.specs.Prelude.{◌≡◌, ◌+◌, ◌++◌, ◌∷◌, [], vec_len, IfErr, OnOk, MatchOption};
+ghost use Rattle.ms_steps.specs.Machine.{collapse};
 ghost use Rattle.ms_steps.specs.Frames.{frame_of};
 ghost use Rattle.ms_steps.specs.Stack.{stack_of, CollapsesTo};
 ghost use Rattle.ms_grammar.specs.View.{expression_of};

@@ -1,4 +1,4 @@
-ghost use Rattle.std.specs.Prelude.{◌≡◌, ◌∷◌, ℕ, List, MatchOption};
+ghost use Rattle.std.specs.Prelude.{◌≡◌, ◌∷◌, List, MatchOption};
 ghost use Rattle.ms_steps.specs.Machine as machine;
 ghost use Rattle.ms_steps.specs.Machine.{need, in_part};
 ghost use Rattle.ms_steps.specs.Frames.{frame_of};

@@ -1,6 +1,7 @@
 use Rattle.std.proofs.Common.{ap, sym, ◌∙◌, ◌∷◌, ◌-◌}
+use Rattle.ms_grammar.specs.Tree.{and_expression}
 use Rattle.ms_grammar.specs.View.{expression_of, expressions_of}
-use Rattle.ms_steps.specs.Machine.{join, join_new}
+use Rattle.ms_steps.specs.Machine.{enter, join, join_new, joined_frame, too_deep}
 use Rattle.ms_steps.specs.Frames.{frame_of}
 use Rattle.ms_steps.specs.Terminals.{behind}
 use Rattle.ms_steps.specs.Stack.{stack_of}
@@ -23,9 +24,12 @@ returns-in-Further c context file lexed =
     let e = expression_of c.args.operand.expr in
     let ts = behind file lexed c.args.i in
     let below = stack_of c.pop_frame.new.stack.items in
-    let es = expressions_of c.in-Further.operands.list in
+    let chain = c.in-Further.chain in
+    let es = expressions_of chain.operands.list in
+    let from = behind file lexed (c.args.i - 1) in
     acts_as context file lexed _ _ c.join_further.new.stack.items c.join_further.result
-    (ap (λ x. join greatest_depth context c.args.op e x (behind file lexed (c.args.i - 1)) ts) (c.in-Some.ensures.top ∙ ap (λ f. f ∷ below) c.in-Further.ensures) ∙ further_joined greatest_depth context c.args.op c.in-Further.at es e below (behind file lexed (c.args.i - 1)) ts)
+    (ap (λ x. join greatest_depth context c.args.op e x from ts) (c.in-Some.ensures.top ∙ ap (λ f. f ∷ below) (c.in-Further.ensures.0 ∙ ap (λ op. joined_frame chain.at op es) c.in-Further.ensures.1))
+    ∙ further_joined greatest_depth context c.args.op chain.at es e below from ts ∙ ap (λ op. enter greatest_depth context (joined_frame chain.at op (and_expression es e)) below (too_deep from) ts) (sym c.in-Further.ensures.1))
     (c.join_further.ensures context file lexed)
 
 pub returns-in_ok-push_frame-in-Other : goal.returns-in_ok-push_frame-in-Other
