@@ -33,7 +33,6 @@ pub mod Taking
 pub mod Joins
 pub mod Ending
 pub mod Declaring
-pub mod Separations
 pub mod Expressions
 pub mod Stepping
 pub mod ParameterSteps

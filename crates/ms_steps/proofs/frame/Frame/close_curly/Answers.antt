@@ -1,11 +1,10 @@
-use Rattle.std.proofs.Common.{◌∷◌, ap, ◌-◌, rules, ◌∙◌}
+use Rattle.std.proofs.Common.{◌∷◌, ap, ◌-◌}
 use Rattle.ms_grammar.specs.Grammar.{greatest_depth}
 use Rattle.ms_grammar.specs.View.{expression_of}
 use Rattle.ms_steps.specs.Machine.{close_curly_at}
 use Rattle.ms_steps.specs.Frames.{frame_of}
 use Rattle.ms_steps.specs.Terminals.{behind}
 use Rattle.ms_steps.specs.Stack.{stack_of}
-use Rattle.ms_steps.proofs.Separations.{no_curly}
 use Rattle.ms_steps.proofs.Taking.{acts_as}
 use Rattle.ms_steps.proofs.frame.Frame.close_curly.Goals as goal
 
@@ -13,7 +12,3 @@ pub returns-in-Listed : goal.returns-in-Listed
 returns-in-Listed c context file lexed below =
     acts_as context file lexed _ _ below c.end_literal.result
     (ap (λ f. close_curly_at greatest_depth context (expression_of c.args.operand.expr) (frame_of f ∷ stack_of below) (behind file lexed (c.args.i - 1)) (behind file lexed c.args.i)) c.in-Listed.is) (c.end_literal.ensures context file lexed below)
-
-pub returns-in_default : goal.returns-in_default
-returns-in_default c context file lexed below =
-    no_curly greatest_depth context (expression_of c.args.operand.expr) c.args.self (stack_of below) (behind file lexed (c.args.i - 1)) (behind file lexed c.args.i) c.in_default.not-Listed ∙ search rules

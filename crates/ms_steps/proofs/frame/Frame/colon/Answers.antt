@@ -1,11 +1,10 @@
-use Rattle.std.proofs.Common.{◌∷◌, ap, ◌-◌, rules, ◌∙◌}
+use Rattle.std.proofs.Common.{◌∷◌, ap, ◌-◌}
 use Rattle.ms_grammar.specs.Grammar.{greatest_depth}
 use Rattle.ms_grammar.specs.View.{expression_of}
 use Rattle.ms_steps.specs.Machine.{colon_at}
 use Rattle.ms_steps.specs.Frames.{frame_of}
 use Rattle.ms_steps.specs.Terminals.{behind}
 use Rattle.ms_steps.specs.Stack.{stack_of}
-use Rattle.ms_steps.proofs.Separations.{no_colon}
 use Rattle.ms_steps.proofs.Taking.{acts_as}
 use Rattle.ms_steps.proofs.frame.Frame.colon.Goals as goal
 
@@ -13,7 +12,3 @@ pub returns-in-Domain : goal.returns-in-Domain
 returns-in-Domain c context file lexed =
     acts_as context file lexed _ _ c.begin_body.new.stack.items c.begin_body.result
     (ap (λ f. colon_at greatest_depth context (expression_of c.args.operand.expr) (frame_of f ∷ stack_of c.args.stack.now.items) (behind file lexed (c.args.i - 1)) (behind file lexed c.args.i)) c.in-Domain.is) (c.begin_body.ensures context file lexed)
-
-pub returns-in_default : goal.returns-in_default
-returns-in_default c context file lexed =
-    no_colon greatest_depth context (expression_of c.args.operand.expr) c.args.self (stack_of c.args.stack.now.items) (behind file lexed (c.args.i - 1)) (behind file lexed c.args.i) c.in_default.not-Domain ∙ search rules

@@ -18,9 +18,3 @@ returns-in-Comma c bytes =
     let p = c.args.parameter in
     steps_by c.args.self.file c.args.self.tokens.now (λ x. behind_parameter (document_of c.args.parser.now.source) (head_of p.signature) (variables_of p.signature.parameters) p.order p.variable.at p.variable.name (symbol_with x bytes) (behind c.args.self.file c.args.self.tokens.now (c.args.i - 1)) (behind c.args.self.file c.args.self.tokens.now c.args.i))
     c.args.terminal terminals.Comma c.args.parser.now c.another_parameter.result c.in-Comma.is (c.another_parameter.ensures c.args.self.file c.args.self.tokens.now c.args.parser.now)
-
-pub returns-in-CloseRound : goal.returns-in-CloseRound
-returns-in-CloseRound c bytes =
-    let p = c.args.parameter in
-    steps_by c.args.self.file c.args.self.tokens.now (λ x. behind_parameter (document_of c.args.parser.now.source) (head_of p.signature) (variables_of p.signature.parameters) p.order p.variable.at p.variable.name (symbol_with x bytes) (behind c.args.self.file c.args.self.tokens.now (c.args.i - 1)) (behind c.args.self.file c.args.self.tokens.now c.args.i))
-    c.args.terminal terminals.CloseRound c.last_parameter.new.parser c.last_parameter.result c.in-CloseRound.is c.last_parameter.ensures
