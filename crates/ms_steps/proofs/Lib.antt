@@ -34,6 +34,5 @@ pub mod Joins
 pub mod Ending
 pub mod Declaring
 pub mod Expressions
-pub mod Stepping
 pub mod ParameterSteps
 pub mod Tokens
