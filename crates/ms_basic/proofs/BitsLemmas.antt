@@ -16,7 +16,7 @@ use Rattle.ms_logic.specs.Word.{HasLength, bound_of_set}
 use Rattle.ms_logic.proofs.Members.{IsRising-filter, member_below_bound, no_member_from_bound}
 use Rattle.ms_logic.proofs.SetLaws.{one_bits_law}
 use Rattle.ms_basic.specs.Bits.{bits_sign, bits_step, bits_table, is_one}
-use Rattle.ms_basic.specs.Decides.{Decides, IsRight}
+use Rattle.ms_basic.specs.Relation.{DecidesRelation, IsRight}
 use Rattle.ms_basic.specs.Operands.{operands_of}
 use Rattle.ms_basic.specs.Sets.{is_same}
 use Rattle.ms_basic.proofs.BitLemmas.{Tells, told}
@@ -114,7 +114,7 @@ bits_closed n digits (suc k) s small = by_test (is_same s (is_one n k)) (k == di
     by_test true false is = omega (arith, small, is)
     by_test false last is = omega arith
 
-pub decides_bits : (mode : Mode) (s n digits : ℕ) → digits ≡ bound_of_set (one_bits n) → Decides mode (operands_of (Bits s n)) (Bits s n) (bits_table mode n digits)
+pub decides_bits : (mode : Mode) (s n digits : ℕ) → digits ≡ bound_of_set (one_bits n) → DecidesRelation mode (operands_of (Bits s n)) (Bits s n) (bits_table mode n digits)
 decides_bits mode s n digits are_digits = record {
   closed = record { start = λ bits. omega arith; step = λ state bits small. bits_closed n digits state bits.first small };
   tallies = (tt, tt);

@@ -12,7 +12,7 @@ use Rattle.ms_logic.specs.declared.sign.Sign.TheVariants.{Yes, No}
 use Rattle.ms_logic.specs.FiniteSet.{IsRising, is_member, moved_down, moved_up}
 use Rattle.ms_logic.specs.Word.{bound_of_set}
 use Rattle.ms_logic.proofs.Members.{IsRising-moved_down, is_member-moved_down, is_member-moved_up, no_member_from_bound}
-use Rattle.ms_basic.specs.Decides.{Decides, IsRight}
+use Rattle.ms_basic.specs.Relation.{DecidesRelation, IsRight}
 use Rattle.ms_basic.specs.Operands.{operands_of}
 use Rattle.ms_basic.specs.Sets.{is_same}
 use Rattle.ms_basic.specs.Windows.{down_passed, down_sign, down_step, down_table, shifted}
@@ -183,7 +183,7 @@ down_closed size (suc more) s t some small = by_test (nat_lt (shifted (suc more)
     by_test true is = below_by (shifted (suc more) s) (2 * size) is
     by_test false is = in_half (shifted (suc more) s - 2 * size) (is_same t ((shifted (suc more) s - 2 * size) / size == 1))
 
-pub decides_down : (mode : Mode) (s t n : ℕ) → Decides mode (operands_of (Down s t n)) (Down s t n) (down_table (2 ^ n))
+pub decides_down : (mode : Mode) (s t n : ℕ) → DecidesRelation mode (operands_of (Down s t n)) (Down s t n) (down_table (2 ^ n))
 decides_down mode s t n = record {
   closed = record { start = λ bits. omega (arith, pow_pos n); step = λ state bits small. down_closed (2 ^ n) state bits.first bits.second (pow_pos n) small };
   tallies = (tt, (tt, tt));

@@ -7,7 +7,8 @@ use Rattle.ms_logic.specs.FiniteSet.{IsRising, is_member, greatest}
 use Rattle.ms_logic.specs.Word.{bound_of_set}
 use Rattle.ms_logic.proofs.Members.{member_below_bound}
 use Rattle.ms_logic.proofs.SetLaws.{greatest_law}
-use Rattle.ms_basic.specs.Decides.{Decides, IsRight, IsTally}
+use Rattle.ms_basic.specs.Relation.{DecidesRelation, IsRight}
+use Rattle.ms_basic.specs.Tally.{IsTally}
 use Rattle.ms_basic.specs.Greatest.{greatest_step, greatest_table}
 use Rattle.ms_basic.specs.Operands.{operands_of}
 use Rattle.ms_basic.specs.Verdict.{sign_by_verdict}
@@ -120,7 +121,7 @@ greatest_tally = record {
   sign = met_signed;
 }
 
-pub decides_max : (mode : Mode) (x s : ℕ) → Decides mode (operands_of (Max x s)) (Max x s) greatest_table
+pub decides_max : (mode : Mode) (x s : ℕ) → DecidesRelation mode (operands_of (Max x s)) (Max x s) greatest_table
 decides_max mode x s = record {
   closed = record { start = λ bits. omega arith; step = λ state bits small. greatest_closed state bits.first bits.second };
   tallies = ((count_met, greatest_tally), (tt, tt));

@@ -7,7 +7,8 @@ use Rattle.ms_logic.specs.declared.sign.Sign.TheVariants.{Outside}
 use Rattle.ms_logic.specs.FiniteSet.{IsRising, is_member, least}
 use Rattle.ms_logic.specs.Word.{bound_of_set}
 use Rattle.ms_logic.proofs.SetLaws.{least_law}
-use Rattle.ms_basic.specs.Decides.{Decides, IsRight, IsTally}
+use Rattle.ms_basic.specs.Relation.{DecidesRelation, IsRight}
+use Rattle.ms_basic.specs.Tally.{IsTally}
 use Rattle.ms_basic.specs.Least.{least_sign, least_step, least_table}
 use Rattle.ms_basic.specs.Operands.{operands_of}
 use Rattle.ms_basic.proofs.BitLemmas.{Tells, told}
@@ -155,7 +156,7 @@ least_tally = record {
   sign = least_signed;
 }
 
-pub decides_min : (mode : Mode) (x s : ℕ) → Decides mode (operands_of (Min x s)) (Min x s) least_table
+pub decides_min : (mode : Mode) (x s : ℕ) → DecidesRelation mode (operands_of (Min x s)) (Min x s) least_table
 decides_min mode x s = record {
   closed = record { start = λ bits. omega arith; step = λ state bits small. least_closed state bits.first bits.second };
   tallies = ((count_least, least_tally), (tt, tt));

@@ -2,7 +2,8 @@
 use Rattle.std.proofs.Common.{◌≡◌, ℕ, zero, suc, ◌+◌, ◌<◌, ◌≤◌, ◌⊎◌, inl, inr, Bool, true, false, if◌then◌else◌, refl, arith}
 use Rattle.ms_logic.specs.declared.core_formula.Basic.TheVariants.{Less}
 use Rattle.ms_logic.specs.declared.mode.Mode.{Mode}
-use Rattle.ms_basic.specs.Decides.{Decides, IsRight, IsTally}
+use Rattle.ms_basic.specs.Relation.{DecidesRelation, IsRight}
+use Rattle.ms_basic.specs.Tally.{IsTally}
 use Rattle.ms_basic.specs.Less.{less_step, less_table}
 use Rattle.ms_basic.specs.Operands.{operands_of}
 use Rattle.ms_basic.specs.Verdict.{sign_by_verdict}
@@ -123,7 +124,7 @@ less_closed (suc (suc (suc (suc (suc more))))) a true small = omega arith
 less_closed (suc (suc (suc (suc (suc more))))) true false small = omega arith
 less_closed (suc (suc (suc (suc (suc more))))) false false small = omega arith
 
-pub decides_less : (mode : Mode) (x y : ℕ) → Decides mode (operands_of (Less x y)) (Less x y) less_table
+pub decides_less : (mode : Mode) (x y : ℕ) → DecidesRelation mode (operands_of (Less x y)) (Less x y) less_table
 decides_less mode x y = record {
   closed = record { start = λ bits. omega arith; step = λ state bits small. less_closed state bits.first bits.second small };
   tallies = ((count_first, first_tally), ((count_second, second_tally), tt));

@@ -1,7 +1,6 @@
 pub mod BitLemmas
 pub mod BitsLemmas
 pub mod ConstantLemmas
-pub mod DecidesLemmas
 pub mod DistinctLemmas
 pub mod DownLemmas
 pub mod GreatestLemmas
@@ -12,6 +11,7 @@ pub mod NumberLemmas
 pub mod OperandsLemmas
 pub mod PlusLemmas
 pub mod ReadingLemmas
+pub mod RelationLemmas
 pub mod RepeatedLemmas
 pub mod SetLemmas
 pub mod SetsLemmas

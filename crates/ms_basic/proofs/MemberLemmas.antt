@@ -4,7 +4,8 @@ use Rattle.std.proofs.lemmas.Bool.{false≢true}
 use Rattle.ms_logic.specs.declared.core_formula.Basic.TheVariants.{Member}
 use Rattle.ms_logic.specs.declared.mode.Mode.{Mode}
 use Rattle.ms_logic.specs.FiniteSet.{IsMember, is_member}
-use Rattle.ms_basic.specs.Decides.{Decides, IsRight, IsTally}
+use Rattle.ms_basic.specs.Relation.{DecidesRelation, IsRight}
+use Rattle.ms_basic.specs.Tally.{IsTally}
 use Rattle.ms_basic.specs.Member.{member_step, member_table}
 use Rattle.ms_basic.specs.Operands.{operands_of}
 use Rattle.ms_basic.specs.Verdict.{sign_by_verdict}
@@ -68,7 +69,7 @@ member_tally = record {
   sign = met_signed;
 }
 
-pub decides_member : (mode : Mode) (x s : ℕ) → Decides mode (operands_of (Member x s)) (Member x s) member_table
+pub decides_member : (mode : Mode) (x s : ℕ) → DecidesRelation mode (operands_of (Member x s)) (Member x s) member_table
 decides_member mode x s = record {
   closed = record { start = λ bits. omega arith; step = λ state bits small. member_closed state bits.first bits.second };
   tallies = ((count_met, member_tally), (tt, tt));

@@ -2,7 +2,8 @@
 use Rattle.std.proofs.Common.{◌≡◌, ◌≢◌, ℕ, zero, suc, ◌+◌, ◌<◌, ◌≤◌, ◌==◌, ◌⊎◌, inl, inr, Bool, true, false, if◌then◌else◌, refl, arith}
 use Rattle.ms_logic.specs.declared.core_formula.Basic.TheVariants.{Number}
 use Rattle.ms_logic.specs.declared.mode.Mode.{Mode}
-use Rattle.ms_basic.specs.Decides.{Decides, IsRight, IsTally}
+use Rattle.ms_basic.specs.Relation.{DecidesRelation, IsRight}
+use Rattle.ms_basic.specs.Tally.{IsTally}
 use Rattle.ms_basic.specs.Number.{number_at, number_step, number_table}
 use Rattle.ms_basic.specs.Operands.{operands_of}
 use Rattle.ms_basic.specs.Verdict.{sign_by_verdict}
@@ -82,7 +83,7 @@ number_tally n = record {
   sign = met_signed;
 }
 
-pub decides_number : (mode : Mode) (x n : ℕ) → Decides mode (operands_of (Number x n)) (Number x n) (number_table n)
+pub decides_number : (mode : Mode) (x n : ℕ) → DecidesRelation mode (operands_of (Number x n)) (Number x n) (number_table n)
 decides_number mode x n = record {
   closed = record { start = λ bits. omega arith; step = λ state bits small. number_closed n state bits.first small };
   tallies = ((count_met, number_tally n), tt);

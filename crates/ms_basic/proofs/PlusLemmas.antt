@@ -2,7 +2,8 @@
 use Rattle.std.proofs.Common.{◌≡◌, ◌≢◌, ℕ, zero, suc, ◌+◌, ◌<◌, ◌≤◌, ◌==◌, ◌⊎◌, inl, inr, Bool, true, false, if◌then◌else◌, refl, arith}
 use Rattle.ms_logic.specs.declared.core_formula.Basic.TheVariants.{Plus}
 use Rattle.ms_logic.specs.declared.mode.Mode.{Mode}
-use Rattle.ms_basic.specs.Decides.{Decides, IsRight, IsTally}
+use Rattle.ms_basic.specs.Relation.{DecidesRelation, IsRight}
+use Rattle.ms_basic.specs.Tally.{IsTally}
 use Rattle.ms_basic.specs.Operands.{operands_of}
 use Rattle.ms_basic.specs.Plus.{plus_at, plus_first, plus_step, plus_table}
 use Rattle.ms_basic.specs.Verdict.{sign_by_verdict}
@@ -178,7 +179,7 @@ plus_closed n (suc (suc (suc (suc (suc zero))))) true false small = omega arith
 plus_closed n (suc (suc (suc (suc (suc zero))))) false false small = omega arith
 plus_closed n (suc (suc (suc (suc (suc (suc j)))))) a b small = plus_at_closed n j (suc j == n) a b (told (suc j) n) (omega (arith, small))
 
-pub decides_plus : (mode : Mode) (x y n : ℕ) → Decides mode (operands_of (Plus x y n)) (Plus x y n) (plus_table n)
+pub decides_plus : (mode : Mode) (x y n : ℕ) → DecidesRelation mode (operands_of (Plus x y n)) (Plus x y n) (plus_table n)
 decides_plus mode x y n = record {
   closed = record { start = λ bits. omega arith; step = λ state bits small. plus_closed n state bits.first bits.second small };
   tallies = ((count_first, first_tally n), ((count_second, second_tally n), tt));

@@ -16,7 +16,7 @@ use Rattle.ms_dfa.specs.Automaton.{variables_of}
 use Rattle.ms_explore.specs.Small.{Table, bit_at, machine_of, track_bits}
 use Rattle.ms_explore.specs.Tracks.{IsAmong, place_of}
 use Rattle.ms_explore.proofs.TracksLemmas.{place_of-among}
-use Rattle.ms_basic.specs.Reading.{bit_of, bits_at, operand_bit, operand_truth, read_at, state_behind, track_at, truth_bits_of, truth_of, wired, wiring_of}
+use Rattle.ms_basic.specs.Reading.{bit_of, operand_bits, operand_bit, operand_truth, read_at, state_behind, track_at, operand_truths, truth_of, wired, wiring_of}
 
 -- the bit of a variable in a letter, by the place where it stands
 first_bit : (o : Order) (x : ℕ) (vs : List Variable) (e : Env) (position : ℕ)
@@ -91,14 +91,14 @@ module _ (tracks : List Variable) (e : Env) (rising : AreRising tracks) (few : l
   operand_truth-read (v ∷ vs) (suc operand) among = operand_truth-read vs operand (λ u there. among u (inr there))
 
   module _ (operands : List Variable) (among : (v : Variable) → IsAmong operands v → IsAmong tracks v) where
-    bits_read : (position : ℕ) → read_at (wiring_of operands tracks) (track_bits (letter_bits tracks (letter_at tracks e position))) ≡ bits_at operands e position
+    bits_read : (position : ℕ) → read_at (wiring_of operands tracks) (track_bits (letter_bits tracks (letter_at tracks e position))) ≡ operand_bits operands e position
     bits_read position = λ i. record {
       first = operand_bit-read operands 0 position among i;
       second = operand_bit-read operands 1 position among i;
       third = operand_bit-read operands 2 position among i;
     }
 
-    truth_read : read_at (wiring_of operands tracks) (track_bits (truth_bits tracks (truth_values_of tracks e))) ≡ truth_bits_of operands e
+    truth_read : read_at (wiring_of operands tracks) (track_bits (truth_bits tracks (truth_values_of tracks e))) ≡ operand_truths operands e
     truth_read = λ i. record {
       first = operand_truth-read operands 0 among i;
       second = operand_truth-read operands 1 among i;
@@ -115,7 +115,7 @@ module _ (tracks : List Variable) (e : Env) (rising : AreRising tracks) (few : l
         scan = record {
           start = ap table.start truth_read;
           next = λ position state below holds.
-              ap (table.step state) (bits_read position) ∙ ap (λ s. table.step s (bits_at operands e position)) holds;
+              ap (table.step state) (bits_read position) ∙ ap (λ s. table.step s (operand_bits operands e position)) holds;
         }
 
 -- the track of an operand by its place
@@ -144,8 +144,8 @@ place_of-most name (v ∷ vs) =
     elim (nat_eq v.name name) as (λ test. (if test then 0 else suc (place_of name vs)) ≤ length (v ∷ vs)) [ true ↦ omega arith | false ↦ omega (arith, others) ]
 
 -- what is kept by the start and by each position is true behind all of them
-pub kept : (table : Table) (operands : List Variable) (e : Env) (count : ℕ) (IsAt : ℕ → ℕ → Type 0) → IsAt 0 (table.start (truth_bits_of operands e))
-    → ((position state : ℕ) → IsAt position state → IsAt (suc position) (table.step state (bits_at operands e position)))
+pub kept : (table : Table) (operands : List Variable) (e : Env) (count : ℕ) (IsAt : ℕ → ℕ → Type 0) → IsAt 0 (table.start (operand_truths operands e))
+    → ((position state : ℕ) → IsAt position state → IsAt (suc position) (table.step state (operand_bits operands e position)))
     → IsAt count (state_behind table operands e count)
 kept table operands e zero IsAt start next = start
 kept table operands e (suc count) IsAt start next = next count (state_behind table operands e count) (kept table operands e count IsAt start next)

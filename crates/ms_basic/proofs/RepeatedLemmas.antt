@@ -9,7 +9,8 @@ use Rattle.ms_logic.specs.CoreForm.{Holds}
 use Rattle.ms_logic.specs.FiniteSet.{is_member, IsRising, union_of, intersection_of}
 use Rattle.ms_logic.proofs.Members.{is_member-union_of, is_member-filter, IsRising-set_of, IsRising-filter}
 use Rattle.ms_logic.proofs.SetLaws.{sets_are_their_members, subset_law}
-use Rattle.ms_basic.specs.Decides.{Decides, IsRight, IsTally}
+use Rattle.ms_basic.specs.Relation.{DecidesRelation, IsRight}
+use Rattle.ms_basic.specs.Tally.{IsTally}
 use Rattle.ms_basic.specs.Operands.{number, set}
 use Rattle.ms_basic.specs.Repeated.{constant_table, one_number_sign, one_number_step, one_number_table, sign_of_constant}
 use Rattle.ms_basic.proofs.BitLemmas.{Tells, told}
@@ -70,7 +71,7 @@ one_closed (suc (suc more)) false = omega arith
 
 -- a relation that holds of each number, or of none
 pub decides_one : (mode : Mode) (x : ℕ) (form : Basic) (holds : Bool) → ((e : Env) → IsRight (Holds form e) (sign_of_constant holds))
-    → Decides mode (number x ∷ []) form (one_number_table holds)
+    → DecidesRelation mode (number x ∷ []) form (one_number_table holds)
 decides_one mode x form holds right = record {
   closed = record { start = λ bits. omega arith; step = λ state bits small. one_closed state bits.first };
   tallies = ((count_one, one_tally holds), tt);
@@ -91,16 +92,16 @@ always_itself x e = omega arith
 never_more : (x n : ℕ) (e : Env) → 0 < n → IsRight (Holds (Plus x x n) e) (sign_of_constant false)
 never_more x n e above = λ same. omega (arith, same, above)
 
-pub decides_less_itself : (mode : Mode) (x : ℕ) → Decides mode (number x ∷ []) (Less x x) (one_number_table false)
+pub decides_less_itself : (mode : Mode) (x : ℕ) → DecidesRelation mode (number x ∷ []) (Less x x) (one_number_table false)
 decides_less_itself mode x = decides_one mode x (Less x x) false (never_below x)
 
-pub decides_plus_itself : (mode : Mode) (x n : ℕ) (none : Bool) → Tells none n 0 → Decides mode (number x ∷ []) (Plus x x n) (one_number_table none)
+pub decides_plus_itself : (mode : Mode) (x n : ℕ) (none : Bool) → Tells none n 0 → DecidesRelation mode (number x ∷ []) (Plus x x n) (one_number_table none)
 decides_plus_itself mode x n true is =
-    subst (λ k. Decides mode (number x ∷ []) (Plus x x k) (one_number_table true)) (sym is) (decides_one mode x (Plus x x 0) true (always_itself x))
+    subst (λ k. DecidesRelation mode (number x ∷ []) (Plus x x k) (one_number_table true)) (sym is) (decides_one mode x (Plus x x 0) true (always_itself x))
 decides_plus_itself mode x n false is = decides_one mode x (Plus x x n) false (λ e. never_more x n e (omega (arith, is)))
 
 -- a relation that holds of each set
-pub decides_always : (mode : Mode) (s : ℕ) (form : Basic) → ((e : Env) → IsAssignment mode (set s ∷ []) e → Holds form e) → Decides mode (set s ∷ []) form (constant_table true)
+pub decides_always : (mode : Mode) (s : ℕ) (form : Basic) → ((e : Env) → IsAssignment mode (set s ∷ []) e → Holds form e) → DecidesRelation mode (set s ∷ []) form (constant_table true)
 decides_always mode s form holds = record {
   closed = record { start = λ bits. omega arith; step = λ state bits small. small };
   tallies = (tt, tt);
@@ -120,14 +121,14 @@ pub same_members : (left right : List ℕ) → IsRising left → IsRising right 
 same_members left right rising_left rising_right same =
     sets_are_their_members left right rising_left rising_right (λ k. (λ member. same k ∙ member, λ member. sym (same k) ∙ member))
 
-pub decides_sub_itself : (mode : Mode) (s : ℕ) → Decides mode (set s ∷ []) (Sub s s) (constant_table true)
+pub decides_sub_itself : (mode : Mode) (s : ℕ) → DecidesRelation mode (set s ∷ []) (Sub s s) (constant_table true)
 decides_sub_itself mode s = decides_always mode s (Sub s s) (λ e assigned. (subset_law (e.set s) (e.set s)).1 (λ n member. member))
 
-pub decides_union_itself : (mode : Mode) (s : ℕ) → Decides mode (set s ∷ []) (Union s s s) (constant_table true)
+pub decides_union_itself : (mode : Mode) (s : ℕ) → DecidesRelation mode (set s ∷ []) (Union s s s) (constant_table true)
 decides_union_itself mode s = decides_always mode s (Union s s s) (λ e assigned.
     same_members (e.set s) (union_of (e.set s) (e.set s)) assigned.values.0.0 (IsRising-set_of (e.set s ++ e.set s)) (λ k. is_member-union_of k (e.set s) (e.set s) ∙ or_itself (is_member k (e.set s))))
 
-pub decides_inter_itself : (mode : Mode) (s : ℕ) → Decides mode (set s ∷ []) (Inter s s s) (constant_table true)
+pub decides_inter_itself : (mode : Mode) (s : ℕ) → DecidesRelation mode (set s ∷ []) (Inter s s s) (constant_table true)
 decides_inter_itself mode s = decides_always mode s (Inter s s s) (λ e assigned.
     same_members (e.set s) (intersection_of (e.set s) (e.set s)) assigned.values.0.0 (IsRising-filter (λ n. is_member n (e.set s)) (e.set s) assigned.values.0.0)
     (λ k. is_member-filter k (λ n. is_member n (e.set s)) (e.set s) ∙ and_itself (is_member k (e.set s))))

@@ -11,9 +11,9 @@ use Rattle.ms_logic.proofs.SetLaws.{subset_law}
 use Rattle.ms_explore.specs.Small.{IsClosedTable}
 use Rattle.ms_basic.specs.declared.sets.SetRelation.{SetRelation}
 use Rattle.ms_basic.specs.declared.sets.SetRelation as relations
-use Rattle.ms_basic.specs.Decides.{Decides, IsRight}
+use Rattle.ms_basic.specs.Relation.{DecidesRelation, IsRight}
 use Rattle.ms_basic.specs.Operands.{operands_of}
-use Rattle.ms_basic.specs.Reading.{bits_at, state_behind}
+use Rattle.ms_basic.specs.Reading.{operand_bits, state_behind}
 use Rattle.ms_basic.specs.Sets.{agrees, is_same, sets_table, tested_step}
 use Rattle.ms_basic.specs.Verdict.{sign_by_contradiction}
 use Rattle.ms_basic.proofs.ReadingLemmas.{kept}
@@ -46,13 +46,13 @@ sets_closed relation = record { start = λ bits. omega arith; step = λ state bi
 
 -- behind all positions the sign is right, where the relation holds exactly if all agree
 pub sets_right : (relation : SetRelation) (operands : List Variable) (e : Env) (count : ℕ) (Fact : Type 0)
-    → (((k : ℕ) → k < count → agrees relation (bits_at operands e k) ≡ true) → Fact)
-    → ((k : ℕ) → k < count → agrees relation (bits_at operands e k) ≡ false → ¬ Fact)
+    → (((k : ℕ) → k < count → agrees relation (operand_bits operands e k) ≡ true) → Fact)
+    → ((k : ℕ) → k < count → agrees relation (operand_bits operands e k) ≡ false → ¬ Fact)
     → IsRight Fact ((sets_table relation).sign (state_behind (sets_table relation) operands e count))
 sets_right relation operands e count Fact holds fails =
-    tested_right Fact (λ k. agrees relation (bits_at operands e k)) count (state_behind (sets_table relation) operands e count)
-    (kept (sets_table relation) operands e count (TestedAt (λ k. agrees relation (bits_at operands e k))) (λ k below. absurd (omega (arith, below)))
-    (λ position state at. tested_next (λ k. agrees relation (bits_at operands e k)) position state _ refl at))
+    tested_right Fact (λ k. agrees relation (operand_bits operands e k)) count (state_behind (sets_table relation) operands e count)
+    (kept (sets_table relation) operands e count (TestedAt (λ k. agrees relation (operand_bits operands e k))) (λ k below. absurd (omega (arith, below)))
+    (λ position state at. tested_next (λ k. agrees relation (operand_bits operands e k)) position state _ refl at))
     holds fails
 
 -- a member agrees with an inclusion where it is one of the second set too
@@ -64,7 +64,7 @@ broken : (a b : Bool) → (not a || b) ≡ false → (a ≡ true) × (b ≡ fals
 broken true b breaks = (refl, breaks)
 broken false b breaks = let never : ⊥ = cc in absurd never
 
-pub decides_sub : (mode : Mode) (s t : ℕ) → Decides mode (operands_of (Sub s t)) (Sub s t) (sets_table relations.TheVariants.Sub)
+pub decides_sub : (mode : Mode) (s t : ℕ) → DecidesRelation mode (operands_of (Sub s t)) (Sub s t) (sets_table relations.TheVariants.Sub)
 decides_sub mode s t = record {
   closed = sets_closed relations.TheVariants.Sub;
   tallies = (tt, (tt, tt));
@@ -86,7 +86,7 @@ equal_right left right count rising_left rising_right none_left none_right all =
 -- the same with the members of the other set told
 equal_decides : (relation : SetRelation) (operands : List Variable) (e : Env) (count : ℕ) (left right : List ℕ) (told : ℕ → Bool) → IsRising left → IsRising right
     → bound_of_set left ≤ count → ((k : ℕ) → is_member k right ≡ told k) → ((k : ℕ) → count ≤ k → told k ≡ false)
-    → ((k : ℕ) → agrees relation (bits_at operands e k) ≡ is_same (is_member k left) (told k))
+    → ((k : ℕ) → agrees relation (operand_bits operands e k) ≡ is_same (is_member k left) (told k))
     → IsRight (left ≡ right) ((sets_table relation).sign (state_behind (sets_table relation) operands e count))
 equal_decides relation operands e count left right told rising_left rising_right bound tells none agree =
     sets_right relation operands e count (left ≡ right)
@@ -96,7 +96,7 @@ equal_decides relation operands e count left right told rising_left rising_right
     (λ k below breaks.
     other_sets left right k (λ same. other_bits (is_member k left) (told k) (sym (agree k) ∙ breaks) (same ∙ tells k)))
 
-pub decides_union : (mode : Mode) (s t u : ℕ) → Decides mode (operands_of (Union s t u)) (Union s t u) (sets_table relations.TheVariants.Union)
+pub decides_union : (mode : Mode) (s t u : ℕ) → DecidesRelation mode (operands_of (Union s t u)) (Union s t u) (sets_table relations.TheVariants.Union)
 decides_union mode s t u = record {
   closed = sets_closed relations.TheVariants.Union;
   tallies = (tt, (tt, (tt, tt)));
@@ -108,7 +108,7 @@ decides_union mode s t u = record {
       (λ k. refl);
 }
 
-pub decides_inter : (mode : Mode) (s t u : ℕ) → Decides mode (operands_of (Inter s t u)) (Inter s t u) (sets_table relations.TheVariants.Inter)
+pub decides_inter : (mode : Mode) (s t u : ℕ) → DecidesRelation mode (operands_of (Inter s t u)) (Inter s t u) (sets_table relations.TheVariants.Inter)
 decides_inter mode s t u = record {
   closed = sets_closed relations.TheVariants.Inter;
   tallies = (tt, (tt, (tt, tt)));
@@ -120,7 +120,7 @@ decides_inter mode s t u = record {
       (λ k. refl);
 }
 
-pub decides_diff : (mode : Mode) (s t u : ℕ) → Decides mode (operands_of (Diff s t u)) (Diff s t u) (sets_table relations.TheVariants.Diff)
+pub decides_diff : (mode : Mode) (s t u : ℕ) → DecidesRelation mode (operands_of (Diff s t u)) (Diff s t u) (sets_table relations.TheVariants.Diff)
 decides_diff mode s t u = record {
   closed = sets_closed relations.TheVariants.Diff;
   tallies = (tt, (tt, (tt, tt)));

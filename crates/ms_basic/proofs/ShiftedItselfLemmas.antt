@@ -15,7 +15,7 @@ use Rattle.ms_logic.proofs.SetLaws.{greatest_law, least_law, moved_up_law}
 use Rattle.ms_logic.proofs.Within.{is_within-of}
 use Rattle.ms_explore.specs.Small.{Table}
 use Rattle.ms_basic.specs.Bits.{bits_table}
-use Rattle.ms_basic.specs.Decides.{Decides, IsRight}
+use Rattle.ms_basic.specs.Relation.{DecidesRelation, IsRight}
 use Rattle.ms_basic.specs.Operands.{set}
 use Rattle.ms_basic.specs.Repeated.{constant_table}
 use Rattle.ms_basic.proofs.BitsLemmas.{decides_bits}
@@ -49,10 +49,10 @@ down_by_none members rising =
     same_members members (moved_down 0 members) rising (IsRising-moved_down 0 members rising)
     (λ k. is_member-moved_down k 0 members ∙ (let same : k + 0 ≡ k = omega arith in ap (λ n. is_member n members) same))
 
-pub decides_up_by_none : (mode : Mode) (s : ℕ) → Decides mode (set s ∷ []) (Up s s 0) (constant_table true)
+pub decides_up_by_none : (mode : Mode) (s : ℕ) → DecidesRelation mode (set s ∷ []) (Up s s 0) (constant_table true)
 decides_up_by_none mode s = decides_always mode s (Up s s 0) (λ e assigned. up_by_none e.universe (e.set s) assigned.values.0.0 assigned.values.0.1)
 
-pub decides_down_by_none : (mode : Mode) (s : ℕ) → Decides mode (set s ∷ []) (Down s s 0) (constant_table true)
+pub decides_down_by_none : (mode : Mode) (s : ℕ) → DecidesRelation mode (set s ∷ []) (Down s s 0) (constant_table true)
 decides_down_by_none mode s = decides_always mode s (Down s s 0) (λ e assigned. down_by_none (e.set s) assigned.values.0.0)
 
 -- moved further, it is empty
@@ -86,14 +86,14 @@ right_along One Other Undefined there back right = right
 right_along One Other Outside there back right = right
 
 decides_along : (mode : Mode) (operands : List Variable) (one other : Basic) (table : Table)
-    → ((e : Env) → IsAssignment mode operands e → Holds one e ↔ Holds other e) → Decides mode operands one table → Decides mode operands other table
+    → ((e : Env) → IsAssignment mode operands e → Holds one e ↔ Holds other e) → DecidesRelation mode operands one table → DecidesRelation mode operands other table
 decides_along mode operands one other table same decides = record {
   closed = decides.closed;
   tallies = decides.tallies;
   right = λ e count assigned room string. right_along (Holds one e) (Holds other e) _ (same e assigned).0 (same e assigned).1 (decides.right e count assigned room string);
 }
 
-pub decides_up_itself : (mode : Mode) (s n : ℕ) → 0 < n → Decides mode (set s ∷ []) (Up s s n) (bits_table mode 0 0)
+pub decides_up_itself : (mode : Mode) (s n : ℕ) → 0 < n → DecidesRelation mode (set s ∷ []) (Up s s n) (bits_table mode 0 0)
 decides_up_itself mode s n further =
     decides_along mode (set s ∷ []) (Bits s 0) (Up s s n) (bits_table mode 0 0)
     (λ e assigned. (
@@ -102,7 +102,7 @@ decides_up_itself mode s n further =
     ))
     (decides_bits mode s 0 0 refl)
 
-pub decides_down_itself : (mode : Mode) (s n : ℕ) → 0 < n → Decides mode (set s ∷ []) (Down s s n) (bits_table mode 0 0)
+pub decides_down_itself : (mode : Mode) (s n : ℕ) → 0 < n → DecidesRelation mode (set s ∷ []) (Down s s n) (bits_table mode 0 0)
 decides_down_itself mode s n further =
     decides_along mode (set s ∷ []) (Bits s 0) (Down s s n) (bits_table mode 0 0)
     (λ e assigned. (

@@ -3,7 +3,7 @@ use Rattle.std.proofs.Common.{◌≡◌, ℕ, ◌<◌, Bool, true, false, if◌t
 use Rattle.std.proofs.lemmas.Bool.{false≢true}
 use Rattle.ms_logic.specs.declared.core_formula.Basic.TheVariants.{Truth}
 use Rattle.ms_logic.specs.declared.mode.Mode.{Mode}
-use Rattle.ms_basic.specs.Decides.{Decides, IsRight}
+use Rattle.ms_basic.specs.Relation.{DecidesRelation, IsRight}
 use Rattle.ms_basic.specs.Operands.{operands_of}
 use Rattle.ms_basic.specs.Truth.{truth_table}
 use Rattle.ms_basic.specs.Verdict.{sign_by_contradiction}
@@ -17,7 +17,7 @@ truth_closed : (value : Bool) → (if value then 0 else 1) < 2
 truth_closed true = omega arith
 truth_closed false = omega arith
 
-pub decides_truth : (mode : Mode) (a : ℕ) → Decides mode (operands_of (Truth a)) (Truth a) truth_table
+pub decides_truth : (mode : Mode) (a : ℕ) → DecidesRelation mode (operands_of (Truth a)) (Truth a) truth_table
 decides_truth mode a = record {
   closed = record { start = λ bits. truth_closed bits.first; step = λ state bits small. small };
   tallies = (tt, tt);

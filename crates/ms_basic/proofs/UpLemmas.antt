@@ -13,7 +13,7 @@ use Rattle.ms_logic.specs.Terms.{part_within}
 use Rattle.ms_logic.specs.Word.{HasLength, bound_of_set}
 use Rattle.ms_logic.proofs.Members.{IsRising-filter, IsRising-moved_up, is_member-moved_up, member_below_bound, no_member_from_bound}
 use Rattle.ms_logic.proofs.SetLaws.{moved_up_law}
-use Rattle.ms_basic.specs.Decides.{Decides, IsRight}
+use Rattle.ms_basic.specs.Relation.{DecidesRelation, IsRight}
 use Rattle.ms_basic.specs.Operands.{operands_of}
 use Rattle.ms_basic.specs.Sets.{is_same}
 use Rattle.ms_basic.specs.Windows.{shifted, up_sign, up_step, up_table}
@@ -88,7 +88,7 @@ up_closed size (suc window) s t some = by_test (is_same s (shifted window t / si
     by_test true = omega (arith, mod_below (shifted window t) size some)
     by_test false = omega (arith, some)
 
-pub decides_up : (mode : Mode) (s t n : ℕ) → Decides mode (operands_of (Up s t n)) (Up s t n) (up_table mode (2 ^ n))
+pub decides_up : (mode : Mode) (s t n : ℕ) → DecidesRelation mode (operands_of (Up s t n)) (Up s t n) (up_table mode (2 ^ n))
 decides_up mode s t n = record {
   closed = record { start = λ bits. omega (arith, pow_pos n); step = λ state bits small. up_closed (2 ^ n) state bits.first bits.second (pow_pos n) };
   tallies = (tt, (tt, tt));

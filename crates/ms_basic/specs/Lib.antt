@@ -1,5 +1,4 @@
 pub mod Bits
-pub mod Decides
 pub mod Examples
 pub mod Greatest
 pub mod Least
@@ -9,9 +8,11 @@ pub mod Number
 pub mod Operands
 pub mod Plus
 pub mod Reading
+pub mod Relation
 pub mod Repeated
 pub mod Sets
 pub mod States
+pub mod Tally
 pub mod Truth
 pub mod Verdict
 pub mod Windows

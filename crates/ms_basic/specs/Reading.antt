@@ -56,14 +56,14 @@ operand_bit (v ∷ vs) zero e position = bit_of v.order v.name e position
 operand_bit (v ∷ vs) (suc operand) e position = operand_bit vs operand e position
 
 -- the truth values of the operands, and their bits at a position
-abbrev pub truth_bits_of : List Variable → Env → TrackBits
-truth_bits_of operands e = record { first = operand_truth operands 0 e; second = operand_truth operands 1 e; third = operand_truth operands 2 e }
+abbrev pub operand_truths : List Variable → Env → TrackBits
+operand_truths operands e = record { first = operand_truth operands 0 e; second = operand_truth operands 1 e; third = operand_truth operands 2 e }
 
-abbrev pub bits_at : List Variable → Env → ℕ → TrackBits
-bits_at operands e position =
+abbrev pub operand_bits : List Variable → Env → ℕ → TrackBits
+operand_bits operands e position =
     record { first = operand_bit operands 0 e position; second = operand_bit operands 1 e position; third = operand_bit operands 2 e position }
 
 -- the state of a machine over operands behind so many positions of an assignment
 abbrev pub state_behind : Table → List Variable → Env → ℕ → ℕ
-state_behind table operands e zero = table.start (truth_bits_of operands e)
-state_behind table operands e (suc position) = table.step (state_behind table operands e position) (bits_at operands e position)
+state_behind table operands e zero = table.start (operand_truths operands e)
+state_behind table operands e (suc position) = table.step (state_behind table operands e position) (operand_bits operands e position)

@@ -1,9 +1,10 @@
 ghost use Rattle.std.specs.Prelude.{◌≡◌, ◌≤◌};
 ghost use Rattle.ms_basic.specs.Bits.{digits_of};
-ghost use Rattle.ms_basic.specs.Decides.{IsMade};
+ghost use Rattle.ms_basic.specs.Relation.{IsMade};
 ghost use Rattle.ms_basic.specs.States.{states_of};
 
-use crate::made::{Setting, made};
+use crate::made::made;
+use crate::setting::Setting;
 use ms_dfa::Automaton;
 use ms_edge::StepFault;
 use ms_explore::{SmallMachine, TrackBits};
@@ -100,8 +101,6 @@ impl SmallMachine for BitsMachine {
 
 /// The automaton of `S = pconst(n)`.
 pub(crate) fn bits(alloc: Global, s: u32, n: u64, setting: Setting) -> Result<Automaton, StepFault>
-    requires some { 1 ≤ setting.limit }
-    requires small { setting.limit ≤ 4000000000 }
     ensures { IsMade setting.mode (Basic.Bits s n) setting.limit (states_of (Basic.Bits s n)) result }
 {
     let machine = BitsMachine {

@@ -1,10 +1,11 @@
 ghost use Rattle.std.specs.Prelude.{◌≡◌, ◌≤◌};
-ghost use Rattle.ms_basic.specs.Decides.{IsMade};
+ghost use Rattle.ms_basic.specs.Relation.{IsMade};
 ghost use Rattle.ms_basic.specs.States.{states_of};
 
 use crate::bits::BitsMachine;
-use crate::made::{Setting, made};
+use crate::made::made;
 use crate::repeated::ConstantMachine;
+use crate::setting::Setting;
 use crate::windows::{CONTRADICTED, LONGEST, size};
 use ms_dfa::Automaton;
 use ms_edge::StepFault;
@@ -62,8 +63,6 @@ impl SmallMachine for DownMachine {
 
 /// The automaton of `S = S - n`.
 fn down_itself(alloc: Global, s: u32, n: u64, setting: Setting) -> Result<Automaton, StepFault>
-    requires some { 1 ≤ setting.limit }
-    requires small { setting.limit ≤ 4000000000 }
     ensures { IsMade setting.mode (Basic.Down s s n) setting.limit (states_of (Basic.Down s s n)) result }
 {
     let form = Basic::Down(s, s, n);
@@ -82,8 +81,6 @@ pub(crate) fn down(
     n: u64,
     setting: Setting,
 ) -> Result<Automaton, StepFault>
-    requires some { 1 ≤ setting.limit }
-    requires small { setting.limit ≤ 4000000000 }
     ensures { IsMade setting.mode (Basic.Down s t n) setting.limit (states_of (Basic.Down s t n)) result }
 {
     if s == t {

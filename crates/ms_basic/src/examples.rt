@@ -2,8 +2,9 @@ ghost use Rattle.std.specs.Prelude.{◌≡◌, ◌≤◌, true, false, [], ◌�
 ghost use Rattle.ms_logic.specs.declared.core_formula.Basic.TheVariants.{Bits, Down, Less, Max, Member, Min, Number, Plus, Sub, Truth, Union, Up};
 ghost use Rattle.ms_logic.specs.declared.mode.Mode.TheVariants.{M2lStr, Ws1s};
 ghost use Rattle.ms_logic.specs.declared.sign.Sign.TheVariants.{No, Outside, Undefined, Yes};
+ghost use Rattle.ms_basic.specs.declared.sets.SetRelation.TheVariants as relations;
 ghost use Rattle.ms_basic.specs.Bits.{bits_table, digits_of};
-ghost use Rattle.ms_basic.specs.Decides.{IsRight};
+ghost use Rattle.ms_basic.specs.Relation.{IsRight};
 ghost use Rattle.ms_basic.specs.Examples.{on_four_letters};
 ghost use Rattle.ms_basic.specs.Greatest.{greatest_table};
 ghost use Rattle.ms_basic.specs.Least.{least_table};
@@ -12,9 +13,13 @@ ghost use Rattle.ms_basic.specs.Member.{member_table};
 ghost use Rattle.ms_basic.specs.Number.{number_table};
 ghost use Rattle.ms_basic.specs.Operands.{HaveOneOrder, number, operands_of, set, truth_value};
 ghost use Rattle.ms_basic.specs.Plus.{plus_table};
-ghost use Rattle.ms_basic.specs.Reading.{bits_at, state_behind, track_at};
+ghost use Rattle.ms_basic.specs.Reading.{operand_bits, operand_truths, state_behind, track_at};
+ghost use Rattle.ms_basic.specs.Repeated.{one_number_table};
+ghost use Rattle.ms_basic.specs.Sets.{agrees, tested_step};
 ghost use Rattle.ms_basic.specs.States.{states_of};
-ghost use Rattle.ms_basic.specs.Verdict.{sign_by_verdict};
+ghost use Rattle.ms_basic.specs.Tally.{OnNumbers};
+ghost use Rattle.ms_basic.specs.Truth.{truth_table};
+ghost use Rattle.ms_basic.specs.Verdict.{sign_by_contradiction, sign_by_verdict};
 ghost use Rattle.ms_basic.specs.Windows.{down_table, shifted, up_table};
 
 /// The operands of relations, and which orders they have.
@@ -30,8 +35,8 @@ pub fn worked_operands()
 pub fn worked_readings()
     ensures behind_another { track_at (number 9 ∷ set 4 ∷ []) (set 4 ∷ number 9 ∷ []) 0 ≡ 1 }
     ensures no_operand { track_at (number 9 ∷ set 4 ∷ []) (set 4 ∷ number 9 ∷ []) 2 ≡ 3 }
-    ensures neither { bits_at (number 9 ∷ set 4 ∷ []) on_four_letters 1 ≡ record { first = false; second = false; third = false } }
-    ensures both { bits_at (number 9 ∷ set 4 ∷ []) on_four_letters 2 ≡ record { first = true; second = true; third = false } }
+    ensures neither { operand_bits (number 9 ∷ set 4 ∷ []) on_four_letters 1 ≡ record { first = false; second = false; third = false } }
+    ensures both { operand_bits (number 9 ∷ set 4 ∷ []) on_four_letters 2 ≡ record { first = true; second = true; third = false } }
 {}
 
 /// The states of machines behind the four positions of an assignment, and their signs.
@@ -46,9 +51,32 @@ pub fn worked_machines()
     ensures member { state_behind member_table (number 9 ∷ set 4 ∷ []) on_four_letters 4 ≡ 1 }
     ensures not_least { state_behind least_table (number 9 ∷ set 4 ∷ []) on_four_letters 4 ≡ 2 }
     ensures greatest { state_behind greatest_table (number 9 ∷ set 4 ∷ []) on_four_letters 4 ≡ 1 }
+    ensures itself { state_behind (one_number_table false) (number 9 ∷ []) on_four_letters 4 ≡ 1 }
+    ensures true_value { truth_table.start (operand_truths (truth_value 6 ∷ []) on_four_letters) ≡ 0 }
     ensures one_and_four { digits_of 5 ≡ 3 }
+    ensures five { state_behind (bits_table M2lStr 5 3) (set 4 ∷ []) on_four_letters 4 ≡ 4 }
+    ensures not_four { state_behind (bits_table M2lStr 4 3) (set 4 ∷ []) on_four_letters 4 ≡ 0 }
     ensures lost_sign { sign_by_verdict 0 ≡ Outside }
     ensures waiting_sign { sign_by_verdict 4 ≡ Outside }
+{}
+
+/// Where the bits of a position agree with relations between sets.
+pub fn worked_agreements()
+    ensures member_of_both { agrees relations.Sub (record { first = true; second = true; third = false }) ≡ true }
+    ensures member_of_first { agrees relations.Sub (record { first = true; second = false; third = false }) ≡ false }
+    ensures member_of_one { agrees relations.Union (record { first = true; second = false; third = true }) ≡ true }
+    ensures not_of_both { agrees relations.Inter (record { first = true; second = false; third = true }) ≡ false }
+    ensures taken_away { agrees relations.Diff (record { first = false; second = true; third = true }) ≡ true }
+    ensures later { tested_step true 1 ≡ 1 }
+    ensures agreed_sign { sign_by_contradiction 0 ≡ Yes }
+    ensures contradicted_sign { sign_by_contradiction 1 ≡ No }
+{}
+
+/// What is said of the numbers among operands.
+pub fn worked_numbers()
+    ensures first_alone { OnNumbers (λ operand. operand ≡ 0) (operands_of (Member 1 2)) }
+    ensures no_number { OnNumbers (λ operand. ⊥) (operands_of (Sub 1 2)) }
+    ensures second_too { ¬ (OnNumbers (λ operand. operand ≡ 0) (operands_of (Less 1 2))) }
 {}
 
 /// Windows of two bits.

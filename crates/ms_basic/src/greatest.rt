@@ -1,9 +1,10 @@
 ghost use Rattle.std.specs.Prelude.{◌≤◌};
-ghost use Rattle.ms_basic.specs.Decides.{IsMade};
+ghost use Rattle.ms_basic.specs.Relation.{IsMade};
 ghost use Rattle.ms_basic.specs.Operands.{HaveOneOrder, operands_of};
 ghost use Rattle.ms_basic.specs.States.{states_of};
 
-use crate::made::{Setting, made};
+use crate::made::made;
+use crate::setting::Setting;
 use crate::verdict::{LOST, NO, YES, sign_by_verdict};
 use ms_dfa::Automaton;
 use ms_edge::StepFault;
@@ -64,8 +65,6 @@ pub(crate) fn greatest(
     setting: Setting,
 ) -> Result<Automaton, StepFault>
     requires orders { HaveOneOrder (operands_of (Basic.Max x s)) }
-    requires some { 1 ≤ setting.limit }
-    requires small { setting.limit ≤ 4000000000 }
     ensures { IsMade setting.mode (Basic.Max x s) setting.limit (states_of (Basic.Max x s)) result }
 {
     made(alloc, GreatestMachine, Basic::Max(x, s), 2, setting)

@@ -1,10 +1,11 @@
 ghost use Rattle.std.specs.Prelude.{◌≡◌, ◌≤◌};
-ghost use Rattle.ms_basic.specs.Decides.{IsMade};
+ghost use Rattle.ms_basic.specs.Relation.{IsMade};
 ghost use Rattle.ms_basic.specs.Least.{least_sign};
 ghost use Rattle.ms_basic.specs.Operands.{HaveOneOrder, operands_of};
 ghost use Rattle.ms_basic.specs.States.{states_of};
 
-use crate::made::{Setting, made};
+use crate::made::made;
+use crate::setting::Setting;
 use crate::verdict::{LOST, NO, YES};
 use ms_dfa::Automaton;
 use ms_edge::StepFault;
@@ -77,8 +78,6 @@ impl SmallMachine for LeastMachine {
 /// The automaton of `x = min S`.
 pub(crate) fn least(alloc: Global, x: u32, s: u32, setting: Setting) -> Result<Automaton, StepFault>
     requires orders { HaveOneOrder (operands_of (Basic.Min x s)) }
-    requires some { 1 ≤ setting.limit }
-    requires small { setting.limit ≤ 4000000000 }
     ensures { IsMade setting.mode (Basic.Min x s) setting.limit (states_of (Basic.Min x s)) result }
 {
     made(alloc, LeastMachine, Basic::Min(x, s), 2, setting)

@@ -1,9 +1,10 @@
 ghost use Rattle.std.specs.Prelude.{◌≤◌};
-ghost use Rattle.ms_basic.specs.Decides.{IsMade};
+ghost use Rattle.ms_basic.specs.Relation.{IsMade};
 ghost use Rattle.ms_basic.specs.States.{states_of};
 
-use crate::made::{Setting, made};
+use crate::made::made;
 use crate::repeated::OneNumberMachine;
+use crate::setting::Setting;
 use crate::verdict::{LOST, NO, YES, sign_by_verdict};
 use ms_dfa::Automaton;
 use ms_edge::StepFault;
@@ -64,8 +65,6 @@ impl SmallMachine for LessMachine {
 
 /// The automaton of `x < y`.
 pub(crate) fn less(alloc: Global, x: u32, y: u32, setting: Setting) -> Result<Automaton, StepFault>
-    requires some { 1 ≤ setting.limit }
-    requires small { setting.limit ≤ 4000000000 }
     ensures { IsMade setting.mode (Basic.Less x y) setting.limit (states_of (Basic.Less x y)) result }
 {
     let form = Basic::Less(x, y);

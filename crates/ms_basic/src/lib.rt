@@ -17,6 +17,7 @@ mod reading;
 mod relation;
 mod repeated;
 mod sets;
+mod setting;
 mod truth;
 mod up;
 mod verdict;
@@ -24,6 +25,7 @@ mod windows;
 
 pub use constants::constant;
 pub use examples::{
-    worked_machines, worked_operands, worked_readings, worked_signs, worked_states, worked_windows,
+    worked_agreements, worked_machines, worked_numbers, worked_operands, worked_readings,
+    worked_signs, worked_states, worked_windows,
 };
 pub use relation::basic;

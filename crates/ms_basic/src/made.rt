@@ -1,22 +1,16 @@
 ghost use Rattle.std.specs.Prelude.{◌≡◌, ◌≤◌, length, take};
 ghost use Rattle.ms_explore.specs.Tracks.{distinct};
-ghost use Rattle.ms_basic.specs.Decides.{Decides, IsMade};
+ghost use Rattle.ms_basic.specs.Relation.{DecidesRelation, IsMade};
 ghost use Rattle.ms_basic.specs.Operands.{HaveOneOrder, operands_of};
 
 use crate::operands::operands;
 use crate::reading::{Wired, wiring_of};
+use crate::setting::Setting;
 use ms_dfa::Automaton;
 use ms_edge::StepFault;
 use ms_explore::{SmallMachine, build, distinct};
-use ms_logic::{Basic, Mode};
+use ms_logic::Basic;
 use std::alloc::Global;
-
-/// For which universe an automaton is made, and with how many states and nodes at most.
-#[derive(Clone, Copy)]
-pub(crate) struct Setting {
-    pub mode: Mode,
-    pub limit: u64,
-}
 
 /// The automaton of a relation that the machine decides over its first so many operands.
 pub(crate) fn made<M: SmallMachine + Drop>(
@@ -29,9 +23,7 @@ pub(crate) fn made<M: SmallMachine + Drop>(
     requires count { count ≤ length (operands_of form) }
     requires orders { HaveOneOrder (operands_of form) }
     requires variables { distinct (take count (operands_of form)) ≡ distinct (operands_of form) }
-    requires decides { Decides setting.mode (take count (operands_of form)) form (M.table machine) }
-    requires some { 1 ≤ setting.limit }
-    requires small { setting.limit ≤ 4000000000 }
+    requires decides { DecidesRelation setting.mode (take count (operands_of form)) form (M.table machine) }
     ensures { IsMade setting.mode form setting.limit (M.table machine).states result }
 {
     let Ok(all) = operands(alloc, form) else {

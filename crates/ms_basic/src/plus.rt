@@ -1,10 +1,11 @@
 ghost use Rattle.std.specs.Prelude.{◌≡◌, ◌≤◌, ◌<◌, ◌+◌, ◌-◌, ◌==◌, false};
-ghost use Rattle.ms_basic.specs.Decides.{IsMade};
+ghost use Rattle.ms_basic.specs.Relation.{IsMade};
 ghost use Rattle.ms_basic.specs.Plus.{plus_at, plus_first};
 ghost use Rattle.ms_basic.specs.States.{states_of};
 
-use crate::made::{Setting, made};
+use crate::made::made;
 use crate::repeated::OneNumberMachine;
+use crate::setting::Setting;
 use crate::verdict::{LOST, NO, YES, sign_by_verdict};
 use ms_dfa::Automaton;
 use ms_edge::StepFault;
@@ -113,8 +114,6 @@ pub(crate) fn plus(
     n: u64,
     setting: Setting,
 ) -> Result<Automaton, StepFault>
-    requires some { 1 ≤ setting.limit }
-    requires small { setting.limit ≤ 4000000000 }
     ensures { IsMade setting.mode (Basic.Plus x y n) setting.limit (states_of (Basic.Plus x y n)) result }
 {
     let form = Basic::Plus(x, y, n);

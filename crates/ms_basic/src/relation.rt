@@ -3,11 +3,11 @@ ghost use Rattle.ms_logic.specs.CoreForm.{basic as basic_relation};
 ghost use Rattle.ms_theory.specs.Values.{HasValues, core_meaning};
 ghost use Rattle.ms_explore.specs.Explored.{OnRefused};
 ghost use Rattle.ms_explore.specs.Tracks.{distinct};
-ghost use Rattle.ms_basic.specs.Decides.{IsMade};
+ghost use Rattle.ms_basic.specs.Relation.{IsMade};
 ghost use Rattle.ms_basic.specs.Operands.{HaveOneOrder, operands_of};
 ghost use Rattle.ms_basic.specs.States.{states_of};
 
-use crate::made::Setting;
+use crate::setting::Setting;
 use crate::{bits, down, greatest, least, less, member, number, plus, sets, truth, up};
 use ms_dfa::Automaton;
 use ms_edge::StepFault;
@@ -17,8 +17,6 @@ use std::alloc::Global;
 /// The automaton of a relation, by its kind.
 fn relation(alloc: Global, form: Basic, setting: Setting) -> Result<Automaton, StepFault>
     requires orders { HaveOneOrder (operands_of form) }
-    requires some { 1 ≤ setting.limit }
-    requires small { setting.limit ≤ 4000000000 }
     ensures { IsMade setting.mode form setting.limit (states_of form) result }
 {
     match form {

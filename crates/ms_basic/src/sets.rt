@@ -1,10 +1,11 @@
 ghost use Rattle.std.specs.Prelude.{◌≡◌, ◌≤◌};
-ghost use Rattle.ms_basic.specs.Decides.{IsMade};
+ghost use Rattle.ms_basic.specs.Relation.{IsMade};
 ghost use Rattle.ms_basic.specs.Sets.{agrees};
 ghost use Rattle.ms_basic.specs.States.{states_of};
 
-use crate::made::{Setting, made};
+use crate::made::made;
 use crate::repeated::ConstantMachine;
+use crate::setting::Setting;
 use crate::verdict::sign_by_contradiction;
 use ms_dfa::Automaton;
 use ms_edge::StepFault;
@@ -69,8 +70,6 @@ impl SmallMachine for SetsMachine {
 
 /// The automaton of `S sub T`.
 pub(crate) fn sub(alloc: Global, s: u32, t: u32, setting: Setting) -> Result<Automaton, StepFault>
-    requires some { 1 ≤ setting.limit }
-    requires small { setting.limit ≤ 4000000000 }
     ensures { IsMade setting.mode (Basic.Sub s t) setting.limit (states_of (Basic.Sub s t)) result }
 {
     let form = Basic::Sub(s, t);
@@ -89,8 +88,6 @@ pub(crate) fn union(
     u: u32,
     setting: Setting,
 ) -> Result<Automaton, StepFault>
-    requires some { 1 ≤ setting.limit }
-    requires small { setting.limit ≤ 4000000000 }
     ensures { IsMade setting.mode (Basic.Union s t u) setting.limit (states_of (Basic.Union s t u)) result }
 {
     let form = Basic::Union(s, t, u);
@@ -109,8 +106,6 @@ pub(crate) fn inter(
     u: u32,
     setting: Setting,
 ) -> Result<Automaton, StepFault>
-    requires some { 1 ≤ setting.limit }
-    requires small { setting.limit ≤ 4000000000 }
     ensures { IsMade setting.mode (Basic.Inter s t u) setting.limit (states_of (Basic.Inter s t u)) result }
 {
     let form = Basic::Inter(s, t, u);
@@ -129,8 +124,6 @@ pub(crate) fn diff(
     u: u32,
     setting: Setting,
 ) -> Result<Automaton, StepFault>
-    requires some { 1 ≤ setting.limit }
-    requires small { setting.limit ≤ 4000000000 }
     ensures { IsMade setting.mode (Basic.Diff s t u) setting.limit (states_of (Basic.Diff s t u)) result }
 {
     let relation = SetRelation::Diff;

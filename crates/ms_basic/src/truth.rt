@@ -1,8 +1,9 @@
 ghost use Rattle.std.specs.Prelude.{◌≤◌};
-ghost use Rattle.ms_basic.specs.Decides.{IsMade};
+ghost use Rattle.ms_basic.specs.Relation.{IsMade};
 ghost use Rattle.ms_basic.specs.States.{states_of};
 
-use crate::made::{Setting, made};
+use crate::made::made;
+use crate::setting::Setting;
 use crate::verdict::sign_by_contradiction;
 use ms_dfa::Automaton;
 use ms_edge::StepFault;
@@ -39,8 +40,6 @@ impl SmallMachine for TruthMachine {
 
 /// The automaton of a truth value.
 pub(crate) fn truth(alloc: Global, a: u32, setting: Setting) -> Result<Automaton, StepFault>
-    requires some { 1 ≤ setting.limit }
-    requires small { setting.limit ≤ 4000000000 }
     ensures { IsMade setting.mode (Basic.Truth a) setting.limit (states_of (Basic.Truth a)) result }
 {
     made(alloc, TruthMachine, Basic::Truth(a), 1, setting)

@@ -1,7 +1,7 @@
 use Rattle.std.proofs.Common.{◌<◌, true, [], ◌∷◌, sym, subst, arith}
 use Rattle.ms_logic.specs.declared.core_formula.Basic.TheVariants.{Down}
 use Rattle.ms_basic.specs.Bits.{bits_table}
-use Rattle.ms_basic.specs.Decides.{Decides}
+use Rattle.ms_basic.specs.Relation.{DecidesRelation}
 use Rattle.ms_basic.specs.Operands.{set}
 use Rattle.ms_basic.specs.Repeated.{constant_table}
 use Rattle.ms_basic.proofs.ShiftedItselfLemmas.{decides_down_by_none, decides_down_itself}
@@ -9,12 +9,12 @@ use Rattle.ms_basic.proofs.down.down_itself.Goals as goal
 
 pub made-requires-clause-decides : goal.made-requires-clause-decides
 made-requires-clause-decides c =
-    subst (λ n. Decides c.args.setting.mode (set c.args.s ∷ []) (Down c.args.s c.args.s n) (constant_table true)) (sym c.if-n-eq0.true) (decides_down_by_none c.args.setting.mode c.args.s)
+    subst (λ n. DecidesRelation c.args.setting.mode (set c.args.s ∷ []) (Down c.args.s c.args.s n) (constant_table true)) (sym c.if-n-eq0.true) (decides_down_by_none c.args.setting.mode c.args.s)
 
 pub made-requires-else-n-eq0-clause-decides : goal.made-requires-else-n-eq0-clause-decides
 made-requires-else-n-eq0-clause-decides c =
     let further : 0 < c.args.n = omega (arith, c.if-n-eq0.false) in
-    subst (λ mode. Decides c.args.setting.mode (set c.args.s ∷ []) (Down c.args.s c.args.s c.args.n) (bits_table mode c.none.result.number c.none.result.digits)) (sym c.none.ensures.mode)
-    (subst (λ number. Decides c.args.setting.mode (set c.args.s ∷ []) (Down c.args.s c.args.s c.args.n) (bits_table c.args.setting.mode number c.none.result.digits)) (sym c.none.ensures.number)
-    (subst (λ digits. Decides c.args.setting.mode (set c.args.s ∷ []) (Down c.args.s c.args.s c.args.n) (bits_table c.args.setting.mode 0 digits)) (sym c.none.ensures.digits)
+    subst (λ mode. DecidesRelation c.args.setting.mode (set c.args.s ∷ []) (Down c.args.s c.args.s c.args.n) (bits_table mode c.none.result.number c.none.result.digits)) (sym c.none.ensures.mode)
+    (subst (λ number. DecidesRelation c.args.setting.mode (set c.args.s ∷ []) (Down c.args.s c.args.s c.args.n) (bits_table c.args.setting.mode number c.none.result.digits)) (sym c.none.ensures.number)
+    (subst (λ digits. DecidesRelation c.args.setting.mode (set c.args.s ∷ []) (Down c.args.s c.args.s c.args.n) (bits_table c.args.setting.mode 0 digits)) (sym c.none.ensures.digits)
     (decides_down_itself c.args.setting.mode c.args.s c.args.n further)))

@@ -1,6 +1,6 @@
 use Rattle.std.proofs.Common.{◌==◌, [], ◌∷◌, subst}
 use Rattle.ms_logic.specs.declared.core_formula.Basic.TheVariants.{Plus}
-use Rattle.ms_basic.specs.Decides.{Decides}
+use Rattle.ms_basic.specs.Relation.{DecidesRelation}
 use Rattle.ms_basic.specs.Operands.{number}
 use Rattle.ms_basic.specs.Repeated.{one_number_table}
 use Rattle.ms_basic.proofs.BitLemmas.{told}
@@ -10,7 +10,7 @@ use Rattle.ms_basic.proofs.plus.plus.Goals as goal
 
 pub made-requires-clause-decides : goal.made-requires-clause-decides
 made-requires-clause-decides c =
-    subst (λ y. Decides c.args.setting.mode (number c.args.x ∷ []) (Plus c.args.x y c.args.n) (one_number_table (c.args.n == 0))) c.if-x-y.true
+    subst (λ y. DecidesRelation c.args.setting.mode (number c.args.x ∷ []) (Plus c.args.x y c.args.n) (one_number_table (c.args.n == 0))) c.if-x-y.true
     (decides_plus_itself c.args.setting.mode c.args.x c.args.n (c.args.n == 0) (told c.args.n 0))
 
 pub made-requires-2-clause-decides : goal.made-requires-2-clause-decides

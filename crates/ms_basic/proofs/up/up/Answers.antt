@@ -1,6 +1,6 @@
 use Rattle.std.proofs.Common.{[], ◌∷◌, refl, sym, subst}
 use Rattle.ms_logic.specs.declared.core_formula.Basic.TheVariants.{Up}
-use Rattle.ms_basic.specs.Decides.{Decides}
+use Rattle.ms_basic.specs.Relation.{DecidesRelation}
 use Rattle.ms_basic.specs.Operands.{set}
 use Rattle.ms_basic.specs.Windows.{up_table}
 use Rattle.ms_basic.proofs.UpLemmas.{decides_up}
@@ -9,7 +9,7 @@ use Rattle.ms_basic.proofs.up.up.Goals as goal
 
 pub returns-then-n-gt-LONGEST : goal.returns-then-n-gt-LONGEST
 returns-then-n-gt-LONGEST c =
-    record { made = tt; nodes = (refl, too_many_up c.args.s c.args.t c.args.n c.args.setting.limit c.if-s-t.false c.if-n-gt-LONGEST.true c.requires.small) }
+    record { made = tt; nodes = (refl, too_many_up c.args.s c.args.t c.args.n c.args.setting.limit c.if-s-t.false c.if-n-gt-LONGEST.true c.args.setting.small) }
 
 pub invariant_of-machine : goal.invariant_of-machine
 invariant_of-machine c = record {
@@ -19,5 +19,5 @@ invariant_of-machine c = record {
 
 pub made-requires-clause-decides : goal.made-requires-clause-decides
 made-requires-clause-decides c =
-    subst (λ size. Decides c.args.setting.mode (set c.args.s ∷ set c.args.t ∷ []) (Up c.args.s c.args.t c.args.n) (up_table c.args.setting.mode size)) (sym c.size.ensures)
+    subst (λ size. DecidesRelation c.args.setting.mode (set c.args.s ∷ set c.args.t ∷ []) (Up c.args.s c.args.t c.args.n) (up_table c.args.setting.mode size)) (sym c.size.ensures)
     (decides_up c.args.setting.mode c.args.s c.args.t c.args.n)

@@ -17,7 +17,7 @@ use Rattle.ms_explore.specs.Small.{Table, sign_by, IsClosedTable, TellsWords}
 use Rattle.ms_explore.specs.Tracks.{IsAmong, distinct}
 use Rattle.ms_explore.proofs.TracksLemmas.{distinct-rising}
 use Rattle.ms_basic.specs.declared.reading.Wiring.{Wiring}
-use Rattle.ms_basic.specs.Decides.{Decides, IsOfRelation, IsRight}
+use Rattle.ms_basic.specs.Relation.{DecidesRelation, IsOfRelation, IsRight}
 use Rattle.ms_basic.specs.Operands.{HaveOneOrder, operands_of}
 use Rattle.ms_basic.specs.Reading.{wired, wiring_of}
 use Rattle.ms_basic.proofs.DistinctLemmas.{IsAssignment-some, among-distinct, bound_of-some, distinct-among, length-distinct}
@@ -58,7 +58,7 @@ outside_or_not Undefined never = absurd (never (λ same. cc))
 outside_or_not Outside never = refl
 
 module _ (mode : Mode) (operands : List Variable) (form : Basic) (table : Table) (orders : HaveOneOrder operands) (few : length operands ≤ 3)
-    (decides : Decides mode operands form table) where
+    (decides : DecidesRelation mode operands form table) where
   few_tracks : length (distinct operands) ≤ 3
   few_tracks = omega (arith, few, length-distinct operands)
 
@@ -118,7 +118,7 @@ module _ (mode : Mode) (operands : List Variable) (form : Basic) (table : Table)
 
 -- the same of what was built
 pub relation_built : (mode : Mode) (operands tracks : List Variable) (wiring : Wiring) (form : Basic) (table : Table) (result : Result (Content Sign) StepFault) → HaveOneOrder operands
-    → length operands ≤ 3 → Decides mode operands form table → tracks ≡ distinct operands → wiring ≡ wiring_of operands (distinct operands)
+    → length operands ≤ 3 → DecidesRelation mode operands form table → tracks ≡ distinct operands → wiring ≡ wiring_of operands (distinct operands)
     → distinct operands ≡ distinct (operands_of form) → IfOk result (λ made. made.mode ≡ mode) → IfOk result (λ made. made.variables ≡ tracks)
     → IfOk result (λ made. (word : Word) → IsWordOver tracks word → sign_of made word ≡ Some (sign_by (wired wiring table) tracks word))
     → IfOk result (IsOfRelation mode form)
@@ -133,7 +133,7 @@ relation_built mode operands tracks wiring form table (Err fault) orders few dec
 
 -- and of what is to be built
 pub tells_wired : (mode : Mode) (operands tracks : List Variable) (wiring : Wiring) (form : Basic) (table : Table) → HaveOneOrder operands → length operands ≤ 3
-    → Decides mode operands form table → tracks ≡ distinct operands → wiring ≡ wiring_of operands (distinct operands) → TellsWords mode tracks (wired wiring table)
+    → DecidesRelation mode operands form table → tracks ≡ distinct operands → wiring ≡ wiring_of operands (distinct operands) → TellsWords mode tracks (wired wiring table)
 tells_wired mode operands tracks wiring form table orders few decides are wires =
     subst (λ w. TellsWords mode tracks (wired w table)) (sym wires)
     (subst (λ vs. TellsWords mode vs (wired (wiring_of operands (distinct operands)) table)) (sym are) (tells mode operands form table orders few decides))
