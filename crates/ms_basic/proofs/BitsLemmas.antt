@@ -16,8 +16,8 @@ use Rattle.ms_logic.specs.Word.{HasLength, bound_of_set}
 use Rattle.ms_logic.proofs.Members.{IsRising-filter, member_below_bound, no_member_from_bound}
 use Rattle.ms_logic.proofs.SetLaws.{one_bits_law}
 use Rattle.ms_basic.specs.Bits.{bits_sign, bits_step, bits_table, is_one}
-use Rattle.ms_basic.specs.Relation.{DecidesRelation, IsRight}
 use Rattle.ms_basic.specs.Operands.{operands_of}
+use Rattle.ms_basic.specs.Relation.{DecidesRelation, IsRight}
 use Rattle.ms_basic.specs.Sets.{is_same}
 use Rattle.ms_basic.proofs.BitLemmas.{Tells, told}
 use Rattle.ms_basic.proofs.ReadingLemmas.{kept}

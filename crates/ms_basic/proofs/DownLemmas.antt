@@ -12,8 +12,8 @@ use Rattle.ms_logic.specs.declared.sign.Sign.TheVariants.{Yes, No}
 use Rattle.ms_logic.specs.FiniteSet.{IsRising, is_member, moved_down, moved_up}
 use Rattle.ms_logic.specs.Word.{bound_of_set}
 use Rattle.ms_logic.proofs.Members.{IsRising-moved_down, is_member-moved_down, is_member-moved_up, no_member_from_bound}
-use Rattle.ms_basic.specs.Relation.{DecidesRelation, IsRight}
 use Rattle.ms_basic.specs.Operands.{operands_of}
+use Rattle.ms_basic.specs.Relation.{DecidesRelation, IsRight}
 use Rattle.ms_basic.specs.Sets.{is_same}
 use Rattle.ms_basic.specs.Windows.{down_passed, down_sign, down_step, down_table, shifted}
 use Rattle.ms_basic.proofs.ReadingLemmas.{kept}

@@ -7,10 +7,10 @@ use Rattle.ms_logic.specs.declared.sign.Sign.TheVariants.{Outside}
 use Rattle.ms_logic.specs.FiniteSet.{IsRising, is_member, least}
 use Rattle.ms_logic.specs.Word.{bound_of_set}
 use Rattle.ms_logic.proofs.SetLaws.{least_law}
-use Rattle.ms_basic.specs.Relation.{DecidesRelation, IsRight}
-use Rattle.ms_basic.specs.Tally.{IsTally}
 use Rattle.ms_basic.specs.Least.{least_sign, least_step, least_table}
 use Rattle.ms_basic.specs.Operands.{operands_of}
+use Rattle.ms_basic.specs.Relation.{DecidesRelation, IsRight}
+use Rattle.ms_basic.specs.Tally.{IsTally}
 use Rattle.ms_basic.proofs.BitLemmas.{Tells, told}
 use Rattle.ms_basic.proofs.ReadingLemmas.{kept}
 use Rattle.ms_basic.proofs.SetLemmas.{NoneBelow, first_is_member, no_members, one_more_none}

@@ -17,9 +17,9 @@ use Rattle.ms_explore.specs.Small.{Table, sign_by, IsClosedTable, TellsWords}
 use Rattle.ms_explore.specs.Tracks.{IsAmong, distinct}
 use Rattle.ms_explore.proofs.TracksLemmas.{distinct-rising}
 use Rattle.ms_basic.specs.declared.reading.Wiring.{Wiring}
-use Rattle.ms_basic.specs.Relation.{DecidesRelation, IsOfRelation, IsRight}
 use Rattle.ms_basic.specs.Operands.{HaveOneOrder, operands_of}
 use Rattle.ms_basic.specs.Reading.{wired, wiring_of}
+use Rattle.ms_basic.specs.Relation.{DecidesRelation, IsOfRelation, IsRight}
 use Rattle.ms_basic.proofs.DistinctLemmas.{IsAssignment-some, among-distinct, bound_of-some, distinct-among, length-distinct}
 use Rattle.ms_basic.proofs.ReadingLemmas.{state_at_end}
 use Rattle.ms_basic.proofs.TallyLemmas.{inside_encodes}

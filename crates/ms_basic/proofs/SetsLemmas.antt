@@ -9,37 +9,36 @@ use Rattle.ms_logic.specs.Word.{bound_of_set}
 use Rattle.ms_logic.proofs.Members.{is_member-union_of, is_member-filter, no_member_from_bound, member_below_bound, IsRising-set_of, IsRising-filter}
 use Rattle.ms_logic.proofs.SetLaws.{subset_law}
 use Rattle.ms_explore.specs.Small.{IsClosedTable}
-use Rattle.ms_basic.specs.declared.sets.SetRelation.{SetRelation}
 use Rattle.ms_basic.specs.declared.sets.SetRelation as relations
-use Rattle.ms_basic.specs.Relation.{DecidesRelation, IsRight}
+use Rattle.ms_basic.specs.declared.sets.SetRelation.{SetRelation}
 use Rattle.ms_basic.specs.Operands.{operands_of}
 use Rattle.ms_basic.specs.Reading.{operand_bits, state_behind}
+use Rattle.ms_basic.specs.Relation.{DecidesRelation, IsRight}
 use Rattle.ms_basic.specs.Sets.{agrees, is_same, sets_table, tested_step}
 use Rattle.ms_basic.specs.Verdict.{sign_by_contradiction}
 use Rattle.ms_basic.proofs.ReadingLemmas.{kept}
-use Rattle.ms_basic.proofs.SetLemmas.{no_and, no_or, other_bits, other_sets, same_bits, same_sets}
+use Rattle.ms_basic.proofs.SetLemmas.{no_and, no_or, one_more_same, other_bits, other_sets, same_bits, same_sets}
 
--- in the state 0 all positions so far agreed, and in the others some did not
+-- in the state 0 some position so far did not agree, and in the others all did
 abbrev TestedAt : (ℕ → Bool) → ℕ → ℕ → Type 0
-TestedAt agree position zero = (k : ℕ) → k < position → agree k ≡ true
-TestedAt agree position (suc more) = (k : ℕ) × (k < position) × (agree k ≡ false)
+TestedAt agree position zero = (k : ℕ) × (k < position) × (agree k ≡ false)
+TestedAt agree position (suc more) = (k : ℕ) → k < position → agree k ≡ true
 
 tested_next : (agree : ℕ → Bool) (position state : ℕ) (test : Bool) → agree position ≡ test → TestedAt agree position state
     → TestedAt agree (suc position) (tested_step test state)
-tested_next agree position zero true here at = λ k below.
-    ⊎_elim (λ less. at k less) (λ at_least. (let same : position ≡ k = omega (arith, at_least, below) in subst (λ n. agree n ≡ true) same here)) (cases_lt k position)
-tested_next agree position zero false here at = (position, omega arith, here)
-tested_next agree position (suc more) test here at = (at.0, omega (arith, at.1), at.2)
+tested_next agree position zero test here at = (at.0, omega (arith, at.1), at.2)
+tested_next agree position (suc more) true here at = one_more_same agree (λ k. true) position at here
+tested_next agree position (suc more) false here at = (position, omega arith, here)
 
 tested_closed : (test : Bool) (state : ℕ) → tested_step test state < 2
-tested_closed true zero = omega arith
-tested_closed false zero = omega arith
-tested_closed test (suc more) = omega arith
+tested_closed test zero = omega arith
+tested_closed true (suc more) = omega arith
+tested_closed false (suc more) = omega arith
 
 tested_right : (Fact : Type 0) (agree : ℕ → Bool) (count state : ℕ) → TestedAt agree count state → (((k : ℕ) → k < count → agree k ≡ true) → Fact)
     → ((k : ℕ) → k < count → agree k ≡ false → ¬ Fact) → IsRight Fact (sign_by_contradiction state)
-tested_right Fact agree count zero at holds fails = holds at
-tested_right Fact agree count (suc more) at holds fails = fails at.0 at.1 at.2
+tested_right Fact agree count zero at holds fails = fails at.0 at.1 at.2
+tested_right Fact agree count (suc more) at holds fails = holds at
 
 pub sets_closed : (relation : SetRelation) → IsClosedTable (sets_table relation)
 sets_closed relation = record { start = λ bits. omega arith; step = λ state bits small. tested_closed (agrees relation bits) state }

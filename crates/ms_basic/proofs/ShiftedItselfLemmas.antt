@@ -15,8 +15,8 @@ use Rattle.ms_logic.proofs.SetLaws.{greatest_law, least_law, moved_up_law}
 use Rattle.ms_logic.proofs.Within.{is_within-of}
 use Rattle.ms_explore.specs.Small.{Table}
 use Rattle.ms_basic.specs.Bits.{bits_table}
-use Rattle.ms_basic.specs.Relation.{DecidesRelation, IsRight}
 use Rattle.ms_basic.specs.Operands.{set}
+use Rattle.ms_basic.specs.Relation.{DecidesRelation, IsRight}
 use Rattle.ms_basic.specs.Repeated.{constant_table}
 use Rattle.ms_basic.proofs.BitsLemmas.{decides_bits}
 use Rattle.ms_basic.proofs.RepeatedLemmas.{decides_always, same_members}

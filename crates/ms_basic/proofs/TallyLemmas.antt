@@ -17,9 +17,9 @@ use Rattle.ms_theory.specs.Narrow.{IsCovered, narrowed}
 use Rattle.ms_theory.proofs.CoveredLemmas.{covered_encodes}
 use Rattle.ms_explore.specs.Small.{Table, bit_at, machine_of, sign_by, track_bits}
 use Rattle.ms_explore.specs.Tracks.{IsAmong}
-use Rattle.ms_basic.specs.Tally.{HasTally, IsTally, OnNumber, OnNumbers}
 use Rattle.ms_basic.specs.Operands.{number}
 use Rattle.ms_basic.specs.Reading.{read_at, track_at, wired, wiring_of}
+use Rattle.ms_basic.specs.Tally.{HasTally, IsTally, OnNumber, OnNumbers}
 use Rattle.ms_basic.proofs.DistinctLemmas.{among-at, at-among, place_of-at}
 use Rattle.ms_basic.proofs.ReadingLemmas.{bit_at-track_bits, track_at-at}
 

@@ -3,17 +3,17 @@ use Rattle.std.proofs.Common.{◌≡◌, ℕ, ◌<◌, Bool, true, false, if◌t
 use Rattle.std.proofs.lemmas.Bool.{false≢true}
 use Rattle.ms_logic.specs.declared.core_formula.Basic.TheVariants.{Truth}
 use Rattle.ms_logic.specs.declared.mode.Mode.{Mode}
-use Rattle.ms_basic.specs.Relation.{DecidesRelation, IsRight}
 use Rattle.ms_basic.specs.Operands.{operands_of}
+use Rattle.ms_basic.specs.Relation.{DecidesRelation, IsRight}
 use Rattle.ms_basic.specs.Truth.{truth_table}
 use Rattle.ms_basic.specs.Verdict.{sign_by_contradiction}
 use Rattle.ms_basic.proofs.ReadingLemmas.{kept}
 
-truth_right : (value : Bool) → IsRight (value ≡ true) (sign_by_contradiction (if value then 0 else 1))
+truth_right : (value : Bool) → IsRight (value ≡ true) (sign_by_contradiction (if value then 1 else 0))
 truth_right true = refl
 truth_right false = λ holds. false≢true holds
 
-truth_closed : (value : Bool) → (if value then 0 else 1) < 2
+truth_closed : (value : Bool) → (if value then 1 else 0) < 2
 truth_closed true = omega arith
 truth_closed false = omega arith
 
@@ -23,6 +23,6 @@ decides_truth mode a = record {
   tallies = (tt, tt);
   right = λ e count assigned room string.
       subst (λ state. IsRight (e.truth a ≡ true) (sign_by_contradiction state))
-      (sym (kept truth_table (operands_of (Truth a)) e count (λ position state. state ≡ (if e.truth a then 0 else 1)) refl (λ position state at. at)))
+      (sym (kept truth_table (operands_of (Truth a)) e count (λ position state. state ≡ (if e.truth a then 1 else 0)) refl (λ position state at. at)))
       (truth_right (e.truth a));
 }

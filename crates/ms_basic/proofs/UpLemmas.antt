@@ -13,8 +13,8 @@ use Rattle.ms_logic.specs.Terms.{part_within}
 use Rattle.ms_logic.specs.Word.{HasLength, bound_of_set}
 use Rattle.ms_logic.proofs.Members.{IsRising-filter, IsRising-moved_up, is_member-moved_up, member_below_bound, no_member_from_bound}
 use Rattle.ms_logic.proofs.SetLaws.{moved_up_law}
-use Rattle.ms_basic.specs.Relation.{DecidesRelation, IsRight}
 use Rattle.ms_basic.specs.Operands.{operands_of}
+use Rattle.ms_basic.specs.Relation.{DecidesRelation, IsRight}
 use Rattle.ms_basic.specs.Sets.{is_same}
 use Rattle.ms_basic.specs.Windows.{shifted, up_sign, up_step, up_table}
 use Rattle.ms_basic.proofs.BitLemmas.{Tells, told}

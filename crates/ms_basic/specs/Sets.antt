@@ -2,8 +2,8 @@
 use Rattle.std.specs.Prelude.{ℕ, zero, suc, Bool, true, false, not, ◌&&◌, ◌||◌, if◌then◌else◌}
 use Rattle.ms_explore.specs.declared.small.TrackBits.{TrackBits}
 use Rattle.ms_explore.specs.Small.{Table}
-use Rattle.ms_basic.specs.declared.sets.SetRelation.{SetRelation}
 use Rattle.ms_basic.specs.declared.sets.SetRelation.TheVariants.{Sub, Union, Inter, Diff}
+use Rattle.ms_basic.specs.declared.sets.SetRelation.{SetRelation}
 use Rattle.ms_basic.specs.Verdict.{sign_by_contradiction}
 
 -- whether two bits are one
@@ -18,10 +18,10 @@ agrees Union bits = is_same bits.first (bits.second || bits.third)
 agrees Inter bits = is_same bits.first (bits.second && bits.third)
 agrees Diff bits = is_same bits.first (bits.second && not bits.third)
 
--- from the state 0, in which all positions agreed, the first that does not leads to the state 1
+-- from the state 1, in which all positions agreed, the first that does not leads to the state 0
 abbrev pub tested_step : Bool → ℕ → ℕ
-tested_step agree zero = if agree then 0 else 1
-tested_step agree (suc more) = 1
+tested_step agree zero = 0
+tested_step agree (suc more) = if agree then 1 else 0
 
 abbrev pub sets_table : SetRelation → Table
-sets_table relation = record { states = 2; start = λ bits. 0; step = λ state bits. tested_step (agrees relation bits) state; sign = sign_by_contradiction }
+sets_table relation = record { states = 2; start = λ bits. 1; step = λ state bits. tested_step (agrees relation bits) state; sign = sign_by_contradiction }

@@ -4,4 +4,4 @@ use Rattle.ms_explore.specs.Small.{Table}
 use Rattle.ms_basic.specs.Verdict.{sign_by_contradiction}
 
 abbrev pub truth_table : Table
-truth_table = record { states = 2; start = λ bits. if bits.first then 0 else 1; step = λ state bits. state; sign = sign_by_contradiction }
+truth_table = record { states = 2; start = λ bits. if bits.first then 1 else 0; step = λ state bits. state; sign = sign_by_contradiction }

@@ -11,7 +11,7 @@ sign_by_verdict (suc zero) = Yes
 sign_by_verdict (suc (suc zero)) = No
 sign_by_verdict (suc (suc (suc more))) = Outside
 
--- without numbers: nothing so far contradicts the relation in the state 0, and something does in the others
+-- without numbers: some position has contradicted the relation in the state 0, and none in the others
 abbrev pub sign_by_contradiction : ℕ → Sign
-sign_by_contradiction zero = Yes
-sign_by_contradiction (suc more) = No
+sign_by_contradiction zero = No
+sign_by_contradiction (suc more) = Yes

@@ -5,14 +5,12 @@ ghost use Rattle.ms_basic.specs.States.{states_of};
 
 use crate::made::made;
 use crate::setting::Setting;
+use crate::verdict::CONTRADICTED;
 use ms_dfa::Automaton;
 use ms_edge::StepFault;
 use ms_explore::{SmallMachine, TrackBits};
 use ms_logic::{Basic, Mode, Sign};
 use std::alloc::Global;
-
-/// Some position has contradicted the relation.
-const CONTRADICTED: u32 = 0;
 
 /// No position has been read; the states behind this one tell how many digits have.
 const START: u32 = 1;

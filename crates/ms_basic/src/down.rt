@@ -6,12 +6,16 @@ use crate::bits::BitsMachine;
 use crate::made::made;
 use crate::repeated::ConstantMachine;
 use crate::setting::Setting;
-use crate::windows::{CONTRADICTED, LONGEST, size};
+use crate::verdict::CONTRADICTED;
+use crate::windows::size;
 use ms_dfa::Automaton;
 use ms_edge::StepFault;
 use ms_explore::{SmallMachine, TrackBits};
 use ms_logic::{Basic, Sign};
 use std::alloc::Global;
+
+/// The greatest distance for which a machine is made: with a greater one there are more states than any limit.
+const GREATEST: u64 = 30;
 
 /// The machine of `S = T - n`: its states behind the contradiction are the windows of at most the last n bits of S, each
 /// with a 1 in front.
@@ -86,7 +90,7 @@ pub(crate) fn down(
     if s == t {
         return down_itself(alloc, s, n, setting);
     }
-    if n > LONGEST {
+    if n > GREATEST {
         return Err(StepFault::Nodes {
             limit: setting.limit,
         });

@@ -4,7 +4,6 @@ ghost use Rattle.ms_logic.specs.declared.mode.Mode.TheVariants.{M2lStr, Ws1s};
 ghost use Rattle.ms_logic.specs.declared.sign.Sign.TheVariants.{No, Outside, Undefined, Yes};
 ghost use Rattle.ms_basic.specs.declared.sets.SetRelation.TheVariants as relations;
 ghost use Rattle.ms_basic.specs.Bits.{bits_table, digits_of};
-ghost use Rattle.ms_basic.specs.Relation.{IsRight};
 ghost use Rattle.ms_basic.specs.Examples.{on_four_letters};
 ghost use Rattle.ms_basic.specs.Greatest.{greatest_table};
 ghost use Rattle.ms_basic.specs.Least.{least_table};
@@ -14,6 +13,7 @@ ghost use Rattle.ms_basic.specs.Number.{number_table};
 ghost use Rattle.ms_basic.specs.Operands.{HaveOneOrder, number, operands_of, set, truth_value};
 ghost use Rattle.ms_basic.specs.Plus.{plus_table};
 ghost use Rattle.ms_basic.specs.Reading.{operand_bits, operand_truths, state_behind, track_at};
+ghost use Rattle.ms_basic.specs.Relation.{IsRight};
 ghost use Rattle.ms_basic.specs.Repeated.{one_number_table};
 ghost use Rattle.ms_basic.specs.Sets.{agrees, tested_step};
 ghost use Rattle.ms_basic.specs.States.{states_of};
@@ -52,7 +52,7 @@ pub fn worked_machines()
     ensures not_least { state_behind least_table (number 9 ∷ set 4 ∷ []) on_four_letters 4 ≡ 2 }
     ensures greatest { state_behind greatest_table (number 9 ∷ set 4 ∷ []) on_four_letters 4 ≡ 1 }
     ensures itself { state_behind (one_number_table false) (number 9 ∷ []) on_four_letters 4 ≡ 1 }
-    ensures true_value { truth_table.start (operand_truths (truth_value 6 ∷ []) on_four_letters) ≡ 0 }
+    ensures true_value { truth_table.start (operand_truths (truth_value 6 ∷ []) on_four_letters) ≡ 1 }
     ensures one_and_four { digits_of 5 ≡ 3 }
     ensures five { state_behind (bits_table M2lStr 5 3) (set 4 ∷ []) on_four_letters 4 ≡ 4 }
     ensures not_four { state_behind (bits_table M2lStr 4 3) (set 4 ∷ []) on_four_letters 4 ≡ 0 }
@@ -67,9 +67,9 @@ pub fn worked_agreements()
     ensures member_of_one { agrees relations.Union (record { first = true; second = false; third = true }) ≡ true }
     ensures not_of_both { agrees relations.Inter (record { first = true; second = false; third = true }) ≡ false }
     ensures taken_away { agrees relations.Diff (record { first = false; second = true; third = true }) ≡ true }
-    ensures later { tested_step true 1 ≡ 1 }
-    ensures agreed_sign { sign_by_contradiction 0 ≡ Yes }
-    ensures contradicted_sign { sign_by_contradiction 1 ≡ No }
+    ensures later { tested_step true 0 ≡ 0 }
+    ensures agreed_sign { sign_by_contradiction 1 ≡ Yes }
+    ensures contradicted_sign { sign_by_contradiction 0 ≡ No }
 {}
 
 /// What is said of the numbers among operands.

@@ -15,9 +15,10 @@ use std::alloc::Global;
 /// Neither number has been met.
 const NEITHER: u32 = 3;
 
-/// The first number alone has been met, or the second alone.
+/// The first number alone has been met.
 const FIRST: u32 = 4;
 
+/// The second number alone has been met.
 const SECOND: u32 = 5;
 
 /// The machine of `x < y`.

@@ -1,7 +1,7 @@
 ghost use Rattle.std.specs.Prelude.{◌≡◌, ◌≤◌, length, take};
 ghost use Rattle.ms_explore.specs.Tracks.{distinct};
-ghost use Rattle.ms_basic.specs.Relation.{DecidesRelation, IsMade};
 ghost use Rattle.ms_basic.specs.Operands.{HaveOneOrder, operands_of};
+ghost use Rattle.ms_basic.specs.Relation.{DecidesRelation, IsMade};
 
 use crate::operands::operands;
 use crate::reading::{Wired, wiring_of};

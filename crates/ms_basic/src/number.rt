@@ -1,4 +1,5 @@
-ghost use Rattle.std.specs.Prelude.{◌≤◌};
+ghost use Rattle.std.specs.Prelude.{◌≡◌, ◌≤◌, ◌<◌, ◌+◌, ◌-◌, ◌==◌};
+ghost use Rattle.ms_basic.specs.Number.{number_at};
 ghost use Rattle.ms_basic.specs.Relation.{IsMade};
 ghost use Rattle.ms_basic.specs.States.{states_of};
 
@@ -27,6 +28,22 @@ struct NumberMachine {
     ghost small: { number ≤ 4000000000 },
 }
 
+impl NumberMachine {
+    /// From a state in which the number has not been met, and its position has not been passed.
+    fn from_waiting(&self, state: u32, x: bool) -> u32
+        requires waiting { 4 ≤ state }
+        requires state { state < self.now.number + 5 }
+        ensures { result ≡ number_at (state - 4 == self.now.number) state x }
+    {
+        match (x, state - START == self.number) {
+            (true, true) => YES,
+            (true, false) => NO,
+            (false, true) => LATE,
+            (false, false) => state + 1,
+        }
+    }
+}
+
 impl SmallMachine for NumberMachine {
     ghost use Rattle.ms_basic.specs.Number.{number_table};
 
@@ -50,20 +67,7 @@ impl SmallMachine for NumberMachine {
             (NO, true) => LOST,
             (LATE, false) => LATE,
             (LATE, true) => NO,
-            (_, true) => {
-                if state - START == self.number {
-                    YES
-                } else {
-                    NO
-                }
-            }
-            (_, false) => {
-                if state - START == self.number {
-                    LATE
-                } else {
-                    state + 1
-                }
-            }
+            (_, x) => self.from_waiting(state, x),
         }
     }
 

@@ -1,6 +1,6 @@
 ghost use Rattle.std.specs.Prelude.{◌≡◌, ◌≤◌, ◌<◌, ◌+◌, ◌-◌, ◌==◌, false};
-ghost use Rattle.ms_basic.specs.Relation.{IsMade};
 ghost use Rattle.ms_basic.specs.Plus.{plus_at, plus_first};
+ghost use Rattle.ms_basic.specs.Relation.{IsMade};
 ghost use Rattle.ms_basic.specs.States.{states_of};
 
 use crate::made::made;
@@ -38,17 +38,13 @@ impl PlusMachine {
     fn from_neither(&self, x: bool, y: bool) -> u32
         ensures { result ≡ plus_first (self.now.distance == 0) x y }
     {
-        match (x, y) {
-            (true, true) => { if self.distance == 0 { YES } else { NO } }
-            (true, false) => FIRST,
-            (false, true) => {
-                if self.distance == 0 {
-                    SECOND
-                } else {
-                    SECOND + 1
-                }
-            }
-            (false, false) => NEITHER,
+        match (x, y, self.distance == 0) {
+            (false, false, _) => NEITHER,
+            (true, false, _) => FIRST,
+            (false, true, true) => SECOND,
+            (false, true, false) => SECOND + 1,
+            (true, true, true) => YES,
+            (true, true, false) => NO,
         }
     }
 
@@ -58,8 +54,7 @@ impl PlusMachine {
         requires state { state < self.now.distance + 6 }
         ensures { result ≡ plus_at (state - 5 == self.now.distance) state x false }
     {
-        let last = state - SECOND == self.distance;
-        match (x, last) {
+        match (x, state - SECOND == self.distance) {
             (true, true) => YES,
             (true, false) => NO,
             (false, true) => SECOND,

@@ -3,8 +3,8 @@ ghost use Rattle.ms_logic.specs.CoreForm.{basic as basic_relation};
 ghost use Rattle.ms_theory.specs.Values.{HasValues, core_meaning};
 ghost use Rattle.ms_explore.specs.Explored.{OnRefused};
 ghost use Rattle.ms_explore.specs.Tracks.{distinct};
-ghost use Rattle.ms_basic.specs.Relation.{IsMade};
 ghost use Rattle.ms_basic.specs.Operands.{HaveOneOrder, operands_of};
+ghost use Rattle.ms_basic.specs.Relation.{IsMade};
 ghost use Rattle.ms_basic.specs.States.{states_of};
 
 use crate::setting::Setting;

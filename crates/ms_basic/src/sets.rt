@@ -6,7 +6,7 @@ ghost use Rattle.ms_basic.specs.States.{states_of};
 use crate::made::made;
 use crate::repeated::ConstantMachine;
 use crate::setting::Setting;
-use crate::verdict::sign_by_contradiction;
+use crate::verdict::{AGREED, CONTRADICTED, sign_by_contradiction};
 use ms_dfa::Automaton;
 use ms_edge::StepFault;
 use ms_explore::{SmallMachine, TrackBits};
@@ -34,8 +34,7 @@ fn agrees(relation: SetRelation, bits: TrackBits) -> bool
     }
 }
 
-/// The machine of a relation between sets: from the state 0 it goes over to the state 1 at the first position that does not
-/// agree, and stays there.
+/// The machine of a relation between sets: the first position that does not agree with it contradicts it.
 #[derive(Clone, Copy)]
 struct SetsMachine {
     relation: SetRelation,
@@ -52,14 +51,14 @@ impl SmallMachine for SetsMachine {
 
     fn start(&self, bits: TrackBits) -> u32 {
         let _ = bits;
-        0
+        AGREED
     }
 
     fn step(&self, state: u32, bits: TrackBits) -> u32 {
-        if state == 0 {
-            u32::from(!agrees(self.relation, bits))
+        if state == AGREED && agrees(self.relation, bits) {
+            AGREED
         } else {
-            1
+            CONTRADICTED
         }
     }
 

@@ -25,7 +25,7 @@ impl SmallMachine for TruthMachine {
     }
 
     fn start(&self, bits: TrackBits) -> u32 {
-        u32::from(!bits.first)
+        u32::from(bits.first)
     }
 
     fn step(&self, state: u32, bits: TrackBits) -> u32 {

@@ -6,12 +6,16 @@ use crate::bits::BitsMachine;
 use crate::made::made;
 use crate::repeated::ConstantMachine;
 use crate::setting::Setting;
-use crate::windows::{CONTRADICTED, LONGEST, size};
+use crate::verdict::CONTRADICTED;
+use crate::windows::size;
 use ms_dfa::Automaton;
 use ms_edge::StepFault;
 use ms_explore::{SmallMachine, TrackBits};
 use ms_logic::{Basic, Mode, Sign};
 use std::alloc::Global;
+
+/// The greatest distance for which a machine is made: with a greater one there are more states than any limit.
+const GREATEST: u64 = 31;
 
 /// The machine of `S = T + n`: its states behind the contradiction are the windows of the last n bits of T.
 #[derive(Drop)]
@@ -19,7 +23,7 @@ struct UpMachine {
     mode: Mode,
     size: u32,
     ghost some: { 1 ≤ size },
-    ghost small: { size ≤ 1073741824 },
+    ghost small: { size ≤ 2147483648 },
 }
 
 impl SmallMachine for UpMachine {
@@ -83,7 +87,7 @@ pub(crate) fn up(
     if s == t {
         return up_itself(alloc, s, n, setting);
     }
-    if n > LONGEST {
+    if n > GREATEST {
         return Err(StepFault::Nodes {
             limit: setting.limit,
         });

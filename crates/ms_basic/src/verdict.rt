@@ -23,9 +23,19 @@ pub(crate) fn sign_by_verdict(state: u32) -> Sign
     }
 }
 
-/// The sign of a state, where nothing has contradicted the relation in the state 0, and something has in all others.
+/// Some position has contradicted the relation.
+pub(crate) const CONTRADICTED: u32 = 0;
+
+/// No position has contradicted the relation so far.
+pub(crate) const AGREED: u32 = 1;
+
+/// The sign of a state, where the relation holds until some position contradicts it.
 pub(crate) fn sign_by_contradiction(state: u32) -> Sign
     ensures { result ≡ sign_by_contradiction state }
 {
-    if state == 0 { Sign::Yes } else { Sign::No }
+    if state == CONTRADICTED {
+        Sign::No
+    } else {
+        Sign::Yes
+    }
 }

@@ -1,7 +1,7 @@
 use Rattle.std.proofs.Common.{false, [], ◌∷◌, subst}
 use Rattle.ms_logic.specs.declared.core_formula.Basic.TheVariants.{Less}
-use Rattle.ms_basic.specs.Relation.{DecidesRelation}
 use Rattle.ms_basic.specs.Operands.{number}
+use Rattle.ms_basic.specs.Relation.{DecidesRelation}
 use Rattle.ms_basic.specs.Repeated.{one_number_table}
 use Rattle.ms_basic.proofs.LessLemmas.{decides_less}
 use Rattle.ms_basic.proofs.RepeatedLemmas.{decides_less_itself}

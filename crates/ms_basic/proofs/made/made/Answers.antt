@@ -3,8 +3,8 @@ use Rattle.ms_dfa.specs.Automaton.{variables_of}
 use Rattle.ms_logic.specs.Roots.{AreRising}
 use Rattle.ms_explore.proofs.TracksLemmas.{distinct-rising}
 use Rattle.ms_basic.specs.Operands.{operands_of}
-use Rattle.ms_basic.proofs.RelationLemmas.{relation_built, tells_wired}
 use Rattle.ms_basic.proofs.OperandsLemmas.{few_taken, few_tracks, orders-take, tracks_are, wires}
+use Rattle.ms_basic.proofs.RelationLemmas.{relation_built, tells_wired}
 use Rattle.ms_basic.proofs.made.made.Goals as goal
 
 pub wiring_of-wiring-requires : goal.wiring_of-wiring-requires

@@ -1,7 +1,7 @@
 use Rattle.std.proofs.Common.{true, [], ◌∷◌, subst}
 use Rattle.ms_logic.specs.declared.core_formula.Basic.TheVariants.{Union}
-use Rattle.ms_basic.specs.Relation.{DecidesRelation}
 use Rattle.ms_basic.specs.Operands.{set}
+use Rattle.ms_basic.specs.Relation.{DecidesRelation}
 use Rattle.ms_basic.specs.Repeated.{constant_table}
 use Rattle.ms_basic.proofs.RepeatedLemmas.{decides_union_itself}
 use Rattle.ms_basic.proofs.SetsLemmas.{decides_union}
