@@ -88,30 +88,18 @@ greatest_right x members count (suc (suc (suc zero))) rising at within bound = o
 greatest_right x members count (suc (suc (suc (suc more)))) rising at within bound = omega (arith, at.1, within)
 
 greatest_told : (state : ℕ) (a b : Bool) → (greatest_step state a b ≡ 0) ⊎ (count_met (greatest_step state a b) ≡ count_met state + (if a then 1 else 0))
-greatest_told zero a b = inl refl
-greatest_told (suc zero) true b = inl refl
-greatest_told (suc zero) false true = inr refl
-greatest_told (suc zero) false false = inr refl
-greatest_told (suc (suc zero)) true b = inl refl
-greatest_told (suc (suc zero)) false b = inr refl
-greatest_told (suc (suc (suc zero))) true b = inr refl
-greatest_told (suc (suc (suc zero))) false b = inr refl
-greatest_told (suc (suc (suc (suc more)))) true true = inr refl
-greatest_told (suc (suc (suc (suc more)))) true false = inr refl
-greatest_told (suc (suc (suc (suc more)))) false b = inr refl
+greatest_told zero a b = grind arith
+greatest_told (suc zero) a b = grind arith
+greatest_told (suc (suc zero)) a b = grind arith
+greatest_told (suc (suc (suc zero))) a b = grind arith
+greatest_told (suc (suc (suc (suc more)))) a b = grind arith
 
 greatest_closed : (state : ℕ) (a b : Bool) → greatest_step state a b < 5
-greatest_closed zero a b = omega arith
-greatest_closed (suc zero) true b = omega arith
-greatest_closed (suc zero) false true = omega arith
-greatest_closed (suc zero) false false = omega arith
-greatest_closed (suc (suc zero)) true b = omega arith
-greatest_closed (suc (suc zero)) false b = omega arith
-greatest_closed (suc (suc (suc zero))) true b = omega arith
-greatest_closed (suc (suc (suc zero))) false b = omega arith
-greatest_closed (suc (suc (suc (suc more)))) true true = omega arith
-greatest_closed (suc (suc (suc (suc more)))) true false = omega arith
-greatest_closed (suc (suc (suc (suc more)))) false b = omega arith
+greatest_closed zero a b = grind arith
+greatest_closed (suc zero) a b = grind arith
+greatest_closed (suc (suc zero)) a b = grind arith
+greatest_closed (suc (suc (suc zero))) a b = grind arith
+greatest_closed (suc (suc (suc (suc more)))) a b = grind arith
 
 greatest_tally : IsTally greatest_table 0 count_met
 greatest_tally = record {

@@ -1,5 +1,5 @@
 -- The machine of x = min S decides it.
-use Rattle.std.proofs.Common.{◌≡◌, ◌≢◌, ℕ, zero, suc, ◌+◌, ◌<◌, ◌≤◌, ◌⊎◌, inl, inr, ⊎_elim, Bool, true, false, if◌then◌else◌, List, [], ◌∷◌, refl, sym, ap, subst, ◌∙◌, arith}
+use Rattle.std.proofs.Common.{◌≡◌, ◌≢◌, ℕ, zero, suc, ◌+◌, ◌<◌, ◌≤◌, ◌⊎◌, ⊎_elim, Bool, true, false, if◌then◌else◌, List, [], ◌∷◌, refl, sym, ap, subst, ◌∙◌, arith}
 use Rattle.std.proofs.lemmas.Bool.{cases_lt, false≢true}
 use Rattle.ms_logic.specs.declared.core_formula.Basic.TheVariants.{Min}
 use Rattle.ms_logic.specs.declared.mode.Mode.{Mode}
@@ -102,24 +102,13 @@ count_least (suc (suc (suc zero))) = 1
 count_least (suc (suc (suc (suc more)))) = 0
 
 least_told : (state : ℕ) (a b : Bool) → (least_step state a b ≡ 0) ⊎ (count_least (least_step state a b) ≡ count_least state + (if a then 1 else 0))
-least_told zero a b = inl refl
-least_told (suc zero) true b = inl refl
-least_told (suc zero) false b = inr refl
-least_told (suc (suc zero)) true b = inl refl
-least_told (suc (suc zero)) false b = inr refl
-least_told (suc (suc (suc zero))) true b = inl refl
-least_told (suc (suc (suc zero))) false true = inr refl
-least_told (suc (suc (suc zero))) false false = inr refl
-least_told (suc (suc (suc (suc zero)))) true true = inr refl
-least_told (suc (suc (suc (suc zero)))) true false = inr refl
-least_told (suc (suc (suc (suc zero)))) false true = inr refl
-least_told (suc (suc (suc (suc zero)))) false false = inr refl
-least_told (suc (suc (suc (suc (suc zero))))) true true = inr refl
-least_told (suc (suc (suc (suc (suc zero))))) true false = inr refl
-least_told (suc (suc (suc (suc (suc zero))))) false true = inr refl
-least_told (suc (suc (suc (suc (suc zero))))) false false = inr refl
-least_told (suc (suc (suc (suc (suc (suc more)))))) true b = inr refl
-least_told (suc (suc (suc (suc (suc (suc more)))))) false b = inr refl
+least_told zero a b = grind arith
+least_told (suc zero) a b = grind arith
+least_told (suc (suc zero)) a b = grind arith
+least_told (suc (suc (suc zero))) a b = grind arith
+least_told (suc (suc (suc (suc zero)))) a b = grind arith
+least_told (suc (suc (suc (suc (suc zero))))) a b = grind arith
+least_told (suc (suc (suc (suc (suc (suc more)))))) a b = grind arith
 
 least_signed : (state : ℕ) → least_sign state ≢ Outside → (state ≢ 0) × (count_least state ≡ 1)
 least_signed zero inside = absurd (inside refl)
@@ -129,24 +118,13 @@ least_signed (suc (suc (suc zero))) inside = (omega arith, refl)
 least_signed (suc (suc (suc (suc more)))) inside = absurd (inside refl)
 
 least_closed : (state : ℕ) (a b : Bool) → least_step state a b < 7
-least_closed zero a b = omega arith
-least_closed (suc zero) true b = omega arith
-least_closed (suc zero) false b = omega arith
-least_closed (suc (suc zero)) true b = omega arith
-least_closed (suc (suc zero)) false b = omega arith
-least_closed (suc (suc (suc zero))) true b = omega arith
-least_closed (suc (suc (suc zero))) false true = omega arith
-least_closed (suc (suc (suc zero))) false false = omega arith
-least_closed (suc (suc (suc (suc zero)))) true true = omega arith
-least_closed (suc (suc (suc (suc zero)))) true false = omega arith
-least_closed (suc (suc (suc (suc zero)))) false true = omega arith
-least_closed (suc (suc (suc (suc zero)))) false false = omega arith
-least_closed (suc (suc (suc (suc (suc zero))))) true true = omega arith
-least_closed (suc (suc (suc (suc (suc zero))))) true false = omega arith
-least_closed (suc (suc (suc (suc (suc zero))))) false true = omega arith
-least_closed (suc (suc (suc (suc (suc zero))))) false false = omega arith
-least_closed (suc (suc (suc (suc (suc (suc more)))))) true b = omega arith
-least_closed (suc (suc (suc (suc (suc (suc more)))))) false b = omega arith
+least_closed zero a b = grind arith
+least_closed (suc zero) a b = grind arith
+least_closed (suc (suc zero)) a b = grind arith
+least_closed (suc (suc (suc zero))) a b = grind arith
+least_closed (suc (suc (suc (suc zero)))) a b = grind arith
+least_closed (suc (suc (suc (suc (suc zero))))) a b = grind arith
+least_closed (suc (suc (suc (suc (suc (suc more)))))) a b = grind arith
 
 least_tally : IsTally least_table 0 count_least
 least_tally = record {

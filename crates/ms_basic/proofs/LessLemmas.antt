@@ -1,5 +1,5 @@
 -- The machine of x < y decides it.
-use Rattle.std.proofs.Common.{◌≡◌, ℕ, zero, suc, ◌+◌, ◌<◌, ◌≤◌, ◌⊎◌, inl, inr, Bool, true, false, if◌then◌else◌, refl, arith}
+use Rattle.std.proofs.Common.{◌≡◌, ℕ, zero, suc, ◌+◌, ◌<◌, ◌≤◌, ◌⊎◌, Bool, if◌then◌else◌, refl, arith}
 use Rattle.ms_logic.specs.declared.core_formula.Basic.TheVariants.{Less}
 use Rattle.ms_logic.specs.declared.mode.Mode.{Mode}
 use Rattle.ms_basic.specs.Less.{less_step, less_table}
@@ -22,23 +22,11 @@ LessAt x y position (suc (suc (suc (suc (suc more))))) = (position ≤ x) × (y 
 
 less_next : (x y position state : ℕ) (a b : Bool) → Tells a x position → Tells b y position → LessAt x y position state → LessAt x y (suc position) (less_step state a b)
 less_next x y position zero a b first second at = absurd at
-less_next x y position (suc zero) true b first second at = absurd (omega arith)
-less_next x y position (suc zero) false true first second at = absurd (omega arith)
-less_next x y position (suc zero) false false first second at = (omega arith, omega arith, omega arith)
-less_next x y position (suc (suc zero)) true b first second at = absurd (omega arith)
-less_next x y position (suc (suc zero)) false true first second at = absurd (omega arith)
-less_next x y position (suc (suc zero)) false false first second at = (omega arith, omega arith, omega arith)
-less_next x y position (suc (suc (suc zero))) true true first second at = (omega arith, omega arith, omega arith)
-less_next x y position (suc (suc (suc zero))) true false first second at = (omega arith, omega arith)
-less_next x y position (suc (suc (suc zero))) false true first second at = (omega arith, omega arith)
-less_next x y position (suc (suc (suc zero))) false false first second at = (omega arith, omega arith)
-less_next x y position (suc (suc (suc (suc zero)))) true b first second at = absurd (omega arith)
-less_next x y position (suc (suc (suc (suc zero)))) false true first second at = (omega arith, omega arith, omega arith)
-less_next x y position (suc (suc (suc (suc zero)))) false false first second at = (omega arith, omega arith)
-less_next x y position (suc (suc (suc (suc (suc more))))) true true first second at = absurd (omega arith)
-less_next x y position (suc (suc (suc (suc (suc more))))) false true first second at = absurd (omega arith)
-less_next x y position (suc (suc (suc (suc (suc more))))) true false first second at = (omega arith, omega arith, omega arith)
-less_next x y position (suc (suc (suc (suc (suc more))))) false false first second at = (omega arith, omega arith)
+less_next x y position (suc zero) a b first second at = grind arith
+less_next x y position (suc (suc zero)) a b first second at = grind arith
+less_next x y position (suc (suc (suc zero))) a b first second at = grind arith
+less_next x y position (suc (suc (suc (suc zero)))) a b first second at = grind arith
+less_next x y position (suc (suc (suc (suc (suc more))))) a b first second at = grind arith
 
 -- behind both numbers the sign is right
 less_right : (x y count state : ℕ) → LessAt x y count state → x < count → y < count → IsRight (x < y) (sign_by_verdict state)
@@ -51,42 +39,20 @@ less_right x y count (suc (suc (suc (suc (suc more))))) at first second = omega 
 
 -- how many ones each of the two has had
 first_told : (state : ℕ) (a b : Bool) → (less_step state a b ≡ 0) ⊎ (count_first (less_step state a b) ≡ count_first state + (if a then 1 else 0))
-first_told zero a b = inl refl
-first_told (suc zero) true b = inl refl
-first_told (suc zero) false true = inl refl
-first_told (suc zero) false false = inr refl
-first_told (suc (suc zero)) true b = inl refl
-first_told (suc (suc zero)) false true = inl refl
-first_told (suc (suc zero)) false false = inr refl
-first_told (suc (suc (suc zero))) true true = inr refl
-first_told (suc (suc (suc zero))) true false = inr refl
-first_told (suc (suc (suc zero))) false true = inr refl
-first_told (suc (suc (suc zero))) false false = inr refl
-first_told (suc (suc (suc (suc zero)))) true b = inl refl
-first_told (suc (suc (suc (suc zero)))) false true = inr refl
-first_told (suc (suc (suc (suc zero)))) false false = inr refl
-first_told (suc (suc (suc (suc (suc more))))) a true = inl refl
-first_told (suc (suc (suc (suc (suc more))))) true false = inr refl
-first_told (suc (suc (suc (suc (suc more))))) false false = inr refl
+first_told zero a b = grind arith
+first_told (suc zero) a b = grind arith
+first_told (suc (suc zero)) a b = grind arith
+first_told (suc (suc (suc zero))) a b = grind arith
+first_told (suc (suc (suc (suc zero)))) a b = grind arith
+first_told (suc (suc (suc (suc (suc more))))) a b = grind arith
 
 second_told : (state : ℕ) (a b : Bool) → (less_step state a b ≡ 0) ⊎ (count_second (less_step state a b) ≡ count_second state + (if b then 1 else 0))
-second_told zero a b = inl refl
-second_told (suc zero) true b = inl refl
-second_told (suc zero) false true = inl refl
-second_told (suc zero) false false = inr refl
-second_told (suc (suc zero)) true b = inl refl
-second_told (suc (suc zero)) false true = inl refl
-second_told (suc (suc zero)) false false = inr refl
-second_told (suc (suc (suc zero))) true true = inr refl
-second_told (suc (suc (suc zero))) true false = inr refl
-second_told (suc (suc (suc zero))) false true = inr refl
-second_told (suc (suc (suc zero))) false false = inr refl
-second_told (suc (suc (suc (suc zero)))) true b = inl refl
-second_told (suc (suc (suc (suc zero)))) false true = inr refl
-second_told (suc (suc (suc (suc zero)))) false false = inr refl
-second_told (suc (suc (suc (suc (suc more))))) a true = inl refl
-second_told (suc (suc (suc (suc (suc more))))) true false = inr refl
-second_told (suc (suc (suc (suc (suc more))))) false false = inr refl
+second_told zero a b = grind arith
+second_told (suc zero) a b = grind arith
+second_told (suc (suc zero)) a b = grind arith
+second_told (suc (suc (suc zero))) a b = grind arith
+second_told (suc (suc (suc (suc zero)))) a b = grind arith
+second_told (suc (suc (suc (suc (suc more))))) a b = grind arith
 
 first_tally : IsTally less_table 0 count_first
 first_tally = record {
@@ -106,23 +72,12 @@ second_tally = record {
 
 -- each step leads to one of the states
 less_closed : (state : ℕ) (a b : Bool) → state < 6 → less_step state a b < 6
-less_closed zero a b small = omega arith
-less_closed (suc zero) true b small = omega arith
-less_closed (suc zero) false true small = omega arith
-less_closed (suc zero) false false small = omega arith
-less_closed (suc (suc zero)) true b small = omega arith
-less_closed (suc (suc zero)) false true small = omega arith
-less_closed (suc (suc zero)) false false small = omega arith
-less_closed (suc (suc (suc zero))) true true small = omega arith
-less_closed (suc (suc (suc zero))) true false small = omega arith
-less_closed (suc (suc (suc zero))) false true small = omega arith
-less_closed (suc (suc (suc zero))) false false small = omega arith
-less_closed (suc (suc (suc (suc zero)))) true b small = omega arith
-less_closed (suc (suc (suc (suc zero)))) false true small = omega arith
-less_closed (suc (suc (suc (suc zero)))) false false small = omega arith
-less_closed (suc (suc (suc (suc (suc more))))) a true small = omega arith
-less_closed (suc (suc (suc (suc (suc more))))) true false small = omega arith
-less_closed (suc (suc (suc (suc (suc more))))) false false small = omega arith
+less_closed zero a b small = grind arith
+less_closed (suc zero) a b small = grind arith
+less_closed (suc (suc zero)) a b small = grind arith
+less_closed (suc (suc (suc zero))) a b small = grind arith
+less_closed (suc (suc (suc (suc zero)))) a b small = grind arith
+less_closed (suc (suc (suc (suc (suc more))))) a b small = grind arith
 
 pub decides_less : (mode : Mode) (x y : ℕ) → DecidesRelation mode (operands_of (Less x y)) (Less x y) less_table
 decides_less mode x y = record {

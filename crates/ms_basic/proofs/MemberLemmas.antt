@@ -1,5 +1,5 @@
 -- The machine of x in S decides it.
-use Rattle.std.proofs.Common.{◌≡◌, ℕ, zero, suc, ◌+◌, ◌<◌, ◌≤◌, ◌⊎◌, inl, inr, Bool, true, false, if◌then◌else◌, List, refl, sym, subst, ◌∙◌, arith}
+use Rattle.std.proofs.Common.{◌≡◌, ℕ, zero, suc, ◌+◌, ◌<◌, ◌≤◌, ◌⊎◌, Bool, true, false, if◌then◌else◌, List, refl, sym, subst, ◌∙◌, arith}
 use Rattle.std.proofs.lemmas.Bool.{false≢true}
 use Rattle.ms_logic.specs.declared.core_formula.Basic.TheVariants.{Member}
 use Rattle.ms_logic.specs.declared.mode.Mode.{Mode}
@@ -42,24 +42,16 @@ member_right x members count (suc (suc zero)) at within = λ member. false≢tru
 member_right x members count (suc (suc (suc more))) at within = omega arith
 
 member_told : (state : ℕ) (a b : Bool) → (member_step state a b ≡ 0) ⊎ (count_met (member_step state a b) ≡ count_met state + (if a then 1 else 0))
-member_told zero a b = inl refl
-member_told (suc zero) true b = inl refl
-member_told (suc zero) false b = inr refl
-member_told (suc (suc zero)) true b = inl refl
-member_told (suc (suc zero)) false b = inr refl
-member_told (suc (suc (suc more))) true true = inr refl
-member_told (suc (suc (suc more))) true false = inr refl
-member_told (suc (suc (suc more))) false b = inr refl
+member_told zero a b = grind arith
+member_told (suc zero) a b = grind arith
+member_told (suc (suc zero)) a b = grind arith
+member_told (suc (suc (suc more))) a b = grind arith
 
 member_closed : (state : ℕ) (a b : Bool) → member_step state a b < 4
-member_closed zero a b = omega arith
-member_closed (suc zero) true b = omega arith
-member_closed (suc zero) false b = omega arith
-member_closed (suc (suc zero)) true b = omega arith
-member_closed (suc (suc zero)) false b = omega arith
-member_closed (suc (suc (suc more))) true true = omega arith
-member_closed (suc (suc (suc more))) true false = omega arith
-member_closed (suc (suc (suc more))) false b = omega arith
+member_closed zero a b = grind arith
+member_closed (suc zero) a b = grind arith
+member_closed (suc (suc zero)) a b = grind arith
+member_closed (suc (suc (suc more))) a b = grind arith
 
 member_tally : IsTally member_table 0 count_met
 member_tally = record {

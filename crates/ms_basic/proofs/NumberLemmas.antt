@@ -1,8 +1,9 @@
 -- The machine of x = n decides it.
-use Rattle.std.proofs.Common.{◌≡◌, ◌≢◌, ℕ, zero, suc, ◌+◌, ◌<◌, ◌≤◌, ◌==◌, ◌⊎◌, inl, inr, Bool, true, false, if◌then◌else◌, refl, arith}
+use Rattle.std.proofs.Common.{◌≡◌, ◌≢◌, ℕ, zero, suc, ◌+◌, ◌<◌, ◌≤◌, ◌⊎◌, Bool, if◌then◌else◌, refl, arith}
+use Rattle.std.proofs.lemmas.Bool.Decides.{nat_tests}
 use Rattle.ms_logic.specs.declared.core_formula.Basic.TheVariants.{Number}
 use Rattle.ms_logic.specs.declared.mode.Mode.{Mode}
-use Rattle.ms_basic.specs.Number.{number_at, number_step, number_table}
+use Rattle.ms_basic.specs.Number.{number_step, number_table}
 use Rattle.ms_basic.specs.Operands.{operands_of}
 use Rattle.ms_basic.specs.Relation.{DecidesRelation, IsRight}
 use Rattle.ms_basic.specs.Tally.{IsTally}
@@ -19,22 +20,12 @@ NumberAt n x position (suc (suc zero)) = (x < position) × (x ≢ n)
 NumberAt n x position (suc (suc (suc zero))) = (position ≤ x) × (n < position)
 NumberAt n x position (suc (suc (suc (suc k)))) = (position ≤ x) × (position ≡ k) × (k ≤ n)
 
-number_next_at : (n x position k : ℕ) (last a : Bool) → Tells last k n → Tells a x position → (position ≤ x) × (position ≡ k) × (k ≤ n)
-    → NumberAt n x (suc position) (number_at last (suc (suc (suc (suc k)))) a)
-number_next_at n x position k true true at_n first at = (omega arith, omega arith)
-number_next_at n x position k true false at_n first at = (omega arith, omega arith)
-number_next_at n x position k false true at_n first at = (omega arith, omega arith)
-number_next_at n x position k false false at_n first at = (omega arith, omega arith, omega arith)
-
 number_next : (n x position state : ℕ) (a : Bool) → Tells a x position → NumberAt n x position state → NumberAt n x (suc position) (number_step n state a)
 number_next n x position zero a first at = absurd at
-number_next n x position (suc zero) true first at = absurd (omega arith)
-number_next n x position (suc zero) false first at = (omega arith, at.1)
-number_next n x position (suc (suc zero)) true first at = absurd (omega arith)
-number_next n x position (suc (suc zero)) false first at = (omega arith, at.1)
-number_next n x position (suc (suc (suc zero))) true first at = (omega arith, omega arith)
-number_next n x position (suc (suc (suc zero))) false first at = (omega arith, omega arith)
-number_next n x position (suc (suc (suc (suc k)))) a first at = number_next_at n x position k (k == n) a (told k n) first at
+number_next n x position (suc zero) a first at = grind arith
+number_next n x position (suc (suc zero)) a first at = grind arith
+number_next n x position (suc (suc (suc zero))) a first at = grind arith
+number_next n x position (suc (suc (suc (suc k)))) a first at = grind (arith, nat_tests)
 
 number_right : (n x count state : ℕ) → NumberAt n x count state → x < count → IsRight (x ≡ n) (sign_by_verdict state)
 number_right n x count zero at within = at
@@ -43,37 +34,19 @@ number_right n x count (suc (suc zero)) at within = at.1
 number_right n x count (suc (suc (suc zero))) at within = omega arith
 number_right n x count (suc (suc (suc (suc k)))) at within = omega arith
 
-number_told_at : (k : ℕ) (last a : Bool) → count_met (number_at last (suc (suc (suc (suc k)))) a) ≡ 0 + (if a then 1 else 0)
-number_told_at k true true = refl
-number_told_at k true false = refl
-number_told_at k false true = refl
-number_told_at k false false = refl
-
 number_told : (n state : ℕ) (a : Bool) → (number_step n state a ≡ 0) ⊎ (count_met (number_step n state a) ≡ count_met state + (if a then 1 else 0))
-number_told n zero a = inl refl
-number_told n (suc zero) true = inl refl
-number_told n (suc zero) false = inr refl
-number_told n (suc (suc zero)) true = inl refl
-number_told n (suc (suc zero)) false = inr refl
-number_told n (suc (suc (suc zero))) true = inr refl
-number_told n (suc (suc (suc zero))) false = inr refl
-number_told n (suc (suc (suc (suc k)))) a = inr (number_told_at k (k == n) a)
-
-number_closed_at : (n k : ℕ) (last a : Bool) → Tells last k n → k < n + 1 → number_at last (suc (suc (suc (suc k)))) a < n + 5
-number_closed_at n k true true at_n small = omega arith
-number_closed_at n k true false at_n small = omega arith
-number_closed_at n k false true at_n small = omega arith
-number_closed_at n k false false at_n small = omega arith
+number_told n zero a = grind arith
+number_told n (suc zero) a = grind arith
+number_told n (suc (suc zero)) a = grind arith
+number_told n (suc (suc (suc zero))) a = grind arith
+number_told n (suc (suc (suc (suc k)))) a = grind (arith, nat_tests)
 
 number_closed : (n state : ℕ) (a : Bool) → state < n + 5 → number_step n state a < n + 5
-number_closed n zero a small = omega arith
-number_closed n (suc zero) true small = omega arith
-number_closed n (suc zero) false small = omega arith
-number_closed n (suc (suc zero)) true small = omega arith
-number_closed n (suc (suc zero)) false small = omega arith
-number_closed n (suc (suc (suc zero))) true small = omega arith
-number_closed n (suc (suc (suc zero))) false small = omega arith
-number_closed n (suc (suc (suc (suc k)))) a small = number_closed_at n k (k == n) a (told k n) (omega arith)
+number_closed n zero a small = grind arith
+number_closed n (suc zero) a small = grind arith
+number_closed n (suc (suc zero)) a small = grind arith
+number_closed n (suc (suc (suc zero))) a small = grind arith
+number_closed n (suc (suc (suc (suc k)))) a small = grind (arith, nat_tests)
 
 number_tally : (n : ℕ) → IsTally (number_table n) 0 count_met
 number_tally n = record {

@@ -24,10 +24,8 @@ OneAt x position (suc (suc more)) = position ≤ x
 
 one_next : (x position state : ℕ) (a : Bool) → Tells a x position → OneAt x position state → OneAt x (suc position) (one_number_step state a)
 one_next x position zero a first at = absurd at
-one_next x position (suc zero) true first at = absurd (omega arith)
-one_next x position (suc zero) false first at = omega arith
-one_next x position (suc (suc more)) true first at = omega arith
-one_next x position (suc (suc more)) false first at = omega arith
+one_next x position (suc zero) a first at = grind arith
+one_next x position (suc (suc more)) a first at = grind arith
 
 one_right : (Fact : Type 0) (holds : Bool) (x count state : ℕ) → OneAt x count state → x < count → IsRight Fact (sign_of_constant holds) → IsRight Fact (one_number_sign holds state)
 one_right Fact holds x count zero at within right = absurd at
@@ -63,11 +61,9 @@ one_tally holds = record {
 }
 
 one_closed : (state : ℕ) (a : Bool) → one_number_step state a < 3
-one_closed zero a = omega arith
-one_closed (suc zero) true = omega arith
-one_closed (suc zero) false = omega arith
-one_closed (suc (suc more)) true = omega arith
-one_closed (suc (suc more)) false = omega arith
+one_closed zero a = grind arith
+one_closed (suc zero) a = grind arith
+one_closed (suc (suc more)) a = grind arith
 
 -- a relation that holds of each number, or of none
 pub decides_one : (mode : Mode) (x : ℕ) (form : Basic) (holds : Bool) → ((e : Env) → IsRight (Holds form e) (sign_of_constant holds))

@@ -1,5 +1,3 @@
-ghost use Rattle.std.specs.Prelude.{◌≡◌, ◌≤◌};
-ghost use Rattle.ms_basic.specs.Least.{least_sign};
 ghost use Rattle.ms_basic.specs.Operands.{HaveOneOrder, operands_of};
 ghost use Rattle.ms_basic.specs.Relation.{IsMade};
 ghost use Rattle.ms_basic.specs.States.{states_of};
