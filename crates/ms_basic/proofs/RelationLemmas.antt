@@ -13,7 +13,7 @@ use Rattle.ms_logic.specs.Word.{Encodes, IsEncoding}
 use Rattle.ms_logic.specs.WordSign.{IsOutside}
 use Rattle.ms_logic.proofs.WordLaws.{encoding_is_over, zero_letter_keeps}
 use Rattle.ms_theory.specs.Values.{HasValues, core_meaning}
-use Rattle.ms_explore.specs.Small.{Table, sign_by, IsClosedTable, TellsWords}
+use Rattle.ms_explore.specs.Small.{Table, sign_by, TellsWords}
 use Rattle.ms_explore.specs.Tracks.{IsAmong, distinct}
 use Rattle.ms_explore.proofs.TracksLemmas.{distinct-rising}
 use Rattle.ms_basic.specs.declared.reading.Wiring.{Wiring}
@@ -59,81 +59,82 @@ outside_or_not Outside never = refl
 
 module _ (mode : Mode) (operands : List Variable) (form : Basic) (table : Table) (orders : HaveOneOrder operands) (few : length operands ≤ 3)
     (decides : DecidesRelation mode operands form table) where
-  few_tracks : length (distinct operands) ≤ 3
+  abbrev tracks : List Variable
+  tracks = distinct operands
+
+  -- the machine over the tracks
+  abbrev whole : Table
+  whole = wired (wiring_of operands tracks) table
+
+  few_tracks : length tracks ≤ 3
   few_tracks = omega (arith, few, length-distinct operands)
 
   -- the sign of a word that encodes an assignment is right there
-  right_sign : (word : Word) (e : Env) → IsAssignment mode (distinct operands) e → Encodes (distinct operands) word e
-      → IsRight (Holds form e) (sign_by (wired (wiring_of operands (distinct operands)) table) (distinct operands) word)
+  right_sign : (word : Word) (e : Env) → IsAssignment mode tracks e → Encodes tracks word e
+      → IsRight (Holds form e) (sign_by whole tracks word)
   right_sign word e assigned encodes =
-      let among : (v : Variable) → IsAmong operands v → IsAmong (distinct operands) v = λ v there. among-distinct operands v orders there in
-      let bound = bound_of-some (distinct operands) operands e among in
+      let among : (v : Variable) → IsAmong operands v → IsAmong tracks v = λ v there. among-distinct operands v orders there in
+      let bound = bound_of-some tracks operands e among in
       subst (λ s. IsRight (Holds form e) (table.sign s))
-      (sym (state_at_end (distinct operands) e (distinct-rising operands) few_tracks operands among table word encodes))
-      (decides.right e (length word.letters) (IsAssignment-some mode (distinct operands) operands e among assigned) (omega (arith, bound, encodes.room)) encodes.string)
+      (sym (state_at_end tracks e (distinct-rising operands) few_tracks operands among table word encodes))
+      (decides.right e (length word.letters) (IsAssignment-some mode tracks operands e among assigned) (omega (arith, bound, encodes.room)) encodes.string)
 
   -- and any other word has the sign Outside
-  inside : (word : Word) → IsWordOver (distinct operands) word
-      → sign_by (wired (wiring_of operands (distinct operands)) table) (distinct operands) word ≢ Outside → IsEncoding mode (distinct operands) word
+  inside : (word : Word) → IsWordOver tracks word → sign_by whole tracks word ≢ Outside → IsEncoding mode tracks word
   inside word over other =
-      inside_encodes mode table (distinct operands) operands word (distinct-rising operands) few_tracks few (distinct-among operands) decides.tallies over other
+      inside_encodes mode table tracks operands word (distinct-rising operands) few_tracks few (distinct-among operands) decides.tallies over other
 
-  pub tells : TellsWords mode (distinct operands) (wired (wiring_of operands (distinct operands)) table)
+  pub tells : TellsWords mode tracks whole
   tells = record {
     encodings = λ word over. (
-      λ encoding. never_outside (Holds form encoding.0) (sign_by (wired (wiring_of operands (distinct operands)) table) (distinct operands) word) (right_sign word encoding.0 encoding.1 encoding.2),
+      λ encoding. never_outside (Holds form encoding.0) (sign_by whole tracks word) (right_sign word encoding.0 encoding.1 encoding.2),
       inside word over,
     );
     settled = λ numbers word over encoding.
         let e = encoding.0 in
-        let assigned = subst (λ m. IsAssignment m (distinct operands) e) (sym numbers) encoding.1 in
-        one_right (Holds form e) (sign_by (wired (wiring_of operands (distinct operands)) table) (distinct operands) (with_zero_letter (distinct operands) word))
-        (sign_by (wired (wiring_of operands (distinct operands)) table) (distinct operands) word)
-        (right_sign (with_zero_letter (distinct operands) word) e assigned (zero_letter_keeps (distinct operands) word e encoding.1.universe encoding.2))
+        let assigned = subst (λ m. IsAssignment m tracks e) (sym numbers) encoding.1 in
+        one_right (Holds form e) (sign_by whole tracks (with_zero_letter tracks word)) (sign_by whole tracks word)
+        (right_sign (with_zero_letter tracks word) e assigned (zero_letter_keeps tracks word e encoding.1.universe encoding.2))
         (right_sign word e assigned encoding.2);
   }
 
-  pub closed : IsClosedTable (wired (wiring_of operands (distinct operands)) table)
-  closed = record { start = λ bits. decides.closed.start _; step = λ state bits below. decides.closed.step state _ below }
-
   -- an automaton with the signs of the machine has the values of the relation
   pub has_values : (content : Content Sign) → content.mode ≡ mode → content.variables ≡ distinct operands
-      → ((word : Word) → IsWordOver (distinct operands) word
-      → sign_of content word ≡ Some (sign_by (wired (wiring_of operands (distinct operands)) table) (distinct operands) word))
+      → ((word : Word) → IsWordOver tracks word → sign_of content word ≡ Some (sign_by whole tracks word))
       → HasValues (core_meaning [] (basic form)) content
   has_values content of_mode variables signs = record {
     right = λ word e assigned encodes.
         let encodes_there = subst (λ vs. Encodes vs word e) variables encodes in
-        let assigned_there = subst (λ m. IsAssignment m (distinct operands) e) of_mode (subst (λ vs. IsAssignment content.mode vs e) variables assigned) in (
-          sign_by (wired (wiring_of operands (distinct operands)) table) (distinct operands) word,
-          signs word (encoding_is_over (distinct operands) word e encodes_there),
-          right_meaning form e (sign_by (wired (wiring_of operands (distinct operands)) table) (distinct operands) word) (right_sign word e assigned_there encodes_there),
+        let assigned_there = subst (λ m. IsAssignment m tracks e) of_mode (subst (λ vs. IsAssignment content.mode vs e) variables assigned) in (
+          sign_by whole tracks word,
+          signs word (encoding_is_over tracks word e encodes_there),
+          right_meaning form e (sign_by whole tracks word) (right_sign word e assigned_there encodes_there),
         );
     outside = λ word over outside.
         let over_there = subst (λ vs. IsWordOver vs word) variables over in
-        let outside_there = subst (λ m. IsOutside m (distinct operands) word) of_mode (subst (λ vs. IsOutside content.mode vs word) variables outside) in
+        let outside_there = subst (λ m. IsOutside m tracks word) of_mode (subst (λ vs. IsOutside content.mode vs word) variables outside) in
         signs word over_there
-        ∙ ap Some (outside_or_not (sign_by (wired (wiring_of operands (distinct operands)) table) (distinct operands) word) (λ other. outside_there (inside word over_there other)));
+        ∙ ap Some (outside_or_not (sign_by whole tracks word) (λ other. outside_there (inside word over_there other)));
   }
 
 -- the same of what was built
-pub relation_built : (mode : Mode) (operands tracks : List Variable) (wiring : Wiring) (form : Basic) (table : Table) (result : Result (Content Sign) StepFault) → HaveOneOrder operands
-    → length operands ≤ 3 → DecidesRelation mode operands form table → tracks ≡ distinct operands → wiring ≡ wiring_of operands (distinct operands)
-    → distinct operands ≡ distinct (operands_of form) → IfOk result (λ made. made.mode ≡ mode) → IfOk result (λ made. made.variables ≡ tracks)
-    → IfOk result (λ made. (word : Word) → IsWordOver tracks word → sign_of made word ≡ Some (sign_by (wired wiring table) tracks word))
+pub relation_built : (mode : Mode) (operands over : List Variable) (wiring : Wiring) (form : Basic) (table : Table) (result : Result (Content Sign) StepFault) → HaveOneOrder operands
+    → length operands ≤ 3 → DecidesRelation mode operands form table → over ≡ distinct operands → wiring ≡ wiring_of operands (distinct operands)
+    → distinct operands ≡ distinct (operands_of form) → IfOk result (λ made. made.mode ≡ mode) → IfOk result (λ made. made.variables ≡ over)
+    → IfOk result (λ made. (word : Word) → IsWordOver over word → sign_of made word ≡ Some (sign_by (wired wiring table) over word))
     → IfOk result (IsOfRelation mode form)
-relation_built mode operands tracks wiring form table (Ok made) orders few decides are wires same of_mode variables signs = record {
+relation_built mode operands over wiring form table (Ok made) orders few decides are wires same of_mode variables signs = record {
   universe = of_mode;
   variables = variables ∙ are ∙ same;
   values = has_values mode operands form table orders few decides made of_mode (variables ∙ are)
       (subst (λ w. (word : Word) → IsWordOver (distinct operands) word → sign_of made word ≡ Some (sign_by (wired w table) (distinct operands) word)) wires
       (subst (λ vs. (word : Word) → IsWordOver vs word → sign_of made word ≡ Some (sign_by (wired wiring table) vs word)) are signs));
 }
-relation_built mode operands tracks wiring form table (Err fault) orders few decides are wires same of_mode variables signs = tt
+relation_built mode operands over wiring form table (Err fault) orders few decides are wires same of_mode variables signs = tt
 
 -- and of what is to be built
-pub tells_wired : (mode : Mode) (operands tracks : List Variable) (wiring : Wiring) (form : Basic) (table : Table) → HaveOneOrder operands → length operands ≤ 3
-    → DecidesRelation mode operands form table → tracks ≡ distinct operands → wiring ≡ wiring_of operands (distinct operands) → TellsWords mode tracks (wired wiring table)
-tells_wired mode operands tracks wiring form table orders few decides are wires =
-    subst (λ w. TellsWords mode tracks (wired w table)) (sym wires)
+pub tells_wired : (mode : Mode) (operands over : List Variable) (wiring : Wiring) (form : Basic) (table : Table) → HaveOneOrder operands → length operands ≤ 3
+    → DecidesRelation mode operands form table → over ≡ distinct operands → wiring ≡ wiring_of operands (distinct operands) → TellsWords mode over (wired wiring table)
+tells_wired mode operands over wiring form table orders few decides are wires =
+    subst (λ w. TellsWords mode over (wired w table)) (sym wires)
     (subst (λ vs. TellsWords mode vs (wired (wiring_of operands (distinct operands)) table)) (sym are) (tells mode operands form table orders few decides))

@@ -15,6 +15,7 @@ use Rattle.ms_logic.proofs.DecodedWords.{encodings_are}
 use Rattle.ms_theory.specs.Machine.{after}
 use Rattle.ms_theory.specs.Narrow.{IsCovered, narrowed}
 use Rattle.ms_theory.proofs.CoveredLemmas.{covered_encodes}
+use Rattle.ms_explore.specs.declared.small.TrackBits.{TrackBits}
 use Rattle.ms_explore.specs.Small.{Table, bit_at, machine_of, sign_by, track_bits}
 use Rattle.ms_explore.specs.Tracks.{IsAmong}
 use Rattle.ms_basic.specs.Operands.{number}
@@ -79,38 +80,43 @@ one_covers mode tracks word track one = record {
 }
 
 module _ (table : Table) (tracks operands : List Variable) (operand : ℕ) (count : ℕ → ℕ) (tally : IsTally table operand count) where
+  -- the machine over the tracks
+  abbrev whole : Table
+  whole = wired (wiring_of operands tracks) table
+
+  abbrev bits_read : List Bool → TrackBits
+  bits_read letter = read_at (wiring_of operands tracks) (track_bits (letter_bits tracks letter))
+
   -- the bit of the operand in a letter
   abbrev bit_read : List Bool → Bool
-  bit_read letter = bit_at (read_at (wiring_of operands tracks) (track_bits (letter_bits tracks letter))) operand
+  bit_read letter = bit_at (bits_read letter) operand
 
   -- what is lost stays lost
-  lost_after : (letters : List (List Bool)) → after (machine_of (wired (wiring_of operands tracks) table) tracks) 0 letters ≡ 0
+  lost_after : (letters : List (List Bool)) → after (machine_of whole tracks) 0 letters ≡ 0
   lost_after [] = refl
   lost_after (letter ∷ letters) =
-      ap (λ s. after (machine_of (wired (wiring_of operands tracks) table) tracks) s letters) (tally.lost (read_at (wiring_of operands tracks) (track_bits (letter_bits tracks letter))))
-      ∙ lost_after letters
+      ap (λ s. after (machine_of whole tracks) s letters) (tally.lost (bits_read letter)) ∙ lost_after letters
 
   -- behind letters the state is lost, or tells of their ones too
   tallied_after : (state : ℕ) (letters : List (List Bool))
-      → (after (machine_of (wired (wiring_of operands tracks) table) tracks) state letters ≡ 0)
-      ⊎ (count (after (machine_of (wired (wiring_of operands tracks) table) tracks) state letters) ≡ count state + ones bit_read letters)
+      → (after (machine_of whole tracks) state letters ≡ 0)
+      ⊎ (count (after (machine_of whole tracks) state letters) ≡ count state + ones bit_read letters)
   tallied_after state [] = inr (omega arith)
   tallied_after state (letter ∷ letters) =
-      let machine = machine_of (wired (wiring_of operands tracks) table) tracks in
-      let bits = read_at (wiring_of operands tracks) (track_bits (letter_bits tracks letter)) in
+      let bits = bits_read letter in
       ⊎_elim
-      (λ lost. inl (ap (λ s. after (machine_of (wired (wiring_of operands tracks) table) tracks) s letters) lost ∙ lost_after letters))
+      (λ lost. inl (ap (λ s. after (machine_of whole tracks) s letters) lost ∙ lost_after letters))
       (λ told. ⊎_elim (λ lost. inl lost) (λ all. inr (omega (arith, told, all))) (tallied_after (table.step state bits) letters))
       (tally.step state bits)
 
   -- a sign other than Outside tells of exactly one 1
-  pub one_read : (word : Word) → sign_by (wired (wiring_of operands tracks) table) tracks word ≢ Outside → ones bit_read word.letters ≡ 1
+  pub one_read : (word : Word) → sign_by whole tracks word ≢ Outside → ones bit_read word.letters ≡ 1
   one_read word inside =
-      let machine = machine_of (wired (wiring_of operands tracks) table) tracks in
-      let first = table.start (read_at (wiring_of operands tracks) (track_bits (truth_bits tracks word.truth))) in
-      let last = after (machine_of (wired (wiring_of operands tracks) table) tracks) first word.letters in
+      let bits = read_at (wiring_of operands tracks) (track_bits (truth_bits tracks word.truth)) in
+      let first = table.start bits in
+      let last = after (machine_of whole tracks) first word.letters in
       let told = tally.sign last inside in
-      ⊎_elim (λ lost. absurd (told.0 lost)) (λ all. omega (arith, all, told.1, tally.start (read_at (wiring_of operands tracks) (track_bits (truth_bits tracks word.truth)))))
+      ⊎_elim (λ lost. absurd (told.0 lost)) (λ all. omega (arith, all, told.1, tally.start bits))
       (tallied_after first word.letters)
 
 -- equal bits have as many ones
