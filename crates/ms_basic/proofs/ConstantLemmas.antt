@@ -1,5 +1,5 @@
 -- The machine that gives each word one sign, over no variable.
-use Rattle.std.proofs.Common.{◌≡◌, ◌≢◌, Bool, true, false, if◌then◌else◌, [], Some, refl, sym, subst, arith}
+use Rattle.std.proofs.Common.{◌≡◌, ◌≢◌, Bool, true, false, if◌then◌else◌, [], Some, refl, sym, subst}
 use Rattle.ms_edge.specs.declared.refusal.Word.{Word}
 use Rattle.ms_logic.specs.declared.mode.Mode.{Mode}
 use Rattle.ms_logic.specs.declared.sign.Sign.{Sign}
@@ -11,11 +11,8 @@ use Rattle.ms_logic.specs.Word.{IsEncoding}
 use Rattle.ms_logic.proofs.DecodedWords.{each_word_encodes}
 use Rattle.ms_logic.proofs.WordLaws.{encoding_is_over}
 use Rattle.ms_theory.specs.Values.{HasValues, core_meaning}
-use Rattle.ms_explore.specs.Small.{IsClosedTable, TellsWords, sign_by}
+use Rattle.ms_explore.specs.Small.{TellsWords, sign_by}
 use Rattle.ms_basic.specs.Repeated.{constant_table, sign_of_constant}
-
-pub constant_closed : (holds : Bool) → IsClosedTable (constant_table holds)
-constant_closed holds = record { start = λ bits. omega arith; step = λ state bits small. small }
 
 never_outside : (holds : Bool) → sign_of_constant holds ≢ Outside
 never_outside true = λ same. cc

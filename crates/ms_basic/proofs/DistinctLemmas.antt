@@ -107,18 +107,6 @@ length-gathered there (v ∷ vs) = omega (arith, length-gathered (joined there (
 pub length-distinct : (vs : List Variable) → length (distinct vs) ≤ length vs
 length-distinct vs = omega (arith, length-gathered [] vs)
 
--- one variable joined with itself is itself
-pub distinct-twice : (v : Variable) (vs : List Variable) → distinct (v ∷ v ∷ vs) ≡ distinct (v ∷ vs)
-distinct-twice v vs = ap (λ there. gathered_with there vs) once
-  where
-    not_below : nat_lt v.name v.name ≡ false
-    not_below = grind (arith, nat_tests)
-
-    once : joined (v ∷ []) (v ∷ []) ≡ v ∷ []
-    once =
-        ap (λ test. (if test then v ∷ [] else []) ++ v ∷ without_first v.name (if test then [] else v ∷ [])) not_below
-        ∙ ap (λ test. v ∷ (if test then [] else v ∷ [])) (eq-eqb v.name v.name refl)
-
 -- a variable at a place is one of the list, and each of the list stands at a place
 pub among-at : (vs : List Variable) (place : ℕ) (v : Variable) → slice_get vs place ≡ Some v → IsAmong vs v
 among-at [] place v there = absurd (none-some v there)

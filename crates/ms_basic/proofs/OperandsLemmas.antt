@@ -1,10 +1,8 @@
 -- The operands of a relation, and the first of them.
-use Rattle.std.proofs.Common.{◌≡◌, ℕ, zero, suc, ◌≤◌, ⊎_elim, inl, inr, List, [], ◌∷◌, length, take, refl, sym, ap, ◌∙◌, arith}
+use Rattle.std.proofs.Common.{◌≡◌, ℕ, zero, suc, ◌≤◌, ⊎_elim, inl, inr, List, [], ◌∷◌, length, take, refl, ap, ◌∙◌, arith}
 use Rattle.std.proofs.lemmas.List.{length-map}
-use Rattle.std.specs.List.{AllByRecursion}
 use Rattle.ms_logic.specs.declared.core_formula.Basic.{Basic}
 use Rattle.ms_logic.specs.declared.core_formula.Basic.TheVariants.{Truth, Number, Plus, Less, Member, Sub, Union, Inter, Diff, Up, Down, Min, Max, Bits}
-use Rattle.ms_logic.specs.declared.mode.Order.{Order}
 use Rattle.ms_logic.specs.Assignment.{Variable}
 use Rattle.ms_dfa.specs.declared.track.Track.{Track}
 use Rattle.ms_dfa.specs.Automaton.{variable_of, variables_of}
@@ -13,14 +11,6 @@ use Rattle.ms_basic.specs.declared.reading.Wiring.{Wiring}
 use Rattle.ms_basic.specs.Operands.{HaveOneOrder, operands_of}
 use Rattle.ms_basic.specs.Reading.{wiring_of}
 use Rattle.ms_basic.proofs.DistinctLemmas.{length-distinct}
-
--- variables that are all of one order
-order_among : (o : Order) (vs : List Variable) (v : Variable) → AllByRecursion (λ (u : Variable). u.order ≡ o) vs → IsAmong vs v → v.order ≡ o
-order_among o [] v all among = absurd among
-order_among o (first ∷ vs) v all among = ⊎_elim (λ same. ap (λ (u : Variable). u.order) (sym same) ∙ all.0) (λ there. order_among o vs v all.1 there) among
-
-pub of_order : (o : Order) (vs : List Variable) → AllByRecursion (λ (u : Variable). u.order ≡ o) vs → HaveOneOrder vs
-of_order o vs all v w in_v in_w same = λ i. record { name = same i; order = (order_among o vs v all in_v ∙ sym (order_among o vs w all in_w)) i }
 
 -- the first of a list are in the list
 take-among : (count : ℕ) (vs : List Variable) (v : Variable) → IsAmong (take count vs) v → IsAmong vs v
