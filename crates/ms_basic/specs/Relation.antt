@@ -13,8 +13,10 @@ use Rattle.ms_theory.specs.Values.{HasValues, core_meaning}
 use Rattle.ms_explore.specs.Explored.{OnRefused}
 use Rattle.ms_explore.specs.Small.{Table, IsClosedTable}
 use Rattle.ms_explore.specs.Tracks.{distinct}
+use Rattle.ms_basic.specs.declared.setting.Setting.{Setting}
 use Rattle.ms_basic.specs.Operands.{operands_of}
 use Rattle.ms_basic.specs.Reading.{state_behind}
+use Rattle.ms_basic.specs.States.{states_of}
 use Rattle.ms_basic.specs.Tally.{HasTally, OnNumbers}
 
 -- Yes is right where the fact holds, and No where it does not
@@ -44,3 +46,7 @@ pub record IsOfRelation (mode : Mode) (form : Basic) (made : Content Sign) : Typ
 pub record IsMade (mode : Mode) (form : Basic) (limit states : ℕ) (result : Result (Content Sign) StepFault) : Type 0 where
   pub made : IfOk result (IsOfRelation mode form)
   pub nodes : OnRefused result (λ refused. (refused ≡ limit) × (limit < 8 * (states + 1)))
+
+-- the same with the states of the relation's own machine
+abbrev pub IsMadeUnder : Setting → Basic → Result (Content Sign) StepFault → Type 0
+IsMadeUnder setting form result = IsMade setting.mode form setting.limit (states_of form) result

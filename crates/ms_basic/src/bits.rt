@@ -1,7 +1,6 @@
 ghost use Rattle.std.specs.Prelude.{◌≡◌, ◌≤◌};
 ghost use Rattle.ms_basic.specs.Bits.{digits_of};
-ghost use Rattle.ms_basic.specs.Relation.{IsMade};
-ghost use Rattle.ms_basic.specs.States.{states_of};
+ghost use Rattle.ms_basic.specs.Relation.{IsMadeUnder};
 
 use crate::made::made;
 use crate::setting::Setting;
@@ -99,7 +98,7 @@ impl SmallMachine for BitsMachine {
 
 /// The automaton of `S = pconst(n)`.
 pub(crate) fn bits(alloc: Global, s: u32, n: u64, setting: Setting) -> Result<Automaton, StepFault>
-    ensures { IsMade setting.mode (Basic.Bits s n) setting.limit (states_of (Basic.Bits s n)) result }
+    ensures { IsMadeUnder setting (Basic.Bits s n) result }
 {
     let machine = BitsMachine {
         mode: setting.mode,

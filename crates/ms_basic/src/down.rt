@@ -1,6 +1,5 @@
 ghost use Rattle.std.specs.Prelude.{◌≤◌};
-ghost use Rattle.ms_basic.specs.Relation.{IsMade};
-ghost use Rattle.ms_basic.specs.States.{states_of};
+ghost use Rattle.ms_basic.specs.Relation.{IsMadeUnder};
 
 use crate::bits::BitsMachine;
 use crate::made::made;
@@ -67,7 +66,7 @@ impl SmallMachine for DownMachine {
 
 /// The automaton of `S = S - n`.
 fn down_itself(alloc: Global, s: u32, n: u64, setting: Setting) -> Result<Automaton, StepFault>
-    ensures { IsMade setting.mode (Basic.Down s s n) setting.limit (states_of (Basic.Down s s n)) result }
+    ensures { IsMadeUnder setting (Basic.Down s s n) result }
 {
     let form = Basic::Down(s, s, n);
     if n == 0 {
@@ -85,7 +84,7 @@ pub(crate) fn down(
     n: u64,
     setting: Setting,
 ) -> Result<Automaton, StepFault>
-    ensures { IsMade setting.mode (Basic.Down s t n) setting.limit (states_of (Basic.Down s t n)) result }
+    ensures { IsMadeUnder setting (Basic.Down s t n) result }
 {
     if s == t {
         return down_itself(alloc, s, n, setting);

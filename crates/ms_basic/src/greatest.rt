@@ -1,6 +1,5 @@
 ghost use Rattle.ms_basic.specs.Operands.{HaveOneOrder, operands_of};
-ghost use Rattle.ms_basic.specs.Relation.{IsMade};
-ghost use Rattle.ms_basic.specs.States.{states_of};
+ghost use Rattle.ms_basic.specs.Relation.{IsMadeUnder};
 
 use crate::made::made;
 use crate::setting::Setting;
@@ -64,7 +63,7 @@ pub(crate) fn greatest(
     setting: Setting,
 ) -> Result<Automaton, StepFault>
     requires orders { HaveOneOrder (operands_of (Basic.Max x s)) }
-    ensures { IsMade setting.mode (Basic.Max x s) setting.limit (states_of (Basic.Max x s)) result }
+    ensures { IsMadeUnder setting (Basic.Max x s) result }
 {
     made(alloc, GreatestMachine, Basic::Max(x, s), 2, setting)
 }

@@ -1,6 +1,5 @@
 ghost use Rattle.ms_basic.specs.Operands.{HaveOneOrder, operands_of};
-ghost use Rattle.ms_basic.specs.Relation.{IsMade};
-ghost use Rattle.ms_basic.specs.States.{states_of};
+ghost use Rattle.ms_basic.specs.Relation.{IsMadeUnder};
 
 use crate::made::made;
 use crate::setting::Setting;
@@ -76,7 +75,7 @@ impl SmallMachine for LeastMachine {
 /// The automaton of `x = min S`.
 pub(crate) fn least(alloc: Global, x: u32, s: u32, setting: Setting) -> Result<Automaton, StepFault>
     requires orders { HaveOneOrder (operands_of (Basic.Min x s)) }
-    ensures { IsMade setting.mode (Basic.Min x s) setting.limit (states_of (Basic.Min x s)) result }
+    ensures { IsMadeUnder setting (Basic.Min x s) result }
 {
     made(alloc, LeastMachine, Basic::Min(x, s), 2, setting)
 }

@@ -1,5 +1,4 @@
-ghost use Rattle.ms_basic.specs.Relation.{IsMade};
-ghost use Rattle.ms_basic.specs.States.{states_of};
+ghost use Rattle.ms_basic.specs.Relation.{IsMadeUnder};
 
 use crate::made::made;
 use crate::repeated::OneNumberMachine;
@@ -65,7 +64,7 @@ impl SmallMachine for LessMachine {
 
 /// The automaton of `x < y`.
 pub(crate) fn less(alloc: Global, x: u32, y: u32, setting: Setting) -> Result<Automaton, StepFault>
-    ensures { IsMade setting.mode (Basic.Less x y) setting.limit (states_of (Basic.Less x y)) result }
+    ensures { IsMadeUnder setting (Basic.Less x y) result }
 {
     let form = Basic::Less(x, y);
     if x == y {

@@ -1,6 +1,5 @@
 ghost use Rattle.ms_basic.specs.Operands.{HaveOneOrder, operands_of};
-ghost use Rattle.ms_basic.specs.Relation.{IsMade};
-ghost use Rattle.ms_basic.specs.States.{states_of};
+ghost use Rattle.ms_basic.specs.Relation.{IsMadeUnder};
 
 use crate::made::made;
 use crate::setting::Setting;
@@ -58,7 +57,7 @@ pub(crate) fn member(
     setting: Setting,
 ) -> Result<Automaton, StepFault>
     requires orders { HaveOneOrder (operands_of (Basic.Member x s)) }
-    ensures { IsMade setting.mode (Basic.Member x s) setting.limit (states_of (Basic.Member x s)) result }
+    ensures { IsMadeUnder setting (Basic.Member x s) result }
 {
     made(alloc, MemberMachine, Basic::Member(x, s), 2, setting)
 }

@@ -1,7 +1,6 @@
 ghost use Rattle.std.specs.Prelude.{◌≡◌, ◌≤◌, ◌<◌, ◌+◌, ◌-◌, ◌==◌};
 ghost use Rattle.ms_basic.specs.Number.{number_at};
-ghost use Rattle.ms_basic.specs.Relation.{IsMade};
-ghost use Rattle.ms_basic.specs.States.{states_of};
+ghost use Rattle.ms_basic.specs.Relation.{IsMadeUnder};
 
 use crate::made::made;
 use crate::setting::Setting;
@@ -83,7 +82,7 @@ pub(crate) fn number(
     n: u64,
     setting: Setting,
 ) -> Result<Automaton, StepFault>
-    ensures { IsMade setting.mode (Basic.Number x n) setting.limit (states_of (Basic.Number x n)) result }
+    ensures { IsMadeUnder setting (Basic.Number x n) result }
 {
     if n > GREATEST {
         return Err(StepFault::Nodes {

@@ -1,7 +1,6 @@
 ghost use Rattle.std.specs.Prelude.{◌≡◌, ◌≤◌, ◌<◌, ◌+◌, ◌-◌, ◌==◌, false};
 ghost use Rattle.ms_basic.specs.Plus.{plus_at, plus_first};
-ghost use Rattle.ms_basic.specs.Relation.{IsMade};
-ghost use Rattle.ms_basic.specs.States.{states_of};
+ghost use Rattle.ms_basic.specs.Relation.{IsMadeUnder};
 
 use crate::made::made;
 use crate::repeated::OneNumberMachine;
@@ -109,7 +108,7 @@ pub(crate) fn plus(
     n: u64,
     setting: Setting,
 ) -> Result<Automaton, StepFault>
-    ensures { IsMade setting.mode (Basic.Plus x y n) setting.limit (states_of (Basic.Plus x y n)) result }
+    ensures { IsMadeUnder setting (Basic.Plus x y n) result }
 {
     let form = Basic::Plus(x, y, n);
     if x == y {

@@ -4,7 +4,7 @@ ghost use Rattle.ms_theory.specs.Values.{HasValues, core_meaning};
 ghost use Rattle.ms_explore.specs.Explored.{OnRefused};
 ghost use Rattle.ms_explore.specs.Tracks.{distinct};
 ghost use Rattle.ms_basic.specs.Operands.{HaveOneOrder, operands_of};
-ghost use Rattle.ms_basic.specs.Relation.{IsMade};
+ghost use Rattle.ms_basic.specs.Relation.{IsMadeUnder};
 ghost use Rattle.ms_basic.specs.States.{states_of};
 
 use crate::setting::Setting;
@@ -17,7 +17,7 @@ use std::alloc::Global;
 /// The automaton of a relation, by its kind.
 fn relation(alloc: Global, form: Basic, setting: Setting) -> Result<Automaton, StepFault>
     requires orders { HaveOneOrder (operands_of form) }
-    ensures { IsMade setting.mode form setting.limit (states_of form) result }
+    ensures { IsMadeUnder setting form result }
 {
     match form {
         Basic::Truth(a) => truth::truth(alloc, a, setting),

@@ -1,7 +1,6 @@
 ghost use Rattle.std.specs.Prelude.{◌≡◌};
-ghost use Rattle.ms_basic.specs.Relation.{IsMade};
+ghost use Rattle.ms_basic.specs.Relation.{IsMadeUnder};
 ghost use Rattle.ms_basic.specs.Sets.{agrees};
-ghost use Rattle.ms_basic.specs.States.{states_of};
 
 use crate::made::made;
 use crate::repeated::ConstantMachine;
@@ -69,7 +68,7 @@ impl SmallMachine for SetsMachine {
 
 /// The automaton of `S sub T`.
 pub(crate) fn sub(alloc: Global, s: u32, t: u32, setting: Setting) -> Result<Automaton, StepFault>
-    ensures { IsMade setting.mode (Basic.Sub s t) setting.limit (states_of (Basic.Sub s t)) result }
+    ensures { IsMadeUnder setting (Basic.Sub s t) result }
 {
     let form = Basic::Sub(s, t);
     if s == t {
@@ -87,7 +86,7 @@ pub(crate) fn union(
     u: u32,
     setting: Setting,
 ) -> Result<Automaton, StepFault>
-    ensures { IsMade setting.mode (Basic.Union s t u) setting.limit (states_of (Basic.Union s t u)) result }
+    ensures { IsMadeUnder setting (Basic.Union s t u) result }
 {
     let form = Basic::Union(s, t, u);
     if s == t && t == u {
@@ -105,7 +104,7 @@ pub(crate) fn inter(
     u: u32,
     setting: Setting,
 ) -> Result<Automaton, StepFault>
-    ensures { IsMade setting.mode (Basic.Inter s t u) setting.limit (states_of (Basic.Inter s t u)) result }
+    ensures { IsMadeUnder setting (Basic.Inter s t u) result }
 {
     let form = Basic::Inter(s, t, u);
     if s == t && t == u {
@@ -123,7 +122,7 @@ pub(crate) fn diff(
     u: u32,
     setting: Setting,
 ) -> Result<Automaton, StepFault>
-    ensures { IsMade setting.mode (Basic.Diff s t u) setting.limit (states_of (Basic.Diff s t u)) result }
+    ensures { IsMadeUnder setting (Basic.Diff s t u) result }
 {
     let relation = SetRelation::Diff;
     made(

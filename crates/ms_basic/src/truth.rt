@@ -1,5 +1,4 @@
-ghost use Rattle.ms_basic.specs.Relation.{IsMade};
-ghost use Rattle.ms_basic.specs.States.{states_of};
+ghost use Rattle.ms_basic.specs.Relation.{IsMadeUnder};
 
 use crate::made::made;
 use crate::setting::Setting;
@@ -39,7 +38,7 @@ impl SmallMachine for TruthMachine {
 
 /// The automaton of a truth value.
 pub(crate) fn truth(alloc: Global, a: u32, setting: Setting) -> Result<Automaton, StepFault>
-    ensures { IsMade setting.mode (Basic.Truth a) setting.limit (states_of (Basic.Truth a)) result }
+    ensures { IsMadeUnder setting (Basic.Truth a) result }
 {
     made(alloc, TruthMachine, Basic::Truth(a), 1, setting)
 }

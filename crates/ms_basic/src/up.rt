@@ -1,6 +1,5 @@
 ghost use Rattle.std.specs.Prelude.{◌≤◌};
-ghost use Rattle.ms_basic.specs.Relation.{IsMade};
-ghost use Rattle.ms_basic.specs.States.{states_of};
+ghost use Rattle.ms_basic.specs.Relation.{IsMadeUnder};
 
 use crate::bits::BitsMachine;
 use crate::made::made;
@@ -64,7 +63,7 @@ impl SmallMachine for UpMachine {
 
 /// The automaton of `S = S + n`.
 fn up_itself(alloc: Global, s: u32, n: u64, setting: Setting) -> Result<Automaton, StepFault>
-    ensures { IsMade setting.mode (Basic.Up s s n) setting.limit (states_of (Basic.Up s s n)) result }
+    ensures { IsMadeUnder setting (Basic.Up s s n) result }
 {
     let form = Basic::Up(s, s, n);
     if n == 0 {
@@ -82,7 +81,7 @@ pub(crate) fn up(
     n: u64,
     setting: Setting,
 ) -> Result<Automaton, StepFault>
-    ensures { IsMade setting.mode (Basic.Up s t n) setting.limit (states_of (Basic.Up s t n)) result }
+    ensures { IsMadeUnder setting (Basic.Up s t n) result }
 {
     if s == t {
         return up_itself(alloc, s, n, setting);
