@@ -1,6 +1,6 @@
-ghost use Rattle.std.specs.Prelude.{◌≡◌, ◌≤◌, ◌<◌, ◌+◌, ℕ, suc, false, List, length, IsTrue};
+ghost use Rattle.std.specs.Prelude.{◌≡◌, ◌-◌, ◌≤◌, ◌<◌, ◌+◌, ℕ, suc, false, List, length, IsTrue};
 ghost use Rattle.ms_text.specs.TokenList.{Lexed};
-ghost use Rattle.ms_steps.specs.Machine.{Context, Step, enter, starter, unopened};
+ghost use Rattle.ms_steps.specs.Machine.{Context, Step, enter, starter, too_deep, unopened};
 ghost use Rattle.ms_grammar.specs.Grammar.{level, greatest_depth};
 ghost use Rattle.ms_steps.specs.Frames.{frame_of};
 ghost use Rattle.ms_steps.specs.Outcomes.{StopsAs, ActsAs};
@@ -82,6 +82,14 @@ pub fn enter(
     }
     push_frame(stack, frame)?;
     Ok((Outcome::Wanted, i))
+}
+
+/// Puts a frame on the stack behind a token, where the depth leaves room for an expression in it.
+pub fn begin_frame(stack: &mut Vec<Frame>, frame: Frame, i: u32) -> Result<(Outcome, u32), Stop>
+    ensures { (c : Context) (file : ℕ) (lexed : Lexed) →
+        ActsAs c file lexed (enter greatest_depth c (frame_of frame) (stack_of stack.old.items) (too_deep (behind file lexed (i - 1))) (behind file lexed i)) stack.new.items result }
+{
+    enter(stack, frame, i, Stop::TooDeep(i.saturating_sub(1)))
 }
 
 /// How tightly an expression binds.

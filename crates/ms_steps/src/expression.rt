@@ -14,7 +14,7 @@ ghost use Rattle.ms_steps.specs.declared.frame.Frame.{Frame};
 ghost use Rattle.ms_steps.specs.declared.terminal.Terminal.TheVariants as terminals;
 
 use crate::complete::finish;
-use crate::enter::{enter, has_room};
+use crate::enter::{begin_frame, has_room};
 use crate::frame::Frame;
 use crate::input::Input;
 use crate::operand::{Binder, Bounds, Locals, Parts};
@@ -42,7 +42,7 @@ fn begin_bracket(stack: &mut Vec<Frame>, at: At, i: u32) -> Result<(Outcome, u32
         ActsAs c file lexed (begin greatest_depth c (stack_of stack.old.items) at open_round (behind file lexed (i - 1)) (behind file lexed i)) stack.new.items result }
 {
     let frame = Frame::Bracket(at, Bracket::Parentheses);
-    enter(stack, frame, i, Stop::TooDeep(i.saturating_sub(1)))
+    begin_frame(stack, frame, i)
 }
 
 fn level_of(op: Prefix) -> u32
@@ -63,7 +63,7 @@ fn begin_prefix(stack: &mut Vec<Frame>, at: At, op: Prefix, i: u32) -> Result<(O
         return Err(Stop::Refused(i.saturating_sub(1)));
     }
     let frame = Frame::Prefix(at, op);
-    enter(stack, frame, i, Stop::TooDeep(i.saturating_sub(1)))
+    begin_frame(stack, frame, i)
 }
 
 /// A quantifier wants its first variable.

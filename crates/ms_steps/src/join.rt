@@ -9,7 +9,7 @@ ghost use Rattle.ms_steps.specs.Stack.{stack_of};
 ghost use Rattle.ms_grammar.specs.Grammar.{greatest_depth};
 
 use crate::append::with_expression;
-use crate::enter::enter;
+use crate::enter::begin_frame;
 use crate::frame::Frame;
 use crate::operand::{Chain, Operand};
 use crate::outcome::Outcome;
@@ -40,7 +40,7 @@ fn join_further(
     let Chain { at, op, operands } = chain;
     let operands = with_expression(operands, operand)?;
     let frame = Frame::Joined(Chain { at, op, operands });
-    enter(stack, frame, i, Stop::TooDeep(i.saturating_sub(1)))
+    begin_frame(stack, frame, i)
 }
 
 /// `&` or `|` behind an operand.

@@ -12,7 +12,7 @@ ghost use Rattle.ms_grammar.specs.Grammar.{greatest_depth};
 
 use crate::append::with_unrestricted;
 use crate::complete::finish;
-use crate::enter::enter;
+use crate::enter::{begin_frame, enter};
 use crate::frame::Frame;
 use crate::input::Input;
 use crate::memory::push;
@@ -122,7 +122,7 @@ fn behind_variable(
                 bounds,
             };
             let frame = Frame::Domain(Domain { binder, variable });
-            enter(stack, frame, i, Stop::TooDeep(i.saturating_sub(1)))
+            begin_frame(stack, frame, i)
         }
         Terminal::Comma => {
             let bounds = with_unrestricted(bounds, order, variable)?;
@@ -142,7 +142,7 @@ fn behind_variable(
                 order,
                 bounds,
             });
-            enter(stack, frame, i, Stop::TooDeep(i.saturating_sub(1)))
+            begin_frame(stack, frame, i)
         }
         _ => Err(Stop::Refused(i.saturating_sub(1))),
     }

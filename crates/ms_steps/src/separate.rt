@@ -10,7 +10,7 @@ ghost use Rattle.ms_steps.specs.declared.frame.Frame.{Frame};
 ghost use Rattle.ms_grammar.specs.Grammar.{greatest_depth};
 
 use crate::append::{with_expression, with_part, with_restricted};
-use crate::enter::enter;
+use crate::enter::begin_frame;
 use crate::frame::Frame;
 use crate::operand::{Binder, Domain, Entries, Identifier, Locals, Operand};
 use crate::outcome::Outcome;
@@ -37,7 +37,7 @@ pub fn another_expression(
         listing,
         operands,
     });
-    enter(stack, frame, i, Stop::TooDeep(i.saturating_sub(1)))
+    begin_frame(stack, frame, i)
 }
 
 pub fn another_variable(
@@ -104,7 +104,7 @@ pub fn begin_body(
         order,
         bounds,
     });
-    enter(stack, frame, i, Stop::TooDeep(i.saturating_sub(1)))
+    begin_frame(stack, frame, i)
 }
 
 pub fn begin_scope(
@@ -120,5 +120,5 @@ pub fn begin_scope(
     let Locals { at, order, parts } = locals;
     let parts = with_part(parts, variable, operand)?;
     let frame = Frame::Let(Locals { at, order, parts });
-    enter(stack, frame, i, Stop::TooDeep(i.saturating_sub(1)))
+    begin_frame(stack, frame, i)
 }

@@ -10,7 +10,7 @@ ghost use Rattle.ms_grammar.specs.Tree.{shifted};
 ghost use Rattle.ms_grammar.specs.View.{expression_of};
 
 use crate::complete::finish;
-use crate::enter::{enter, level};
+use crate::enter::{begin_frame, level};
 use crate::frame::Frame;
 use crate::input::Input;
 use crate::lists::push_expression;
@@ -37,12 +37,7 @@ pub fn shift(
     if level(&left.expr) < least_left(op) {
         return Err(Stop::Refused(i.saturating_sub(1)));
     }
-    enter(
-        stack,
-        Frame::Left(op, left),
-        i,
-        Stop::TooDeep(i.saturating_sub(1)),
-    )
+    begin_frame(stack, Frame::Left(op, left), i)
 }
 
 /// The first operand of `&` or `|`, with the operator behind it.
@@ -66,7 +61,7 @@ pub fn join_new(
     push_expression(&mut list, expr)?;
     let operands = Operands { list, height };
     let frame = Frame::Joined(Chain { at, op, operands });
-    enter(stack, frame, i, Stop::TooDeep(i.saturating_sub(1)))
+    begin_frame(stack, frame, i)
 }
 
 /// Whether the depth leaves room for a sum of the expression and a number.

@@ -1,4 +1,4 @@
-use Rattle.std.proofs.Common.{rules, ◌≡◌, ◌≤◌, ◌-◌, leb, ap, ◌∙◌, arith}
+use Rattle.std.proofs.Common.{◌≡◌, ◌≤◌, ◌-◌, leb, ap, ◌∙◌, arith}
 use Rattle.std.proofs.lemmas.Bool.{le-leb}
 use Rattle.ms_grammar.specs.Grammar.{prefix_level, greatest_depth}
 use Rattle.ms_steps.specs.Machine.{prefix_frame, need, enter, misplaced, too_deep}
@@ -14,6 +14,6 @@ returns c context file lexed =
     let from = behind file lexed (c.args.i - 1) in
     let least : c.need.result ≡ need st = c.need.ensures ∙ ap (λ x. need (stack_of x)) c.deref.ensures.value in
     let low : need st ≤ prefix_level c.args.op = omega (arith, c.level_of.ensures) in
-    acts_as context file lexed _ _ c.enter.new.stack.items c.enter.result
+    acts_as context file lexed _ _ c.begin_frame.new.stack.items c.begin_frame.result
     (chosen_yes (leb (need st) (prefix_level c.args.op)) (enter greatest_depth context (prefix_frame c.args.at c.args.op) st (too_deep from) (behind file lexed c.args.i)) (misplaced from) (le-leb (need st) (prefix_level c.args.op) low))
-    (c.enter.ensures context file lexed (too_deep from) (search rules))
+    (c.begin_frame.ensures context file lexed)

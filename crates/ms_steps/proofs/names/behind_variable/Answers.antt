@@ -1,4 +1,4 @@
-use Rattle.std.proofs.Common.{rules, ◌-◌, ap, sym, ◌∙◌}
+use Rattle.std.proofs.Common.{◌-◌, ap, sym, ◌∙◌}
 use Rattle.ms_grammar.specs.Grammar.{greatest_depth}
 use Rattle.ms_grammar.specs.View.{variables_of}
 use Rattle.ms_steps.specs.Machine.{body_frame, enter, behind_variable, too_deep}
@@ -11,16 +11,16 @@ pub returns-in-Where : goal.returns-in-Where
 returns-in-Where c context file lexed bytes =
     let st = stack_of c.args.stack.now.items in
     let from = behind file lexed (c.args.i - 1) in
-    acts_as context file lexed _ _ c.enter.new.stack.items c.enter.result
+    acts_as context file lexed _ _ c.begin_frame.new.stack.items c.begin_frame.result
     (ap (λ s. behind_variable greatest_depth context st c.args.binder.at c.args.binder.quant c.args.binder.order (variables_of c.args.binder.bounds.list) c.args.variable.at c.args.variable.name (symbol_with s bytes) from (behind file lexed c.args.i)) c.in-Where.is)
-    (c.enter.ensures context file lexed (too_deep from) (search rules))
+    (c.begin_frame.ensures context file lexed)
 
 pub returns-in_ok-bounds-in-Colon : goal.returns-in_ok-bounds-in-Colon
 returns-in_ok-bounds-in-Colon c context file lexed bytes =
     let st = stack_of c.args.stack.now.items in
     let from = behind file lexed (c.args.i - 1) in
     let ts = behind file lexed c.args.i in
-    acts_as context file lexed _ _ c.enter-in-Colon.new.stack.items c.enter-in-Colon.result
+    acts_as context file lexed _ _ c.begin_frame-in-Colon.new.stack.items c.begin_frame-in-Colon.result
     (ap (λ s. behind_variable greatest_depth context st c.args.binder.at c.args.binder.quant c.args.binder.order (variables_of c.args.binder.bounds.list) c.args.variable.at c.args.variable.name (symbol_with s bytes) from ts) c.in-Colon.is
     ∙ ap (λ x. enter greatest_depth context (body_frame c.args.binder.at c.args.binder.quant c.args.binder.order x) st (too_deep from) ts) (sym c.in_ok-bounds-in-Colon.ensures.ok))
-    (c.enter-in-Colon.ensures context file lexed (too_deep from) (search rules))
+    (c.begin_frame-in-Colon.ensures context file lexed)

@@ -1,4 +1,4 @@
-use Rattle.std.proofs.Common.{ap, sym, rules, ◌-◌}
+use Rattle.std.proofs.Common.{ap, sym, ◌-◌}
 use Rattle.ms_steps.specs.Machine.{body_frame, enter, too_deep}
 use Rattle.ms_steps.specs.Terminals.{behind}
 use Rattle.ms_steps.specs.Stack.{stack_of}
@@ -11,5 +11,5 @@ returns c context file lexed =
     let st = stack_of c.args.stack.now.items in
     let ts = behind file lexed c.args.i in
     let b = c.args.domain.binder in
-    acts_as context file lexed _ _ c.enter.new.stack.items c.enter.result
-    (ap (λ x. enter greatest_depth context (body_frame b.at b.quant b.order x) st (too_deep (behind file lexed (c.args.i - 1))) ts) (sym c.in_ok-bounds.ensures.ok)) (c.enter.ensures context file lexed (too_deep (behind file lexed (c.args.i - 1))) (search rules))
+    acts_as context file lexed _ _ c.begin_frame.new.stack.items c.begin_frame.result
+    (ap (λ x. enter greatest_depth context (body_frame b.at b.quant b.order x) st (too_deep (behind file lexed (c.args.i - 1))) ts) (sym c.in_ok-bounds.ensures.ok)) (c.begin_frame.ensures context file lexed)

@@ -1,4 +1,4 @@
-use Rattle.std.proofs.Common.{ap, sym, rules, ◌-◌}
+use Rattle.std.proofs.Common.{ap, sym, ◌-◌}
 use Rattle.ms_steps.specs.Machine.{let_frame, enter, too_deep}
 use Rattle.ms_steps.specs.Terminals.{behind}
 use Rattle.ms_steps.specs.Stack.{stack_of}
@@ -10,5 +10,5 @@ pub returns : goal.returns
 returns c context file lexed =
     let st = stack_of c.args.stack.now.items in
     let ts = behind file lexed c.args.i in
-    acts_as context file lexed _ _ c.enter.new.stack.items c.enter.result
-    (ap (λ x. enter greatest_depth context (let_frame c.args.locals.at c.args.locals.order x) st (too_deep (behind file lexed (c.args.i - 1))) ts) (sym c.in_ok-parts.ensures.ok)) (c.enter.ensures context file lexed (too_deep (behind file lexed (c.args.i - 1))) (search rules))
+    acts_as context file lexed _ _ c.begin_frame.new.stack.items c.begin_frame.result
+    (ap (λ x. enter greatest_depth context (let_frame c.args.locals.at c.args.locals.order x) st (too_deep (behind file lexed (c.args.i - 1))) ts) (sym c.in_ok-parts.ensures.ok)) (c.begin_frame.ensures context file lexed)

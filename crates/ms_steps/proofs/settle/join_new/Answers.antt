@@ -1,4 +1,4 @@
-use Rattle.std.proofs.Common.{rules, ◌≡◌, ◌≤◌, ◌-◌, leb, suc, ap, sym, ◌∙◌, arith}
+use Rattle.std.proofs.Common.{◌≡◌, ◌≤◌, ◌-◌, leb, suc, ap, sym, ◌∙◌, arith}
 use Rattle.std.proofs.lemmas.Bool.{le-leb}
 use Rattle.ms_grammar.specs.Grammar.{junction_level, level, greatest_depth}
 use Rattle.ms_grammar.specs.Reads.{place}
@@ -19,8 +19,8 @@ returns c context file lexed =
     let ts = behind file lexed c.args.i in
     let high : suc (junction_level c.args.op) ≤ level e = omega (arith, c.level.ensures, c.least_operand.ensures) in
     let pushed : expressions_of c.push_expression.new.list ≡ and_expression no_expressions e = c.in_ok-push_expression.ensures.ok ∙ ap (λ xs. and_expression (expressions_of xs) e) c.new-list.ensures in
-    acts_as context file lexed _ _ c.enter.new.stack.items c.enter.result
+    acts_as context file lexed _ _ c.begin_frame.new.stack.items c.begin_frame.result
     (chosen_yes (leb (suc (junction_level c.args.op)) (level e)) (enter greatest_depth context (joined_frame (place e) c.args.op (and_expression no_expressions e)) st (too_deep from) ts) (misplaced from) (le-leb (suc (junction_level c.args.op)) (level e) high)
     ∙ ap (λ a. enter greatest_depth context (joined_frame a c.args.op (and_expression no_expressions e)) st (too_deep from) ts) (sym c.args.first.begins)
     ∙ ap (λ es. enter greatest_depth context (joined_frame c.args.first.start c.args.op es) st (too_deep from) ts) (sym pushed))
-    (c.enter.ensures context file lexed (too_deep from) (search rules))
+    (c.begin_frame.ensures context file lexed)

@@ -1,4 +1,4 @@
-use Rattle.std.proofs.Common.{rules, ◌≤◌, ◌-◌, leb, arith}
+use Rattle.std.proofs.Common.{◌≤◌, ◌-◌, leb, arith}
 use Rattle.std.proofs.lemmas.Bool.{le-leb}
 use Rattle.ms_grammar.specs.Grammar.{left_level, level, greatest_depth}
 use Rattle.ms_grammar.specs.View.{expression_of}
@@ -14,6 +14,6 @@ returns c context file lexed =
     let e = expression_of c.args.left.expr in
     let from = behind file lexed (c.args.i - 1) in
     let high : left_level c.args.op ≤ level e = omega (arith, c.level.ensures, c.least_left.ensures) in
-    acts_as context file lexed _ _ c.enter.new.stack.items c.enter.result
+    acts_as context file lexed _ _ c.begin_frame.new.stack.items c.begin_frame.result
     (chosen_yes (leb (left_level c.args.op) (level e)) (enter greatest_depth context (left_frame c.args.op e) (stack_of c.args.stack.now.items) (too_deep from) (behind file lexed c.args.i)) (misplaced from) (le-leb (left_level c.args.op) (level e) high))
-    (c.enter.ensures context file lexed (too_deep from) (search rules))
+    (c.begin_frame.ensures context file lexed)
