@@ -6,6 +6,7 @@ use ms_dfa::Automaton;
 use ms_edge::{NoMemory, StepFault};
 use ms_logic::{Basic, Mode};
 use ms_product::{Op, combine, negate, restrict_to};
+use ms_rename::{rename, renamed_tracks};
 use std::alloc::Global;
 
 /// More nodes and states than any of these automata has.
@@ -108,6 +109,29 @@ pub fn both(alloc: Global, left: &Automaton, right: &Automaton, op: Op) -> Resul
     told(combine(alloc, left, right, op, LIMIT))
 }
 
+/// The automaton with the variables of a map.
+pub fn over(alloc: Global, made: &Automaton, map: &[u32]) -> Result<Automaton> {
+    if map.len() != made.tracks().len() {
+        bail!("there is not one variable for each track");
+    }
+    let Ok(tracks) = renamed_tracks(alloc, made.tracks(), map) else {
+        bail!("no memory");
+    };
+    if !have_equal_orders(tracks.slice(), tracks.slice()) {
+        bail!("a variable has two orders");
+    }
+    told(rename(alloc, made, map, LIMIT))
+}
+
+/// The variables that a step names, behind its name.
+fn variables(alloc: Global, step: &str) -> Result<Vec<u32>> {
+    let mut found = Vec::new(alloc);
+    for number in numbers(alloc, step)? {
+        found.push(variable(number))?;
+    }
+    Ok(found)
+}
+
 fn op_of(step: &str) -> Option<Op> {
     match step {
         "and" => Some(Op::And),
@@ -141,6 +165,9 @@ fn made_by(alloc: Global, stack: &mut Vec<Automaton>, step: &str) -> Result<Auto
     }
     if step == "restrict" {
         return changed(restrict_to(alloc, &right));
+    }
+    if step.starts_with("rename ") {
+        return over(alloc, &right, variables(alloc, step)?.as_slice());
     }
     let Some(op) = op_of(step) else {
         bail!("unknown step {step}");

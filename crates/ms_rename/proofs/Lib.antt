@@ -1,0 +1,3 @@
+pub mod CompactLemmas
+pub mod ImageLemmas
+pub mod RenamedLemmas

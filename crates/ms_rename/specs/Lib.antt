@@ -1,0 +1,3 @@
+pub mod Choice
+pub mod Image
+pub mod Renamed

@@ -1,0 +1,14 @@
+//! Automata over other variables.
+#![tactic(auto)]
+
+mod choose;
+mod examples;
+mod images;
+mod needed;
+mod renaming;
+mod tracks;
+
+pub use examples::worked_renamings;
+pub use needed::compact;
+pub use renaming::rename;
+pub use tracks::renamed_tracks;

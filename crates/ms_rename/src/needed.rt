@@ -1,0 +1,35 @@
+ghost use Rattle.std.specs.Prelude.{◌≡◌, ◌≤◌, IfOk};
+ghost use Rattle.ms_edge.specs.declared.refusal.Word.{Word};
+ghost use Rattle.ms_logic.specs.Content.{IsWordOver, sign_of};
+ghost use Rattle.ms_explore.specs.Explored.{OnRefused};
+ghost use Rattle.ms_explore.specs.Tracks.{places_among};
+ghost use Rattle.ms_rename.specs.Renamed.{NeedsAtLeast};
+
+use crate::tracks::copy;
+use ms_dfa::Automaton;
+use ms_diagram::Store;
+use ms_edge::StepFault;
+use ms_product::{Operand, bring};
+use std::alloc::Global;
+
+/// The same automaton in a store of its own that holds the nodes it needs and nothing else. Nodes and states are together at
+/// most `limit`.
+pub fn compact(alloc: Global, a: &Automaton, limit: u64) -> Result<Automaton, StepFault>
+    requires some { 1 ≤ limit }
+    requires small { limit ≤ 4000000000 }
+    ensures mode { IfOk result (λ made. made.mode ≡ a.now.mode) }
+    ensures variables { IfOk result (λ made. made.variables ≡ a.now.variables) }
+    ensures signs { IfOk result (λ made. (word : Word) → IsWordOver a.now.variables word → sign_of made word ≡ sign_of a.now word) }
+    ensures nodes { OnRefused result (λ refused. (refused ≡ limit) × NeedsAtLeast limit a.now (places_among a.now.variables a.now.variables)) }
+{
+    let Ok(tracks) = copy(alloc, a.tracks()) else {
+        return Err(StepFault::Memory);
+    };
+    let mut store = Store::new(alloc, limit);
+    let operand = match bring(alloc, &mut store, a, tracks.slice()) {
+        Ok(operand) => operand,
+        Err(fault) => return Err(fault),
+    };
+    let Operand { start, states, .. } = operand;
+    Ok(Automaton::make(store, a.mode(), tracks, start, states))
+}

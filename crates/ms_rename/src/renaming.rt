@@ -1,0 +1,79 @@
+ghost use Rattle.std.specs.Prelude.{◌≡◌, ◌≤◌, length, map, IfOk};
+ghost use Rattle.ms_dfa.specs.Automaton.{states_of};
+ghost use Rattle.ms_theory.specs.Values.{HasValues, own_meaning};
+ghost use Rattle.ms_explore.specs.Explored.{OnRefused};
+ghost use Rattle.ms_explore.specs.Tracks.{distinct};
+ghost use Rattle.ms_basic.specs.Operands.{HaveOneOrder};
+ghost use Rattle.ms_rename.specs.Image.{IsRenamedBy, with_image};
+ghost use Rattle.ms_rename.specs.Renamed.{NeedsAtLeast, renamed, renamed_meaning, renamed_places};
+
+use crate::images::{image, images};
+use crate::needed::compact;
+use crate::tracks;
+use ms_arena::Ref;
+use ms_dfa::{Automaton, State};
+use ms_diagram::Store;
+use ms_edge::{List, NoMemory, StepFault, push};
+use ms_explore::distinct;
+use std::alloc::Global;
+
+/// How many nodes there may be on the way; what is more is more than memory holds.
+const SCRATCH: u64 = 4_000_000_000;
+
+/// The states of an automaton, each with the image of its diagram.
+fn states(alloc: Global, a: &Automaton, images: &[Ref]) -> Result<List<State>, NoMemory>
+    requires { length images.now ≡ length a.now.nodes }
+    ensures { IfOk result (λ made. states_of made ≡ map (with_image images.now) a.now.states) }
+{
+    let mut made = List::new(alloc);
+    for state in 0..a.states() {
+        let sign = a.sign(state);
+        let next = image(images, a.next_ref(state));
+        push(&mut made, State { sign, next })?;
+    }
+    Ok(made)
+}
+
+/// The automaton over the variables of a map, in a store that also holds what only its making needed.
+fn renamed_in_scratch(alloc: Global, a: &Automaton, map: &[u32]) -> Result<Automaton, NoMemory>
+    requires long { length map.now ≡ length a.now.variables }
+    requires orders { HaveOneOrder (renamed map.now a.now.variables) }
+    ensures mode { IfOk result (λ made. made.mode ≡ a.now.mode) }
+    ensures variables { IfOk result (λ made. made.variables ≡ distinct (renamed map.now a.now.variables)) }
+    ensures images { IfOk result (IsRenamedBy (renamed_places map.now a.now.variables) a.now) }
+{
+    let narrow = tracks::renamed_tracks(alloc, a.tracks(), map)?;
+    let wide = distinct(alloc, narrow.slice())?;
+    let places = tracks::places(alloc, narrow.slice(), wide.slice())?;
+    let mut scratch = Store::new(alloc, SCRATCH);
+    let Ok(images) = images(alloc, &mut scratch, a.store(), places.slice()) else {
+        return Err(NoMemory);
+    };
+    let states = states(alloc, a, images.slice())?;
+    let start = image(images.slice(), a.start_ref());
+    // The length tells that the nodes are those of a store.
+    let _ = scratch.len();
+    Ok(Automaton::make(scratch, a.mode(), wide, start, states))
+}
+
+/// The automaton that has, at each assignment of the variables of the map, the sign of `a` where track `i` takes the value of
+/// variable `map[i]`. Its tracks are those variables, each once, in rising order. Nodes and states are together at most
+/// `limit`.
+pub fn rename(alloc: Global, a: &Automaton, map: &[u32], limit: u64) -> Result<Automaton, StepFault>
+    requires long { length map.now ≡ length a.now.variables }
+    requires orders { HaveOneOrder (renamed map.now a.now.variables) }
+    requires some { 1 ≤ limit }
+    requires small { limit ≤ 4000000000 }
+    ensures mode { IfOk result (λ made. made.mode ≡ a.now.mode) }
+    ensures variables { IfOk result (λ made. made.variables ≡ distinct (renamed map.now a.now.variables)) }
+    ensures values { IfOk result (HasValues (renamed_meaning map.now a.now.variables (own_meaning a.now))) }
+    ensures nodes { OnRefused result (λ refused. (refused ≡ limit) × NeedsAtLeast limit a.now (renamed_places map.now a.now.variables)) }
+{
+    // The numbers of states tell that these are automata.
+    let _ = a.states();
+    let Ok(scattered) = renamed_in_scratch(alloc, a, map) else {
+        return Err(StepFault::Memory);
+    };
+    let _ = scattered.states();
+    compact(alloc, &scattered, limit)
+}
