@@ -1,3 +1,4 @@
 pub mod CompactLemmas
 pub mod ImageLemmas
+pub mod OrderLemmas
 pub mod RenamedLemmas

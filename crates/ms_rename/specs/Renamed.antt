@@ -1,5 +1,5 @@
 -- An automaton whose variables are renamed: each reads the value of the variable that a map has for it.
-use Rattle.std.specs.Prelude.{◌≡◌, ℕ, ◌≤◌, ◌+◌, List, [], ◌∷◌, length, slice_get, slice_index, Some}
+use Rattle.std.specs.Prelude.{◌≡◌, ℕ, ◌<◌, ◌≤◌, ◌+◌, List, [], ◌∷◌, length, slice_get, slice_index, Some}
 use Rattle.ms_arena.specs.declared.node.Node.{Node}
 use Rattle.ms_arena.specs.Diagram.{IsOrdered, IsReduced}
 use Rattle.ms_logic.specs.declared.sign.Sign.{Sign}
@@ -16,6 +16,10 @@ abbrev pub renamed : List ℕ → List Variable → List Variable
 renamed [] vs = []
 renamed (name ∷ names) [] = []
 renamed (name ∷ names) (v ∷ vs) = record { name = name; order = v.order } ∷ renamed names vs
+
+-- each number is below the next
+abbrev pub Rises : List ℕ → Type 0
+Rises names = (i : ℕ) → i + 1 < length names → slice_index names i < slice_index names (i + 1)
 
 -- the values that e gives the variables of the map, each given to the variable at its place
 abbrev pub read_by : List ℕ → List Variable → Env → Env

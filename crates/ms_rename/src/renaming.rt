@@ -1,11 +1,11 @@
-ghost use Rattle.std.specs.Prelude.{◌≡◌, ◌≤◌, length, map, IfOk};
+ghost use Rattle.std.specs.Prelude.{◌≡◌, ◌≤◌, length, map, IfOk, IsTrue};
 ghost use Rattle.ms_dfa.specs.Automaton.{states_of};
 ghost use Rattle.ms_theory.specs.Values.{HasValues, own_meaning};
 ghost use Rattle.ms_explore.specs.Explored.{OnRefused};
 ghost use Rattle.ms_explore.specs.Tracks.{distinct};
 ghost use Rattle.ms_basic.specs.Operands.{HaveOneOrder};
 ghost use Rattle.ms_rename.specs.Image.{IsRenamedBy, with_image};
-ghost use Rattle.ms_rename.specs.Renamed.{NeedsAtLeast, renamed, renamed_meaning, renamed_places};
+ghost use Rattle.ms_rename.specs.Renamed.{NeedsAtLeast, Rises, renamed, renamed_meaning, renamed_places};
 
 use crate::images::{image, images};
 use crate::needed::compact;
@@ -56,6 +56,45 @@ fn renamed_in_scratch(alloc: Global, a: &Automaton, map: &[u32]) -> Result<Autom
     Ok(Automaton::make(scratch, a.mode(), wide, start, states))
 }
 
+/// Whether each number is below the next.
+fn rises(map: &[u32]) -> bool
+    ensures { IsTrue result → Rises map.now }
+{
+    for i in 1..map.len() {
+        if map[i - 1] >= map[i] {
+            return false;
+        }
+    }
+    true
+}
+
+/// The states of an automaton.
+fn same_states(alloc: Global, a: &Automaton) -> Result<List<State>, NoMemory>
+    ensures { IfOk result (λ made. states_of made ≡ a.now.states) }
+{
+    let mut made = List::new(alloc);
+    for state in 0..a.states() {
+        let sign = a.sign(state);
+        let next = a.next_ref(state);
+        push(&mut made, State { sign, next })?;
+    }
+    Ok(made)
+}
+
+/// The automaton over the variables of a map whose numbers rise: the same but for the names of the tracks.
+fn renamed_in_order(alloc: Global, a: &Automaton, map: &[u32]) -> Result<Automaton, NoMemory>
+    requires long { length map.now ≡ length a.now.variables }
+    requires rises { Rises map.now }
+    ensures mode { IfOk result (λ made. made.mode ≡ a.now.mode) }
+    ensures variables { IfOk result (λ made. made.variables ≡ distinct (renamed map.now a.now.variables)) }
+    ensures values { IfOk result (HasValues (renamed_meaning map.now a.now.variables (own_meaning a.now))) }
+{
+    let store = a.store().copy()?;
+    let tracks = tracks::renamed_tracks(alloc, a.tracks(), map)?;
+    let states = same_states(alloc, a)?;
+    Ok(Automaton::make(store, a.mode(), tracks, a.start_ref(), states))
+}
+
 /// The automaton that has, at each assignment of the variables of the map, the sign of `a` where track `i` takes the value of
 /// variable `map[i]`. Its tracks are those variables, each once, in rising order. Nodes and states are together at most
 /// `limit`.
@@ -69,6 +108,12 @@ pub fn rename(alloc: Global, a: &Automaton, map: &[u32], limit: u64) -> Result<A
     ensures values { IfOk result (HasValues (renamed_meaning map.now a.now.variables (own_meaning a.now))) }
     ensures nodes { OnRefused result (λ refused. (refused ≡ limit) × NeedsAtLeast limit a.now (renamed_places map.now a.now.variables)) }
 {
+    if rises(map) {
+        return match renamed_in_order(alloc, a, map) {
+            Ok(made) => Ok(made),
+            Err(_) => Err(StepFault::Memory),
+        };
+    }
     // The numbers of states tell that these are automata.
     let _ = a.states();
     let Ok(scattered) = renamed_in_scratch(alloc, a, map) else {
