@@ -1,0 +1,57 @@
+-- A diagram of an automaton stays the same through the map that leaves each place where it is.
+use Rattle.std.proofs.Common.{◌≡◌, ℕ, ◌<◌, List, length, slice_get, slice_index, sym, ap, subst, ◌∙◌, arith}
+use Rattle.std.proofs.lemmas.Option.{slice_get_within}
+use Rattle.ms_arena.specs.declared.node.Ref.{Ref}
+use Rattle.ms_arena.specs.declared.node.Node.{Node}
+use Rattle.ms_arena.specs.Diagram.{Bits, leaf_of, IsOrdered}
+use Rattle.ms_arena.specs.Reach.{IsTested}
+use Rattle.ms_arena.specs.Target.{Meets}
+use Rattle.ms_arena.proofs.ReachLemmas.{leaf_of-tested}
+use Rattle.ms_diagram.specs.Bring.{read_through, RenamedLeaf, Renames}
+use Rattle.ms_diagram.specs.Relabel.{MappedLeaf}
+use Rattle.ms_logic.specs.declared.sign.Sign.{Sign}
+use Rattle.ms_logic.specs.Content.{Content}
+use Rattle.ms_logic.specs.Assignment.{Variable}
+use Rattle.ms_logic.specs.Roots.{AreRising}
+use Rattle.ms_explore.specs.Tracks.{place_of, places_among}
+use Rattle.ms_explore.proofs.AmongLemmas.{one_place, leads_to}
+use Rattle.ms_arena.proofs.Lists.{slice_get-held}
+use Rattle.std.proofs.lemmas.List.{length-map}
+use Rattle.ms_minim.specs.Partition.{IsIdentity, IsRoot}
+
+-- what is tested is read through the map
+pub Renames-identity : (nodes : List Node) (root : Ref) (count : ℕ) (map : List ℕ) → IsIdentity count map → ((var : ℕ) → IsTested nodes root var → var < count) → Renames nodes map root
+Renames-identity nodes root count map identity below = record {
+  long = λ var tested. (let within = below var tested in let long = identity.long in omega (arith, within, long));
+  rising = λ one two first second less. (
+      let one_is = identity.same one (below one first) in
+      let two_is = identity.same two (below two second) in
+      omega (arith, one_is, two_is, less));
+}
+
+module _ (content : Content Sign) (ordered : IsOrdered content.nodes) (root : Ref) (is : IsRoot content root) (map : List ℕ) (identity : IsIdentity (length content.variables) map) where
+  pub tested_within : (var : ℕ) → IsTested content.nodes root var → var < length content.variables
+  tested_within var tested = let at = is.1.tests var tested in slice_get_within content.variables var at.0 at.1
+
+  pub identity_leaf : (bits : Bits) → leaf_of content.nodes root (read_through map bits) ≡ leaf_of content.nodes root bits
+  identity_leaf bits =
+      leaf_of-tested content.nodes ordered root (read_through map bits) bits is.1.valid (λ var tested. ap bits (identity.same var (tested_within var tested)))
+
+  pub Renames-root : (nodes : List Node) → nodes ≡ content.nodes → Renames nodes map root
+  Renames-root nodes same = subst (λ list. Renames list map root) (sym same) (Renames-identity content.nodes root (length content.variables) map identity tested_within)
+
+  -- brought into another store, it has the same leaves; then their classes
+  pub Meets-led : (from : List Node) → from ≡ content.nodes → (classes : List ℕ) (middle : List Node) (states : Ref) → Meets middle (RenamedLeaf from map root) states
+      → (new : List Node) (made : Ref) → Meets new (MappedLeaf middle classes states) made → Meets new (MappedLeaf content.nodes classes root) made
+  Meets-led from same classes middle states brought new made relabelled bits =
+      let leaf : leaf_of middle states bits ≡ leaf_of content.nodes root bits = brought bits ∙ ap (λ list. leaf_of list root (read_through map bits)) same ∙ identity_leaf bits in
+      ap (slice_get classes) (sym leaf) ∙ relabelled bits
+
+-- the places of rising variables among themselves
+pub IsIdentity-places : (variables : List Variable) → AreRising variables → IsIdentity (length variables) (places_among variables variables)
+IsIdentity-places variables rising = record {
+  long = length-map variables (λ (v : Variable). place_of v.name variables);
+  same = λ place within.
+      let held = slice_get-held variables place within in
+      one_place variables rising (slice_index (places_among variables variables) place) place held.0 (leads_to variables variables rising rising (λ v among. among) place held.0 held.1) held.1;
+}

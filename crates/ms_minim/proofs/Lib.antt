@@ -1,0 +1,10 @@
+pub mod ExampleLemmas
+pub mod Pigeonhole
+pub mod ResidualLemmas
+pub mod SplitLemmas
+pub mod PartitionLemmas
+pub mod MarkLemmas
+pub mod LeadLemmas
+pub mod QuotientLemmas
+pub mod FewestLemmas
+pub mod NodeLemmas

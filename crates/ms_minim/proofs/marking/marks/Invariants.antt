@@ -1,0 +1,6 @@
+use Rattle.ms_minim.specs.Marks.{MarksSoFar}
+use Rattle.ms_minim.proofs.marking.marks.Given as goal
+
+-- the states so far have their marks
+abbrev pub invariant-loop-state : goal.invariant-loop-state
+invariant-loop-state l = MarksSoFar l.scratch.nodes l.scratch.limit l.known l.automaton l.classes l.made l.state

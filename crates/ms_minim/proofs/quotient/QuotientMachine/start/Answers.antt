@@ -1,0 +1,11 @@
+use Rattle.std.proofs.Common.{subst}
+use Rattle.ms_diagram.specs.Numbering.{AddsOnly}
+use Rattle.ms_minim.specs.Quotient.{IsClassBehind}
+use Rattle.ms_minim.proofs.QuotientLemmas.{IsQuotient-start}
+use Rattle.ms_minim.proofs.quotient.QuotientMachine.start.Goals as goal
+
+pub invariant_of-self : goal.invariant_of-self
+invariant_of-self c =
+    let added = c.lead_to_numbers.ensures.added in
+    IsQuotient-start _ _ _ _ _ c.self.invariant c.lead_to_numbers.new.pairs c.lead_to_numbers.ensures.pairs c.lead_to_numbers.ensures.numbering
+    (subst (λ root. AddsOnly (IsClassBehind c.self.inside.source.automaton.now c.self.inside.source.partition.classes root) c.self.inside.pairs c.lead_to_numbers.new.pairs) c.start_ref-root.ensures.start added)

@@ -1,0 +1,7 @@
+use Rattle.std.proofs.Common.{◌≡◌, length}
+use Rattle.ms_minim.specs.Split.{AreSplit}
+use Rattle.ms_minim.proofs.splitting.split.Given as goal
+
+-- the states so far have their new classes
+abbrev pub invariant-loop-state : goal.invariant-loop-state
+invariant-loop-state l = AreSplit l.old.classes l.old.members l.marks l.keys l.members l.classes × (length l.classes ≡ l.state)
