@@ -2,3 +2,4 @@ pub mod CompactLemmas
 pub mod ImageLemmas
 pub mod OrderLemmas
 pub mod RenamedLemmas
+pub mod WholeLemmas

@@ -1,3 +1,4 @@
 pub mod Choice
 pub mod Image
 pub mod Renamed
+pub mod Whole

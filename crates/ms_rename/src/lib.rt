@@ -7,8 +7,10 @@ mod images;
 mod needed;
 mod renaming;
 mod tracks;
+mod whole;
 
 pub use examples::worked_renamings;
 pub use needed::compact;
 pub use renaming::rename;
 pub use tracks::renamed_tracks;
+pub use whole::widen;

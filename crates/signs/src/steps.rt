@@ -2,11 +2,12 @@
 use crate::orders::{has_one_order, have_equal_orders};
 use anyhow::{Context, Result, bail};
 use ms_basic::basic;
-use ms_dfa::Automaton;
+use ms_dfa::{Automaton, Track};
 use ms_edge::{NoMemory, StepFault};
-use ms_logic::{Basic, Mode};
+use ms_logic::{Basic, Mode, Order};
+use ms_minim::minimise;
 use ms_product::{Op, combine, negate, restrict_to};
-use ms_rename::{rename, renamed_tracks};
+use ms_rename::{rename, renamed_tracks, widen};
 use std::alloc::Global;
 
 /// More nodes and states than any of these automata has.
@@ -30,7 +31,7 @@ fn numbers(alloc: Global, step: &str) -> Result<Vec<u64>> {
 }
 
 /// The variable with a number.
-fn variable(number: u64) -> u32 {
+fn named(number: u64) -> u32 {
     u32::try_from(number).unwrap_or(u32::MAX)
 }
 
@@ -57,7 +58,7 @@ fn of_two(name: &str, x: u32, y: u32) -> Option<Basic> {
 
 /// A relation of three sets, or of two and a number.
 fn of_three(name: &str, x: u32, y: u32, n: u64) -> Option<Basic> {
-    let u = variable(n);
+    let u = named(n);
     match name {
         "union" => Some(Basic::Union(x, y, u)),
         "inter" => Some(Basic::Inter(x, y, u)),
@@ -73,9 +74,9 @@ fn of_three(name: &str, x: u32, y: u32, n: u64) -> Option<Basic> {
 fn relation(alloc: Global, step: &str) -> Result<Option<Basic>> {
     let name = step.split(' ').next().unwrap_or("");
     let found = match numbers(alloc, step)?.as_slice() {
-        [a] if name == "truth" => Some(Basic::Truth(variable(*a))),
-        [x, n] => of_one(name, variable(*x), *n).or(of_two(name, variable(*x), variable(*n))),
-        [x, y, n] => of_three(name, variable(*x), variable(*y), *n),
+        [a] if name == "truth" => Some(Basic::Truth(named(*a))),
+        [x, n] => of_one(name, named(*x), *n).or(of_two(name, named(*x), named(*n))),
+        [x, y, n] => of_three(name, named(*x), named(*y), *n),
         _ => None,
     };
     Ok(found)
@@ -127,9 +128,31 @@ pub fn over(alloc: Global, made: &Automaton, map: &[u32]) -> Result<Automaton> {
 fn variables(alloc: Global, step: &str) -> Result<Vec<u32>> {
     let mut found = Vec::new(alloc);
     for number in numbers(alloc, step)? {
-        found.push(variable(number))?;
+        found.push(named(number))?;
     }
     Ok(found)
+}
+
+/// The track of a variable and the number of its order.
+fn track(numbers: &[u64]) -> Result<Track> {
+    let (variable, order) = match numbers {
+        [variable, 0] => (*variable, Order::Zero),
+        [variable, 1] => (*variable, Order::One),
+        [variable, 2] => (*variable, Order::Two),
+        _ => bail!("a track is a variable and its order"),
+    };
+    Ok(Track {
+        variable: named(variable),
+        order,
+    })
+}
+
+/// The automaton over one track more.
+fn wider(alloc: Global, made: &Automaton, track: Track) -> Result<Automaton> {
+    if !have_equal_orders(made.tracks(), &[track]) {
+        bail!("a variable has two orders");
+    }
+    told(widen(alloc, made, track, LIMIT))
 }
 
 fn op_of(step: &str) -> Option<Op> {
@@ -142,14 +165,6 @@ fn op_of(step: &str) -> Option<Op> {
     }
 }
 
-/// The last automaton.
-fn last(stack: &mut Vec<Automaton>) -> Result<Automaton> {
-    match stack.pop() {
-        Some(made) => Ok(made),
-        None => bail!("an operand is lacking"),
-    }
-}
-
 fn changed(made: Result<Automaton, NoMemory>) -> Result<Automaton> {
     match made {
         Ok(made) => Ok(made),
@@ -157,31 +172,61 @@ fn changed(made: Result<Automaton, NoMemory>) -> Result<Automaton> {
     }
 }
 
-/// What a step that is no basic relation makes of the last automata.
-fn made_by(alloc: Global, stack: &mut Vec<Automaton>, step: &str) -> Result<Automaton> {
-    let right = last(stack)?;
+/// What a step makes of one automaton, if it takes one.
+fn of_last(alloc: Global, last: &Automaton, step: &str) -> Result<Option<Automaton>> {
     if step == "not" {
-        return changed(negate(alloc, &right));
+        return changed(negate(alloc, last)).map(Some);
     }
     if step == "restrict" {
-        return changed(restrict_to(alloc, &right));
+        return changed(restrict_to(alloc, last)).map(Some);
     }
+    if step == "minimise" {
+        return told(minimise(alloc, last, LIMIT)).map(Some);
+    }
+    Ok(None)
+}
+
+/// What a step with variables makes of one automaton, if it takes one.
+fn of_last_with(alloc: Global, last: &Automaton, step: &str) -> Result<Option<Automaton>> {
     if step.starts_with("rename ") {
-        return over(alloc, &right, variables(alloc, step)?.as_slice());
+        let map = variables(alloc, step)?;
+        return over(alloc, last, map.as_slice()).map(Some);
+    }
+    if step.starts_with("widen ") {
+        let numbers = numbers(alloc, step)?;
+        return wider(alloc, last, track(numbers.as_slice())?).map(Some);
+    }
+    of_last(alloc, last, step)
+}
+
+/// What a step that is no basic relation makes of the last automata, and of how many.
+fn made_by(alloc: Global, stack: &[Automaton], step: &str) -> Result<(Automaton, usize)> {
+    let Some(right) = stack.last() else {
+        bail!("an operand is lacking");
+    };
+    if let Some(made) = of_last_with(alloc, right, step)? {
+        return Ok((made, 1));
     }
     let Some(op) = op_of(step) else {
         bail!("unknown step {step}");
     };
-    let left = last(stack)?;
-    both(alloc, &left, &right, op)
+    if stack.len() < 2 {
+        bail!("an operand is lacking");
+    }
+    let made = both(alloc, &stack[stack.len() - 2], right, op)?;
+    Ok((made, 2))
 }
 
 /// One step: one automaton more, or what a connective makes of the last ones.
 pub fn take_step(alloc: Global, stack: &mut Vec<Automaton>, step: &str, mode: Mode) -> Result<()> {
-    let made = match relation(alloc, step)? {
-        Some(form) => made_of(alloc, &form, mode).context("a basic relation")?,
-        None => made_by(alloc, stack, step)?,
-    };
+    if let Some(form) = relation(alloc, step)? {
+        stack.push(made_of(alloc, &form, mode).context("a basic relation")?)?;
+        return Ok(());
+    }
+    let (made, used) = made_by(alloc, stack.as_slice(), step)?;
+    for _ in 0..used {
+        let _ = stack.pop();
+    }
     stack.push(made)?;
     Ok(())
 }
