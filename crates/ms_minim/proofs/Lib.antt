@@ -8,3 +8,5 @@ pub mod LeadLemmas
 pub mod QuotientLemmas
 pub mod FewestLemmas
 pub mod NodeLemmas
+pub mod UsersLemmas
+pub mod SignatureLemmas
