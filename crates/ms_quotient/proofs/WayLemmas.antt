@@ -75,7 +75,7 @@ stays_on_ring next end ring leads ended (suc steps) place on =
 
 module _ (mark : Marks → Bool) (next : List ℕ) (marks : List Marks) where
   -- a union has the mark just where one of the two has it
-  abbrev IsSplit : Type 0
+  abbrev pub IsSplit : Type 0
   IsSplit = (one two : Marks) → mark (union one two) ≡ (mark one || mark two)
 
   abbrev HasJust : ℕ → Marks → Type 0
@@ -93,14 +93,14 @@ module _ (mark : Marks → Bool) (next : List ℕ) (marks : List Marks) where
     either (suc steps) behind = or_right (mark (marks_at marks place)) (mark met) (just.1 (steps, behind))
 
   -- a mark of a union along a way stands on it
-  union_along-stands : IsSplit → IsTrue (mark no_marks) ↔ ⊥ → (way : List ℕ) → IsTrue (mark (union_along marks way no_marks)) → (place : ℕ) × IsOn place way × IsTrue (mark (marks_at marks place))
+  pub union_along-stands : IsSplit → IsTrue (mark no_marks) ↔ ⊥ → (way : List ℕ) → IsTrue (mark (union_along marks way no_marks)) → (place : ℕ) × IsOn place way × IsTrue (mark (marks_at marks place))
   union_along-stands splits none [] has = absurd (none.0 has)
   union_along-stands splits none (first ∷ way) has =
       ⊎_elim (λ here. (first, inl refl, here)) (λ behind. let at = union_along-stands splits none way behind in (at.0, inr at.1, at.2))
       (or_cases (mark (marks_at marks first)) (mark (union_along marks way no_marks)) (sym (splits (marks_at marks first) (union_along marks way no_marks)) ∙ has))
 
   -- what stands on a way is in the union along it
-  union_along-has : IsSplit → (place : ℕ) (way : List ℕ) → IsOn place way → IsTrue (mark (marks_at marks place)) → IsTrue (mark (union_along marks way no_marks))
+  pub union_along-has : IsSplit → (place : ℕ) (way : List ℕ) → IsOn place way → IsTrue (mark (marks_at marks place)) → IsTrue (mark (union_along marks way no_marks))
   union_along-has splits place [] on has = absurd on
   union_along-has splits place (first ∷ way) on has =
       splits (marks_at marks first) (union_along marks way no_marks)

@@ -1,0 +1,17 @@
+pub mod RestLemmas
+pub mod ReachLemmas
+pub mod SubsetLemmas
+pub mod SubsetSteps
+pub mod ValueLemmas
+pub mod SetRunLemmas
+pub mod MarkLemmas
+pub mod QuantifiedLemmas
+pub mod ListSteps
+pub mod PairSteps
+pub mod LeaveLemmas
+pub mod SearchSteps
+pub mod FinalLemmas
+pub mod SearchLemmas
+pub mod AssemblyLemmas
+pub mod AlwaysLemmas
+pub mod CoreLemmas

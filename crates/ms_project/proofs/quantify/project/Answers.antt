@@ -1,0 +1,25 @@
+use Rattle.std.proofs.Common.{◌≡◌, Option, None, IfOk, sym, ap, subst, ◌∙◌}
+use Rattle.std.specs.Option.{option_copied}
+use Rattle.ms_dfa.specs.Automaton.{variable_of}
+use Rattle.ms_logic.specs.declared.sign.Sign.{Sign}
+use Rattle.ms_logic.specs.declared.sign.Sign.TheVariants.{Yes}
+use Rattle.ms_logic.specs.Content.{Content}
+use Rattle.ms_theory.specs.Values.{HasValues, own_meaning}
+use Rattle.ms_project.specs.Quantified.{IsMetBy, quantified}
+use Rattle.ms_project.proofs.AlwaysLemmas.{HasValues-all}
+use Rattle.ms_project.proofs.AssemblyLemmas.{IfOk-implies}
+use Rattle.ms_project.specs.Always.{always}
+use Rattle.ms_project.proofs.quantify.project.Goals as goal
+
+pub project_within-requires-clause-domain : goal.project_within-requires-clause-domain
+project_within-requires-clause-domain c = c.requires.domain c.in-Some.domain.now (ap option_copied c.in-Some.is)
+
+pub returns-in-Ok-clause-values : goal.returns-in-Ok-clause-values
+returns-in-Ok-clause-values c =
+    let q = c.args.quantifier.quant in
+    let own = variable_of c.args.quantifier.track in
+    let body = own_meaning c.args.body.now in
+    let outcome = c.project_within-in-None.result in
+    let values = subst (λ (all : Content Sign). IfOk outcome (HasValues (quantified q own (λ e. own_meaning all e Yes) body))) c.in-Ok.ensures c.project_within-in-None.ensures.values in
+    subst (λ d. IfOk outcome (HasValues (quantified q own (IsMetBy (option_copied d)) body))) (sym c.in-None.is)
+    (IfOk-implies outcome (HasValues (quantified q own (λ e. own_meaning (always c.mode.result) e Yes) body)) (HasValues (quantified q own (IsMetBy None) body)) (HasValues-all q own body c.mode.result) values)

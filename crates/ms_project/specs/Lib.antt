@@ -1,0 +1,10 @@
+pub mod Quantified
+pub mod Subsets
+pub mod Subsetting
+pub mod Later
+pub mod Marks
+pub mod Paired
+pub mod Signed
+pub mod Projection
+pub mod Always
+pub mod Examples

@@ -1,0 +1,131 @@
+-- The sets that a subset construction has found, in a store of their own that holds the diagrams over all variables.
+use Rattle.std.specs.Prelude.{◌≡◌, ◌≢◌, ◌⊎◌, ℕ, ◌+◌, ◌<◌, ◌≤◌, Bool, List, [], length, Contains, slice_get, slice_index, Option, Some, None, Result, Ok, Err}
+use Rattle.ms_edge.specs.declared.fault.StepFault.{StepFault}
+use Rattle.ms_edge.specs.declared.fault.StepFault.TheVariants.{Nodes, Memory}
+use Rattle.ms_arena.specs.declared.node.Ref.{Ref}
+use Rattle.ms_arena.specs.declared.node.Node.{Node}
+use Rattle.ms_arena.specs.Bits.{with_bit}
+use Rattle.ms_arena.specs.Diagram.{Bits, leaf_of, IsValid, IsOrdered, IsReduced}
+use Rattle.ms_arena.specs.Target.{Target, Extends}
+use Rattle.ms_diagram.specs.Bring.{RenamedLeaf, Renames}
+use Rattle.ms_diagram.specs.Collect.{IsRisingSet, IsSetNumbering}
+use Rattle.ms_diagram.specs.Growth.{Builds}
+use Rattle.ms_diagram.specs.Store.{Contents, IsStore}
+use Rattle.ms_dfa.specs.Automaton.{states_of}
+use Rattle.ms_dfa.specs.declared.state.State.{State}
+use Rattle.ms_logic.specs.declared.sign.Sign.{Sign}
+use Rattle.ms_logic.specs.declared.sign.Sign.TheVariants.{Outside}
+use Rattle.ms_logic.specs.Content.{Content, IsClosed}
+use Rattle.ms_explore.specs.Explored.{Findings, AreMore, GrowsForSome, Leads, Follows}
+use Rattle.ms_product.specs.Pairing.{IsNeededForSome}
+use Rattle.ms_project.specs.Subsets.{next_of, start_sets, sets_behind}
+
+-- a subset construction under way: the states of a product over the variables of the body, the bound place, for each place
+-- its place among the rest, and the sets that have numbers
+pub record Subsetting : Type 0 where
+  pub body : Content Sign
+  pub inner : Contents
+  pub start : Ref
+  pub states : List State
+  pub bound : ℕ
+  pub back : List ℕ
+  pub sets : List (List ℕ)
+
+-- the states as a content over the variables of the body
+abbrev pub paired : Subsetting → Content Sign
+paired v = record { mode = v.body.mode; variables = v.body.variables; start = v.start; states = states_of v.states; nodes = v.inner.nodes }
+
+-- the set of the states that are reached from the start, and from the members of a set, by bits over all places
+abbrev pub sets_at_start : Content Sign → ℕ → List (List ℕ) → Target
+sets_at_start content bound sets bits number =
+    (set : List ℕ) × (slice_get sets number ≡ Some set) × IsRisingSet set (λ state. (bit : Bool) × (leaf_of content.nodes content.start (with_bit bits bound bit) ≡ state))
+
+abbrev pub sets_at : Content Sign → ℕ → List (List ℕ) → Option (List ℕ) → Target
+sets_at content bound sets None = λ bits number. ⊥
+sets_at content bound sets (Some from) = λ bits number.
+    (set : List ℕ) × (slice_get sets number ≡ Some set)
+    × IsRisingSet set (λ state. (member : ℕ) × (bit : Bool) × Contains from member × (leaf_of content.nodes (next_of content member) (with_bit bits bound bit) ≡ state))
+
+-- the own store is full, or each of the 2^32 - 1 numbers has a set
+abbrev pub IsFullWithin : Subsetting → Type 0
+IsFullWithin v = (length v.inner.nodes ≡ v.inner.limit) ⊎ (length v.sets ≡ 4294967295)
+
+-- what is found of the sets, over all places
+abbrev pub collected_findings : Subsetting → Findings
+collected_findings v = record {
+  count = length v.sets;
+  starts = sets_at_start (paired v) v.bound v.sets;
+  steps = λ number. sets_at (paired v) v.bound v.sets (slice_get v.sets number);
+  sign_of = λ number. Outside;
+  most_nodes = 4000000000;
+  LacksNumber = IsFullWithin v;
+}
+
+-- and over the places of the rest
+abbrev pub subset_findings : Subsetting → Findings
+subset_findings v = record {
+  count = length v.sets;
+  starts = start_sets (paired v) v.back v.bound v.sets;
+  steps = λ number. sets_behind (paired v) v.back v.bound v.sets (slice_get v.sets number);
+  sign_of = λ number. Outside;
+  most_nodes = 4000000000;
+  LacksNumber = IsFullWithin v;
+}
+
+-- each member of each set is a state
+abbrev pub MembersAreStates : List State → List (List ℕ) → Type 0
+MembersAreStates states sets =
+    (number : ℕ) (set : List ℕ) → slice_get sets number ≡ Some set → (member : ℕ) → Contains set member → member < length states
+
+-- the states lead to states, and the places of the rest rise
+pub record IsReadyForSets (v : Subsetting) : Type 0 where
+  pub closed : IsClosed (paired v)
+  pub members : MembersAreStates v.states v.sets
+  pub long : length v.back ≡ length v.body.variables
+  pub rising : (one two : ℕ) → one < two → two < length v.body.variables → one ≢ v.bound → two ≢ v.bound → slice_index v.back one < slice_index v.back two
+
+-- the same construction with more sets, and with the nodes that they need
+pub record IsLaterSubsetting (early late : Subsetting) : Type 0 where
+  pub same : late ≡ record early { inner = late.inner; sets = late.sets }
+  pub sets : Extends early.sets late.sets
+  pub more : AreMore (subset_findings early) (subset_findings late)
+  pub more_collected : AreMore (collected_findings early) (collected_findings late)
+  pub grows : IsStore early.inner.nodes early.inner.limit → GrowsForSome early.inner late.inner (collected_findings late)
+  pub ready : IsReadyForSets early → IsReadyForSets late
+
+-- what a store is handed: the diagram that another has collected, over the places of the rest, or the refusal of the other
+abbrev pub IsHanded : Contents → Contents → List Node → List ℕ → Result Ref StepFault → Result Ref StepFault → Type 0
+IsHanded old new nodes back (Ok made) result = Builds old new (RenamedLeaf nodes back made) ⊥ result
+IsHanded old new nodes back (Err Memory) result = (new ≡ old) × (result ≡ Err Memory)
+IsHanded old new nodes back (Err (Nodes limit)) result = (new ≡ old) × (result ≡ Err (Nodes old.limit))
+
+-- the collected diagram can be read over the places of the rest
+abbrev pub IsHandable : List Node → List ℕ → Result Ref StepFault → Type 0
+IsHandable nodes back (Ok made) = IsValid nodes made × Renames nodes back made
+IsHandable nodes back (Err fault) = Unit {0}
+
+-- a construction that has found no sets yet
+abbrev pub begun : Content Sign → Contents → Ref → List State → ℕ → List ℕ → Subsetting
+begun body inner start states bound back = record { body = body; inner = inner; start = start; states = states; bound = bound; back = back; sets = [] }
+
+-- all sets have been found, and their diagrams over the places of the rest have been built in a store
+pub record AreSetsFound (v : Subsetting) (held : Contents) (start : Ref) (states : List State) : Type 0 where
+  pub numbering : IsSetNumbering v.sets
+  pub inner : IsStore v.inner.nodes v.inner.limit
+  pub store : IsStore held.nodes held.limit
+  pub starts : Leads held.nodes (subset_findings v).starts start
+  pub all : length states ≡ length v.sets
+  pub follows : Follows held.nodes (subset_findings v) states
+
+-- the nodes of both stores and the sets are together at least so many; the nodes behind those that one began with are needed
+-- for sets that have been found
+pub record SetsAreAtLeast (count : ℕ) (begun_with : Subsetting) : Type 0 where
+  pub found : Subsetting
+  pub later : IsLaterSubsetting begun_with found
+  pub numbering : IsSetNumbering found.sets
+  pub members : MembersAreStates found.states found.sets
+  pub outer : List Node
+  pub ordered : IsOrdered outer
+  pub reduced : IsReduced outer
+  pub needed : (place : ℕ) (node : Node) → slice_get outer place ≡ Some node → IsNeededForSome outer (subset_findings found) node
+  pub many : count ≤ length found.inner.nodes + length outer + length found.sets

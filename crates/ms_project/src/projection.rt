@@ -1,0 +1,103 @@
+ghost use Rattle.std.specs.Prelude.{◌≡◌, ◌<◌, ◌≤◌, All, IfOk, length};
+ghost use Rattle.ms_dfa.specs.Automaton.{variable_of, variables_of};
+ghost use Rattle.ms_explore.specs.Explored.{OnRefused};
+ghost use Rattle.ms_explore.specs.Tracks.{IsAmong};
+ghost use Rattle.ms_project.specs.Paired.{IsDomainFor};
+ghost use Rattle.ms_project.specs.Projection.{AreSignedSets, IsProjection, NeedsAtLeast};
+ghost use Rattle.ms_project.specs.Quantified.{without};
+ghost use Rattle.ms_project.specs.Signed.{TestBelow, zero_step};
+
+use crate::leave_out::leave_out;
+use crate::marks::{can_be_empty, marks_of_pairs, marks_of_sets};
+use crate::pairing::pair_up;
+use crate::search::{SetsFound, find_sets};
+use crate::signs::{Stage, closed_marks, sign_states};
+use ms_dfa::{Automaton, State, Track};
+use ms_edge::{List, NoMemory, StepFault};
+use ms_explore::place_of;
+use ms_logic::{Mode, Quant};
+use ms_quotient::Marks;
+use std::alloc::Global;
+
+/// A projection whose sets have been found: the other tracks, the marks of the pairs, and the sets.
+#[derive(Drop)]
+pub(crate) struct Projection<'a> {
+    pub(crate) tracks: List<Track>,
+    pub(crate) marks: List<Marks>,
+    pub(crate) found: SetsFound<'a>,
+}
+
+/// Finds the sets of pairs of states of a body and a domain, where the track is left out.
+pub(crate) fn search<'a>(
+    alloc: Global,
+    body: &'a Automaton,
+    domain: &Automaton,
+    track: Track,
+    limit: u64,
+) -> Result<Projection<'a>, StepFault>
+    requires domain { IsDomainFor body.now domain.now }
+    requires bound { IsAmong body.now.variables (variable_of track) }
+    requires some { 1 ≤ limit }
+    requires small { limit ≤ 4000000000 }
+    ensures tracks { IfOk result (λ p. variables_of p.tracks ≡ without track.variable body.now.variables) }
+    ensures projection { IfOk result (λ p. IsProjection body.now domain.now track.variable p.marks p.found.subsets p.found.store p.found.start p.found.states) }
+    ensures nodes { OnRefused result (λ refused. (refused ≡ limit) × NeedsAtLeast limit body.now domain.now track.variable) }
+{
+    let rest = match leave_out(alloc, body.tracks(), track.variable) {
+        Ok(rest) => rest,
+        Err(_) => return Err(StepFault::Memory),
+    };
+    // The tracks tell that the domain is an automaton.
+    let _ = domain.tracks();
+    let place = place_of(body.tracks(), track.variable);
+    let Ok(bound) = u32::try_from(place) else {
+        return Err(StepFault::Memory);
+    };
+    let paired = match pair_up(alloc, body, domain, limit) {
+        Ok(paired) => paired,
+        Err(fault) => return Err(fault),
+    };
+    let marks = match marks_of_pairs(alloc, body, domain, &paired.pairs) {
+        Ok(marks) => marks,
+        Err(_) => return Err(StepFault::Memory),
+    };
+    let found = match find_sets(alloc, body, paired, bound, rest.back) {
+        Ok(found) => found,
+        Err(fault) => return Err(fault),
+    };
+    Ok(Projection {
+        tracks: rest.tracks,
+        marks,
+        found,
+    })
+}
+
+/// The states of all sets, with the signs that the marks of their members make.
+pub(crate) fn sign_sets(
+    alloc: Global,
+    mode: Mode,
+    quant: Quant,
+    projection: &Projection,
+) -> Result<List<State>, NoMemory>
+    requires members { All (All (λ member. member < length projection.now.marks)) projection.now.found.subsets.sets }
+    requires long { length projection.now.found.states ≡ length projection.now.found.subsets.sets }
+    requires tested { TestBelow projection.now.found.store.nodes (length projection.now.tracks) projection.now.found.states }
+    requires within { All (λ state. zero_step projection.now.found.store.nodes (length projection.now.tracks) state < length projection.now.found.states) projection.now.found.states }
+    ensures { IfOk result (AreSignedSets mode quant (variables_of projection.now.tracks) projection.now.marks projection.now.found.subsets.sets projection.now.found.store.nodes projection.now.found.states) }
+{
+    let marks = marks_of_sets(
+        alloc,
+        projection.marks.slice(),
+        projection.found.subsets.sets(),
+    )?;
+    let stage = Stage {
+        mode,
+        store: &projection.found.store,
+        states: projection.found.states.slice(),
+        count: projection.tracks.len(),
+    };
+    let closed = closed_marks(alloc, &stage, marks)?;
+    let empty = can_be_empty(mode, projection.tracks.slice());
+    let states = projection.found.states.slice();
+    sign_states(alloc, states, quant, empty, closed.slice())
+}
