@@ -1,10 +1,11 @@
 //! The signs of all words up to a length: of basic relations, and of what connectives make of them. A row of the data names
 //! steps, from left to right: a basic relation with its variables, by number, is one automaton more, and a connective takes
 //! the last ones and leaves one; a renaming takes the last one,
-//! and so do a track that is added and a minimisation.
+//! and so do a track that is added, a minimisation and a quantifier; a quantifier with a domain takes the body and the domain.
 #![tactic(auto)]
 
 mod orders;
+mod quantifiers;
 mod rows;
 mod steps;
 mod words;

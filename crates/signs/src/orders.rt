@@ -33,6 +33,30 @@ pub fn have_equal_orders(left: &[Track], right: &[Track]) -> bool
     true
 }
 
+/// Whether a track is one of the list.
+pub fn contains(tracks: &[Track], track: Track) -> bool
+    ensures { IsTrue result → IsAmong (variables_of tracks.now) (variable_of track) }
+{
+    for other in tracks {
+        if other.variable == track.variable && other.order == track.order {
+            return true;
+        }
+    }
+    false
+}
+
+/// Whether each track of one list is in another.
+pub fn are_among(some: &[Track], all: &[Track]) -> bool
+    ensures { IsTrue result → (v : Variable) → IsAmong (variables_of some.now) v → IsAmong (variables_of all.now) v }
+{
+    for track in some {
+        if !contains(all, *track) {
+            return false;
+        }
+    }
+    true
+}
+
 /// Whether no variable of a relation stands for a number and for a set.
 pub fn has_one_order(form: &Basic) -> bool
     ensures { IsTrue result → HaveOneOrder (operands_of form.now) }

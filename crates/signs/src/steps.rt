@@ -1,17 +1,19 @@
 //! Automata step by step, as the data names them.
 use crate::orders::{has_one_order, have_equal_orders};
+use crate::quantifiers::{quantified, quantified_where};
 use anyhow::{Context, Result, bail};
 use ms_basic::basic;
 use ms_dfa::{Automaton, Track};
 use ms_edge::{NoMemory, StepFault};
-use ms_logic::{Basic, Mode, Order};
+use ms_logic::{Basic, Mode, Order, Quant};
 use ms_minim::minimise;
 use ms_product::{Op, combine, negate, restrict_to};
+use ms_project::Quantifier;
 use ms_rename::{rename, renamed_tracks, widen};
 use std::alloc::Global;
 
 /// More nodes and states than any of these automata has.
-const LIMIT: u64 = 4_000_000;
+pub const LIMIT: u64 = 4_000_000;
 
 /// The number that a word is.
 fn number(word: &str) -> Result<u64> {
@@ -83,7 +85,7 @@ fn relation(alloc: Global, step: &str) -> Result<Option<Basic>> {
 }
 
 /// What an operation gives, or its fault in words.
-fn told(made: Result<Automaton, StepFault>) -> Result<Automaton> {
+pub fn told(made: Result<Automaton, StepFault>) -> Result<Automaton> {
     match made {
         Ok(made) => Ok(made),
         Err(StepFault::Memory) => bail!("no memory"),
@@ -155,6 +157,20 @@ fn wider(alloc: Global, made: &Automaton, track: Track) -> Result<Automaton> {
     told(widen(alloc, made, track, LIMIT))
 }
 
+/// The quantifier that a step names, and whether it has a domain.
+fn quantifier(alloc: Global, step: &str) -> Result<Option<(Quantifier, bool)>> {
+    let (quant, within) = match step.split(' ').next() {
+        Some("ex") => (Quant::Ex, false),
+        Some("all") => (Quant::All, false),
+        Some("ex-where") => (Quant::Ex, true),
+        Some("all-where") => (Quant::All, true),
+        _ => return Ok(None),
+    };
+    let numbers = numbers(alloc, step)?;
+    let track = track(numbers.as_slice())?;
+    Ok(Some((Quantifier { quant, track }, within)))
+}
+
 fn op_of(step: &str) -> Option<Op> {
     match step {
         "and" => Some(Op::And),
@@ -186,11 +202,30 @@ fn of_last(alloc: Global, last: &Automaton, step: &str) -> Result<Option<Automat
     Ok(None)
 }
 
+/// What a step makes of two automata.
+fn of_two_last(
+    alloc: Global,
+    left: &Automaton,
+    right: &Automaton,
+    step: &str,
+) -> Result<Automaton> {
+    if let Some((quantifier, true)) = quantifier(alloc, step)? {
+        return quantified_where(alloc, left, right, quantifier);
+    }
+    let Some(op) = op_of(step) else {
+        bail!("unknown step {step}");
+    };
+    both(alloc, left, right, op)
+}
+
 /// What a step with variables makes of one automaton, if it takes one.
 fn of_last_with(alloc: Global, last: &Automaton, step: &str) -> Result<Option<Automaton>> {
     if step.starts_with("rename ") {
         let map = variables(alloc, step)?;
         return over(alloc, last, map.as_slice()).map(Some);
+    }
+    if let Some((quantifier, false)) = quantifier(alloc, step)? {
+        return quantified(alloc, last, quantifier).map(Some);
     }
     if step.starts_with("widen ") {
         let numbers = numbers(alloc, step)?;
@@ -207,13 +242,10 @@ fn made_by(alloc: Global, stack: &[Automaton], step: &str) -> Result<(Automaton,
     if let Some(made) = of_last_with(alloc, right, step)? {
         return Ok((made, 1));
     }
-    let Some(op) = op_of(step) else {
-        bail!("unknown step {step}");
-    };
     if stack.len() < 2 {
         bail!("an operand is lacking");
     }
-    let made = both(alloc, &stack[stack.len() - 2], right, op)?;
+    let made = of_two_last(alloc, &stack[stack.len() - 2], right, step)?;
     Ok((made, 2))
 }
 
