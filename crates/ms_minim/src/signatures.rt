@@ -180,22 +180,62 @@ fn all_due(alloc: Global, states: u32) -> Result<Pairs, NoMemory>
     Ok(made)
 }
 
-/// Nothing has been seen, and the classes of the signs are known by no mark of a state.
-fn nothing_seen(alloc: Global) -> Result<Seen, NoMemory>
+/// A vote of a state of a class for a mark. A mark that more than half of the states of a class vote for stands at the end.
+fn vote(known: &mut Vec<u32>, counts: &mut Vec<u32>, class: u32, mark: u32)
+    requires known { class < length known.old.items }
+    requires counts { class < length counts.old.items }
+    ensures known { length known.new.items ≡ length known.old.items }
+    ensures counts { length counts.new.items ≡ length counts.old.items }
+{
+    let place = class as usize;
+    let count = counts[place];
+    if count == 0 {
+        known[place] = mark;
+        counts[place] = 1;
+    } else if known[place] == mark {
+        counts[place] = count.saturating_add(1);
+    } else {
+        counts[place] = count - 1;
+    }
+}
+
+/// So many zeros.
+fn zeros(alloc: Global, count: u32) -> Result<Vec<u32>, NoMemory>
+    ensures { IfOk result (λ made. length made.items ≡ count) }
+{
+    let mut made = Vec::new(alloc);
+    for _ in 0..count {
+        if made.push(0).is_err() {
+            return Err(NoMemory);
+        }
+    }
+    Ok(made)
+}
+
+/// What is seen at first: each class of a sign is known by the mark that most of its states have, where there is one.
+fn first_seen(plan: &Plan, classes: &[u32]) -> Result<Seen, NoMemory>
+    requires places { IsIdentity (length plan.now.automaton.now.variables) plan.now.places.now }
+    requires all { length classes.now ≡ length plan.now.automaton.now.states }
+    requires signs { (state class : ℕ) → slice_get classes.now state ≡ Some class → class < 4 }
     ensures seen { IfOk result IsSeen }
     ensures signs { IfOk result (λ made. length made.known ≡ 4) }
 {
-    let mut known = List::new(alloc);
-    for _ in 0..SIGNS {
-        push(&mut known, 0)?;
-    }
-    let scratch = Store::new(alloc, ROOM);
-    let numbers = Pairs::new(alloc);
-    let keys = Pairs::new(alloc);
+    let mut scratch = Store::new(plan.alloc, ROOM);
+    let mut numbers = Pairs::new(plan.alloc);
+    let mut known = zeros(plan.alloc, SIGNS)?;
+    let mut counts = zeros(plan.alloc, SIGNS)?;
+    let keys = Pairs::new(plan.alloc);
     // The lengths tell that these are a store and numberings.
     let _ = scratch.len();
     let _ = numbers.len();
     let _ = keys.len();
+    for state in 0..plan.automaton.states() {
+        let root = plan.automaton.next_ref(state);
+        let reference = lead(&mut scratch, plan.automaton, root, plan.places, classes)?;
+        let found = mark(&mut numbers, reference)?;
+        vote(&mut known, &mut counts, classes[state as usize], found);
+    }
+    let known = List::from(known);
     Ok(Seen {
         scratch,
         numbers,
@@ -222,7 +262,7 @@ pub(crate) fn group(
     };
     let users = users(alloc, automaton)?;
     let mut classes = sign_marks(alloc, automaton)?.into_vec();
-    let mut seen = nothing_seen(alloc)?;
+    let mut seen = first_seen(&plan, &classes)?;
     let mut due = all_due(alloc, automaton.states())?;
     for _ in 0..automaton.states() {
         if due.len() == 0 {

@@ -15,7 +15,7 @@ loop-init c =
     (subst (AllDue c.in_ok-due.due) c.states.ensures.states both)
 
 pub label_states-requires-clause-within : goal.label_states-requires-clause-within
-label_states-requires-clause-within c = subst (λ list. AreWithin list c.loop.seen.known) (sym c.deref.ensures.value) c.loop.invariant.within
+label_states-requires-clause-within c = subst (λ list. AreWithin list c.loop.seen.known) (sym c.deref-in-loop.ensures.value) c.loop.invariant.within
 
 pub settle-requires-clause-due : goal.settle-requires-clause-due
 settle-requires-clause-due c state is =
@@ -30,7 +30,7 @@ loop-preserved c =
     let labels = c.in_ok-labels.ensures in
     let classes = c.loop.classes.items in
     let are = subst (λ list. AreLabels c.label_states.new.seen content classes c.loop.due list (length c.loop.due)) (sym c.slice.ensures)
-    (subst (λ list. AreLabels c.label_states.new.seen content list c.loop.due c.in_ok-labels.labels (length c.loop.due)) c.deref.ensures.value labels.labels) in
-    let users = subst (AreUsers content) (sym c.deref-in-loop.ensures.value) c.in_ok-users.ensures in
+    (subst (λ list. AreLabels c.label_states.new.seen content list c.loop.due c.in_ok-labels.labels (length c.loop.due)) c.deref-in-loop.ensures.value labels.labels) in
+    let users = subst (AreUsers content) (sym c.deref-in-loop-2.ensures.value) c.in_ok-users.ensures in
     IsSettling-next content c.states.ensures.automaton c.loop.seen c.label_states.new.seen classes c.settle.new.classes.items c.loop.due c.settle.new.next were labels.seen labels.later
-    c.slice.result.now are c.deref-in-loop.result.now users c.in_ok-settle.ensures
+    c.slice.result.now are c.deref-in-loop-2.result.now users c.in_ok-settle.ensures
