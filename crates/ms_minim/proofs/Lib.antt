@@ -8,5 +8,3 @@ pub mod LeadLemmas
 pub mod QuotientLemmas
 pub mod FewestLemmas
 pub mod NodeLemmas
-pub mod UsersLemmas
-pub mod SignatureLemmas

@@ -2,8 +2,6 @@ pub mod Residual
 pub mod Partition
 pub mod Marks
 pub mod Split
-pub mod Users
-pub mod Signatures
 pub mod Quotient
 pub mod Later
 pub mod Examples

@@ -7,9 +7,7 @@ mod fewest;
 mod marking;
 mod quotient;
 mod refinement;
-mod signatures;
 mod splitting;
-mod users;
 
 pub use examples::{worked_fewest, worked_residuals};
 pub use fewest::minimise;

@@ -3,7 +3,6 @@ ghost use Rattle.ms_minim.specs.Partition.{IsIdentity, IsPartition, AreNerodeCla
 
 use crate::classes::Partition;
 use crate::marking::{marks, sign_marks};
-use crate::signatures::group;
 use crate::splitting::split;
 use ms_dfa::Automaton;
 use ms_edge::{List, NoMemory, push};
@@ -45,9 +44,7 @@ pub(crate) fn refine(
 {
     // The states tell that it is an automaton.
     let _ = automaton.states();
-    let signs = by_signs(alloc, automaton)?;
-    let groups = group(alloc, automaton, places)?;
-    let mut partition = split(alloc, &signs, &groups)?;
+    let mut partition = by_signs(alloc, automaton)?;
     loop {
         let marks = marks(alloc, automaton, places, partition.classes.slice())?;
         let finer = split(alloc, &partition, marks.slice())?;
