@@ -8,3 +8,6 @@ pub mod LeadLemmas
 pub mod QuotientLemmas
 pub mod FewestLemmas
 pub mod NodeLemmas
+pub mod PredecessorsLemmas
+pub mod GroupingLemmas
+pub mod SignatureLemmas

@@ -117,6 +117,12 @@ sign_back No = refl
 sign_back Undefined = refl
 sign_back Outside = refl
 
+mark_below : (sign : Sign) → mark_of_sign sign < 4
+mark_below Yes = omega arith
+mark_below No = omega arith
+mark_below Undefined = omega arith
+mark_below Outside = omega arith
+
 pub HaveSignMarks-none : (content : Content Sign) (marks : List ℕ) → marks ≡ [] → HaveSignMarks content marks
 HaveSignMarks-none content marks none state mark held = absurd (none-some mark (ap (λ (list : List ℕ). slice_get list state) (sym none) ∙ held))
 
@@ -132,6 +138,7 @@ HaveSignMarks-more content marks state sign mark were count is mark_is one found
 pub AreSignMarks-all : (content : Content Sign) (marks : List ℕ) → HaveSignMarks content marks → length marks ≡ length content.states → AreSignMarks content marks
 AreSignMarks-all content marks are all = record {
   all = all;
+  below = λ state mark held. (let is = are state mark held in subst (λ n. n < 4) (sym is.2) (mark_below is.0));
   alike = λ one other in_one in_other same.
       let first = mark_of one in_one in
       let second = mark_of other in_other in

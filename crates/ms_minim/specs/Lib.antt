@@ -2,6 +2,8 @@ pub mod Residual
 pub mod Partition
 pub mod Marks
 pub mod Split
+pub mod Predecessors
+pub mod Grouping
 pub mod Quotient
 pub mod Later
 pub mod Examples

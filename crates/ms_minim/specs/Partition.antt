@@ -58,5 +58,6 @@ pub record AreMarks (content : Content Sign) (classes marks : List ℕ) : Type 0
 -- states have equal marks exactly where they have one sign
 pub record AreSignMarks (content : Content Sign) (marks : List ℕ) : Type 0 where
   pub all : length marks ≡ length content.states
+  pub below : (state mark : ℕ) → slice_get marks state ≡ Some mark → mark < 4
   pub alike : (one other : ℕ) → one < length content.states → other < length content.states → sign_at content one ≡ sign_at content other → slice_get marks one ≡ slice_get marks other
   pub apart : (one other : ℕ) → one < length content.states → other < length content.states → slice_get marks one ≡ slice_get marks other → sign_at content one ≡ sign_at content other

@@ -2,11 +2,17 @@
 #![tactic(auto)]
 
 mod classes;
+mod due;
 mod examples;
 mod fewest;
+mod grouping;
 mod marking;
+mod predecessors;
 mod quotient;
 mod refinement;
+mod rounds;
+mod signatures;
+mod splitters;
 mod splitting;
 
 pub use examples::{worked_fewest, worked_residuals};

@@ -28,7 +28,7 @@ pub(crate) fn number(known: &mut Pairs, left: u32, right: u32) -> Result<u32, No
 }
 
 /// The number of a reference.
-fn mark(known: &mut Pairs, reference: Ref) -> Result<u32, NoMemory>
+pub(crate) fn mark(known: &mut Pairs, reference: Ref) -> Result<u32, NoMemory>
     ensures number { IfOk result (λ number. slice_get known.new number ≡ Some (pair_of reference)) }
     ensures extends { OnOk result (Extends known.old known.new) }
     ensures numbering { IsNumbering known.new }

@@ -3,6 +3,7 @@ ghost use Rattle.ms_minim.specs.Partition.{IsIdentity, IsPartition, AreNerodeCla
 
 use crate::classes::Partition;
 use crate::marking::{marks, sign_marks};
+use crate::rounds::group;
 use crate::splitting::split;
 use ms_dfa::Automaton;
 use ms_edge::{List, NoMemory, push};
@@ -44,7 +45,9 @@ pub(crate) fn refine(
 {
     // The states tell that it is an automaton.
     let _ = automaton.states();
-    let mut partition = by_signs(alloc, automaton)?;
+    let signs = by_signs(alloc, automaton)?;
+    let groups = group(alloc, automaton, places)?;
+    let mut partition = split(alloc, &signs, &groups)?;
     loop {
         let marks = marks(alloc, automaton, places, partition.classes.slice())?;
         let finer = split(alloc, &partition, marks.slice())?;

@@ -1,0 +1,5 @@
+use Rattle.std.proofs.Common.{◌≡◌, [], replicate}
+use Rattle.ms_minim.proofs.predecessors.no_lists.Given as goal
+
+abbrev pub invariant-loop : goal.invariant-loop
+invariant-loop l = l.made.items ≡ replicate l.counter []

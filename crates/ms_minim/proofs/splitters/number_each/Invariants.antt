@@ -1,0 +1,6 @@
+use Rattle.std.proofs.Common.{◌≡◌, length}
+use Rattle.ms_minim.proofs.GroupingLemmas.{AreChosen}
+use Rattle.ms_minim.proofs.splitters.number_each.Given as goal
+
+abbrev pub invariant-loop-class : goal.invariant-loop-class
+invariant-loop-class l = (length l.numbers.items ≡ length l.initial.numbers.items) × AreChosen l.chosen l.numbers.items l.class-index

@@ -1,0 +1,147 @@
+ghost use Rattle.std.specs.Prelude.{◌≡◌, ◌≢◌, ◌<◌, ◌≤◌, ℕ, ◌+◌, [], length, slice_get, Some, IfOk, OnOk};
+ghost use Rattle.ms_arena.specs.Diagram.{Bits, IsValid, leaf_of};
+ghost use Rattle.ms_arena.specs.Target.{Extends, Meets};
+ghost use Rattle.ms_diagram.specs.Numbering.{IsNumbering};
+ghost use Rattle.ms_diagram.specs.Relabel.{MappedLeaf};
+ghost use Rattle.ms_diagram.specs.Store.{IsStore};
+ghost use Rattle.ms_minim.specs.Partition.{IsIdentity, next_by};
+ghost use Rattle.ms_minim.specs.Grouping.{AreLabels, AreWithin, IsDue, IsLabel, IsLaterSeen, IsNewClass, IsSeen, through};
+
+use crate::classes::lead;
+use crate::marking::{ROOM, mark, number};
+use ms_arena::Ref;
+use ms_dfa::Automaton;
+use ms_diagram::{Pairs, Store};
+use ms_edge::{List, NoMemory, push};
+use std::alloc::Global;
+
+/// How many classes there are at most.
+const CLASSES: u32 = 4000000000;
+
+/// What has been seen of the states that are due: where they lead among the chosen classes, as references with their marks,
+/// and for each class that is split off the old one and its mark. The first of these classes has the number `first`.
+#[derive(Drop)]
+pub(crate) struct Seen {
+    pub scratch: Store,
+    pub marks: Pairs,
+    pub keys: Pairs,
+    pub first: u32,
+}
+
+/// An automaton and the places of its tracks.
+#[derive(Clone, Copy)]
+pub(crate) struct Plan<'a> {
+    pub alloc: Global,
+    pub automaton: &'a Automaton,
+    pub places: &'a [u32],
+}
+
+/// The classes of the states, and the number of each class, which is 0 where it is not chosen.
+#[derive(Clone, Copy)]
+pub(crate) struct Choice<'a> {
+    pub classes: &'a [u32],
+    pub splitters: &'a [u32],
+}
+
+/// What is seen before any state.
+pub(crate) fn nothing_seen(alloc: Global, first: u32) -> Result<Seen, NoMemory>
+    ensures seen { IfOk result IsSeen }
+    ensures keys { IfOk result (λ made. made.keys ≡ []) }
+    ensures first { IfOk result (λ made. made.first ≡ first) }
+{
+    let scratch = Store::new(alloc, ROOM);
+    let mut marks = Pairs::new(alloc);
+    let keys = Pairs::new(alloc);
+    // The lengths tell that these are a store and a numbering.
+    let _ = scratch.len();
+    let _ = keys.len();
+    let _ = number(&mut marks, 0, 0)?;
+    Ok(Seen {
+        scratch,
+        marks,
+        keys,
+        first,
+    })
+}
+
+/// Where a state leads among the chosen classes.
+fn signature(plan: &Plan, scratch: &mut Store, choice: &Choice, state: u32) -> Result<Ref, NoMemory>
+    requires places { IsIdentity (length plan.now.automaton.now.variables) plan.now.places.now }
+    requires state { state < length plan.now.automaton.now.states }
+    requires all { length choice.now.classes.now ≡ length plan.now.automaton.now.states }
+    requires within { AreWithin choice.now.classes.now choice.now.splitters.now }
+    ensures extends { Extends scratch.old.nodes scratch.new.nodes }
+    ensures store { IsStore scratch.new.nodes scratch.new.limit }
+    ensures valid { IfOk result (IsValid scratch.new.nodes) }
+    ensures leads { IfOk result (λ made. (bits : Bits) → slice_get (through choice.now.splitters.now choice.now.classes.now) (next_by plan.now.automaton.now state bits) ≡ Some (leaf_of scratch.new.nodes made bits)) }
+{
+    let root = plan.automaton.next_ref(state);
+    let behind = lead(scratch, plan.automaton, root, plan.places, choice.classes)?;
+    match scratch.relabel(behind, choice.splitters) {
+        Ok(made) => Ok(made),
+        Err(_) => Err(NoMemory),
+    }
+}
+
+/// The class of the states of a class with a mark.
+fn label(keys: &mut Pairs, first: u32, class: u32, mark: u32) -> Result<u32, NoMemory>
+    requires { IsNumbering keys.old }
+    ensures keys { OnOk result (Extends keys.old keys.new) }
+    ensures numbering { OnOk result (IsNumbering keys.new) }
+    ensures label { IfOk result (IsLabel keys.new first class mark) }
+{
+    if mark == 0 {
+        return Ok(class);
+    }
+    let place = number(keys, class, mark)?;
+    if place >= CLASSES || first >= CLASSES - place {
+        return Err(NoMemory);
+    }
+    Ok(first + place)
+}
+
+/// The new class of a state.
+fn label_state(plan: &Plan, seen: &mut Seen, choice: &Choice, state: u32) -> Result<u32, NoMemory>
+    requires places { IsIdentity (length plan.now.automaton.now.variables) plan.now.places.now }
+    requires state { state < length plan.now.automaton.now.states }
+    requires all { length choice.now.classes.now ≡ length plan.now.automaton.now.states }
+    requires within { AreWithin choice.now.classes.now choice.now.splitters.now }
+    requires seen { IsSeen seen.old }
+    ensures seen { OnOk result (IsSeen seen.new) }
+    ensures later { OnOk result (IsLaterSeen seen.old seen.new) }
+    ensures label { IfOk result (IsNewClass seen.new plan.now.automaton.now choice.now.classes.now choice.now.splitters.now state) }
+{
+    let reference = signature(plan, &mut seen.scratch, choice, state)?;
+    let found = mark(&mut seen.marks, reference)?;
+    label(
+        &mut seen.keys,
+        seen.first,
+        choice.classes[state as usize],
+        found,
+    )
+}
+
+/// The new classes of the states that are due.
+pub(crate) fn labels(
+    plan: &Plan,
+    seen: &mut Seen,
+    choice: &Choice,
+    due: &Pairs,
+) -> Result<List<u32>, NoMemory>
+    requires places { IsIdentity (length plan.now.automaton.now.variables) plan.now.places.now }
+    requires all { length choice.now.classes.now ≡ length plan.now.automaton.now.states }
+    requires within { AreWithin choice.now.classes.now choice.now.splitters.now }
+    requires due { (state : ℕ) → IsDue due.now state → state < length plan.now.automaton.now.states }
+    requires seen { IsSeen seen.old }
+    ensures seen { OnOk result (IsSeen seen.new) }
+    ensures later { OnOk result (IsLaterSeen seen.old seen.new) }
+    ensures labels { IfOk result (λ made. AreLabels seen.new plan.now.automaton.now choice.now.classes.now choice.now.splitters.now due.now made (length due.now)) }
+{
+    let mut made = List::new(plan.alloc);
+    for place in 0..due.len() {
+        let (state, _) = due.get(place);
+        let found = label_state(plan, seen, choice, state)?;
+        push(&mut made, found)?;
+    }
+    Ok(made)
+}
