@@ -1,0 +1,15 @@
+pub mod Arguments
+pub mod Equivalences
+pub mod ExportsOnce
+pub mod Formulas
+pub mod Keeping
+pub mod Numbers
+pub mod Places
+pub mod Predicates
+pub mod Roots
+pub mod SameRoots
+pub mod SameValues
+pub mod Seen
+pub mod SeenPredicates
+pub mod Spreads
+pub mod Truths

@@ -1,0 +1,4 @@
+pub mod Examples
+pub mod RootLaws
+pub mod SameRootLaws
+pub mod SpreadLaws
