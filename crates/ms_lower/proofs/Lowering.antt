@@ -1,0 +1,158 @@
+-- What a formula becomes, by what its parts became.
+use Rattle.std.proofs.Common.{◌≡◌, ℕ, ◌+◌, List, [], ◌∷◌, ◌++◌, map, Option, Some, refl, sym, ap, subst, ◌∙◌}
+use Rattle.std.proofs.lemmas.List.{map-append}
+use Rattle.std.specs.Option.{option_map}
+use Rattle.ms_logic.specs.declared.core_formula.Core.{Core}
+use Rattle.ms_logic.specs.declared.formula.Arg.{Arg}
+use Rattle.ms_logic.specs.declared.formula.Arg.TheVariants as arg
+use Rattle.ms_logic.specs.declared.formula.Binding.{Binding}
+use Rattle.ms_logic.specs.declared.formula.Formula.{Formula}
+use Rattle.ms_logic.specs.declared.formula.Formula.TheVariants as form
+use Rattle.ms_logic.specs.declared.mode.Order.{Order}
+use Rattle.ms_logic.specs.declared.mode.Order.TheVariants.{Zero, One, Two}
+use Rattle.ms_logic.specs.declared.mode.Quant.{Quant}
+use Rattle.ms_logic.specs.declared.mode.Rel.{Rel}
+use Rattle.ms_logic.specs.declared.mode.Rel.TheVariants.{Equal, Differs, Less, AtMost, Greater, AtLeast, Member, NotMember, Sub}
+use Rattle.ms_logic.specs.declared.term.Term1.{Term1}
+use Rattle.ms_logic.specs.declared.term.Term2.{Term2}
+use Rattle.ms_logic.specs.CoreForm as core
+use Rattle.ms_logic.specs.CoreForm.{CoreForm, CoreRestriction, core_form_of, core_forms, conjunction, disjunction, quantified}
+use Rattle.ms_logic.specs.Spread.{Callees, Names, TermSpread, conjunction_of, default_names, named, numbers_and_sets, numbers_relate, sets_relate, restrictions_of, spread_each, spread_number, spread_restriction, spread_set, spread_under, truth_value, truth_values, variable_of_form}
+use Rattle.ms_logic.specs.Tree.{Predicate}
+use Rattle.ms_logic.specs.View.{argument_of, arguments, binding_of, formula_of, forms, restriction, set_term_of, term_of}
+use Rattle.ms_logic.proofs.Views.{argument_of-Zero, formula_of-And, formula_of-Or, formula_of-Compare, formula_of-CompareSets, formula_of-Let, formula_of-Call}
+use Rattle.ms_lower.specs.declared.defined.Defined.{Defined}
+use Rattle.ms_lower.specs.declared.pairs.TermPair.{TermPair}
+use Rattle.ms_lower.specs.Callees.{disjunction_over}
+use Rattle.ms_lower.specs.Defined.{AreDefined, below}
+use Rattle.ms_lower.specs.Given.{IsGiven, IsTruth}
+use Rattle.ms_lower.specs.Numbering.{Numbering, renumbered, renumbered_each, renumbered_in}
+use Rattle.ms_lower.proofs.Callees.{IsCallee}
+use Rattle.ms_lower.proofs.Trees.{formula_of-Bind}
+
+pub each_renumbered : (n : Numbering) (fs : List CoreForm) → renumbered_each n (core_forms fs) ≡ core_forms (map (renumbered n) fs)
+each_renumbered n [] = refl
+each_renumbered n (f ∷ fs) = ap (λ gs. core.more_forms (renumbered n f) gs) (each_renumbered n fs)
+
+pub conjunction_renumbered : (n : Numbering) (fs : List CoreForm) → renumbered n (conjunction_of fs) ≡ conjunction_of (map (renumbered n) fs)
+conjunction_renumbered n [] = refl
+conjunction_renumbered n (f ∷ []) = refl
+conjunction_renumbered n (f ∷ g ∷ fs) = ap conjunction (each_renumbered n (f ∷ g ∷ fs))
+
+numbers_renumbered : (n : Numbering) (rel : Rel) (x y : ℕ) → renumbered n (numbers_relate rel x y) ≡ numbers_relate rel (n.number One x) (n.number One y)
+numbers_renumbered n Equal x y = refl
+numbers_renumbered n Differs x y = refl
+numbers_renumbered n Less x y = refl
+numbers_renumbered n AtMost x y = refl
+numbers_renumbered n Greater x y = refl
+numbers_renumbered n AtLeast x y = refl
+numbers_renumbered n Member x y = refl
+numbers_renumbered n NotMember x y = refl
+numbers_renumbered n Sub x y = refl
+
+sets_renumbered : (n : Numbering) (rel : Rel) (x y : ℕ) → renumbered n (sets_relate rel x y) ≡ sets_relate rel (n.number Two x) (n.number Two y)
+sets_renumbered n Equal x y = refl
+sets_renumbered n Differs x y = refl
+sets_renumbered n Less x y = refl
+sets_renumbered n AtMost x y = refl
+sets_renumbered n Greater x y = refl
+sets_renumbered n AtLeast x y = refl
+sets_renumbered n Member x y = refl
+sets_renumbered n NotMember x y = refl
+sets_renumbered n Sub x y = refl
+
+two_defined : (n : Numbering) (o p : Order) (S T : TermSpread) (free : ℕ) (two : TermPair) (Rel : ℕ → ℕ → CoreForm) (f : CoreForm) → AreDefined n o S p T free two →
+    f ≡ renumbered n (Rel two.first.name two.second.name) → below two.first (below two.second f) ≡ renumbered n (S free (λ free x. T free (λ free y. Rel x y)))
+two_defined n o p S T free two Rel f are is =
+    ap (λ g. below two.first (below two.second g)) is
+    ∙ (ap (below two.first) (sym (are.second.says (λ free y. Rel two.first.name y))) ∙ sym (are.first.says (λ free x. T free (λ free y. Rel x y))))
+
+module _ (n : Numbering) (c : Callees) (names : Names) (free : ℕ) (source : Formula) where
+  pub and_lowered : (fs all : List Formula) (cores : List Core) → source ≡ form.And fs → all ≡ fs → map core_form_of cores ≡ map (renumbered n) (spread_each c (forms (map formula_of all)) names free) →
+      conjunction_of (map core_form_of cores) ≡ renumbered n (spread_under c (formula_of source) names free)
+  and_lowered fs all cores is same made =
+      ap conjunction_of made
+      ∙ (sym (conjunction_renumbered n (spread_each c (forms (map formula_of all)) names free))
+      ∙ (ap (λ l. renumbered n (conjunction_of (spread_each c (forms (map formula_of l)) names free))) same
+      ∙ ap (λ f. renumbered n (spread_under c f names free)) (sym (ap formula_of is ∙ formula_of-And fs))))
+
+  pub or_lowered : (fs all : List Formula) (cores : List Core) → source ≡ form.Or fs → all ≡ fs → map core_form_of cores ≡ map (renumbered n) (spread_each c (forms (map formula_of all)) names free) →
+      disjunction_over (map core_form_of cores) ≡ renumbered n (spread_under c (formula_of source) names free)
+  or_lowered fs all cores is same made =
+      ap disjunction_over made
+      ∙ (ap disjunction (sym (each_renumbered n (spread_each c (forms (map formula_of all)) names free)))
+      ∙ (ap (λ l. renumbered n (disjunction_over (spread_each c (forms (map formula_of l)) names free))) same
+      ∙ ap (λ f. renumbered n (spread_under c f names free)) (sym (ap formula_of is ∙ formula_of-Or fs))))
+
+  pub compare_lowered : (rel : Rel) (t u : Term1) (two : TermPair) → source ≡ form.Compare rel t u → AreDefined n One (spread_number (term_of t) names) One (spread_number (term_of u) names) free two →
+      below two.first (below two.second (numbers_relate rel two.first.number two.second.number)) ≡ renumbered n (spread_under c (formula_of source) names free)
+  compare_lowered rel t u two is are =
+      two_defined n One One (spread_number (term_of t) names) (spread_number (term_of u) names) free two (numbers_relate rel) (numbers_relate rel two.first.number two.second.number) are
+      (ap (λ x. numbers_relate rel x two.second.number) are.first.number_is ∙ (ap (numbers_relate rel (n.number One two.first.name)) are.second.number_is ∙ sym (numbers_renumbered n rel two.first.name two.second.name)))
+      ∙ ap (λ f. renumbered n (spread_under c f names free)) (sym (ap formula_of is ∙ formula_of-Compare rel t u))
+
+  pub compare_sets_lowered : (rel : Rel) (s t : Term2) (two : TermPair) → source ≡ form.CompareSets rel s t → AreDefined n Two (spread_set (set_term_of s) names) Two (spread_set (set_term_of t) names) free two →
+      below two.first (below two.second (sets_relate rel two.first.number two.second.number)) ≡ renumbered n (spread_under c (formula_of source) names free)
+  compare_sets_lowered rel s t two is are =
+      two_defined n Two Two (spread_set (set_term_of s) names) (spread_set (set_term_of t) names) free two (sets_relate rel) (sets_relate rel two.first.number two.second.number) are
+      (ap (λ x. sets_relate rel x two.second.number) are.first.number_is ∙ (ap (sets_relate rel (n.number Two two.first.name)) are.second.number_is ∙ sym (sets_renumbered n rel two.first.name two.second.name)))
+      ∙ ap (λ f. renumbered n (spread_under c f names free)) (sym (ap formula_of is ∙ formula_of-CompareSets rel s t))
+
+  pub bind_lowered : (q : Quant) (o : Order) (x : ℕ) (d : Option Formula) (f : Formula) (inner deeper : Names) (number : ℕ) (domain : CoreRestriction) (body : CoreForm) → source ≡ form.Bind q o x d f →
+      inner ≡ named o x free names → deeper ≡ inner → number ≡ n.number o free → domain ≡ renumbered_in n (spread_restriction c (restriction (option_map formula_of d)) inner (free + 1)) →
+      body ≡ renumbered n (spread_under c (formula_of f) deeper (free + 1)) → quantified q o number domain body ≡ renumbered n (spread_under c (formula_of source) names free)
+  bind_lowered q o x d f inner deeper number domain body is named_is same number_is domain_is body_is =
+      ap (λ k. quantified q o k domain body) number_is
+      ∙ (ap (λ e. quantified q o (n.number o free) e body) (domain_is ∙ ap (λ m. renumbered_in n (spread_restriction c (restriction (option_map formula_of d)) m (free + 1))) named_is)
+      ∙ (ap (quantified q o (n.number o free) (renumbered_in n (spread_restriction c (restriction (option_map formula_of d)) (named o x free names) (free + 1)))) (body_is ∙ ap (λ m. renumbered n (spread_under c (formula_of f) m (free + 1))) (same ∙ named_is))
+      ∙ ap (λ g. renumbered n (spread_under c g names free)) (sym (ap formula_of is ∙ formula_of-Bind q o x d f))))
+
+  pub let_lowered : (bindings all : List Binding) (f : Formula) (under : CoreForm → CoreForm) (inner : Names) (next : ℕ) (body : CoreForm) → source ≡ form.Let bindings f → all ≡ bindings →
+      renumbered n (numbers_and_sets (map (λ b. b.0) (map binding_of all)) (arguments (map (λ b. b.1) (map binding_of all))) names names free (λ inner free. truth_values c (map (λ b. b.0) (map binding_of all)) (arguments (map (λ b. b.1) (map binding_of all))) names inner free (λ inner free. spread_under c (formula_of f) inner free)))
+      ≡ under (renumbered n (spread_under c (formula_of f) inner next)) →
+      body ≡ renumbered n (spread_under c (formula_of f) inner next) → under body ≡ renumbered n (spread_under c (formula_of source) names free)
+  let_lowered bindings all f under inner next body is same entered body_is =
+      ap under body_is
+      ∙ (sym entered
+      ∙ (ap (λ bs. renumbered n (numbers_and_sets (map (λ b. b.0) (map binding_of bs)) (arguments (map (λ b. b.1) (map binding_of bs))) names names free (λ inner free. truth_values c (map (λ b. b.0) (map binding_of bs)) (arguments (map (λ b. b.1) (map binding_of bs))) names inner free (λ inner free. spread_under c (formula_of f) inner free)))) same
+      ∙ ap (λ g. renumbered n (spread_under c g names free)) (sym (ap formula_of is ∙ formula_of-Let bindings f))))
+
+  pub call_lowered : (p : ℕ) (xs : List ℕ) (given all : List Arg) (under : CoreForm → CoreForm) (inner : Names) (next : ℕ) (body : CoreForm) → source ≡ form.Call p given → xs ≡ c.parameters p → all ≡ given →
+      renumbered n (numbers_and_sets xs (arguments (map argument_of all)) names names free (λ inner free. truth_values c xs (arguments (map argument_of all)) names inner free (λ inner free. c.body p inner free))) ≡ under (renumbered n (c.body p inner next)) →
+      body ≡ renumbered n (c.body p inner next) → under body ≡ renumbered n (spread_under c (formula_of source) names free)
+  call_lowered p xs given all under inner next body is params same entered body_is =
+      ap under body_is
+      ∙ (sym entered
+      ∙ (ap (λ vs. renumbered n (numbers_and_sets xs (arguments (map argument_of vs)) names names free (λ inner free. truth_values c xs (arguments (map argument_of vs)) names inner free (λ inner free. c.body p inner free)))) same
+      ∙ (ap (λ ys. renumbered n (numbers_and_sets ys (arguments (map argument_of given)) names names free (λ inner free. truth_values c ys (arguments (map argument_of given)) names inner free (λ inner free. c.body p inner free)))) params
+      ∙ ap (λ g. renumbered n (spread_under c g names free)) (sym (ap formula_of is ∙ formula_of-Call p given)))))
+
+-- the restrictions and the body of a predicate
+pub called_lowered : (n m : Numbering) (c before own : Callees) (number : ℕ) (q : Predicate) (names : Names) (free : ℕ) (cores made : List Core) (body : Core) → IsCallee c before number q → own ≡ before → m ≡ n →
+    map core_form_of cores ≡ map (renumbered m) (restrictions_of own q.parameters names free) → core_form_of body ≡ renumbered m (spread_under own q.body names free) → made ≡ cores ++ body ∷ [] →
+    conjunction_of (map core_form_of made) ≡ renumbered n (c.body number names free)
+called_lowered n m c before own number q names free cores made body callee same numbers cores_are body_is made_is =
+    ap (λ l. conjunction_of (map core_form_of l)) made_is
+    ∙ (ap conjunction_of (map-append core_form_of cores (body ∷ []) ∙ (ap (λ l. l ++ core_form_of body ∷ []) cores_are ∙ ap (λ b. map (renumbered m) (restrictions_of own q.parameters names free) ++ b ∷ []) body_is))
+    ∙ (ap conjunction_of (sym (map-append (renumbered m) (restrictions_of own q.parameters names free) (spread_under own q.body names free ∷ [])))
+    ∙ (sym (conjunction_renumbered m (restrictions_of own q.parameters names free ++ spread_under own q.body names free ∷ []))
+    ∙ (ap (λ k. renumbered k (conjunction_of (restrictions_of own q.parameters names free ++ spread_under own q.body names free ∷ []))) numbers
+    ∙ (ap (λ k. renumbered n (conjunction_of (restrictions_of k q.parameters names free ++ spread_under k q.body names free ∷ []))) same
+    ∙ ap (λ b. renumbered n (b names free)) (sym callee.body))))))
+
+-- a truth value that is a variable
+pub truth_lowered : (n : Numbering) (c : Callees) (value : Arg) (f : Formula) (names : Names) (free x : ℕ) (made : Defined) → value ≡ arg.Zero f → Some x ≡ variable_of_form (formula_of f) →
+    IsGiven n Zero (truth_value (Some (names Zero x)) (spread_under c (formula_of f) names)) free made → IsTruth n c (argument_of value) names free (Some made)
+truth_lowered n c value f names free x made is variable given =
+    subst (λ a. IsTruth n c a names free (Some made)) (sym (ap argument_of is ∙ argument_of-Zero f))
+    (made, refl, subst (λ o. IsGiven n Zero (truth_value (option_map (names Zero) o) (spread_under c (formula_of f) names)) free made) variable given)
+
+-- a default restriction at a variable
+pub default_lowered : (n m : Numbering) (c before own : Callees) (number : ℕ) (q : Predicate) (x : ℕ) (names inner : Names) (free : ℕ) (core : CoreForm) → IsCallee c before number q → own ≡ before → m ≡ n →
+    inner ≡ default_names q.parameters x names → core ≡ renumbered m (spread_under own q.body inner free) → core ≡ renumbered n (c.default number x names free)
+default_lowered n m c before own number q x names inner free core callee same numbers inner_is core_is =
+    core_is
+    ∙ (ap (λ k. renumbered k (spread_under own q.body inner free)) numbers
+    ∙ (ap (λ k. renumbered n (spread_under k q.body inner free)) same
+    ∙ (ap (λ k. renumbered n (spread_under before q.body k free)) inner_is
+    ∙ ap (λ b. renumbered n (b x names free)) (sym callee.default))))

@@ -1,0 +1,131 @@
+-- The main root.
+use Rattle.std.proofs.Common.{◌≡◌, ℕ, zero, suc, ◌+◌, ◌*◌, ◌-◌, ◌<◌, ◌≤◌, cond, max, min, slice_get, List, [], ◌∷◌, ◌++◌, length, map, take, get_or, Some, None, refl, sym, ap, ◌∙◌, arith, append-nil}
+use Rattle.std.proofs.lemmas.Bool.{lt-ltb}
+use Rattle.std.proofs.lemmas.List.{map-append, take_more}
+use Rattle.std.proofs.lemmas.List.FromFn.{map-range_with_len_more}
+use Rattle.std.specs.List.{range_with_len}
+use Rattle.std.specs.Option.{option_map}
+use Rattle.ms_logic.specs.declared.checked.Global.{Global}
+use Rattle.ms_logic.specs.declared.checked.Placed.{Placed}
+use Rattle.ms_logic.specs.declared.core_formula.Core.{Core}
+use Rattle.ms_logic.specs.declared.core_formula.Root as code
+use Rattle.ms_logic.specs.declared.formula.Formula.{Formula}
+use Rattle.ms_logic.specs.declared.mode.Order.{Order}
+use Rattle.ms_logic.specs.Assignment.{Variable}
+use Rattle.ms_logic.specs.CoreForm.{core_form_of, restrict}
+use Rattle.ms_logic.specs.Roots.{first_free}
+use Rattle.ms_logic.specs.Spread.{Callees, Names, conjunction_of, own_names, restriction_before, restrictions_of, spread_each, spread_under}
+use Rattle.ms_logic.specs.Tree.{Declaration}
+use Rattle.ms_logic.specs.View.{formula_of, forms, globals_from, restriction}
+use Rattle.ms_lower.specs.declared.tables.Tables.{Tables}
+use Rattle.ms_lower.specs.Callees.{callees_in}
+use Rattle.ms_lower.specs.NumberedRoots.{NumberedRoot, main_over, numbering_over, renumbered_root, root_of}
+use Rattle.ms_lower.specs.Numbering.{Numbering, number_at, numbering_of, rank, renumbered, variables_of_use}
+use Rattle.ms_lower.proofs.Lowering.{conjunction_renumbered}
+use Rattle.ms_lower.proofs.Operands.{restrictions-append, spread_each-append}
+use Rattle.ms_lower.proofs.Parts.{map-more}
+
+global_at : ℕ → Global → Declaration
+global_at name g = record { variable = record { name = name; order = g.order }; restriction = restriction (option_map formula_of g.domain) }
+
+globals_from-append : (k : ℕ) (gs : List Global) (g : Global) → globals_from k (gs ++ g ∷ []) ≡ globals_from k gs ++ global_at (k + length gs) g ∷ []
+unfolding global_at
+globals_from-append k [] g = let at : k ≡ k + 0 = omega arith in ap (λ m. global_at m g ∷ []) at
+globals_from-append k (h ∷ gs) g =
+    let at : k + 1 + length gs ≡ k + length (h ∷ gs) = omega arith in
+    ap (λ l. global_at k h ∷ l) (globals_from-append (k + 1) gs g ∙ ap (λ m. globals_from (k + 1) gs ++ global_at m g ∷ []) at)
+
+globals-more : (gs : List Global) (i : ℕ) (g : Global) → i < length gs → g ≡ get_or gs i g → globals_from 0 (take (i + 1) gs) ≡ globals_from 0 (take i gs) ++ global_at (0 + length (take i gs)) g ∷ []
+globals-more gs i g below is =
+    ap (globals_from 0) (take_more gs i g below ∙ ap (λ y. take i gs ++ y ∷ []) (sym is)) ∙ globals_from-append 0 (take i gs) g
+
+module _ (n : Numbering) (c : Callees) (names : Names) (free : ℕ) where
+  -- one global more
+  pub global-restricted : (gs : List Global) (i : ℕ) (g : Global) (cores made : List Core) (core : Core) (d : Formula) → i < length gs → g ≡ get_or gs i g → g.domain ≡ Some d →
+      map core_form_of cores ≡ map (renumbered n) (restrictions_of c (globals_from 0 (take i gs)) names free) → core_form_of core ≡ restrict (renumbered n (spread_under c (formula_of d) names free)) →
+      made ≡ cores ++ core ∷ [] → map core_form_of made ≡ map (renumbered n) (restrictions_of c (globals_from 0 (take (i + 1) gs)) names free)
+  unfolding global_at
+  global-restricted gs i g cores made core d below is domain before one made_is =
+      let front = restrictions_of c (globals_from 0 (take i gs)) names free in
+      ap (map core_form_of) made_is
+      ∙ (map-append core_form_of cores (core ∷ [])
+      ∙ (ap (λ l. l ++ core_form_of core ∷ []) before
+      ∙ (ap (λ k. map (renumbered n) (restrictions_of c (globals_from 0 (take i gs)) names free) ++ k ∷ []) one
+      ∙ (sym (map-append (renumbered n) (restrictions_of c (globals_from 0 (take i gs)) names free) (restrict (spread_under c (formula_of d) names free) ∷ []))
+      ∙ (ap (λ o. map (renumbered n) (restrictions_of c (globals_from 0 (take i gs)) names free ++ restriction_before c (restriction (option_map formula_of o)) names free [])) (sym domain)
+      ∙ (ap (map (renumbered n)) (sym (restrictions-append n c names free (globals_from 0 (take i gs)) (global_at (0 + length (take i gs)) g)))
+      ∙ ap (λ l. map (renumbered n) (restrictions_of c l names free)) (sym (globals-more gs i g below is))))))))
+
+  pub global-free : (gs : List Global) (i : ℕ) (g : Global) (cores : List Core) → i < length gs → g ≡ get_or gs i g → g.domain ≡ None →
+      map core_form_of cores ≡ map (renumbered n) (restrictions_of c (globals_from 0 (take i gs)) names free) →
+      map core_form_of cores ≡ map (renumbered n) (restrictions_of c (globals_from 0 (take (i + 1) gs)) names free)
+  unfolding global_at
+  global-free gs i g cores below is domain before =
+      before
+      ∙ (ap (map (renumbered n)) (sym (append-nil (restrictions_of c (globals_from 0 (take i gs)) names free)))
+      ∙ (ap (λ o. map (renumbered n) (restrictions_of c (globals_from 0 (take i gs)) names free ++ restriction_before c (restriction (option_map formula_of o)) names free [])) (sym domain)
+      ∙ (ap (map (renumbered n)) (sym (restrictions-append n c names free (globals_from 0 (take i gs)) (global_at (0 + length (take i gs)) g)))
+      ∙ ap (λ l. map (renumbered n) (restrictions_of c l names free)) (sym (globals-more gs i g below is)))))
+
+  -- one formula more
+  pub placed-more : (ps : List Placed) (i : ℕ) (p : Placed) (cores made : List Core) (core : Core) → i < length ps → p ≡ get_or ps i p →
+      map core_form_of cores ≡ map (renumbered n) (spread_each c (forms (map (λ placed. formula_of placed.formula) (take i ps))) names free) → core_form_of core ≡ renumbered n (spread_under c (formula_of p.formula) names free) →
+      made ≡ cores ++ core ∷ [] → map core_form_of made ≡ map (renumbered n) (spread_each c (forms (map (λ placed. formula_of placed.formula) (take (i + 1) ps))) names free)
+  placed-more ps i p cores made core below is before one made_is =
+      ap (map core_form_of) made_is
+      ∙ (map-append core_form_of cores (core ∷ [])
+      ∙ (ap (λ l. l ++ core_form_of core ∷ []) before
+      ∙ (ap (λ k. map (renumbered n) (spread_each c (forms (map (λ placed. formula_of placed.formula) (take i ps))) names free) ++ k ∷ []) one
+      ∙ (sym (map-append (renumbered n) (spread_each c (forms (map (λ placed. formula_of placed.formula) (take i ps))) names free) (spread_under c (formula_of p.formula) names free ∷ []))
+      ∙ (ap (map (renumbered n)) (sym (spread_each-append c (map (λ placed. formula_of placed.formula) (take i ps)) (formula_of p.formula) names free))
+      ∙ ap (λ l. map (renumbered n) (spread_each c (forms l) names free)) (sym (map-more (λ placed. formula_of placed.formula) ps i p below is)))))))
+
+-- the numbers from 0 on
+range_is_map : (a n : ℕ) → map (λ x. let k : ℕ = x in k) (range_with_len a n) ≡ range_with_len a n
+range_is_map a zero = refl
+range_is_map a (suc n) = ap (λ l. a ∷ l) (range_is_map (a + 1) n)
+
+pub range-more : (n : ℕ) → range_with_len 0 n ++ n ∷ [] ≡ range_with_len 0 (n + 1)
+range-more n =
+    ap (λ l. l ++ n ∷ []) (sym (range_is_map 0 n))
+    ∙ (sym (map-range_with_len_more (λ x. let k : ℕ = x in k) 0 n n (omega arith)) ∙ range_is_map 0 (n + 1))
+
+-- globals keep their numbers
+pub global-number : (kept globals : ℕ) (o : Order) (x : ℕ) → x < kept → number_at kept globals o x ≡ x
+global-number kept globals o x below = ap (λ b. cond b x (globals + (3 * (x - kept) + rank o))) (lt-ltb x kept below)
+
+globals_kept : (globals k : ℕ) (gs : List Global) → k + length gs ≤ globals → range_with_len k (length gs) ≡ map (λ v. number_at globals globals v.order v.name) (map (λ d. d.variable) (globals_from k gs))
+globals_kept globals k [] within = refl
+globals_kept globals k (g ∷ gs) within =
+    ap (λ x. x ∷ range_with_len (k + 1) (length gs)) (sym (global-number globals globals g.order k (omega arith)))
+    ∙ ap (λ l. number_at globals globals g.order k ∷ l) (globals_kept globals (k + 1) gs (omega arith))
+
+-- the first number that is free behind the globals
+first_free_from : (k : ℕ) (g : Global) (gs : List Global) → first_free (map (λ d. d.variable) (globals_from k (g ∷ gs))) ≡ k + 1 + length gs
+first_free_from k g [] = omega arith
+first_free_from k g (h ∷ gs) = ap (max (k + 1)) (first_free_from (k + 1) h gs) ∙ omega arith
+
+pub first_free_globals : (gs : List Global) → first_free (map (λ d. d.variable) (globals_from 0 gs)) ≡ length gs
+first_free_globals [] = refl
+first_free_globals (g ∷ gs) = first_free_from 0 g gs ∙ omega arith
+
+pub main_made : (tables : Tables) (gs : List Global) (fs : List Placed) (front later all : List Core) (core : Core) (numbers : List ℕ) → length gs ≡ tables.globals → tables.kept ≡ tables.globals →
+    map core_form_of front ≡ map (renumbered (numbering_of tables)) (restrictions_of (callees_in tables) (globals_from 0 gs) own_names tables.globals) →
+    map core_form_of later ≡ map (renumbered (numbering_of tables)) (spread_each (callees_in tables) (forms (map (λ placed. formula_of placed.formula) fs)) own_names tables.globals) →
+    all ≡ front ++ later → core_form_of core ≡ conjunction_of (map core_form_of all) → numbers ≡ range_with_len 0 tables.globals →
+    (let root : code.Root = record { variables = numbers; core = core } in root_of root) ≡ renumbered_root tables (main_over tables gs fs)
+main_made tables gs fs front later all core numbers count kept front_is later_is all_is core_is numbers_are =
+    let vs : List Variable = map (λ d. d.variable) (globals_from 0 gs) in
+    let free : tables.globals ≡ first_free vs = sym count ∙ sym (first_free_globals gs) in
+    let own : min tables.globals (first_free vs) ≡ tables.globals = omega (arith, free) in
+    let n : numbering_of tables ≡ numbering_over tables vs = ap (λ k. let m : Numbering = record { number = number_at k tables.globals; imported = λ i. variables_of_use (slice_get tables.imports.now i) } in m) (kept ∙ sym own) in
+    ap (λ l. let r : NumberedRoot = record { variables = l; formula = core_form_of core } in r)
+    (numbers_are ∙ (ap (range_with_len 0) (sym count) ∙ (globals_kept tables.globals 0 gs (omega (arith, count)) ∙ ap (λ k. map (λ v. number_at k tables.globals v.order v.name) vs) (sym own))))
+    ∙ ap (λ g. let r : NumberedRoot = record { variables = map (λ v. (numbering_over tables vs).number v.order v.name) vs; formula = g } in r)
+    (core_is
+    ∙ (ap (λ l. conjunction_of (map core_form_of l)) all_is
+    ∙ (ap conjunction_of (map-append core_form_of front later ∙ (ap (λ l. l ++ map core_form_of later) front_is ∙ (ap (λ l. map (renumbered (numbering_of tables)) (restrictions_of (callees_in tables) (globals_from 0 gs) own_names tables.globals) ++ l) later_is
+    ∙ sym (map-append (renumbered (numbering_of tables)) (restrictions_of (callees_in tables) (globals_from 0 gs) own_names tables.globals) (spread_each (callees_in tables) (forms (map (λ placed. formula_of placed.formula) fs)) own_names tables.globals)))))
+    ∙ (sym (conjunction_renumbered (numbering_of tables) (restrictions_of (callees_in tables) (globals_from 0 gs) own_names tables.globals ++ spread_each (callees_in tables) (forms (map (λ placed. formula_of placed.formula) fs)) own_names tables.globals))
+    ∙ (ap (λ m. renumbered m (conjunction_of (restrictions_of (callees_in tables) (globals_from 0 gs) own_names tables.globals ++ spread_each (callees_in tables) (forms (map (λ placed. formula_of placed.formula) fs)) own_names tables.globals))) n
+    ∙ ap (λ k. renumbered (numbering_over tables vs) (conjunction_of (restrictions_of (callees_in tables) (globals_from 0 gs) own_names k ++ spread_each (callees_in tables) (forms (map (λ placed. formula_of placed.formula) fs)) own_names k))) free)))))

@@ -1,0 +1,61 @@
+-- One operand or one parameter more.
+use Rattle.std.proofs.Common.{◌≡◌, ℕ, ◌+◌, ◌<◌, List, [], ◌∷◌, ◌++◌, length, map, take, get_or, Some, None, refl, sym, ap, ◌∙◌, append-nil}
+use Rattle.std.proofs.lemmas.List.{map-append}
+use Rattle.std.specs.Option.{option_map}
+use Rattle.ms_logic.specs.declared.checked.Param.{Param}
+use Rattle.ms_logic.specs.declared.core_formula.Core.{Core}
+use Rattle.ms_logic.specs.declared.formula.Formula.{Formula}
+use Rattle.ms_logic.specs.CoreForm.{CoreForm, core_form_of, restrict}
+use Rattle.ms_logic.specs.Spread.{Callees, Names, restriction_before, restrictions_of, spread_each, spread_under}
+use Rattle.ms_logic.specs.Tree.{Form, Declaration, Restriction, unrestricted, restricted}
+use Rattle.ms_logic.specs.View.{declaration_of, formula_of, forms, restriction}
+use Rattle.ms_lower.specs.Numbering.{Numbering, renumbered}
+use Rattle.ms_lower.proofs.Parts.{map-more}
+
+pub spread_each-append : (c : Callees) (fs : List Form) (f : Form) (names : Names) (free : ℕ) → spread_each c (forms (fs ++ f ∷ [])) names free ≡ spread_each c (forms fs) names free ++ spread_under c f names free ∷ []
+spread_each-append c [] f names free = refl
+spread_each-append c (g ∷ fs) f names free = ap (λ l. spread_under c g names free ∷ l) (spread_each-append c fs f names free)
+
+module _ (n : Numbering) (c : Callees) (names : Names) (free : ℕ) where
+  pub each-more : (fs : List Formula) (i : ℕ) (f : Formula) (cores made : List Core) (core : Core) → i < length fs → f ≡ get_or fs i f →
+      map core_form_of cores ≡ map (renumbered n) (spread_each c (forms (map formula_of (take i fs))) names free) → core_form_of core ≡ renumbered n (spread_under c (formula_of f) names free) →
+      made ≡ cores ++ core ∷ [] → map core_form_of made ≡ map (renumbered n) (spread_each c (forms (map formula_of (take (i + 1) fs))) names free)
+  each-more fs i f cores made core below is before one made_is =
+      ap (map core_form_of) made_is
+      ∙ (map-append core_form_of cores (core ∷ [])
+      ∙ (ap (λ l. l ++ core_form_of core ∷ []) before
+      ∙ (ap (λ k. map (renumbered n) (spread_each c (forms (map formula_of (take i fs))) names free) ++ k ∷ []) one
+      ∙ (sym (map-append (renumbered n) (spread_each c (forms (map formula_of (take i fs))) names free) (spread_under c (formula_of f) names free ∷ []))
+      ∙ (ap (map (renumbered n)) (sym (spread_each-append c (map formula_of (take i fs)) (formula_of f) names free))
+      ∙ ap (λ l. map (renumbered n) (spread_each c (forms l) names free)) (sym (map-more formula_of fs i f below is)))))))
+
+  before-append : (r : Restriction) (xs ys : List CoreForm) → restriction_before c r names free (xs ++ ys) ≡ restriction_before c r names free xs ++ ys
+  before-append unrestricted xs ys = refl
+  before-append (restricted d) xs ys = refl
+
+  pub restrictions-append : (ds : List Declaration) (d : Declaration) → restrictions_of c (ds ++ d ∷ []) names free ≡ restrictions_of c ds names free ++ restriction_before c d.restriction names free []
+  restrictions-append [] d = refl
+  restrictions-append (e ∷ ds) d = ap (restriction_before c e.restriction names free) (restrictions-append ds d) ∙ before-append e.restriction (restrictions_of c ds names free) (restriction_before c d.restriction names free [])
+
+  pub restriction-more : (ps : List Param) (i : ℕ) (p : Param) (cores made : List Core) (core : Core) (d : Formula) → i < length ps → p ≡ get_or ps i p → p.domain ≡ Some d →
+      map core_form_of cores ≡ map (renumbered n) (restrictions_of c (map declaration_of (take i ps)) names free) → core_form_of core ≡ restrict (renumbered n (spread_under c (formula_of d) names free)) →
+      made ≡ cores ++ core ∷ [] → map core_form_of made ≡ map (renumbered n) (restrictions_of c (map declaration_of (take (i + 1) ps)) names free)
+  restriction-more ps i p cores made core d below is domain before one made_is =
+      ap (map core_form_of) made_is
+      ∙ (map-append core_form_of cores (core ∷ [])
+      ∙ (ap (λ l. l ++ core_form_of core ∷ []) before
+      ∙ (ap (λ k. map (renumbered n) (restrictions_of c (map declaration_of (take i ps)) names free) ++ k ∷ []) one
+      ∙ (sym (map-append (renumbered n) (restrictions_of c (map declaration_of (take i ps)) names free) (restrict (spread_under c (formula_of d) names free) ∷ []))
+      ∙ (ap (λ o. map (renumbered n) (restrictions_of c (map declaration_of (take i ps)) names free ++ restriction_before c (restriction (option_map formula_of o)) names free [])) (sym domain)
+      ∙ (ap (map (renumbered n)) (sym (restrictions-append (map declaration_of (take i ps)) (declaration_of p)))
+      ∙ ap (λ l. map (renumbered n) (restrictions_of c l names free)) (sym (map-more declaration_of ps i p below is))))))))
+
+  pub restriction-none : (ps : List Param) (i : ℕ) (p : Param) (cores : List Core) → i < length ps → p ≡ get_or ps i p → p.domain ≡ None →
+      map core_form_of cores ≡ map (renumbered n) (restrictions_of c (map declaration_of (take i ps)) names free) →
+      map core_form_of cores ≡ map (renumbered n) (restrictions_of c (map declaration_of (take (i + 1) ps)) names free)
+  restriction-none ps i p cores below is domain before =
+      before
+      ∙ (ap (map (renumbered n)) (sym (append-nil (restrictions_of c (map declaration_of (take i ps)) names free)))
+      ∙ (ap (λ o. map (renumbered n) (restrictions_of c (map declaration_of (take i ps)) names free ++ restriction_before c (restriction (option_map formula_of o)) names free [])) (sym domain)
+      ∙ (ap (map (renumbered n)) (sym (restrictions-append (map declaration_of (take i ps)) (declaration_of p)))
+      ∙ ap (λ l. map (renumbered n) (restrictions_of c l names free)) (sym (map-more declaration_of ps i p below is)))))

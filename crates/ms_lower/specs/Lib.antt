@@ -1,0 +1,14 @@
+pub mod Callees
+pub mod Counted
+pub mod Defined
+pub mod Extents
+pub mod Given
+pub mod Lowered
+pub mod Measure
+pub mod Numbering
+pub mod NumberLaws
+pub mod NumberedRoots
+pub mod Orders
+pub mod Scope
+pub mod Stands
+pub mod TooDeep

@@ -1,0 +1,91 @@
+-- A source as core formulas.
+use Rattle.std.specs.Prelude.{◌≡◌, ℕ, ◌+◌, List, [], ◌∷◌, length, map, min, slice_get, Some}
+use Rattle.ms_logic.specs.declared.checked.Checked.{Checked}
+use Rattle.ms_logic.specs.declared.checked.ExportUse.{ExportUse}
+use Rattle.ms_logic.specs.declared.core_formula.Root as code
+use Rattle.ms_logic.specs.Assignment.{Variable}
+use Rattle.ms_logic.specs.CoreForm.{core_form_of}
+use Rattle.ms_logic.specs.FreeVariables.{FreeInForms, FreeInRestrictions, IsListed, Reads, reads_of_imports, reads_with_predicates}
+use Rattle.ms_logic.specs.SameUpToBound.{SameRoot}
+use Rattle.ms_lower.specs.NumberLaws.{numbering_in}
+use Rattle.ms_lower.specs.Stands.{Stands, with_new_numbers}
+use Rattle.ms_logic.specs.Roots.{AreFreeVariables, first_free, IsRoot, Root, exports_among}
+use Rattle.ms_logic.specs.Tree.{Form, truth, falsity, truth_variable, negation, conjunction, disjunction, implication, equivalence, comparison, set_comparison, membership, emptiness, quantified, where_let, call, restrict, imported, exported, default_at, Forms, no_forms, more_forms}
+use Rattle.ms_logic.specs.Truth.{Given}
+use Rattle.ms_logic.specs.Verdict.{Problem, variables_of}
+use Rattle.ms_logic.specs.View.{problem_of}
+use Rattle.ms_rules.specs.Numbers.{CountUp}
+use Rattle.ms_lower.specs.Measure.{Answers}
+use Rattle.ms_lower.specs.NumberedRoots.{NumberedRoot, globals_over, variables_of_export, with_orders}
+use Rattle.ms_lower.specs.Numbering.{Numbering, number_at, renumbered, variables_of_use}
+
+-- what predicates and imports read
+abbrev pub reads_of : Given → Reads
+reads_of given = reads_with_predicates (reads_of_imports given.imports) 0 given.predicates
+
+-- at each export in a formula, the variables that the table gives, with the orders that they have there, are the free variables
+-- of its formula
+abbrev mutual
+  pub ExportsFit : Given → List ExportUse → List Variable → Form → Type 0
+  ExportsFit given exports seen truth = Unit {0}
+  ExportsFit given exports seen falsity = Unit {0}
+  ExportsFit given exports seen (truth_variable x) = Unit {0}
+  ExportsFit given exports seen (negation f) = ExportsFit given exports seen f
+  ExportsFit given exports seen (conjunction fs) = ExportsFitEach given exports seen fs
+  ExportsFit given exports seen (disjunction fs) = ExportsFitEach given exports seen fs
+  ExportsFit given exports seen (implication f g) = ExportsFit given exports seen f × ExportsFit given exports seen g
+  ExportsFit given exports seen (equivalence f g) = ExportsFit given exports seen f × ExportsFit given exports seen g
+  ExportsFit given exports seen (comparison r t u) = Unit {0}
+  ExportsFit given exports seen (set_comparison r s t) = Unit {0}
+  ExportsFit given exports seen (membership positive t s) = Unit {0}
+  ExportsFit given exports seen (emptiness s) = Unit {0}
+  ExportsFit given exports seen (quantified q o x d f) = ExportsFit given exports (record { name = x; order = o } ∷ seen) f
+  ExportsFit given exports seen (where_let xs right_sides f) = Unit {0}
+  ExportsFit given exports seen (call p values) = Unit {0}
+  ExportsFit given exports seen (restrict f) = ExportsFit given exports seen f
+  ExportsFit given exports seen (imported i) = Unit {0}
+  ExportsFit given exports seen (exported i f) =
+      AreFreeVariables given f (with_orders seen (variables_of_export (slice_get exports i))) × ExportsFit given exports seen f
+  ExportsFit given exports seen (default_at p x) = Unit {0}
+
+  pub ExportsFitEach : Given → List ExportUse → List Variable → Forms → Type 0
+  ExportsFitEach given exports seen no_forms = Unit {0}
+  ExportsFitEach given exports seen (more_forms f fs) = ExportsFit given exports seen f × ExportsFitEach given exports seen fs
+
+-- The variables of the roots of a checked source: the globals are all variables that are free in its formulas and restrictions; and its
+-- exports stand where the roots look for them, in the order of the table, with their free variables.
+pub record ListsVariables (checked : Checked) (problem : Problem) : Type 0 where
+  pub restrictions : (w : Variable) → FreeInRestrictions (reads_of problem.given) problem.globals w → IsListed (variables_of problem.globals) w
+  pub formulas : (w : Variable) → FreeInForms (reads_of problem.given) problem.formulas w → IsListed (variables_of problem.globals) w
+  pub numbers : CountUp 0 (map (λ e. e.number) (exports_among problem.formulas)) (length checked.exports)
+  pub fit : ExportsFitEach problem.given checked.exports (globals_over 0 [] checked.globals) problem.formulas
+
+-- the numbers of the answer for a root over some variables
+abbrev pub numbering_for : Checked → List Variable → Numbering
+numbering_for checked vs = record {
+  number = number_at (min (length checked.globals) (first_free vs)) (length checked.globals);
+  imported = λ i. variables_of_use (slice_get checked.imports i);
+}
+
+-- a root of the spread with the numbers of the answer
+abbrev pub with_numbers : Checked → Root → NumberedRoot
+with_numbers checked r = record {
+  variables = map (λ v. (numbering_for checked r.variables).number v.order v.name) r.variables;
+  formula = renumbered (numbering_for checked r.variables) r.formula;
+}
+
+-- A root of the answer with the orders of its variables is the root of the source with its number, up to the numbers of bound
+-- variables. Its variables stand in their scopes, where a bound variable has a greater number than those in scope.
+pub record IsRootFor (checked : Checked) (problem : Problem) (k : ℕ) (root : code.Root) : Type 0 where
+  pub own : Root
+  pub is_root : IsRoot problem k own
+  pub made : Root
+  pub variables : map (λ v. v.name) made.variables ≡ root.variables
+  pub formula : made.formula ≡ core_form_of root.core
+  pub same : SameRoot problem.given.imports (length checked.globals) own made
+  pub stands : Stands problem.given.imports made.variables made.formula
+  pub numbers : made ≡ with_new_numbers (numbering_in (length checked.globals) problem.given.imports own) own
+
+pub record HasRoots (checked : Checked) (answers : Answers) (roots : List code.Root) : Type 0 where
+  pub count : length roots ≡ 1 + length checked.exports
+  pub each : (k : ℕ) (root : code.Root) → slice_get roots k ≡ Some root → IsRootFor checked (problem_of checked answers) k root

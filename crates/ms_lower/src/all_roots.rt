@@ -1,0 +1,50 @@
+ghost use Rattle.ms_lower.specs.NumberedRoots.{all_roots, globals_over, renumbered_root, root_of, seen_over};
+ghost use Rattle.std.specs.Prelude.{◌≡◌, [], length, map, IfOk};
+
+use crate::exports::{joined, roots};
+use crate::main_root::main_root;
+use crate::scope::{Named, Scope};
+use crate::tables::Tables;
+use ms_edge::{List, NoMemory, push};
+use ms_logic::{Checked, Global, Root};
+
+// The globals, which all formulas see.
+fn see_globals(tables: &Tables, globals: &[Global]) -> Result<Scope, NoMemory>
+    requires { length globals.now ≡ tables.now.globals }
+    ensures { IfOk result (λ seen. seen_over [] seen ≡ globals_over 0 [] globals.now) }
+{
+    let mut seen = Scope::new(tables.alloc);
+    let mut number = 0;
+    for global in globals {
+        let named = Named {
+            order: global.order,
+            variable: number,
+            name: 0,
+        };
+        seen.enter(named)?;
+        number += 1;
+    }
+    Ok(seen)
+}
+
+/// The main root of a source, and the roots of its exports.
+pub fn all_roots(tables: &Tables, checked: &Checked) -> Result<List<Root>, NoMemory>
+    requires globals { length checked.now.globals ≡ tables.now.globals }
+    requires kept { tables.now.kept ≡ tables.now.globals }
+    ensures { IfOk result (λ roots. map root_of roots ≡ map (renumbered_root tables.now)
+        (all_roots tables.now checked.now.exports checked.now.globals checked.now.formulas)) }
+{
+    let globals = checked.globals.slice();
+    let exports = checked.exports.slice();
+    let mut seen = see_globals(tables, globals)?;
+    let mut all = List::new(tables.alloc);
+    push(
+        &mut all,
+        main_root(tables, globals, checked.formulas.slice())?,
+    )?;
+    for placed in checked.formulas.slice() {
+        let inside = roots(tables, exports, &mut seen, &placed.formula)?;
+        all = joined(all, inside)?;
+    }
+    Ok(all)
+}

@@ -1,0 +1,31 @@
+//! From the typed tree of a source to core formulas: its size and depth after expansion, and the spread of its roots.
+#![tactic(auto)]
+
+mod all_roots;
+mod arguments;
+mod atoms;
+mod called;
+mod cores;
+mod counted;
+mod defined;
+mod exports;
+mod extents;
+mod formulas;
+mod given;
+mod laws;
+mod main_root;
+mod orders;
+mod pairs;
+mod predicate_extents;
+mod relations;
+mod scope;
+mod source;
+mod source_extents;
+mod source_measure;
+mod tables;
+mod term_extents;
+mod terms;
+mod truths;
+
+pub use laws::laws_of_numbers;
+pub use source::lower;

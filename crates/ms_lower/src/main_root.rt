@@ -1,0 +1,79 @@
+ghost use Rattle.ms_logic.specs.CoreForm.{core_form_of};
+ghost use Rattle.ms_logic.specs.Spread.{own_names, restrictions_of, spread_each};
+ghost use Rattle.ms_logic.specs.View.{formula_of, forms, globals_from};
+ghost use Rattle.ms_lower.specs.Callees.{callees_in};
+ghost use Rattle.ms_lower.specs.NumberedRoots.{main_over, renumbered_root, root_of};
+ghost use Rattle.ms_lower.specs.Numbering.{numbering_of, renumbered};
+ghost use Rattle.std.specs.List.{range_with_len};
+ghost use Rattle.std.specs.Prelude.{◌≡◌, length, map, IfOk};
+
+use crate::exports::joined;
+use crate::formulas::{DEPTH, formula};
+use crate::relations::{conjunction, restricted};
+use crate::scope::Scope;
+use crate::tables::Tables;
+use ms_edge::{List, NoMemory, push};
+use ms_logic::{Core, Global, Placed, Root};
+
+// `restrict` of each restriction of the globals.
+fn global_restrictions(
+    tables: &Tables,
+    globals: &[Global],
+    free: u64,
+) -> Result<List<Core>, NoMemory>
+    ensures { IfOk result (λ cores. map core_form_of cores ≡ map (renumbered (numbering_of tables.now))
+        (restrictions_of (callees_in tables.now) (globals_from 0 globals.now) own_names free)) }
+{
+    let mut scope = Scope::new(tables.alloc);
+    let mut cores = List::new(tables.alloc);
+    for global in globals {
+        match &global.domain {
+            None => {}
+            Some(domain) => {
+                let core = formula(tables, &mut scope, domain, free, DEPTH)?;
+                push(&mut cores, restricted(tables.alloc, core)?.into_inner())?;
+            }
+        }
+    }
+    Ok(cores)
+}
+
+fn placed_formulas(tables: &Tables, formulas: &[Placed], free: u64) -> Result<List<Core>, NoMemory>
+    ensures { IfOk result (λ cores. map core_form_of cores ≡ map (renumbered (numbering_of tables.now))
+        (spread_each (callees_in tables.now) (forms (map (λ placed. formula_of placed.formula) formulas.now)) own_names free)) }
+{
+    let mut scope = Scope::new(tables.alloc);
+    let mut cores = List::new(tables.alloc);
+    for placed in formulas {
+        let core = formula(tables, &mut scope, &placed.formula, free, DEPTH)?;
+        push(&mut cores, core.into_inner())?;
+    }
+    Ok(cores)
+}
+
+fn first_numbers(tables: &Tables, count: u32) -> Result<List<u32>, NoMemory>
+    ensures { IfOk result (λ numbers. numbers ≡ range_with_len 0 count) }
+{
+    let mut numbers = List::new(tables.alloc);
+    for number in 0..count {
+        push(&mut numbers, number)?;
+    }
+    Ok(numbers)
+}
+
+/// The main root, over the globals.
+pub fn main_root(tables: &Tables, globals: &[Global], formulas: &[Placed]) -> Result<Root, NoMemory>
+    requires globals { length globals.now ≡ tables.now.globals }
+    requires kept { tables.now.kept ≡ tables.now.globals }
+    ensures { IfOk result (λ root. root_of root ≡ renumbered_root tables.now
+        (main_over tables.now globals.now formulas.now)) }
+{
+    let free = u64::from(tables.globals);
+    let front = global_restrictions(tables, globals, free)?;
+    let later = placed_formulas(tables, formulas, free)?;
+    let core = conjunction(tables.alloc, joined(front, later)?)?;
+    Ok(Root {
+        variables: first_numbers(tables, tables.globals)?,
+        core: core.into_inner(),
+    })
+}
