@@ -1,0 +1,9 @@
+use Rattle.ms_dag.proofs.NodeValues.{node_has_value_of_formula}
+use Rattle.ms_dag.proofs.NodesByChildren.{node_has_value_by_children}
+use Rattle.ms_dag.proofs.laws.laws_of_sharing.Goals as goal
+
+pub returns-clause-of_formula : goal.returns-clause-of_formula
+returns-clause-of_formula c = node_has_value_of_formula
+
+pub returns-clause-by_children : goal.returns-clause-by_children
+returns-clause-by_children c = node_has_value_by_children

@@ -1,0 +1,27 @@
+-- What lowering promises of its answer.
+use Rattle.std.specs.Prelude.{◌≡◌, ◌+◌, ◌≤◌, List, length, map}
+use Rattle.std.specs.List.Sorted.{IsStrictlyIncreasing}
+use Rattle.ms_logic.specs.declared.core_formula.Lowered.{Lowered}
+use Rattle.ms_logic.specs.declared.core_formula.Root as code
+use Rattle.ms_logic.specs.declared.mode.Order.{Order}
+use Rattle.ms_logic.specs.Assignment.{Variable}
+use Rattle.ms_logic.specs.CoreForm.{core_form_of}
+use Rattle.ms_logic.specs.Truth.{Import}
+use Rattle.ms_rules.specs.Numbers.{Each}
+use Rattle.ms_dag.specs.Laws.{HasOrder, HaveTheirOrders}
+use Rattle.ms_dag.specs.Subformulas.{subformulas_of_roots}
+use Rattle.ms_dag.specs.Stands.{Stands}
+
+-- a root over a rising list of variables, each of which has its order among these: the variables of its formula stand in their scopes, and
+-- each of them has its order, too
+pub record IsLoweredRoot (imports : List Import) (orders : List Order) (root : code.Root) : Type 0 where
+  pub rising : IsStrictlyIncreasing root.variables
+  pub own : List Variable
+  pub variables : map (λ v. v.name) own ≡ root.variables
+  pub listed : Each (HasOrder orders) own
+  pub stands : Stands imports own (core_form_of root.core)
+  pub orders_of_all : HaveTheirOrders imports orders (core_form_of root.core)
+
+pub record IsLowered (imports : List Import) (lowered : Lowered) : Type 0 where
+  pub roots : Each (IsLoweredRoot imports lowered.orders) lowered.roots
+  pub small : subformulas_of_roots lowered.roots + length lowered.roots ≤ 4294967295

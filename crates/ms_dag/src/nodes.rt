@@ -1,0 +1,87 @@
+ghost use Rattle.ms_dag.specs.Keys.{IsKeyed, keys_of};
+ghost use Rattle.ms_dag.specs.Words.{words_of_entry};
+ghost use Rattle.ms_diagram.specs.Numbering.{Numbers};
+ghost use Rattle.std.specs.Prelude.{◌≡◌, ◌<◌, ◌==◌, ◌∷◌, ◌++◌, [], if◌then◌else◌, length, slice_get, IfOk, OnOk, Ok};
+
+use crate::node::Entry;
+use crate::words::words_of;
+use indexmap::IndexSet;
+use ms_edge::{List, NoMemory, push};
+use std::alloc::Global;
+
+/// The nodes of a graph while it grows, and their words, by which each gets one number.
+#[derive(Drop)]
+pub(crate) struct Nodes {
+    pub(crate) alloc: Global,
+    pub(crate) entries: List<Entry>,
+    keys: IndexSet<Vec<u64>>,
+}
+
+// Puts the item behind the others if it has got the next number.
+fn keep<T: Drop>(
+    items: &mut List<T>,
+    item: T,
+    number: Result<u32, NoMemory>,
+) -> Result<u32, NoMemory>
+    ensures number { IfOk result (λ given. number ≡ Ok given) }
+    ensures kept { IfOk result (λ given. items.new
+        ≡ (if given == length items.old then items.old ++ item ∷ [] else items.old)) }
+{
+    let number = number?;
+    if number as usize == items.len() {
+        push(items, item)?;
+    }
+    Ok(number)
+}
+
+impl Nodes {
+    /// No nodes.
+    pub(crate) fn new(alloc: Global) -> Nodes
+        ensures entries { result.entries ≡ [] }
+        ensures keyed { IsKeyed result }
+    {
+        Nodes {
+            alloc,
+            entries: List::new(alloc),
+            keys: IndexSet::new(alloc),
+        }
+    }
+
+    // The number of the words of a node.
+    fn number_of_words(&mut self, entry: &Entry) -> Result<u32, NoMemory>
+        requires { length (keys_of self.old) < 4294967295 }
+        ensures entries { self.new.entries ≡ self.old.entries }
+        ensures numbers { OnOk result (Numbers (keys_of self.old) (keys_of self.new) (words_of_entry entry.now)) }
+        ensures number { IfOk result (λ number. slice_get (keys_of self.new) number ≡ Some (words_of_entry entry.now)) }
+    {
+        let words = words_of(self.alloc, entry)?;
+        let Ok((number, _)) = self.keys.insert_full(words.into_vec()) else {
+            return Err(NoMemory);
+        };
+        Ok(number as u32)
+    }
+
+    /// The number of the node, which gets the next one where there is none like it.
+    pub(crate) fn number(&mut self, entry: Entry) -> Result<u32, NoMemory>
+        requires keyed { IsKeyed self.old }
+        requires room { length self.old.entries < 4294967295 }
+        ensures keyed { OnOk result (IsKeyed self.new) }
+        ensures numbers { OnOk result (Numbers self.old.entries self.new.entries entry) }
+        ensures number { IfOk result (λ number. slice_get self.new.entries number ≡ Some entry) }
+    {
+        let number = self.number_of_words(&entry);
+        keep(&mut self.entries, entry, number)
+    }
+
+    /// The nodes, without the words.
+    pub(crate) fn into_entries(self) -> List<Entry>
+        ensures { result ≡ self.entries }
+    {
+        let Nodes {
+            alloc: _,
+            entries,
+            keys: _,
+        } = self;
+        entries
+    }
+}

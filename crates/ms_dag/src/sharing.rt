@@ -1,0 +1,77 @@
+ghost use Rattle.ms_dag.specs.Dag.{AreNodes};
+ghost use Rattle.ms_dag.specs.Keys.{IsKeyed};
+ghost use Rattle.ms_dag.specs.Lowered.{IsLowered};
+ghost use Rattle.ms_dag.specs.Scope.{IsRootInScope};
+ghost use Rattle.ms_dag.specs.Subformulas.{subformulas, subformulas_of_roots};
+ghost use Rattle.ms_dag.specs.Share.{IsDagOf};
+ghost use Rattle.ms_dag.specs.Shared.{AreRootsNow, IsRootNow};
+ghost use Rattle.ms_logic.specs.CoreForm.{core_form_of};
+ghost use Rattle.ms_logic.specs.Truth.{Import};
+ghost use Rattle.std.specs.Prelude.{◌≡◌, ◌+◌, ◌≤◌, [], All, length, List as Sequence, IfOk, OnOk};
+
+use crate::dag::{Dag, SharedRoot};
+use crate::formulas::share_core;
+use crate::nodes::Nodes;
+use ms_edge::{List, NoMemory, push};
+use ms_logic::{Lowered, Order, Root};
+use std::alloc::Global;
+
+// An equal list of its own.
+fn copied<T: Copy + Drop>(alloc: Global, items: &[T]) -> Result<List<T>, NoMemory>
+    ensures { IfOk result (λ made. made ≡ items.now) }
+{
+    let mut made = List::new(alloc);
+    for item in items {
+        push(&mut made, *item)?;
+    }
+    Ok(made)
+}
+
+// The node of a root's formula.
+fn share_root(nodes: &mut Nodes, orders: &[Order], root: &Root) -> Result<SharedRoot, NoMemory>
+    requires keyed { IsKeyed nodes.old }
+    requires nodes { AreNodes nodes.old.entries }
+    requires scoped { IsRootInScope orders.now root.now }
+    requires room { length nodes.old.entries + subformulas (core_form_of root.now.core) ≤ 4294967295 }
+    ensures keyed { OnOk result (IsKeyed nodes.new) }
+    ensures shared { IfOk result (λ made. IsRootNow orders.now nodes.old.entries nodes.new.entries root.now made) }
+{
+    let child = share_core(nodes, orders, &root.core)?;
+    let variables = copied(nodes.alloc, root.variables.slice())?;
+    Ok(SharedRoot { child, variables })
+}
+
+// The same for each root.
+fn share_roots(
+    nodes: &mut Nodes,
+    orders: &[Order],
+    roots: &[Root],
+) -> Result<List<SharedRoot>, NoMemory>
+    requires keyed { IsKeyed nodes.old }
+    requires empty { nodes.old.entries ≡ [] }
+    requires scoped { All (IsRootInScope orders.now) roots.now }
+    requires room { subformulas_of_roots roots.now ≤ 4294967295 }
+    ensures { IfOk result (λ made. AreRootsNow orders.now nodes.new.entries roots.now made) }
+{
+    let mut made = List::new(nodes.alloc);
+    for root in roots {
+        push(&mut made, share_root(nodes, orders, root)?)?;
+    }
+    Ok(made)
+}
+
+/// The graph of a source, in which each formula stands once.
+pub fn share(alloc: Global, lowered: &Lowered) -> Result<Dag, NoMemory>
+    requires { (imports : Sequence Import) × IsLowered imports lowered.now }
+    ensures { IfOk result (λ dag. IsDagOf lowered.now dag) }
+{
+    let mut nodes = Nodes::new(alloc);
+    let orders = lowered.orders.slice();
+    let roots = share_roots(&mut nodes, orders, lowered.roots.slice())?;
+    let orders = copied(alloc, orders)?;
+    Ok(Dag {
+        entries: nodes.into_entries(),
+        roots,
+        orders,
+    })
+}
