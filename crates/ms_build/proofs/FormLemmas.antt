@@ -1,0 +1,252 @@
+-- What has been made of a node by its form has the value of the node, over the node's own variables.
+use Rattle.std.proofs.Common.{◌≡◌, ℕ, ◌<◌, ⊎_elim, Result, Ok, Err, IfOk, List, [], ◌∷◌, ◌++◌, All, Contains, length, map, slice_get, Some, None, Option, refl, sym, ap, subst, ◌∙◌, arith}
+use Rattle.std.specs.Option.{option_map}
+use Rattle.std.proofs.lemmas.Option.{none-some, same_Some, slice_get_within, slice_get-map, get_or_from_slice_get}
+use Rattle.std.proofs.lemmas.List.Elements.{Contains-append_cases, Contains-append_left, Contains-append_right}
+use Rattle.ms_arena.proofs.Lists.{slice_get-pushed}
+use Rattle.ms_basic.specs.Operands.{HaveOneOrder, operands_of}
+use Rattle.ms_basic.proofs.DistinctLemmas.{among-distinct, distinct-among}
+use Rattle.ms_dag.specs.declared.node.Child.{Child}
+use Rattle.ms_dag.specs.declared.node.DagNode.{DagNode}
+use Rattle.ms_dag.specs.declared.node.DagNode.TheVariants.{True, False, Basic, Not, And, Or, Implies, Iff, Restrict, Import, Bind}
+use Rattle.ms_dag.specs.declared.node.Entry.{Entry}
+use Rattle.ms_dag.specs.Dag.{AreNodes, HasOwnOrders, IsChild, IsNode, children_of, orders_inside, places_in_maps, places_of}
+use Rattle.ms_dag.specs.Laws.{ChildrenComeFirst}
+use Rattle.ms_dag.specs.Values.{IsMetBy, NoAt, NodeNo, NodeYes, Verdict, YesAt}
+use Rattle.ms_dfa.specs.Automaton.{IsAutomaton}
+use Rattle.ms_edge.specs.declared.fault.StepFault.{StepFault}
+use Rattle.ms_explore.specs.Tracks.{IsAmong, distinct}
+use Rattle.ms_explore.proofs.AmongLemmas.{among_at, held_among}
+use Rattle.ms_explore.proofs.TracksLemmas.{distinct-rising}
+use Rattle.ms_logic.specs.declared.core_formula.Basic.{Basic as Relation}
+use Rattle.ms_logic.specs.declared.core_formula.Basic.TheVariants.{Truth, Number, Plus, Less, Member, Sub, Union, Inter, Diff, Up, Down, Min, Max, Bits}
+use Rattle.ms_logic.specs.declared.mode.Mode.{Mode}
+use Rattle.ms_logic.specs.declared.mode.Order.{Order}
+use Rattle.ms_logic.specs.declared.mode.Quant.TheVariants as Quant
+use Rattle.ms_logic.specs.declared.sign.Sign.{Sign}
+use Rattle.ms_logic.specs.Assignment.{Env, Variable}
+use Rattle.ms_logic.specs.Content.{Content, variables_by_place}
+use Rattle.ms_logic.specs.CoreForm.{Holds, answer_over}
+use Rattle.ms_logic.specs.Steps.{variables_of_basic}
+use Rattle.ms_logic.specs.Truth.{Import as Imported, answer_yes, answer_no}
+use Rattle.ms_product.specs.declared.op.Op.TheVariants as Op
+use Rattle.ms_project.specs.Quantified.{QuantifiedYes, QuantifiedNo}
+use Rattle.ms_build.specs.Connectives.{NoOf, YesOf}
+use Rattle.ms_build.specs.declared.plan.Many.TheVariants as Many
+use Rattle.ms_minim.specs.Residual.{HasFewestStates, HaveEqualSigns}
+use Rattle.ms_project.proofs.AlwaysLemmas.{sign_moves}
+use Rattle.ms_rename.proofs.RenamedLemmas.{HasValues-same}
+use Rattle.ms_theory.specs.Values.{Meaning, meaning_by}
+use Rattle.ms_build.specs.declared.plan.Plan.{Plan}
+use Rattle.ms_build.specs.Built.{AreBuiltFor, AreReadable, ChildNo, ChildYes, IsBuiltAt, IsLeastOf, IsMadeOf, IsOver, IsReadAt, ManyNo, ManyYes, child_meaning, entries_of, import_meaning, imports_for, many_meaning, node_meaning, pair_meaning}
+use Rattle.ms_build.proofs.ChildLemmas.{same_variable}
+use Rattle.ms_build.proofs.MeaningLemmas.{HasValues-to}
+use Rattle.ms_build.proofs.NodeLemmas.{node_from_children}
+use Rattle.ms_build.proofs.PlaceLemmas.{among-own, contains_place, own-among}
+use Rattle.ms_build.proofs.WholeLemmas.{IsOver-part, rising-by_place, rising_equal}
+
+-- the variables of a relation are its operands
+operands_are : (b : Relation) → operands_of b ≡ variables_of_basic b
+operands_are (Truth a) = refl
+operands_are (Number x n) = refl
+operands_are (Plus x y n) = refl
+operands_are (Less x y) = refl
+operands_are (Member x s) = refl
+operands_are (Sub s t) = refl
+operands_are (Union s t u) = refl
+operands_are (Inter s t u) = refl
+operands_are (Diff s t u) = refl
+operands_are (Up s t n) = refl
+operands_are (Down s t n) = refl
+operands_are (Min x s) = refl
+operands_are (Max x s) = refl
+operands_are (Bits s n) = refl
+
+-- a fact of each item of a list holds of an item at a place
+pub all_at : {X : Type 0} (P : X → Type 0) (xs : List X) → All P xs → (place : ℕ) (x : X) → slice_get xs place ≡ Some x → P x
+all_at P xs all place x held = subst P (get_or_from_slice_get xs place x x held) (all place x (slice_get_within xs place x held))
+
+all_among : (P : Variable → Type 0) (vs : List Variable) → All P vs → (v : Variable) → IsAmong vs v → P v
+all_among P vs all v among = let at = held_among vs v among in all_at P vs all at.0 v at.1
+
+-- the children of a node are read at its variables
+pub read_child : (entries : List Entry) (i : ℕ) (orders : List Order) (children : List Child) → All (IsChild entries i orders) children → (place : ℕ) (child : Child) → slice_get children place ≡ Some child
+    → (child.node < i) × IsReadAt entries orders child
+read_child entries i orders children all place child held =
+    let is = all_at (IsChild entries i orders) children all place child held in
+    (is.part.smaller, is.ordered)
+
+pub readable : (plan : Plan) (built : List (Content Sign)) (orders : List Order) (children : List Child) → All (IsChild (entries_of plan) (length built) orders) children → AreReadable plan built children
+readable plan built orders children all = (
+  λ place child held. (read_child (entries_of plan) (length built) orders children all place child held).0,
+  (orders, λ place child held. (read_child (entries_of plan) (length built) orders children all place child held).1),
+)
+
+-- the children of each node come first
+pub children_first : (entries : List Entry) → AreNodes entries → ChildrenComeFirst entries
+children_first entries are i node at = by (slice_get entries i) refl at
+  where
+    by : (found : Option Entry) → slice_get entries i ≡ found → option_map (λ e. e.node) found ≡ Some node → All (λ c. c.node < i) (children_of node)
+    by None same held = absurd (none-some node held)
+    by (Some entry) same held =
+        subst (λ n. All (λ c. c.node < i) (children_of n)) (same_Some entry.node node held) (λ k d less. ((are.nodes i entry same).children k d less).part.smaller)
+
+-- the operands of a relation whose variables have these orders
+module _ (orders : List Order) (b : Relation) (own : All (λ (v : Variable). slice_get orders v.name ≡ Some v.order) (variables_of_basic b)) where
+  operand_order : (v : Variable) → IsAmong (operands_of b) v → slice_get orders v.name ≡ Some v.order
+  operand_order v among = all_among (λ (w : Variable). slice_get orders w.name ≡ Some w.order) (variables_of_basic b) own v (subst (λ vs. IsAmong vs v) (operands_are b) among)
+
+  pub operands_one_order : HaveOneOrder (operands_of b)
+  operands_one_order v w is also same =
+      same_variable v w same (same_Some v.order w.order (sym (operand_order v is) ∙ ap (slice_get orders) same ∙ operand_order w also))
+
+  pub operands_by_place : ((j : ℕ) → j < length orders → Contains (map (λ (v : Variable). v.name) (variables_of_basic b)) j) → distinct (operands_of b) ≡ variables_by_place orders
+  operands_by_place free =
+      rising_equal (distinct (operands_of b)) (variables_by_place orders) (distinct-rising (operands_of b)) (rising-by_place 0 orders)
+      (λ x among. among-own orders x (operand_order x (distinct-among (operands_of b) x among)))
+      (λ x among.
+      let held = own-among orders x among in
+      let named = free x.name (slice_get_within orders x.name x.order held) in
+      let found = named_variable (variables_of_basic b) x.name named in
+      let own_order = all_among (λ (w : Variable). slice_get orders w.name ≡ Some w.order) (variables_of_basic b) own found.0 found.1 in
+      let same : found.0 ≡ x = same_variable found.0 x found.2 (same_Some found.0.order x.order (sym own_order ∙ ap (slice_get orders) found.2 ∙ held)) in
+      among-distinct (operands_of b) x operands_one_order (subst (λ vs. IsAmong vs x) (sym (operands_are b)) (subst (IsAmong (variables_of_basic b)) same found.1)))
+    where
+      named_variable : (vs : List Variable) (name : ℕ) → Contains (map (λ (v : Variable). v.name) vs) name → (v : Variable) × IsAmong vs v × (v.name ≡ name)
+      named_variable vs name is =
+          let at = contains_place (map (λ (v : Variable). v.name) vs) name is in
+          by at.0 (slice_get vs at.0) refl (sym (slice_get-map (λ (v : Variable). v.name) vs at.0) ∙ at.1)
+        where
+          by : (place : ℕ) (found : Option Variable) → slice_get vs place ≡ found → option_map (λ (v : Variable). v.name) found ≡ Some name → (v : Variable) × IsAmong vs v × (v.name ≡ name)
+          by place None same held = absurd (none-some name held)
+          by place (Some v) same held = (v, among_at vs place v same, same_Some v.name name held)
+
+-- variables that all stand in nothing are none
+no_orders : (orders : List Order) → ((j : ℕ) → j < length orders → Contains [] j) → [] ≡ variables_by_place orders
+no_orders [] free = refl
+no_orders (o ∷ orders) free = let never = (free 0 (omega arith)).1 in absurd (omega (arith, never))
+
+module _ (plan : Plan) (are : AreNodes (entries_of plan)) (i : ℕ) (entry : Entry) (held : slice_get (entries_of plan) i ≡ Some entry) (content : Content Sign) (automaton : IsAutomaton content) where
+  abbrev imports : List Imported
+  imports = imports_for plan
+
+  abbrev entries : List Entry
+  entries = entries_of plan
+
+  abbrev Y : Verdict
+  Y = NodeYes imports entries
+
+  abbrev N : Verdict
+  N = NodeNo imports entries
+
+  abbrev orders : List Order
+  orders = entry.orders
+
+  is_node : IsNode entries i entry
+  is_node = are.nodes i entry held
+
+  module _ (node : DagNode) (same : entry.node ≡ node) where
+    children_are : All (IsChild entries i (orders_inside node orders)) (children_of node)
+    children_are = subst (λ n. All (IsChild entries i (orders_inside n orders)) (children_of n)) same is_node.children
+
+    all_there : (j : ℕ) → j < length orders → Contains (places_of node) j
+    all_there j less = subst (λ n. Contains (places_of n) j) same (is_node.free j less)
+
+    own_orders_are : HasOwnOrders node orders
+    own_orders_are = subst (λ n. HasOwnOrders n orders) same is_node.own
+
+    read_at : (place : ℕ) (child : Child) → slice_get (children_of node) place ≡ Some child → IsReadAt entries (orders_inside node orders) child
+    read_at place child there = (read_child entries i (orders_inside node orders) (children_of node) children_are place child there).1
+
+    to_node : (PY PN : Env → Type 0) → ((e : Env) → PY e → YesAt imports Y N (Some node) e) → ((e : Env) → PN e → NoAt imports Y N (Some node) e) → ((e : Env) → YesAt imports Y N (Some node) e → PY e)
+        → ((e : Env) → NoAt imports Y N (Some node) e → PN e) → IsOver plan.mode (variables_by_place orders) (meaning_by PY PN) content
+        → IsOver plan.mode (variables_by_place orders) (node_meaning imports entries i) content
+    to_node PY PN yes_to no_to yes_from no_from over = record {
+      mode_is = over.mode_is;
+      variables_are = over.variables_are;
+      values = HasValues-to (meaning_by PY PN) (node_meaning imports entries i) content
+          (λ word e sign assigned encodes right.
+          node_from_children imports entries (children_first entries are) i node (ap (option_map (λ (x : Entry). x.node)) held ∙ ap Some same) e sign
+          (sign_moves PY PN (YesAt imports Y N (Some node)) (NoAt imports Y N (Some node)) e (yes_to e) (no_to e) (yes_from e) (no_from e) sign right)) over.values;
+    }
+
+  over_none : (meaning : Meaning) → ((j : ℕ) → j < length orders → Contains [] j) → IsOver plan.mode [] meaning content → IsOver plan.mode (variables_by_place orders) meaning content
+  over_none meaning free over = record { mode_is = over.mode_is; variables_are = over.variables_are ∙ no_orders orders free; values = over.values }
+
+  only : (list : List ℕ) (j : ℕ) → Contains (list ++ []) j → Contains list j
+  only list j is = ⊎_elim (λ here. here) (λ never. absurd (let none = never.1 in omega (arith, none))) (Contains-append_cases list [] j is)
+
+  pair_there : (c d : Child) (j : ℕ) → Contains (places_in_maps (c ∷ d ∷ [])) j → Contains (c.map ++ d.map) j
+  pair_there c d j is =
+      ⊎_elim (λ one. Contains-append_left c.map d.map j one) (λ other. Contains-append_right c.map d.map j (only d.map j other)) (Contains-append_cases c.map (d.map ++ []) j is)
+
+  -- what has been made of the node by its form
+  pub IsOver-node : (node : DagNode) → entry.node ≡ node → IsMadeOf plan entry node content → IsOver plan.mode (variables_by_place orders) (node_meaning imports entries i) content
+  IsOver-node True same made =
+      to_node True same (λ e. Unit {0}) (λ e. ⊥) (λ e h. h) (λ e h. h) (λ e h. h) (λ e h. h) (over_none (meaning_by (λ e. Unit {0}) (λ e. ⊥)) (all_there True same) made)
+  IsOver-node False same made =
+      to_node False same (λ e. ⊥) (λ e. Unit {0}) (λ e h. h) (λ e h. h) (λ e h. h) (λ e h. h) (over_none (meaning_by (λ e. ⊥) (λ e. Unit {0})) (all_there False same) made)
+  IsOver-node (Basic b) same made =
+      to_node (Basic b) same (λ e. Holds b e) (λ e. ¬ Holds b e) (λ e h. h) (λ e h. h) (λ e h. h) (λ e h. h)
+      (record { mode_is = made.mode_is; variables_are = made.variables_are ∙ operands_by_place orders b (own_orders_are (Basic b) same) (all_there (Basic b) same); values = made.values })
+  IsOver-node (Not c) same made =
+      to_node (Not c) same (ChildNo imports entries c) (ChildYes imports entries c) (λ e h. h) (λ e h. h) (λ e h. h) (λ e h. h)
+      (IsOver-part plan.mode orders c.map (meaning_by (ChildNo imports entries c) (ChildYes imports entries c)) content automaton (made orders (read_at (Not c) same 0 c refl))
+      (λ j less. only c.map j (all_there (Not c) same j less)))
+  IsOver-node (Restrict c) same made =
+      to_node (Restrict c) same (ChildYes imports entries c) (λ e. ⊥) (λ e h. h) (λ e h. h) (λ e h. h) (λ e h. h)
+      (IsOver-part plan.mode orders c.map (meaning_by (ChildYes imports entries c) (λ e. ⊥)) content automaton (made orders (read_at (Restrict c) same 0 c refl))
+      (λ j less. only c.map j (all_there (Restrict c) same j less)))
+  IsOver-node (And cs) same made =
+      to_node (And cs) same (ManyYes Many.All imports entries cs) (ManyNo Many.All imports entries cs) (λ e h. h) (λ e h. h) (λ e h. h) (λ e h. h)
+      (IsOver-part plan.mode orders (places_in_maps cs) (many_meaning Many.All imports entries cs) content automaton (made orders (read_at (And cs) same)) (all_there (And cs) same))
+  IsOver-node (Or cs) same made =
+      to_node (Or cs) same (ManyYes Many.Any imports entries cs) (ManyNo Many.Any imports entries cs) (λ e h. h) (λ e h. h) (λ e h. h) (λ e h. h)
+      (IsOver-part plan.mode orders (places_in_maps cs) (many_meaning Many.Any imports entries cs) content automaton (made orders (read_at (Or cs) same)) (all_there (Or cs) same))
+  IsOver-node (Implies c d) same made =
+      to_node (Implies c d) same (YesOf (ChildYes imports entries c) (ChildNo imports entries c) (ChildYes imports entries d) (ChildNo imports entries d) Op.Implies)
+      (NoOf (ChildYes imports entries c) (ChildNo imports entries c) (ChildYes imports entries d) (ChildNo imports entries d) Op.Implies) (λ e h. h) (λ e h. h) (λ e h. h) (λ e h. h)
+      (IsOver-part plan.mode orders (c.map ++ d.map) (pair_meaning Op.Implies imports entries c d) content automaton
+      (made orders (read_at (Implies c d) same 0 c refl) (read_at (Implies c d) same 1 d refl)) (λ j less. pair_there c d j (all_there (Implies c d) same j less)))
+  IsOver-node (Iff c d) same made =
+      to_node (Iff c d) same (YesOf (ChildYes imports entries c) (ChildNo imports entries c) (ChildYes imports entries d) (ChildNo imports entries d) Op.Iff)
+      (NoOf (ChildYes imports entries c) (ChildNo imports entries c) (ChildYes imports entries d) (ChildNo imports entries d) Op.Iff) (λ e h. h) (λ e h. h) (λ e h. h) (λ e h. h)
+      (IsOver-part plan.mode orders (c.map ++ d.map) (pair_meaning Op.Iff imports entries c d) content automaton (made orders (read_at (Iff c d) same 0 c refl) (read_at (Iff c d) same 1 d refl))
+      (λ j less. pair_there c d j (all_there (Iff c d) same j less)))
+  IsOver-node (Import n xs) same made =
+      to_node (Import n xs) same (λ e. answer_over (slice_get imports n) xs e ≡ answer_yes) (λ e. answer_over (slice_get imports n) xs e ≡ answer_no) (λ e h. h) (λ e h. h) (λ e h. h) (λ e h. h)
+      (IsOver-part plan.mode orders xs (import_meaning imports n xs) content automaton made (all_there (Import n xs) same))
+  IsOver-node (Bind Quant.Ex o k d c) same made =
+      to_node (Bind Quant.Ex o k d c) same (QuantifiedYes Quant.Ex (record { name = k; order = o }) (λ there. IsMetBy Y d there) (child_meaning imports entries c))
+      (QuantifiedNo Quant.Ex (record { name = k; order = o }) (λ there. IsMetBy Y d there) (child_meaning imports entries c)) (λ e h. h) (λ e h. h) (λ e h. h) (λ e h. h) made
+  IsOver-node (Bind Quant.All o k d c) same made =
+      to_node (Bind Quant.All o k d c) same (QuantifiedYes Quant.All (record { name = k; order = o }) (λ there. IsMetBy Y d there) (child_meaning imports entries c))
+      (QuantifiedNo Quant.All (record { name = k; order = o }) (λ there. IsMetBy Y d there) (child_meaning imports entries c)) (λ e h. h) (λ e h. h) (λ e h. h) (λ e h. h) made
+
+-- and then with fewest states
+pub least_by : (mode : Mode) (variables : List Variable) (meaning : Meaning) (part : Content Sign) → IsOver mode variables meaning part → (result : Result (Content Sign) StepFault)
+    → IfOk result (λ made. made.mode ≡ part.mode) → IfOk result (λ made. made.variables ≡ part.variables) → IfOk result (HaveEqualSigns part) → IfOk result HasFewestStates
+    → IfOk result (IsLeastOf mode variables meaning)
+least_by mode variables meaning part over (Ok made) mode_is variables_are signs fewest = record {
+  mode_is = mode_is ∙ over.mode_is;
+  variables_are = variables_are ∙ over.variables_are;
+  values = HasValues-same meaning part made mode_is variables_are signs over.values;
+  fewest = fewest;
+}
+least_by mode variables meaning part over (Err fault) mode_is variables_are signs fewest = tt
+
+pub built_by : (plan : Plan) (i : ℕ) (entry : Entry) → slice_get (entries_of plan) i ≡ Some entry → (part : Content Sign)
+    → IsOver plan.mode (variables_by_place entry.orders) (node_meaning (imports_for plan) (entries_of plan) i) part → (result : Result (Content Sign) StepFault)
+    → IfOk result (λ made. made.mode ≡ part.mode) → IfOk result (λ made. made.variables ≡ part.variables) → IfOk result (HaveEqualSigns part) → IfOk result HasFewestStates
+    → IfOk result (IsBuiltAt plan i)
+built_by plan i entry held part over (Ok made) mode_is variables_are signs fewest =
+    (entry, held, least_by plan.mode (variables_by_place entry.orders) (node_meaning (imports_for plan) (entries_of plan) i) part over (Ok made) mode_is variables_are signs fewest)
+built_by plan i entry held part over (Err fault) mode_is variables_are signs fewest = tt
+
+-- the automaton of one node more
+pub AreBuilt-more : (plan : Plan) (built : List (Content Sign)) (made : Content Sign) (more : List (Content Sign)) → more ≡ built ++ made ∷ [] → AreBuiltFor plan built → IsBuiltAt plan (length built) made
+    → AreBuiltFor plan more
+AreBuilt-more plan built made more same are is i content held = ⊎_elim
+    (λ before. are i content before)
+    (λ last. subst (λ n. IsBuiltAt plan n content) (sym last.0) (subst (IsBuiltAt plan (length built)) last.1 is))
+    (slice_get-pushed built made i content (ap (λ list. slice_get list i) (sym same) ∙ held))

@@ -1,0 +1,15 @@
+pub mod AgreementLemmas
+pub mod MeaningLemmas
+pub mod PlaceLemmas
+pub mod ChildLemmas
+pub mod NodeLemmas
+pub mod QuantifiedLemmas
+pub mod PartLemmas
+pub mod ManyLemmas
+pub mod WholeLemmas
+pub mod ChangeLemmas
+pub mod BinderLemmas
+pub mod ImportLemmas
+pub mod FormLemmas
+pub mod RootLemmas
+pub mod LawLemmas

@@ -1,0 +1,179 @@
+-- The automaton of a root, one variable after the other.
+use Rattle.std.proofs.Common.{◌≡◌, ℕ, zero, suc, ◌+◌, ◌<◌, inl, inr, ⊎_elim, Result, Ok, Err, IfOk, Option, None, List, [], ◌∷◌, Contains, length, map, slice_get, slice_index, slice_index_or, Some, refl, sym, ap, subst, ◌∙◌, arith}
+use Rattle.std.specs.List.Sorted.{IsStrictlyIncreasing}
+use Rattle.std.proofs.lemmas.Bool.{cases_lt}
+use Rattle.std.proofs.lemmas.Option.{none-some, same_Some, slice_get_within, slice_get-map, slice_get-get_or, get_or_from_slice_get}
+use Rattle.std.specs.List.{AllZip}
+use Rattle.std.specs.Option.{option_map}
+use Rattle.ms_dag.specs.declared.dag.SharedRoot.{SharedRoot}
+use Rattle.std.proofs.lemmas.List.Elements.{All-contains}
+use Rattle.ms_dag.specs.declared.dag.Dag.{Dag}
+use Rattle.ms_dag.specs.Laws.{HasOrder}
+use Rattle.ms_dag.specs.Lowered.{IsLowered, IsLoweredRoot}
+use Rattle.ms_logic.specs.Truth.{Import}
+use Rattle.ms_rules.specs.Numbers.{Each}
+use Rattle.ms_dag.specs.Share.{AreRootsOf, IsDagOf, IsRootOf, children_of_roots, variables_of_roots}
+use Rattle.ms_logic.specs.declared.core_formula.Lowered.{Lowered}
+use Rattle.ms_edge.specs.declared.fault.StepFault.{StepFault}
+use Rattle.ms_minim.specs.Residual.{HasFewestStates, HaveEqualSigns}
+use Rattle.ms_build.specs.declared.plan.Plan.{Plan}
+use Rattle.ms_build.proofs.FormLemmas.{least_by}
+use Rattle.ms_dag.specs.declared.node.Child.{Child}
+use Rattle.ms_dfa.specs.Automaton.{IsAutomaton}
+use Rattle.ms_explore.specs.Tracks.{IsAmong}
+use Rattle.ms_logic.specs.declared.mode.Mode.{Mode}
+use Rattle.ms_logic.specs.declared.mode.Order.{Order}
+use Rattle.ms_logic.specs.declared.mode.Order.TheVariants.{Zero}
+use Rattle.ms_logic.specs.declared.sign.Sign.{Sign}
+use Rattle.ms_logic.specs.Assignment.{Variable}
+use Rattle.ms_logic.specs.Content.{Content}
+use Rattle.ms_logic.specs.Roots.{AreRising}
+use Rattle.ms_product.specs.Combined.{HaveEqualOrders}
+use Rattle.ms_theory.specs.Values.{HasValues, Meaning, own_meaning}
+use Rattle.ms_build.specs.Built.{HasOneMore, HasOnly, IsOver, IsPart, child_meaning, entries_of, imports_for}
+use Rattle.ms_build.specs.Roots.{AreRootVariables, AreRootsRead, IsRootAt, named}
+use Rattle.ms_build.proofs.ChildLemmas.{same_variable}
+use Rattle.ms_build.proofs.PlaceLemmas.{contains_place, own-among}
+use Rattle.ms_build.proofs.WholeLemmas.{IsPart-track, own_orders, rising_equal}
+
+-- a variable with its order
+abbrev pub variable_at : List Order → ℕ → Variable
+variable_at orders x = record { name = x; order = slice_index_or orders x Zero }
+
+-- over variables of the root alone, among them the first ones
+pub record IsRootPart (mode : Mode) (orders : List Order) (covered variables : List ℕ) (meaning : Meaning) (content : Content Sign) (done : ℕ) : Type 0 where
+  pub part : IsPart mode orders covered meaning content
+  pub within : (v : Variable) → IsAmong content.variables v → Contains variables v.name
+  pub first : (place x : ℕ) → place < done → slice_get variables place ≡ Some x → IsAmong content.variables (variable_at orders x)
+
+-- variables by rising numbers rise
+named-rising : (orders : List Order) (variables : List ℕ) → IsStrictlyIncreasing variables → AreRising (named orders variables)
+named-rising orders [] rising = tt
+named-rising orders (x ∷ []) rising = (tt, tt)
+named-rising orders (x ∷ y ∷ variables) rising = (
+  rising 0 (omega arith),
+  named-rising orders (y ∷ variables) (λ k less.
+      subst (λ n. slice_index (y ∷ variables) k < slice_index (x ∷ y ∷ variables) n) (let moved : suc k + 1 ≡ suc (k + 1) = omega arith in moved) (rising (suc k) (omega (arith, less)))),
+)
+
+named-among : (orders : List Order) (variables : List ℕ) (place x : ℕ) → slice_get variables place ≡ Some x → IsAmong (named orders variables) (variable_at orders x)
+named-among orders [] place x held = absurd (none-some x held)
+named-among orders (y ∷ variables) zero x held = inl (ap (variable_at orders) (same_Some y x held))
+named-among orders (y ∷ variables) (suc place) x held = inr (named-among orders variables place x held)
+
+named-at : (orders : List Order) (variables : List ℕ) (v : Variable) → IsAmong (named orders variables) v → (place : ℕ) × (x : ℕ) × (slice_get variables place ≡ Some x) × (variable_at orders x ≡ v)
+named-at orders [] v among = absurd among
+named-at orders (y ∷ variables) v among = ⊎_elim
+    (λ here. (0, y, refl, here))
+    (λ there. let found = named-at orders variables v there in (suc found.0, found.1, found.2, found.3))
+    among
+
+-- the order of a variable that was looked up
+pub variable_held : (orders : List Order) (x : ℕ) (o : Order) → slice_get orders x ≡ Some o → record { name = x; order = o } ≡ variable_at orders x
+variable_held orders x o held = ap (λ (order : Order). record { name = x; order = order }) (sym (get_or_from_slice_get orders x o Zero held))
+
+-- at first the formula's own variables
+pub IsRootPart-first : (mode : Mode) (orders : List Order) (child : Child) (variables : List ℕ) → AreRootVariables orders child variables → (meaning : Meaning) (content : Content Sign)
+    → IsPart mode orders child.map meaning content → HasOnly child.map content → IsRootPart mode orders child.map variables meaning content 0
+IsRootPart-first mode orders child variables are meaning content part own =
+    record { part = part; within = λ v there. are.among v.name (own v there); first = λ place x less. absurd (omega (arith, less)) }
+
+module _ (mode : Mode) (orders : List Order) (child : Child) (variables : List ℕ) (are : AreRootVariables orders child variables) (meaning : Meaning) (content : Content Sign) (automaton : IsAutomaton content) where
+  held_order : (x : ℕ) → x < length orders → slice_get orders x ≡ Some (slice_index_or orders x Zero)
+  held_order x less = slice_get-get_or orders x Zero less
+
+  module _ (done : ℕ) (part : IsRootPart mode orders child.map variables meaning content done) where
+    module _ (x : ℕ) (held : slice_get variables done ≡ Some x) where
+      there : slice_get orders x ≡ Some (slice_index_or orders x Zero)
+      there = held_order x (are.known done x held)
+
+      pub root_orders : HaveEqualOrders content.variables (variable_at orders x ∷ [])
+      root_orders = own_orders mode orders child.map meaning content automaton part.part x (slice_index_or orders x Zero) there
+
+      pub IsRootPart-more : (made : Content Sign) → made.mode ≡ content.mode → HasOneMore content.variables (variable_at orders x) made → HasValues (own_meaning content) made
+          → IsRootPart mode orders child.map variables meaning made (done + 1)
+      IsRootPart-more made mode_is one values = record {
+        part = IsPart-track mode orders child.map meaning content automaton part.part x (slice_index_or orders x Zero) there made mode_is one values;
+        within = λ v is. ⊎_elim (λ before. part.within v before)
+            (λ own. (let name : x ≡ v.name = sym (ap (λ (u : Variable). u.name) own) in let less = slice_get_within variables done x held in (done, less, get_or_from_slice_get variables done x v.name held ∙ name)))
+            ((one v).0 is);
+        first = λ place y less there_too. ⊎_elim (λ before. (one (variable_at orders y)).1 (inl (part.first place y before there_too)))
+            (λ past.
+            let last : done ≡ place = omega (arith, less, past) in
+            let same : y ≡ x = same_Some y x (sym there_too ∙ ap (slice_get variables) (sym last) ∙ held) in
+            (one (variable_at orders y)).1 (inr (ap (variable_at orders) same)))
+            (cases_lt place done);
+      }
+
+    -- and at last all of the root's
+    pub IsOver-root : length variables ≡ done → IsOver mode (named orders variables) meaning content
+    IsOver-root all = record {
+      mode_is = part.part.mode_is;
+      variables_are = rising_equal content.variables (named orders variables) automaton.rising (named-rising orders variables are.rising)
+          (λ v is.
+          let at = contains_place variables v.name (part.within v is) in
+          let own = own-among orders v (part.part.among v is) in
+          let known = held_order v.name (are.known at.0 v.name at.1) in
+          let same : variable_at orders v.name ≡ v = same_variable (variable_at orders v.name) v refl (same_Some (slice_index_or orders v.name Zero) v.order (sym known ∙ own)) in
+          subst (IsAmong (named orders variables)) same (named-among orders variables at.0 v.name at.1))
+          (λ v is.
+          let at = named-at orders variables v is in
+          let less = slice_get_within variables at.0 at.1 at.2 in
+          subst (IsAmong content.variables) at.3 (part.first at.0 at.1 (omega (arith, less, all)) at.2));
+      values = part.part.values;
+    }
+
+-- a root by its child and its variables
+pub root_at : (roots : List SharedRoot) (r : ℕ) (child : Child) (variables : List ℕ) → slice_get (children_of_roots roots) r ≡ Some child → slice_get (variables_of_roots roots) r ≡ Some variables
+    → (root : SharedRoot) × (slice_get roots r ≡ Some root) × (root.child ≡ child) × (root.variables ≡ variables)
+root_at roots r child variables of_child of_variables = by (slice_get roots r) refl (sym (slice_get-map (λ (root : SharedRoot). root.child) roots r) ∙ of_child)
+    (sym (slice_get-map (λ (root : SharedRoot). root.variables) roots r) ∙ of_variables)
+  where
+    by : (found : Option SharedRoot) → slice_get roots r ≡ found → option_map (λ (root : SharedRoot). root.child) found ≡ Some child → option_map (λ (root : SharedRoot). root.variables) found ≡ Some variables
+        → (root : SharedRoot) × (slice_get roots r ≡ Some root) × (root.child ≡ child) × (root.variables ≡ variables)
+    by None same has_child has_variables = absurd (none-some child has_child)
+    by (Some root) same has_child has_variables = (root, same, same_Some root.child child has_child, same_Some root.variables variables has_variables)
+
+-- the automaton of a root, once it has fewest states
+pub root_by : (plan : Plan) (r : ℕ) (root : SharedRoot) → slice_get plan.dag.now.roots r ≡ Some root → (over : Content Sign)
+    → IsOver plan.mode (named plan.dag.now.orders root.variables) (child_meaning (imports_for plan) (entries_of plan) root.child) over → (result : Result (Content Sign) StepFault)
+    → IfOk result (λ made. made.mode ≡ over.mode) → IfOk result (λ made. made.variables ≡ over.variables) → IfOk result (HaveEqualSigns over) → IfOk result HasFewestStates
+    → IfOk result (IsRootAt plan r)
+root_by plan r root held over is (Ok made) mode_is variables_are signs fewest =
+    (root, held, least_by plan.mode (named plan.dag.now.orders root.variables) (child_meaning (imports_for plan) (entries_of plan) root.child) over is (Ok made) mode_is variables_are signs fewest)
+root_by plan r root held over is (Err fault) mode_is variables_are signs fewest = tt
+
+-- an item beside another in two lists
+zipped : {A B : Type 0} (R : A → B → Type 0) (xs : List A) (ys : List B) → AllZip R xs ys → (place : ℕ) (y : B) → slice_get ys place ≡ Some y → (x : A) × (slice_get xs place ≡ Some x) × R x y
+zipped R [] [] all place y held = absurd (none-some y held)
+zipped R [] (z ∷ ys) all place y held = absurd all
+zipped R (x ∷ xs) [] all place y held = absurd all
+zipped R (x ∷ xs) (z ∷ ys) all zero y held = (x, refl, subst (R x) (same_Some z y held) all.0)
+zipped R (x ∷ xs) (z ∷ ys) all (suc place) y held = zipped R xs ys all.1 place y held
+
+-- the roots of a source are read at its variables
+pub roots_read : (imports : List Import) (lowered : Lowered) (dag : Dag) → IsLowered imports lowered → IsDagOf lowered dag → AreRootsRead dag
+roots_read imports lowered dag is of r root held =
+    let both = zipped (IsRootOf dag.orders dag.entries) lowered.roots dag.roots (subst (λ orders. AreRootsOf orders dag.entries lowered.roots dag.roots) (sym of.orders_are) of.roots) r root held in
+    let lowered_root = each_at (IsLoweredRoot imports lowered.orders) lowered.roots is.roots r both.0 both.1 in
+    let listed = subst (λ (orders : List Order). Each (HasOrder orders) lowered_root.own) (sym of.orders_are) lowered_root.listed in (
+      both.2.ordered,
+      record {
+        rising = subst IsStrictlyIncreasing (sym both.2.variables) lowered_root.rising;
+        known = λ place x there.
+            let named = ap (λ (list : List ℕ). slice_get list place) (lowered_root.variables ∙ sym both.2.variables) ∙ there in
+            let own = of_map lowered_root.own place x named in
+            slice_get_within dag.orders x own.0.order (ap (slice_get dag.orders) (sym own.2) ∙ each_at (HasOrder dag.orders) lowered_root.own listed place own.0 own.1);
+        among = λ j is_in. subst (λ (list : List ℕ). Contains list j) (sym both.2.variables) (All-contains (Contains both.0.variables) root.child.map j both.2.among is_in);
+      },
+    )
+  where
+    each_at : {X : Type 0} (P : X → Type 0) (xs : List X) → Each P xs → (place : ℕ) (x : X) → slice_get xs place ≡ Some x → P x
+    each_at P [] each place x held = absurd (none-some x held)
+    each_at P (y ∷ xs) each zero x held = subst P (same_Some y x held) each.0
+    each_at P (y ∷ xs) each (suc place) x held = each_at P xs each.1 place x held
+
+    of_map : (own : List Variable) (place x : ℕ) → slice_get (map (λ (v : Variable). v.name) own) place ≡ Some x → (v : Variable) × (slice_get own place ≡ Some v) × (v.name ≡ x)
+    of_map [] place x held = absurd (none-some x held)
+    of_map (v ∷ own) zero x held = (v, refl, same_Some v.name x held)
+    of_map (v ∷ own) (suc place) x held = of_map own place x held

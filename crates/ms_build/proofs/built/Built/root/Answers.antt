@@ -1,0 +1,36 @@
+use Rattle.std.proofs.Common.{sym, subst, arith}
+use Rattle.std.proofs.lemmas.Option.{slice_get_within}
+use Rattle.ms_build.specs.Built.{IsReadAt, entries_of}
+use Rattle.ms_build.specs.Roots.{AreRootVariables, IsOverRoot}
+use Rattle.ms_build.proofs.RootLemmas.{root_at, root_by}
+use Rattle.ms_build.proofs.built.Built.root.Goals as goal
+
+pub over_variables-requires-clause-read : goal.over_variables-requires-clause-read
+over_variables-requires-clause-read c =
+    let plan = c.args.self.now.plan in
+    let root = root_at plan.dag.now.roots c.args.r c.root-child.result.now c.variables-variables.result.now c.root-child.ensures c.variables-variables.ensures in
+    subst (IsReadAt (entries_of plan) plan.dag.now.orders) root.2 (c.requires.read c.args.r root.0 root.1).0
+
+pub over_variables-requires-clause-there : goal.over_variables-requires-clause-there
+over_variables-requires-clause-there c =
+    let plan = c.args.self.now.plan in
+    let root = root_at plan.dag.now.roots c.args.r c.root-child.result.now c.variables-variables.result.now c.root-child.ensures c.variables-variables.ensures in
+    let read = subst (IsReadAt (entries_of plan) plan.dag.now.orders) root.2 (c.requires.read c.args.r root.0 root.1).0 in
+    let less = slice_get_within (entries_of plan) c.root-child.result.now.node read.0 read.1 in
+    let all = c.requires.all in
+    omega (arith, less, all)
+
+pub over_variables-requires-clause-variables : goal.over_variables-requires-clause-variables
+over_variables-requires-clause-variables c =
+    let plan = c.args.self.now.plan in
+    let root = root_at plan.dag.now.roots c.args.r c.root-child.result.now c.variables-variables.result.now c.root-child.ensures c.variables-variables.ensures in
+    subst (λ variables. AreRootVariables plan.dag.now.orders c.root-child.result.now variables) root.3
+    (subst (λ child. AreRootVariables plan.dag.now.orders child root.0.variables) root.2 (c.requires.read c.args.r root.0 root.1).1)
+
+pub returns : goal.returns
+returns c =
+    let plan = c.args.self.now.plan in
+    let root = root_at plan.dag.now.roots c.args.r c.root-child.result.now c.variables-variables.result.now c.root-child.ensures c.variables-variables.ensures in
+    let over = subst (λ variables. IsOverRoot plan root.0.child variables c.in_ok-over.over) (sym root.3)
+    (subst (λ child. IsOverRoot plan child c.variables-variables.result.now c.in_ok-over.over) (sym root.2) c.in_ok-over.ensures) in
+    root_by plan c.args.r root.0 root.1 c.in_ok-over.over over c.least.result c.least.ensures.mode c.least.ensures.variables c.least.ensures.signs c.least.ensures.fewest

@@ -1,0 +1,4 @@
+pub mod Connectives
+pub mod Built
+pub mod Roots
+pub mod Laws

@@ -1,0 +1,122 @@
+ghost use Rattle.std.specs.Prelude.{◌≡◌, ◌<◌, ◌≤◌, ◌+◌, ℕ, length, IfOk, IfErr, OnOk};
+ghost use Rattle.ms_build.specs.Roots.{AreRootsRead, IsRootAt};
+ghost use Rattle.ms_dag.specs.Dag.{AreNodes};
+ghost use Rattle.ms_build.specs.Built.{AreBuiltFor, AreImportsOf, IsBuiltOver, IsLimit, IsStepRefused, entries_of};
+
+use crate::children::least;
+use crate::nodes::node;
+use crate::plan::Plan;
+use crate::roots::over_variables;
+use ms_dag::Dag;
+use ms_dfa::Automaton;
+use ms_edge::{List, NoMemory, Refusal, StepFault, push};
+use ms_logic::Mode;
+use std::alloc::Global;
+
+/// The automata of a graph, by the numbers of its nodes, each over the node's own variables and with fewest states.
+#[derive(Drop)]
+pub struct Built<'a> {
+    pub(crate) plan: Plan<'a>,
+    pub(crate) automata: List<Automaton>,
+}
+
+/// The refusal of a step, by the number of its node.
+fn refusal(step: u32, limit: u64, fault: StepFault) -> Refusal
+    ensures { IsStepRefused step limit result }
+{
+    match fault {
+        StepFault::Memory => Refusal::Memory,
+        StepFault::Nodes { .. } => Refusal::Nodes { step, limit },
+    }
+}
+
+/// The automaton of one node more.
+fn build_next(plan: &Plan, automata: &mut List<Automaton>) -> Result<(), StepFault>
+    requires limit { IsLimit plan.now.limit }
+    requires nodes { AreNodes (entries_of plan.now) }
+    requires few { length (entries_of plan.now) ≤ 4294967295 }
+    requires imports { AreImportsOf plan.now.imports.now plan.now.mode (entries_of plan.now) }
+    requires built { AreBuiltFor plan.now automata.old }
+    requires next { length automata.old < length (entries_of plan.now) }
+    ensures built { OnOk result (AreBuiltFor plan.now automata.new) }
+    ensures count { OnOk result (length automata.new ≡ length automata.old + 1) }
+{
+    let made = node(plan, automata)?;
+    match push(automata, made) {
+        Ok(()) => Ok(()),
+        Err(NoMemory) => Err(StepFault::Memory),
+    }
+}
+
+/// The automata of all nodes, lowest first.
+fn build_each(plan: &Plan) -> Result<List<Automaton>, Refusal>
+    requires limit { IsLimit plan.now.limit }
+    requires nodes { AreNodes (entries_of plan.now) }
+    requires few { length (entries_of plan.now) ≤ 4294967295 }
+    requires imports { AreImportsOf plan.now.imports.now plan.now.mode (entries_of plan.now) }
+    ensures built { IfOk result (AreBuiltFor plan.now) }
+    ensures all { IfOk result (λ made. length made ≡ length (entries_of plan.now)) }
+    ensures refused { IfErr result (λ refusal. (step : ℕ) × IsStepRefused step plan.now.limit refusal) }
+{
+    let mut automata = List::new(plan.alloc);
+    for step in 0..plan.dag.len() {
+        if let Err(fault) = build_next(plan, &mut automata) {
+            return Err(refusal(step, plan.limit, fault));
+        }
+    }
+    Ok(automata)
+}
+
+/// The automata of the nodes of a graph, lowest first, over the automata of its imports. Nodes and states of a step are
+/// together at most `limit`; a step that needs more is refused by its number.
+pub fn build<'a>(
+    alloc: Global,
+    dag: &'a Dag,
+    imports: &'a List<Automaton>,
+    mode: Mode,
+    limit: u64,
+) -> Result<Built<'a>, Refusal>
+    requires some { 1 ≤ limit }
+    requires small { limit ≤ 4000000000 }
+    requires nodes { AreNodes dag.now.entries }
+    requires few { length dag.now.entries ≤ 4294967295 }
+    requires imports { AreImportsOf imports.now mode dag.now.entries }
+    ensures built { IfOk result (IsBuiltOver imports.entry.now mode dag.entry.now.entries) }
+    ensures limit { IfOk result (λ built. built.plan.limit ≡ limit) }
+    ensures refused { IfErr result (λ refusal. (step : ℕ) × IsStepRefused step limit refusal) }
+{
+    let plan = Plan {
+        alloc,
+        dag,
+        imports,
+        mode,
+        limit,
+    };
+    let automata = build_each(&plan)?;
+    Ok(Built { plan, automata })
+}
+
+impl<'a> Built<'a> {
+    /// How many automata there are: one for each node.
+    pub fn len(&self) -> u32
+        requires { length self.now.automata ≤ 4294967295 }
+        ensures { result ≡ length self.now.automata }
+    {
+        self.automata.len() as u32
+    }
+
+    /// The automaton of this root, over all variables of the root and with fewest states.
+    pub fn root(&self, r: u32) -> Result<Automaton, StepFault>
+        requires limit { IsLimit self.now.plan.limit }
+        requires built { AreBuiltFor self.now.plan self.now.automata }
+        requires all { length self.now.automata ≡ length (entries_of self.now.plan) }
+        requires root { r < length self.now.plan.dag.now.roots }
+        requires read { AreRootsRead self.now.plan.dag.now }
+        ensures { IfOk result (IsRootAt self.now.plan r) }
+    {
+        let child = self.plan.dag.root(r);
+        let variables = self.plan.dag.variables(r);
+        let over = over_variables(&self.plan, &self.automata, child, variables)?;
+        least(&self.plan, &over)
+    }
+}

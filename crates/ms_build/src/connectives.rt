@@ -1,0 +1,148 @@
+ghost use Rattle.std.specs.Prelude.{◌≡◌, ◌<◌, [], length, IfOk};
+ghost use Rattle.ms_explore.specs.Tracks.{joined};
+ghost use Rattle.ms_minim.specs.Residual.{HasFewestStates};
+ghost use Rattle.ms_product.specs.Combined.{HaveEqualOrders, combined};
+ghost use Rattle.ms_theory.specs.Values.{HasValues, own_meaning};
+ghost use Rattle.ms_build.specs.Built.{AreBuiltFor, AreReadSomewhere, AreReadable, IsLimit, IsManyOf, IsNegationOf, IsPairOf, IsReadSomewhere, IsRestrictionOf, op_of};
+
+use crate::children::{brought, least};
+use crate::plan::{Many, Plan};
+use ms_basic::constant;
+use ms_dag::Child;
+use ms_dfa::Automaton;
+use ms_edge::{List, StepFault};
+use ms_product::{Op, combine, negate, restrict_to};
+
+/// The connective of two automata, with fewest states.
+fn combined(
+    plan: &Plan,
+    left: &Automaton,
+    right: &Automaton,
+    op: Op,
+) -> Result<Automaton, StepFault>
+    requires limit { IsLimit plan.now.limit }
+    requires mode { left.now.mode ≡ right.now.mode }
+    requires orders { HaveEqualOrders left.now.variables right.now.variables }
+    ensures mode { IfOk result (λ made. made.mode ≡ left.now.mode) }
+    ensures variables { IfOk result (λ made. made.variables ≡ joined left.now.variables right.now.variables) }
+    ensures values { IfOk result (HasValues (combined op (own_meaning left.now) (own_meaning right.now))) }
+    ensures fewest { IfOk result HasFewestStates }
+{
+    let made = combine(plan.alloc, left, right, op, plan.limit)?;
+    least(plan, &made)
+}
+
+/// The connective of two children.
+pub(crate) fn pair(
+    plan: &Plan,
+    built: &List<Automaton>,
+    left: &Child,
+    right: &Child,
+    op: Op,
+) -> Result<Automaton, StepFault>
+    requires limit { IsLimit plan.now.limit }
+    requires built { AreBuiltFor plan.now built.now }
+    requires left { left.now.node < length built.now }
+    requires right { right.now.node < length built.now }
+    requires read { AreReadSomewhere plan.now left.now right.now }
+    ensures { IfOk result (IsPairOf plan.now op left.now right.now) }
+{
+    let one = brought(plan, built, left)?;
+    let other = brought(plan, built, right)?;
+    // The states tell that these are automata.
+    let _ = one.states();
+    let _ = other.states();
+    combined(plan, &one, &other, op)
+}
+
+/// The negation of a child.
+pub(crate) fn negation(
+    plan: &Plan,
+    built: &List<Automaton>,
+    child: &Child,
+) -> Result<Automaton, StepFault>
+    requires limit { IsLimit plan.now.limit }
+    requires built { AreBuiltFor plan.now built.now }
+    requires there { child.now.node < length built.now }
+    requires read { IsReadSomewhere plan.now child.now }
+    ensures { IfOk result (IsNegationOf plan.now child.now) }
+{
+    let part = brought(plan, built, child)?;
+    // The states tell that it is an automaton.
+    let _ = part.states();
+    match negate(plan.alloc, &part) {
+        Ok(made) => Ok(made),
+        Err(_) => Err(StepFault::Memory),
+    }
+}
+
+/// A child as a restriction.
+pub(crate) fn restriction(
+    plan: &Plan,
+    built: &List<Automaton>,
+    child: &Child,
+) -> Result<Automaton, StepFault>
+    requires limit { IsLimit plan.now.limit }
+    requires built { AreBuiltFor plan.now built.now }
+    requires there { child.now.node < length built.now }
+    requires read { IsReadSomewhere plan.now child.now }
+    ensures { IfOk result (IsRestrictionOf plan.now child.now) }
+{
+    let part = brought(plan, built, child)?;
+    // The states tell that it is an automaton.
+    let _ = part.states();
+    match restrict_to(plan.alloc, &part) {
+        Ok(made) => Ok(made),
+        Err(_) => Err(StepFault::Memory),
+    }
+}
+
+/// The connective of two that is behind one of many.
+fn op_of(many: Many) -> Op
+    ensures { result ≡ op_of many }
+{
+    match many {
+        Many::All => Op::And,
+        Many::Any => Op::Or,
+    }
+}
+
+/// The connective of no children: a conjunction of none holds, and a disjunction does not.
+fn none(plan: &Plan, many: Many) -> Result<Automaton, StepFault>
+    ensures { IfOk result (IsManyOf plan.now many []) }
+{
+    let holds = match many {
+        Many::All => true,
+        Many::Any => false,
+    };
+    match constant(plan.alloc, holds, plan.mode) {
+        Ok(made) => Ok(made),
+        Err(_) => Err(StepFault::Memory),
+    }
+}
+
+/// The connective of these children, from the left. That of the first ones has fewest states.
+pub(crate) fn many(
+    plan: &Plan,
+    built: &List<Automaton>,
+    children: &List<Child>,
+    many: Many,
+) -> Result<Automaton, StepFault>
+    requires limit { IsLimit plan.now.limit }
+    requires built { AreBuiltFor plan.now built.now }
+    requires readable { AreReadable plan.now built.now children.now }
+    ensures { IfOk result (IsManyOf plan.now many children.now) }
+{
+    if children.is_empty() {
+        return none(plan, many);
+    }
+    let mut made = brought(plan, built, children.get(0))?;
+    for place in 1..children.len() {
+        let next = brought(plan, built, children.get(place))?;
+        // The states tell that these are automata.
+        let _ = made.states();
+        let _ = next.states();
+        made = combined(plan, &made, &next, op_of(many))?;
+    }
+    Ok(made)
+}

@@ -1,0 +1,58 @@
+ghost use Rattle.std.specs.Prelude.{◌≡◌, [], IfOk, if◌then◌else◌};
+ghost use Rattle.ms_basic.specs.Operands.{HaveOneOrder, operands_of};
+ghost use Rattle.ms_explore.specs.Tracks.{distinct};
+ghost use Rattle.ms_theory.specs.Values.{meaning_by};
+ghost use Rattle.ms_build.specs.Built.{IsImportOf, IsLimit, IsOver, IsPart, import_meaning, imports_for, relation_meaning};
+
+use crate::plan::Plan;
+use ms_basic::{basic, constant};
+use ms_dfa::Automaton;
+use ms_edge::{List, StepFault};
+use ms_logic::{Basic, Order};
+use ms_rename::rename;
+
+/// What always holds.
+pub(crate) fn truth(plan: &Plan) -> Result<Automaton, StepFault>
+    ensures { IfOk result (IsOver plan.now.mode [] (meaning_by (λ e. Unit {0}) (λ e. ⊥))) }
+{
+    match constant(plan.alloc, true, plan.mode) {
+        Ok(made) => Ok(made),
+        Err(_) => Err(StepFault::Memory),
+    }
+}
+
+/// What never holds.
+pub(crate) fn falsity(plan: &Plan) -> Result<Automaton, StepFault>
+    ensures { IfOk result (IsOver plan.now.mode [] (meaning_by (λ e. ⊥) (λ e. Unit {0}))) }
+{
+    match constant(plan.alloc, false, plan.mode) {
+        Ok(made) => Ok(made),
+        Err(_) => Err(StepFault::Memory),
+    }
+}
+
+/// A basic relation.
+pub(crate) fn relation(plan: &Plan, form: &Basic) -> Result<Automaton, StepFault>
+    requires limit { IsLimit plan.now.limit }
+    requires orders { HaveOneOrder (operands_of form.now) }
+    ensures { IfOk result (IsOver plan.now.mode (distinct (operands_of form.now)) (relation_meaning form.now)) }
+{
+    basic(plan.alloc, form, plan.mode, plan.limit)
+}
+
+/// An import, at these variables.
+pub(crate) fn imported(
+    plan: &Plan,
+    orders: &[Order],
+    number: u32,
+    variables: &List<u32>,
+) -> Result<Automaton, StepFault>
+    requires limit { IsLimit plan.now.limit }
+    requires import { IsImportOf plan.now.imports.now plan.now.mode orders.now number variables.now }
+    ensures { IfOk result (IsPart plan.now.mode orders.now variables.now (import_meaning (imports_for plan.now) number variables.now)) }
+{
+    let automaton = plan.imports.get(number as usize);
+    // The states tell that it is an automaton.
+    let _ = automaton.states();
+    rename(plan.alloc, automaton, variables.slice(), plan.limit)
+}

@@ -1,0 +1,16 @@
+//! From a graph of formulas to automata of fewest states, one for each node.
+#![tactic(auto)]
+
+mod bodies;
+mod built;
+mod children;
+mod connectives;
+mod laws;
+mod leaves;
+mod nodes;
+mod plan;
+mod quantified;
+mod roots;
+
+pub use built::{Built, build};
+pub use laws::laws_of_built;

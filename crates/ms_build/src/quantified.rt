@@ -1,0 +1,65 @@
+ghost use Rattle.std.specs.Prelude.{◌≡◌, ◌<◌, ◌++◌, ◌∷◌, [], length, IfOk, Some, None};
+ghost use Rattle.ms_dfa.specs.Automaton.{variable_of};
+ghost use Rattle.ms_build.specs.Built.{AreBuiltFor, IsLimit, IsQuantifiedOf, IsReadAt, entries_of};
+
+use crate::bodies::whole_body;
+use crate::children::brought;
+use crate::plan::Plan;
+use ms_dag::Child;
+use ms_dfa::Automaton;
+use ms_edge::{List, StepFault};
+use ms_logic::Order;
+use ms_project::{Quantifier, project};
+
+/// A quantifier over all values of its variable.
+pub(crate) fn over_all(
+    plan: &Plan,
+    built: &List<Automaton>,
+    quantifier: Quantifier,
+    body: &Child,
+    orders: &[Order],
+) -> Result<Automaton, StepFault>
+    requires limit { IsLimit plan.now.limit }
+    requires built { AreBuiltFor plan.now built.now }
+    requires there { body.now.node < length built.now }
+    requires bound { quantifier.track.variable ≡ length orders.now }
+    requires read { IsReadAt (entries_of plan.now) (orders.now ++ quantifier.track.order ∷ []) body.now }
+    ensures { IfOk result (IsQuantifiedOf plan.now orders.now quantifier None body.now) }
+{
+    let whole = whole_body(plan, built, body, orders, quantifier.track)?;
+    // The states tell that it is an automaton.
+    let _ = whole.states();
+    project(plan.alloc, &whole, None, quantifier, plan.limit)
+}
+
+/// A child that restricts a quantifier, and the body.
+#[derive(Clone, Copy)]
+pub(crate) struct Scope<'a> {
+    pub domain: &'a Child,
+    pub body: &'a Child,
+}
+
+/// A quantifier over the values at which its restriction is met.
+pub(crate) fn within(
+    plan: &Plan,
+    built: &List<Automaton>,
+    quantifier: Quantifier,
+    scope: Scope,
+    orders: &[Order],
+) -> Result<Automaton, StepFault>
+    requires limit { IsLimit plan.now.limit }
+    requires built { AreBuiltFor plan.now built.now }
+    requires there { scope.body.now.node < length built.now }
+    requires domain_there { scope.domain.now.node < length built.now }
+    requires bound { quantifier.track.variable ≡ length orders.now }
+    requires read { IsReadAt (entries_of plan.now) (orders.now ++ quantifier.track.order ∷ []) scope.body.now }
+    requires domain_read { IsReadAt (entries_of plan.now) (orders.now ++ quantifier.track.order ∷ []) scope.domain.now }
+    ensures { IfOk result (IsQuantifiedOf plan.now orders.now quantifier (Some scope.entry.domain.now) scope.entry.body.now) }
+{
+    let whole = whole_body(plan, built, scope.body, orders, quantifier.track)?;
+    let domain = brought(plan, built, scope.domain)?;
+    // The states tell that these are automata.
+    let _ = whole.states();
+    let _ = domain.states();
+    project(plan.alloc, &whole, Some(&domain), quantifier, plan.limit)
+}
