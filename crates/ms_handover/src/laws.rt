@@ -1,8 +1,11 @@
-//! What lowering asks of a checked source. The function has an empty body, and its contract states the law.
+//! What lowering and sharing ask of what they are handed. The function has an empty body, and its contract
+//! states the laws.
 
-ghost use Rattle.ms_handover.specs.Laws.{SourcesWithoutExportsListVariables};
+ghost use Rattle.ms_handover.specs.Laws.{SourcesWithoutExportsAreShared, SourcesWithoutExportsListVariables};
 
-/// A source whose numbers are in order and that exports nothing lists its variables, as lowering asks.
+/// A source whose numbers are in order and that exports nothing lists its variables, as lowering asks; and
+/// what lowering gives for it is what sharing asks, where its subformulas are few enough to be numbered.
 pub fn laws_of_handover()
-    ensures { SourcesWithoutExportsListVariables }
+    ensures lists_variables { SourcesWithoutExportsListVariables }
+    ensures shared { SourcesWithoutExportsAreShared }
 {}
