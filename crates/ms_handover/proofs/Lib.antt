@@ -1,2 +1,5 @@
+pub mod FewOfFormulas
+pub mod FewOfSources
+pub mod FewOfTerms
 pub mod Shared
 pub mod Unexported

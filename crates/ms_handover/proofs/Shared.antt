@@ -31,6 +31,7 @@ use Rattle.ms_dag.specs.Laws.{EachHasItsOrders, HasOrder, HaveTheirOrders, Restr
 use Rattle.ms_dag.specs.Lowered.{IsLoweredRoot}
 use Rattle.ms_dag.specs.Stands.{EachStands, RestrictionStands, Stands}
 use Rattle.ms_handover.specs.Laws.{SourcesWithoutExportsAreShared}
+use Rattle.ms_handover.proofs.FewOfSources.{roots_few}
 
 -- what holds of all in a scope holds of what is among them
 among_has : (P : Variable → Type 0) (scope : List Variable) (v : Variable) → Each P scope → Among scope v → P v
@@ -153,12 +154,12 @@ module _ (checked : Checked) (answers : Answers) (lists : ListsVariables checked
       }
 
 pub sources_shared : SourcesWithoutExportsAreShared
-sources_shared checked answers lowered lists unexported has orders bound small = record {
+sources_shared checked answers lowered lists unexported measured has orders bound = record {
   roots = each_by (IsLoweredRoot (problem_of checked answers).given.imports lowered.orders) lowered.roots (λ k root is.
       let within = slice_get_within lowered.roots k root is in
       let count = has.count in
       let main : k ≡ 0 = omega (arith, within, count, unexported) in
       root_lowered checked answers lists lowered.orders orders.of_globals root
       (subst (λ j. IsRootFor checked (problem_of checked answers) j root) main (has.each k root is)) (bound k root is));
-  small = small;
+  small = roots_few checked answers lowered.roots lowered.size lowered.depth has unexported measured;
 }

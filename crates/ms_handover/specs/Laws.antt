@@ -1,23 +1,23 @@
 -- What lowering asks of a source and what sharing asks of its core formulas, where nothing is exported.
-use Rattle.std.specs.Prelude.{◌≡◌, ◌+◌, ◌≤◌, length}
+use Rattle.std.specs.Prelude.{◌≡◌, length}
 use Rattle.ms_logic.specs.declared.checked.Checked.{Checked}
 use Rattle.ms_logic.specs.declared.core_formula.Lowered.{Lowered}
 use Rattle.ms_logic.specs.View.{problem_of}
 use Rattle.ms_lower.specs.Lowered.{HasRoots, ListsVariables}
-use Rattle.ms_lower.specs.Measure.{Answers}
+use Rattle.ms_lower.specs.Measure.{Answers, IsMeasure}
 use Rattle.ms_lower.specs.Orders.{HasOrders, RootsHaveOrders, above_roots}
 use Rattle.ms_rules.specs.Numbers.{IsWellNumbered}
 use Rattle.ms_dag.specs.Lowered.{IsLowered}
-use Rattle.ms_dag.specs.Subformulas.{subformulas_of_roots}
 
 -- a source whose numbers are in order, without exports, lists its variables
 abbrev pub SourcesWithoutExportsListVariables : Type 0
 SourcesWithoutExportsListVariables =
     (checked : Checked) (answers : Answers) → IsWellNumbered checked → length checked.exports ≡ 0 → ListsVariables checked (problem_of checked answers)
 
--- what lowering gives for a source without exports is what sharing asks, where its subformulas and roots are few enough to be numbered
+-- what lowering gives for a source without exports is what sharing asks
 abbrev pub SourcesWithoutExportsAreShared : Type 0
 SourcesWithoutExportsAreShared =
     (checked : Checked) (answers : Answers) (lowered : Lowered) → ListsVariables checked (problem_of checked answers) → length checked.exports ≡ 0
-    → HasRoots checked answers lowered.roots → HasOrders checked.globals (above_roots lowered.roots) lowered.orders → RootsHaveOrders lowered.roots lowered.orders
-    → subformulas_of_roots lowered.roots + length lowered.roots ≤ 4294967295 → IsLowered (problem_of checked answers).given.imports lowered
+    → IsMeasure (problem_of checked answers) lowered.size lowered.depth → HasRoots checked answers lowered.roots
+    → HasOrders checked.globals (above_roots lowered.roots) lowered.orders → RootsHaveOrders lowered.roots lowered.orders
+    → IsLowered (problem_of checked answers).given.imports lowered

@@ -4,7 +4,7 @@
 ghost use Rattle.ms_handover.specs.Laws.{SourcesWithoutExportsAreShared, SourcesWithoutExportsListVariables};
 
 /// A source whose numbers are in order and that exports nothing lists its variables, as lowering asks; and
-/// what lowering gives for it is what sharing asks, where its subformulas are few enough to be numbered.
+/// what lowering gives for it is what sharing asks.
 pub fn laws_of_handover()
     ensures lists_variables { SourcesWithoutExportsListVariables }
     ensures shared { SourcesWithoutExportsAreShared }
