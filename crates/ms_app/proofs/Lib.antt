@@ -1,10 +1,6 @@
-pub mod Beyond
-pub mod Building
-pub mod Claims
+pub mod Commands
 pub mod Deciding
 pub mod FirstAssignments
-pub mod InclusionLemmas
-pub mod Members
-pub mod PlainGlobals
+pub mod Graphs
+pub mod MainValues
 pub mod Results
-pub mod Subsets

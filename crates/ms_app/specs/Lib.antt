@@ -1,9 +1,7 @@
 pub mod Answer
-pub mod Built
-pub mod Claim
-pub mod Command
+pub mod Beyond
 pub mod Decision
 pub mod Examples
+pub mod Graph
 pub mod HasValue
-pub mod Import
-pub mod Inclusion
+pub mod Limits

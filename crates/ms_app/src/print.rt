@@ -56,7 +56,7 @@ fn status(refusal: &Refusal) -> Status
 }
 
 /// Prints that there is no memory, which takes none.
-fn out_of_memory<S: Sink>(out: &mut S) -> Status
+pub fn out_of_memory<S: Sink>(out: &mut S) -> Status
     ensures { Prints (S.told out.old) (S.told out.new) (answer_of Refusal.Memory []) result }
 {
     print(out, Status::NoMemory, OUT_OF_MEMORY)

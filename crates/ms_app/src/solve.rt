@@ -1,22 +1,22 @@
-ghost use Rattle.std.specs.Prelude.{◌≡◌, ◌⊎◌, [], map, IfOk};
+ghost use Rattle.std.specs.Prelude.{◌≡◌, ◌⊎◌, [], map, None, IfErr, IfOk};
 ghost use Rattle.ms_logic.specs.Verdict.{Problem};
 ghost use Rattle.ms_logic.specs.View.{problem_of};
-ghost use Rattle.ms_app.specs.Claim.{IsBuilt};
+ghost use Rattle.ms_app.specs.Limits.{IsUnsolved, IsWithinLimits};
+ghost use Rattle.ms_app.specs.Beyond.{first_beyond};
 ghost use Rattle.ms_app.specs.Decision.{ShowsFirst, IsFound, verdict_by};
 ghost use Rattle.ms_app.specs.HasValue.{HasMainValue};
+ghost use Rattle.ms_build.specs.Built.{IsLimit};
+ghost use Rattle.ms_rules.specs.Numbers.{IsWellNumbered};
 ghost use Rattle.ms_theory.specs.Values.{main_meaning};
 
-use crate::automaton::automaton;
-use crate::claim::claim_of;
+use crate::graph::graph_of;
+use crate::main_value::main_value;
 use ms_best::{assignment, first};
 use ms_dfa::{Automaton, Sign};
-use ms_edge::{List, Name, NoMemory, StepFault};
+use ms_edge::{List, Name, NoMemory, Refusal};
 use ms_logic::{Assignment, Checked};
 use ms_report::{Found, Verdict};
 use std::alloc::Global;
-
-/// The most nodes and states of an automaton.
-const NODE_LIMIT: u64 = 16_777_216;
 
 /// The first assignment at which the automaton has the sign, if there is one.
 fn shown(alloc: Global, automaton: &Automaton, sign: Sign) -> Result<Option<Assignment>, NoMemory>
@@ -74,20 +74,26 @@ fn names(alloc: Global, globals: &[ms_logic::Global]) -> Result<List<Name>, NoMe
     Ok(names)
 }
 
-/// What is found of a source that is built.
-pub fn solve(alloc: Global, checked: &Checked) -> Result<Found, NoMemory>
-    requires { IsBuilt checked.now }
-    ensures { IfOk result (IsFound (problem_of checked.now []) (map (λ g. g.name) checked.now.globals)) }
+/// What is found of a source that imports and exports nothing, where nodes and states of a step are together at most
+/// `limit`.
+pub fn solve(alloc: Global, checked: &Checked, limit: u64) -> Result<Found, Refusal>
+    requires numbered { IsWellNumbered checked.now }
+    requires built { first_beyond checked.now ≡ None }
+    requires limit { IsLimit limit }
+    ensures found { IfOk result (IsFound (problem_of checked.now []) (map (λ g. g.name) checked.now.globals)) }
+    ensures within { IfOk result (λ found. IsWithinLimits (problem_of checked.now [])) }
+    ensures refused { IfErr result (λ refusal. (refusal ≡ Refusal.Memory) ⊎ IsUnsolved checked.now limit refusal) }
 {
-    let Some(claim) = claim_of(checked.formulas.slice()) else {
-        unreachable!()
-    };
-    let count = checked.globals.len() as u32;
-    let automaton = match automaton(alloc, count, claim, NODE_LIMIT) {
+    let dag = graph_of(alloc, checked)?;
+    let automaton = match main_value(alloc, checked, &dag, limit) {
         Ok(automaton) => automaton,
-        Err(StepFault::Memory) => return Err(NoMemory),
-        Err(StepFault::Nodes { .. }) => unreachable!(),
+        Err(refusal) => return Err(refusal),
     };
-    let names = names(alloc, checked.globals.slice())?;
-    found(alloc, &automaton, names)
+    let Ok(names) = names(alloc, checked.globals.slice()) else {
+        return Err(Refusal::Memory);
+    };
+    match found(alloc, &automaton, names) {
+        Ok(found) => Ok(found),
+        Err(_) => Err(Refusal::Memory),
+    }
 }

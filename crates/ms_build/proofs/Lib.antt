@@ -13,3 +13,4 @@ pub mod ImportLemmas
 pub mod FormLemmas
 pub mod RootLemmas
 pub mod LawLemmas
+pub mod RefusalLemmas

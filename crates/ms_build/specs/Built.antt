@@ -12,6 +12,7 @@ use Rattle.ms_dag.specs.declared.node.DagNode.{DagNode}
 use Rattle.ms_dag.specs.declared.node.DagNode.TheVariants.{True, False, Basic, Not, And, Or, Implies, Iff, Restrict, Import, Bind}
 use Rattle.ms_logic.specs.Content.{Content, answer_of, variables_by_place}
 use Rattle.ms_logic.specs.Truth.{Answer, Import as Imported, answer_yes, answer_no, answer_undefined}
+use Rattle.ms_dag.specs.declared.dag.Dag.{Dag}
 use Rattle.ms_dag.specs.declared.node.Child.{Child}
 use Rattle.ms_dag.specs.declared.node.Entry.{Entry}
 use Rattle.ms_dag.specs.Dag.{places_in_maps}
@@ -21,6 +22,8 @@ use Rattle.ms_build.specs.declared.plan.Many.{Many}
 use Rattle.ms_build.specs.declared.plan.Many.TheVariants.{All, Any}
 use Rattle.ms_build.specs.declared.built.Built.{Built}
 use Rattle.ms_build.specs.declared.plan.Plan.{Plan}
+use Rattle.ms_edge.specs.declared.fault.StepFault.{StepFault}
+use Rattle.ms_edge.specs.declared.fault.StepFault.TheVariants as fault
 use Rattle.ms_edge.specs.declared.refusal.Refusal.{Refusal}
 use Rattle.ms_edge.specs.declared.refusal.Refusal.TheVariants.{Nodes, Memory}
 use Rattle.ms_build.specs.declared.nodes.Binder.{Binder}
@@ -256,15 +259,20 @@ IsBuiltAt plan i content =
     × IsLeastOf plan.mode (variables_by_place entry.orders) (node_meaning (imports_for plan) (entries_of plan) i) content
 
 -- the automata of all nodes of a graph
-pub record IsBuiltOver (imports : List (Content Sign)) (mode : Mode) (entries : List Entry) (built : Built) : Type 0 where
+pub record IsBuiltOver (imports : List (Content Sign)) (mode : Mode) (dag : Dag) (built : Built) : Type 0 where
   pub imports_are : built.plan.imports.now ≡ imports
   pub mode_is : built.plan.mode ≡ mode
-  pub entries_are : entries_of built.plan ≡ entries
+  pub dag_is : built.plan.dag.now ≡ dag
   pub each : AreBuiltFor built.plan built.automata
-  pub all : length built.automata ≡ length entries
+  pub all : length built.automata ≡ length dag.entries
 
--- a step was refused by its number, or memory was
+-- the refusal of a step, by its number
+abbrev pub refusal_of : ℕ → ℕ → StepFault → Refusal
+refusal_of step limit fault.Memory = Memory
+refusal_of step limit (fault.Nodes named) = Nodes step limit
+
+-- one of so many steps was refused by its number, or memory was
 abbrev pub IsStepRefused : ℕ → ℕ → Refusal → Type 0
-IsStepRefused step limit (Nodes refused named) = (refused ≡ step) × (named ≡ limit)
-IsStepRefused step limit Memory = Unit {0}
-IsStepRefused step limit other = ⊥
+IsStepRefused count limit (Nodes step named) = (step < count) × (named ≡ limit)
+IsStepRefused count limit Memory = Unit {0}
+IsStepRefused count limit other = ⊥

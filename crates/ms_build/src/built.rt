@@ -1,7 +1,7 @@
-ghost use Rattle.std.specs.Prelude.{◌≡◌, ◌<◌, ◌≤◌, ◌+◌, ℕ, length, IfOk, IfErr, OnOk};
+ghost use Rattle.std.specs.Prelude.{◌≡◌, ◌<◌, ◌≤◌, ◌+◌, length, IfOk, IfErr, OnOk};
 ghost use Rattle.ms_build.specs.Roots.{AreRootsRead, IsRootAt};
 ghost use Rattle.ms_dag.specs.Dag.{AreNodes};
-ghost use Rattle.ms_build.specs.Built.{AreBuiltFor, AreImportsOf, IsBuiltOver, IsLimit, IsStepRefused, entries_of};
+ghost use Rattle.ms_build.specs.Built.{AreBuiltFor, AreImportsOf, IsBuiltOver, IsLimit, IsStepRefused, entries_of, refusal_of};
 
 use crate::children::least;
 use crate::nodes::node;
@@ -22,7 +22,7 @@ pub struct Built<'a> {
 
 /// The refusal of a step, by the number of its node.
 fn refusal(step: u32, limit: u64, fault: StepFault) -> Refusal
-    ensures { IsStepRefused step limit result }
+    ensures { result ≡ refusal_of step limit fault }
 {
     match fault {
         StepFault::Memory => Refusal::Memory,
@@ -56,7 +56,7 @@ fn build_each(plan: &Plan) -> Result<List<Automaton>, Refusal>
     requires imports { AreImportsOf plan.now.imports.now plan.now.mode (entries_of plan.now) }
     ensures built { IfOk result (AreBuiltFor plan.now) }
     ensures all { IfOk result (λ made. length made ≡ length (entries_of plan.now)) }
-    ensures refused { IfErr result (λ refusal. (step : ℕ) × IsStepRefused step plan.now.limit refusal) }
+    ensures refused { IfErr result (IsStepRefused (length (entries_of plan.now)) plan.now.limit) }
 {
     let mut automata = List::new(plan.alloc);
     for step in 0..plan.dag.len() {
@@ -81,9 +81,9 @@ pub fn build<'a>(
     requires nodes { AreNodes dag.now.entries }
     requires few { length dag.now.entries ≤ 4294967295 }
     requires imports { AreImportsOf imports.now mode dag.now.entries }
-    ensures built { IfOk result (IsBuiltOver imports.entry.now mode dag.entry.now.entries) }
+    ensures built { IfOk result (IsBuiltOver imports.entry.now mode dag.entry.now) }
     ensures limit { IfOk result (λ built. built.plan.limit ≡ limit) }
-    ensures refused { IfErr result (λ refusal. (step : ℕ) × IsStepRefused step limit refusal) }
+    ensures refused { IfErr result (IsStepRefused (length dag.entry.now.entries) limit) }
 {
     let plan = Plan {
         alloc,

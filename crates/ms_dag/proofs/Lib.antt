@@ -1,5 +1,6 @@
 pub mod BinderLemmas
 pub mod Growth
+pub mod ImportLemmas
 pub mod KeyLemmas
 pub mod ListSteps
 pub mod MadeNodes

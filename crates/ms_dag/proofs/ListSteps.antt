@@ -8,7 +8,7 @@ use Rattle.ms_dag.specs.declared.node.Child.{Child}
 use Rattle.ms_dag.specs.declared.node.Entry.{Entry}
 use Rattle.ms_dag.specs.Dag.{AreNodes}
 use Rattle.ms_dag.specs.Scope.{IsInScope, AreInScope, forms_of}
-use Rattle.ms_dag.specs.Subformulas.{subformulas, subformulas_of_each}
+use Rattle.ms_core.specs.Subformulas.{subformulas, subformulas_of_each}
 use Rattle.ms_dag.specs.Shared.{IsShared, IsSharedNow, AreShared, AreSharedNow, Grown}
 use Rattle.ms_dag.proofs.Growth.{AreShared-kept, Grown-none, Grown-both}
 

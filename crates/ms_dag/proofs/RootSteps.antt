@@ -11,7 +11,7 @@ use Rattle.ms_dag.specs.declared.node.Child.{Child}
 use Rattle.ms_dag.specs.declared.node.Entry.{Entry}
 use Rattle.ms_dag.specs.declared.dag.SharedRoot.{SharedRoot}
 use Rattle.ms_dag.specs.Dag.{AreNodes, IsDag}
-use Rattle.ms_dag.specs.Subformulas.{subformulas, subformulas_of_roots}
+use Rattle.ms_core.specs.Subformulas.{subformulas, subformulas_of_roots}
 use Rattle.ms_dag.specs.Share.{IsRootOf, AreRootsOf, children_of_roots}
 use Rattle.ms_dag.specs.Shared.{IsRootNow, AreRootsNow}
 use Rattle.ms_dag.specs.Shared.{Grown}

@@ -18,7 +18,7 @@ use Rattle.ms_dag.specs.Dag.{places_in_maps}
 use Rattle.ms_dag.specs.Laws.{HasOrder}
 use Rattle.ms_dag.specs.Places.{AreBelow}
 use Rattle.ms_dag.specs.Scope.{IsInScope, forms_of}
-use Rattle.ms_dag.specs.Subformulas.{subformulas, subformulas_of_each}
+use Rattle.ms_core.specs.Subformulas.{subformulas, subformulas_of_each}
 use Rattle.ms_dag.specs.Shared.{IsShared, IsSharedNow, AreShared, AreSharedNow, Grown, IsAbove}
 use Rattle.ms_dag.specs.Unfolds.{names_of_basic}
 use Rattle.ms_dag.proofs.Growth.{IsShared-kept, Grown-both}

@@ -17,7 +17,7 @@ use Rattle.ms_dag.specs.Dag.{children_of, orders_inside, HasOwnOrders, places_in
 use Rattle.ms_dag.specs.Laws.{HasOrder}
 use Rattle.ms_dag.specs.Places.{AreAt, AreBelow, AreAmong}
 use Rattle.ms_dag.specs.Scope.{IsInScope, AreInScope}
-use Rattle.ms_dag.specs.Subformulas.{subformulas, subformulas_of_each}
+use Rattle.ms_core.specs.Subformulas.{subformulas, subformulas_of_each}
 use Rattle.ms_dag.specs.Shared.{IsShared, IsSharedNow, AreShared, Grown, IsAbove}
 use Rattle.ms_dag.specs.Unfolds.{node_at, Unfolds, UnfoldEach}
 use Rattle.ms_dag.proofs.Growth.{Keeps-numbers}

@@ -19,7 +19,7 @@ use Rattle.ms_dag.specs.Laws.{HasOrder}
 use Rattle.ms_dag.specs.Places.{AreAt, AreBelow, AreAmong}
 use Rattle.ms_dag.specs.Relations.{IsBasicNode, IsImportNode}
 use Rattle.ms_dag.specs.Scope.{IsInScope}
-use Rattle.ms_dag.specs.Subformulas.{subformulas}
+use Rattle.ms_core.specs.Subformulas.{subformulas}
 use Rattle.ms_dag.specs.Shared.{IsSharedNow, Grown, IsMade}
 use Rattle.ms_dag.specs.Unfolds.{node_at, renamed, names_of_basic, Unfolds}
 use Rattle.ms_dag.proofs.Growth.{Grown-none}

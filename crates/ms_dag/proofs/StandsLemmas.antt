@@ -15,7 +15,7 @@ use Rattle.ms_dag.specs.Laws.{HasOrder, HaveTheirOrders, EachHasItsOrders, Restr
 use Rattle.ms_dag.specs.Lowered.{IsLoweredRoot}
 use Rattle.ms_dag.specs.Places.{AreBelow}
 use Rattle.ms_dag.specs.Scope.{IsInScope, AreInScope, IsRestrictionInScope, IsRootInScope}
-use Rattle.ms_dag.specs.Stands.{Stands, EachStands, RestrictionStands}
+use Rattle.ms_core.specs.Stands.{Stands, EachStands, RestrictionStands}
 
 abbrev names : List Variable → List ℕ
 names vs = map (λ v. v.name) vs

@@ -2,6 +2,7 @@ pub mod Binders
 pub mod Connectives
 pub mod Dag
 pub mod Examples
+pub mod Imports
 pub mod Keys
 pub mod Laws
 pub mod Lowered
@@ -11,8 +12,6 @@ pub mod Relations
 pub mod Scope
 pub mod Share
 pub mod Shared
-pub mod Stands
-pub mod Subformulas
 pub mod Unfolds
 pub mod Values
 pub mod Words

@@ -9,8 +9,8 @@ use Rattle.ms_logic.specs.CoreForm.{core_form_of}
 use Rattle.ms_logic.specs.Truth.{Import}
 use Rattle.ms_rules.specs.Numbers.{Each}
 use Rattle.ms_dag.specs.Laws.{HasOrder, HaveTheirOrders}
-use Rattle.ms_dag.specs.Subformulas.{subformulas_of_roots}
-use Rattle.ms_dag.specs.Stands.{Stands}
+use Rattle.ms_core.specs.Subformulas.{subformulas_of_roots}
+use Rattle.ms_core.specs.Stands.{Stands}
 
 -- a root over a rising list of variables, each of which has its order among these: the variables of its formula stand in their scopes, and
 -- each of them has its order, too

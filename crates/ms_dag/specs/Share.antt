@@ -1,5 +1,5 @@
 -- What sharing promises.
-use Rattle.std.specs.Prelude.{◌≡◌, ◌≤◌, ℕ, length, List, map, slice_get, Some}
+use Rattle.std.specs.Prelude.{◌≡◌, ℕ, List, map, slice_get, Some}
 use Rattle.std.specs.List.{AllZip}
 use Rattle.std.specs.List.Sorted.{IsStrictlyIncreasing}
 use Rattle.ms_logic.specs.declared.core_formula.Lowered.{Lowered}
@@ -36,4 +36,3 @@ pub record IsDagOf (lowered : Lowered) (dag : Dag) : Type 0 where
   pub graph : IsDag dag.entries (children_of_roots dag.roots)
   pub roots : AreRootsOf lowered.orders dag.entries lowered.roots dag.roots
   pub orders_are : dag.orders ≡ lowered.orders
-  pub small : length dag.entries ≤ 4294967295

@@ -14,7 +14,7 @@ use Rattle.ms_dag.specs.Maps.{AreTheSameIn}
 use Rattle.ms_dag.specs.Places.{AreAt, AreAmong}
 use Rattle.ms_dag.specs.Scope.{IsInScope}
 use Rattle.ms_dag.specs.Share.{IsRootOf, AreRootsOf, children_of_roots}
-use Rattle.ms_dag.specs.Subformulas.{subformulas, subformulas_of_each, subformulas_of_roots}
+use Rattle.ms_core.specs.Subformulas.{subformulas, subformulas_of_each, subformulas_of_roots}
 use Rattle.ms_dag.specs.Unfolds.{Unfolds}
 
 -- the child is the formula, where its variables have their numbers in the source

@@ -1,7 +1,7 @@
 ghost use Rattle.ms_dag.specs.Dag.{AreNodes};
 ghost use Rattle.ms_dag.specs.Keys.{IsKeyed};
 ghost use Rattle.ms_dag.specs.Scope.{IsInScope, AreInScope, forms_of};
-ghost use Rattle.ms_dag.specs.Subformulas.{subformulas, subformulas_of_each};
+ghost use Rattle.ms_core.specs.Subformulas.{subformulas, subformulas_of_each};
 ghost use Rattle.ms_dag.specs.Shared.{AreSharedNow, IsSharedNow};
 ghost use Rattle.ms_logic.specs.CoreForm.{core_form_of};
 ghost use Rattle.std.specs.Prelude.{◌+◌, ◌≤◌, ℕ, List as Sequence, length, IfOk, OnOk};

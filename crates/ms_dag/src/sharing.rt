@@ -2,7 +2,7 @@ ghost use Rattle.ms_dag.specs.Dag.{AreNodes};
 ghost use Rattle.ms_dag.specs.Keys.{IsKeyed};
 ghost use Rattle.ms_dag.specs.Lowered.{IsLowered};
 ghost use Rattle.ms_dag.specs.Scope.{IsRootInScope};
-ghost use Rattle.ms_dag.specs.Subformulas.{subformulas, subformulas_of_roots};
+ghost use Rattle.ms_core.specs.Subformulas.{subformulas, subformulas_of_roots};
 ghost use Rattle.ms_dag.specs.Share.{IsDagOf};
 ghost use Rattle.ms_dag.specs.Shared.{AreRootsNow, IsRootNow};
 ghost use Rattle.ms_logic.specs.CoreForm.{core_form_of};

@@ -12,7 +12,7 @@ use Rattle.ms_logic.specs.Size.{Extent, Extents, extent_of_number, extent_of_set
 use Rattle.ms_logic.specs.Spread.{Callees, Names, Saying, after_first, callees_of, callees_of_imports, callees_with, callees_with_all, conjunction_of, default_names, first_named, is_member_or_not, named, numbers_and_sets, numbers_relate, restriction_before, restrictions_of, sets_relate, spread_each, spread_number, spread_restriction, spread_set, spread_under, truth_value, truth_values, variable_of_form}
 use Rattle.ms_logic.specs.Tree.{Form, truth, falsity, truth_variable, negation, conjunction, disjunction, implication, equivalence, comparison, set_comparison, membership, emptiness, quantified, where_let, call, restrict, imported, exported, default_at, Forms, no_forms, more_forms, Restriction, unrestricted, restricted, truth_argument, number_argument, set_argument, Arguments, no_arguments, more_arguments, Declaration, Predicate}
 use Rattle.ms_logic.specs.Truth.{Given}
-use Rattle.ms_dag.specs.Subformulas.{subformulas, subformulas_of_each, subformulas_of_restriction}
+use Rattle.ms_core.specs.Subformulas.{subformulas, subformulas_of_each, subformulas_of_restriction}
 use Rattle.ms_handover.proofs.FewOfTerms.{number_few, set_few}
 
 pub total_append : (xs ys : List Extent) → total_size (xs ++ ys) ≡ total_size xs + total_size ys

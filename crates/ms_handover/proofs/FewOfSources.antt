@@ -12,7 +12,7 @@ use Rattle.ms_lower.specs.Lowered.{HasRoots}
 use Rattle.ms_lower.specs.Measure.{Answers, IsMeasure}
 use Rattle.ms_lower.specs.NumberLaws.{numbering_in}
 use Rattle.ms_lower.specs.Numbering.{Numbering, renumbered, renumbered_each, renumbered_in}
-use Rattle.ms_dag.specs.Subformulas.{subformulas, subformulas_of_each, subformulas_of_restriction, subformulas_of_roots}
+use Rattle.ms_core.specs.Subformulas.{subformulas, subformulas_of_each, subformulas_of_restriction, subformulas_of_roots}
 use Rattle.ms_handover.proofs.FewOfFormulas.{conjunction_of_both, each_few, given_few}
 
 -- other numbers leave as many subformulas

@@ -7,7 +7,7 @@ use Rattle.ms_logic.specs.CoreForm.{basic}
 use Rattle.ms_logic.specs.Size.{Extent, extent_of_number, extent_of_set, extents_of_elements, total_size}
 use Rattle.ms_logic.specs.Spread.{Names, Saying, TermSpread, first_half, second_half, is_minus, is_only_member, set_of_elements, spread_elements, spread_number, spread_set}
 use Rattle.ms_logic.specs.Tree.{Term, number_variable, numeral, plus, minus, minimum, maximum, SetTerm, set_variable, empty_set, whole, literal, pconst, union, intersection, difference, shift_up, shift_down, Terms, no_terms, more_terms}
-use Rattle.ms_dag.specs.Subformulas.{subformulas}
+use Rattle.ms_core.specs.Subformulas.{subformulas}
 
 -- what is said has at most so many subformulas
 abbrev pub IsAtMost : Saying → ℕ → Type 0

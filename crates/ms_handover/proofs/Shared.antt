@@ -19,17 +19,15 @@ use Rattle.ms_logic.specs.View.{globals_from, problem_of}
 use Rattle.ms_lower.specs.Lowered.{IsRootFor, ListsVariables}
 use Rattle.ms_lower.specs.Measure.{Answers}
 use Rattle.ms_lower.specs.NumberLaws.{numbering_in}
-use Rattle.ms_lower.specs.Numbering.{Numbering, number_at}
+use Rattle.ms_lower.specs.Numbering.{Numbering, number_at, renumbered_variable}
 use Rattle.ms_lower.specs.Orders.{BoundHaveOrders, EachHasOrders, RestrictionHasOrders}
-use Rattle.ms_lower.specs.Stands as lower
-use Rattle.ms_lower.specs.Stands.{renumbered_variable, with_new_numbers}
 use Rattle.ms_lower.proofs.MainRoot.{first_free_globals, global-number}
 use Rattle.ms_lower.proofs.RootScopes.{root_scopes}
 use Rattle.ms_lower.proofs.SameNumbers.{numbers_rise}
+use Rattle.ms_core.specs.Stands.{EachStands, RestrictionStands, Stands}
 use Rattle.ms_rules.specs.Numbers.{Among, Each}
 use Rattle.ms_dag.specs.Laws.{EachHasItsOrders, HasOrder, HaveTheirOrders, RestrictionHasItsOrders}
 use Rattle.ms_dag.specs.Lowered.{IsLoweredRoot}
-use Rattle.ms_dag.specs.Stands.{EachStands, RestrictionStands, Stands}
 use Rattle.ms_handover.specs.Laws.{SourcesWithoutExportsAreShared}
 use Rattle.ms_handover.proofs.FewOfSources.{roots_few}
 
@@ -46,38 +44,10 @@ each_by : {X : Type 0} (P : X → Type 0) (xs : List X) → ((k : ℕ) (x : X) �
 each_by P [] by = tt
 each_by P (x ∷ xs) by = (by 0 x refl, each_by P xs (λ k y is. by (suc k) y is))
 
--- lowering and sharing say the same of scopes
-module _ (imports : List Import) where
-  mutual
-    same_stands : (scope : List Variable) (f : CoreForm) → lower.Stands imports scope f → Stands imports scope f
-    same_stands scope truth stands = tt
-    same_stands scope falsity stands = tt
-    same_stands scope (basic b) stands = stands
-    same_stands scope (negation f) stands = same_stands scope f stands
-    same_stands scope (conjunction fs) stands = same_each scope fs stands
-    same_stands scope (disjunction fs) stands = same_each scope fs stands
-    same_stands scope (implication f g) stands = (same_stands scope f stands.0, same_stands scope g stands.1)
-    same_stands scope (equivalence f g) stands = (same_stands scope f stands.0, same_stands scope g stands.1)
-    same_stands scope (restrict f) stands = same_stands scope f stands
-    same_stands scope (imported i xs) stands = stands
-    same_stands scope (quantified q o x d f) stands = (
-      stands.0,
-      same_restriction (record { name = x; order = o } ∷ scope) d stands.1,
-      same_stands (record { name = x; order = o } ∷ scope) f stands.2,
-    )
-
-    same_each : (scope : List Variable) (fs : CoreForms) → lower.EachStands imports scope fs → EachStands imports scope fs
-    same_each scope no_forms stands = tt
-    same_each scope (more_forms f fs) stands = (same_stands scope f stands.0, same_each scope fs stands.1)
-
-    same_restriction : (scope : List Variable) (d : CoreRestriction) → lower.RestrictionStands imports scope d → RestrictionStands imports scope d
-    same_restriction scope unrestricted stands = tt
-    same_restriction scope (restricted d) stands = same_stands scope d stands
-
 -- where the variables of a scope and those that are bound have their orders, all have
 module _ (imports : List Import) (orders : List Order) where
   mutual
-    all_ordered : (scope : List Variable) (f : CoreForm) → Each (HasOrder orders) scope → lower.Stands imports scope f → BoundHaveOrders orders f → HaveTheirOrders imports orders f
+    all_ordered : (scope : List Variable) (f : CoreForm) → Each (HasOrder orders) scope → Stands imports scope f → BoundHaveOrders orders f → HaveTheirOrders imports orders f
     all_ordered scope truth each stands bound = tt
     all_ordered scope falsity each stands bound = tt
     all_ordered scope (basic b) each stands bound = all_among (HasOrder orders) scope (variables_of_basic b) each stands
@@ -94,11 +64,11 @@ module _ (imports : List Import) (orders : List Order) where
       all_ordered (record { name = x; order = o } ∷ scope) f (bound.0, each) stands.2 bound.2,
     )
 
-    each_ordered : (scope : List Variable) (fs : CoreForms) → Each (HasOrder orders) scope → lower.EachStands imports scope fs → EachHasOrders orders fs → EachHasItsOrders imports orders fs
+    each_ordered : (scope : List Variable) (fs : CoreForms) → Each (HasOrder orders) scope → EachStands imports scope fs → EachHasOrders orders fs → EachHasItsOrders imports orders fs
     each_ordered scope no_forms each stands bound = tt
     each_ordered scope (more_forms f fs) each stands bound = (all_ordered scope f each stands.0 bound.0, each_ordered scope fs each stands.1 bound.1)
 
-    restriction_ordered : (scope : List Variable) (d : CoreRestriction) → Each (HasOrder orders) scope → lower.RestrictionStands imports scope d → RestrictionHasOrders orders d → RestrictionHasItsOrders imports orders d
+    restriction_ordered : (scope : List Variable) (d : CoreRestriction) → Each (HasOrder orders) scope → RestrictionStands imports scope d → RestrictionHasOrders orders d → RestrictionHasItsOrders imports orders d
     restriction_ordered scope unrestricted each stands bound = tt
     restriction_ordered scope (restricted d) each stands bound = all_ordered scope d each stands bound
 
@@ -141,7 +111,7 @@ module _ (checked : Checked) (answers : Answers) (lists : ListsVariables checked
       (subst (λ vs. Each (HasOrder orders) (map (renumbered_variable n) vs)) (sym own_variables)
       (globals_listed n kept globals orders (λ o x. refl) 0 checked.globals
       (λ x g is. let behind_none : x ≡ 0 + x = omega arith in subst (λ y. slice_get orders y ≡ Some g.order) behind_none (of_globals x g is)) enough)) in
-      let stands = subst (lower.Stands imports r.made.variables) r.formula r.stands in
+      let stands = subst (Stands imports r.made.variables) r.formula r.stands in
       record {
         rising =
             subst (λ (list : List ℕ). IsStrictlyIncreasing list) r.variables
@@ -149,7 +119,7 @@ module _ (checked : Checked) (answers : Answers) (lists : ListsVariables checked
         own = r.made.variables;
         variables = r.variables;
         listed = listed;
-        stands = same_stands imports r.made.variables (core_form_of root.core) stands;
+        stands = stands;
         orders_of_all = all_ordered imports orders r.made.variables (core_form_of root.core) listed stands bound;
       }
 

@@ -111,7 +111,7 @@ none_placed (p ∷ placed) none =
     let both = both_empty (numbers.exports_in (formula_of p.formula)) (flat_map (λ q. numbers.exports_in (formula_of q.formula)) placed) none in
     ap (λ list. list ++ numbers.exports_in_all (forms (map (λ q. formula_of q.formula) placed))) both.0 ∙ none_placed placed both.1
 
-forms_numbered : (tables : numbers.Tables) (bound : ℕ) (seen : List Variable) (placed : List Placed) → Each (λ p. IsNumbered tables bound seen (formula_of p.formula)) placed
+pub forms_numbered : (tables : numbers.Tables) (bound : ℕ) (seen : List Variable) (placed : List Placed) → Each (λ p. IsNumbered tables bound seen (formula_of p.formula)) placed
     → AreNumbered tables bound seen (forms (map (λ p. formula_of p.formula) placed))
 forms_numbered tables bound seen [] each = tt
 forms_numbered tables bound seen (p ∷ placed) each = (each.0, forms_numbered tables bound seen placed each.1)

@@ -16,7 +16,7 @@ use Rattle.ms_lower.specs.Measure.{Answers}
 use Rattle.ms_lower.specs.NumberLaws.{numbering_in}
 use Rattle.ms_lower.specs.Numbering.{Numbering, number_at, renumbered, renumbered_each, renumbered_in}
 use Rattle.ms_lower.specs.Orders.{BoundHaveOrders, EachHasOrders, HasOrders, RestrictionHasOrders, above_bound, above_bound_each, above_bound_in, above_root, above_roots}
-use Rattle.ms_lower.specs.Stands.{EachStands, RestrictionStands, Stands}
+use Rattle.ms_core.specs.Stands.{EachStands, RestrictionStands, Stands}
 use Rattle.ms_lower.proofs.KeptScopes.{have_orders}
 use Rattle.ms_lower.proofs.RootScopes.{root_scopes}
 

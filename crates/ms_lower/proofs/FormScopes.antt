@@ -18,7 +18,7 @@ use Rattle.ms_logic.specs.Tree.{Form, truth, falsity, truth_variable, negation, 
 use Rattle.ms_logic.specs.Truth.{Import}
 use Rattle.ms_rules.specs.Numbers.{Among, Each}
 use Rattle.ms_lower.specs.Given.{Inner}
-use Rattle.ms_lower.specs.Stands.{EachStands, RestrictionStands, Stands}
+use Rattle.ms_core.specs.Stands.{EachStands, RestrictionStands, Stands}
 use Rattle.ms_lower.proofs.TermScopes.{Below, Covers, SaysWell, Wider, at, below_new, number_well, set_well, variable}
 
 order_is : (o p : Order) → is_order o p ≡ true → o ≡ p

@@ -8,7 +8,7 @@ use Rattle.ms_logic.specs.Verdict.{Problem, variables_of}
 use Rattle.ms_logic.specs.View.{globals_from, problem_of}
 use Rattle.ms_lower.specs.Lowered.{ListsVariables, reads_of}
 use Rattle.ms_lower.specs.Measure.{Answers}
-use Rattle.ms_lower.specs.Stands.{Stands}
+use Rattle.ms_core.specs.Stands.{Stands}
 use Rattle.ms_lower.proofs.FormScopes.{conjunction_stands, forms_stand}
 use Rattle.ms_lower.proofs.SameNumbers.{below_first_free}
 use Rattle.ms_lower.proofs.SourceScopes.{export_stands, fits_given, listed_among, restrictions_stand}

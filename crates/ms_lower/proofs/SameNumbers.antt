@@ -15,9 +15,9 @@ use Rattle.ms_logic.specs.Spread.{is_order, variables_of_import}
 use Rattle.ms_logic.specs.Steps.{variables_at, variables_of_basic}
 use Rattle.ms_logic.specs.Truth.{Import}
 use Rattle.ms_rules.specs.Numbers.{Among, Each}
-use Rattle.ms_lower.specs.Numbering.{Numbering, number_at, rank, renumbered, renumbered_basic, renumbered_each, renumbered_in}
+use Rattle.ms_lower.specs.Numbering.{Numbering, number_at, rank, renumbered, renumbered_basic, renumbered_each, renumbered_in, renumbered_variable, with_new_numbers}
 use Rattle.ms_lower.specs.NumberLaws.{numbering_in}
-use Rattle.ms_lower.specs.Stands.{EachStands, RestrictionStands, Stands, renumbered_variable, with_new_numbers}
+use Rattle.ms_core.specs.Stands.{EachStands, RestrictionStands, Stands}
 
 rank_small : (o : Order) → rank o < 3
 rank_small Zero = omega arith

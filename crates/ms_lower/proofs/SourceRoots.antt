@@ -22,12 +22,11 @@ use Rattle.ms_lower.specs.Callees.{callees_in, callees_of_uses}
 use Rattle.ms_lower.specs.Lowered.{ExportsFit, ExportsFitEach, HasRoots, IsRootFor, ListsVariables, numbering_for, with_numbers}
 use Rattle.ms_lower.specs.Measure.{Answers}
 use Rattle.ms_lower.specs.NumberLaws.{numbering_in}
-use Rattle.ms_lower.specs.Stands.{renumbered_variable, with_new_numbers}
 use Rattle.ms_lower.proofs.KeptScopes.{keep_scopes}
 use Rattle.ms_lower.proofs.SameNumbers.{keep_roots}
 use Rattle.ms_lower.proofs.RootScopes.{root_scopes}
 use Rattle.ms_lower.specs.NumberedRoots.{NumberedRoot, all_roots, globals_over, main_over, numbering_over, renumbered_root, root_of, root_over, roots_among, roots_in, variables_of_export, with_orders}
-use Rattle.ms_lower.specs.Numbering.{Numbering, number_at, renumbered, variables_of_use}
+use Rattle.ms_lower.specs.Numbering.{Numbering, number_at, renumbered, renumbered_variable, variables_of_use, with_new_numbers}
 
 same_variables : (uses : List ImportUse) (answers : Answers) (i : ℕ) → length answers ≡ length uses →
     variables_of_use (slice_get uses i) ≡ variables_of_import (slice_get (map (λ p. import_of p.0 p.1) (zip uses answers)) i)

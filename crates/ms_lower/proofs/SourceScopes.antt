@@ -11,7 +11,7 @@ use Rattle.ms_logic.specs.Spread.{Callees, Names, callees_of, callees_of_imports
 use Rattle.ms_logic.specs.Tree.{Form, Declaration, Predicate, Restriction, unrestricted, restricted}
 use Rattle.ms_logic.specs.Truth.{Given, Import}
 use Rattle.ms_rules.specs.Numbers.{Among}
-use Rattle.ms_lower.specs.Stands.{EachStands, Stands}
+use Rattle.ms_core.specs.Stands.{EachStands, Stands}
 use Rattle.ms_lower.proofs.FormScopes.{Fits, conjunction_stands, form_stands, named_or}
 use Rattle.ms_lower.proofs.TermScopes.{Below, Covers, at, variable}
 use Rattle.ms_lower.proofs.SameNumbers.{below_first_free}

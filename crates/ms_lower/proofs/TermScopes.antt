@@ -10,7 +10,7 @@ use Rattle.ms_logic.specs.Spread.{Names, Saying, TermSpread, first_half, second_
 use Rattle.ms_logic.specs.Tree.{Term, number_variable, numeral, plus, minus, minimum, maximum, SetTerm, set_variable, empty_set, whole, literal, pconst, union, intersection, difference, shift_up, shift_down, Terms, no_terms, more_terms}
 use Rattle.ms_logic.specs.Truth.{Import}
 use Rattle.ms_rules.specs.Numbers.{Among, Each}
-use Rattle.ms_lower.specs.Stands.{Stands}
+use Rattle.ms_core.specs.Stands.{Stands}
 
 abbrev pub variable : ℕ → Order → Variable
 variable x o = record { name = x; order = o }

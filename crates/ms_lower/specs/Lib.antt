@@ -10,5 +10,4 @@ pub mod NumberLaws
 pub mod NumberedRoots
 pub mod Orders
 pub mod Scope
-pub mod Stands
 pub mod TooDeep

@@ -8,7 +8,7 @@ use Rattle.ms_logic.specs.CoreForm.{core_form_of}
 use Rattle.ms_logic.specs.FreeVariables.{FreeInForms, FreeInRestrictions, IsListed, Reads, reads_of_imports, reads_with_predicates}
 use Rattle.ms_logic.specs.SameUpToBound.{SameRoot}
 use Rattle.ms_lower.specs.NumberLaws.{numbering_in}
-use Rattle.ms_lower.specs.Stands.{Stands, with_new_numbers}
+use Rattle.ms_core.specs.Stands.{Stands}
 use Rattle.ms_logic.specs.Roots.{AreFreeVariables, first_free, IsRoot, Root, exports_among}
 use Rattle.ms_logic.specs.Tree.{Form, truth, falsity, truth_variable, negation, conjunction, disjunction, implication, equivalence, comparison, set_comparison, membership, emptiness, quantified, where_let, call, restrict, imported, exported, default_at, Forms, no_forms, more_forms}
 use Rattle.ms_logic.specs.Truth.{Given}
@@ -17,7 +17,7 @@ use Rattle.ms_logic.specs.View.{problem_of}
 use Rattle.ms_rules.specs.Numbers.{CountUp}
 use Rattle.ms_lower.specs.Measure.{Answers}
 use Rattle.ms_lower.specs.NumberedRoots.{NumberedRoot, globals_over, variables_of_export, with_orders}
-use Rattle.ms_lower.specs.Numbering.{Numbering, number_at, renumbered, variables_of_use}
+use Rattle.ms_lower.specs.Numbering.{Numbering, number_at, renumbered, variables_of_use, with_new_numbers}
 
 -- what predicates and imports read
 abbrev pub reads_of : Given → Reads

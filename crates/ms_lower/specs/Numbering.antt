@@ -10,6 +10,7 @@ use Rattle.ms_logic.specs.declared.mode.Order.{Order}
 use Rattle.ms_logic.specs.declared.mode.Order.TheVariants.{Zero, One, Two}
 use Rattle.ms_logic.specs.Assignment.{Variable}
 use Rattle.ms_logic.specs.CoreForm.{CoreForm, truth, falsity, basic, negation, conjunction, disjunction, implication, equivalence, restrict, imported, quantified, CoreForms, no_forms, more_forms, CoreRestriction, unrestricted, restricted}
+use Rattle.ms_logic.specs.Roots.{Root}
 use Rattle.ms_lower.specs.declared.tables.Tables.{Tables}
 
 abbrev pub rank : Order → ℕ
@@ -65,6 +66,14 @@ abbrev mutual
   pub renumbered_in : Numbering → CoreRestriction → CoreRestriction
   renumbered_in n unrestricted = unrestricted
   renumbered_in n (restricted d) = restricted (renumbered n d)
+
+-- a variable with its number of the answer
+abbrev pub renumbered_variable : Numbering → Variable → Variable
+renumbered_variable n v = record { name = n.number v.order v.name; order = v.order }
+
+-- a root with the numbers of the answer
+abbrev pub with_new_numbers : Numbering → Root → Root
+with_new_numbers n root = record { variables = map (renumbered_variable n) root.variables; formula = renumbered n root.formula }
 
 -- the variable that stands for one of an import
 abbrev pub variable_of_pair : MapPair → Variable

@@ -1,6 +1,6 @@
 -- The quotient by residuals gives each word the sign that the automaton gives it, is an automaton, and has fewest states
 -- (Myhill, 1957; Nerode, 1958).
-use Rattle.std.proofs.Common.{◌≡◌, ◌≢◌, ℕ, ◌<◌, ◌≤◌, Bool, true, false, List, [], ◌∷◌, ◌++◌, length, slice_get, Some, Result, refl, sym, ap, subst, ◌∙◌, arith}
+use Rattle.std.proofs.Common.{◌≡◌, ◌≢◌, ℕ, ◌<◌, ◌≤◌, Bool, true, false, List, length, slice_get, Some, Result, refl, sym, ap, subst, ◌∙◌, arith}
 use Rattle.std.proofs.lemmas.Option.{slice_get_within, same_Some, get_or_from_slice_get}
 use Rattle.ms_edge.specs.declared.fault.StepFault.{StepFault}
 use Rattle.ms_edge.specs.declared.refusal.Word.{Word}
@@ -18,37 +18,24 @@ use Rattle.ms_logic.specs.declared.mode.Mode.{Mode}
 use Rattle.ms_dfa.specs.declared.state.State.{State}
 use Rattle.ms_logic.specs.declared.mode.Order.{Order}
 use Rattle.ms_logic.specs.declared.sign.Sign.{Sign}
-use Rattle.ms_logic.specs.Assignment.{Variable}
 use Rattle.ms_logic.specs.Content.{Content, HasValueAt, AreLetters, IsWordOver, IsClosed, IsFollowed, is_in_letters, is_truth_value, first_state, state_after, last_state, sign_at, sign_of, truth_bits, letter_bits}
 use Rattle.ms_logic.proofs.WordLaws.{encoding_is_over}
 use Rattle.ms_theory.specs.Machine.{machine_of}
-use Rattle.ms_theory.specs.Values.{HasValues, own_meaning}
-use Rattle.ms_theory.proofs.MachineLemmas.{state_after-machine}
+use Rattle.ms_theory.specs.Values.{own_meaning}
+use Rattle.ms_theory.proofs.MachineLemmas.{related_at_end, state_after-machine}
 use Rattle.ms_theory.proofs.OwnMeaningLemmas.{next_within, last_within, word_has_sign, HasValues-own, IsMeaning-own}
 use Rattle.ms_theory.proofs.ValuesLemmas.{IsAutomaton-by_values}
 use Rattle.ms_explore.specs.Explored.{Findings, Leads, Follows, Explores}
 use Rattle.ms_explore.specs.Run.{IsOver, AreNames}
-use Rattle.ms_explore.proofs.RunLemmas.{explored, length-states_of, IsClosed-explored, sign_of_explored}
+use Rattle.ms_explore.proofs.RunLemmas.{explored, length-states_of, IsClosed-explored, IsSimulation-explored, sign_of_explored}
 use Rattle.ms_minim.specs.Residual.{HaveEqualResiduals, HaveEqualSigns, HasFewestStates}
 use Rattle.ms_minim.specs.Partition.{HaveOneClass, behind, next_by}
 use Rattle.ms_minim.specs.Quotient.{Quotienting, IsNumberOf, IsMemberOf, IsQuotient, sign_or_outside, sign_of_number, quotient_findings}
+use Rattle.ms_minim.specs.Reduced.{IsReducedOf, content_over}
+use Rattle.ms_minim.proofs.LettersLemmas.{over-with_letters, sign_of-with_letters, with_letters}
 use Rattle.ms_minim.proofs.Pigeonhole.{counted}
 use Rattle.ms_minim.proofs.QuotientLemmas.{one_number}
-use Rattle.ms_minim.proofs.ResidualLemmas.{state_after-append, next_by-letter, state_followed}
-
--- a word, and letters behind it
-abbrev with_letters : Word → List (List Bool) → Word
-with_letters word letters = record { truth = word.truth; letters = word.letters ++ letters }
-
-sign_of-with_letters : (content : Content Sign) (word : Word) (letters : List (List Bool)) → sign_of content (with_letters word letters) ≡ sign_at content (state_after content (last_state content word) letters)
-sign_of-with_letters content word letters = ap (sign_at content) (state_after-append content (first_state content word.truth) word.letters letters)
-
-AreLetters-append : (variables : List Variable) (first second : List (List Bool)) → AreLetters variables first → AreLetters variables second → AreLetters variables (first ++ second)
-AreLetters-append variables [] second are also = also
-AreLetters-append variables (letter ∷ first) second are also = (are.0, AreLetters-append variables first second are.1 also)
-
-over-with_letters : (variables : List Variable) (word : Word) (letters : List (List Bool)) → IsWordOver variables word → AreLetters variables letters → IsWordOver variables (with_letters word letters)
-over-with_letters variables word letters over are = record { truth = over.truth; letters = AreLetters-append variables word.letters letters over.letters are }
+use Rattle.ms_minim.proofs.ResidualLemmas.{next_by-letter, state_followed}
 
 -- words that lead to one state of a content with the same signs lead to states with equal residuals
 residuals_by : (content other : Content Sign) → HaveEqualSigns content other → (one two : Word) → IsWordOver content.variables one → IsWordOver content.variables two
@@ -188,25 +175,79 @@ module _ (content : Content Sign) (classes members map : List ℕ) (pairs : List
     pub HaveEqualSigns-made : HaveEqualSigns content made
     HaveEqualSigns-made = sign_of-made
 
-    HasValues-made : HasValues (own_meaning content) made
-    HasValues-made = record {
-      right = λ word e assigned encodes.
-          let own = (HasValues-own content quotient.automaton).right word e assigned encodes in
-          (own.0, sign_of-made word (encoding_is_over content.variables word e encodes) ∙ own.1, own.2);
-      outside = λ word over outside. sign_of-made word over ∙ (HasValues-own content quotient.automaton).outside word over outside;
-    }
-
-    pub IsAutomaton-made : IsAutomaton made
-    IsAutomaton-made =
-        IsAutomaton-by_values (own_meaning content) made (IsMeaning-own content quotient.automaton) HasValues-made ordered reduced
-        (IsClosed-explored nodes content.mode content.variables start states findings ordered reduced IsOver-quotient starts all follows) quotient.automaton.rising
-        (let counted_states = length-states_of states in let small = quotient.numbering.small in omega (arith, counted_states, all, small))
-
     pub HasFewestStates-made : HasFewestStates made
     HasFewestStates-made other closed variables signs =
         let few = few_numbers other closed (λ word over. signs word over ∙ sign_of-made word over) in
         let counted_states = length-states_of states in
         omega (arith, counted_states, all, few)
+
+    -- the number of a word's end is that of the class of its end
+    named : (word : Word) → IsWordOver content.variables word → IsNumberOf classes pairs (last_state content word) (last_state made word)
+    named word over =
+        let simulation = IsSimulation-explored nodes content.mode content.variables start states findings ordered reduced IsOver-quotient starts all follows (machine_of content) sign_by IsName AreNames-quotient in
+        let related = related_at_end made (machine_of content) (λ number state. (number < length pairs) × IsName number state) simulation word over in
+        subst (λ state. IsNumberOf classes pairs state (last_state made word)) (sym (state_after-machine content (first_state content word.truth) word.letters)) related.1.0
+
+    -- some word leads to each state
+    reached-made : (number : ℕ) → number < length made.states → (word : Word) × IsWordOver content.variables word × (last_state made word ≡ number)
+    reached-made number less =
+        let counted_states = length-states_of states in
+        let held = slice_get-held pairs number (omega (arith, less, counted_states, all)) in
+        let reached = quotient.reached number held.0 held.1 in
+        let word = reached.0.word in (
+          word,
+          reached.0.over,
+          one_number classes pairs quotient.numbering (last_state content word) (last_state content word) (last_state made word) number (named word reached.0.over)
+              (record { class = held.0.0; class_is = reached.0.ends; number_is = held.1 ∙ ap (λ (n : ℕ). Some (held.0.0, n)) reached.1 }) refl,
+        )
+
+    sign-behind : (word : Word) → IsWordOver content.variables word → (letters : List (List Bool)) → AreLetters content.variables letters
+        → sign_at content (state_after content (last_state content word) letters) ≡ sign_at made (state_after made (last_state made word) letters)
+    sign-behind word over letters are =
+        sym (sign_of-with_letters content word letters) ∙ sym (sign_of-made (with_letters word letters) (over-with_letters content.variables word letters over are))
+        ∙ sign_of-with_letters made word letters
+
+    -- no two of them have equal residuals
+    differ-made : (one other : ℕ) → one < length made.states → other < length made.states → HaveEqualResiduals made one other → one ≡ other
+    differ-made one other less_one less_other same =
+        let first = reached-made one less_one in
+        let second = reached-made other less_other in
+        let equal : HaveEqualResiduals content (last_state content first.0) (last_state content second.0) = λ letters are.
+        sign-behind first.0 first.1 letters are ∙ ap (λ n. sign_at made (state_after made n letters)) first.2 ∙ same letters are
+        ∙ sym (ap (λ n. sign_at made (state_after made n letters)) second.2) ∙ sym (sign-behind second.0 second.1 letters are)
+        in
+        let class = quotient.nerode.partition.kept (last_state content first.0) (last_state content second.0)
+        (last_within content quotient.automaton.closed first.0) (last_within content quotient.automaton.closed second.0) equal in
+        sym first.2
+        ∙ one_number classes pairs quotient.numbering (last_state content first.0) (last_state content second.0) (last_state made first.0) (last_state made second.0)
+        (named first.0 first.1) (named second.0 second.1) class
+        ∙ second.2
+
+    pub IsReducedOf-made : length nodes ≤ length content.nodes → IsReducedOf content made
+    IsReducedOf-made no_more_nodes = record {
+      ordered = ordered;
+      reduced = reduced;
+      closed = IsClosed-explored nodes content.mode content.variables start states findings ordered reduced IsOver-quotient starts all follows;
+      few_states = (let counted_states = length-states_of states in let small = quotient.numbering.small in omega (arith, counted_states, all, small));
+      signs = sign_of-made;
+      fewest = HasFewestStates-made;
+      reached = reached-made;
+      differ = differ-made;
+      no_more_nodes = no_more_nodes;
+    }
+
+-- what an automaton is reduced to is one, where its signs are read as they are
+pub IsAutomaton-reduced : (a : Content Sign) → IsAutomaton a → (nodes : List Node) (start : Ref) (states : List State) → IsReducedOf a (content_over a nodes start states)
+    → IsAutomaton (content_over a nodes start states)
+IsAutomaton-reduced a automaton nodes start states is =
+    IsAutomaton-by_values (own_meaning a) (content_over a nodes start states) (IsMeaning-own a automaton)
+    (record {
+      right = λ word e assigned encodes.
+          let own = (HasValues-own a automaton).right word e assigned encodes in
+          (own.0, is.signs word (encoding_is_over a.variables word e encodes) ∙ own.1, own.2);
+      outside = λ word over outside. is.signs word over ∙ (HasValues-own a automaton).outside word over outside;
+    })
+    is.ordered is.reduced is.closed automaton.rising is.few_states
 
 -- a quotient whose content is that of an automaton
 module _ (a : Content Sign) (seen : Quotienting) (same : seen.content ≡ a) where

@@ -1,11 +1,13 @@
 pub mod ExampleLemmas
 pub mod Pigeonhole
+pub mod LettersLemmas
 pub mod ResidualLemmas
 pub mod SplitLemmas
 pub mod PartitionLemmas
 pub mod MarkLemmas
 pub mod LeadLemmas
 pub mod QuotientLemmas
+pub mod ReadingLemmas
 pub mod FewestLemmas
 pub mod NodeLemmas
 pub mod PredecessorsLemmas

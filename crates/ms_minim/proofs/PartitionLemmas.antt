@@ -4,7 +4,7 @@ use Rattle.std.proofs.lemmas.Bool.{cases_lt}
 use Rattle.std.proofs.lemmas.Option.{slice_get_within, same_Some, none-some}
 use Rattle.ms_arena.proofs.Lists.{slice_get-held, slice_get-append_left, slice_get-push, slice_get-pushed}
 use Rattle.ms_arena.specs.Diagram.{Bits}
-use Rattle.ms_dfa.specs.Automaton.{IsAutomaton}
+use Rattle.ms_minim.specs.Reading.{IsRead}
 use Rattle.ms_logic.specs.declared.sign.Sign.{Sign}
 use Rattle.ms_logic.specs.Content.{Content}
 use Rattle.ms_edge.specs.declared.fault.NoMemory.{NoMemory}
@@ -25,7 +25,7 @@ few_classes classes members inhabited =
     (held.0, slice_get_within classes held.0 class (inhabited.member class held.0 held.1), held.1))
     (λ one other state less_one less_other first second. same_Some one other (sym (inhabited.member one state first) ∙ inhabited.member other state second))
 
-module _ (content : Content Sign) (automaton : IsAutomaton content) (classes members : List ℕ) (partition : IsPartition content classes members) where
+module _ (content : Content Sign) (automaton : IsRead content) (classes members : List ℕ) (partition : IsPartition content classes members) where
   -- states with equal residuals lead alike
   pub lead_alike : (one other : ℕ) → one < length content.states → other < length content.states → HaveEqualResiduals content one other → LeadAlike content classes one other
   lead_alike one other in_one in_other equal bits =
@@ -92,7 +92,7 @@ IsInhabited-zeros classes are some = record {
 }
 
 -- an automaton has a state
-pub some_state : (content : Content Sign) → IsAutomaton content → 1 ≤ length content.states
+pub some_state : (content : Content Sign) → IsRead content → 1 ≤ length content.states
 some_state content automaton =
     let none : Bits = λ var. false in
     let below = automaton.closed.start.states none in

@@ -13,7 +13,7 @@ use Rattle.ms_arena.proofs.Lists.{slice_get-held, slice_get-append_some, slice_g
 use Rattle.ms_arena.proofs.Paths.{IsBefore-later, IsBefore-end_at, leaf_of-leaf, leaf_of-node}
 use Rattle.ms_diagram.specs.Leaves.{noted, leaves_of, KnowsAll}
 use Rattle.ms_diagram.proofs.LeavesLemmas.{leaves_within-leaf, leaves_within-node, KnowsAll-noted}
-use Rattle.ms_dfa.specs.Automaton.{IsAutomaton}
+use Rattle.ms_minim.specs.Reading.{IsRead}
 use Rattle.ms_logic.specs.declared.sign.Sign.{Sign}
 use Rattle.ms_logic.specs.Content.{StateOf, Content}
 use Rattle.ms_minim.specs.Partition.{next_by}
@@ -95,7 +95,7 @@ module _ (lists : List (List ℕ)) (leaf item : ℕ) (within : leaf < length lis
       (cases_eq state leaf)
 
 -- one state more is listed wherever it leads
-pub PredecessorsSoFar-more : (content : Content Sign) (automaton : IsAutomaton content) (lists more : List (List ℕ)) (done : ℕ) → PredecessorsSoFar content lists done → done < length content.states
+pub PredecessorsSoFar-more : (content : Content Sign) (automaton : IsRead content) (lists more : List (List ℕ)) (done : ℕ) → PredecessorsSoFar content lists done → done < length content.states
     → (root : Ref) → IfSome (slice_get content.states done) (λ (found : StateOf Sign). root ≡ found.next) → IsValid content.nodes root
     → (leaves : List ℕ) → leaves ≡ leaves_of content.nodes root → length more ≡ length lists
     → ((state other : ℕ) → IsListed lists state other → IsListed more state other)

@@ -34,7 +34,8 @@ use Rattle.ms_minim.specs.Partition.{IsIdentity, IsRoot, HaveOneClass, next_by}
 use Rattle.ms_minim.specs.Quotient.{Quotienting, sign_or_outside, sign_of_number, IsNumberOf, NumberBehind, IsClassBehind, LeadsOn, IsReached, IsQuotient}
 use Rattle.ms_minim.proofs.LeadLemmas.{Renames-identity, tested_within, identity_leaf}
 use Rattle.ms_minim.proofs.MarkLemmas.{leads_by}
-use Rattle.ms_minim.proofs.ResidualLemmas.{state_after-append, letter_for, length-letter_for, next_state-letter_for}
+use Rattle.ms_minim.proofs.LettersLemmas.{state_after-append}
+use Rattle.ms_minim.proofs.ResidualLemmas.{letter_for, length-letter_for, next_state-letter_for}
 
 -- states of one class have one number
 pub one_number : (classes : List ℕ) (pairs : List (ℕ × ℕ)) → IsNumbering pairs → (state other number second : ℕ) → IsNumberOf classes pairs state number → IsNumberOf classes pairs other second

@@ -1,5 +1,5 @@
 -- Where a state leads by bits and by letters, and residuals behind a letter.
-use Rattle.std.proofs.Common.{◌≡◌, ℕ, ◌<◌, Bool, List, [], ◌∷◌, ◌++◌, length, slice_get, Option, Some, None, refl, sym, ap, subst, ◌∙◌}
+use Rattle.std.proofs.Common.{◌≡◌, ℕ, ◌<◌, Bool, List, ◌∷◌, length, slice_get, Option, Some, None, refl, sym, ap, subst, ◌∙◌}
 use Rattle.std.proofs.lemmas.Option.{slice_get_within, get_or_from_slice_get}
 use Rattle.ms_arena.proofs.Lists.{slice_get-held}
 use Rattle.ms_arena.specs.Diagram.{Bits, IsOrdered}
@@ -10,11 +10,6 @@ use Rattle.ms_theory.proofs.GatheredLemmas.{length-gathered}
 use Rattle.ms_theory.proofs.NarrowLemmas.{leaf_of-gathered}
 use Rattle.ms_minim.specs.Residual.{HaveEqualResiduals}
 use Rattle.ms_minim.specs.Partition.{behind, next_by}
-
--- letters, and more behind them
-pub state_after-append : (content : Content Sign) (state : ℕ) (first second : List (List Bool)) → state_after content state (first ++ second) ≡ state_after content (state_after content state first) second
-state_after-append content state [] second = refl
-state_after-append content state (letter ∷ first) second = state_after-append content (next_state content state letter) first second
 
 -- a letter leads where its bits do
 pub next_by-letter : (content : Content Sign) (state : ℕ) (letter : List Bool) → next_by content state (letter_bits content.variables letter) ≡ next_state content state letter

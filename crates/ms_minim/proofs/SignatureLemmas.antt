@@ -10,7 +10,7 @@ use Rattle.ms_arena.proofs.Canonicity.{same_reference}
 use Rattle.ms_arena.proofs.Lists.{slice_get-held, slice_get-pushed}
 use Rattle.ms_arena.proofs.Paths.{leaf_of-leaf}
 use Rattle.ms_diagram.specs.Numbering.{IsNumbering}
-use Rattle.ms_dfa.specs.Automaton.{IsAutomaton}
+use Rattle.ms_minim.specs.Reading.{IsRead}
 use Rattle.ms_logic.specs.declared.sign.Sign.{Sign}
 use Rattle.ms_logic.specs.Content.{Content}
 use Rattle.ms_minim.specs.declared.signatures.Seen.{Seen}
@@ -100,7 +100,7 @@ IsLaterSeen-then one two three left right = record {
   first = right.first ∙ left.first;
 }
 
-module _ (content : Content Sign) (automaton : IsAutomaton content) (classes splitters chosen : List ℕ) (members : List (List ℕ)) (grouped : AreGrouped content classes members)
+module _ (content : Content Sign) (automaton : IsRead content) (classes splitters chosen : List ℕ) (members : List (List ℕ)) (grouped : AreGrouped content classes members)
     (are_splitters : AreSplitters chosen splitters) (predecessors : List (List ℕ)) (are : ArePredecessors content predecessors) (due : List (ℕ × ℕ))
     (covered : AreCovered classes predecessors chosen due) (seen : Seen) (seen_is : IsSeen seen) (labels : List ℕ)
     (labelled : AreLabels seen content classes splitters due labels (length due)) (moved : List ℕ) (late_members : List (List ℕ))

@@ -6,7 +6,7 @@ use Rattle.ms_arena.specs.declared.node.Ref.{Ref}
 use Rattle.ms_arena.specs.Diagram.{Bits, leaf_of}
 use Rattle.ms_arena.specs.Target.{Target, Extends}
 use Rattle.ms_diagram.specs.Numbering.{IsNumbering}
-use Rattle.ms_dfa.specs.Automaton.{IsAutomaton}
+use Rattle.ms_minim.specs.Reading.{IsRead}
 use Rattle.ms_logic.specs.declared.sign.Sign.{Sign}
 use Rattle.ms_logic.specs.declared.sign.Sign.TheVariants.{Outside}
 use Rattle.ms_logic.specs.Content.{Content, IsWordOver, last_state, sign_at}
@@ -79,7 +79,7 @@ pub record Quotienting : Type 0 where
 
 -- what is true of each
 pub record IsQuotient (content : Content Sign) (classes members map : List ℕ) (pairs : List (ℕ × ℕ)) : Type 0 where
-  pub automaton : IsAutomaton content
+  pub automaton : IsRead content
   pub nerode : AreNerodeClasses content classes members
   pub identity : IsIdentity (length content.variables) map
   pub numbering : IsNumbering pairs

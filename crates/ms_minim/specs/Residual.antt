@@ -1,20 +1,19 @@
 -- Residuals of states, and automata of fewest states (Myhill, 1957; Nerode, 1958).
 use Rattle.std.specs.Prelude.{◌≡◌, ℕ, ◌≤◌, Bool, List, length}
 use Rattle.ms_edge.specs.declared.refusal.Word.{Word}
-use Rattle.ms_logic.specs.declared.sign.Sign.{Sign}
 use Rattle.ms_logic.specs.Content.{Content, AreLetters, IsWordOver, IsClosed, state_after, sign_at, sign_of}
 
 -- the same letters behind two states lead to the same sign
-abbrev pub HaveEqualResiduals : Content Sign → ℕ → ℕ → Type 0
+abbrev pub HaveEqualResiduals : {Sign : Type 0} → Content Sign → ℕ → ℕ → Type 0
 HaveEqualResiduals content one other =
     (letters : List (List Bool)) → AreLetters content.variables letters
     → sign_at content (state_after content one letters) ≡ sign_at content (state_after content other letters)
 
 -- each word over the variables of the first has one sign in both
-abbrev pub HaveEqualSigns : Content Sign → Content Sign → Type 0
+abbrev pub HaveEqualSigns : {Sign : Type 0} → Content Sign → Content Sign → Type 0
 HaveEqualSigns first second = (word : Word) → IsWordOver first.variables word → sign_of second word ≡ sign_of first word
 
 -- no closed content over the same variables that gives each word over them the same sign has fewer states
-abbrev pub HasFewestStates : Content Sign → Type 0
-HasFewestStates content =
+abbrev pub HasFewestStates : {Sign : Type 0} → Content Sign → Type 0
+HasFewestStates {Sign} content =
     (other : Content Sign) → IsClosed other → other.variables ≡ content.variables → HaveEqualSigns content other → length content.states ≤ length other.states

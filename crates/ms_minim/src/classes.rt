@@ -5,8 +5,8 @@ ghost use Rattle.ms_diagram.specs.Relabel.{MappedLeaf};
 ghost use Rattle.ms_diagram.specs.Store.{IsStore};
 ghost use Rattle.ms_minim.specs.Partition.{IsIdentity, IsRoot};
 
+use crate::reading::Reader;
 use ms_arena::Ref;
-use ms_dfa::Automaton;
 use ms_diagram::Store;
 use ms_edge::{List, NoMemory};
 
@@ -20,7 +20,7 @@ pub(crate) struct Partition {
 /// A diagram of an automaton with the classes of its states at its leaves, in another store.
 pub(crate) fn lead(
     scratch: &mut Store,
-    automaton: &Automaton,
+    automaton: &Reader,
     root: Ref,
     places: &[u32],
     classes: &[u32],

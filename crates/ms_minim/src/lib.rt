@@ -9,11 +9,15 @@ mod grouping;
 mod marking;
 mod predecessors;
 mod quotient;
+mod reading;
+mod reduction;
 mod refinement;
 mod rounds;
 mod signatures;
 mod splitters;
 mod splitting;
 
-pub use examples::{worked_fewest, worked_residuals};
+pub use examples::{worked_fewest, worked_readings, worked_residuals};
 pub use fewest::minimise;
+pub use reading::Reading;
+pub use reduction::{Reduced, reduce};

@@ -5,8 +5,8 @@ ghost use Rattle.ms_minim.specs.Partition.{AreMarks, AreSignMarks, IsIdentity};
 ghost use Rattle.ms_minim.specs.Marks.{mark_of_sign, pair_of};
 
 use crate::classes::lead;
+use crate::reading::Reader;
 use ms_arena::Ref;
-use ms_dfa::Automaton;
 use ms_diagram::{Pairs, Store};
 use ms_edge::{List, NoMemory, push};
 use ms_logic::Sign;
@@ -42,7 +42,7 @@ pub(crate) fn mark(known: &mut Pairs, reference: Ref) -> Result<u32, NoMemory>
 /// A number for each state: equal numbers where letters lead to equal classes.
 pub(crate) fn marks(
     alloc: Global,
-    automaton: &Automaton,
+    automaton: &Reader,
     places: &[u32],
     classes: &[u32],
 ) -> Result<List<u32>, NoMemory>
@@ -77,7 +77,7 @@ fn mark_of_sign(sign: Sign) -> u32
 }
 
 /// A number for each state: equal numbers where the signs are equal.
-pub(crate) fn sign_marks(alloc: Global, automaton: &Automaton) -> Result<List<u32>, NoMemory>
+pub(crate) fn sign_marks(alloc: Global, automaton: &Reader) -> Result<List<u32>, NoMemory>
     ensures { IfOk result (AreSignMarks automaton.now) }
 {
     let mut made = List::new(alloc);

@@ -1,7 +1,7 @@
 ghost use Rattle.std.specs.Prelude.{◌≡◌, ◌<◌, ◌≤◌, ℕ, length, slice_get, Some, IfOk, OnOk};
 ghost use Rattle.ms_minim.specs.Predecessors.{AreBelow, ArePredecessors, IsListed};
 
-use ms_dfa::Automaton;
+use crate::reading::Reader;
 use ms_edge::{List, NoMemory, push};
 use std::alloc::Global;
 
@@ -47,7 +47,7 @@ pub(crate) fn no_lists(alloc: Global, count: u32) -> Result<Vec<List<u32>>, NoMe
 }
 
 /// For each state those that lead to it.
-pub(crate) fn predecessors(alloc: Global, automaton: &Automaton) -> Result<Vec<List<u32>>, NoMemory>
+pub(crate) fn predecessors(alloc: Global, automaton: &Reader) -> Result<Vec<List<u32>>, NoMemory>
     ensures { IfOk result (λ made. ArePredecessors automaton.now made.items) }
 {
     let mut made = no_lists(alloc, automaton.states())?;

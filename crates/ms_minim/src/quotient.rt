@@ -7,8 +7,8 @@ ghost use Rattle.ms_minim.specs.Quotient.{IsClassBehind, NumberBehind};
 
 use crate::classes::{Partition, lead};
 use crate::marking::ROOM;
+use crate::reading::Reader;
 use ms_arena::Ref;
-use ms_dfa::Automaton;
 use ms_diagram::{Pairs, Store};
 use ms_edge::{List, StepFault};
 use ms_explore::Machine;
@@ -20,7 +20,7 @@ use std::marker::Model;
 #[derive(Drop)]
 pub(crate) struct Source<'a> {
     pub alloc: Global,
-    pub automaton: &'a Automaton,
+    pub automaton: &'a Reader<'a>,
     pub partition: Partition,
     pub places: List<u32>,
 }

@@ -3,9 +3,9 @@ ghost use Rattle.ms_minim.specs.Partition.{IsIdentity, IsPartition, AreNerodeCla
 
 use crate::classes::Partition;
 use crate::marking::{marks, sign_marks};
+use crate::reading::Reader;
 use crate::rounds::group;
 use crate::splitting::split;
-use ms_dfa::Automaton;
 use ms_edge::{List, NoMemory, push};
 use std::alloc::Global;
 
@@ -26,7 +26,7 @@ fn one_class(alloc: Global, states: u32) -> Result<Partition, NoMemory>
 }
 
 /// The states by their signs.
-fn by_signs(alloc: Global, automaton: &Automaton) -> Result<Partition, NoMemory>
+fn by_signs(alloc: Global, automaton: &Reader) -> Result<Partition, NoMemory>
     ensures { IfOk result (λ made. IsPartition automaton.now made.classes made.members) }
 {
     let one = one_class(alloc, automaton.states())?;
@@ -37,7 +37,7 @@ fn by_signs(alloc: Global, automaton: &Automaton) -> Result<Partition, NoMemory>
 /// The states by their residuals.
 pub(crate) fn refine(
     alloc: Global,
-    automaton: &Automaton,
+    automaton: &Reader,
     places: &[u32],
 ) -> Result<Partition, NoMemory>
     requires { IsIdentity (length automaton.now.variables) places.now }

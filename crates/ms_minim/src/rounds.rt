@@ -7,9 +7,9 @@ use crate::due::due;
 use crate::grouping::{Groups, grouped, make_room, settle, size_of, zeros};
 use crate::marking::sign_marks;
 use crate::predecessors::predecessors;
+use crate::reading::Reader;
 use crate::signatures::{Choice, Plan, labels, nothing_seen};
 use crate::splitters::{Splitters, all_but_largest, choose, more_classes};
-use ms_dfa::Automaton;
 use ms_edge::{List, NoMemory, push};
 use std::alloc::Global;
 
@@ -78,11 +78,7 @@ fn round(
 
 /// Classes of the states that tell no two states with equal residuals apart: those of the signs, split over and over by where
 /// their states lead among the classes that were split off last (Hopcroft, 1971).
-pub(crate) fn group(
-    alloc: Global,
-    automaton: &Automaton,
-    places: &[u32],
-) -> Result<Vec<u32>, NoMemory>
+pub(crate) fn group(alloc: Global, automaton: &Reader, places: &[u32]) -> Result<Vec<u32>, NoMemory>
     requires { IsIdentity (length automaton.now.variables) places.now }
     ensures all { IfOk result (λ made. length made.items ≡ length automaton.now.states) }
     ensures kept { IfOk result (λ made. NeverSplits automaton.now made.items) }

@@ -9,8 +9,8 @@ ghost use Rattle.ms_minim.specs.Grouping.{AreLabels, AreWithin, IsDue, IsLabel, 
 
 use crate::classes::lead;
 use crate::marking::{ROOM, mark, number};
+use crate::reading::Reader;
 use ms_arena::Ref;
-use ms_dfa::Automaton;
 use ms_diagram::{Pairs, Store};
 use ms_edge::{List, NoMemory, push};
 use std::alloc::Global;
@@ -32,7 +32,7 @@ pub(crate) struct Seen {
 #[derive(Clone, Copy)]
 pub(crate) struct Plan<'a> {
     pub alloc: Global,
-    pub automaton: &'a Automaton,
+    pub automaton: &'a Reader<'a>,
     pub places: &'a [u32],
 }
 

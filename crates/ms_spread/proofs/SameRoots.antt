@@ -163,12 +163,12 @@ pub same_main_root_keeps_value : SameMainRootKeepsValue
 same_main_root_keeps_value checked answers root well same =
     let problem = problem_of checked answers in
     let globals = variables_of problem.globals in
-    let are : root.variables ≡ globals = answer_globals (length checked.globals) root.variables globals same.variables (globals_below checked.globals 0 (length checked.globals) (omega arith)) in (
+    let are : root.variables ≡ globals = answer_globals (length checked.globals) root.variables globals (answer_swapped (length checked.globals) globals root.variables same.variables) (globals_below checked.globals 0 (length checked.globals) (omega arith)) in (
       are,
       λ e assigned.
           let kept = roots_keep_values checked answers 0 (main_root problem) well refl e (subst (λ vs. IsAssignment checked.mode vs e) are assigned) in
-          let P : List Variable → Type 0 = λ vs. SameUnder problem.given.imports (pairs_of vs globals) root.formula (main_root problem).formula in
-          let here = same_value problem.given.imports root.formula (main_root problem).formula (pairs_of globals globals) e e (subst P are same.formulas)
+          let P : List Variable → Type 0 = λ vs. SameUnder problem.given.imports (pairs_of globals vs) (main_root problem).formula root.formula in
+          let here = same_value problem.given.imports (main_root problem).formula root.formula (pairs_of globals globals) e e (subst P are same.formulas)
           (record { universe = refl; values = λ o x y pair. ap (λ k. value_at o k e) (own_pairs globals o x y pair) }) in
-          (iff_then kept.0 (swapped here.0), iff_then kept.1 (swapped here.1)),
+          (iff_then kept.0 here.0, iff_then kept.1 here.1),
     )

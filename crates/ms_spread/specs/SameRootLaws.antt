@@ -43,7 +43,7 @@ SameRootsHaveOneValue =
 abbrev pub SameMainRootKeepsValue : Type 0
 SameMainRootKeepsValue =
     (checked : Checked) (answers : List (Universe → List Value → Answer)) (root : Root)
-    → IsWellNumbered checked → SameRoot (problem_of checked answers).given.imports (length checked.globals) root (main_root (problem_of checked answers))
+    → IsWellNumbered checked → SameRoot (problem_of checked answers).given.imports (length checked.globals) (main_root (problem_of checked answers)) root
     → (root.variables ≡ variables_of (problem_of checked answers).globals) × HasRootValue (problem_of checked answers) 0 root
 
 -- what is a root of a source up to bound variables has the value that this root stands for, at each assignment of the variables of this

@@ -1,23 +1,12 @@
-use Rattle.std.proofs.Common.{◌≡◌, [], Some, inl, inr, refl, sym}
-use Rattle.ms_edge.specs.declared.refusal.Refusal.TheVariants.{Memory}
-use Rattle.ms_app.specs.Answer.{no_memory}
-use Rattle.ms_app.specs.Command.{file_of}
+use Rattle.ms_app.specs.Answer as answers
+use Rattle.ms_app.proofs.Commands.{limit_in}
 use Rattle.ms_app.proofs.top.run.Goals as goal
 
-pub returns-in-Ok-clause-answered : goal.returns-in-Ok-clause-answered
-returns-in-Ok-clause-answered g c =
-    let asked : file_of c.args.words.now ≡ Some c.in-Some.name.now = sym c.in-Some.ensures in
-    rw asked
-    (elim c.tell.ensures [
-      | inl whole ↦ inl (c.in-Ok.found, c.in-Ok.ensures.decided, whole)
-      | inr short ↦ inr (Memory, [], no_memory refl, short)
-    ])
+pub answer-requires : goal.answer-requires
+answer-requires g c = limit_in c.args.words.now c.in-Ok.command c.in-Ok.ensures.command
 
-pub returns-clause-answered : goal.returns-clause-answered
-returns-clause-answered g c =
-    let asked : file_of c.args.words.now ≡ Some c.in-Some.name.now = sym c.in-Some.ensures in
-    rw asked
-    (elim c.refuse.ensures.printed [
-      | inl whole ↦ inr (c.in-Err.refusal, c.decide.new.names, c.in-Err.ensures.refused, whole)
-      | inr short ↦ inr (Memory, [], no_memory refl, short)
-    ])
+pub returns-in-Ok-clause-answered : goal.returns-in-Ok-clause-answered
+returns-in-Ok-clause-answered g c = answers.decide c.in-Ok.command c.in-Ok.ensures.command c.answer.ensures.answered
+
+pub returns-in-Err-Usage-clause-answered : goal.returns-in-Err-Usage-clause-answered
+returns-in-Err-Usage-clause-answered g c = answers.no_command (c.in-Err-Usage.ensures.usage c.in-Err-Usage.field-0-is) c.print.ensures

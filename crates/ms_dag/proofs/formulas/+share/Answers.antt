@@ -4,7 +4,7 @@ use Rattle.ms_logic.specs.CoreForm.{core_form_of}
 use Rattle.ms_dag.specs.Dag.{places_in_maps}
 use Rattle.ms_dag.specs.Places.{AreBelow}
 use Rattle.ms_dag.specs.Scope.{IsInScope, forms_of}
-use Rattle.ms_dag.specs.Subformulas.{subformulas}
+use Rattle.ms_core.specs.Subformulas.{subformulas}
 use Rattle.ms_dag.specs.declared.node.DagNode.TheVariants.{True, False}
 use Rattle.ms_dag.specs.Shared.{IsMade, IsSharedNow, AreSharedNow}
 use denote.Param.Weighed.{at_most}

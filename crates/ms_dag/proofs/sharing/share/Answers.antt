@@ -1,4 +1,4 @@
-use Rattle.std.proofs.Common.{arith, List, sym, subst, ◌∙◌, All}
+use Rattle.std.proofs.Common.{List, sym, subst, ◌∙◌, All}
 use Rattle.ms_logic.specs.declared.core_formula.Root.{Root}
 use Rattle.ms_logic.specs.declared.mode.Order.{Order}
 use Rattle.ms_dag.specs.declared.node.Entry.{Entry}
@@ -21,7 +21,6 @@ returns c =
       graph = graph_of lowered.orders entries lowered.roots roots now c.requires.1.small;
       roots = now.roots_of;
       orders_are = c.in_ok-orders.ensures ∙ c.slice-orders.ensures;
-      small = (let grown = now.grown.small in let room = c.requires.1.small in omega (arith, grown, room));
     }
 
 pub share_roots-requires-clause-scoped : goal.share_roots-requires-clause-scoped

@@ -1,3 +1,4 @@
+use Rattle.ms_handover.proofs.ImportsOfSources.{roots_import}
 use Rattle.ms_handover.proofs.Shared.{sources_shared}
 use Rattle.ms_handover.proofs.Unexported.{lists_variables}
 use Rattle.ms_handover.proofs.laws.laws_of_handover.Goals as goal
@@ -7,3 +8,6 @@ returns-clause-lists_variables c = lists_variables
 
 pub returns-clause-shared : goal.returns-clause-shared
 returns-clause-shared c = sources_shared
+
+pub returns-clause-imports : goal.returns-clause-imports
+returns-clause-imports c = roots_import

@@ -1,0 +1,4 @@
+pub mod Examples
+pub mod Files
+pub mod Laws
+pub mod Renumbering

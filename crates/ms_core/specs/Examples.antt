@@ -1,0 +1,34 @@
+-- Core formulas for worked examples.
+use Rattle.std.specs.Prelude.{ℕ, List, [], ◌∷◌}
+use Rattle.ms_logic.specs.declared.core_formula.Basic.TheVariants.{Less}
+use Rattle.ms_logic.specs.declared.core_formula.Core.TheVariants as code
+use Rattle.ms_logic.specs.declared.core_formula.Root.{Root}
+use Rattle.ms_logic.specs.declared.mode.Order.TheVariants.{One}
+use Rattle.ms_logic.specs.declared.mode.Quant.TheVariants.{Ex}
+use Rattle.ms_logic.specs.Assignment.{Variable}
+use Rattle.ms_logic.specs.CoreForm.{CoreForm, basic, conjunction, core_forms, quantified, CoreRestriction}
+use Rattle.ms_logic.specs.Steps.{variable}
+use Rattle.ms_logic.specs.Truth.{Import, answer_undefined}
+
+-- the numbers x and y
+abbrev pub x_and_y : List Variable
+x_and_y = variable 0 One ∷ variable 1 One ∷ []
+
+-- x < z & z < y
+abbrev pub between : ℕ → ℕ → ℕ → CoreForm
+between x z y = conjunction (core_forms (basic (Less x z) ∷ basic (Less z y) ∷ []))
+
+-- ex1 x where d: f
+abbrev pub exists : ℕ → CoreRestriction → CoreForm → CoreForm
+exists x d f = quantified Ex One x d f
+
+-- an import over one number
+abbrev pub number_import : List Import
+number_import = record { variables = variable 0 One ∷ []; answer = λ universe values. answer_undefined } ∷ []
+
+-- two roots: true, and true & false
+abbrev pub two_roots : List Root
+two_roots =
+    record { variables = []; core = code.True }
+    ∷ record { variables = []; core = code.And (code.True ∷ code.False ∷ []) }
+    ∷ []

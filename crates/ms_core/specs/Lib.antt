@@ -1,0 +1,3 @@
+pub mod Examples
+pub mod Stands
+pub mod Subformulas

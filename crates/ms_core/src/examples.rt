@@ -1,0 +1,50 @@
+//! The definitions at small core formulas, worked out by hand. Each function has an empty body, and its contract
+//! is the table of its examples.
+
+ghost use Rattle.ms_core.specs.Examples.{between, exists, number_import, two_roots, x_and_y};
+ghost use Rattle.ms_core.specs.Stands.{Stands};
+ghost use Rattle.ms_core.specs.Subformulas.{subformulas, subformulas_of_roots};
+ghost use Rattle.ms_logic.specs.CoreForm.{basic, conjunction, core_forms, falsity, imported, negation, restricted, truth, unrestricted};
+ghost use Rattle.ms_logic.specs.Steps.{variable};
+ghost use Rattle.ms_logic.specs.declared.core_formula.Basic.TheVariants.{Less, Member};
+ghost use Rattle.ms_logic.specs.declared.mode.Order.TheVariants.{One, Two};
+ghost use Rattle.std.specs.Prelude.{[], ◌∷◌, ◌≡◌};
+
+/// Where variables stand. The numbers x, y and z are the variables 0, 1 and 2.
+pub fn worked_scopes()
+    // x < y, over both and over x alone; and x in y, where y is a number
+    ensures relation { Stands [] x_and_y (basic (Less 0 1)) }
+    ensures out_of_scope { ¬ Stands [] (variable 0 One ∷ []) (basic (Less 0 1)) }
+    ensures other_order { ¬ Stands [] x_and_y (basic (Member 0 1)) }
+
+    // ex1 z: x < z & z < y
+    ensures bound { Stands [] x_and_y (exists 2 unrestricted (between 0 2 1)) }
+    // where z has the number of y, or a number below that of y
+    ensures not_new { ¬ Stands [] x_and_y (exists 1 unrestricted (between 0 1 1)) }
+    ensures not_greater { ¬ Stands [] (variable 1 One ∷ []) (exists 0 unrestricted truth) }
+    // in its restriction a bound variable is in scope, and behind its body it is not
+    ensures restriction { Stands [] x_and_y (exists 2 (restricted (basic (Less 2 0))) truth) }
+    ensures behind { ¬ Stands [] x_and_y (conjunction (core_forms (exists 2 unrestricted truth ∷ basic (Less 0 2) ∷ []))) }
+
+    // an import over one number, at y, at x and y, at z, and over a set as y; and an import that is not there
+    ensures import { Stands number_import x_and_y (imported 0 (1 ∷ [])) }
+    ensures too_many { ¬ Stands number_import x_and_y (imported 0 (0 ∷ 1 ∷ [])) }
+    ensures import_out_of_scope { ¬ Stands number_import x_and_y (imported 0 (2 ∷ [])) }
+    ensures import_of_other_order { ¬ Stands number_import (variable 1 Two ∷ []) (imported 0 (1 ∷ [])) }
+    ensures no_import { ¬ Stands number_import x_and_y (imported 1 (0 ∷ [])) }
+{}
+
+/// How many subformulas there are.
+pub fn worked_subformulas()
+    ensures relation { subformulas (basic (Less 0 1)) ≡ 1 }
+    // ~~false
+    ensures negations { subformulas (negation (negation falsity)) ≡ 3 }
+    // x < z & z < y: the conjunction and its operands
+    ensures conjunction { subformulas (between 0 2 1) ≡ 3 }
+    // ex1 z: x < z & z < y, without a restriction and with ~true
+    ensures bound { subformulas (exists 2 unrestricted (between 0 2 1)) ≡ 4 }
+    ensures restricted { subformulas (exists 2 (restricted (negation truth)) (between 0 2 1)) ≡ 6 }
+
+    // true, and true & false
+    ensures roots { subformulas_of_roots two_roots ≡ 4 }
+{}

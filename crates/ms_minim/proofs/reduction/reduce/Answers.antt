@@ -1,0 +1,32 @@
+use Rattle.std.proofs.Common.{Ok, ap, ◌∙◌}
+use Rattle.ms_logic.specs.declared.sign.Sign.{Sign}
+use Rattle.ms_logic.specs.Content.{Content}
+use Rattle.ms_minim.specs.declared.reduction.Reduced.{Reduced}
+use Rattle.ms_minim.specs.Reading.{read_content}
+use Rattle.ms_minim.specs.Quotient.{Quotienting}
+use Rattle.ms_minim.proofs.FewestLemmas.{quotient_of, explores_of, IsReducedOf-made}
+use Rattle.ms_minim.proofs.NodeLemmas.{few_nodes, refused_quotient}
+use Rattle.ms_minim.proofs.ReadingLemmas.{refused-read}
+use Rattle.ms_minim.proofs.reduction.reduce.Goals as goal
+
+pub returns-in-Err-explore-clause-nodes : goal.returns-in-Err-explore-clause-nodes
+returns-in-Err-explore-clause-nodes c =
+    let a = c.args.a.now in
+    let content = read_content c.args.reading a in
+    let seen = c.explore.new.machine in
+    let same = ap (λ (q : Quotienting). q.content) c.explore.ensures.later.same ∙ c.in-Ok.ensures.automaton ∙ c.new-reader.ensures in
+    let quotient = quotient_of content seen same _ _ c.quotient.view_is c.quotient.invariant in
+    refused-read Reduced c.args.reading a c.args.limit c.in-Err-explore.fault
+    (refused_quotient content seen.classes seen.members _ seen.pairs quotient (Content Sign) c.new-store.result c.explore.new.store c.args.limit c.new-store.ensures.empty c.new-store.ensures.limit c.explore.new.states
+    c.in-Err-explore.fault (explores_of content seen same c.new-store.result c.explore.new.store c.explore.new.states _ c.in-Err-explore.ensures.explored))
+
+pub returns-clause-reduced : goal.returns-clause-reduced
+returns-clause-reduced c =
+    let content = read_content c.args.reading c.args.a.now in
+    let seen = c.explore.new.machine in
+    let same = ap (λ (q : Quotienting). q.content) c.explore.ensures.later.same ∙ c.in-Ok.ensures.automaton ∙ c.new-reader.ensures in
+    let quotient = quotient_of content seen same _ _ c.quotient.view_is c.quotient.invariant in
+    let explores = explores_of content seen same c.new-store.result c.explore.new.store c.explore.new.states (Ok c.in-Ok-explore.start) c.in-Ok-explore.ensures.explored in
+    IsReducedOf-made content seen.classes seen.members _ seen.pairs quotient c.explore.new.store.nodes c.in-Ok-explore.start c.explore.new.states explores.grows.store.ordered explores.grows.store.reduced
+    explores.start explores.all explores.follows
+    (few_nodes content seen.classes seen.members _ seen.pairs quotient c.new-store.result c.explore.new.store c.new-store.ensures.empty explores.grows)
