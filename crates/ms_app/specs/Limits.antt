@@ -17,5 +17,5 @@ pub record IsWithinLimits (problem : Problem) : Type 0 where
 pub data IsUnsolved (checked : Checked) (limit : ℕ) (refusal : Refusal) : Type 0 where
   -- it is too deep, or it is not and is too large
   too_large : (why : IsDepthRefusal checked [] refusal ⊎ IsSizeRefusal checked [] refusal) → IsUnsolved checked limit refusal
-  -- it is neither, and the nodes and states of a step are more than the limit
+  -- it is neither, and a step was refused under this limit on nodes and states; what shows that it lacked them is open
   lacks_nodes : (within : IsWithinLimits (problem_of checked [])) (step : ℕ) (is : refusal ≡ Nodes step limit) → IsUnsolved checked limit refusal
