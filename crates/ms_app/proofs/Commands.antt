@@ -1,12 +1,27 @@
 -- The limit that words name is a limit on nodes and states.
-use Rattle.std.proofs.Common.{ℕ, List, Option, Some, None, arith}
+use Rattle.std.proofs.Common.{ℕ, List, Option, Some, None, inl, refl, true, false, arith}
+use Rattle.ms_edge.specs.Files.{Seen}
+use Rattle.ms_edge.specs.declared.refusal.Refusal.TheVariants.{Memory}
 use Rattle.ms_build.specs.Built.{IsLimit}
 use Rattle.ms_words.specs.Command.{HasLimit, IsCommand}
 use Rattle.ms_words.specs.declared.command.Command.{Command}
+use Rattle.ms_words.specs.declared.command.Command.TheVariants.{Decide, Same, Gen}
+use Rattle.ms_app.specs.Answer.{IsLimited, IsRefusedFor}
+use Rattle.ms_app.specs.Comparison as comparisons
+use Rattle.ms_app.specs.Source as sources
 
 limit_by : (given : Option (List ℕ)) (limit : ℕ) → HasLimit given limit → IsLimit limit
 limit_by None limit is = record { some = omega (arith, is); small = omega (arith, is) }
 limit_by (Some text) limit is = record { some = is.some; small = is.small }
 
-pub limit_in : (words : List (List ℕ)) (command : Command) → IsCommand words command → IsLimit command.max_nodes
-limit_in words command asked = limit_by _ command.max_nodes asked.asked.1
+pub limited : (words : List (List ℕ)) (command : Command) → IsCommand words command → IsLimited command
+limited words (Decide file max_nodes stats) asked = limit_by _ max_nodes asked.asked.1
+limited words (Same left right max_nodes) asked = limit_by _ max_nodes asked.asked.2
+limited words (Gen number decide) asked = tt
+
+-- want of memory needs no cause
+pub memory_refuses : (command : Command) (seen : Seen) (files : List (List ℕ)) → IsRefusedFor command seen Memory files
+memory_refuses (Decide file max_nodes stats) seen files = sources.no_memory refl
+memory_refuses (Same left right max_nodes) seen files = comparisons.no_memory refl
+memory_refuses (Gen number false) seen files = inl refl
+memory_refuses (Gen number true) seen files = inl refl

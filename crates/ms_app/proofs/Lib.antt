@@ -1,6 +1,14 @@
+pub mod AgreementLemmas
 pub mod Commands
-pub mod Deciding
+pub mod Comparisons
+pub mod ContentLemmas
+pub mod EqualLemmas
+pub mod FileCounts
 pub mod FirstAssignments
+pub mod Generations
+pub mod GlobalLemmas
 pub mod Graphs
 pub mod MainValues
 pub mod Results
+pub mod Sources
+pub mod VerdictLemmas

@@ -1,8 +1,7 @@
 -- How a run is to end and what it is to print, by its words and by what the files hold.
-use Rattle.std.specs.Prelude.{◌≡◌, ℕ, ◌<◌, ◌⊎◌, List, [], ◌∷◌, ◌++◌, length, map, take, codes, Some, None}
-use Rattle.ms_edge.specs.declared.at.At.{At}
+use Rattle.std.specs.Prelude.{◌≡◌, ℕ, ◌<◌, ◌⊎◌, Bool, true, false, List, [], ◌∷◌, ◌++◌, length, take, codes, None}
 use Rattle.ms_edge.specs.declared.refusal.Refusal.{Refusal}
-use Rattle.ms_edge.specs.declared.refusal.Refusal.TheVariants.{Word, NumberTooLarge, Grammar, Unclosed, UnknownName, Twice, WrongOrder, Arity, ConstRange, NotHere, LeftOut, NotBuilt, VarsDiffer, FileMissing, IncludeCycle, ImportMissing, ImportText, ImportMode, ImportVars, ImportOpen, FileSize, Includes, Depth, CoreSize, Nodes, ReadFault, WriteFault, Memory}
+use Rattle.ms_edge.specs.declared.refusal.Refusal.TheVariants.{ConstRange, FileSize, Includes, Depth, CoreSize, Nodes, ReadFault, WriteFault, Memory}
 use Rattle.ms_edge.specs.declared.refusal.Refusal.TheVariants as refusals
 use Rattle.ms_edge.specs.declared.refusal.Status.{Status}
 use Rattle.ms_edge.specs.declared.refusal.Status.TheVariants.{Done, Usage, Refused, Limit, FileFault, NoMemory}
@@ -10,22 +9,17 @@ use Rattle.ms_edge.specs.declared.refusal.Status.TheVariants as statuses
 use Rattle.ms_edge.specs.Counts.{Rose}
 use Rattle.ms_edge.specs.Files.{Seen}
 use Rattle.ms_edge.specs.Sink.{SinkTold, grown}
-use Rattle.ms_logic.specs.View.{problem_of}
-use Rattle.ms_logic.specs.declared.checked.Checked.{Checked}
-use Rattle.ms_logic.specs.declared.source.Loaded.{Loaded}
-use Rattle.ms_include.specs.Load.{files_of, IsLoaded, IsRefusedLoad}
-use Rattle.ms_rules.specs.Checking.{IsFirstFault}
-use Rattle.ms_rules.specs.Declarations.{first_fault_of}
-use Rattle.ms_rules.specs.TypedSource.{IsTyped}
-use Rattle.ms_rules.specs.View.{placed_of}
+use Rattle.ms_build.specs.Built.{IsLimit}
+use Rattle.ms_gen.specs.Generated.{IsNumber, generated}
 use Rattle.ms_report.specs.declared.found.Found.{Found}
 use Rattle.ms_report.specs.Line.{line_of}
-use Rattle.ms_report.specs.Report.{report_of}
-use Rattle.ms_words.specs.Command.{IsCommand}
+use Rattle.ms_report.specs.Report.{report_of, summary_of}
+use Rattle.ms_words.specs.Command.{IsCommand, node_limit}
 use Rattle.ms_words.specs.declared.command.Command.{Command}
-use Rattle.ms_app.specs.Beyond.{first_beyond}
-use Rattle.ms_app.specs.Decision.{IsFound}
-use Rattle.ms_app.specs.Limits.{IsUnsolved, IsWithinLimits}
+use Rattle.ms_words.specs.declared.command.Command.TheVariants.{Decide, Same, Gen}
+use Rattle.ms_app.specs.Comparison.{AreCompared, IsRefusedComparison, comparison_text}
+use Rattle.ms_app.specs.Decision.{IsDecided}
+use Rattle.ms_app.specs.Source.{IsRefused, file_of, text_of}
 
 -- a status, and the text that goes with it
 pub record Answer : Type 0 where
@@ -53,47 +47,9 @@ status_of refusal = Refused
 abbrev pub answer_of : Refusal → List (List ℕ) → Answer
 answer_of refusal files = record { status = status_of refusal; text = line_of refusal files }
 
--- the file of this name is loaded as a source in which nothing is wrong, and this is its typed tree
-pub record IsAccepted (name : List ℕ) (seen : Seen) (loaded : Loaded) (checked : Checked) : Type 0 where
-  pub is_loaded : IsLoaded (files_of seen 0) name loaded
-  pub accepted : first_fault_of loaded.mode (map placed_of loaded.items) ≡ None
-  pub typed : IsTyped loaded checked
-
--- the source goes beyond what is built at this place
-pub record IsNotBuilt (checked : Checked) (refusal : Refusal) : Type 0 where
-  pub place : At
-  pub beyond : first_beyond checked ≡ Some place
-  pub is : refusal ≡ NotBuilt place
-
--- The file of this name, with its includes put in place, is refused under a limit on the nodes and states of a step, and these are the
--- files that the refusal may number.
-pub data IsRefused (name : List ℕ) (limit : ℕ) (seen : Seen) (refusal : Refusal) (files : List (List ℕ)) : Type 0 where
-  -- it cannot be loaded
-  not_loaded : (why : IsRefusedLoad (files_of seen 0) name refusal files) → IsRefused name limit seen refusal files
-  -- it is loaded, and has a fault of names, orders, numbers or places, of which this is the first
-  faulty : (loaded : Loaded) (is_loaded : IsLoaded (files_of seen 0) name loaded) (read : files ≡ loaded.files) (why : IsFirstFault loaded refusal)
-      → IsRefused name limit seen refusal files
-  -- nothing is wrong in it, and it goes beyond what is built
-  not_built : (loaded : Loaded) (checked : Checked) (is : IsAccepted name seen loaded checked) (read : files ≡ loaded.files) (why : IsNotBuilt checked refusal)
-      → IsRefused name limit seen refusal files
-  -- nothing is wrong in it, it does not go beyond what is built, and it is not solved
-  unsolved : (loaded : Loaded) (checked : Checked) (is : IsAccepted name seen loaded checked) (read : files ≡ loaded.files) (built : first_beyond checked ≡ None)
-      (why : IsUnsolved checked limit refusal) → IsRefused name limit seen refusal files
-  -- want of memory needs no cause
-  no_memory : (why : refusal ≡ Memory) → IsRefused name limit seen refusal files
-
--- nothing is wrong in the file of this name, it is built and within the limits; and what was found is true of the source that it is
-pub record IsDecided (name : List ℕ) (seen : Seen) (found : Found) : Type 0 where
-  pub loaded : Loaded
-  pub checked : Checked
-  pub is : IsAccepted name seen loaded checked
-  pub built : first_beyond checked ≡ None
-  pub within : IsWithinLimits (problem_of checked [])
-  pub is_found : IsFound (problem_of checked []) (map (λ g. g.name) checked.globals) found
-
--- the answer with a report
-abbrev pub report_answer : Found → Answer
-report_answer found = record { status = Done; text = report_of found }
+-- what is printed where all is done
+abbrev pub done_with : List ℕ → Answer
+done_with text = record { status = Done; text = text }
 
 -- the run ended so, and the sink took the whole text; or the sink failed, and took less than the text
 abbrev pub Prints : SinkTold → SinkTold → Answer → Status → Type 0
@@ -102,25 +58,51 @@ Prints before after answer status =
     ⊎ ((status ≡ statuses.SinkFault) × Rose before.faults after.faults
     × ((count : ℕ) × (count < length answer.text) × (after.taken ≡ grown before.taken (take count answer.text))))
 
--- what a run comes to that is asked to decide a file: it is decided and the report on it is printed, or it is refused for a cause and
--- its line is printed
-abbrev pub IsAnsweredFor : List ℕ → ℕ → SinkTold → SinkTold → Seen → Status → Type 0
-IsAnsweredFor name limit before after seen status =
-    ((found : Found) × IsDecided name seen found × Prints before after (report_answer found) status)
-    ⊎ ((refusal : Refusal) × (names : List (List ℕ)) × IsRefused name limit seen refusal names × Prints before after (answer_of refusal names) status)
+-- the name under which a generated source is decided
+abbrev pub generated_name : List ℕ
+generated_name = codes "generated"
+
+-- what a command prints where it is done: the report on a file; whether two files agree; a generated source, or the summary of it
+abbrev pub IsTextOf : Command → Seen → List ℕ → Type 0
+IsTextOf (Decide file max_nodes stats) seen text = (found : Found) × IsDecided (file_of seen 0 file) stats found × (text ≡ report_of found)
+IsTextOf (Same left right max_nodes) seen text = (agree : Bool) × AreCompared left right seen agree × (text ≡ comparison_text agree)
+IsTextOf (Gen number false) seen text = IsNumber number × (text ≡ generated number)
+IsTextOf (Gen number true) seen text =
+    IsNumber number
+    × ((found : Found) × IsDecided (text_of generated_name (generated number)) true found × (text ≡ summary_of number (length (generated number)) found))
+
+-- a limit that a command names is one
+abbrev pub IsLimited : Command → Type 0
+IsLimited (Decide file max_nodes stats) = IsLimit max_nodes
+IsLimited (Same left right max_nodes) = IsLimit max_nodes
+IsLimited (Gen number decide) = Unit {0}
+
+-- the number of a source to generate is out of range
+abbrev pub IsNoNumber : ℕ → Refusal → Type 0
+IsNoNumber number refusal = (refusal ≡ ConstRange None) × ¬ IsNumber number
+
+-- why a command is refused, and the files that the refusal may number
+abbrev pub IsRefusedFor : Command → Seen → Refusal → List (List ℕ) → Type 0
+IsRefusedFor (Decide file max_nodes stats) seen refusal files = IsRefused (file_of seen 0 file) max_nodes refusal files
+IsRefusedFor (Same left right max_nodes) seen refusal files = IsRefusedComparison left right max_nodes seen refusal files
+IsRefusedFor (Gen number false) seen refusal files = (refusal ≡ Memory) ⊎ IsNoNumber number refusal
+IsRefusedFor (Gen number true) seen refusal files =
+    (refusal ≡ Memory) ⊎ IsNoNumber number refusal ⊎ (IsNumber number × IsRefused (text_of generated_name (generated number)) node_limit refusal files)
+
+-- what a run comes to that is asked for something: its text is printed, or it is refused for a cause and its line is printed
+abbrev pub IsAnsweredFor : Command → SinkTold → SinkTold → Seen → Status → Type 0
+IsAnsweredFor command before after seen status =
+    ((text : List ℕ) × IsTextOf command seen text × Prints before after (done_with text) status)
+    ⊎ ((refusal : Refusal) × (files : List (List ℕ)) × IsRefusedFor command seen refusal files × Prints before after (answer_of refusal files) status)
 
 -- What a run comes to by its words: words that are no command are answered so, and what words ask for is done. Want of memory may come
 -- already where the words are read.
 pub data IsAnswered (words : List (List ℕ)) (before after : SinkTold) (seen : Seen) (status : Status) : Type 0 where
   no_command : (none : (command : Command) → ¬ IsCommand words command) (prints : Prints before after usage status) → IsAnswered words before after seen status
-  decide : (command : Command) (asked : IsCommand words command) (answered : IsAnsweredFor command.file command.max_nodes before after seen status)
-      → IsAnswered words before after seen status
+  asked : (command : Command) (is : IsCommand words command) (answered : IsAnsweredFor command before after seen status) → IsAnswered words before after seen status
   no_words : (prints : Prints before after (answer_of Memory []) status) → IsAnswered words before after seen status
 
--- a run that is done decided the file, and the sink took the report on it
-abbrev pub IsDoneFor : List ℕ → SinkTold → SinkTold → Seen → Type 0
-IsDoneFor name before after seen = (found : Found) × IsDecided name seen found × (after.taken ≡ grown before.taken (report_of found))
-
--- and the words asked for it
+-- a run that is done did what the words asked for, and the sink took its text
 abbrev pub IsDone : List (List ℕ) → SinkTold → SinkTold → Seen → Type 0
-IsDone words before after seen = (command : Command) × IsCommand words command × IsDoneFor command.file before after seen
+IsDone words before after seen =
+    (command : Command) × IsCommand words command × ((text : List ℕ) × IsTextOf command seen text × (after.taken ≡ grown before.taken text))

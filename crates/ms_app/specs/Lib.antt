@@ -1,7 +1,11 @@
 pub mod Answer
 pub mod Beyond
+pub mod Comparison
+pub mod Counts
 pub mod Decision
 pub mod Examples
 pub mod Graph
 pub mod HasValue
 pub mod Limits
+pub mod Solution
+pub mod Source

@@ -1,13 +1,21 @@
 //! The top call of monastr: from words, files and a sink to a status.
 #![tactic(auto)]
 
+mod agreement;
 mod beyond;
+mod compare;
+mod content;
 mod decide;
 mod examples;
+mod found;
 mod graph;
 mod main_value;
+mod options;
 mod print;
+mod same_globals;
 mod solve;
+mod source;
+mod text;
 mod top;
 
 pub use examples::worked_uses;

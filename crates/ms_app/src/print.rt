@@ -1,9 +1,9 @@
 ghost use Rattle.std.specs.Prelude.{◌≡◌, ◌⊎◌, []};
 ghost use Rattle.ms_edge.specs.Counts.{Rose};
-ghost use Rattle.ms_app.specs.Answer.{Prints, status_of, answer_of, report_answer};
+ghost use Rattle.ms_app.specs.Answer.{Prints, status_of, answer_of};
 
 use ms_edge::{List, Refusal, Sink, Status, Text, write_all};
-use ms_report::{Found, has_line, refusal_line, report};
+use ms_report::{has_line, refusal_line};
 use std::alloc::Global;
 
 /// The line of the refusal for want of memory, which takes none.
@@ -73,17 +73,6 @@ pub fn refuse<S: Sink>(alloc: Global, refusal: &Refusal, files: &List<Text>, out
     }
     match refusal_line(alloc, refusal, files) {
         Ok(line) => print(out, status(refusal), line.slice()),
-        Err(_) => out_of_memory(out),
-    }
-}
-
-/// Prints the report, or that there is no memory for it.
-pub fn tell<S: Sink>(alloc: Global, found: &Found, out: &mut S) -> Status
-    ensures { Prints (S.told out.old) (S.told out.new) (report_answer found.now) result
-        ⊎ Prints (S.told out.old) (S.told out.new) (answer_of Refusal.Memory []) result }
-{
-    match report(alloc, found) {
-        Ok(text) => print(out, Status::Done, text.slice()),
         Err(_) => out_of_memory(out),
     }
 }

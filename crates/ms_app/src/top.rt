@@ -1,49 +1,81 @@
-ghost use Rattle.std.specs.Prelude.{◌≡◌};
+ghost use Rattle.std.specs.Prelude.{◌≡◌, ℕ, [], List, IfErr, IfOk};
 ghost use Rattle.ms_edge.specs.Counts.{Rose};
 ghost use Rattle.ms_edge.specs.Files.{between};
+ghost use Rattle.ms_edge.specs.Sink.{grown};
 ghost use Rattle.ms_words.specs.Command.{IsCommand};
 ghost use Rattle.ms_words.specs.declared.command.Command.{Command as Asked};
-ghost use Rattle.ms_build.specs.Built.{IsLimit};
-ghost use Rattle.ms_app.specs.Answer.{IsAnswered, IsAnsweredFor, IsDone, IsDoneFor};
+ghost use Rattle.ms_app.specs.Answer.{IsAnswered, IsAnsweredFor, IsDone, IsLimited, IsRefusedFor, IsTextOf};
 
-use crate::decide::decide;
-use crate::print::{out_of_memory, print, refuse, tell};
-use ms_edge::{Files, List, Sink, Status, Text, Words};
-use ms_words::{WordsFault, options};
+use crate::compare::Pair;
+use crate::options::Options;
+use crate::print::{out_of_memory, print, refuse};
+use crate::text::{comparison, decision, generation};
+use ms_edge::{Bytes, Files, List, Refusal, Sink, Status, Text, Words};
+use ms_words::{Command, WordsFault, options};
 use std::alloc::Global;
 
-/// Decides the file, and prints what comes of it.
-fn answer<F: Files, S: Sink>(
+/// The text that a command prints where it is done. The files that a refusal numbers are in `names`.
+fn text<F: Files>(
     alloc: Global,
-    file: &Text,
-    limit: u64,
+    command: &Command,
     files: &mut F,
-    out: &mut S,
-) -> Status
-    requires { IsLimit limit }
-    ensures answered { IsAnsweredFor file.now limit (S.told out.old) (S.told out.new) (between (F.told files.old) (F.told files.new)) result }
-    ensures done { result ≡ Status.Done → IsDoneFor file.now (S.told out.old) (S.told out.new) (between (F.told files.old) (F.told files.new)) }
+    names: &mut List<Text>,
+) -> Result<Bytes, Refusal>
+    requires first { names.old ≡ [] }
+    requires limited { IsLimited command.now }
+    ensures text { IfOk result (IsTextOf command.now (between (F.told files.old) (F.told files.new))) }
+    ensures refused { IfErr result (λ refusal. IsRefusedFor command.now (between (F.told files.old) (F.told files.new)) refusal names.new) }
+    ensures kept { (F.told files.new).held ≡ (F.told files.old).held }
+{
+    match command {
+        Command::Decide {
+            file,
+            max_nodes,
+            stats,
+        } => {
+            let options = Options {
+                max_nodes: *max_nodes,
+                stats: *stats,
+            };
+            decision(alloc, file, options, files, names)
+        }
+        Command::Same {
+            left,
+            right,
+            max_nodes,
+        } => comparison(alloc, Pair { left, right }, *max_nodes, files, names),
+        Command::Gen { number, decide } => generation(alloc, *number, *decide, names),
+    }
+}
+
+/// Does what a command asks for, and prints its text or the line of its refusal.
+fn answer<F: Files, S: Sink>(alloc: Global, command: &Command, files: &mut F, out: &mut S) -> Status
+    requires { IsLimited command.now }
+    ensures answered { IsAnsweredFor command.now (S.told out.old) (S.told out.new) (between (F.told files.old) (F.told files.new)) result }
+    ensures done { result ≡ Status.Done → (text : List ℕ) × IsTextOf command.now (between (F.told files.old) (F.told files.new)) text
+        × ((S.told out.new).taken ≡ grown (S.told out.old).taken text) }
     ensures not_usage { ¬ (result ≡ Status.Usage) }
     ensures sink_only { result ≡ Status.SinkFault → Rose (S.told out.old).faults (S.told out.new).faults }
     ensures kept { (F.told files.new).held ≡ (F.told files.old).held }
 {
     let mut names = List::new(alloc);
-    match decide(alloc, file, limit, files, &mut names) {
-        Ok(found) => tell(alloc, &found, out),
+    match text(alloc, command, files, &mut names) {
+        Ok(text) => print(out, Status::Done, text.slice()),
         Err(refusal) => refuse(alloc, &refusal, &names, out),
     }
 }
 
-/// Does what the words ask: `decide FILE [--max-nodes N]` reads the file and reports on its formula. The words are
-/// those after the program's name. What is printed goes to the sink: the report, or one line where the
-/// request is refused (docs/FORMATS.md).
+/// Does what the words ask: `decide FILE [--max-nodes N] [--stats]` reads the file and reports on its formula;
+/// `same LEFT RIGHT [--max-nodes N]` says whether the main values of two files agree; `gen K [--decide]` prints the generated
+/// source with this number, or decides it. The words are those after the program's name. What is printed goes to the
+/// sink: the text, or one line where the request is refused (docs/FORMATS.md).
 pub fn run<F: Files, S: Sink>(alloc: Global, words: &Words, files: &mut F, out: &mut S) -> Status
-    // Words that are no command are answered so. A file is decided, and the report on it is printed; or it is refused for
-    // a cause, and its line is printed.
+    // Words that are no command are answered so. A file is decided, and the report on it is printed; two files are compared;
+    // a source is generated, and decided; or the request is refused for a cause, and its line is printed.
     ensures answered { IsAnswered words.now (S.told out.old) (S.told out.new) (between (F.told files.old) (F.told files.new)) result }
 
-    // Done comes only with the report on the file, which states what is decided; usage only where the words are no
-    // command; and a fault of the sink only where the sink's faults rose.
+    // Done comes only with what the words asked for; usage only where the words are no command; and a fault of the sink
+    // only where the sink's faults rose.
     ensures done { result ≡ Status.Done → IsDone words.now (S.told out.old) (S.told out.new) (between (F.told files.old) (F.told files.new)) }
     ensures usage_only { result ≡ Status.Usage → (command : Asked) → ¬ IsCommand words.now command }
     ensures sink_only { result ≡ Status.SinkFault → Rose (S.told out.old).faults (S.told out.new).faults }
@@ -52,7 +84,7 @@ pub fn run<F: Files, S: Sink>(alloc: Global, words: &Words, files: &mut F, out: 
     ensures kept { (F.told files.new).held ≡ (F.told files.old).held }
 {
     match options(alloc, words) {
-        Ok(command) => answer(alloc, &command.file, command.max_nodes, files, out),
+        Ok(command) => answer(alloc, &command, files, out),
         Err(WordsFault::Usage) => print(
             out,
             Status::Usage,

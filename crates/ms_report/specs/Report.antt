@@ -62,3 +62,22 @@ report_of found =
     ++ assignment_text (codes "example") found.globals found.example
     ++ assignment_text (codes "counterexample") found.globals found.counterexample
     ++ stats_text found.stats
+
+-- the length of the example or of the counterexample, by the word for it
+abbrev pub length_text : List ℕ → Option Assignment → List ℕ
+length_text word None = codes "no " ++ word ++ 10 ∷ []
+length_text word (Some found) = word ++ codes " length " ++ decimal found.length ++ 10 ∷ []
+
+-- how many states and nodes there are, where that was counted
+abbrev pub size_text : Option Stats → List ℕ
+size_text None = []
+size_text (Some stats) = count_line (codes "states") stats.states ++ count_line (codes "nodes") stats.nodes
+
+-- the summary of what was found of the generated source with a number, whose text has so many bytes
+abbrev pub summary_of : ℕ → ℕ → Found → List ℕ
+summary_of number bytes found =
+    count_line (codes "generated") number ++ count_line (codes "bytes") bytes
+    ++ verdict_text found.verdict ++ 10 ∷ []
+    ++ length_text (codes "example") found.example
+    ++ length_text (codes "counterexample") found.counterexample
+    ++ size_text found.stats

@@ -33,7 +33,7 @@ fn text(alloc: Global, found: &Found) -> Result<String, AllocError>
     Ok(text)
 }
 
-fn verdict(verdict: Verdict) -> &'static str
+pub(crate) fn verdict(verdict: Verdict) -> &'static str
     ensures { result.now ≡ verdict_text verdict }
 {
     match verdict {
@@ -130,7 +130,7 @@ fn push_stats(text: &mut String, stats: Option<Stats>) -> Result<(), AllocError>
     push_count(text, "nodes", stats.nodes)
 }
 
-fn push_count(text: &mut String, word: &str, count: u64) -> Result<(), AllocError>
+pub(crate) fn push_count(text: &mut String, word: &str, count: u64) -> Result<(), AllocError>
     ensures { OnOk result (string_bytes text.new ≡ string_bytes text.old ++ count_line word.now count) }
 {
     text.push_str(word)?;

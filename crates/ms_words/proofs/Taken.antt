@@ -1,13 +1,19 @@
--- `clap` says of the command what it takes and what it makes of the words.
+-- `clap` says of each command what it takes and what it makes of the words.
 use Rattle.std.proofs.Common.{◌≡◌, true, refl}
-use Rattle.clap.specs.Words.{is_simple, is_simple_and_free}
 use Rattle.clap.proofs.OnLiterals.{clap_on_literals}
-use Rattle.ms_words.specs.Command.{decide_app}
+use Rattle.clap.specs.Words.{is_simple, is_simple_and_free}
+use Rattle.ms_words.specs.Command.{app_for}
+use Rattle.ms_words.specs.declared.command.Verb.{Verb}
+use Rattle.ms_words.specs.declared.command.Verb.TheVariants.{Decide, Same, Gen}
 
-pub decide_is_simple : is_simple decide_app ≡ true
+pub app_is_simple : (verb : Verb) → is_simple (app_for verb) ≡ true
 unfolding clap_on_literals
-decide_is_simple = refl
+app_is_simple Decide = refl
+app_is_simple Same = refl
+app_is_simple Gen = refl
 
-pub decide_is_free : is_simple_and_free decide_app ≡ true
+pub app_is_free : (verb : Verb) → is_simple_and_free (app_for verb) ≡ true
 unfolding clap_on_literals
-decide_is_free = refl
+app_is_free Decide = refl
+app_is_free Same = refl
+app_is_free Gen = refl

@@ -14,5 +14,20 @@ two_files = codes "decide" ∷ codes "t.mona" ∷ codes "u.mona" ∷ []
 abbrev pub with_limit : List Text
 with_limit = codes "decide" ∷ codes "--max-nodes" ∷ codes "5" ∷ codes "t.mona" ∷ []
 
+abbrev pub with_counts : List Text
+with_counts = codes "decide" ∷ codes "t.mona" ∷ codes "--stats" ∷ []
+
 abbrev pub for_help : List Text
 for_help = codes "decide" ∷ codes "t.mona" ∷ codes "--help" ∷ []
+
+abbrev pub two_to_compare : List Text
+two_to_compare = codes "same" ∷ codes "a.mona" ∷ codes "b.mona" ∷ []
+
+abbrev pub only_left : List Text
+only_left = codes "same" ∷ codes "a.mona" ∷ []
+
+abbrev pub gen_by_number : List Text
+gen_by_number = codes "gen" ∷ codes "3" ∷ []
+
+abbrev pub gen_and_decide : List Text
+gen_and_decide = codes "gen" ∷ codes "3" ∷ codes "--decide" ∷ []

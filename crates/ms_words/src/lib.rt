@@ -1,10 +1,13 @@
 //! What the words of a command line ask for.
 #![tactic(auto)]
 
+mod apps;
 mod command;
 mod examples;
 mod words;
 
-pub use command::{Command, WordsFault};
-pub use examples::{worked_limits, worked_words};
+pub use command::{Command, Verb, WordsFault};
+pub use examples::{
+    worked_comparisons, worked_generations, worked_limits, worked_verbs, worked_words,
+};
 pub use words::options;

@@ -1,11 +1,12 @@
-ghost use Rattle.std.specs.Prelude.{◌≡◌, ℕ, [], map, option_map, IfErr, IfOk, MatchOption};
-ghost use Rattle.clap.specs.Words.{app_of, fault_of, found_of, matches_of, rows_of};
+ghost use Rattle.std.specs.Prelude.{◌≡◌, ℕ, [], codes, map, option_map, IfErr, IfOk, MatchOption, None, Some};
+ghost use Rattle.clap.specs.Words.{app_of, fault_of, first_of, found_of, matches_of, rows_of};
 ghost use Rattle.ms_words.specs.declared.command.Command.{Command as Asked};
-ghost use Rattle.ms_words.specs.Command.{HasLimit, IsAskedBy, IsCommand, begins_with_decide, decide_app};
+ghost use Rattle.ms_words.specs.Command.{AsksBy, HasLimit, HasNumber, IsCommand, app_for, first_verb, is_given, verb_in};
 
-use crate::command::{Command, WordsFault};
+use crate::apps::app;
+use crate::command::{Command, Verb, WordsFault};
+use clap::ArgMatches;
 use clap::error::ErrorKind;
-use clap::{Arg, ArgMatches};
 use ms_edge::{NoMemory, Text, Words};
 use std::alloc::{AllocError, Global};
 
@@ -26,18 +27,6 @@ fn texts<'a>(alloc: Global, words: &'a [Text]) -> Result<Vec<&'a str>, AllocErro
     Ok(texts)
 }
 
-/// The command `decide FILE [--max-nodes N]`.
-fn decide_command<'a>(alloc: Global) -> Result<clap::Command<'a>, AllocError>
-    ensures { IfOk result (λ command. app_of command ≡ decide_app) }
-{
-    let file = Arg::new(alloc, "FILE").required(true);
-    let max_nodes = Arg::new(alloc, "max-nodes").long("max-nodes");
-    let plain = clap::Command::new(alloc, "decide").disable_help_flag(true);
-    let with_file = plain.arg(file)?;
-    let command = with_file.arg(max_nodes)?;
-    Ok(command)
-}
-
 /// The limit that the words name, or where they name none the one that holds then.
 fn max_nodes(text: Option<&str>) -> Option<u64>
     ensures { MatchOption result ((limit : ℕ) → ¬ HasLimit (option_map (λ s. s.now) text.entry) limit) (HasLimit (option_map (λ s. s.now) text.entry)) }
@@ -51,20 +40,127 @@ fn max_nodes(text: Option<&str>) -> Option<u64>
     }
 }
 
-/// What the matches of the words ask for.
-fn decide_by(alloc: Global, matches: &ArgMatches) -> Result<Command, WordsFault>
-    ensures command { IfOk result (IsAskedBy (rows_of (found_of matches.now))) }
-    ensures usage { IfErr result (λ fault. fault ≡ WordsFault.Usage → (command : Asked) → ¬ IsAskedBy (rows_of (found_of matches.now)) command) }
+/// The number that the words name.
+fn number(text: Option<&str>) -> Option<u64>
+    ensures { MatchOption result ((number : ℕ) → ¬ HasNumber (option_map (λ s. s.now) text.entry) number) (HasNumber (option_map (λ s. s.now) text.entry)) }
 {
-    let Some(file) = matches.get_str("FILE") else {
+    match text?.parse::<u64>() {
+        Ok(number) => Some(number),
+        Err(_) => None,
+    }
+}
+
+/// The first value that matches have under a name.
+fn value_of<'a>(matches: &ArgMatches<'a>, name: &str) -> Option<&'a str>
+    ensures { option_map (λ s. s.now) result ≡ first_of name.now (rows_of (found_of matches.now)) }
+{
+    matches.get_str(name)
+}
+
+/// Whether a flag was given.
+fn is_given(matches: &ArgMatches, name: &str) -> bool
+    ensures { result ≡ is_given name.now (rows_of (found_of matches.now)) }
+{
+    match value_of(matches, name) {
+        Some(text) => text == "true",
+        None => false,
+    }
+}
+
+/// The limit that matches name.
+fn limit_of(matches: &ArgMatches) -> Option<u64>
+    ensures { MatchOption result ((limit : ℕ) → ¬ HasLimit (first_of (codes "max-nodes") (rows_of (found_of matches.now))) limit)
+        (HasLimit (first_of (codes "max-nodes") (rows_of (found_of matches.now)))) }
+{
+    max_nodes(value_of(matches, "max-nodes"))
+}
+
+/// The number that matches name.
+fn number_of(matches: &ArgMatches) -> Option<u64>
+    ensures { MatchOption result ((number : ℕ) → ¬ HasNumber (first_of (codes "K") (rows_of (found_of matches.now))) number)
+        (HasNumber (first_of (codes "K") (rows_of (found_of matches.now)))) }
+{
+    number(value_of(matches, "K"))
+}
+
+/// The text of a value by its position.
+fn text_of(alloc: Global, matches: &ArgMatches, name: &str) -> Result<Text, WordsFault>
+    ensures text { IfOk result (λ text. first_of name.now (rows_of (found_of matches.now)) ≡ Some text) }
+    ensures usage { IfErr result (λ fault. fault ≡ WordsFault.Usage → first_of name.now (rows_of (found_of matches.now)) ≡ None) }
+{
+    let Some(text) = value_of(matches, name) else {
         return Err(WordsFault::Usage);
     };
-    let Some(max_nodes) = max_nodes(matches.get_str("max-nodes")) else {
-        return Err(WordsFault::Usage);
-    };
-    match Text::new(alloc, file) {
-        Ok(file) => Ok(Command { file, max_nodes }),
+    match Text::new(alloc, text) {
+        Ok(text) => Ok(text),
         Err(NoMemory) => Err(WordsFault::NoMemory),
+    }
+}
+
+/// What the matches of `decide FILE [--max-nodes N] [--stats]` ask for.
+fn decide_by(alloc: Global, matches: &ArgMatches) -> Result<Command, WordsFault>
+    ensures command { IfOk result (AsksBy Verb.Decide (rows_of (found_of matches.now))) }
+    ensures usage { IfErr result (λ fault. fault ≡ WordsFault.Usage → (command : Asked) → ¬ AsksBy Verb.Decide (rows_of (found_of matches.now)) command) }
+{
+    let Some(max_nodes) = limit_of(matches) else {
+        return Err(WordsFault::Usage);
+    };
+    let file = match text_of(alloc, matches, "FILE") {
+        Ok(file) => file,
+        Err(fault) => return Err(fault),
+    };
+    let stats = is_given(matches, "stats");
+    Ok(Command::Decide {
+        file,
+        max_nodes,
+        stats,
+    })
+}
+
+/// What the matches of `same LEFT RIGHT [--max-nodes N]` ask for.
+fn same_by(alloc: Global, matches: &ArgMatches) -> Result<Command, WordsFault>
+    ensures command { IfOk result (AsksBy Verb.Same (rows_of (found_of matches.now))) }
+    ensures usage { IfErr result (λ fault. fault ≡ WordsFault.Usage → (command : Asked) → ¬ AsksBy Verb.Same (rows_of (found_of matches.now)) command) }
+{
+    let Some(max_nodes) = limit_of(matches) else {
+        return Err(WordsFault::Usage);
+    };
+    let left = match text_of(alloc, matches, "LEFT") {
+        Ok(left) => left,
+        Err(fault) => return Err(fault),
+    };
+    let right = match text_of(alloc, matches, "RIGHT") {
+        Ok(right) => right,
+        Err(fault) => return Err(fault),
+    };
+    Ok(Command::Same {
+        left,
+        right,
+        max_nodes,
+    })
+}
+
+/// What the matches of `gen K [--decide]` ask for.
+fn gen_by(matches: &ArgMatches) -> Result<Command, WordsFault>
+    ensures command { IfOk result (AsksBy Verb.Gen (rows_of (found_of matches.now))) }
+    ensures usage { IfErr result (λ fault. fault ≡ WordsFault.Usage → (command : Asked) → ¬ AsksBy Verb.Gen (rows_of (found_of matches.now)) command) }
+{
+    let Some(number) = number_of(matches) else {
+        return Err(WordsFault::Usage);
+    };
+    let decide = is_given(matches, "decide");
+    Ok(Command::Gen { number, decide })
+}
+
+/// What the matches of a command's words ask for.
+fn asked_by(alloc: Global, verb: Verb, matches: &ArgMatches) -> Result<Command, WordsFault>
+    ensures command { IfOk result (AsksBy verb (rows_of (found_of matches.now))) }
+    ensures usage { IfErr result (λ fault. fault ≡ WordsFault.Usage → (command : Asked) → ¬ AsksBy verb (rows_of (found_of matches.now)) command) }
+{
+    match verb {
+        Verb::Decide => decide_by(alloc, matches),
+        Verb::Same => same_by(alloc, matches),
+        Verb::Gen => gen_by(matches),
     }
 }
 
@@ -78,30 +174,45 @@ fn fault(kind: ErrorKind) -> WordsFault
     }
 }
 
-/// What the words `decide ..` ask for.
-fn decide(alloc: Global, words: &[Text]) -> Result<Command, WordsFault>
-    ensures command { IfOk result (λ command. (fault_of decide_app words.now ≡ []) × IsAskedBy (matches_of decide_app words.now) command) }
-    ensures usage { IfErr result (λ fault. fault ≡ WordsFault.Usage → (command : Asked) → fault_of decide_app words.now ≡ [] → ¬ IsAskedBy (matches_of decide_app words.now) command) }
+/// What the words of a command ask for.
+fn asked(alloc: Global, verb: Verb, words: &[Text]) -> Result<Command, WordsFault>
+    ensures command { IfOk result (λ command. (fault_of (app_for verb) words.now ≡ []) × AsksBy verb (matches_of (app_for verb) words.now) command) }
+    ensures usage { IfErr result (λ fault. fault ≡ WordsFault.Usage → (command : Asked) → fault_of (app_for verb) words.now ≡ [] → ¬ AsksBy verb (matches_of (app_for verb) words.now) command) }
 {
     let Ok(texts) = texts(alloc, words) else {
         return Err(WordsFault::NoMemory);
     };
-    let Ok(command) = decide_command(alloc) else {
+    let Ok(app) = app(alloc, verb) else {
         return Err(WordsFault::NoMemory);
     };
-    match command.try_get_matches_from(texts.as_slice()) {
-        Ok(matches) => decide_by(alloc, &matches),
+    match app.try_get_matches_from(texts.as_slice()) {
+        Ok(matches) => asked_by(alloc, verb, &matches),
         Err(error) => Err(fault(error.kind())),
     }
 }
 
-/// Whether the first word is `decide`.
-fn begins_with_decide(words: &[Text]) -> bool
-    ensures { result ≡ begins_with_decide words.now }
+/// Which command the word says that it is.
+fn verb_in(word: &str) -> Option<Verb>
+    ensures { result ≡ verb_in word.now }
+{
+    if word == "decide" {
+        Some(Verb::Decide)
+    } else if word == "same" {
+        Some(Verb::Same)
+    } else if word == "gen" {
+        Some(Verb::Gen)
+    } else {
+        None
+    }
+}
+
+/// Which command the first word says that it is.
+fn first_verb(words: &[Text]) -> Option<Verb>
+    ensures { result ≡ first_verb words.now }
 {
     match words {
-        [verb, ..] => verb.text() == "decide",
-        [] => false,
+        [word, ..] => verb_in(word.text()),
+        [] => None,
     }
 }
 
@@ -111,9 +222,8 @@ pub fn options(alloc: Global, words: &Words) -> Result<Command, WordsFault>
     ensures usage { IfErr result (λ fault. fault ≡ WordsFault.Usage → (command : Asked) → ¬ IsCommand words.now command) }
 {
     let words = words.slice();
-    if begins_with_decide(words) {
-        decide(alloc, words)
-    } else {
-        Err(WordsFault::Usage)
+    match first_verb(words) {
+        Some(verb) => asked(alloc, verb, words),
+        None => Err(WordsFault::Usage),
     }
 }

@@ -16,3 +16,9 @@ returns-in-Ok-clause-graph c =
     let lowered = c.in_ok-lowered.lowered in
     let made = c.in_ok-lowered.ensures in
     graph_here c.args.checked.now c.requires.numbered c.requires.built lowered made.measure made.roots made.orders made.bound_orders c.in-Ok.dag c.in-Ok.ensures
+
+pub returns-in-Ok-clause-size : goal.returns-in-Ok-clause-size
+returns-in-Ok-clause-size c = (c.in_ok-lowered.ensures.measure []).size_is
+
+pub returns-in-Ok-clause-depth : goal.returns-in-Ok-clause-depth
+returns-in-Ok-clause-depth c = (c.in_ok-lowered.ensures.measure []).depth_is

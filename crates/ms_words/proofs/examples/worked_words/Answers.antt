@@ -14,6 +14,10 @@ pub returns-clause-no_limit : goal.returns-clause-no_limit
 unfolding clap_on_literals
 returns-clause-no_limit c = refl
 
+pub returns-clause-no_counts : goal.returns-clause-no_counts
+unfolding clap_on_literals
+returns-clause-no_counts c = refl
+
 pub returns-clause-no_file : goal.returns-clause-no_file
 unfolding clap_on_literals
 returns-clause-no_file c = λ none. let never : ⊥ = cc in never
@@ -33,6 +37,14 @@ returns-clause-the_limit c = refl
 pub returns-clause-same_file : goal.returns-clause-same_file
 unfolding clap_on_literals
 returns-clause-same_file c = refl
+
+pub returns-clause-with_counts : goal.returns-clause-with_counts
+unfolding clap_on_literals
+returns-clause-with_counts c = refl
+
+pub returns-clause-counts : goal.returns-clause-counts
+unfolding clap_on_literals
+returns-clause-counts c = refl
 
 pub returns-clause-for_help : goal.returns-clause-for_help
 unfolding clap_on_literals

@@ -6,7 +6,7 @@ use Rattle.ms_logic.specs.First.{assignment_of}
 use Rattle.ms_logic.specs.Word.{Encodes}
 use Rattle.ms_dfa.specs.Automaton.{variables_of}
 use Rattle.ms_app.proofs.FirstAssignments.{first_shown, none_shown}
-use Rattle.ms_app.proofs.solve.shown.Goals as goal
+use Rattle.ms_app.proofs.found.shown.Goals as goal
 
 pub returns-in_ok-found-in-Some : goal.returns-in_ok-found-in-Some
 returns-in_ok-found-in-Some c = λ problem value.

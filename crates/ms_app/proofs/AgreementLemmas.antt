@@ -1,0 +1,100 @@
+-- Two automata have canonical contents that are equal exactly where their main values agree.
+use Rattle.std.proofs.Common.{◌≡◌, ◌≢◌, ◌↔◌, Some, inl, inr, refl, sym, ap, subst, ◌∙◌}
+use Rattle.std.proofs.lemmas.Option.{same_Some}
+use Rattle.ms_edge.specs.declared.refusal.Word.{Word}
+use Rattle.ms_dfa.specs.declared.plain.FileSign.{FileSign}
+use Rattle.ms_logic.specs.declared.sign.Sign.{Sign}
+use Rattle.ms_logic.specs.declared.sign.Sign.TheVariants.{Yes, No, Undefined, Outside}
+use Rattle.ms_logic.specs.Assignment.{Env, IsAssignment}
+use Rattle.ms_logic.specs.Content.{Content, IsWordOver, shortest_word, sign_of}
+use Rattle.ms_logic.specs.Roots.{AreRising}
+use Rattle.ms_logic.specs.Verdict.{Problem, Agree, MainYes, MainNo, variables_of}
+use Rattle.ms_logic.specs.Word.{Encodes, IsEncoding}
+use Rattle.ms_logic.proofs.WordLaws.{length_is_least}
+use Rattle.ms_canonical.specs.Files.{file_sign}
+use Rattle.ms_minim.specs.Residual.{HaveEqualSigns}
+use Rattle.ms_canonical.proofs.EqualityLemmas.{canonical_equal}
+use Rattle.ms_theory.specs.Values.{main_meaning}
+use Rattle.ms_theory.proofs.EncodingLemmas.{encoding_or_not}
+use Rattle.ms_theory.proofs.ValuesLemmas.{IsMeaning-main}
+use Rattle.ms_app.specs.Counts.{IsCanonicalOf}
+
+-- signs that are not Outside and are one sign in a file are one
+same_filed : (first second : Sign) → first ≢ Outside → second ≢ Outside → file_sign first ≡ file_sign second → first ≡ second
+same_filed Yes Yes one two same = refl
+same_filed No No one two same = refl
+same_filed Undefined Undefined one two same = refl
+same_filed Outside second one two same = absurd (one refl)
+same_filed first Outside one two same = absurd (two refl)
+same_filed Yes No one two same = let never : ⊥ = cc in absurd never
+same_filed Yes Undefined one two same = let never : ⊥ = cc in absurd never
+same_filed No Yes one two same = let never : ⊥ = cc in absurd never
+same_filed No Undefined one two same = let never : ⊥ = cc in absurd never
+same_filed Undefined Yes one two same = let never : ⊥ = cc in absurd never
+same_filed Undefined No one two same = let never : ⊥ = cc in absurd never
+
+-- what agrees has the same signs right
+agreed : (one two : Problem) (e : Env) → (MainYes one e ↔ MainYes two e) × (MainNo one e ↔ MainNo two e) → (sign : Sign) → main_meaning one e sign → main_meaning two e sign
+agreed one two e both Yes means = both.0.0 means
+agreed one two e both No means = both.1.0 means
+agreed one two e both Undefined means = (λ yes. means.0 (both.0.1 yes), λ no. means.1 (both.1.1 no))
+agreed one two e both Outside means = absurd means
+
+-- where the right signs are the same, both agree
+agree_by : (one two : Problem) (e : Env)
+    → ((sign : Sign) → main_meaning one e sign → main_meaning two e sign) → ((sign : Sign) → main_meaning two e sign → main_meaning one e sign)
+    → (MainYes one e ↔ MainYes two e) × (MainNo one e ↔ MainNo two e)
+agree_by one two e there back = ((there Yes, back Yes), (there No, back No))
+
+module _ (one two : Problem) (left right : Content FileSign) (is_left : IsCanonicalOf one left) (is_right : IsCanonicalOf two right)
+    (mode : left.mode ≡ right.mode) (variables : left.variables ≡ right.variables) where
+  at_left : (word : Word) (e : Env) → IsAssignment left.mode left.variables e → Encodes left.variables word e
+      → (sign : Sign) × (sign_of left word ≡ Some (file_sign sign)) × main_meaning one e sign
+  at_left = is_left.value.right
+
+  at_right : (word : Word) (e : Env) → IsAssignment left.mode left.variables e → Encodes left.variables word e
+      → (sign : Sign) × (sign_of right word ≡ Some (file_sign sign)) × main_meaning two e sign
+  at_right word e assigned encodes =
+      is_right.value.right word e (subst (λ vs. IsAssignment right.mode vs e) variables (subst (λ m. IsAssignment m left.variables e) mode assigned)) (subst (λ vs. Encodes vs word e) variables encodes)
+
+  one_sign : (e : Env) (first second : Sign) → IsAssignment left.mode left.variables e → main_meaning one e first → main_meaning one e second → first ≡ second
+  one_sign = (IsMeaning-main left.mode left.variables one).one
+
+  other_sign : (e : Env) (first second : Sign) → IsAssignment left.mode left.variables e → main_meaning two e first → main_meaning two e second → first ≡ second
+  other_sign = (IsMeaning-main left.mode left.variables two).one
+
+  inside : (problem : Problem) (e : Env) (sign : Sign) → main_meaning problem e sign → sign ≢ Outside
+  inside problem e sign means is = subst (main_meaning problem e) is means
+
+  -- equal contents agree
+  pub equal_agree : left ≡ right → Agree one two
+  equal_agree equal e assigned =
+      let here = subst (λ vs. IsAssignment left.mode vs e) (sym is_left.variables) (subst (λ m. IsAssignment m (variables_of one.globals) e) (sym is_left.mode) assigned) in
+      let word = shortest_word left.variables e in
+      let encodes = (length_is_least left.mode left.variables e here).0 in
+      let first = at_left word e here encodes in
+      let second = at_right word e here encodes in
+      let same = same_filed first.0 second.0 (inside one e first.0 first.2) (inside two e second.0 second.2)
+      (same_Some _ _ (sym first.1 ∙ ap (λ content. sign_of content word) equal ∙ second.1)) in
+      agree_by one two e
+      (λ sign means. subst (main_meaning two e) (sym same ∙ one_sign e first.0 sign here first.2 means) second.2)
+      (λ sign means. subst (main_meaning one e) (same ∙ other_sign e second.0 sign here second.2 means) first.2)
+
+  -- and where both agree, their contents are equal
+  pub agree_equal : AreRising left.variables → Agree one two → left ≡ right
+  agree_equal rising agree = canonical_equal FileSign left right is_left.canonical is_right.canonical mode variables equal_signs
+    where
+      equal_signs : HaveEqualSigns left right
+      equal_signs word over = elim (encoding_or_not left.mode left.variables word rising over) [
+        | inl encoding ↦
+            (let e = encoding.0 in
+            let first = at_left word e encoding.1 encoding.2 in
+            let second = at_right word e encoding.1 encoding.2 in
+            let assigned = subst (λ vs. IsAssignment one.mode vs e) is_left.variables (subst (λ m. IsAssignment m left.variables e) is_left.mode encoding.1) in
+            let same = other_sign e second.0 first.0 encoding.1 second.2 (agreed one two e (agree e assigned) first.0 first.2) in
+            second.1 ∙ ap (λ sign. Some (file_sign sign)) same ∙ sym first.1)
+        | inr outside ↦
+            is_right.value.outside word (subst (λ vs. IsWordOver vs word) variables over)
+            (λ encoding. outside (subst (λ m. IsEncoding m left.variables word) (sym mode) (subst (λ vs. IsEncoding right.mode vs word) (sym variables) encoding)))
+            ∙ sym (is_left.value.outside word over outside)
+      ]

@@ -1,0 +1,46 @@
+-- What comes of a generated source.
+use Rattle.std.proofs.Common.{◌≡◌, ◌⊎◌, inl, inr, ℕ, true, List, [], ◌∷◌, ◌++◌, length, map, sym, ap, subst, ◌∙◌}
+use Rattle.ms_edge.specs.declared.refusal.Refusal.{Refusal}
+use Rattle.ms_edge.specs.declared.refusal.Refusal.TheVariants.{Memory}
+use Rattle.ms_gen.specs.Generated.{IsNumber, generated}
+use Rattle.ms_logic.specs.View.{problem_of}
+use Rattle.ms_logic.specs.declared.checked.Checked.{Checked}
+use Rattle.ms_logic.specs.declared.source.Loaded.{Loaded}
+use Rattle.ms_report.specs.declared.found.Found.{Found}
+use Rattle.ms_words.specs.Command.{node_limit}
+use Rattle.ms_app.specs.Answer.{IsNoNumber, generated_name}
+use Rattle.ms_app.specs.Counts.{HasStats}
+use Rattle.ms_app.specs.Decision.{IsDecided, IsFound}
+use Rattle.ms_app.specs.Limits.{IsUnsolved, IsWithinLimits}
+use Rattle.ms_app.specs.Source.{IsBuilt, IsRefused, IsUnaccepted, text_of, unaccepted, unsolved}
+
+-- why the generation is refused
+abbrev pub IsRefusedGeneration : ℕ → Refusal → List (List ℕ) → Type 0
+IsRefusedGeneration number refusal files =
+    (refusal ≡ Memory) ⊎ IsNoNumber number refusal ⊎ (IsNumber number × IsRefused (text_of generated_name (generated number)) node_limit refusal files)
+
+module _ (number : ℕ) (is_number : IsNumber number) (bytes : List ℕ) (is_text : bytes ≡ generated number) (old new : List (List ℕ)) (none : old ≡ []) where
+  only_own : new ≡ old ++ generated_name ∷ [] → generated_name ∷ [] ≡ new
+  only_own grown = sym (grown ∙ ap (λ names. names ++ generated_name ∷ []) none)
+
+  text_refused : new ≡ old ++ generated_name ∷ [] → (refusal : Refusal) → IsRefused (text_of generated_name bytes) node_limit refusal (generated_name ∷ [])
+      → IsRefused (text_of generated_name (generated number)) node_limit refusal new
+  text_refused grown refusal why =
+      let P : List ℕ → Type 0 = λ text. IsRefused (text_of generated_name text) node_limit refusal new in
+      subst P is_text (subst (IsRefused (text_of generated_name bytes) node_limit refusal) (only_own grown) why)
+
+  pub text_unaccepted : (refusal : Refusal) → (refusal ≡ Memory) ⊎ ((new ≡ old ++ generated_name ∷ []) × IsUnaccepted (text_of generated_name bytes) refusal (generated_name ∷ []))
+      → IsRefusedGeneration number refusal new
+  text_unaccepted refusal (inl memory) = inl memory
+  text_unaccepted refusal (inr (grown, why)) = inr (inr (is_number, text_refused grown refusal (unaccepted why)))
+
+  module _ (loaded : Loaded) (checked : Checked) (is : IsBuilt (text_of generated_name bytes) loaded checked) (grown : new ≡ old ++ generated_name ∷ []) where
+    pub text_unsolved : (refusal : Refusal) → (refusal ≡ Memory) ⊎ IsUnsolved checked node_limit refusal → IsRefusedGeneration number refusal new
+    text_unsolved refusal (inl memory) = inl memory
+    text_unsolved refusal (inr why) = inr (inr (is_number, text_refused grown refusal (unsolved loaded checked is (sym is.is.is_loaded.files) why)))
+
+    pub text_decided : (found : Found) → IsFound (problem_of checked []) (map (λ g. g.name) checked.globals) found → IsWithinLimits (problem_of checked []) → HasStats true (problem_of checked []) (length loaded.files) found.stats
+        → IsDecided (text_of generated_name (generated number)) true found
+    text_decided found is_found within counted =
+        let P : List ℕ → Type 0 = λ text. IsDecided (text_of generated_name text) true found in
+        subst P is_text (record { loaded = loaded; checked = checked; is = record { is = is; within = within }; is_found = is_found; counted = counted })

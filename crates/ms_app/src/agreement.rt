@@ -1,0 +1,54 @@
+ghost use Rattle.std.specs.Prelude.{◌≡◌, ◌⊎◌, ◌↔◌, ℕ, List, IsTrue, IfErr, IfOk};
+ghost use Rattle.ms_logic.specs.Verdict.{Agree, Problem, variables_of};
+ghost use Rattle.ms_app.specs.Solution.{IsNamed, IsSolution};
+ghost use Rattle.ms_build.specs.Built.{IsLimit};
+
+use crate::content::canonical_of;
+use crate::solve::Solution;
+use ms_arena::Node;
+use ms_dfa::{FileState, Plain};
+use ms_edge::Refusal;
+use std::alloc::Global;
+
+/// Whether two lists of states are equal.
+fn are_same_states(left: &[FileState], right: &[FileState]) -> bool
+    ensures { IsTrue result ↔ (left.now ≡ right.now) }
+{
+    left == right
+}
+
+/// Whether two lists of nodes are equal.
+fn are_same_nodes(left: &[Node], right: &[Node]) -> bool
+    ensures { IsTrue result ↔ (left.now ≡ right.now) }
+{
+    left == right
+}
+
+/// Whether two contents have one start and the same states and nodes.
+fn is_same_content(left: &Plain, right: &Plain) -> bool
+    ensures { IsTrue result ↔ ((left.now.start ≡ right.now.start) × (left.now.states ≡ right.now.states) × (left.now.nodes ≡ right.now.nodes)) }
+{
+    left.start == right.start
+        && are_same_states(left.states.slice(), right.states.slice())
+        && are_same_nodes(left.nodes.slice(), right.nodes.slice())
+}
+
+/// Whether the main values of two sources with the same globals are the same at each assignment, by their canonical
+/// automata, where nodes and states of a step are together at most `limit`.
+pub fn agree(alloc: Global, left: &Solution, right: &Solution, limit: u64) -> Result<bool, Refusal>
+    requires left { IsNamed left.now }
+    requires right { IsNamed right.now }
+    requires limit { IsLimit limit }
+    ensures agree { IfOk result (λ agree. (one two : Problem) (names others : List (List ℕ)) → IsSolution one names left.now → IsSolution two others right.now
+        → one.mode ≡ two.mode → variables_of one.globals ≡ variables_of two.globals → IsTrue agree ↔ Agree one two) }
+    ensures refused { IfErr result (λ refusal. (refusal ≡ Refusal.Memory) ⊎ ((step : ℕ) × (refusal ≡ Refusal.Nodes step limit))) }
+{
+    let one = match canonical_of(alloc, left, limit) {
+        Ok(content) => content,
+        Err(refusal) => return Err(refusal),
+    };
+    match canonical_of(alloc, right, limit) {
+        Ok(other) => Ok(is_same_content(&one, &other)),
+        Err(refusal) => Err(refusal),
+    }
+}

@@ -1,0 +1,86 @@
+ghost use Rattle.std.specs.Prelude.{◌≡◌, ◌≤◌, ◌⊎◌, ◌++◌, ℕ, [], List, length, map, IfErr, IfOk};
+ghost use Rattle.ms_edge.specs.Files.{OnlyRead, between};
+ghost use Rattle.ms_logic.specs.View.{problem_of};
+ghost use Rattle.ms_logic.specs.declared.source.Loaded.{Loaded as Declarations};
+ghost use Rattle.ms_app.specs.Comparison.{AreCompared, IsRefusedComparison};
+ghost use Rattle.ms_app.specs.Solution.{IsNamed, IsSolution};
+ghost use Rattle.ms_app.specs.Source.{IsRefused, IsSolved, file_of};
+ghost use Rattle.ms_build.specs.Built.{IsLimit};
+
+use crate::agreement::agree;
+use crate::same_globals::have_same_globals;
+use crate::solve::{Solution, solve};
+use crate::source::{Accepted, accept_file};
+use ms_edge::{Files, List, Refusal, Text};
+use std::alloc::Global;
+
+/// The names of two files.
+#[derive(Clone, Copy)]
+pub struct Pair<'a> {
+    pub left: &'a Text,
+    pub right: &'a Text,
+}
+
+/// A source and its solution.
+#[derive(Drop)]
+struct Solved {
+    source: Accepted,
+    solution: Solution,
+}
+
+/// A file and its solution.
+fn solve_file<F: Files>(
+    alloc: Global,
+    name: &Text,
+    limit: u64,
+    files: &mut F,
+    names: &mut List<Text>,
+) -> Result<Solved, Refusal>
+    requires few { length names.old ≤ 64 }
+    requires limit { IsLimit limit }
+    ensures solved { IfOk result (λ made. (loaded : Declarations) × IsSolved (file_of (between (F.told files.old) (F.told files.new)) (length names.old) name.now) loaded made.source.checked
+        × (length loaded.files ≤ 64) × (names.new ≡ names.old ++ loaded.files)) }
+    ensures solution { IfOk result (λ made. IsSolution (problem_of made.source.checked []) (map (λ g. g.name) made.source.checked.globals) made.solution) }
+    ensures named { IfOk result (λ made. IsNamed made.solution) }
+    ensures refused { IfErr result (λ refusal. (refusal ≡ Refusal.Memory) ⊎ ((read : List (List ℕ)) × (names.new ≡ names.old ++ read)
+        × IsRefused (file_of (between (F.told files.old) (F.told files.new)) (length names.old) name.now) limit refusal read)) }
+    ensures only_read { OnlyRead (F.told files.old) (F.told files.new) }
+{
+    let source = match accept_file(alloc, name, files, names) {
+        Ok(source) => source,
+        Err(refusal) => return Err(refusal),
+    };
+    match solve(alloc, &source.checked, limit) {
+        Ok(solution) => Ok(Solved { source, solution }),
+        Err(refusal) => Err(refusal),
+    }
+}
+
+/// Whether the main values of two files are the same at each assignment, where nodes and states of a step are together at
+/// most `limit`. The left file is read first; the files that a refusal numbers are in `names`.
+pub fn compare<F: Files>(
+    alloc: Global,
+    pair: Pair,
+    limit: u64,
+    files: &mut F,
+    names: &mut List<Text>,
+) -> Result<bool, Refusal>
+    requires first { names.old ≡ [] }
+    requires limit { IsLimit limit }
+    ensures compared { IfOk result (AreCompared pair.entry.left.now pair.entry.right.now (between (F.told files.old) (F.told files.new))) }
+    ensures refused { IfErr result (λ refusal. IsRefusedComparison pair.entry.left.now pair.entry.right.now limit (between (F.told files.old) (F.told files.new)) refusal names.new) }
+    ensures only_read { OnlyRead (F.told files.old) (F.told files.new) }
+{
+    let one = match solve_file(alloc, pair.left, limit, files, names) {
+        Ok(one) => one,
+        Err(refusal) => return Err(refusal),
+    };
+    let two = match solve_file(alloc, pair.right, limit, files, names) {
+        Ok(two) => two,
+        Err(refusal) => return Err(refusal),
+    };
+    if !have_same_globals(&one.source.checked, &two.source.checked) {
+        return Err(Refusal::VarsDiffer);
+    }
+    agree(alloc, &one.solution, &two.solution, limit)
+}

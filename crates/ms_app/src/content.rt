@@ -1,0 +1,31 @@
+ghost use Rattle.std.specs.Prelude.{◌≡◌, ◌⊎◌, ℕ, List, IfErr, IfOk};
+ghost use Rattle.ms_logic.specs.Verdict.{Problem};
+ghost use Rattle.ms_canonical.specs.Files.{content_of_file};
+ghost use Rattle.ms_app.specs.Counts.{IsCanonicalOf};
+ghost use Rattle.ms_app.specs.Solution.{IsNamed, IsSolution};
+ghost use Rattle.ms_build.specs.Built.{IsLimit};
+
+use crate::solve::Solution;
+use ms_canonical::canonical;
+use ms_dfa::Plain;
+use ms_edge::{Refusal, StepFault};
+use std::alloc::Global;
+
+/// The canonical content of the main value of a source over its globals, where nodes and states of a step are together at
+/// most `limit`.
+pub fn canonical_of(alloc: Global, solution: &Solution, limit: u64) -> Result<Plain, Refusal>
+    requires named { IsNamed solution.now }
+    requires limit { IsLimit limit }
+    ensures content { IfOk result (λ made. (problem : Problem) (names : List (List ℕ)) → IsSolution problem names solution.now → IsCanonicalOf problem (content_of_file made)) }
+    ensures refused { IfErr result (λ refusal. (refusal ≡ Refusal.Memory) ⊎ ((step : ℕ) × (refusal ≡ Refusal.Nodes step limit))) }
+{
+    match canonical(alloc, &solution.automaton, &solution.names, limit) {
+        Ok(content) => Ok(content),
+        Err(StepFault::Memory) => Err(Refusal::Memory),
+        // It comes after all steps that have a number.
+        Err(StepFault::Nodes { .. }) => Err(Refusal::Nodes {
+            step: u32::MAX,
+            limit,
+        }),
+    }
+}

@@ -1,0 +1,62 @@
+ghost use Rattle.std.specs.Prelude.{◌≡◌, ◌++◌, IfOk, OnOk, string_bytes};
+ghost use Rattle.ms_report.specs.Report.{length_text, size_text, summary_of};
+
+use crate::found::{Found, Stats};
+use crate::number::push_number;
+use crate::report_text::{push_count, verdict};
+use ms_edge::{Bytes, List, NoMemory};
+use ms_logic::Assignment;
+use std::alloc::{AllocError, Global};
+
+/// The summary of what was found of the generated source with this number, whose text has so many bytes: the verdict, the
+/// lengths of the example and the counterexample, and the states and nodes where these were counted.
+pub fn summary(alloc: Global, number: u64, bytes: u64, found: &Found) -> Result<Bytes, NoMemory>
+    ensures { IfOk result (λ text. text ≡ summary_of number bytes found.now) }
+{
+    match text(alloc, number, bytes, found) {
+        Ok(text) => Ok(List::from(text.into_bytes())),
+        Err(_) => Err(NoMemory),
+    }
+}
+
+fn text(alloc: Global, number: u64, bytes: u64, found: &Found) -> Result<String, AllocError>
+    ensures { IfOk result (λ text. string_bytes text ≡ summary_of number bytes found.now) }
+{
+    let mut text = String::new(alloc);
+    push_count(&mut text, "generated", number)?;
+    push_count(&mut text, "bytes", bytes)?;
+    text.push_str(verdict(found.verdict))?;
+    text.push_str("\n")?;
+    push_length(&mut text, "example", &found.example)?;
+    push_length(&mut text, "counterexample", &found.counterexample)?;
+    push_size(&mut text, found.stats)?;
+    Ok(text)
+}
+
+fn push_length(text: &mut String, word: &str, found: &Option<Assignment>) -> Result<(), AllocError>
+    ensures { OnOk result (string_bytes text.new ≡ string_bytes text.old ++ length_text word.now found.now) }
+{
+    match found {
+        None => {
+            text.push_str("no ")?;
+            text.push_str(word)?;
+            text.push_str("\n")
+        }
+        Some(assignment) => {
+            text.push_str(word)?;
+            text.push_str(" length ")?;
+            push_number(text, assignment.length)?;
+            text.push_str("\n")
+        }
+    }
+}
+
+fn push_size(text: &mut String, stats: Option<Stats>) -> Result<(), AllocError>
+    ensures { OnOk result (string_bytes text.new ≡ string_bytes text.old ++ size_text stats) }
+{
+    let Some(stats) = stats else {
+        return Ok(());
+    };
+    push_count(text, "states", stats.states)?;
+    push_count(text, "nodes", stats.nodes)
+}
