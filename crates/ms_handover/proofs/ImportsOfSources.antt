@@ -20,7 +20,7 @@ use Rattle.ms_handover.proofs.Unexported.{forms_numbered}
 -- other numbers of variables leave the imports
 module _ (n : Numbering) (count : ℕ) where
   mutual
-    renumbered_below : (f : CoreForm) → ImportsBelow count f → ImportsBelow count (renumbered n f)
+    pub renumbered_below : (f : CoreForm) → ImportsBelow count f → ImportsBelow count (renumbered n f)
     renumbered_below truth below = tt
     renumbered_below falsity below = tt
     renumbered_below (basic b) below = tt
@@ -42,7 +42,7 @@ module _ (n : Numbering) (count : ℕ) where
     renumbered_in_below (restricted d) below = renumbered_below d below
 
 module _ (checked : Checked) (answers : Answers) (well : IsWellNumbered checked) where
-  main_below : ImportsBelow (length checked.imports) (main_root (problem_of checked answers)).formula
+  pub main_below : ImportsBelow (length checked.imports) (main_root (problem_of checked answers)).formula
   main_below =
       let problem = problem_of checked answers in
       let tables = tables_of checked in

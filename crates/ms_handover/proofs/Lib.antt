@@ -1,8 +1,11 @@
+pub mod Exported
 pub mod FewOfFormulas
 pub mod FewOfSources
 pub mod FewOfTerms
+pub mod ImportsOfExports
 pub mod ImportsOfFormulas
 pub mod ImportsOfSources
 pub mod ImportsOfTerms
 pub mod Shared
+pub mod SharedExports
 pub mod Unexported

@@ -40,14 +40,14 @@ all_among : (P : Variable → Type 0) (scope vs : List Variable) → Each P scop
 all_among P scope [] each among = All-nil P
 all_among P scope (v ∷ vs) each among = All-cons P v vs (among_has P scope v each among.0) (all_among P scope vs each among.1)
 
-each_by : {X : Type 0} (P : X → Type 0) (xs : List X) → ((k : ℕ) (x : X) → slice_get xs k ≡ Some x → P x) → Each P xs
+pub each_by : {X : Type 0} (P : X → Type 0) (xs : List X) → ((k : ℕ) (x : X) → slice_get xs k ≡ Some x → P x) → Each P xs
 each_by P [] by = tt
 each_by P (x ∷ xs) by = (by 0 x refl, each_by P xs (λ k y is. by (suc k) y is))
 
 -- where the variables of a scope and those that are bound have their orders, all have
 module _ (imports : List Import) (orders : List Order) where
   mutual
-    all_ordered : (scope : List Variable) (f : CoreForm) → Each (HasOrder orders) scope → Stands imports scope f → BoundHaveOrders orders f → HaveTheirOrders imports orders f
+    pub all_ordered : (scope : List Variable) (f : CoreForm) → Each (HasOrder orders) scope → Stands imports scope f → BoundHaveOrders orders f → HaveTheirOrders imports orders f
     all_ordered scope truth each stands bound = tt
     all_ordered scope falsity each stands bound = tt
     all_ordered scope (basic b) each stands bound = all_among (HasOrder orders) scope (variables_of_basic b) each stands
@@ -77,7 +77,7 @@ module _ (n : Numbering) (rises : (p o : Order) (x y : ℕ) → x < y → n.numb
   abbrev new_names : List Variable → List ℕ
   new_names vs = map (λ v. v.name) (map (renumbered_variable n) vs)
 
-  renumbered_rise : (vs : List Variable) → AreRising vs → IsStrictlyIncreasing (new_names vs)
+  pub renumbered_rise : (vs : List Variable) → AreRising vs → IsStrictlyIncreasing (new_names vs)
   renumbered_rise [] rising k below = absurd (omega arith)
   renumbered_rise (v ∷ []) rising k below = absurd (omega arith)
   renumbered_rise (v ∷ w ∷ ws) rising zero below = rises v.order w.order v.name w.name rising.0
@@ -97,7 +97,7 @@ globals_listed n kept globals orders numbers k (g ∷ gs) has within =
     )
 
 module _ (checked : Checked) (answers : Answers) (lists : ListsVariables checked (problem_of checked answers)) (orders : List Order) (of_globals : (x : ℕ) (g : Global) → slice_get checked.globals x ≡ Some g → slice_get orders x ≡ Some g.order) where
-  root_lowered : (root : code.Root) → IsRootFor checked (problem_of checked answers) 0 root → BoundHaveOrders orders (core_form_of root.core) → IsLoweredRoot (problem_of checked answers).given.imports orders root
+  pub root_lowered : (root : code.Root) → IsRootFor checked (problem_of checked answers) 0 root → BoundHaveOrders orders (core_form_of root.core) → IsLoweredRoot (problem_of checked answers).given.imports orders root
   root_lowered root r bound =
       let imports = (problem_of checked answers).given.imports in
       let globals = length checked.globals in

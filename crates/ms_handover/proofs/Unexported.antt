@@ -117,7 +117,7 @@ forms_numbered tables bound seen [] each = tt
 forms_numbered tables bound seen (p ∷ placed) each = (each.0, forms_numbered tables bound seen placed each.1)
 
 module _ (checked : Checked) (answers : Answers) (well : IsWellNumbered checked) where
-  globals_read : (ds : List Declaration) → Each (λ d. IsNumberedRestriction (tables_of checked) (length (tables_of checked).predicates) (globals_seen checked) d.restriction) ds → (w : Variable)
+  pub globals_read : (ds : List Declaration) → Each (λ d. IsNumberedRestriction (tables_of checked) (length (tables_of checked).predicates) (globals_seen checked) d.restriction) ds → (w : Variable)
       → FreeInRestrictions (reads_of (problem_of checked answers).given) ds w → IsListed (globals_seen checked) w
   globals_read [] each w free = absurd free
   globals_read (d ∷ ds) each w free = ⊎_elim

@@ -1,3 +1,4 @@
+ghost use Rattle.ms_checked.specs.Checked.{MeetsRules};
 ghost use Rattle.ms_rules.specs.Checking.{IsFirstFault};
 ghost use Rattle.ms_rules.specs.Declarations.{first_fault_of};
 ghost use Rattle.ms_rules.specs.Numbers.{IsWellNumbered};
@@ -69,6 +70,7 @@ pub fn check(alloc: Global, loaded: &Loaded) -> Result<Checked, Refusal>
     ensures accepted { IfOk result (λ checked. first_fault_of loaded.now.mode (map placed_of loaded.now.items) ≡ None) }
     ensures typed { IfOk result (IsTyped loaded.now) }
     ensures numbered { IfOk result IsWellNumbered }
+    ensures meets_rules { IfOk result MeetsRules }
     ensures refused { IfErr result (λ refusal. (refusal ≡ Refusal.Memory) ⊎ IsFirstFault loaded.now refusal) }
 {
     let progress = passed(alloc, loaded)?;

@@ -1,5 +1,6 @@
 use Rattle.std.proofs.Common.{rules, ◌≡◌, map, None, arith}
 use Rattle.std.proofs.lemmas.Grind.{common_steps}
+use Rattle.ms_checked.proofs.CheckedSource.{meets-rules}
 use Rattle.ms_rules.specs.Declarations.{first_fault_of}
 use Rattle.ms_rules.specs.TypedSource.{IsTyped}
 use Rattle.ms_rules.specs.View.{placed_of}
@@ -11,3 +12,9 @@ returns-clause-numbered c =
     let is_typed : IsTyped c.args.loaded.now c.checked.result = first_of (search rules, grind (arith, common_steps)) in
     let right : first_fault_of c.args.loaded.now.mode (map placed_of c.args.loaded.now.items) ≡ None = first_of (search rules, grind (arith, common_steps)) in
     well-numbered c.args.loaded.now c.checked.result is_typed right
+
+pub returns-clause-meets_rules : goal.returns-clause-meets_rules
+returns-clause-meets_rules c =
+    let is_typed : IsTyped c.args.loaded.now c.checked.result = first_of (search rules, grind (arith, common_steps)) in
+    let right : first_fault_of c.args.loaded.now.mode (map placed_of c.args.loaded.now.items) ≡ None = first_of (search rules, grind (arith, common_steps)) in
+    meets-rules c.args.loaded.now c.checked.result is_typed right
