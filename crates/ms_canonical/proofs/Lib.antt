@@ -20,3 +20,4 @@ pub mod StateLemmas
 pub mod NodeLemmas
 pub mod EqualityLemmas
 pub mod FewestLemmas
+pub mod FewLemmas

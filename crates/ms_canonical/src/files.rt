@@ -48,6 +48,7 @@ pub fn canonical(
     ensures names { IfOk result (λ made. map (λ v. v.name) made.variables ≡ names.now) }
     ensures signs { IfOk result (λ made. (word : Word) → IsWordOver a.now.variables word → sign_of (content_of_file made) word ≡ option_map file_sign (sign_of a.now word)) }
     ensures canonical { IfOk result (λ made. IsCanonical (content_of_file made)) }
+    ensures few { IfOk result (λ made. length made.nodes + length made.states ≤ limit) }
     ensures nodes { OnRefused result (λ refused. (refused ≡ limit) × (limit < length a.now.nodes + length a.now.states)) }
 {
     let variables = match file_variables(alloc, a.tracks(), names.slice()) {

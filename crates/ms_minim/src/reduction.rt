@@ -50,6 +50,7 @@ pub fn reduce(
     requires some { 1 ≤ limit }
     requires small { limit ≤ 4000000000 }
     ensures reduced { IfOk result (λ made. IsReducedOf (read_content reading a.now) (content_over a.now made.store.nodes made.start made.states)) }
+    ensures few { IfOk result (λ made. length made.store.nodes + length made.states ≤ limit) }
     ensures nodes { OnRefused result (λ refused. (refused ≡ limit) × (limit < length a.now.nodes + length a.now.states)) }
 {
     let reader = Reader::new(a, reading);

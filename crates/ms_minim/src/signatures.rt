@@ -20,12 +20,23 @@ const CLASSES: u32 = 4000000000;
 
 /// What has been seen of the states that are due: where they lead among the chosen classes, as references with their marks,
 /// and for each class that is split off the old one and its mark. The first of these classes has the number `first`.
-#[derive(Drop)]
 pub(crate) struct Seen {
     pub scratch: Store,
     pub marks: Pairs,
     pub keys: Pairs,
     pub first: u32,
+}
+
+// Written out, so that a function that lets one go at each of its exits is proved at the cost of a call.
+impl Drop for Seen {
+    fn drop(self) {
+        let Seen {
+            scratch: _,
+            marks: _,
+            keys: _,
+            first: _,
+        } = self;
+    }
 }
 
 /// An automaton and the places of its tracks.

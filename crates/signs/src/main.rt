@@ -2,8 +2,10 @@
 //! steps, from left to right: a basic relation with its variables, by number, is one automaton more, and a connective takes
 //! the last ones and leaves one; a renaming takes the last one,
 //! and so do a track that is added, a minimisation and a quantifier; a quantifier with a domain takes the body and the domain.
+//! Other rows tell the automaton file of what the steps leave, or a text that is none.
 #![tactic(auto)]
 
+mod files;
 mod orders;
 mod quantifiers;
 mod rows;

@@ -1,4 +1,5 @@
-//! The rows of the data: steps, and the signs that are right.
+//! The rows of the data: steps, and the signs or the automaton file that are right; or texts that are no automaton file.
+use crate::files::{is_file, is_file_of};
 use crate::steps::take_step;
 use crate::words::signs;
 use anyhow::{Context, Result, bail};
@@ -10,7 +11,13 @@ use toml::{Table, Value};
 
 /// Prints each row that differs, and how many agree.
 pub fn tell(rt: &HostRuntime) -> Result<()> {
-    let text = std::fs::read_to_string(rt, "signs.toml").context("the data cannot be read")?;
+    tell_of(rt, "signs.toml")?;
+    tell_of(rt, "files.toml")
+}
+
+/// The same of the rows of a file of data.
+fn tell_of(rt: &HostRuntime, name: &str) -> Result<()> {
+    let text = std::fs::read_to_string(rt, name).context("the data cannot be read")?;
     let table = table_of(rt.alloc(), text.as_str())?;
     let mut agree = 0u64;
     for (i, row) in rows_of(&table).iter().enumerate() {
@@ -18,15 +25,47 @@ pub fn tell(rt: &HostRuntime) -> Result<()> {
             agree = agree.saturating_add(1);
         }
     }
-    println!(rt; "{agree} rows agree")?;
+    println!(rt; "{name}: {agree} rows agree")?;
     Ok(())
 }
 
-/// Whether the signs of a row are right. If not, those that came are printed.
+/// Whether a row is right. If not, it is printed.
 fn run_row(rt: &HostRuntime, row: &Value, i: usize) -> Result<bool> {
     let Value::Table(row) = row else {
         bail!("a row is a table");
     };
+    if row.contains_key("signs") {
+        return run_signs(rt, row, i);
+    }
+    if row.contains_key("file") {
+        return run_file(rt, row, i);
+    }
+    run_text(rt, row, i)
+}
+
+/// Whether the automaton of a row has the file that the row tells.
+fn run_file(rt: &HostRuntime, row: &Table, i: usize) -> Result<bool> {
+    allow_keys(row, &["mode", "steps", "file"])?;
+    let made = automaton(rt.alloc(), row)?;
+    let right = is_file_of(rt.alloc(), &made, text_of(row, "file")?)?;
+    if !right {
+        println!(rt; "row {i}, counted from 0: another file")?;
+    }
+    Ok(right)
+}
+
+/// Whether the text of a row is no automaton file.
+fn run_text(rt: &HostRuntime, row: &Table, i: usize) -> Result<bool> {
+    allow_keys(row, &["none"])?;
+    let taken = is_file(rt.alloc(), text_of(row, "none")?)?;
+    if taken {
+        println!(rt; "row {i}, counted from 0: it is an automaton file")?;
+    }
+    Ok(!taken)
+}
+
+/// Whether the signs of a row are right. If not, those that came are printed.
+fn run_signs(rt: &HostRuntime, row: &Table, i: usize) -> Result<bool> {
     allow_keys(row, &["mode", "steps", "longest", "signs"])?;
     let right = text_of(row, "signs")?;
     let made = automaton(rt.alloc(), row)?;

@@ -1,4 +1,4 @@
-use Rattle.std.proofs.Common.{◌≡◌, ℕ, List, length, map, slice_get, Some, refl, sym, ap, subst, ◌∙◌}
+use Rattle.std.proofs.Common.{◌≡◌, ℕ, List, length, map, slice_get, Some, refl, sym, ap, subst, ◌∙◌, arith}
 use Rattle.std.specs.Option.{option_map}
 use Rattle.ms_edge.specs.declared.refusal.Word.{Word}
 use Rattle.ms_dfa.specs.declared.plain.FileVar.{FileVar}
@@ -8,6 +8,7 @@ use Rattle.ms_logic.specs.Canonical.{IsCanonical}
 use Rattle.ms_logic.specs.Content.{IsWordOver, sign_of, variables_by_place}
 use Rattle.ms_canonical.specs.Files.{file_sign, file_states_of}
 use Rattle.ms_canonical.specs.Renumbering.{IsRenumbered, LeadsBelow}
+use Rattle.ms_canonical.proofs.FewLemmas.{few}
 use Rattle.ms_canonical.proofs.FileLemmas.{canonical-made, leads, signs-made}
 use Rattle.ms_canonical.proofs.OrdersLemmas.{orders_of, orders-by_place, orders-tracks}
 use Rattle.ms_canonical.proofs.files.canonical.Goals as goal
@@ -47,3 +48,11 @@ returns-clause-canonical c =
     let renumbered = subst (λ (states : List State). IsRenumbered reduced.store.nodes reduced.start states made.start made.states made.nodes) c.slice-states.ensures c.in-Ok-renumbered.ensures in
     subst (λ (mode : Mode). IsCanonical (record { mode = mode; variables = variables_by_place orders; start = made.start; states = file_states_of made.states; nodes = made.nodes })) (sym c.mode.ensures)
     (canonical-made a reduced.store.nodes reduced.start reduced.states c.in-Ok-reduce.ensures.reduced (variables_by_place orders) same made.start made.states made.nodes renumbered)
+
+pub returns-clause-few : goal.returns-clause-few
+returns-clause-few c =
+    let reduced = c.in-Ok-reduce.reduced in
+    let made = c.in-Ok-renumbered.made in
+    let renumbered = subst (λ (states : List State). IsRenumbered reduced.store.nodes reduced.start states made.start made.states made.nodes) c.slice-states.ensures c.in-Ok-renumbered.ensures in
+    let less = few reduced.store.nodes reduced.start reduced.states made.start made.states made.nodes renumbered in
+    omega (arith, less.0, less.1, c.in-Ok-reduce.ensures.few)

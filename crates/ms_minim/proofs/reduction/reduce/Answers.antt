@@ -1,4 +1,4 @@
-use Rattle.std.proofs.Common.{Ok, ap, ◌∙◌}
+use Rattle.std.proofs.Common.{Ok, ap, arith, ◌∙◌}
 use Rattle.ms_logic.specs.declared.sign.Sign.{Sign}
 use Rattle.ms_logic.specs.Content.{Content}
 use Rattle.ms_minim.specs.declared.reduction.Reduced.{Reduced}
@@ -30,3 +30,15 @@ returns-clause-reduced c =
     IsReducedOf-made content seen.classes seen.members _ seen.pairs quotient c.explore.new.store.nodes c.in-Ok-explore.start c.explore.new.states explores.grows.store.ordered explores.grows.store.reduced
     explores.start explores.all explores.follows
     (few_nodes content seen.classes seen.members _ seen.pairs quotient c.new-store.result c.explore.new.store c.new-store.ensures.empty explores.grows)
+
+pub returns-clause-few : goal.returns-clause-few
+returns-clause-few c =
+    let content = read_content c.args.reading c.args.a.now in
+    let seen = c.explore.new.machine in
+    let same = ap (λ (q : Quotienting). q.content) c.explore.ensures.later.same ∙ c.in-Ok.ensures.automaton ∙ c.new-reader.ensures in
+    let explores = explores_of content seen same c.new-store.result c.explore.new.store c.explore.new.states (Ok c.in-Ok-explore.start) c.in-Ok-explore.ensures.explored in
+    let within = explores.within in
+    let all = explores.all in
+    let limit = explores.grows.limit in
+    let given = c.new-store.ensures.limit in
+    omega (arith, within, all, limit, given)

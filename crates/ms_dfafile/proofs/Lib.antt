@@ -1,0 +1,10 @@
+pub mod ExampleLemmas
+pub mod FieldLemmas
+pub mod FileLemmas
+pub mod LineLemmas
+pub mod NamesLemmas
+pub mod NumberLemmas
+pub mod PairLemmas
+pub mod PartsLemmas
+pub mod ReadingLemmas
+pub mod RulesLemmas

@@ -1,0 +1,112 @@
+ghost use Rattle.std.specs.Prelude.{◌≡◌, ◌↔◌, codes, IsTrue};
+ghost use Rattle.ms_dfafile.specs.Parts.{IsSmallBody, IsSmallPlain, body_text, content_text, ending_text, head_text, start_text};
+ghost use Rattle.ms_dfafile.specs.Reading.{Gives, IsSection, IsSmallNode, IsSmallRef, Reads};
+ghost use Rattle.ms_dfafile.specs.Spelling.{line};
+
+use crate::fault::FileFault;
+use crate::field::{behind, reference};
+use crate::lines::lines;
+use ms_arena::{Node, Ref};
+use ms_dfa::{FileState, Plain};
+use ms_edge::List;
+use ms_logic::Mode;
+use std::alloc::Global;
+
+/// What stands behind the variables of a file.
+#[derive(Drop)]
+pub(crate) struct Body {
+    pub start: Ref,
+    pub states: List<FileState>,
+    pub nodes: List<Node>,
+}
+
+/// The first line, and the mode in the second.
+fn head(bytes: &[u8]) -> Option<(Mode, &[u8])>
+    ensures { Reads head_text (λ _. Unit {0}) bytes.now result }
+{
+    let rest = behind(bytes, b"monastr-dfa 1\nmode ")?;
+    if let Some(rest) = behind(rest, b"ws1s\n") {
+        return Some((Mode::Ws1s, rest));
+    }
+    let rest = behind(rest, b"m2l-str\n")?;
+    Some((Mode::M2lStr, rest))
+}
+
+/// The line of the start.
+fn start(bytes: &[u8]) -> Option<(Ref, &[u8])>
+    ensures { Reads start_text IsSmallRef bytes.now result }
+{
+    let rest = behind(bytes, b"start ")?;
+    reference(rest, b'\n')
+}
+
+/// Whether the bytes are the last line.
+fn is_end(bytes: &[u8]) -> bool
+    ensures { IsTrue result ↔ (bytes.now ≡ line (codes "end")) }
+{
+    bytes == b"end\n".as_slice()
+}
+
+/// The nodes, and the last line.
+fn ending(alloc: Global, bytes: &[u8]) -> Result<List<Node>, FileFault>
+    ensures { Gives ending_text (IsSection IsSmallNode) bytes.now result }
+{
+    let (nodes, rest) = match lines(alloc, b"nodes ", bytes) {
+        Ok(found) => found,
+        Err(fault) => return Err(fault),
+    };
+    if !is_end(rest) {
+        return Err(FileFault::Text);
+    }
+    Ok(nodes)
+}
+
+/// What stands behind the variables.
+fn behind_variables(alloc: Global, bytes: &[u8]) -> Result<Body, FileFault>
+    ensures { Gives body_text IsSmallBody bytes.now result }
+{
+    let Some((start, rest)) = start(bytes) else {
+        return Err(FileFault::Text);
+    };
+    let (states, rest) = match lines(alloc, b"states ", rest) {
+        Ok(found) => found,
+        Err(fault) => return Err(fault),
+    };
+    match ending(alloc, rest) {
+        Ok(nodes) => Ok(Body {
+            start,
+            states,
+            nodes,
+        }),
+        Err(fault) => Err(fault),
+    }
+}
+
+/// The content that bytes spell, whether it meets the rules of contents or not.
+pub(crate) fn content(alloc: Global, bytes: &[u8]) -> Result<Plain, FileFault>
+    ensures { Gives content_text IsSmallPlain bytes.now result }
+{
+    let Some((mode, rest)) = head(bytes) else {
+        return Err(FileFault::Text);
+    };
+    let (variables, rest) = match lines(alloc, b"variables ", rest) {
+        Ok(found) => found,
+        Err(fault) => return Err(fault),
+    };
+    match behind_variables(alloc, rest) {
+        Ok(
+            Body {
+                start,
+                states,
+                nodes,
+            },
+        ) => Ok(Plain {
+            mode,
+            variables,
+            start,
+            states,
+            nodes,
+        }),
+        Err(fault) => Err(fault),
+    }
+}
