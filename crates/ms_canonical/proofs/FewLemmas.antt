@@ -34,9 +34,9 @@ few_paired : {X Y : Type 0} (R : ℕ → Y → Type 0) (items : List X) (order :
 few_paired R items order made once paired at =
     let same = paired-length R order made paired in
     let few = few_below order (length items) once (λ place number held.
-            let other = slice_get-held made place (let within = slice_get_within order place number held in omega arith) in
-            let found = at number other.0 (paired-at R order made paired place number other.0 held other.1) in
-            slice_get_within items number found.0 found.1) in
+    let other = slice_get-held made place (let within = slice_get_within order place number held in omega arith) in
+    let found = at number other.0 (paired-at R order made paired place number other.0 held other.1) in
+    slice_get_within items number found.0 found.1) in
     omega arith
 
 -- what is renumbered has no more states and no more nodes than before
