@@ -12,7 +12,7 @@ use Rattle.ms_diagram.specs.Leaves.{noted}
 use Rattle.ms_diagram.specs.Numbering.{HasNoRepeats}
 use Rattle.ms_dfa.specs.declared.plain.FileState.{FileState}
 use Rattle.ms_dfa.specs.declared.state.State.{State}
-use Rattle.ms_canonical.specs.Renumbering.{ArePaired, IsNodeOf, IsRenumbered, IsStateOf}
+use Rattle.ms_canonical.specs.Renumbering.{ArePaired, IsNodeOf, IsRenumbered, IsStateOf, leaves_from, nodes_from, walk_over}
 use Rattle.ms_canonical.proofs.NotedLemmas.{any_place, no_repeats-none, no_repeats-noted}
 use Rattle.ms_canonical.proofs.Paired.{paired-at, paired-length}
 
@@ -43,6 +43,6 @@ few_paired R items order made once paired at =
 pub few : (nodes : List Node) (start : Ref) (states : List State) (made_start : Ref) (made_states : List FileState) (made_nodes : List Node)
     → IsRenumbered nodes start states made_start made_states made_nodes → (length made_states ≤ length states) × (length made_nodes ≤ length nodes)
 few nodes start states made_start made_states made_nodes made = (
-  few_paired (IsStateOf states made.order made.places) states made.order made_states (subst HasNoRepeats (sym made.order_is) (no_repeats-noted [] _ no_repeats-none)) made.states_are (λ number y is. (is.0, is.1)),
-  few_paired (IsNodeOf nodes made.order made.places) nodes made.places made_nodes (subst HasNoRepeats (sym made.places_is) (no_repeats-noted [] _ no_repeats-none)) made.nodes_are (λ number y is. (is.0, is.1)),
+  few_paired (IsStateOf states made.order made.places) states made.order made_states (subst HasNoRepeats (sym made.order_is) (no_repeats-noted [] (walk_over (leaves_from nodes) start states made.order) no_repeats-none)) made.states_are (λ number y is. (is.0, is.1)),
+  few_paired (IsNodeOf nodes made.order made.places) nodes made.places made_nodes (subst HasNoRepeats (sym made.places_is) (no_repeats-noted [] (walk_over (nodes_from nodes) start states made.order) no_repeats-none)) made.nodes_are (λ number y is. (is.0, is.1)),
 )
