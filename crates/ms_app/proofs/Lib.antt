@@ -11,4 +11,5 @@ pub mod Graphs
 pub mod MainValues
 pub mod Results
 pub mod Sources
+pub mod Told
 pub mod VerdictLemmas

@@ -1,9 +1,11 @@
 ghost use Rattle.std.specs.Prelude.{◌≡◌, ◌⊎◌, []};
 ghost use Rattle.ms_edge.specs.Counts.{Rose};
+ghost use Rattle.ms_edge.specs.Refusal.{IsPlaced, place_of};
+ghost use Rattle.ms_report.specs.Line.{HasLine};
 ghost use Rattle.ms_app.specs.Answer.{Prints, status_of, answer_of};
 
 use ms_edge::{List, Refusal, Sink, Status, Text, write_all};
-use ms_report::{has_line, refusal_line};
+use ms_report::refusal_line;
 use std::alloc::Global;
 
 /// The line of the refusal for want of memory, which takes none.
@@ -64,13 +66,12 @@ pub fn out_of_memory<S: Sink>(out: &mut S) -> Status
 
 /// Prints the line of a refusal, or that there is no memory for it.
 pub fn refuse<S: Sink>(alloc: Global, refusal: &Refusal, files: &List<Text>, out: &mut S) -> Status
+    requires has_line { HasLine refusal.now }
+    requires is_placed { IsPlaced (place_of refusal.now) files.now }
     ensures printed { Prints (S.told out.old) (S.told out.new) (answer_of refusal.now files.now) result
         ⊎ Prints (S.told out.old) (S.told out.new) (answer_of Refusal.Memory []) result }
     ensures sink_only { result ≡ Status.SinkFault → Rose (S.told out.old).faults (S.told out.new).faults }
 {
-    if !has_line(refusal, files) {
-        return out_of_memory(out);
-    }
     match refusal_line(alloc, refusal, files) {
         Ok(line) => print(out, status(refusal), line.slice()),
         Err(_) => out_of_memory(out),

@@ -1,0 +1,131 @@
+-- The line of a refusal can be written over the files that the refusal may number.
+use Rattle.std.proofs.Common.{◌≡◌, inl, inr, ℕ, true, false, List, [], ◌∷◌, ◌++◌, length, map, sym, subst}
+use Rattle.ms_edge.specs.Files.{Seen}
+use Rattle.ms_edge.specs.declared.at.At.{At}
+use Rattle.ms_edge.specs.declared.refusal.Refusal.{Refusal}
+use Rattle.ms_edge.specs.declared.refusal.Refusal.TheVariants.{Memory}
+use Rattle.ms_logic.specs.Size.{Extents, extents_of}
+use Rattle.ms_logic.specs.View.{predicate_of}
+use Rattle.ms_logic.specs.declared.checked.Checked.{Checked}
+use Rattle.ms_logic.specs.declared.checked.ExportUse.{ExportUse}
+use Rattle.ms_logic.specs.declared.checked.Global.{Global}
+use Rattle.ms_logic.specs.declared.checked.ImportUse.{ImportUse}
+use Rattle.ms_logic.specs.declared.checked.Placed.{Placed}
+use Rattle.ms_logic.specs.declared.source.Loaded.{Loaded}
+use Rattle.ms_lower.specs.Measure.{IsDepthRefusal}
+use Rattle.ms_lower.specs.TooDeep.{HasTooDeep, Part, part_of_formula, part_of_global, parts_of}
+use Rattle.ms_places.specs.Places.{HasPlacesInFiles, IsAmongFiles, IsToldOver, KeepsPlacesInFiles}
+use Rattle.ms_places.proofs.FirstFaults.{first-faults}
+use Rattle.ms_places.proofs.Loads.{loaded-sources, loaded-texts, refused-loads, refused-texts}
+use Rattle.ms_places.proofs.Refused.{IsToldAt, told-over}
+use Rattle.ms_places.proofs.TypedSources.{typed-sources}
+use Rattle.ms_rules.specs.Numbers.{Each}
+use Rattle.ms_rules.proofs.Fitting.{If, each-append}
+use Rattle.ms_words.specs.declared.command.Command.{Command}
+use Rattle.ms_words.specs.declared.command.Command.TheVariants.{Decide, Same, Gen}
+use Rattle.ms_app.specs.Answer.{IsRefusedFor}
+use Rattle.ms_app.specs.Beyond.{first_use}
+use Rattle.ms_app.specs.Comparison.{IsRefusedComparison, left_refused, right_refused, not_comparable, lacks_nodes}
+use Rattle.ms_app.specs.Comparison as comparisons
+use Rattle.ms_app.specs.Limits.{IsUnsolved, too_large}
+use Rattle.ms_app.specs.Limits as limits
+use Rattle.ms_app.specs.Source.{IsAccepted, IsNotBuilt, IsRefused, IsUnaccepted, Origin, file_of, text_of, not_loaded, faulty, not_built, unaccepted, unsolved}
+use Rattle.ms_app.specs.Source as sources
+
+-- want of memory has no place
+memory-told : (files : List (List ℕ)) (refusal : Refusal) → refusal ≡ Memory → IsToldOver files refusal
+memory-told files refusal is = subst (IsToldOver files) (sym is) (tt, tt)
+
+module _ (P : At → Type 0) where
+  -- the first import or export
+  use-at : (imports : List ImportUse) (exports : List ExportUse) → Each (λ (used : ImportUse). P used.at) imports → Each (λ (used : ExportUse). P used.at) exports → If P (first_use imports exports)
+  use-at (used ∷ more) exports h k = h.0
+  use-at [] (used ∷ more) h k = k.0
+  use-at [] [] h k = tt
+
+  -- the first declaration that is too deep
+  abbrev PartAt : Part → Type 0
+  PartAt part = P part.at
+
+  globals-at : (x : Extents) (gs : List Global) → Each (λ (g : Global). P g.at) gs → Each PartAt (map (part_of_global x) gs)
+  globals-at x [] h = tt
+  globals-at x (g ∷ gs) h = (h.0, globals-at x gs h.1)
+
+  formulas-at : (x : Extents) (fs : List Placed) → Each (λ (f : Placed). P f.at) fs → Each PartAt (map (part_of_formula x) fs)
+  formulas-at x [] h = tt
+  formulas-at x (f ∷ fs) h = (h.0, formulas-at x fs h.1)
+
+  deep-at : (item : ℕ) (at : At) (parts : List Part) → Each PartAt parts → HasTooDeep item at parts → P at
+  deep-at item at [] h deep = absurd deep
+  deep-at item at (part ∷ more) h (inl here) = subst P here.1 h.0
+  deep-at item at (part ∷ more) h (inr later) = deep-at item at more h.1 later
+
+  depth-told : (checked : Checked) (refusal : Refusal) → Each (λ (g : Global). P g.at) checked.globals → Each (λ (f : Placed). P f.at) checked.formulas → IsDepthRefusal checked [] refusal → IsToldAt P refusal
+  depth-told checked refusal h k why =
+      let x = extents_of (map predicate_of checked.predicates) in
+      let parts = each-append PartAt (map (part_of_global x) checked.globals) (map (part_of_formula x) checked.formulas) (globals-at x checked.globals h) (formulas-at x checked.formulas k) in
+      subst (IsToldAt P) (sym why.is) (tt, deep-at why.first.item why.at (parts_of checked) parts why.first.deep)
+
+-- of an origin whose files are numbered from those before on
+pub record Tells (before : List (List ℕ)) (origin : Origin) : Type 0 where
+  pub loaded : (loaded : Loaded) → origin.Loads loaded → HasPlacesInFiles (length before) loaded
+  pub refused : (refusal : Refusal) (read : List (List ℕ)) → origin.IsRefused refusal read → IsToldOver (before ++ read) refusal
+
+file-tells : (seen : Seen) (before : List (List ℕ)) (name : List ℕ) → Tells before (file_of seen (length before) name)
+file-tells seen before name = record { loaded = loaded-sources seen (length before) name; refused = λ refusal read why. refused-loads seen before name refusal read why }
+
+text-tells : (name bytes : List ℕ) → Tells [] (text_of name bytes)
+text-tells name bytes = record {
+  loaded = loaded-texts name bytes;
+  refused = λ refusal read why. subst (λ files. IsToldOver files refusal) (sym why.1) (refused-texts name bytes refusal why.0);
+}
+
+module _ (before : List (List ℕ)) (origin : Origin) (tells : Tells before origin) where
+  -- the places of what is accepted
+  kept : (loaded : Loaded) (checked : Checked) → IsAccepted origin loaded checked → KeepsPlacesInFiles (length before) checked
+  kept loaded checked is = typed-sources (length before) loaded checked (tells.loaded loaded is.is_loaded) is.typed
+
+  -- over all files of a source
+  over : (loaded : Loaded) (checked : Checked) (read : List (List ℕ)) (refusal : Refusal) → IsAccepted origin loaded checked → read ≡ loaded.files →
+      IsToldAt (IsAmongFiles (length before) (length checked.files)) refusal → IsToldOver (before ++ read) refusal
+  over loaded checked read refusal is all at =
+      subst (λ files. IsToldOver (before ++ files) refusal) (sym all) (subst (λ files. IsToldOver (before ++ files) refusal) is.typed.files (told-over before checked.files refusal at))
+
+  unaccepted-told : (refusal : Refusal) (read : List (List ℕ)) → IsUnaccepted origin refusal read → IsToldOver (before ++ read) refusal
+  unaccepted-told refusal read (not_loaded why) = tells.refused refusal read why
+  unaccepted-told refusal read (faulty loaded is all why) =
+      subst (λ files. IsToldOver (before ++ files) refusal) (sym all) (first-faults before loaded refusal (tells.loaded loaded is) why)
+  unaccepted-told refusal read (not_built loaded checked is all why) =
+      let P : At → Type 0 = IsAmongFiles (length before) (length checked.files) in
+      let places = kept loaded checked is in
+      over loaded checked read refusal is all (subst (IsToldAt P) (sym why.is) (tt, subst (If P) why.beyond (use-at P checked.imports checked.exports places.imports places.exports)))
+
+  unsolved-told : (loaded : Loaded) (checked : Checked) (read : List (List ℕ)) (limit : ℕ) (refusal : Refusal) → IsAccepted origin loaded checked → read ≡ loaded.files →
+      IsUnsolved checked limit refusal → IsToldOver (before ++ read) refusal
+  unsolved-told loaded checked read limit refusal is all (too_large (inl deep)) =
+      let places = kept loaded checked is in
+      over loaded checked read refusal is all (depth-told (IsAmongFiles (length before) (length checked.files)) checked refusal places.globals places.formulas deep)
+  unsolved-told loaded checked read limit refusal is all (too_large (inr large)) = subst (IsToldOver (before ++ read)) (sym large.is) (tt, tt)
+  unsolved-told loaded checked read limit refusal is all (limits.lacks_nodes within step lacks) = subst (IsToldOver (before ++ read)) (sym lacks) (tt, tt)
+
+  pub refused-told : (limit : ℕ) (refusal : Refusal) (read : List (List ℕ)) → IsRefused origin limit refusal read → IsToldOver (before ++ read) refusal
+  refused-told limit refusal read (unaccepted why) = unaccepted-told refusal read why
+  refused-told limit refusal read (unsolved loaded checked is all why) = unsolved-told loaded checked read limit refusal is.is all why
+  refused-told limit refusal read (sources.no_memory why) = memory-told (before ++ read) refusal why
+
+comparison-told : (left right : List ℕ) (limit : ℕ) (seen : Seen) (refusal : Refusal) (files : List (List ℕ)) → IsRefusedComparison left right limit seen refusal files → IsToldOver files refusal
+comparison-told left right limit seen refusal files (left_refused why) = refused-told [] (file_of seen 0 left) (file-tells seen [] left) limit refusal files why
+comparison-told left right limit seen refusal files (right_refused first rest are_parts loaded one is_left read all why) =
+    subst (λ names. IsToldOver names refusal) (sym all) (refused-told loaded.files (file_of rest (length loaded.files) right) (file-tells rest loaded.files right) limit refusal read why)
+comparison-told left right limit seen refusal files (not_comparable one two are_solved differ is) = subst (IsToldOver files) (sym is) (tt, tt)
+comparison-told left right limit seen refusal files (lacks_nodes one two are_solved same step is) = subst (IsToldOver files) (sym is) (tt, tt)
+comparison-told left right limit seen refusal files (comparisons.no_memory why) = memory-told files refusal why
+
+pub command-told : (command : Command) (seen : Seen) (refusal : Refusal) (files : List (List ℕ)) → IsRefusedFor command seen refusal files → IsToldOver files refusal
+command-told (Decide file max_nodes stats) seen refusal files why = refused-told [] (file_of seen 0 file) (file-tells seen [] file) max_nodes refusal files why
+command-told (Same left right max_nodes) seen refusal files why = comparison-told left right max_nodes seen refusal files why
+command-told (Gen number false) seen refusal files (inl memory) = memory-told files refusal memory
+command-told (Gen number false) seen refusal files (inr range) = subst (IsToldOver files) (sym range.0) (tt, tt)
+command-told (Gen number true) seen refusal files (inl memory) = memory-told files refusal memory
+command-told (Gen number true) seen refusal files (inr (inl range)) = subst (IsToldOver files) (sym range.0) (tt, tt)
+command-told (Gen number true) seen refusal files (inr (inr (is_number, why))) = refused-told [] (text_of _ _) (text-tells _ _) _ refusal files why
