@@ -8,6 +8,6 @@ mod report_text;
 mod summary_text;
 
 pub use found::{Found, Stats, Verdict};
-pub use refusal_text::{has_line, refusal_line};
+pub use refusal_text::refusal_line;
 pub use report_text::report;
 pub use summary_text::summary;

@@ -1,24 +1,10 @@
-ghost use Rattle.std.specs.Prelude.{◌≡◌, ◌↔◌, ◌++◌, ◌∷◌, [], ◌<◌, ◌/◌, ◌%◌, IfOk, OnOk, IsTrue, Some, string_bytes};
+ghost use Rattle.std.specs.Prelude.{◌≡◌, ◌++◌, ◌∷◌, [], ◌<◌, ◌/◌, ◌%◌, IfOk, OnOk, Some, string_bytes};
 ghost use Rattle.ms_edge.specs.Refusal.{IsPlaced, place_of};
 ghost use Rattle.ms_report.specs.Line.{words_of, detail_of, hex_digit, place_text, detail_text, line_of, HasLine};
 
 use crate::number::push_number;
 use ms_edge::{At, Bytes, List, NoMemory, Refusal, Text};
 use std::alloc::{AllocError, Global};
-
-/// Whether a line of the refusal can be written over these files: it is no fault of the sink, and its place is in one of
-/// them.
-pub fn has_line(refusal: &Refusal, files: &List<Text>) -> bool
-    ensures { IsTrue result ↔ (HasLine refusal.now × IsPlaced (place_of refusal.now) files.now) }
-{
-    if matches!(refusal, Refusal::SinkFault { .. }) {
-        return false;
-    }
-    match refusal.place() {
-        None => true,
-        Some(at) => (at.file as usize) < files.len(),
-    }
-}
 
 /// The line of a refusal, with a line feed at its end.
 pub fn refusal_line(alloc: Global, refusal: &Refusal, files: &List<Text>) -> Result<Bytes, NoMemory>
