@@ -1,8 +1,14 @@
--- Imports and exports for worked examples.
-use Rattle.std.specs.Prelude.{ℕ, []}
+-- Imports, exports and globals for worked examples.
+use Rattle.std.specs.Prelude.{ℕ, List, [], ◌∷◌, codes, None}
 use Rattle.ms_edge.specs.declared.at.At.{At}
+use Rattle.ms_logic.specs.declared.checked.Checked.{Checked}
 use Rattle.ms_logic.specs.declared.checked.ExportUse.{ExportUse}
+use Rattle.ms_logic.specs.declared.checked.Global.{Global}
 use Rattle.ms_logic.specs.declared.checked.ImportUse.{ImportUse}
+use Rattle.ms_logic.specs.declared.mode.Mode.{Mode}
+use Rattle.ms_logic.specs.declared.mode.Mode.TheVariants.{Ws1s, M2lStr}
+use Rattle.ms_logic.specs.declared.mode.Order.{Order}
+use Rattle.ms_logic.specs.declared.mode.Order.TheVariants.{One, Two}
 
 abbrev pub at : ℕ → At
 at place = record { file = 0; place = place }
@@ -12,3 +18,31 @@ import_at place = record { at = at place; name = []; pairs = [] }
 
 abbrev pub export_at : ℕ → ExportUse
 export_at place = record { at = at place; name = []; variables = []; names = [] }
+
+-- a global of an order, without a restriction
+abbrev pub declared : Order → List ℕ → Global
+declared order name = record { at = at 0; item = 0; order = order; name = name; domain = None }
+
+-- a source of globals alone
+abbrev pub source_of : Mode → List Global → Checked
+source_of mode globals = record { mode = mode; globals = globals; predicates = []; imports = []; exports = []; formulas = []; files = [] }
+
+-- var2 P, Q;
+abbrev pub two_sets : Checked
+two_sets = source_of Ws1s (declared Two (codes "P") ∷ declared Two (codes "Q") ∷ [])
+
+-- var2 Q, P;
+abbrev pub turned_round : Checked
+turned_round = source_of Ws1s (declared Two (codes "Q") ∷ declared Two (codes "P") ∷ [])
+
+-- var1 P; var2 Q;
+abbrev pub other_order : Checked
+other_order = source_of Ws1s (declared One (codes "P") ∷ declared Two (codes "Q") ∷ [])
+
+-- m2l-str; var2 P, Q;
+abbrev pub other_mode : Checked
+other_mode = source_of M2lStr (declared Two (codes "P") ∷ declared Two (codes "Q") ∷ [])
+
+-- var2 P;
+abbrev pub one_set : Checked
+one_set = source_of Ws1s (declared Two (codes "P") ∷ [])

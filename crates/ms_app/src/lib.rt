@@ -18,5 +18,5 @@ mod source;
 mod text;
 mod top;
 
-pub use examples::worked_uses;
+pub use examples::{worked_answers, worked_globals, worked_uses};
 pub use top::run;
