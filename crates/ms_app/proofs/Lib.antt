@@ -1,6 +1,8 @@
 pub mod AgreementLemmas
 pub mod Commands
+pub mod Compared
 pub mod Comparisons
+pub mod Complete
 pub mod ContentLemmas
 pub mod EqualLemmas
 pub mod FileCounts
@@ -10,6 +12,7 @@ pub mod GlobalLemmas
 pub mod Graphs
 pub mod MainValues
 pub mod Results
+pub mod Solvable
 pub mod Sources
 pub mod Told
 pub mod VerdictLemmas

@@ -1,6 +1,7 @@
 pub mod Answer
 pub mod Beyond
 pub mod Comparison
+pub mod Completeness
 pub mod Counts
 pub mod Decision
 pub mod Examples

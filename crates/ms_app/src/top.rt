@@ -5,6 +5,7 @@ ghost use Rattle.ms_edge.specs.Sink.{grown};
 ghost use Rattle.ms_words.specs.Command.{IsCommand};
 ghost use Rattle.ms_words.specs.declared.command.Command.{Command as Asked};
 ghost use Rattle.ms_app.specs.Answer.{IsAnswered, IsAnsweredFor, IsDone, IsLimited, IsRefusedFor, IsTextOf};
+ghost use Rattle.ms_app.specs.Completeness.{IsComplete};
 
 use crate::compare::Pair;
 use crate::options::Options;
@@ -79,6 +80,9 @@ pub fn run<F: Files, S: Sink>(alloc: Global, words: &Words, files: &mut F, out: 
     ensures done { result ≡ Status.Done → IsDone words.now (S.told out.old) (S.told out.new) (between (F.told files.old) (F.told files.new)) }
     ensures usage_only { result ≡ Status.Usage → (command : Asked) → ¬ IsCommand words.now command }
     ensures sink_only { result ≡ Status.SinkFault → Rose (S.told out.old).faults (S.told out.new).faults }
+
+    // What can be done is done where nothing outside fails, unless memory is wanting, or nodes in a step.
+    ensures complete { IsComplete words.now (S.told out.old) (S.told out.new) (between (F.told files.old) (F.told files.new)) result }
 
     // No file is written.
     ensures kept { (F.told files.new).held ≡ (F.told files.old).held }

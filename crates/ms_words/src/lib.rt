@@ -4,10 +4,12 @@
 mod apps;
 mod command;
 mod examples;
+mod laws;
 mod words;
 
 pub use command::{Command, Verb, WordsFault};
 pub use examples::{
     worked_comparisons, worked_generations, worked_limits, worked_verbs, worked_words,
 };
+pub use laws::one_command;
 pub use words::options;

@@ -1,5 +1,7 @@
+use Rattle.ms_edge.specs.Files.{between}
 use Rattle.ms_app.specs.Answer as answers
 use Rattle.ms_app.proofs.Commands.{limited}
+use Rattle.ms_app.proofs.Complete.{complete}
 use Rattle.ms_app.proofs.top.run.Goals as goal
 
 pub answer-requires : goal.answer-requires
@@ -8,5 +10,20 @@ answer-requires g c = limited c.args.words.now c.in-Ok.command c.in-Ok.ensures.c
 pub returns-in-Ok-clause-answered : goal.returns-in-Ok-clause-answered
 returns-in-Ok-clause-answered g c = answers.asked c.in-Ok.command c.in-Ok.ensures.command c.answer.ensures.answered
 
+pub returns-in-Ok-clause-complete : goal.returns-in-Ok-clause-complete
+returns-in-Ok-clause-complete g c =
+    complete c.args.words.now (g.S.Sink.told c.args.out.now) (g.S.Sink.told c.answer.new.out) (between (g.F.Files.told c.args.files.now) (g.F.Files.told c.answer.new.files)) c.answer.result
+    (answers.asked c.in-Ok.command c.in-Ok.ensures.command c.answer.ensures.answered)
+
 pub returns-in-Err-Usage-clause-answered : goal.returns-in-Err-Usage-clause-answered
 returns-in-Err-Usage-clause-answered g c = answers.no_command (c.in-Err-Usage.ensures.usage c.in-Err-Usage.field-0-is) c.print.ensures
+
+pub returns-in-Err-Usage-clause-complete : goal.returns-in-Err-Usage-clause-complete
+returns-in-Err-Usage-clause-complete g c =
+    complete c.args.words.now (g.S.Sink.told c.args.out.now) (g.S.Sink.told c.print.new.out) (between (g.F.Files.told c.args.files.now) (g.F.Files.told c.args.files.now)) c.print.result
+    (answers.no_command (c.in-Err-Usage.ensures.usage c.in-Err-Usage.field-0-is) c.print.ensures)
+
+pub returns-in-Err-NoMemory-clause-complete : goal.returns-in-Err-NoMemory-clause-complete
+returns-in-Err-NoMemory-clause-complete g c =
+    complete c.args.words.now (g.S.Sink.told c.args.out.now) (g.S.Sink.told c.out_of_memory.new.out) (between (g.F.Files.told c.args.files.now) (g.F.Files.told c.args.files.now)) c.out_of_memory.result
+    (answers.no_words c.out_of_memory.ensures)

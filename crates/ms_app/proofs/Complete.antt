@@ -1,0 +1,60 @@
+-- What can be done is done, unless memory or nodes are wanting.
+use Rattle.std.proofs.Common.{◌≡◌, ℕ, ◌⊎◌, inl, inr, true, false, List, [], ap, ◌∙◌, subst}
+use Rattle.ms_edge.specs.Counts.{Rose}
+use Rattle.ms_edge.specs.Files.{Seen}
+use Rattle.ms_edge.specs.Sink.{SinkTold, grown}
+use Rattle.ms_edge.specs.declared.refusal.Refusal.{Refusal}
+use Rattle.ms_edge.specs.declared.refusal.Refusal.TheVariants.{Memory}
+use Rattle.ms_edge.specs.declared.refusal.Status.{Status}
+use Rattle.ms_edge.specs.declared.refusal.Status.TheVariants.{NoMemory}
+use Rattle.ms_gen.specs.Generated.{generated}
+use Rattle.ms_report.specs.Line.{line_of}
+use Rattle.ms_words.specs.Command.{node_limit}
+use Rattle.ms_words.specs.declared.command.Command.{Command}
+use Rattle.ms_words.specs.declared.command.Command.TheVariants.{Decide, Same, Gen}
+use Rattle.ms_app.specs.Answer as answers
+use Rattle.ms_app.specs.Answer.{Answer, IsAnswered, IsAnsweredFor, IsRefusedFor, Prints, answer_of, generated_name, status_of}
+use Rattle.ms_app.specs.Completeness.{CanBeDone, IsComplete, LackedNodes, NothingFailed, WasDone, limit_of}
+use Rattle.ms_app.specs.Source.{file_of, text_of}
+use Rattle.ms_app.proofs.Compared.{comparable}
+use Rattle.ms_words.proofs.OneCommand.{one_command}
+use Rattle.ms_app.proofs.Solvable.{IsWant, files_settle, solvable, texts_settle}
+
+-- what can be done is refused for want of memory or nodes alone
+want : (command : Command) (before after : SinkTold) (seen : Seen) → CanBeDone command seen → NothingFailed before after seen → (refusal : Refusal) (files : List (List ℕ)) →
+    IsRefusedFor command seen refusal files → IsWant (limit_of command) refusal
+want (Decide file limit stats) before after seen can well refusal files why =
+    solvable (file_of seen 0 file) (file_of seen 0 file) (files_settle seen seen (record { holding = well.holding; one_told = well.told; other_told = well.told }) well.reads 0 file)
+    can.0 can.1 can.2 limit refusal files why
+want (Same left right limit) before after seen can well refusal files why = comparable well.holding left right limit seen can.0 can.1 well.told well.reads can.2 can.3 refusal files why
+want (Gen number false) before after seen can well refusal files (inl memory) = inl memory
+want (Gen number false) before after seen can well refusal files (inr none) = absurd (none.1 can)
+want (Gen number true) before after seen can well refusal files (inl memory) = inl memory
+want (Gen number true) before after seen can well refusal files (inr (inl none)) = absurd (none.1 can.0)
+want (Gen number true) before after seen can well refusal files (inr (inr (is, why))) =
+    solvable (text_of generated_name (generated number)) (text_of generated_name (generated number)) (texts_settle generated_name (generated number)) can.1.0 can.1.1 can.1.2 node_limit refusal files why
+
+-- a sink that does not fail takes the answer
+printed : (before after : SinkTold) (answer : Answer) (status : Status) → (Rose before.faults after.faults → ⊥) → Prints before after answer status →
+    (status ≡ answer.status) × (after.taken ≡ grown before.taken answer.text)
+printed before after answer status well (inl is) = is
+printed before after answer status well (inr (failed, rose, some)) = absurd (well rose)
+
+wanted : (command : Command) (before after : SinkTold) (refusal : Refusal) (files : List (List ℕ)) (status : Status) → (status ≡ status_of refusal) × (after.taken ≡ grown before.taken (line_of refusal files)) →
+    IsWant (limit_of command) refusal → (status ≡ NoMemory) ⊎ LackedNodes command before after status
+wanted command before after refusal files status (is, taken) (inl memory) = inl (is ∙ ap status_of memory)
+wanted command before after refusal files status (is, taken) (inr (step, nodes)) =
+    inr (is ∙ ap status_of nodes, (step, files, taken ∙ ap (λ r. grown before.taken (line_of r files)) nodes))
+
+answered : (command : Command) (before after : SinkTold) (seen : Seen) (status : Status) → CanBeDone command seen → NothingFailed before after seen → IsAnsweredFor command before after seen status →
+    WasDone command before after seen status ⊎ (status ≡ NoMemory) ⊎ LackedNodes command before after status
+answered command before after seen status can well (inl (text, is, prints)) =
+    let all = printed before after (answers.done_with text) status well.prints prints in inl (all.0, (text, is, all.1))
+answered command before after seen status can well (inr (refusal, files, why, prints)) =
+    inr (wanted command before after refusal files status (printed before after (answer_of refusal files) status well.prints prints) (want command before after seen can well refusal files why))
+
+pub complete : (words : List (List ℕ)) (before after : SinkTold) (seen : Seen) (status : Status) → IsAnswered words before after seen status → IsComplete words before after seen status
+complete words before after seen status (answers.no_command none prints) command is can well = absurd (none command is)
+complete words before after seen status (answers.asked command' is' answer) command is can well =
+    answered command before after seen status can well (subst (λ c. IsAnsweredFor c before after seen status) (one_command words command' command is' is) answer)
+complete words before after seen status (answers.no_words prints) command is can well = inr (inl (printed before after (answer_of Memory []) status well.prints prints).0)

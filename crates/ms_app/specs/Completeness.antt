@@ -1,0 +1,61 @@
+-- Which requests are done, by what the files hold, where nothing outside goes wrong.
+use Rattle.std.specs.Prelude.{◌≡◌, ℕ, ◌⊎◌, true, false, List, Some}
+use Rattle.ms_edge.specs.declared.refusal.Refusal.TheVariants.{Nodes}
+use Rattle.ms_edge.specs.declared.refusal.Status.{Status}
+use Rattle.ms_edge.specs.declared.refusal.Status.TheVariants.{Done, Limit, NoMemory}
+use Rattle.ms_edge.specs.Counts.{Rose}
+use Rattle.ms_edge.specs.Files.{Holding, Seen}
+use Rattle.ms_edge.specs.Sink.{SinkTold, grown}
+use Rattle.ms_gen.specs.Generated.{IsNumber, generated}
+use Rattle.ms_logic.specs.declared.checked.Checked.{Checked}
+use Rattle.ms_logic.specs.declared.source.Loaded.{Loaded}
+use Rattle.ms_report.specs.Line.{line_of}
+use Rattle.ms_words.specs.Command.{IsCommand, node_limit}
+use Rattle.ms_words.specs.declared.command.Command.{Command}
+use Rattle.ms_words.specs.declared.command.Command.TheVariants.{Decide, Same, Gen}
+use Rattle.ms_app.specs.Answer.{IsTextOf, generated_name}
+use Rattle.ms_app.specs.Comparison.{AreSolved, HaveSameGlobals}
+use Rattle.ms_app.specs.Source.{IsSolved, Origin, file_of, text_of}
+
+-- what the files hold was told, no read of them failed, and the sink did not fail
+pub record NothingFailed (before after : SinkTold) (seen : Seen) : Type 0 where
+  pub holding : Holding
+  pub told : seen.before.held ≡ Some holding
+  pub reads : ¬ Rose seen.before.faults seen.after.faults
+  pub prints : ¬ Rose before.faults after.faults
+
+-- it loads as a source without a fault, which is built and within the limits
+abbrev pub CanBeSolved : Origin → Type 0
+CanBeSolved origin = (loaded : Loaded) × (checked : Checked) × IsSolved origin loaded checked
+
+-- both files load as such sources, with the same globals
+abbrev pub CanBeCompared : List ℕ → List ℕ → Seen → Type 0
+CanBeCompared left right seen = (one two : Checked) × AreSolved left right seen one two × HaveSameGlobals one two
+
+-- what the command asks for can be done
+abbrev pub CanBeDone : Command → Seen → Type 0
+CanBeDone (Decide file max_nodes stats) seen = CanBeSolved (file_of seen 0 file)
+CanBeDone (Same left right max_nodes) seen = CanBeCompared left right seen
+CanBeDone (Gen number false) seen = IsNumber number
+CanBeDone (Gen number true) seen = IsNumber number × CanBeSolved (text_of generated_name (generated number))
+
+-- the limit on the nodes and states of a step
+abbrev pub limit_of : Command → ℕ
+limit_of (Decide file max_nodes stats) = max_nodes
+limit_of (Same left right max_nodes) = max_nodes
+limit_of (Gen number decide) = node_limit
+
+-- it was done, and its text printed
+abbrev pub WasDone : Command → SinkTold → SinkTold → Seen → Status → Type 0
+WasDone command before after seen status = (status ≡ Done) × ((text : List ℕ) × IsTextOf command seen text × (after.taken ≡ grown before.taken text))
+
+-- a step was refused under the limit, and this was printed; what shows that it lacked nodes is open
+abbrev pub LackedNodes : Command → SinkTold → SinkTold → Status → Type 0
+LackedNodes command before after status =
+    (status ≡ Limit) × ((step : ℕ) × (files : List (List ℕ)) × (after.taken ≡ grown before.taken (line_of (Nodes step (limit_of command)) files)))
+
+-- Where the words ask for what can be done and nothing outside fails, it is done, unless memory is wanting, or nodes in a step.
+abbrev pub IsComplete : List (List ℕ) → SinkTold → SinkTold → Seen → Status → Type 0
+IsComplete words before after seen status =
+    (command : Command) → IsCommand words command → CanBeDone command seen → NothingFailed before after seen →
+    WasDone command before after seen status ⊎ (status ≡ NoMemory) ⊎ LackedNodes command before after status

@@ -1,0 +1,5 @@
+pub mod Checks
+pub mod Examples
+pub mod Loads
+pub mod Reading
+pub mod Told
