@@ -11,6 +11,7 @@ pub mod Generations
 pub mod GlobalLemmas
 pub mod Graphs
 pub mod MainValues
+pub mod Requests
 pub mod Results
 pub mod Solvable
 pub mod Sources

@@ -2,6 +2,7 @@ pub mod Answer
 pub mod Beyond
 pub mod Comparison
 pub mod Completeness
+pub mod CompletenessExamples
 pub mod Counts
 pub mod Decision
 pub mod Examples

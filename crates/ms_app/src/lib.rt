@@ -4,6 +4,7 @@
 mod agreement;
 mod beyond;
 mod compare;
+mod complete_examples;
 mod content;
 mod decide;
 mod examples;
@@ -18,5 +19,6 @@ mod source;
 mod text;
 mod top;
 
+pub use complete_examples::{worked_requests, worked_runs};
 pub use examples::{worked_answers, worked_globals, worked_uses};
 pub use top::run;
