@@ -1,0 +1,13 @@
+pub mod Accepting
+pub mod Becoming
+pub mod Judged
+pub mod Known
+pub mod Limits
+pub mod Names
+pub mod Pieces
+pub mod Reading
+pub mod Readings
+pub mod Seen
+pub mod Source
+pub mod Spelling
+pub mod Typing
