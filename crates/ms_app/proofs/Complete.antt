@@ -7,18 +7,16 @@ use Rattle.ms_edge.specs.declared.refusal.Refusal.{Refusal}
 use Rattle.ms_edge.specs.declared.refusal.Refusal.TheVariants.{Memory}
 use Rattle.ms_edge.specs.declared.refusal.Status.{Status}
 use Rattle.ms_edge.specs.declared.refusal.Status.TheVariants.{NoMemory}
-use Rattle.ms_gen.specs.Generated.{generated}
 use Rattle.ms_report.specs.Line.{line_of}
-use Rattle.ms_words.specs.Command.{node_limit}
 use Rattle.ms_words.specs.declared.command.Command.{Command}
 use Rattle.ms_words.specs.declared.command.Command.TheVariants.{Decide, Same, Gen}
 use Rattle.ms_app.specs.Answer as answers
-use Rattle.ms_app.specs.Answer.{Answer, IsAnswered, IsAnsweredFor, IsRefusedFor, Prints, answer_of, generated_name, status_of}
+use Rattle.ms_app.specs.Answer.{Answer, IsAnswered, IsAnsweredFor, IsRefusedFor, Prints, answer_of, status_of}
 use Rattle.ms_app.specs.Completeness.{CanBeDone, IsComplete, LackedNodes, NothingFailed, WasDone, limit_of}
-use Rattle.ms_app.specs.Source.{file_of, text_of}
+use Rattle.ms_app.specs.Source.{file_of}
 use Rattle.ms_app.proofs.Compared.{comparable}
 use Rattle.ms_words.proofs.OneCommand.{one_command}
-use Rattle.ms_app.proofs.Solvable.{IsWant, files_settle, solvable, texts_settle}
+use Rattle.ms_app.proofs.Solvable.{IsWant, files_settle, solvable}
 
 -- what can be done is refused for want of memory or nodes alone
 want : (command : Command) (before after : SinkTold) (seen : Seen) → CanBeDone command seen → NothingFailed before after seen → (refusal : Refusal) (files : List (List ℕ)) →
@@ -30,9 +28,8 @@ want (Same left right limit) before after seen can well refusal files why = comp
 want (Gen number false) before after seen can well refusal files (inl memory) = inl memory
 want (Gen number false) before after seen can well refusal files (inr none) = absurd (none.1 can)
 want (Gen number true) before after seen can well refusal files (inl memory) = inl memory
-want (Gen number true) before after seen can well refusal files (inr (inl none)) = absurd (none.1 can.0)
-want (Gen number true) before after seen can well refusal files (inr (inr (is, why))) =
-    solvable (text_of generated_name (generated number)) (text_of generated_name (generated number)) (texts_settle generated_name (generated number)) can.1.0 can.1.1 can.1.2 node_limit refusal files why
+want (Gen number true) before after seen can well refusal files (inr (inl none)) = absurd (none.1 can)
+want (Gen number true) before after seen can well refusal files (inr (inr (is, lacks))) = inr lacks
 
 -- a sink that does not fail takes the answer
 printed : (before after : SinkTold) (answer : Answer) (status : Status) → (Rose before.faults after.faults → ⊥) → Prints before after answer status →

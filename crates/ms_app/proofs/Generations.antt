@@ -1,7 +1,8 @@
 -- What comes of a generated source.
 use Rattle.std.proofs.Common.{◌≡◌, ◌⊎◌, inl, inr, ℕ, true, List, [], ◌∷◌, ◌++◌, length, map, sym, ap, subst, ◌∙◌}
 use Rattle.ms_edge.specs.declared.refusal.Refusal.{Refusal}
-use Rattle.ms_edge.specs.declared.refusal.Refusal.TheVariants.{Memory}
+use Rattle.ms_edge.specs.declared.refusal.Refusal.TheVariants.{Memory, Nodes}
+use Rattle.ms_accepted.proofs.Accepting.{sources-are-accepted}
 use Rattle.ms_gen.specs.Generated.{IsNumber, generated}
 use Rattle.ms_logic.specs.View.{problem_of}
 use Rattle.ms_logic.specs.declared.checked.Checked.{Checked}
@@ -9,15 +10,38 @@ use Rattle.ms_logic.specs.declared.source.Loaded.{Loaded}
 use Rattle.ms_report.specs.declared.found.Found.{Found}
 use Rattle.ms_words.specs.Command.{node_limit}
 use Rattle.ms_app.specs.Answer.{IsNoNumber, generated_name}
+use Rattle.ms_app.specs.Beyond.{first_use}
 use Rattle.ms_app.specs.Counts.{HasStats}
 use Rattle.ms_app.specs.Decision.{IsDecided, IsFound}
 use Rattle.ms_app.specs.Limits.{IsUnsolved, IsWithinLimits}
-use Rattle.ms_app.specs.Source.{IsBuilt, IsRefused, IsUnaccepted, text_of, unaccepted, unsolved}
+use Rattle.ms_app.specs.Source.{IsBuilt, IsRefused, IsSolved, IsUnaccepted, text_of, unaccepted, unsolved}
+use Rattle.ms_app.proofs.Solvable.{solvable, texts_settle}
 
 -- why the generation is refused
-abbrev pub IsRefusedGeneration : ℕ → Refusal → List (List ℕ) → Type 0
-IsRefusedGeneration number refusal files =
-    (refusal ≡ Memory) ⊎ IsNoNumber number refusal ⊎ (IsNumber number × IsRefused (text_of generated_name (generated number)) node_limit refusal files)
+abbrev pub IsRefusedGeneration : ℕ → Refusal → Type 0
+IsRefusedGeneration number refusal = (refusal ≡ Memory) ⊎ IsNoNumber number refusal ⊎ (IsNumber number × ((step : ℕ) × (refusal ≡ Nodes step node_limit)))
+
+-- a generated source can be solved
+solved : (number : ℕ) (is : IsNumber number) → let found = sources-are-accepted number generated_name is in IsSolved (text_of generated_name (generated number)) found.loaded found.checked
+solved number is =
+    let found = sources-are-accepted number generated_name is in
+    record {
+      is = record {
+        is = record { is_loaded = found.is_loaded; accepted = found.no_fault; typed = found.is_typed };
+        built = ap (λ imports. first_use imports found.checked.exports) found.imports ∙ ap (first_use []) found.exports;
+      };
+      within = record { depth = found.depth; size = found.size };
+    }
+
+-- so it is refused for want of memory or of nodes alone
+wanting : (number : ℕ) → IsNumber number → (refusal : Refusal) (files : List (List ℕ)) → IsRefused (text_of generated_name (generated number)) node_limit refusal files → IsRefusedGeneration number refusal
+wanting number is refusal files why =
+    let origin = text_of generated_name (generated number) in
+    let found = sources-are-accepted number generated_name is in
+    elim (solvable origin origin (texts_settle generated_name (generated number)) found.loaded found.checked (solved number is) node_limit refusal files why) [
+      | inl memory ↦ inl memory
+      | inr lacks ↦ inr (inr (is, lacks))
+    ]
 
 module _ (number : ℕ) (is_number : IsNumber number) (bytes : List ℕ) (is_text : bytes ≡ generated number) (old new : List (List ℕ)) (none : old ≡ []) where
   only_own : new ≡ old ++ generated_name ∷ [] → generated_name ∷ [] ≡ new
@@ -30,14 +54,14 @@ module _ (number : ℕ) (is_number : IsNumber number) (bytes : List ℕ) (is_tex
       subst P is_text (subst (IsRefused (text_of generated_name bytes) node_limit refusal) (only_own grown) why)
 
   pub text_unaccepted : (refusal : Refusal) → (refusal ≡ Memory) ⊎ ((new ≡ old ++ generated_name ∷ []) × IsUnaccepted (text_of generated_name bytes) refusal (generated_name ∷ []))
-      → IsRefusedGeneration number refusal new
+      → IsRefusedGeneration number refusal
   text_unaccepted refusal (inl memory) = inl memory
-  text_unaccepted refusal (inr (grown, why)) = inr (inr (is_number, text_refused grown refusal (unaccepted why)))
+  text_unaccepted refusal (inr (grown, why)) = wanting number is_number refusal new (text_refused grown refusal (unaccepted why))
 
   module _ (loaded : Loaded) (checked : Checked) (is : IsBuilt (text_of generated_name bytes) loaded checked) (grown : new ≡ old ++ generated_name ∷ []) where
-    pub text_unsolved : (refusal : Refusal) → (refusal ≡ Memory) ⊎ IsUnsolved checked node_limit refusal → IsRefusedGeneration number refusal new
+    pub text_unsolved : (refusal : Refusal) → (refusal ≡ Memory) ⊎ IsUnsolved checked node_limit refusal → IsRefusedGeneration number refusal
     text_unsolved refusal (inl memory) = inl memory
-    text_unsolved refusal (inr why) = inr (inr (is_number, text_refused grown refusal (unsolved loaded checked is (sym is.is.is_loaded.files) why)))
+    text_unsolved refusal (inr why) = wanting number is_number refusal new (text_refused grown refusal (unsolved loaded checked is (sym is.is.is_loaded.files) why))
 
     pub text_decided : (found : Found) → IsFound (problem_of checked []) (map (λ g. g.name) checked.globals) found → IsWithinLimits (problem_of checked []) → HasStats true (problem_of checked []) (length loaded.files) found.stats
         → IsDecided (text_of generated_name (generated number)) true found

@@ -81,13 +81,14 @@ IsLimited (Gen number decide) = Unit {0}
 abbrev pub IsNoNumber : ℕ → Refusal → Type 0
 IsNoNumber number refusal = (refusal ≡ ConstRange None) × ¬ IsNumber number
 
--- why a command is refused, and the files that the refusal may number
+-- Why a command is refused, and the files that the refusal may number. A generated source has no fault and is within the limits, so
+-- that only a step of its decision may be refused; what shows that it lacked nodes is open.
 abbrev pub IsRefusedFor : Command → Seen → Refusal → List (List ℕ) → Type 0
 IsRefusedFor (Decide file max_nodes stats) seen refusal files = IsRefused (file_of seen 0 file) max_nodes refusal files
 IsRefusedFor (Same left right max_nodes) seen refusal files = IsRefusedComparison left right max_nodes seen refusal files
 IsRefusedFor (Gen number false) seen refusal files = (refusal ≡ Memory) ⊎ IsNoNumber number refusal
 IsRefusedFor (Gen number true) seen refusal files =
-    (refusal ≡ Memory) ⊎ IsNoNumber number refusal ⊎ (IsNumber number × IsRefused (text_of generated_name (generated number)) node_limit refusal files)
+    (refusal ≡ Memory) ⊎ IsNoNumber number refusal ⊎ (IsNumber number × ((step : ℕ) × (refusal ≡ Nodes step node_limit)))
 
 -- what a run comes to that is asked for something: its text is printed, or it is refused for a cause and its line is printed
 abbrev pub IsAnsweredFor : Command → SinkTold → SinkTold → Seen → Status → Type 0

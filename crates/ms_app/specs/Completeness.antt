@@ -1,21 +1,21 @@
 -- Which requests are done, by what the files hold, where nothing outside goes wrong.
-use Rattle.std.specs.Prelude.{◌≡◌, ℕ, ◌⊎◌, true, false, List, Some}
+use Rattle.std.specs.Prelude.{◌≡◌, ℕ, ◌⊎◌, List, Some}
 use Rattle.ms_edge.specs.declared.refusal.Refusal.TheVariants.{Nodes}
 use Rattle.ms_edge.specs.declared.refusal.Status.{Status}
 use Rattle.ms_edge.specs.declared.refusal.Status.TheVariants.{Done, Limit, NoMemory}
 use Rattle.ms_edge.specs.Counts.{Rose}
 use Rattle.ms_edge.specs.Files.{Holding, Seen}
 use Rattle.ms_edge.specs.Sink.{SinkTold, grown}
-use Rattle.ms_gen.specs.Generated.{IsNumber, generated}
+use Rattle.ms_gen.specs.Generated.{IsNumber}
 use Rattle.ms_logic.specs.declared.checked.Checked.{Checked}
 use Rattle.ms_logic.specs.declared.source.Loaded.{Loaded}
 use Rattle.ms_report.specs.Line.{line_of}
 use Rattle.ms_words.specs.Command.{IsCommand, node_limit}
 use Rattle.ms_words.specs.declared.command.Command.{Command}
 use Rattle.ms_words.specs.declared.command.Command.TheVariants.{Decide, Same, Gen}
-use Rattle.ms_app.specs.Answer.{IsTextOf, generated_name}
+use Rattle.ms_app.specs.Answer.{IsTextOf}
 use Rattle.ms_app.specs.Comparison.{AreSolved, HaveSameGlobals}
-use Rattle.ms_app.specs.Source.{IsSolved, Origin, file_of, text_of}
+use Rattle.ms_app.specs.Source.{IsSolved, Origin, file_of}
 
 -- what the files hold was told, no read of them failed, and the sink did not fail
 pub record NothingFailed (before after : SinkTold) (seen : Seen) : Type 0 where
@@ -36,8 +36,7 @@ CanBeCompared left right seen = (one two : Checked) × AreSolved left right seen
 abbrev pub CanBeDone : Command → Seen → Type 0
 CanBeDone (Decide file max_nodes stats) seen = CanBeSolved (file_of seen 0 file)
 CanBeDone (Same left right max_nodes) seen = CanBeCompared left right seen
-CanBeDone (Gen number false) seen = IsNumber number
-CanBeDone (Gen number true) seen = IsNumber number × CanBeSolved (text_of generated_name (generated number))
+CanBeDone (Gen number decide) seen = IsNumber number
 
 -- the limit on the nodes and states of a step
 abbrev pub limit_of : Command → ℕ
