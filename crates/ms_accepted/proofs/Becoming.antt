@@ -100,9 +100,6 @@ module _ (s : Scope) (last : ℕ) (knows : KnowsSets s last) (b : Before) where
       )
 
   module _ (start : ℕ) where
-    abbrev free_x : At
-    free_x = at (start + 1 + 4 + 1)
-
     abbrev exists_start : ℕ
     exists_start = behind_mark (behind_name (start + 1 + 4) (codes "x"))
 

@@ -52,10 +52,10 @@ deeper : {m n : ℕ} → m ≤ n → 1 + m ≤ 1 + n
 deeper h = omega (arith, h)
 
 module _ (last : ℕ) (name : List ℕ) where
-  abbrev formulas : Forms
+  abbrev pub formulas : Forms
   formulas = more_forms (chain_form last) (more_forms (free_form (x_number last) last) no_forms)
 
-  formulas-are : (problem_of (checked last name) []).formulas ≡ formulas
+  pub formulas-are : (problem_of (checked last name) []).formulas ≡ formulas
   formulas-are = λ i. more_forms (chain-is last i) (more_forms (free-made-is (x_number last) last i) no_forms)
 
   pub size-is : size_of_source (problem_of (checked last name) []) ≤ 17 + 4 * last

@@ -55,9 +55,6 @@ bound-viewed there o n = search (rules, the_lemmas)
 abbrev pub name_code : ℕ → List ℕ → Expr
 name_code start n = record { at = at (start + 1); form = form.Name n }
 
-abbrev pub set_code : ℕ → ℕ → Bound
-set_code start n = bound (at (set_start start n + 1)) Two (name_of n)
-
 abbrev pub sets_code : ℕ → ℕ → List Bound
 sets_code start zero = bound (at (start + 1)) Two (name_of 0) ∷ []
 sets_code start (suc n) = sets_code start n ++ bound (at (set_start start (suc n) + 1)) Two (name_of (n + 1)) ∷ []

@@ -9,15 +9,23 @@ use Rattle.ms_rules.specs.Declarations.{first_fault_of}
 use Rattle.ms_rules.specs.TypedSource.{IsTyped}
 use Rattle.ms_rules.specs.View.{placed_of}
 
--- The text reads as a source without includes in which nothing is wrong. What it becomes imports and exports nothing, and is
--- within the limits of depth and size.
-pub record IsAccepted (name bytes : List ℕ) : Type 0 where
-  pub loaded : Loaded
-  pub is_loaded : IsLoadedText name bytes loaded
-  pub no_fault : first_fault_of loaded.mode (map placed_of loaded.items) ≡ None
-  pub checked : Checked
-  pub is_typed : IsTyped loaded checked
+-- a checked source imports and exports nothing, and is within the limits of depth and size
+pub record IsAloneWithinLimits (checked : Checked) : Type 0 where
   pub imports : checked.imports ≡ []
   pub exports : checked.exports ≡ []
   pub depth : depth_of_source (problem_of checked []) ≤ 300
   pub size : size_of_source (problem_of checked []) ≤ 1000000
+
+-- nothing is wrong with a loaded source
+abbrev pub HasNoFault : Loaded → Type 0
+HasNoFault loaded = first_fault_of loaded.mode (map placed_of loaded.items) ≡ None
+
+-- The text reads as a source without includes in which nothing is wrong, and which becomes a checked source that stands alone and
+-- is within the limits.
+pub record IsAccepted (name bytes : List ℕ) : Type 0 where
+  pub loaded : Loaded
+  pub is_loaded : IsLoadedText name bytes loaded
+  pub no_fault : HasNoFault loaded
+  pub checked : Checked
+  pub is_typed : IsTyped loaded checked
+  pub within : IsAloneWithinLimits checked

@@ -1,9 +1,11 @@
 //! Laws of the definitions. The function has an empty body, and its contract states the laws.
 
-ghost use Rattle.ms_accepted.specs.Laws.{GeneratedSourcesAreAccepted};
+ghost use Rattle.ms_accepted.specs.Laws.{GeneratedSourcesAreAccepted, GeneratedSourcesAreValid, GeneratedSourcesHaveNoFault};
 
-/// Each generated source reads as a source in which nothing is wrong, and what it becomes imports and exports nothing and is within
-/// the limits.
+/// Each generated source is accepted. However it is loaded, nothing is wrong with it, and what it becomes imports and exports
+/// nothing, is within the limits and is valid.
 pub fn laws_of_generated()
-    ensures { GeneratedSourcesAreAccepted }
+    ensures accepted { GeneratedSourcesAreAccepted }
+    ensures no_fault { GeneratedSourcesHaveNoFault }
+    ensures valid { GeneratedSourcesAreValid }
 {}

@@ -28,9 +28,9 @@ solved number is =
     record {
       is = record {
         is = record { is_loaded = found.is_loaded; accepted = found.no_fault; typed = found.is_typed };
-        built = ap (λ imports. first_use imports found.checked.exports) found.imports ∙ ap (first_use []) found.exports;
+        built = ap (λ imports. first_use imports found.checked.exports) found.within.imports ∙ ap (first_use []) found.within.exports;
       };
-      within = record { depth = found.depth; size = found.size };
+      within = record { depth = found.within.depth; size = found.within.size };
     }
 
 -- so it is refused for want of memory or of nodes alone
