@@ -95,14 +95,24 @@ module _ (origin : List Node) (ordered : IsOrdered origin) (map : List ℕ) (roo
 -- an entry of the table stays right while the store grows
 pub IsBrought-grows : (origin old new : List Node) (map : List ℕ) → IsOrdered old → Extends old new → (place : ℕ) (made : Ref) → IsBrought origin map old place made → IsBrought origin map new place made
 IsBrought-grows origin old new map ordered extends place made is = record {
+  valid_root = is.valid_root;
   valid = IsValid-extends old new extends made is.valid;
   meets = λ bits. leaf_of-extends old new extends ordered made bits is.valid ∙ is.meets bits;
 }
 
+-- and while the other store grows
+pub IsBrought-origin_grows : (old new nodes : List Node) (map : List ℕ) → IsOrdered old → Extends old new → (place : ℕ) (made : Ref) → IsBrought old map nodes place made → IsBrought new map nodes place made
+IsBrought-origin_grows old new nodes map ordered extends place made is = record {
+  valid_root = IsValid-extends old new extends (Inner place) is.valid_root;
+  valid = is.valid;
+  meets = λ bits. is.meets bits ∙ sym (leaf_of-extends old new extends ordered (Inner place) (read_through map bits) is.valid_root);
+}
+
 -- what is built is a right entry
-pub IsBrought-built : (origin : List Node) (old new : Contents) (map : List ℕ) (root : Ref) (place : ℕ) (made : Ref) → root ≡ Inner place
+pub IsBrought-built : (origin : List Node) (old new : Contents) (map : List ℕ) (root : Ref) (place : ℕ) (made : Ref) → root ≡ Inner place → IsValid origin root
     → Builds old new (RenamedLeaf origin map root) ⊥ (Ok made) → IsBrought origin map new.nodes place made
-IsBrought-built origin old new map root place made is builds = record {
+IsBrought-built origin old new map root place made is valid builds = record {
+  valid_root = subst (λ r. IsValid origin r) is valid;
   valid = builds.valid;
   meets = λ bits. builds.function bits ∙ ap (λ r. leaf_of origin r (read_through map bits)) is;
 }

@@ -14,4 +14,5 @@ pub mod RelabelLemmas
 pub mod RootLemmas
 pub mod SetLemmas
 pub mod StoreLemmas
+pub mod TableGrowth
 pub mod TableLemmas

@@ -22,5 +22,6 @@ pub record Renames (nodes : List Node) (map : List ℕ) (root : Ref) : Type 0 wh
 
 -- the reference has the renamed leaf of the other store's node at a place
 pub record IsBrought (origin : List Node) (map : List ℕ) (nodes : List Node) (place : ℕ) (made : Ref) : Type 0 where
+  pub valid_root : IsValid origin (Inner place)
   pub valid : IsValid nodes made
   pub meets : Meets nodes (RenamedLeaf origin map (Inner place)) made

@@ -1,7 +1,29 @@
--- A table of what a call has built so far, as its list of entries.
-use Rattle.std.specs.Prelude.{List, [], ◌∷◌}
+-- A table of what calls have built so far, as its list of entries, and which entries are right.
+use Rattle.std.specs.Prelude.{ℕ, List, [], ◌∷◌, Vec}
+use Rattle.ms_arena.specs.declared.node.Ref.{Ref}
+use Rattle.ms_arena.specs.declared.node.Node.{Node}
+use Rattle.ms_diagram.specs.Apply.{IsPaired}
+use Rattle.ms_diagram.specs.Bring.{IsBrought}
+use Rattle.ms_diagram.specs.Collect.{IsCollected}
+use Rattle.ms_diagram.specs.Relabel.{IsRelabelled}
 
 -- the fact holds of the key and the value of each entry
 abbrev pub EachEntry : {K V : Type 0} → (K → V → Type 0) → List (K × V) → Type 0
 EachEntry fact [] = Unit {0}
 EachEntry fact (entry ∷ entries) = fact entry.0 entry.1 × EachEntry fact entries
+
+-- each pair of references has become the reference of the numbers of its leaves' pairs
+abbrev pub ArePaired : List Node → List (ℕ × ℕ) → List ((Ref × Ref) × Ref) → Type 0
+ArePaired nodes pairs = EachEntry (IsPaired nodes pairs)
+
+-- each list of references has become the reference of the numbers of its sets of leaves
+abbrev pub AreCollected : {A : Type 0} → List Node → List (List ℕ) → ℕ → List (Vec Ref A × Ref) → Type 0
+AreCollected nodes sets track = EachEntry (λ key. IsCollected nodes sets track key.items)
+
+-- each place of the other store has become its renamed function
+abbrev pub AreBrought : List Node → List ℕ → List Node → List (ℕ × Ref) → Type 0
+AreBrought origin map nodes = EachEntry (IsBrought origin map nodes)
+
+-- each place has become its function with the leaves read in the map
+abbrev pub AreRelabelled : List Node → List ℕ → List (ℕ × Ref) → Type 0
+AreRelabelled nodes map = EachEntry (IsRelabelled nodes map)

@@ -47,7 +47,7 @@ impl Store {
     }
 
     // The same for the halves of the two functions, over a table of what is done.
-    fn apply_at(
+    pub(crate) fn apply_at(
         &mut self,
         f: Ref,
         g: Ref,

@@ -26,7 +26,7 @@ impl Store {
     }
 
     // The same for an end of `root`, over a table of what is done.
-    fn bring_at(
+    pub(crate) fn bring_at(
         &mut self,
         from: &Store,
         root: Ref,

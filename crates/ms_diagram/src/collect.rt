@@ -40,7 +40,7 @@ impl Store {
     }
 
     // The same for a list of halves of the roots, over a table of what is done.
-    fn collect_at(
+    pub(crate) fn collect_at(
         &mut self,
         roots: Vec<Ref>,
         track: u32,

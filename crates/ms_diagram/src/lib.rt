@@ -16,7 +16,9 @@ mod roots;
 mod sets;
 mod store;
 mod table;
+mod tables;
 
 pub use pairs::Pairs;
 pub use sets::Sets;
 pub use store::Store;
+pub use tables::{ListTable, PairTable, PlaceTable, Table};

@@ -27,7 +27,7 @@ impl Store {
     }
 
     // The same for an end of `root`, over a table of what is done.
-    fn relabel_at(
+    pub(crate) fn relabel_at(
         &mut self,
         root: Ref,
         map: &[u32],

@@ -87,8 +87,6 @@ impl<M: SmallMachine + Drop> Machine for Known<M> {
 
     ghost later_later = { λ one two three first second. first ∙ second };
 
-    ghost later_ready = { λ early late old new same ordered extends ready. tt };
-
     ghost later_findings = { λ early late same.
         subst (λ known. AreMore (findings_of (M.table early.machine) early.reads.0 early.reads.1) (findings_of (M.table known.machine) known.reads.0 known.reads.1)) same
         (record { count = le_refl (M.table early.machine).states; starts = λ bits number right. right; steps = λ state found bits number right. right; signs = λ state found. refl; most_nodes = refl }) };

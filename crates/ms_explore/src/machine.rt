@@ -1,7 +1,5 @@
-ghost use Rattle.std.specs.Prelude.{◌≡◌, ◌<◌, ◌≤◌, ◌+◌, List, length};
+ghost use Rattle.std.specs.Prelude.{◌≡◌, ◌<◌, ◌≤◌, ◌+◌, List, length, OnOk};
 ghost use Rattle.ms_arena.specs.declared.node.Node.{Node};
-ghost use Rattle.ms_arena.specs.Diagram.{IsOrdered};
-ghost use Rattle.ms_arena.specs.Target.{Extends};
 ghost use Rattle.ms_diagram.specs.Growth.{Builds};
 ghost use Rattle.ms_explore.specs.Explored.{Findings, AreMore};
 
@@ -16,7 +14,7 @@ pub trait Machine {
     /// What has been found so far.
     ghost findings: { Self → Findings };
 
-    /// The nodes of a store have the diagrams that the machine itself is made of.
+    /// The nodes of a store have the diagrams that the machine itself is made of, and those that it has noted.
     ghost IsReady: { Self → List Node → Type 0 };
 
     /// The second is the first with more states found.
@@ -26,6 +24,7 @@ pub trait Machine {
     fn start(&mut self, store: &mut Store) -> Result<Ref, StepFault>
         requires { IsReady self.old store.old.nodes }
         ensures later { IsLater self.old self.new }
+        ensures ready { OnOk result (IsReady self.new store.new.nodes) }
         ensures builds { Builds store.old store.new (findings self.new).starts (findings self.new).LacksNumber result }
         ensures few { length store.new.nodes ≤ length store.old.nodes + (findings self.new).most_nodes };
 
@@ -34,6 +33,7 @@ pub trait Machine {
         requires state { state < (findings self.old).count }
         requires ready { IsReady self.old store.old.nodes }
         ensures later { IsLater self.old self.new }
+        ensures ready { OnOk result (IsReady self.new store.new.nodes) }
         ensures builds { Builds store.old store.new ((findings self.new).steps state) (findings self.new).LacksNumber result }
         ensures few { length store.new.nodes ≤ length store.old.nodes + (findings self.new).most_nodes };
 
@@ -49,8 +49,6 @@ pub trait Machine {
     ghost later_itself: { (machine : Self) → IsLater machine machine };
 
     ghost later_later: { (one two three : Self) → IsLater one two → IsLater two three → IsLater one three };
-
-    ghost later_ready: { (early late : Self) (old new : List Node) → IsLater early late → IsOrdered old → Extends old new → IsReady early old → IsReady late new };
 
     ghost later_findings: { (early late : Self) → IsLater early late → AreMore (findings early) (findings late) };
 }

@@ -1,11 +1,11 @@
 -- A diagram of an automaton stays the same through the map that leaves each place where it is.
-use Rattle.std.proofs.Common.{◌≡◌, ℕ, ◌<◌, List, length, slice_get, slice_index, sym, ap, subst, ◌∙◌, arith}
+use Rattle.std.proofs.Common.{◌≡◌, ℕ, ◌<◌, Result, Ok, Err, OnOk, List, length, slice_get, slice_index, sym, ap, subst, ◌∙◌, arith}
 use Rattle.std.proofs.lemmas.Option.{slice_get_within}
 use Rattle.ms_arena.specs.declared.node.Ref.{Ref}
 use Rattle.ms_arena.specs.declared.node.Node.{Node}
 use Rattle.ms_arena.specs.Diagram.{Bits, leaf_of, IsOrdered}
 use Rattle.ms_arena.specs.Reach.{IsTested}
-use Rattle.ms_arena.specs.Target.{Meets}
+use Rattle.ms_arena.specs.Target.{Meets, Extends}
 use Rattle.ms_arena.proofs.ReachLemmas.{leaf_of-tested}
 use Rattle.ms_diagram.specs.Bring.{read_through, RenamedLeaf, Renames}
 use Rattle.ms_diagram.specs.Relabel.{MappedLeaf}
@@ -17,6 +17,9 @@ use Rattle.ms_explore.specs.Tracks.{place_of, places_among}
 use Rattle.ms_explore.proofs.AmongLemmas.{one_place, leads_to}
 use Rattle.ms_arena.proofs.Lists.{slice_get-held}
 use Rattle.std.proofs.lemmas.List.{length-map}
+use Rattle.ms_diagram.proofs.TableGrowth.{AreBrought-grow, AreRelabelled-grow}
+use Rattle.ms_minim.specs.declared.classes.LeadTables.{LeadTables}
+use Rattle.ms_minim.specs.Lead.{AreLed}
 use Rattle.ms_minim.specs.Partition.{IsIdentity, IsRoot}
 
 -- what is tested is read through the map
@@ -55,3 +58,16 @@ IsIdentity-places variables rising = record {
       let held = slice_get-held variables place within in
       one_place variables rising (slice_index (places_among variables variables) place) place held.0 (leads_to variables variables rising rising (λ v among. among) place held.0 held.1) held.1;
 }
+
+-- what has been noted stays right while the other store grows
+pub AreLed-grow : (old new : List Node) → IsOrdered old → Extends old new → (content : Content Sign) (places classes : List ℕ) (tables : LeadTables)
+    → AreLed content places classes old tables → AreLed content places classes new tables
+AreLed-grow old new ordered extends content places classes tables were = record {
+  brought = AreBrought-grow old new ordered extends content.nodes places tables.brought were.brought;
+  led = AreRelabelled-grow old new ordered extends classes tables.led were.led;
+}
+
+-- what holds in any case holds where a call succeeds
+pub OnOk-always : {A E : Type 0} → (result : Result A E) (fact : Type 0) → fact → OnOk result fact
+OnOk-always (Ok made) fact holds = holds
+OnOk-always (Err fault) fact holds = tt

@@ -5,6 +5,7 @@ pub mod Split
 pub mod Predecessors
 pub mod Grouping
 pub mod Quotient
+pub mod Lead
 pub mod Reading
 pub mod Reduced
 pub mod Later

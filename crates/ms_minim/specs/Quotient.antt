@@ -75,7 +75,12 @@ pub record Quotienting : Type 0 where
   pub content : Content Sign
   pub classes : List ℕ
   pub members : List ℕ
+  pub places : List ℕ
   pub pairs : List (ℕ × ℕ)
+
+-- what is found of it
+abbrev pub findings_of : Quotienting → Findings
+findings_of quotient = quotient_findings quotient.content quotient.classes quotient.members quotient.pairs
 
 -- what is true of each
 pub record IsQuotient (content : Content Sign) (classes members map : List ℕ) (pairs : List (ℕ × ℕ)) : Type 0 where

@@ -4,7 +4,7 @@ ghost use Rattle.ms_diagram.specs.Numbering.{IsNumbering, Numbers};
 ghost use Rattle.ms_minim.specs.Partition.{AreMarks, AreSignMarks, IsIdentity};
 ghost use Rattle.ms_minim.specs.Marks.{mark_of_sign, pair_of};
 
-use crate::classes::lead;
+use crate::classes::{LeadTables, Plan, lead};
 use crate::reading::Reader;
 use ms_arena::Ref;
 use ms_diagram::{Pairs, Store};
@@ -52,13 +52,19 @@ pub(crate) fn marks(
 {
     let mut scratch = Store::new(alloc, ROOM);
     let mut known = Pairs::new(alloc);
+    let mut tables = LeadTables::new(alloc);
+    let plan = Plan {
+        alloc,
+        automaton,
+        places,
+    };
     let mut made = List::new(alloc);
     // The lengths tell that these are a store and a numbering.
     let _ = scratch.len();
     let _ = known.len();
     for state in 0..automaton.states() {
         let root = automaton.next_ref(state);
-        let reference = lead(&mut scratch, automaton, root, places, classes)?;
+        let reference = lead(&plan, &mut scratch, root, classes, &mut tables)?;
         let found = mark(&mut known, reference)?;
         push(&mut made, found)?;
     }

@@ -4,7 +4,7 @@ ghost use Rattle.ms_minim.specs.Partition.{AreNerodeClasses, IsIdentity};
 ghost use Rattle.ms_minim.specs.Reading.{read_content};
 ghost use Rattle.ms_minim.specs.Reduced.{IsReducedOf, content_over};
 
-use crate::quotient::{Quotient, Source};
+use crate::quotient::{Quotient, QuotientMachine, QuotientTables, Source};
 use crate::reading::{Reader, Reading};
 use crate::refinement::refine;
 use ms_arena::Ref;
@@ -59,10 +59,18 @@ pub fn reduce(
         Err(_) => return Err(StepFault::Memory),
     };
     let pairs = Pairs::new(alloc);
-    let mut quotient = Quotient { source, pairs };
+    let quotient = Quotient { source, pairs };
+    let mut machine = QuotientMachine {
+        quotient,
+        tables: QuotientTables::new(alloc),
+    };
     let mut store = Store::new(alloc, limit);
     let mut states = List::new(alloc);
-    let start = match explore(&mut quotient, &mut store, &mut states) {
+    let explored = explore(&mut machine, &mut store, &mut states);
+    let quotient = machine.quotient;
+    // The number of classes tells that it is a quotient.
+    let _ = quotient.count();
+    let start = match explored {
         Ok(start) => start,
         Err(fault) => return Err(fault),
     };

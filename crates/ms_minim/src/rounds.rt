@@ -3,12 +3,13 @@ ghost use Rattle.ms_minim.specs.Grouping.{AreGrouped, AreSplitters, NeverSplits}
 ghost use Rattle.ms_minim.specs.Partition.{IsIdentity};
 ghost use Rattle.ms_minim.specs.Predecessors.{ArePredecessors};
 
+use crate::classes::Plan;
 use crate::due::due;
 use crate::grouping::{Groups, grouped, make_room, settle, size_of, zeros};
 use crate::marking::sign_marks;
 use crate::predecessors::predecessors;
 use crate::reading::Reader;
-use crate::signatures::{Choice, Plan, labels, nothing_seen};
+use crate::signatures::{Choice, labels, nothing_seen};
 use crate::splitters::{Splitters, all_but_largest, choose, more_classes};
 use ms_edge::{List, NoMemory, push};
 use std::alloc::Global;

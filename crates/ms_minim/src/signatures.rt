@@ -4,14 +4,14 @@ ghost use Rattle.ms_arena.specs.Target.{Extends, Meets};
 ghost use Rattle.ms_diagram.specs.Numbering.{IsNumbering};
 ghost use Rattle.ms_diagram.specs.Relabel.{MappedLeaf};
 ghost use Rattle.ms_diagram.specs.Store.{IsStore};
+ghost use Rattle.ms_minim.specs.Lead.{AreChosen};
 ghost use Rattle.ms_minim.specs.Partition.{IsIdentity, next_by};
 ghost use Rattle.ms_minim.specs.Grouping.{AreLabels, AreWithin, IsDue, IsLabel, IsLaterSeen, IsNewClass, IsSeen, through};
 
-use crate::classes::lead;
+use crate::classes::{LeadTables, Plan, lead};
 use crate::marking::{ROOM, mark, number};
-use crate::reading::Reader;
 use ms_arena::Ref;
-use ms_diagram::{Pairs, Store};
+use ms_diagram::{Pairs, PlaceTable, Store};
 use ms_edge::{List, NoMemory, push};
 use std::alloc::Global;
 
@@ -37,14 +37,6 @@ impl Drop for Seen {
             first: _,
         } = self;
     }
-}
-
-/// An automaton and the places of its tracks.
-#[derive(Clone, Copy)]
-pub(crate) struct Plan<'a> {
-    pub alloc: Global,
-    pub automaton: &'a Reader<'a>,
-    pub places: &'a [u32],
 }
 
 /// The classes of the states, and the number of each class, which is 0 where it is not chosen.
@@ -75,20 +67,37 @@ pub(crate) fn nothing_seen(alloc: Global, first: u32) -> Result<Seen, NoMemory>
     })
 }
 
+/// What has been built of the diagrams of an automaton with the numbers of chosen classes at their leaves.
+#[derive(Drop)]
+pub(crate) struct SignatureTables {
+    pub lead: LeadTables,
+    pub chosen: PlaceTable,
+}
+
 /// Where a state leads among the chosen classes.
-fn signature(plan: &Plan, scratch: &mut Store, choice: &Choice, state: u32) -> Result<Ref, NoMemory>
+fn signature(
+    plan: &Plan,
+    scratch: &mut Store,
+    choice: &Choice,
+    state: u32,
+    tables: &mut SignatureTables,
+) -> Result<Ref, NoMemory>
     requires places { IsIdentity (length plan.now.automaton.now.variables) plan.now.places.now }
     requires state { state < length plan.now.automaton.now.states }
     requires all { length choice.now.classes.now ≡ length plan.now.automaton.now.states }
     requires within { AreWithin choice.now.classes.now choice.now.splitters.now }
+    requires tables { AreChosen plan.now.automaton.now plan.now.places.now choice.now.classes.now choice.now.splitters.now scratch.old.nodes tables.old }
     ensures extends { Extends scratch.old.nodes scratch.new.nodes }
     ensures store { IsStore scratch.new.nodes scratch.new.limit }
     ensures valid { IfOk result (IsValid scratch.new.nodes) }
     ensures leads { IfOk result (λ made. (bits : Bits) → slice_get (through choice.now.splitters.now choice.now.classes.now) (next_by plan.now.automaton.now state bits) ≡ Some (leaf_of scratch.new.nodes made bits)) }
+    ensures tables { OnOk result (AreChosen plan.now.automaton.now plan.now.places.now choice.now.classes.now choice.now.splitters.now scratch.new.nodes tables.new) }
 {
+    // The length tells that the nodes are those of a store.
+    let _ = scratch.len();
     let root = plan.automaton.next_ref(state);
-    let behind = lead(scratch, plan.automaton, root, plan.places, choice.classes)?;
-    match scratch.relabel(behind, choice.splitters) {
+    let behind = lead(plan, scratch, root, choice.classes, &mut tables.lead)?;
+    match scratch.relabel_with(behind, choice.splitters, &mut tables.chosen) {
         Ok(made) => Ok(made),
         Err(_) => Err(NoMemory),
     }
@@ -112,17 +121,25 @@ fn label(keys: &mut Pairs, first: u32, class: u32, mark: u32) -> Result<u32, NoM
 }
 
 /// The new class of a state.
-fn label_state(plan: &Plan, seen: &mut Seen, choice: &Choice, state: u32) -> Result<u32, NoMemory>
+fn label_state(
+    plan: &Plan,
+    seen: &mut Seen,
+    choice: &Choice,
+    state: u32,
+    tables: &mut SignatureTables,
+) -> Result<u32, NoMemory>
     requires places { IsIdentity (length plan.now.automaton.now.variables) plan.now.places.now }
     requires state { state < length plan.now.automaton.now.states }
     requires all { length choice.now.classes.now ≡ length plan.now.automaton.now.states }
     requires within { AreWithin choice.now.classes.now choice.now.splitters.now }
     requires seen { IsSeen seen.old }
+    requires tables { AreChosen plan.now.automaton.now plan.now.places.now choice.now.classes.now choice.now.splitters.now seen.old.scratch.nodes tables.old }
     ensures seen { OnOk result (IsSeen seen.new) }
     ensures later { OnOk result (IsLaterSeen seen.old seen.new) }
+    ensures tables { OnOk result (AreChosen plan.now.automaton.now plan.now.places.now choice.now.classes.now choice.now.splitters.now seen.new.scratch.nodes tables.new) }
     ensures label { IfOk result (IsNewClass seen.new plan.now.automaton.now choice.now.classes.now choice.now.splitters.now state) }
 {
-    let reference = signature(plan, &mut seen.scratch, choice, state)?;
+    let reference = signature(plan, &mut seen.scratch, choice, state, tables)?;
     let found = mark(&mut seen.marks, reference)?;
     label(
         &mut seen.keys,
@@ -148,10 +165,14 @@ pub(crate) fn labels(
     ensures later { OnOk result (IsLaterSeen seen.old seen.new) }
     ensures labels { IfOk result (λ made. AreLabels seen.new plan.now.automaton.now choice.now.classes.now choice.now.splitters.now due.now made (length due.now)) }
 {
+    let mut tables = SignatureTables {
+        lead: LeadTables::new(plan.alloc),
+        chosen: PlaceTable::new(plan.alloc),
+    };
     let mut made = List::new(plan.alloc);
     for place in 0..due.len() {
         let (state, _) = due.get(place);
-        let found = label_state(plan, seen, choice, state)?;
+        let found = label_state(plan, seen, choice, state, &mut tables)?;
         push(&mut made, found)?;
     }
     Ok(made)

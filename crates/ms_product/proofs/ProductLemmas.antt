@@ -25,6 +25,7 @@ use Rattle.ms_dfa.specs.declared.state.State.{State}
 use Rattle.ms_explore.specs.Explored.{Leads}
 use Rattle.ms_explore.specs.Run.{IsOver, AreNames}
 use Rattle.ms_product.specs.declared.op.Op.{Op}
+use Rattle.ms_product.specs.Later.{brought_later}
 use Rattle.ms_product.specs.Widened.{first_through, next_through}
 use Rattle.ms_product.specs.Pairing.{Operands, Pairing, AreBroughtIn, first_pair, next_pair, pair_sign, behind_pair, sign_of_number, product_findings, AreStates}
 use Rattle.ms_product.proofs.WidenedLemmas.{first_below, next_below, first_reads, next_reads, first_narrowed, next_narrowed}
@@ -58,6 +59,13 @@ module _ (inside seen : Pairing) (same : inside ≡ seen) (nodes : List Node) (r
     (late : List (ℕ × ℕ)) (extends : Extends inside.pairs late) where
   is_ready : AreBroughtIn nodes inside.operands inside.left inside.right
   is_ready = subst (λ (p : Pairing). AreBroughtIn nodes p.operands p.left p.right) (sym same) ready
+
+  -- what was brought for the product stays there while the store grows
+  pub brought_further : (further : List Node) → IsOrdered nodes → Extends nodes further → AreBroughtIn further inside.operands inside.left inside.right
+  brought_further further ordered grows = record {
+    left_in = brought_later nodes further ordered grows inside.operands.left inside.operands.left_map inside.left.start inside.left.states is_ready.left_in;
+    right_in = brought_later nodes further ordered grows inside.operands.right inside.operands.right_map inside.right.start inside.right.states is_ready.right_in;
+  }
 
   -- behind the start of the product, pairs are pairs of states
   pub AreStates-start : AddsOnly (HasLeaves nodes inside.left.start inside.right.start) inside.pairs late → AreStates inside.operands late

@@ -41,14 +41,6 @@ brought_later old new ordered extends content map start states was = record {
   );
 }
 
-pub pairing_later_ready : (early late : Pairing) (old new : List Node) → IsLaterPairing early late → IsOrdered old → Extends old new
-    → AreBroughtIn old early.operands early.left early.right → AreBroughtIn new late.operands late.left late.right
-pairing_later_ready early late old new later ordered extends ready =
-    subst (λ (p : Pairing). AreBroughtIn new p.operands p.left p.right) (sym later.same) (record {
-      left_in = brought_later old new ordered extends early.operands.left early.operands.left_map early.left.start early.left.states ready.left_in;
-      right_in = brought_later old new ordered extends early.operands.right early.operands.right_map early.right.start early.right.states ready.right_in;
-    })
-
 module _ (op : Op) (operands : Operands) (early late : List (ℕ × ℕ)) (extends : Extends early late) where
   -- where the pair of a number leads, it leads later
   step_later : (state : ℕ) (bits : Bits) (number : ℕ) (found : Option (ℕ × ℕ)) → slice_get early state ≡ found → behind_pair operands early found bits number

@@ -7,9 +7,9 @@ ghost use Rattle.ms_product.specs.Pairing.{AreAtLeast, operands_of};
 
 use crate::op::Op;
 use crate::operand::bring;
-use crate::product::Product;
+use crate::product::{Product, ProductMachine};
 use ms_dfa::Automaton;
-use ms_diagram::{Pairs, Store};
+use ms_diagram::{PairTable, Pairs, Store};
 use ms_edge::{List, StepFault};
 use ms_explore::{explore, join};
 use std::alloc::Global;
@@ -47,14 +47,19 @@ pub fn combine(
         Err(fault) => return Err(fault),
     };
     let pairs = Pairs::new(alloc);
-    let mut product = Product {
+    let product = Product {
         op,
         left,
         right,
         pairs,
     };
+    let mut machine = ProductMachine {
+        product,
+        table: PairTable::new(alloc),
+    };
     let mut states = List::new(alloc);
-    let explored = explore(&mut product, &mut store, &mut states);
+    let explored = explore(&mut machine, &mut store, &mut states);
+    let product = machine.product;
     // The length tells that the pairs are a numbering.
     let _ = product.pairs.len();
     let start = match explored {

@@ -13,4 +13,4 @@ pub use connective::combine;
 pub use examples::{worked_changes, worked_connectives};
 pub use op::Op;
 pub use operand::{Operand, Widened, bring};
-pub use product::Product;
+pub use product::{Product, ProductMachine};

@@ -8,7 +8,7 @@ ghost use Rattle.ms_product.specs.Widened.{IsBroughtIn, widened_findings};
 
 use ms_arena::Ref;
 use ms_dfa::{Automaton, State, Track};
-use ms_diagram::Store;
+use ms_diagram::{PlaceTable, Store};
 use ms_edge::{List, StepFault};
 use ms_explore::{Machine, explore, places_among};
 use ms_logic::Sign;
@@ -21,45 +21,61 @@ pub struct Widened<'a> {
     pub map: List<u32>,
 }
 
-impl<'a> Machine for Widened<'a> {
-    ghost use Rattle.std.proofs.Common.{◌≡◌, length, refl, ◌∙◌, sym, subst};
+/// A widened automaton with the table of what has been brought into the store of the answer.
+#[derive(Drop)]
+struct WidenedMachine<'a> {
+    widened: Widened<'a>,
+    table: PlaceTable,
+}
+
+impl<'a> Machine for WidenedMachine<'a> {
+    ghost use Rattle.std.proofs.Common.{◌≡◌, length, refl, ◌∙◌, subst};
     ghost use Rattle.std.proofs.Math.Nat.{le_refl};
+    ghost use Rattle.ms_diagram.specs.Table.{AreBrought};
     ghost use Rattle.ms_explore.specs.Explored.{AreMore};
     ghost use Rattle.ms_product.specs.Widened.{IsRisingMap, widened_findings};
 
-    ghost findings = { λ widened. widened_findings widened.automaton.now widened.map };
+    ghost findings = { λ machine. widened_findings machine.widened.automaton.now machine.widened.map };
 
-    ghost IsReady = { λ widened nodes. IsRisingMap (length widened.automaton.now.variables) widened.map };
+    ghost IsReady = { λ machine nodes. IsRisingMap (length machine.widened.automaton.now.variables) machine.widened.map
+        × AreBrought machine.widened.automaton.now.nodes machine.widened.map nodes machine.table };
 
-    ghost IsLater = { λ early late. early ≡ late };
+    ghost IsLater = { λ early late. early.widened ≡ late.widened };
 
-    ghost later_itself = { λ widened. refl };
+    ghost later_itself = { λ machine. refl };
 
     ghost later_later = { λ one two three first second. first ∙ second };
 
-    ghost later_ready = { λ early late old new same ordered extends ready.
-        subst (λ widened. IsRisingMap (length widened.automaton.now.variables) widened.map) same ready };
-
     ghost later_findings = { λ early late same.
-        subst (λ widened. AreMore (widened_findings early.automaton.now early.map) (widened_findings widened.automaton.now widened.map)) same
-        (record { count = le_refl (length early.automaton.now.states); starts = λ bits number right. right; steps = λ state found bits number right. right; signs = λ state found. refl; most_nodes = refl }) };
+        subst (λ widened. AreMore (widened_findings early.widened.automaton.now early.widened.map) (widened_findings widened.automaton.now widened.map)) same
+        (record { count = le_refl (length early.widened.automaton.now.states); starts = λ bits number right. right; steps = λ state found bits number right. right; signs = λ state found. refl; most_nodes = refl }) };
 
     fn start(&mut self, store: &mut Store) -> Result<Ref, StepFault> {
-        let root = self.automaton.start_ref();
-        store.bring(self.automaton.store(), root, self.map.slice())
+        let root = self.widened.automaton.start_ref();
+        store.bring_with(
+            self.widened.automaton.store(),
+            root,
+            self.widened.map.slice(),
+            &mut self.table,
+        )
     }
 
     fn next(&mut self, store: &mut Store, state: u32) -> Result<Ref, StepFault> {
-        let root = self.automaton.next_ref(state);
-        store.bring(self.automaton.store(), root, self.map.slice())
+        let root = self.widened.automaton.next_ref(state);
+        store.bring_with(
+            self.widened.automaton.store(),
+            root,
+            self.widened.map.slice(),
+            &mut self.table,
+        )
     }
 
     fn sign(&self, state: u32) -> Sign {
-        self.automaton.sign(state)
+        self.widened.automaton.sign(state)
     }
 
     fn count(&self) -> u32 {
-        self.automaton.states()
+        self.widened.automaton.states()
     }
 }
 
@@ -93,13 +109,16 @@ pub fn bring<'a>(
         Err(_) => return Err(StepFault::Memory),
     };
     let mut states = List::new(alloc);
-    let mut widened = Widened { automaton, map };
-    let start = match explore(&mut widened, store, &mut states) {
+    let mut machine = WidenedMachine {
+        widened: Widened { automaton, map },
+        table: PlaceTable::new(alloc),
+    };
+    let start = match explore(&mut machine, store, &mut states) {
         Ok(start) => start,
         Err(fault) => return Err(fault),
     };
     Ok(Operand {
-        widened,
+        widened: machine.widened,
         start,
         states,
     })

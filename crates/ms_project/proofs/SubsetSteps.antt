@@ -6,7 +6,8 @@ use Rattle.std.proofs.lemmas.Option.{slice_get_within}
 use Rattle.ms_edge.specs.declared.fault.StepFault.{StepFault}
 use Rattle.ms_edge.specs.declared.fault.StepFault.TheVariants.{Memory}
 use Rattle.ms_arena.specs.declared.node.Ref.{Ref}
-use Rattle.ms_arena.specs.Diagram.{IsValid}
+use Rattle.ms_arena.specs.declared.node.Node.{Node}
+use Rattle.ms_arena.specs.Diagram.{IsValid, IsOrdered}
 use Rattle.ms_arena.specs.Target.{Extends}
 use Rattle.ms_arena.proofs.Appending.{slice_get-extends}
 use Rattle.ms_arena.proofs.Needs.{Implies}
@@ -14,6 +15,8 @@ use Rattle.ms_diagram.specs.Collect.{SetNumber, LacksSet, HasLeafSet, IsSetNumbe
 use Rattle.ms_diagram.specs.Growth.{Builds}
 use Rattle.ms_diagram.specs.Numbering.{AddsOnly}
 use Rattle.ms_diagram.specs.Store.{Contents, IsStore}
+use Rattle.ms_diagram.specs.Table.{AreBrought}
+use Rattle.ms_diagram.proofs.TableGrowth.{AreBrought-origin_grows}
 use Rattle.ms_diagram.proofs.Building.{Grows-same}
 use Rattle.ms_dfa.specs.Automaton.{states_of}
 use Rattle.ms_dfa.specs.declared.state.State.{State}
@@ -21,6 +24,13 @@ use Rattle.ms_logic.specs.Content.{IsFollowed, is_truth_value, is_in_letters}
 use Rattle.ms_project.specs.Subsets.{next_in, start_sets, sets_behind}
 use Rattle.ms_project.specs.Subsetting.{Subsetting, paired, sets_at, subset_findings, IsFullWithin, IsReadyForSets, IsLaterSubsetting, IsHanded, IsHandable}
 use Rattle.ms_project.proofs.SubsetLemmas.{handable, later, handed, followed_start, implies_start, followed_next, implies_next, at_behind}
+
+-- what the nodes of the own store have become is right while that grows
+pub places_later : (inside seen : Subsetting) → inside ≡ seen → (inner : Contents) → IsOrdered inside.inner.nodes → Extends inside.inner.nodes inner.nodes → (back : List ℕ) → back ≡ inside.back
+    → (nodes : List Node) (places : List (ℕ × Ref)) → AreBrought seen.inner.nodes seen.back nodes places → AreBrought inner.nodes back nodes places
+places_later inside seen same inner ordered extends back is nodes places were =
+    subst (λ b. AreBrought inner.nodes b nodes places) (sym is)
+    (AreBrought-origin_grows inside.inner.nodes inner.nodes ordered extends nodes inside.back places (subst (λ (v : Subsetting). AreBrought v.inner.nodes v.back nodes places) (sym same) were))
 
 module _ (inside seen : Subsetting) (same : inside ≡ seen) (seen_ready : IsReadyForSets seen) (store : IsStore inside.inner.nodes inside.inner.limit) where
   ready : IsReadyForSets inside

@@ -73,8 +73,5 @@ subsetting_later_later one two three first second = record {
   ready = λ ready. second.ready (first.ready ready);
 }
 
-pub subsetting_later_ready : (early late : Subsetting) (old new : List Node) → IsLaterSubsetting early late → IsOrdered old → Extends old new → IsReadyForSets early → IsReadyForSets late
-subsetting_later_ready early late old new later ordered extends ready = later.ready ready
-
 pub subsetting_later_findings : (early late : Subsetting) → IsLaterSubsetting early late → AreMore (subset_findings early) (subset_findings late)
 subsetting_later_findings early late later = later.more

@@ -1,5 +1,5 @@
 -- The sets that a subset construction has found, in a store of their own that holds the diagrams over all variables.
-use Rattle.std.specs.Prelude.{◌≡◌, ◌≢◌, ◌⊎◌, ℕ, ◌+◌, ◌<◌, ◌≤◌, Bool, List, [], length, Contains, slice_get, slice_index, Option, Some, None, Result, Ok, Err}
+use Rattle.std.specs.Prelude.{◌≡◌, ◌≢◌, ◌⊎◌, ℕ, ◌+◌, ◌<◌, ◌≤◌, Bool, List, [], length, Contains, slice_get, slice_index, Option, Some, None, Result, Ok, Err, Vec}
 use Rattle.ms_edge.specs.declared.fault.StepFault.{StepFault}
 use Rattle.ms_edge.specs.declared.fault.StepFault.TheVariants.{Nodes, Memory}
 use Rattle.ms_arena.specs.declared.node.Ref.{Ref}
@@ -11,6 +11,7 @@ use Rattle.ms_diagram.specs.Bring.{RenamedLeaf, Renames}
 use Rattle.ms_diagram.specs.Collect.{IsRisingSet, IsSetNumbering}
 use Rattle.ms_diagram.specs.Growth.{Builds}
 use Rattle.ms_diagram.specs.Store.{Contents, IsStore}
+use Rattle.ms_diagram.specs.Table.{AreBrought, AreCollected}
 use Rattle.ms_dfa.specs.Automaton.{states_of}
 use Rattle.ms_dfa.specs.declared.state.State.{State}
 use Rattle.ms_logic.specs.declared.sign.Sign.{Sign}
@@ -83,6 +84,11 @@ pub record IsReadyForSets (v : Subsetting) : Type 0 where
   pub members : MembersAreStates v.states v.sets
   pub long : length v.back ≡ length v.body.variables
   pub rising : (one two : ℕ) → one < two → two < length v.body.variables → one ≢ v.bound → two ≢ v.bound → slice_index v.back one < slice_index v.back two
+
+-- what has been noted is right: of lists of references what they have become in the own store, and of its nodes what they have
+-- become over the places of the rest
+abbrev pub AreNoted : {A : Type 0} → Subsetting → List Node → List (Vec Ref A × Ref) → List (ℕ × Ref) → Type 0
+AreNoted v nodes lists places = AreCollected v.inner.nodes v.sets v.bound lists × AreBrought v.inner.nodes v.back nodes places
 
 -- the same construction with more sets, and with the nodes that they need
 pub record IsLaterSubsetting (early late : Subsetting) : Type 0 where

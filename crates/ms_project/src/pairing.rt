@@ -6,10 +6,10 @@ ghost use Rattle.ms_project.specs.Paired.{IsDomainFor, IsPairedIn, IsPairedStore
 
 use ms_arena::Ref;
 use ms_dfa::{Automaton, State};
-use ms_diagram::{Pairs, Store};
+use ms_diagram::{PairTable, Pairs, Store};
 use ms_edge::{List, StepFault};
 use ms_explore::explore;
-use ms_product::{Op, Product, bring};
+use ms_product::{Op, Product, ProductMachine, bring};
 use std::alloc::Global;
 
 /// The product of a body and a domain, in a store of its own. Its signs play no role.
@@ -45,14 +45,19 @@ pub(crate) fn pair_up(
         Err(fault) => return Err(fault),
     };
     let _ = domain.tracks();
-    let mut product = Product {
+    let product = Product {
         op: Op::And,
         left,
         right,
         pairs: Pairs::new(alloc),
     };
+    let mut machine = ProductMachine {
+        product,
+        table: PairTable::new(alloc),
+    };
     let mut states = List::new(alloc);
-    let explored = explore(&mut product, &mut store, &mut states);
+    let explored = explore(&mut machine, &mut store, &mut states);
+    let product = machine.product;
     // The length tells that the pairs are a numbering.
     let _ = product.pairs.len();
     let start = match explored {

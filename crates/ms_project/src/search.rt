@@ -3,10 +3,10 @@ ghost use Rattle.ms_explore.specs.Explored.{OnRefused};
 ghost use Rattle.ms_project.specs.Subsetting.{AreSetsFound, IsLaterSubsetting, IsReadyForSets, SetsAreAtLeast, begun};
 
 use crate::pairing::Paired;
-use crate::subsets::Subsets;
+use crate::subsets::{SubsetTables, Subsets, SubsetsMachine};
 use ms_arena::Ref;
 use ms_dfa::{Automaton, State};
-use ms_diagram::{Sets, Store};
+use ms_diagram::{ListTable, PlaceTable, Sets, Store};
 use ms_edge::{List, StepFault};
 use ms_explore::explore;
 use std::alloc::Global;
@@ -37,7 +37,7 @@ pub(crate) fn find_sets<'a>(
     // The lengths tell that the nodes are those of stores, and the sets a numbering.
     let _ = paired.store.len();
     let mut store = Store::new(alloc, paired.store.limit());
-    let mut subsets = Subsets {
+    let subsets = Subsets {
         alloc,
         body,
         inner: paired.store,
@@ -47,8 +47,16 @@ pub(crate) fn find_sets<'a>(
         back,
         sets: Sets::new(alloc),
     };
+    let mut machine = SubsetsMachine {
+        subsets,
+        tables: SubsetTables {
+            lists: ListTable::new(alloc),
+            places: PlaceTable::new(alloc),
+        },
+    };
     let mut states = List::new(alloc);
-    let explored = explore(&mut subsets, &mut store, &mut states);
+    let explored = explore(&mut machine, &mut store, &mut states);
+    let subsets = machine.subsets;
     let _ = subsets.sets.len();
     let _ = subsets.inner.len();
     let start = match explored {

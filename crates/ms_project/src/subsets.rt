@@ -1,11 +1,13 @@
-ghost use Rattle.std.specs.Prelude.{◌≡◌, ℕ, ◌<◌, Contains, IfOk, length, map};
+ghost use Rattle.std.specs.Prelude.{◌≡◌, ℕ, ◌<◌, ◌≤◌, ◌+◌, Contains, IfOk, length, map};
+ghost use Rattle.ms_diagram.specs.Growth.{Builds};
+ghost use Rattle.ms_diagram.specs.Table.{AreBrought};
 ghost use Rattle.ms_dfa.specs.Automaton.{states_of};
 ghost use Rattle.ms_project.specs.Subsets.{next_in};
-ghost use Rattle.ms_project.specs.Subsetting.{IsHandable, IsHanded};
+ghost use Rattle.ms_project.specs.Subsetting.{AreNoted, IsHandable, IsHanded, IsLaterSubsetting, IsReadyForSets, subset_findings};
 
 use ms_arena::Ref;
 use ms_dfa::{Automaton, State};
-use ms_diagram::{Sets, Store};
+use ms_diagram::{ListTable, PlaceTable, Sets, Store};
 use ms_edge::{List, NoMemory, StepFault, push};
 use ms_explore::Machine;
 use ms_logic::Sign;
@@ -64,18 +66,21 @@ fn roots_of(alloc: Global, states: &[State], set: &[u32]) -> Result<List<Ref>, N
     Ok(roots)
 }
 
-/// Brings a diagram that was collected in another store, over the places of the rest.
+/// Brings a diagram that was collected in another store, over the places of the rest, and notes what its nodes have become.
 fn hand_over(
     inner: &Store,
     store: &mut Store,
     back: &[u32],
     collected: Result<Ref, StepFault>,
+    places: &mut PlaceTable,
 ) -> Result<Ref, StepFault>
-    requires { IsHandable inner.now.nodes back.now collected }
-    ensures { IsHanded store.old store.new inner.now.nodes back.now collected result }
+    requires handable { IsHandable inner.now.nodes back.now collected }
+    requires places { AreBrought inner.now.nodes back.now store.old.nodes places.old }
+    ensures handed { IsHanded store.old store.new inner.now.nodes back.now collected result }
+    ensures places { AreBrought inner.now.nodes back.now store.new.nodes places.new }
 {
     match collected {
-        Ok(made) => store.bring(inner, made, back),
+        Ok(made) => store.bring_with(inner, made, back, places),
         Err(StepFault::Memory) => Err(StepFault::Memory),
         Err(StepFault::Nodes { .. }) => Err(StepFault::Nodes {
             limit: store.limit(),
@@ -83,45 +88,120 @@ fn hand_over(
     }
 }
 
-impl<'a> Machine for Subsets<'a> {
-    ghost use Rattle.ms_project.specs.Subsetting.{IsReadyForSets, IsLaterSubsetting, subset_findings};
-    ghost use Rattle.ms_project.specs.Later.{subsetting_later_itself, subsetting_later_later, subsetting_later_ready, subsetting_later_findings};
+/// What lists of references have become in the store of a subset construction, and what its nodes have become in that of
+/// the answer.
+#[derive(Drop)]
+pub(crate) struct SubsetTables {
+    pub(crate) lists: ListTable,
+    pub(crate) places: PlaceTable,
+}
 
-    ghost findings = { subset_findings };
-
-    ghost IsReady = { λ subsets nodes. IsReadyForSets subsets };
-
-    ghost IsLater = { IsLaterSubsetting };
-
-    ghost later_itself = { subsetting_later_itself };
-
-    ghost later_later = { subsetting_later_later };
-
-    ghost later_ready = { subsetting_later_ready };
-
-    ghost later_findings = { subsetting_later_findings };
-
-    fn start(&mut self, store: &mut Store) -> Result<Ref, StepFault> {
+impl<'a> Subsets<'a> {
+    /// Where the truth values lead from the start.
+    fn lead_from_start(
+        &mut self,
+        store: &mut Store,
+        tables: &mut SubsetTables,
+    ) -> Result<Ref, StepFault>
+        requires ready { IsReadyForSets self.old }
+        requires tables { AreNoted self.old store.old.nodes tables.old.lists tables.old.places }
+        ensures ready { IsReadyForSets self.new }
+        ensures tables { AreNoted self.new store.new.nodes tables.new.lists tables.new.places }
+        ensures later { IsLaterSubsetting self.old self.new }
+        ensures builds { Builds store.old store.new (subset_findings self.new).starts (subset_findings self.new).LacksNumber result }
+        ensures few { length store.new.nodes ≤ length store.old.nodes + (subset_findings self.new).most_nodes }
+    {
         // The lengths tell that the nodes are those of stores, and the sets a numbering.
         let _ = self.inner.len();
         let _ = store.len();
         let roots = [self.start];
-        let collected = self.inner.collect(&roots, self.bound, &mut self.sets);
+        let collected = self
+            .inner
+            .collect_with(&roots, self.bound, &mut self.sets, &mut tables.lists);
         let _ = self.sets.len();
-        hand_over(&self.inner, store, self.back.slice(), collected)
+        hand_over(
+            &self.inner,
+            store,
+            self.back.slice(),
+            collected,
+            &mut tables.places,
+        )
     }
 
-    fn next(&mut self, store: &mut Store, state: u32) -> Result<Ref, StepFault> {
+    /// Where a letter leads from the set of this number.
+    fn lead_from(
+        &mut self,
+        store: &mut Store,
+        state: u32,
+        tables: &mut SubsetTables,
+    ) -> Result<Ref, StepFault>
+        requires state { state < (subset_findings self.old).count }
+        requires ready { IsReadyForSets self.old }
+        requires tables { AreNoted self.old store.old.nodes tables.old.lists tables.old.places }
+        ensures ready { IsReadyForSets self.new }
+        ensures tables { AreNoted self.new store.new.nodes tables.new.lists tables.new.places }
+        ensures later { IsLaterSubsetting self.old self.new }
+        ensures builds { Builds store.old store.new ((subset_findings self.new).steps state) (subset_findings self.new).LacksNumber result }
+        ensures few { length store.new.nodes ≤ length store.old.nodes + (subset_findings self.new).most_nodes }
+    {
         let _ = self.inner.len();
         let _ = store.len();
         let Ok(roots) = roots_of(self.alloc, self.states.slice(), self.sets.get(state)) else {
             return Err(StepFault::Memory);
         };
-        let collected = self
-            .inner
-            .collect(roots.slice(), self.bound, &mut self.sets);
+        let collected = self.inner.collect_with(
+            roots.slice(),
+            self.bound,
+            &mut self.sets,
+            &mut tables.lists,
+        );
         let _ = self.sets.len();
-        hand_over(&self.inner, store, self.back.slice(), collected)
+        hand_over(
+            &self.inner,
+            store,
+            self.back.slice(),
+            collected,
+            &mut tables.places,
+        )
+    }
+
+    /// How many sets have numbers.
+    fn count(&self) -> u32
+        ensures { result ≡ (subset_findings self.now).count }
+    {
+        self.sets.len()
+    }
+}
+
+/// A subset construction with the tables of what has been built for it.
+#[derive(Drop)]
+pub(crate) struct SubsetsMachine<'a> {
+    pub(crate) subsets: Subsets<'a>,
+    pub(crate) tables: SubsetTables,
+}
+
+impl<'a> Machine for SubsetsMachine<'a> {
+    ghost use Rattle.ms_project.specs.Subsetting.{AreNoted, IsReadyForSets, IsLaterSubsetting, subset_findings};
+    ghost use Rattle.ms_project.specs.Later.{subsetting_later_itself, subsetting_later_later, subsetting_later_findings};
+
+    ghost findings = { λ machine. subset_findings machine.subsets };
+
+    ghost IsReady = { λ machine nodes. IsReadyForSets machine.subsets × AreNoted machine.subsets nodes machine.tables.lists machine.tables.places };
+
+    ghost IsLater = { λ early late. IsLaterSubsetting early.subsets late.subsets };
+
+    ghost later_itself = { λ machine. subsetting_later_itself machine.subsets };
+
+    ghost later_later = { λ one two three. subsetting_later_later one.subsets two.subsets three.subsets };
+
+    ghost later_findings = { λ early late. subsetting_later_findings early.subsets late.subsets };
+
+    fn start(&mut self, store: &mut Store) -> Result<Ref, StepFault> {
+        self.subsets.lead_from_start(store, &mut self.tables)
+    }
+
+    fn next(&mut self, store: &mut Store, state: u32) -> Result<Ref, StepFault> {
+        self.subsets.lead_from(store, state, &mut self.tables)
     }
 
     fn sign(&self, _state: u32) -> Sign {
@@ -129,6 +209,6 @@ impl<'a> Machine for Subsets<'a> {
     }
 
     fn count(&self) -> u32 {
-        self.sets.len()
+        self.subsets.count()
     }
 }

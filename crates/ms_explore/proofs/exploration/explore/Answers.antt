@@ -9,8 +9,7 @@ loop-state-init g c =
     let builds = c.in_ok-start.ensures.builds in
     let all = g.M.Machine.findings c.start.new.self in (
       c.start.ensures.later,
-      g.met.M.Machine.later_ready c.args.machine.now c.start.new.self c.args.store.now.nodes c.start.new.store.nodes c.start.ensures.later c.len.ensures.store.ordered builds.grows.extends
-          c.requires.ready,
+      c.in_ok-start.ensures.ready,
       record {
         grows = GrowsForSome-one c.args.store.now c.start.new.store all None tt builds.grows;
         start = record { valid = builds.valid; meets = builds.function };
@@ -68,8 +67,7 @@ loop-state-preserved g c =
     let added = c.in-Ok-add_state.ensures.added in
     let leads : Leads c.next.new.store.nodes (late.steps c.loop-state.state) c.in-Ok.next = record { valid = builds.valid; meets = builds.function } in (
       g.met.M.Machine.later_later c.args.machine.now c.loop-state.machine c.next.new.self c.loop-state.invariant.0 c.in-Ok.ensures.later,
-      g.met.M.Machine.later_ready c.loop-state.machine c.next.new.self c.loop-state.store.nodes c.next.new.store.nodes c.in-Ok.ensures.later was.grows.store.ordered builds.grows.extends
-          c.loop-state.invariant.1,
+      c.in-Ok.ensures.ready,
       record {
         grows = GrowsForSome-then early late more c.args.store.now c.loop-state.store c.next.new.store (Some c.loop-state.state) was.grows found builds.grows;
         start = Leads-starts early late more c.loop-state.store.nodes c.next.new.store.nodes c.in_ok-start.start was.grows.store.ordered builds.grows.extends was.start;

@@ -18,4 +18,5 @@ loop-place-preserved c =
       subst (λ made. AreLabels c.label_state.new.seen content classes splitters c.args.due.now made (c.loop-place.place + 1)) (sym c.in_ok-push.ensures.ok)
           (AreLabels-more c.loop-place.seen c.label_state.new.seen were.0 later content classes splitters c.args.due.now c.loop-place.made c.loop-place.place were.2 c.get-state.result c.in_ok-found.found
           c.get-state.ensures c.in_ok-found.ensures.label),
+      c.in_ok-found.ensures.tables,
     )

@@ -1,5 +1,6 @@
 use Rattle.std.proofs.Common.{◌+◌, length, Ok, Err, refl, sym, subst, ◌∙◌, arith}
 use Rattle.ms_arena.proofs.Appending.{Extends-same}
+use Rattle.ms_diagram.specs.Table.{ArePaired}
 use Rattle.ms_dfa.specs.Automaton.{IsAutomaton, variables_of, states_of}
 use Rattle.ms_logic.specs.declared.sign.Sign.{Sign}
 use Rattle.ms_logic.specs.Content.{Content}
@@ -58,15 +59,17 @@ returns-in-Err-bring-2-clause-nodes c =
 pub explore-explored-requires-clause-ready : goal.explore-explored-requires-clause-ready
 explore-explored-requires-clause-ready c =
     let left_made = c.in-Ok-bring.left in
-    let right_made = c.in-Ok-bring-2.right in
-    record {
-      left_in = brought_as c.bring.new.store.nodes c.bring-2.new.store.nodes c.bring.ensures.grows.store.ordered c.bring-2.ensures.grows.extends c.args.a.now left_made.widened.automaton.now
-          left_made.widened.map (places_among c.args.a.now.variables (variables_of c.slice.result.now)) left_made.start left_made.states c.in-Ok-bring.ensures.automaton c.in-Ok-bring.ensures.map
-          c.in-Ok-bring.ensures.brought;
-      right_in = brought_as c.bring-2.new.store.nodes c.bring-2.new.store.nodes c.bring-2.ensures.grows.store.ordered (Extends-same c.bring-2.new.store.nodes) c.args.b.now right_made.widened.automaton.now
-          right_made.widened.map (places_among c.args.b.now.variables (variables_of c.slice-2.result.now)) right_made.start right_made.states c.in-Ok-bring-2.ensures.automaton c.in-Ok-bring-2.ensures.map
-          c.in-Ok-bring-2.ensures.brought;
-    }
+    let right_made = c.in-Ok-bring-2.right in (
+      record {
+        left_in = brought_as c.bring.new.store.nodes c.bring-2.new.store.nodes c.bring.ensures.grows.store.ordered c.bring-2.ensures.grows.extends c.args.a.now left_made.widened.automaton.now
+            left_made.widened.map (places_among c.args.a.now.variables (variables_of c.slice.result.now)) left_made.start left_made.states c.in-Ok-bring.ensures.automaton c.in-Ok-bring.ensures.map
+            c.in-Ok-bring.ensures.brought;
+        right_in = brought_as c.bring-2.new.store.nodes c.bring-2.new.store.nodes c.bring-2.ensures.grows.store.ordered (Extends-same c.bring-2.new.store.nodes) c.args.b.now right_made.widened.automaton.now
+            right_made.widened.map (places_among c.args.b.now.variables (variables_of c.slice-2.result.now)) right_made.start right_made.states c.in-Ok-bring-2.ensures.automaton c.in-Ok-bring-2.ensures.map
+            c.in-Ok-bring-2.ensures.brought;
+      },
+      subst (λ table. ArePaired c.bring-2.new.store.nodes c.new-pairs.result table) (sym c.new.ensures) tt,
+    )
 
 pub returns-in-Err-explored-clause-nodes : goal.returns-in-Err-explored-clause-nodes
 returns-in-Err-explored-clause-nodes c =
@@ -80,7 +83,7 @@ returns-in-Err-explored-clause-nodes c =
     let right_made = c.in-Ok-bring-2.right.widened in
     let operands_are = operands_as a b left_made.automaton.now right_made.automaton.now left_made.map right_made.map (variables_of c.slice.result.now) (variables_of c.slice-2.result.now)
     c.in-Ok-bring.ensures.automaton c.in-Ok-bring.ensures.map wide c.in-Ok-bring-2.ensures.automaton c.in-Ok-bring-2.ensures.map wide_right in
-    let seen = c.explore-explored.new.machine in
+    let seen = c.explore-explored.new.machine.product in
     let explores = Explores-seen c.args.op (operands_of a b) _ _ seen refl operands_are c.explore-explored.ensures.later c.product.view_is c.bring-2.new.store c.explore-explored.new.store c.explore-explored.new.states (Err c.in-Err-explored.fault) c.in-Err-explored.ensures.explored in
     let are = AreStates-seen c.args.op (operands_of a b) _ _ seen refl operands_are c.explore-explored.ensures.later c.product.view_is c.product.invariant in
     let numbering = IsNumbering-seen c.args.op (operands_of a b) _ _ seen refl operands_are c.explore-explored.ensures.later c.product.view_is c.len.ensures.numbering in
@@ -98,7 +101,7 @@ make-requires c =
     let right_made = c.in-Ok-bring-2.right.widened in
     let operands_are = operands_as a b left_made.automaton.now right_made.automaton.now left_made.map right_made.map (variables_of c.slice.result.now) (variables_of c.slice-2.result.now)
     c.in-Ok-bring.ensures.automaton c.in-Ok-bring.ensures.map wide c.in-Ok-bring-2.ensures.automaton c.in-Ok-bring-2.ensures.map wide_right in
-    let seen = c.explore-explored.new.machine in
+    let seen = c.explore-explored.new.machine.product in
     let explores = Explores-seen c.args.op (operands_of a b) _ _ seen refl operands_are c.explore-explored.ensures.later c.product.view_is c.bring-2.new.store c.explore-explored.new.store c.explore-explored.new.states (Ok c.in-Ok-explored.start) c.in-Ok-explored.ensures.explored in
     let are = AreStates-seen c.args.op (operands_of a b) _ _ seen refl operands_are c.explore-explored.ensures.later c.product.view_is c.product.invariant in
     let numbering = IsNumbering-seen c.args.op (operands_of a b) _ _ seen refl operands_are c.explore-explored.ensures.later c.product.view_is c.len.ensures.numbering in
@@ -119,7 +122,7 @@ returns-clause-values c =
     let right_made = c.in-Ok-bring-2.right.widened in
     let operands_are = operands_as a b left_made.automaton.now right_made.automaton.now left_made.map right_made.map (variables_of c.slice.result.now) (variables_of c.slice-2.result.now)
     c.in-Ok-bring.ensures.automaton c.in-Ok-bring.ensures.map wide c.in-Ok-bring-2.ensures.automaton c.in-Ok-bring-2.ensures.map wide_right in
-    let seen = c.explore-explored.new.machine in
+    let seen = c.explore-explored.new.machine.product in
     let explores = Explores-seen c.args.op (operands_of a b) _ _ seen refl operands_are c.explore-explored.ensures.later c.product.view_is c.bring-2.new.store c.explore-explored.new.store c.explore-explored.new.states (Ok c.in-Ok-explored.start) c.in-Ok-explored.ensures.explored in
     let are = AreStates-seen c.args.op (operands_of a b) _ _ seen refl operands_are c.explore-explored.ensures.later c.product.view_is c.product.invariant in
     let numbering = IsNumbering-seen c.args.op (operands_of a b) _ _ seen refl operands_are c.explore-explored.ensures.later c.product.view_is c.len.ensures.numbering in
@@ -141,7 +144,7 @@ returns-clause-size c =
     let right_made = c.in-Ok-bring-2.right.widened in
     let operands_are = operands_as a b left_made.automaton.now right_made.automaton.now left_made.map right_made.map (variables_of c.slice.result.now) (variables_of c.slice-2.result.now)
     c.in-Ok-bring.ensures.automaton c.in-Ok-bring.ensures.map wide c.in-Ok-bring-2.ensures.automaton c.in-Ok-bring-2.ensures.map wide_right in
-    let seen = c.explore-explored.new.machine in
+    let seen = c.explore-explored.new.machine.product in
     let explores = Explores-seen c.args.op (operands_of a b) _ _ seen refl operands_are c.explore-explored.ensures.later c.product.view_is c.bring-2.new.store c.explore-explored.new.store c.explore-explored.new.states (Ok c.in-Ok-explored.start) c.in-Ok-explored.ensures.explored in
     let are = AreStates-seen c.args.op (operands_of a b) _ _ seen refl operands_are c.explore-explored.ensures.later c.product.view_is c.product.invariant in
     let numbering = IsNumbering-seen c.args.op (operands_of a b) _ _ seen refl operands_are c.explore-explored.ensures.later c.product.view_is c.len.ensures.numbering in

@@ -1,5 +1,6 @@
 use Rattle.std.proofs.Common.{◌≡◌, ℕ, List, Ok, Err, refl, sym, ap, subst, ◌∙◌}
 use Rattle.ms_arena.proofs.Appending.{Extends-same}
+use Rattle.ms_diagram.specs.Table.{ArePaired}
 use Rattle.ms_dfa.specs.Automaton.{variables_of}
 use Rattle.ms_logic.specs.Assignment.{Variable}
 use Rattle.ms_explore.specs.Explored.{GrowsForSome}
@@ -33,15 +34,17 @@ returns-in-Err-bring-clause-nodes c =
 pub explore-explored-requires-clause-ready : goal.explore-explored-requires-clause-ready
 explore-explored-requires-clause-ready c =
     let left_made = c.in-Ok.left in
-    let right_made = c.in-Ok-bring.right in
-    record {
-      left_in = brought_as c.bring.new.store.nodes c.bring-2.new.store.nodes c.bring.ensures.grows.store.ordered c.bring-2.ensures.grows.extends c.args.body.now left_made.widened.automaton.now
-          left_made.widened.map (places_among c.args.body.now.variables (variables_of c.tracks.result.now)) left_made.start left_made.states c.in-Ok.ensures.automaton c.in-Ok.ensures.map
-          c.in-Ok.ensures.brought;
-      right_in = brought_as c.bring-2.new.store.nodes c.bring-2.new.store.nodes c.bring-2.ensures.grows.store.ordered (Extends-same c.bring-2.new.store.nodes) c.args.domain.now right_made.widened.automaton.now
-          right_made.widened.map (places_among c.args.domain.now.variables (variables_of c.tracks-2.result.now)) right_made.start right_made.states c.in-Ok-bring.ensures.automaton c.in-Ok-bring.ensures.map
-          c.in-Ok-bring.ensures.brought;
-    }
+    let right_made = c.in-Ok-bring.right in (
+      record {
+        left_in = brought_as c.bring.new.store.nodes c.bring-2.new.store.nodes c.bring.ensures.grows.store.ordered c.bring-2.ensures.grows.extends c.args.body.now left_made.widened.automaton.now
+            left_made.widened.map (places_among c.args.body.now.variables (variables_of c.tracks.result.now)) left_made.start left_made.states c.in-Ok.ensures.automaton c.in-Ok.ensures.map
+            c.in-Ok.ensures.brought;
+        right_in = brought_as c.bring-2.new.store.nodes c.bring-2.new.store.nodes c.bring-2.ensures.grows.store.ordered (Extends-same c.bring-2.new.store.nodes) c.args.domain.now right_made.widened.automaton.now
+            right_made.widened.map (places_among c.args.domain.now.variables (variables_of c.tracks-2.result.now)) right_made.start right_made.states c.in-Ok-bring.ensures.automaton c.in-Ok-bring.ensures.map
+            c.in-Ok-bring.ensures.brought;
+      },
+      subst (λ table. ArePaired c.bring-2.new.store.nodes c.new.result table) (sym c.new-2.ensures) tt,
+    )
 
 pub returns-in-Err-explored-clause-nodes : goal.returns-in-Err-explored-clause-nodes
 returns-in-Err-explored-clause-nodes c =
@@ -53,7 +56,7 @@ returns-in-Err-explored-clause-nodes c =
     let right_made = c.in-Ok-bring.right.widened in
     let operands_are = operands_seen a b left_made.automaton.now right_made.automaton.now left_made.map right_made.map (variables_of c.tracks.result.now) (variables_of c.tracks-2.result.now)
     c.in-Ok.ensures.automaton c.in-Ok.ensures.map c.tracks.ensures.variables c.in-Ok-bring.ensures.automaton c.in-Ok-bring.ensures.map c.tracks-2.ensures.variables in
-    let seen = c.explore-explored.new.machine in
+    let seen = c.explore-explored.new.machine.product in
     let explores = Explores-seen And (operands_over a b) _ _ seen refl operands_are c.explore-explored.ensures.later c.product.view_is c.bring-2.new.store c.explore-explored.new.store c.explore-explored.new.states (Err c.in-Err-explored.fault) c.in-Err-explored.ensures.explored in
     let are = AreStates-seen And (operands_over a b) _ _ seen refl operands_are c.explore-explored.ensures.later c.product.view_is c.product.invariant in
     let numbering = IsNumbering-seen And (operands_over a b) _ _ seen refl operands_are c.explore-explored.ensures.later c.product.view_is c.len.ensures.numbering in
@@ -70,7 +73,7 @@ returns-clause-paired c =
     let right_made = c.in-Ok-bring.right.widened in
     let operands_are = operands_seen a b left_made.automaton.now right_made.automaton.now left_made.map right_made.map (variables_of c.tracks.result.now) (variables_of c.tracks-2.result.now)
     c.in-Ok.ensures.automaton c.in-Ok.ensures.map c.tracks.ensures.variables c.in-Ok-bring.ensures.automaton c.in-Ok-bring.ensures.map c.tracks-2.ensures.variables in
-    let seen = c.explore-explored.new.machine in
+    let seen = c.explore-explored.new.machine.product in
     let explores = Explores-seen And (operands_over a b) _ _ seen refl operands_are c.explore-explored.ensures.later c.product.view_is c.bring-2.new.store c.explore-explored.new.store c.explore-explored.new.states (Ok c.in-Ok-explored.start) c.in-Ok-explored.ensures.explored in
     let are = AreStates-seen And (operands_over a b) _ _ seen refl operands_are c.explore-explored.ensures.later c.product.view_is c.product.invariant in
     let numbering = IsNumbering-seen And (operands_over a b) _ _ seen refl operands_are c.explore-explored.ensures.later c.product.view_is c.len.ensures.numbering in
@@ -88,7 +91,7 @@ returns-clause-store c =
     let right_made = c.in-Ok-bring.right.widened in
     let operands_are = operands_seen a b left_made.automaton.now right_made.automaton.now left_made.map right_made.map (variables_of c.tracks.result.now) (variables_of c.tracks-2.result.now)
     c.in-Ok.ensures.automaton c.in-Ok.ensures.map c.tracks.ensures.variables c.in-Ok-bring.ensures.automaton c.in-Ok-bring.ensures.map c.tracks-2.ensures.variables in
-    let seen = c.explore-explored.new.machine in
+    let seen = c.explore-explored.new.machine.product in
     let explores = Explores-seen And (operands_over a b) _ _ seen refl operands_are c.explore-explored.ensures.later c.product.view_is c.bring-2.new.store c.explore-explored.new.store c.explore-explored.new.states (Ok c.in-Ok-explored.start) c.in-Ok-explored.ensures.explored in
     let are = AreStates-seen And (operands_over a b) _ _ seen refl operands_are c.explore-explored.ensures.later c.product.view_is c.product.invariant in
     let numbering = IsNumbering-seen And (operands_over a b) _ _ seen refl operands_are c.explore-explored.ensures.later c.product.view_is c.len.ensures.numbering in

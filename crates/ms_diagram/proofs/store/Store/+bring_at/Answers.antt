@@ -117,7 +117,7 @@ returns-in_ok-made-in-Inner-clause-table t c =
     let node : Node = record { var = get_or c.args.map.now c.node-node.result.var 0; low = c.in_ok-low-in-Inner.low; high = c.in_ok-high-in-Inner.high } in
     EachEntry-remembered (IsBrought c.args.from.now.nodes c.args.map.now three.nodes) nat_eq eqb-true c.in-Inner.place c.remember.result
     c.bring_at-in-Inner.new.table.entries c.remember.new.table.entries made c.remember.ensures.entries
-    (IsBrought-built c.args.from.now.nodes c.args.self.now three c.args.map.now c.args.root c.in-Inner.place made c.in-Inner.is
+    (IsBrought-built c.args.from.now.nodes c.args.self.now three c.args.map.now c.args.root c.in-Inner.place made c.in-Inner.is c.requires.valid
     (fixed-node c.args.self.now c.bring_at.new.self c.bring_at-in-Inner.new.self c.mk.new.self
     (RenamedLeaf c.args.from.now.nodes c.args.map.now c.args.root) (RenamedLeaf c.args.from.now.nodes c.args.map.now c.node-node.result.low) (RenamedLeaf c.args.from.now.nodes c.args.map.now c.node-node.result.high)
     (get_or c.args.map.now c.node-node.result.var 0) c.in_ok-low-in-Inner.low c.in_ok-high-in-Inner.high c.requires.store

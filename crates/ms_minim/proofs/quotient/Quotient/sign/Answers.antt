@@ -1,5 +1,5 @@
 use Rattle.ms_minim.proofs.QuotientLemmas.{class_within, state_within, sign_seen}
-use Rattle.ms_minim.proofs.quotient.QuotientMachine.sign.Goals as goal
+use Rattle.ms_minim.proofs.quotient.Quotient.sign.Goals as goal
 
 pub get-member-requires : goal.get-member-requires
 get-member-requires c = class_within _ _ _ _ _ c.self.invariant c.args.state c.get-class.result c.get-class.ensures

@@ -1,5 +1,5 @@
 use Rattle.ms_minim.proofs.QuotientLemmas.{class_within, state_within, IsQuotient-next, Builds-leads_on}
-use Rattle.ms_minim.proofs.quotient.QuotientMachine.next.Goals as goal
+use Rattle.ms_minim.proofs.quotient.Quotient.lead_from.Goals as goal
 
 pub get-member-requires : goal.get-member-requires
 get-member-requires c = class_within _ _ _ _ _ c.self.invariant c.args.state c.get-class.result c.get-class.ensures

@@ -2,7 +2,7 @@ use Rattle.std.proofs.Common.{subst}
 use Rattle.ms_diagram.specs.Numbering.{AddsOnly}
 use Rattle.ms_minim.specs.Quotient.{IsClassBehind}
 use Rattle.ms_minim.proofs.QuotientLemmas.{IsQuotient-start}
-use Rattle.ms_minim.proofs.quotient.QuotientMachine.start.Goals as goal
+use Rattle.ms_minim.proofs.quotient.Quotient.lead_from_start.Goals as goal
 
 pub invariant_of-self : goal.invariant_of-self
 invariant_of-self c =

@@ -1,0 +1,29 @@
+-- The entries of tables stay right while the stores grow that they speak of.
+use Rattle.std.proofs.Common.{ℕ, List}
+use Rattle.ms_arena.specs.declared.node.Ref.{Ref}
+use Rattle.ms_arena.specs.declared.node.Node.{Node}
+use Rattle.ms_arena.specs.Diagram.{IsOrdered}
+use Rattle.ms_arena.specs.Target.{Extends}
+use Rattle.ms_arena.proofs.Appending.{Extends-same}
+use Rattle.ms_diagram.specs.Apply.{IsPaired}
+use Rattle.ms_diagram.specs.Bring.{IsBrought}
+use Rattle.ms_diagram.specs.Relabel.{IsRelabelled}
+use Rattle.ms_diagram.specs.Table.{ArePaired, AreBrought, AreRelabelled}
+use Rattle.ms_diagram.proofs.ApplyLemmas.{IsPaired-grows}
+use Rattle.ms_diagram.proofs.BringLemmas.{IsBrought-grows, IsBrought-origin_grows}
+use Rattle.ms_diagram.proofs.RelabelLemmas.{IsRelabelled-grows}
+use Rattle.ms_diagram.proofs.TableLemmas.{EachEntry-weaker}
+
+module _ (old new : List Node) (ordered : IsOrdered old) (extends : Extends old new) where
+  pub ArePaired-grow : (pairs : List (ℕ × ℕ)) (table : List ((Ref × Ref) × Ref)) → ArePaired old pairs table → ArePaired new pairs table
+  ArePaired-grow pairs = EachEntry-weaker (IsPaired old pairs) (IsPaired new pairs) (IsPaired-grows old new ordered extends pairs pairs (Extends-same pairs))
+
+  pub AreRelabelled-grow : (map : List ℕ) (table : List (ℕ × Ref)) → AreRelabelled old map table → AreRelabelled new map table
+  AreRelabelled-grow map = EachEntry-weaker (IsRelabelled old map) (IsRelabelled new map) (IsRelabelled-grows old new map ordered extends)
+
+  pub AreBrought-grow : (origin : List Node) (map : List ℕ) (table : List (ℕ × Ref)) → AreBrought origin map old table → AreBrought origin map new table
+  AreBrought-grow origin map = EachEntry-weaker (IsBrought origin map old) (IsBrought origin map new) (IsBrought-grows origin old new map ordered extends)
+
+  -- and so where it is the other store that grows
+  pub AreBrought-origin_grows : (nodes : List Node) (map : List ℕ) (table : List (ℕ × Ref)) → AreBrought old map nodes table → AreBrought new map nodes table
+  AreBrought-origin_grows nodes map = EachEntry-weaker (IsBrought old map nodes) (IsBrought new map nodes) (IsBrought-origin_grows old new nodes map ordered extends)

@@ -1,0 +1,139 @@
+ghost use Rattle.std.specs.Prelude.{◌≡◌, [], All};
+ghost use Rattle.ms_arena.specs.Diagram.{IsValid};
+ghost use Rattle.ms_arena.specs.Target.{Extends};
+
+use crate::pairs::Pairs;
+use crate::sets::Sets;
+use crate::store::Store;
+use indexmap::IndexMap;
+use ms_arena::Ref;
+use ms_edge::StepFault;
+use std::alloc::Global;
+use std::hash::Hash;
+use std::marker::Model;
+
+/// What each key has become in a store. A caller keeps it from call to call, so that what several diagrams share is
+/// built once. Contracts see the list of its entries.
+#[derive(Drop)]
+pub struct Table<K: Eq + Hash + Drop> {
+    done: IndexMap<K, Ref>,
+}
+
+/// What pairs of references have become, where a numbering of pairs grows beside it.
+pub type PairTable = Table<(Ref, Ref)>;
+
+/// What lists of references have become, where a numbering of sets grows beside it.
+pub type ListTable = Table<Vec<Ref>>;
+
+/// What the nodes at places of a store have become.
+pub type PlaceTable = Table<u32>;
+
+impl<K: Eq + Hash + Drop> Model for Table<K> {
+    ghost use Rattle.std.specs.Prelude.{List};
+    ghost use Rattle.ms_arena.specs.declared.node.Ref.{Ref};
+
+    ghost Value = { List (K × Ref) };
+
+    ghost view = { λ table. table.done.entries };
+}
+
+impl<K: Eq + Hash + Drop> Table<K> {
+    /// A table in which nothing has been noted.
+    pub fn new(alloc: Global) -> Table<K>
+        ensures { result ≡ [] }
+    {
+        Table {
+            done: IndexMap::new(alloc),
+        }
+    }
+}
+
+impl Store {
+    ghost use Rattle.ms_diagram.specs.Apply.{HasLeaves, LacksPair, PairNumber};
+    ghost use Rattle.ms_diagram.specs.Bring.{RenamedLeaf, Renames};
+    ghost use Rattle.ms_diagram.specs.Collect.{HasLeafSet, LacksSet, SetNumber};
+    ghost use Rattle.ms_diagram.specs.Growth.{Builds};
+    ghost use Rattle.ms_diagram.specs.Numbering.{AddsOnly};
+    ghost use Rattle.ms_diagram.specs.Relabel.{CoversLeaves, MappedLeaf};
+    ghost use Rattle.ms_diagram.specs.Table.{AreBrought, AreCollected, ArePaired, AreRelabelled};
+
+    /// What `apply` gives, over what earlier calls have noted for these pairs.
+    pub fn apply_with(
+        &mut self,
+        f: Ref,
+        g: Ref,
+        pairs: &mut Pairs,
+        table: &mut PairTable,
+    ) -> Result<Ref, StepFault>
+        requires valid_f { IsValid self.old.nodes f }
+        requires valid_g { IsValid self.old.nodes g }
+        requires table { ArePaired self.old.nodes pairs.old table.old }
+        ensures builds { Builds self.old self.new (PairNumber self.old.nodes pairs.new f g) (LacksPair self.old.nodes pairs.new f g) result }
+        ensures pairs { Extends pairs.old pairs.new }
+        ensures added { AddsOnly (HasLeaves self.old.nodes f g) pairs.old pairs.new }
+        ensures table { ArePaired self.new.nodes pairs.new table.new }
+    {
+        // The lengths tell that the pairs are a numbering, and the nodes those of a store.
+        let _ = pairs.len();
+        let _ = self.len();
+        self.apply_at(f, g, pairs, &mut table.done)
+    }
+
+    /// What `collect` gives, over what earlier calls have noted for these sets and this track.
+    pub fn collect_with(
+        &mut self,
+        roots: &[Ref],
+        track: u32,
+        sets: &mut Sets,
+        table: &mut ListTable,
+    ) -> Result<Ref, StepFault>
+        requires valid { All (IsValid self.old.nodes) roots.now }
+        requires table { AreCollected self.old.nodes sets.old track table.old }
+        ensures builds { Builds self.old self.new (SetNumber self.old.nodes sets.new roots.now track) (LacksSet self.old.nodes sets.new roots.now track) result }
+        ensures sets { Extends sets.old sets.new }
+        ensures added { AddsOnly (HasLeafSet self.old.nodes roots.now track) sets.old sets.new }
+        ensures table { AreCollected self.new.nodes sets.new track table.new }
+    {
+        let _ = sets.len();
+        let _ = self.len();
+        let Ok(list) = Vec::from_slice(self.alloc, roots) else {
+            return Err(StepFault::Memory);
+        };
+        self.collect_at(list, track, sets, &mut table.done)
+    }
+
+    /// What `bring` gives, over what earlier calls have noted for this map.
+    pub fn bring_with(
+        &mut self,
+        from: &Store,
+        root: Ref,
+        map: &[u32],
+        table: &mut PlaceTable,
+    ) -> Result<Ref, StepFault>
+        requires valid { IsValid from.now.nodes root }
+        requires renames { Renames from.now.nodes map.now root }
+        requires table { AreBrought from.now.nodes map.now self.old.nodes table.old }
+        ensures builds { Builds self.old self.new (RenamedLeaf from.now.nodes map.now root) ⊥ result }
+        ensures table { AreBrought from.now.nodes map.now self.new.nodes table.new }
+    {
+        let _ = self.len();
+        self.bring_at(from, root, map, &mut table.done)
+    }
+
+    /// What `relabel` gives, over what earlier calls have noted for this map.
+    pub fn relabel_with(
+        &mut self,
+        root: Ref,
+        map: &[u32],
+        table: &mut PlaceTable,
+    ) -> Result<Ref, StepFault>
+        requires valid { IsValid self.old.nodes root }
+        requires covers { CoversLeaves self.old.nodes map.now root }
+        requires table { AreRelabelled self.old.nodes map.now table.old }
+        ensures builds { Builds self.old self.new (MappedLeaf self.old.nodes map.now root) ⊥ result }
+        ensures table { AreRelabelled self.new.nodes map.now table.new }
+    {
+        let _ = self.len();
+        self.relabel_at(root, map, &mut table.done)
+    }
+}
