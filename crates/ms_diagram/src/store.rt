@@ -1,11 +1,11 @@
-ghost use Rattle.std.specs.Prelude.{◌≡◌, ◌≢◌, ◌⊎◌, ◌≤◌, ◌<◌, ◌↔◌, ℕ, [], ◌∷◌, ◌++◌, length, slice_get, if◌then◌else◌, IsTrue, IfOk, IfErr, OnErr, IsErrOf};
+ghost use Rattle.std.specs.Prelude.{◌≡◌, ◌≢◌, ◌⊎◌, ◌≤◌, ◌<◌, ◌↔◌, ℕ, [], ◌∷◌, ◌++◌, length, slice_get, if◌then◌else◌, IsTrue, IfOk, OnErr, IsErrOf};
 ghost use Rattle.ms_arena.specs.Diagram.{Bits, leaf_of, IsValid, SameFunction, TestsAbove};
 ghost use Rattle.ms_arena.specs.Reach.{IsTested};
 ghost use Rattle.ms_arena.specs.Target.{Appends, HoldsAt, IsFormed, IsNew};
 
-use indexmap::IndexSet;
 use ms_arena::{Node, Ref};
 use ms_edge::{NoMemory, StepFault};
+use ms_unique::Arena;
 use std::alloc::Global;
 use std::marker::Model;
 
@@ -13,7 +13,7 @@ use std::marker::Model;
 #[derive(Drop)]
 pub struct Store {
     pub(crate) alloc: Global,
-    nodes: IndexSet<Node>,
+    nodes: Arena,
     limit: u64,
 }
 
@@ -22,9 +22,9 @@ impl Model for Store {
 
     ghost Value = { Contents };
 
-    ghost view = { λ s. record { nodes = s.nodes.keys; limit = s.limit } };
+    ghost view = { λ s. record { nodes = s.nodes.nodes; limit = s.limit } };
 
-    ghost invariant = { λ s. IsStore s.nodes.keys s.limit };
+    ghost invariant = { λ s. IsStore s.nodes.nodes s.limit };
 }
 
 impl Store {
@@ -40,7 +40,7 @@ impl Store {
     {
         Store {
             alloc,
-            nodes: IndexSet::new(alloc),
+            nodes: Arena::new(alloc),
             limit,
         }
     }
@@ -57,7 +57,7 @@ impl Store {
         ensures len { result ≡ length self.now.nodes }
         ensures store { IsStore self.now.nodes self.now.limit }
     {
-        self.nodes.len() as u64
+        u64::from(self.nodes.len())
     }
 
     /// How many nodes the store may hold.
@@ -71,9 +71,7 @@ impl Store {
     pub fn copy(&self) -> Result<Store, NoMemory>
         ensures { IfOk result (λ made. made ≡ self.now) }
     {
-        let Ok(nodes) = self.nodes.clone() else {
-            return Err(NoMemory);
-        };
+        let nodes = self.nodes.copy()?;
         Ok(Store {
             alloc: self.alloc,
             nodes,
@@ -87,7 +85,7 @@ impl Store {
         ensures held { slice_get self.now.nodes place ≡ Some result }
         ensures store { IsStore self.now.nodes self.now.limit }
     {
-        self.nodes.as_slice()[place as usize]
+        self.nodes.get(place)
     }
 
     /// The leaf to which the bits lead.
@@ -147,44 +145,35 @@ impl Store {
         ensures only_full { OnNodes result (λ limit. (limit ≡ self.old.limit) × (low ≢ high)
             × IsNew self.old.nodes (record { var = var; low = low; high = high }) × (length self.old.nodes ≡ self.old.limit)) }
     {
-        let is_full = self.len() == self.limit;
+        let _ = &self.nodes;
         if low == high {
             return Ok(low);
         }
         let node = Node { var, low, high };
-        if is_full {
-            self.find(node)
-        } else {
-            self.insert(node)
+        match self.nodes.find(node) {
+            Some(place) => Ok(Ref::Inner(place)),
+            None => self.append(node),
         }
     }
 
-    // The reference to a node that is held; there is no room for another.
-    fn find(&self, node: Node) -> Result<Ref, StepFault>
-        ensures held { IfOk result (HoldsAt self.now.nodes node) }
-        ensures new { OnErr result (IsNew self.now.nodes node) }
-        ensures fault { IfErr result (λ fault. fault ≡ StepFault.Nodes self.now.limit) }
-    {
-        let Some(place) = self.nodes.get_index_of(&node) else {
-            return Err(StepFault::Nodes { limit: self.limit });
-        };
-        Ok(Ref::Inner(place as u32))
-    }
-
-    // The reference to the node, which is appended where it is new.
-    fn insert(&mut self, node: Node) -> Result<Ref, StepFault>
+    // Appends a new node, and gives the reference to it.
+    fn append(&mut self, node: Node) -> Result<Ref, StepFault>
         requires formed { IsFormed self.old.nodes node }
-        requires room { length self.old.nodes < self.old.limit }
+        requires new { IsNew self.old.nodes node }
         ensures held { IfOk result (HoldsAt self.new.nodes node) }
         ensures appends { Appends self.old.nodes self.new.nodes node }
         ensures refused { OnErr result (self.new.nodes ≡ self.old.nodes) }
-        ensures fault { IfErr result (λ fault. fault ≡ StepFault.Memory) }
         ensures limit { self.new.limit ≡ self.old.limit }
         ensures store { IsStore self.new.nodes self.new.limit }
+        ensures full { length self.old.nodes ≡ self.old.limit → IsErrOf result (StepFault.Nodes self.old.limit) }
+        ensures only_full { OnNodes result (λ limit. (limit ≡ self.old.limit) × (length self.old.nodes ≡ self.old.limit)) }
     {
-        let Ok((place, _)) = self.nodes.insert_full(node) else {
+        if self.len() == self.limit {
+            return Err(StepFault::Nodes { limit: self.limit });
+        }
+        if self.nodes.reserve(1).is_err() {
             return Err(StepFault::Memory);
-        };
-        Ok(Ref::Inner(place as u32))
+        }
+        Ok(Ref::Inner(self.nodes.push(node)))
     }
 }
