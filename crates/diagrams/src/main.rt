@@ -1,6 +1,7 @@
 //! What the calls on diagrams and automata answer, where no request shows it.
 #![tactic(auto)]
 
+mod arenas;
 mod automata;
 mod functions;
 mod numberings;
@@ -10,6 +11,7 @@ mod stores;
 use anyhow::Result;
 
 fn main(rt: HostRuntime) -> Result<()> {
+    arenas::tell(&rt)?;
     numberings::tell(&rt)?;
     stores::tell(&rt)?;
     plains::tell(&rt)?;

@@ -6,7 +6,7 @@ use ms_diagram::{Pairs, Sets, Store};
 use ms_edge::StepFault;
 
 /// How many variables a long path has.
-const LONG: u32 = 10_000;
+const LONG: u32 = 65_534;
 
 pub fn tell(rt: &HostRuntime) -> Result<()> {
     println!(rt; "Stores")?;
@@ -19,6 +19,7 @@ pub fn tell(rt: &HostRuntime) -> Result<()> {
     sets_at_bits(rt)?;
     leaves_at_bits(rt)?;
     shared(rt)?;
+    memo(rt)?;
     println!(rt; "Paths of {LONG} variables")?;
     paired_path(rt)?;
     collected_path(rt)?;
@@ -162,18 +163,42 @@ fn shared(rt: &HostRuntime) -> Result<()> {
     Ok(())
 }
 
+/// In the pair of the parity of 200 bits with itself, 396 of 795 pairs of nodes are seen again. A call knows nothing of
+/// the calls before it.
+fn memo(rt: &HostRuntime) -> Result<()> {
+    let mut store = Store::new(rt.alloc(), 1000);
+    let odd = parity(&mut store, 200)?;
+    let mut pairs = Pairs::new(rt.alloc());
+    print_hits(rt, &store)?;
+    let _same = store.apply(odd, odd, &mut pairs)?;
+    print_hits(rt, &store)?;
+    let _same = store.apply(odd, odd, &mut pairs)?;
+    print_hits(rt, &store)?;
+    print_hits(rt, &store.copy()?)
+}
+
+fn print_hits(rt: &HostRuntime, store: &Store) -> Result<()> {
+    println!(rt; "hits of the memo: {}", store.hits())?;
+    Ok(())
+}
+
 fn paired_path(rt: &HostRuntime) -> Result<()> {
-    let mut store = Store::new(rt.alloc(), 100_000);
+    let mut store = Store::new(rt.alloc(), 1_000_000);
     let odd = parity(&mut store, LONG)?;
     let mut pairs = Pairs::new(rt.alloc());
     let same = store.apply(odd, odd, &mut pairs)?;
     let leaves = store.leaves_in_order(same)?;
-    println!(rt; "paired with itself, leaves {:?}", leaves.slice())?;
+    println!(rt;
+        "paired with itself: {} nodes, {} pairs, leaves {:?}",
+        store.len(),
+        pairs.len(),
+        leaves.slice()
+    )?;
     Ok(())
 }
 
 fn collected_path(rt: &HostRuntime) -> Result<()> {
-    let mut store = Store::new(rt.alloc(), 100_000);
+    let mut store = Store::new(rt.alloc(), 1_000_000);
     let odd = parity(&mut store, LONG)?;
     let mut sets = Sets::new(rt.alloc());
     let _sets = store.collect(&[odd], LONG, &mut sets)?;
@@ -182,7 +207,7 @@ fn collected_path(rt: &HostRuntime) -> Result<()> {
 }
 
 fn relabelled_path(rt: &HostRuntime) -> Result<()> {
-    let mut store = Store::new(rt.alloc(), 100_000);
+    let mut store = Store::new(rt.alloc(), 1_000_000);
     let odd = parity(&mut store, LONG)?;
     let _renamed = store.relabel(odd, &[9, 7])?;
     println!(rt; "relabelled: {} nodes", store.len())?;
@@ -190,10 +215,10 @@ fn relabelled_path(rt: &HostRuntime) -> Result<()> {
 }
 
 fn brought_path(rt: &HostRuntime) -> Result<()> {
-    let mut store = Store::new(rt.alloc(), 100_000);
+    let mut store = Store::new(rt.alloc(), 1_000_000);
     let root = chain(&mut store, LONG)?;
     let map = identity(rt.alloc(), LONG)?;
-    let mut other = Store::new(rt.alloc(), 100_000);
+    let mut other = Store::new(rt.alloc(), 1_000_000);
     let _brought = other.bring(&store, root, map.slice())?;
     println!(rt; "brought: {} nodes", other.len())?;
     Ok(())

@@ -1,5 +1,5 @@
 -- The pair of two functions' leaves, split at a variable.
-use Rattle.std.proofs.Common.{◌≡◌, ℕ, ◌+◌, ◌<◌, ◌⊎◌, min, Bool, true, false, List, length, slice_get, Some, Result, Ok, Err, IfOk, sym, ap, subst, ◌∙◌, inl, inr, ⊎_elim, arith}
+use Rattle.std.proofs.Common.{◌≡◌, ℕ, ◌<◌, ◌⊎◌, min, Bool, true, false, List, length, slice_get, Some, Result, Ok, Err, IfOk, sym, ap, subst, ◌∙◌, inl, inr, ⊎_elim, arith}
 use Rattle.std.proofs.lemmas.Bool.{cases_lt}
 use Rattle.ms_edge.specs.declared.fault.StepFault.{StepFault}
 use Rattle.ms_edge.specs.declared.fault.StepFault.TheVariants.{Nodes, Memory}
@@ -8,18 +8,21 @@ use Rattle.ms_arena.specs.declared.node.Ref.TheVariants.{Leaf, Inner}
 use Rattle.ms_arena.specs.declared.node.Node.{Node}
 use Rattle.ms_arena.specs.Diagram.{Bits, leaf_of, IsValid, IsOrdered}
 use Rattle.ms_arena.specs.Bits.{with_bit, AgreeAbove}
-use Rattle.ms_arena.specs.Halves.{half_of, TestsFrom, TestsAt, level_of, size_of}
+use Rattle.ms_arena.specs.Halves.{half_of, TestsFrom, TestsAt, level_of}
 use Rattle.ms_arena.specs.Target.{Extends}
 use Rattle.ms_arena.proofs.Canonicity.{leaf_of-above}
-use Rattle.ms_arena.proofs.Appending.{IsValid-extends, TestsAbove-extends, leaf_of-extends, slice_get-extends}
-use Rattle.ms_arena.proofs.HalvesLemmas.{IsValid-half, TestsAbove-half, leaf_of-half, TestsAt-level, size_of-half, size_of-half_below}
+use Rattle.ms_arena.proofs.Appending.{IsValid-extends, TestsAbove-extends, leaf_of-extends}
+use Rattle.ms_arena.proofs.HalvesLemmas.{IsValid-half, TestsAbove-half, leaf_of-half, TestsAt-level}
 use Rattle.ms_arena.proofs.Needs.{Implies, IsPart}
 use Rattle.ms_arena.proofs.Paths.{leaf_of-leaf}
 use Rattle.ms_diagram.specs.Growth.{OnNodes, IsFull, Builds}
 use Rattle.ms_diagram.specs.Store.{Contents, IsStore}
-use Rattle.ms_diagram.proofs.Building.{Grows-same, Builds-found}
+use Rattle.ms_diagram.proofs.Building.{Grows-same, Builds-found, IsPart-implies}
 use Rattle.ms_diagram.specs.Numbering.{HasNoRepeats, IsMissing, IsLeafOf}
-use Rattle.ms_diagram.specs.Apply.{leaves_at, HasLeaves, PairNumber, LacksPair, IsPaired, IsPairBranch}
+use Rattle.ms_diagram.specs.Adding.{AddsOnly-implies}
+use Rattle.ms_diagram.specs.Applying.{applying, leaves_later, leaves_later_has}
+use Rattle.ms_diagram.specs.Walk.{OnFault, IsSplit}
+use Rattle.ms_diagram.specs.Apply.{leaves_at, HasLeaves, PairNumber, LacksPair, IsPairBranch}
 
 module _ (old new : List Node) (ordered : IsOrdered old) (ordered_new : IsOrdered new) (extends : Extends old new) (var : ℕ) (bit : Bool) (root : Ref)
     (valid : IsValid old root) (from : TestsFrom old var root) where
@@ -64,25 +67,6 @@ module _ (old new : List Node) (ordered : IsOrdered old) (ordered_new : IsOrdere
   pub HasLeaves-part : (pair : ℕ × ℕ) → HasLeaves new (half_of old var bit f) (half_of old var bit g) pair → HasLeaves old f g pair
   HasLeaves-part pair has = (with_bit has.0 var bit, sym (halves_leaves has.0) ∙ has.1)
 
--- more pairs leave the numbers of the old ones
-pub PairNumber-more : (nodes : List Node) (pairs more : List (ℕ × ℕ)) → Extends pairs more → (f g : Ref) → Implies (PairNumber nodes pairs f g) (PairNumber nodes more f g)
-PairNumber-more nodes pairs more extends f g bits number there = slice_get-extends pairs more extends number (leaves_at nodes f g bits) there
-
-module _ (old new : List Node) (ordered : IsOrdered old) (extends : Extends old new) (pairs more : List (ℕ × ℕ)) (further : Extends pairs more) where
-  -- an entry of the table stays right while the store and the numbering grow
-  pub IsPaired-grows : (key : Ref × Ref) (made : Ref) → IsPaired old pairs key made → IsPaired new more key made
-  IsPaired-grows key made is = record {
-    valid_f = IsValid-extends old new extends key.0 is.valid_f;
-    valid_g = IsValid-extends old new extends key.1 is.valid_g;
-    valid = IsValid-extends old new extends made is.valid;
-    meets = λ bits.
-        let left = leaf_of-extends old new extends ordered key.0 bits is.valid_f in
-        let right = leaf_of-extends old new extends ordered key.1 bits is.valid_g in
-        ap (slice_get more) (leaf_of-extends old new extends ordered made bits is.valid)
-        ∙ slice_get-extends pairs more further (leaf_of old made bits) (leaves_at old key.0 key.1 bits) (is.meets bits)
-        ∙ (λ i. Some (sym left i, sym right i));
-  }
-
 -- the least level of two references, of which one is no leaf, is a variable that one of them tests
 pub tested_at_least : (nodes : List Node) (f g : Ref) (var : ℕ) → IsValid nodes f → IsValid nodes g → var ≡ min (level_of nodes f) (level_of nodes g) → var < 4294967296
     → TestsAt nodes var f ⊎ TestsAt nodes var g
@@ -99,28 +83,12 @@ module _ (nodes : List Node) (ordered : IsOrdered nodes) (f g : Ref) (var : ℕ)
       subst (λ (p : Ref × Ref). IsValid nodes p.0 × IsValid nodes p.1) (sym is)
       (IsValid-half nodes ordered var bit f valid_f branch.from_f, IsValid-half nodes ordered var bit g valid_g branch.from_g)
 
-  halves_smaller : (bit : Bool) (pair : Ref × Ref) → pair ≡ (half_of nodes var bit f, half_of nodes var bit g) → size_of pair.0 + size_of pair.1 < size_of f + size_of g
-  halves_smaller bit pair is =
-      subst (λ (p : Ref × Ref). size_of p.0 + size_of p.1 < size_of f + size_of g) (sym is)
-      (let less_f = size_of-half nodes ordered var bit f valid_f branch.from_f in
-      let less_g = size_of-half nodes ordered var bit g valid_g branch.from_g in
-      ⊎_elim
-      (λ tests. let below = size_of-half_below nodes ordered var bit f valid_f branch.from_f tests in omega arith)
-      (λ tests. let below = size_of-half_below nodes ordered var bit g valid_g branch.from_g tests in omega arith)
-      branch.tested)
-
-  -- both pairs of halves are valid and smaller
+  -- both pairs of halves are valid
   pub valid_lows : IsValid nodes low.0 × IsValid nodes low.1
   valid_lows = halves_valid false low branch.low_is
 
   pub valid_highs : IsValid nodes high.0 × IsValid nodes high.1
   valid_highs = halves_valid true high branch.high_is
-
-  pub smaller_lows : size_of low.0 + size_of low.1 < size_of f + size_of g
-  smaller_lows = halves_smaller false low branch.low_is
-
-  pub smaller_highs : size_of high.0 + size_of high.1 < size_of f + size_of g
-  smaller_highs = halves_smaller true high branch.high_is
 
   module _ (new : List Node) (ordered_new : IsOrdered new) (extends : Extends nodes new) (pairs : List (ℕ × ℕ)) where
     -- they have the parts of the target
@@ -197,15 +165,38 @@ Builds-leaf store pairs left right f g result is left_is right_is made nodes =
         lacks Memory full = tt
         lacks (Nodes n) full = (full.0, inr (full.1, ((λ _. false), subst (λ pair. IsMissing pairs pair) (sym (leaves (λ _. false))) full.2)))
 
--- what is built is a right entry of the table
-pub IsPaired-built : (old new : Contents) (pairs : List (ℕ × ℕ)) (f g made : Ref) (lacks : Type 0) → IsValid old.nodes f → IsValid old.nodes g
-    → Builds old new (PairNumber old.nodes pairs f g) lacks (Ok made) → IsPaired new.nodes pairs (f, g) made
-IsPaired-built old new pairs f g made lacks valid_f valid_g builds = record {
-  valid_f = IsValid-extends old.nodes new.nodes builds.grows.extends f valid_f;
-  valid_g = IsValid-extends old.nodes new.nodes builds.grows.extends g valid_g;
-  valid = builds.valid;
-  meets = λ bits.
-      let left = builds.grows.kept f valid_f bits in
-      let right = builds.grows.kept g valid_g bits in
-      builds.function bits ∙ (λ i. Some (sym left i, sym right i));
-}
+-- where their pair has no number, they lack one
+pub leaves_lack : (nodes : List Node) (pairs : List (ℕ × ℕ)) (left right limit : ℕ) (f g : Ref) (fault : StepFault) → f ≡ Leaf left → g ≡ Leaf right
+    → OnNodes (Err fault) (λ most. (most ≡ limit) × (length pairs ≡ 4294967295) × IsMissing pairs (left, right))
+    → OnFault fault (λ most. (most ≡ limit) × LacksPair nodes pairs f g)
+leaves_lack nodes pairs left right limit f g Memory left_is right_is given = tt
+leaves_lack nodes pairs left right limit f g (Nodes most) left_is right_is given =
+    let has = HasLeaves-leaf nodes left right f g left_is right_is in
+    (given.0, (given.1, (has.0, subst (λ pair. IsMissing pairs pair) (sym has.1) given.2)))
+
+-- the halves of two references, as the walk goes on
+pub applying_split : (pairs : List (ℕ × ℕ)) (nodes : List Node) → IsOrdered nodes → (item : Ref × Ref) → IsValid nodes item.0 × IsValid nodes item.1 → (var : ℕ) (low high : Ref × Ref)
+    → IsPairBranch nodes item.0 item.1 var low high → IsSplit applying pairs nodes item var low high
+applying_split pairs nodes ordered item valid var low high branch late new follows =
+    let f = item.0 in
+    let g = item.1 in
+    let lows = valid_lows nodes ordered f g var low high valid.0 valid.1 branch in
+    let highs = valid_highs nodes ordered f g var low high valid.0 valid.1 branch in
+    let same = leaves_later nodes new ordered follows.extends item valid in
+    let implies : Implies (PairNumber nodes late f g) (PairNumber new late f g) = λ bits number there. there ∙ ap Some (sym (same bits)) in
+    let lacks : LacksPair nodes late f g → LacksPair new late f g = λ lacks. (lacks.0, (lacks.1.0, subst (λ pair. IsMissing late pair) (sym (same lacks.1.0)) lacks.1.1)) in
+    let has = leaves_later_has nodes new ordered follows.extends item valid in
+    record {
+      low_fits = (IsValid-extends nodes new follows.extends low.0 lows.0, IsValid-extends nodes new follows.extends low.1 lows.1);
+      high_fits = (IsValid-extends nodes new follows.extends high.0 highs.0, IsValid-extends nodes new follows.extends high.1 highs.1);
+      low_is = IsPart-implies (PairNumber nodes late f g) (PairNumber new late f g) (PairNumber new late low.0 low.1) var false implies
+          (lows_part nodes ordered f g var low high valid.0 valid.1 branch new follows.ordered follows.extends late follows.right.no_repeats);
+      high_is = IsPart-implies (PairNumber nodes late f g) (PairNumber new late f g) (PairNumber new late high.0 high.1) var true implies
+          (highs_part nodes ordered f g var low high valid.0 valid.1 branch new follows.ordered follows.extends late follows.right.no_repeats);
+      low_lacks = λ lack. lacks (lows_lack nodes ordered f g var low high valid.0 valid.1 branch new follows.ordered follows.extends late lack);
+      high_lacks = λ lack. lacks (highs_lack nodes ordered f g var low high valid.0 valid.1 branch new follows.ordered follows.extends late lack);
+      low_adds = λ before after. AddsOnly-implies (HasLeaves new low.0 low.1) (HasLeaves new f g) before after
+          (λ pair own. has pair (lows_leaves nodes ordered f g var low high valid.0 valid.1 branch new follows.ordered follows.extends late pair own));
+      high_adds = λ before after. AddsOnly-implies (HasLeaves new high.0 high.1) (HasLeaves new f g) before after
+          (λ pair own. has pair (highs_leaves nodes ordered f g var low high valid.0 valid.1 branch new follows.ordered follows.extends late pair own));
+    }

@@ -6,7 +6,7 @@ use Rattle.ms_edge.specs.declared.fault.StepFault.TheVariants.{Nodes, Memory}
 use Rattle.ms_arena.specs.declared.node.Ref.{Ref}
 use Rattle.ms_arena.specs.declared.node.Node.{Node}
 use Rattle.ms_arena.specs.Diagram.{Bits, end_at, leaf_of, IsValid, TestsAbove}
-use Rattle.ms_arena.specs.Bits.{below_from}
+use Rattle.ms_arena.specs.Bits.{below_from, with_bit}
 use Rattle.ms_arena.specs.Target.{Target, Meets, IsNeeded, Extends, Appends, IsNew, LacksNeeded}
 use Rattle.ms_arena.proofs.Appending.{Extends-same, Extends-further, Extends-from_appends, IsValid-extends, leaf_of-extends}
 use Rattle.ms_arena.proofs.Needs.{Implies, IsPart, Ends, Meets-extends, AddsNeeded-none, AddsNeeded-then, AddsNeeded-part, LacksNeeded-part, AddsNeeded-ends, Meets-ends, IsFormed-ends, IsNeeded-ends, TestsAbove-low, TestsAbove-high}
@@ -49,6 +49,14 @@ Grows-then one two three early late store implies first second =
       limit = second.limit ∙ first.limit;
       store = second.store;
     }
+
+-- a part of a target is one of what the target implies
+pub IsPart-implies : (strong weak part : Target) (var : ℕ) (bit : Bool) → Implies strong weak → IsPart strong part var bit → IsPart weak part var bit
+IsPart-implies strong weak part var bit implies is = record {
+  fixes = λ bits number there. implies (with_bit bits var bit) number (is.fixes bits number there);
+  single = is.single;
+  blind = is.blind;
+}
 
 -- a target that the store cannot hold for want of a node that a part needs
 pub IsFull-part : (store : Contents) (whole part : Target) (var : ℕ) (bit : Bool) → IsStore store.nodes store.limit → IsPart whole part var bit

@@ -9,13 +9,15 @@ use Rattle.ms_arena.specs.Diagram.{Bits, leaf_of, IsValid, IsOrdered}
 use Rattle.ms_arena.specs.Bits.{with_bit, AgreeAbove}
 use Rattle.ms_arena.specs.Halves.{half_of, TestsFrom, IsLeaf}
 use Rattle.ms_arena.specs.Target.{Extends}
-use Rattle.ms_arena.proofs.Appending.{IsValid-extends, leaf_of-extends, slice_get-extends}
+use Rattle.ms_arena.proofs.Appending.{IsValid-extends}
 use Rattle.ms_arena.proofs.BitsLemmas.{with_bit-swap, with_bit-twice, AgreeAbove-both}
 use Rattle.ms_arena.proofs.HalvesLemmas.{leaf_of-half}
 use Rattle.ms_arena.proofs.Needs.{Implies, IsPart}
 use Rattle.ms_arena.proofs.Paths.{leaf_of-leaf}
 use Rattle.ms_diagram.specs.Collect.{IsLeafThere, IsRisingSet, HasLeafSet, SetNumber, LacksSet, IsCollected, AreHalves, AreBothHalves, IsSetOf, IsSetLeaf, IsSetMissing, leaf_values}
+use Rattle.ms_diagram.specs.Collecting.{All-member, IsLeafThere-before, IsLeafThere-later, IsRisingSet-same}
 use Rattle.ms_diagram.specs.Growth.{OnNodes, IsFull, Builds}
+use Rattle.ms_diagram.specs.Walk.{OnFault}
 use Rattle.ms_diagram.specs.Numbering.{HasNoRepeats}
 use Rattle.ms_diagram.specs.Store.{Contents, IsStore}
 use Rattle.ms_diagram.proofs.ApplyLemmas.{half_leaf, half_blind}
@@ -23,16 +25,19 @@ use Rattle.ms_diagram.proofs.Building.{Grows-same, Builds-found}
 use Rattle.ms_diagram.proofs.ListLemmas.{same_rising}
 use Rattle.ms_diagram.proofs.RootLemmas.{Contains-leaf_values, Contains-from_leaf_values}
 
--- what holds of each item holds of one that is there
-pub All-member : {X : Type 0} (fact : X → Type 0) (xs : List X) (item : X) → All fact xs → Contains xs item → fact item
-All-member fact xs item all there = subst fact there.2 (all there.0 item there.1)
-
--- a rising set of the same numbers, said in another way
-pub IsRisingSet-same : (set : List ℕ) (one two : ℕ → Type 0) → ((item : ℕ) → one item → two item) → ((item : ℕ) → two item → one item) → IsRisingSet set one → IsRisingSet set two
-IsRisingSet-same set one two there back is = record {
-  rising = is.rising;
-  all = λ item member. is.all item (back item member);
-  only = λ item held. there item (is.only item held);
+-- what is built is a right answer to the roots
+pub IsCollected-built : (old new : Contents) (sets : List (List ℕ)) (track : ℕ) (roots : List Ref) (made : Ref) (lacks : Type 0) → All (IsValid old.nodes) roots
+    → Builds old new (SetNumber old.nodes sets roots track) lacks (Ok made) → IsCollected new.nodes sets track roots made
+IsCollected-built old new sets track roots made lacks valid builds = record {
+  valid_roots = λ k d within. IsValid-extends old.nodes new.nodes builds.grows.extends (get_or roots k d) (valid k d within);
+  valid = builds.valid;
+  meets = λ bits.
+      let met = builds.function bits in (
+        met.0,
+        met.1,
+        IsRisingSet-same met.0 (IsLeafThere old.nodes roots track bits) (IsLeafThere new.nodes roots track bits)
+            (IsLeafThere-later old.nodes new.nodes builds.grows.kept roots valid track bits) (IsLeafThere-before old.nodes new.nodes builds.grows.kept roots valid track bits) met.2,
+      );
 }
 
 -- two rising sets of the same numbers have one number
@@ -139,50 +144,6 @@ module _ (nodes : List Node) (ordered : IsOrdered nodes) (sets : List (List ℕ)
   pub HasLeafSet-both : (set : List ℕ) → HasLeafSet nodes halves track set → HasLeafSet nodes roots track set
   HasLeafSet-both set has = (has.0, IsRisingSet-same set (IsLeafThere nodes halves track has.0) (IsLeafThere nodes roots track has.0) (from_both has.0) (to_both has.0) has.1)
 
--- more sets leave the numbers of the old ones
-pub SetNumber-more : (nodes : List Node) (sets more : List (List ℕ)) → Extends sets more → (roots : List Ref) (track : ℕ) → Implies (SetNumber nodes sets roots track) (SetNumber nodes more roots track)
-SetNumber-more nodes sets more extends roots track bits number is = (is.0, slice_get-extends sets more extends number is.0 is.1, is.2)
-
-module _ (old new : List Node) (kept : (root : Ref) → IsValid old root → (bits : Bits) → leaf_of new root bits ≡ leaf_of old root bits) (roots : List Ref) (valid : All (IsValid old) roots) (track : ℕ) where
-  -- the leaves of valid roots stay while the store grows
-  pub IsLeafThere-later : (bits : Bits) (leaf : ℕ) → IsLeafThere old roots track bits leaf → IsLeafThere new roots track bits leaf
-  IsLeafThere-later bits leaf there = (there.0, there.1, there.2, kept there.0 (All-member (IsValid old) roots there.0 valid there.2) (with_bit bits track there.1) ∙ there.3)
-
-  pub IsLeafThere-before : (bits : Bits) (leaf : ℕ) → IsLeafThere new roots track bits leaf → IsLeafThere old roots track bits leaf
-  IsLeafThere-before bits leaf there = (there.0, there.1, there.2, sym (kept there.0 (All-member (IsValid old) roots there.0 valid there.2) (with_bit bits track there.1)) ∙ there.3)
-
--- an entry of the table stays right while the store and the numbering grow
-pub IsCollected-grows : (old new : List Node) → IsOrdered old → Extends old new → (sets more : List (List ℕ)) → Extends sets more → (track : ℕ) (roots : List Ref) (made : Ref)
-    → IsCollected old sets track roots made → IsCollected new more track roots made
-IsCollected-grows old new ordered extends sets more further track roots made is =
-    let kept : (root : Ref) → IsValid old root → (bits : Bits) → leaf_of new root bits ≡ leaf_of old root bits = λ root valid bits. leaf_of-extends old new extends ordered root bits valid in
-    record {
-      valid_roots = λ k d within. IsValid-extends old new extends (get_or roots k d) (is.valid_roots k d within);
-      valid = IsValid-extends old new extends made is.valid;
-      meets = λ bits.
-          let met = is.meets bits in (
-            met.0,
-            ap (slice_get more) (leaf_of-extends old new extends ordered made bits is.valid) ∙ slice_get-extends sets more further (leaf_of old made bits) met.0 met.1,
-            IsRisingSet-same met.0 (IsLeafThere old roots track bits) (IsLeafThere new roots track bits)
-                (IsLeafThere-later old new kept roots is.valid_roots track bits) (IsLeafThere-before old new kept roots is.valid_roots track bits) met.2,
-          );
-    }
-
--- what is built is a right entry
-pub IsCollected-built : (old new : Contents) (sets : List (List ℕ)) (track : ℕ) (roots : List Ref) (made : Ref) (lacks : Type 0) → All (IsValid old.nodes) roots
-    → Builds old new (SetNumber old.nodes sets roots track) lacks (Ok made) → IsCollected new.nodes sets track roots made
-IsCollected-built old new sets track roots made lacks valid builds = record {
-  valid_roots = λ k d within. IsValid-extends old.nodes new.nodes builds.grows.extends (get_or roots k d) (valid k d within);
-  valid = builds.valid;
-  meets = λ bits.
-      let met = builds.function bits in (
-        met.0,
-        met.1,
-        IsRisingSet-same met.0 (IsLeafThere old.nodes roots track bits) (IsLeafThere new.nodes roots track bits)
-            (IsLeafThere-later old.nodes new.nodes builds.grows.kept roots valid track bits) (IsLeafThere-before old.nodes new.nodes builds.grows.kept roots valid track bits) met.2,
-      );
-}
-
 module _ (store : Contents) (is : IsStore store.nodes store.limit) (sets : List (List ℕ)) (track : ℕ) (roots : List Ref) (leaves : All IsLeaf roots) where
   -- where all roots are leaves, their set is the same at all bits
   leaf_members : (bits : Bits) (set : List ℕ) → IsSetOf (leaf_values roots) set → IsRisingSet set (IsLeafThere store.nodes roots track bits)
@@ -198,6 +159,19 @@ module _ (store : Contents) (is : IsStore store.nodes store.limit) (sets : List 
 
   pub HasLeafSet-leaves : (set : List ℕ) → IsSetOf (leaf_values roots) set → HasLeafSet store.nodes roots track set
   HasLeafSet-leaves set set_is = ((λ _. false), leaf_members (λ _. false) set set_is)
+
+  leaves_lack : IsSetMissing sets (leaf_values roots) → LacksSet store.nodes sets roots track
+  leaves_lack missing = (
+    missing.0,
+    (
+      (λ _. false),
+      λ number set held set_is.
+          let whole = leaf_members (λ _. false) missing.1.0 missing.1.1 in
+          let same : set ≡ missing.1.0 = same_rising set missing.1.0 set_is.rising whole.rising
+          (λ item there. whole.all item (set_is.only item there)) (λ item there. set_is.all item (whole.only item there)) in
+          missing.1.2 number (held ∙ ap Some same),
+    ),
+  )
 
   pub Builds-set_leaf : (result : Result Ref StepFault) → IfOk result (IsSetLeaf sets (leaf_values roots))
       → OnNodes result (λ limit. (limit ≡ store.limit) × IsSetMissing sets (leaf_values roots))
@@ -216,17 +190,10 @@ module _ (store : Contents) (is : IsStore store.nodes store.limit) (sets : List 
       lacks : (f : StepFault) → OnNodes (Err f) (λ limit. (limit ≡ store.limit) × IsSetMissing sets (leaf_values roots))
           → OnNodes (Err f) (λ limit. (limit ≡ store.limit) × (IsFull store (SetNumber store.nodes sets roots track) ⊎ LacksSet store.nodes sets roots track))
       lacks Memory full = tt
-      lacks (Nodes n) full = (
-        full.0,
-        inr (
-          full.1.0,
-          (
-            (λ _. false),
-            λ number set held set_is.
-                let whole = leaf_members (λ _. false) full.1.1.0 full.1.1.1 in
-                let same : set ≡ full.1.1.0 = same_rising set full.1.1.0 set_is.rising whole.rising
-                (λ item there. whole.all item (set_is.only item there)) (λ item there. set_is.all item (whole.only item there)) in
-                full.1.1.2 number (held ∙ ap Some same),
-          ),
-        ),
-      )
+      lacks (Nodes n) full = (full.0, inr (leaves_lack full.1))
+
+  -- where their set has no number, they lack one
+  pub set_lacks : (fault : StepFault) → OnNodes (Err fault) (λ limit. (limit ≡ store.limit) × IsSetMissing sets (leaf_values roots))
+      → OnFault fault (λ limit. (limit ≡ store.limit) × LacksSet store.nodes sets roots track)
+  set_lacks Memory full = tt
+  set_lacks (Nodes n) full = (full.0, leaves_lack full.1)

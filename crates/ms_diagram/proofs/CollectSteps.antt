@@ -1,5 +1,5 @@
--- The steps of `collect` at a list of roots that is split: each refusal, and the node over both answers.
-use Rattle.std.proofs.Common.{◌≡◌, ◌≢◌, ℕ, ◌-◌, ◌<◌, ◌≤◌, Bool, true, false, List, get_or, Result, Ok, Err, All, Contains, sym, subst, arith}
+-- The steps of `collect` at a list of roots: its halves, and at the track both halves together.
+use Rattle.std.proofs.Common.{◌≡◌, ◌≢◌, ℕ, ◌<◌, ◌≤◌, Bool, true, false, List, get_or, Result, All, Contains, sym, subst, ◌∙◌, arith}
 use Rattle.std.proofs.lemmas.List.Elements.{Contains-get_or}
 use Rattle.ms_edge.specs.declared.fault.StepFault.{StepFault}
 use Rattle.ms_arena.specs.declared.node.Ref.{Ref}
@@ -7,17 +7,20 @@ use Rattle.ms_arena.specs.declared.node.Node.{Node}
 use Rattle.ms_arena.specs.Diagram.{IsValid, TestsAbove}
 use Rattle.ms_arena.specs.Halves.{half_of, TestsFrom}
 use Rattle.ms_arena.specs.Target.{Extends}
-use Rattle.ms_arena.proofs.Appending.{Extends-same, IsValid-extends, TestsAbove-extends}
-use Rattle.ms_arena.proofs.HalvesLemmas.{IsValid-half, TestsAbove-half, TestsFrom-level, level_of-above}
+use Rattle.ms_arena.proofs.Appending.{Extends-same, IsValid-extends}
+use Rattle.ms_arena.proofs.HalvesLemmas.{IsValid-half, TestsAbove-half, TestsFrom-level}
 use Rattle.ms_arena.proofs.Needs.{IsPart}
-use Rattle.ms_diagram.specs.Collect.{HasLeafSet, SetNumber, LacksSet, AreHalves, AreBothHalves, IsSetNumbering, least_level}
+use Rattle.ms_diagram.specs.Adding.{AddsOnly-implies}
+use Rattle.ms_diagram.specs.Collecting.{collecting, All-member, SetNumber-later, SetNumber-before, LacksSet-later, LacksSet-before, HasLeafSet-later, HasLeafSet-before}
+use Rattle.ms_diagram.specs.Table.{EachEntry}
+use Rattle.ms_diagram.specs.Walk.{Follows, IsSplit, StandsFor, IsWalked}
+use Rattle.ms_diagram.specs.Collect.{HasLeafSet, IsCollected, SetNumber, LacksSet, AreHalves, AreBothHalves, least_level}
 use Rattle.ms_diagram.specs.Growth.{Builds}
 use Rattle.ms_diagram.specs.Numbering.{AddsOnly}
 use Rattle.ms_diagram.specs.Store.{Contents, IsStore}
-use Rattle.ms_diagram.proofs.Building.{Makes, Builds-part, Builds-implies, Builds-high_refused, TestsAbove-low_built, TestsAbove-high_built, Builds-node}
-use Rattle.ms_diagram.proofs.CollectLemmas.{All-member, SetNumber-part, SetNumber-more, SetNumber-both, LacksSet-part, LacksSet-both, HasLeafSet-part, HasLeafSet-both}
-use Rattle.ms_diagram.proofs.NumberingLemmas.{AddsOnly-implies, AddsOnly-then}
-use Rattle.ms_diagram.proofs.RootLemmas.{least_level-each, least_level-above}
+use Rattle.ms_diagram.proofs.Building.{Builds-implies, IsPart-implies}
+use Rattle.ms_diagram.proofs.CollectLemmas.{SetNumber-part, SetNumber-both, LacksSet-part, LacksSet-both, HasLeafSet-part, HasLeafSet-both}
+use Rattle.ms_diagram.proofs.RootLemmas.{least_level-each}
 
 -- a level that is none of a leaf is a variable
 pub below_leaves : (level : ℕ) → level ≤ 4294967296 → level ≢ 4294967296 → level < 4294967296
@@ -48,97 +51,101 @@ module _ (zero : Contents) (store : IsStore zero.nodes zero.limit) (track : ℕ)
         let half = get_or halves k d in
         IsValid-extends zero.nodes new extends half (half_valid half (Contains-get_or halves k d within))
 
-    -- and of a later level
-    pub halves_smaller : 4294967296 - least_level new halves < 4294967296 - least_level zero.nodes roots
-    halves_smaller =
-        let above = least_level-above new var halves small (λ half there.
-        level_of-above new var half small (IsValid-extends zero.nodes new extends half (half_valid half there))
-        (TestsAbove-extends zero.nodes new extends var half (half_valid half there) (half_above half there))) in
-        omega arith
+-- the halves of the roots, as the walk goes on
+module _ {S N I : Type 0} (track_of : S → ℕ) (sets_of : S → List (List ℕ)) (name_of : S → N) (roots_of : I → List Ref) (state : S) (zero : Contents)
+    (store : IsStore zero.nodes zero.limit) (item : I) (valid : All (IsValid zero.nodes) (roots_of item)) (var : ℕ) (least : var ≡ least_level zero.nodes (roots_of item))
+    (small : var < 4294967296) where
+  from_item : (root : Ref) → Contains (roots_of item) root → TestsFrom zero.nodes var root
+  from_item = from_least zero store (track_of state) (roots_of item) valid var least small
 
-  -- at the track both halves have the target of the roots
-  pub Builds-track : var ≡ track → (both : List Ref) → AreBothHalves zero.nodes var roots both → (one : Contents) (sets : List (List ℕ)) (result : Result Ref StepFault)
-      → Builds zero one (SetNumber zero.nodes sets both track) (LacksSet zero.nodes sets both track) result
-      → Builds zero one (SetNumber zero.nodes sets roots track) (LacksSet zero.nodes sets roots track) result
-  Builds-track same both are one sets result =
-      let from = subst (λ v. (root : Ref) → Contains roots root → TestsFrom zero.nodes v root) same from_least in
-      let are_both = subst (λ v. AreBothHalves zero.nodes v roots both) same are in
-      Builds-implies zero one (SetNumber zero.nodes sets both track) (SetNumber zero.nodes sets roots track) (LacksSet zero.nodes sets both track) (LacksSet zero.nodes sets roots track)
-      (SetNumber-both zero.nodes store.ordered sets track roots both valid from are_both)
-      (LacksSet-both zero.nodes store.ordered sets track roots both valid from are_both) result
+  module _ (late : S) (new : List Node) (follows : Follows (collecting track_of sets_of name_of roots_of) state zero.nodes late new) (bit : Bool) (half : I)
+      (are : AreHalves zero.nodes var bit (roots_of item) (roots_of half)) (apart : var ≢ track_of state) where
+    apart_late : track_of late ≢ var
+    apart_late same = apart (sym (sym follows.later.0 ∙ same))
 
-  -- and the sets of their leaves are sets of leaves of the roots
-  pub added_track : var ≡ track → (both : List Ref) → AreBothHalves zero.nodes var roots both → (before sets : List (List ℕ))
-      → AddsOnly (HasLeafSet zero.nodes both track) before sets → AddsOnly (HasLeafSet zero.nodes roots track) before sets
-  added_track same both are before sets =
-      let from = subst (λ v. (root : Ref) → Contains roots root → TestsFrom zero.nodes v root) same from_least in
-      let are_both = subst (λ v. AreBothHalves zero.nodes v roots both) same are in
-      AddsOnly-implies (HasLeafSet zero.nodes both track) (HasLeafSet zero.nodes roots track) before sets
-      (HasLeafSet-both zero.nodes store.ordered sets track roots both valid from are_both)
+    half_part : IsPart (SetNumber new (sets_of late) (roots_of item) (track_of late)) (SetNumber new (sets_of late) (roots_of half) (track_of late)) var bit
+    half_part =
+        IsPart-implies (SetNumber zero.nodes (sets_of late) (roots_of item) (track_of late)) (SetNumber new (sets_of late) (roots_of item) (track_of late))
+        (SetNumber new (sets_of late) (roots_of half) (track_of late)) var bit
+        (SetNumber-later zero.nodes new store.ordered follows.extends (roots_of item) valid (track_of late) (sets_of late))
+        (SetNumber-part zero.nodes new store.ordered follows.ordered follows.extends (sets_of late) (track_of late) var bit (roots_of item) (roots_of half) valid from_item are apart_late
+        follows.right.numbering.no_repeats)
 
-  module _ (apart : var ≢ track) (low high : List Ref) (low_are : AreHalves zero.nodes var false roots low) (high_are : AreHalves zero.nodes var true roots high)
-      (one : Contents) (early : List (List ℕ)) (numbering : IsSetNumbering early) where
-    -- the sets that the halves add are sets of leaves of the roots
-    pub added_low_set : (before : List (List ℕ)) → AddsOnly (HasLeafSet zero.nodes low track) before early → AddsOnly (HasLeafSet zero.nodes roots track) before early
-    added_low_set before = AddsOnly-implies (HasLeafSet zero.nodes low track) (HasLeafSet zero.nodes roots track) before early
-        (HasLeafSet-part zero.nodes zero.nodes store.ordered store.ordered (Extends-same zero.nodes) early track var false roots low valid from_least low_are (λ same. apart (sym same)))
+    half_fits : All (IsValid new) (roots_of half)
+    half_fits = halves_valid zero store (track_of state) (roots_of item) valid var least small (roots_of half)
+        (λ one there. let root = are.only one there in (root.0, bit, root.1, root.2)) new follows.extends
 
-    pub added_both_sets : (later : Contents) → IsStore later.nodes later.limit → Extends zero.nodes later.nodes → (before late : List (List ℕ)) → Extends early late
-        → AddsOnly (HasLeafSet zero.nodes low track) before early → AddsOnly (HasLeafSet later.nodes high track) early late → AddsOnly (HasLeafSet zero.nodes roots track) before late
-    added_both_sets later store_later extends before late =
-        AddsOnly-then (HasLeafSet zero.nodes low track) (HasLeafSet later.nodes high track) (HasLeafSet zero.nodes roots track) before early late
-        (HasLeafSet-part zero.nodes zero.nodes store.ordered store.ordered (Extends-same zero.nodes) early track var false roots low valid from_least low_are (λ same. apart (sym same)))
-        (HasLeafSet-part zero.nodes later.nodes store.ordered store_later.ordered extends late track var true roots high valid from_least high_are (λ same. apart (sym same)))
+    half_lacks : LacksSet new (sets_of late) (roots_of half) (track_of late) → LacksSet new (sets_of late) (roots_of item) (track_of late)
+    half_lacks lacks =
+        LacksSet-later zero.nodes new store.ordered follows.extends (roots_of item) valid (track_of late) (sets_of late)
+        (LacksSet-part zero.nodes new store.ordered follows.ordered follows.extends (sets_of late) (track_of late) var bit (roots_of item) (roots_of half) valid from_item are apart_late lacks)
 
-    low_is : (sets : List (List ℕ)) → IsSetNumbering sets → IsPart (SetNumber zero.nodes sets roots track) (SetNumber zero.nodes sets low track) var false
-    low_is sets is = SetNumber-part zero.nodes zero.nodes store.ordered store.ordered (Extends-same zero.nodes) sets track var false roots low valid from_least low_are
-        (λ same. apart (sym same)) is.numbering.no_repeats
+    half_adds : (before after : S) → AddsOnly (HasLeafSet new (roots_of half) (track_of late)) (sets_of before) (sets_of after)
+        → AddsOnly (HasLeafSet new (roots_of item) (track_of late)) (sets_of before) (sets_of after)
+    half_adds before after = AddsOnly-implies (HasLeafSet new (roots_of half) (track_of late)) (HasLeafSet new (roots_of item) (track_of late)) (sets_of before) (sets_of after)
+        (λ set has. HasLeafSet-later zero.nodes new store.ordered follows.extends (roots_of item) valid (track_of late) set
+        (HasLeafSet-part zero.nodes new store.ordered follows.ordered follows.extends (sets_of late) (track_of late) var bit (roots_of item) (roots_of half) valid from_item are apart_late set has))
 
-    -- the low answer is refused
-    pub low_set_refused : (fault : StepFault) → Builds zero one (SetNumber zero.nodes early low track) (LacksSet zero.nodes early low track) (Err fault)
-        → Builds zero one (SetNumber zero.nodes early roots track) (LacksSet zero.nodes early roots track) (Err fault)
-    low_set_refused = Builds-part zero one (SetNumber zero.nodes early roots track) (SetNumber zero.nodes early low track)
-        (LacksSet zero.nodes early roots track) (LacksSet zero.nodes early low track) var false (low_is early numbering)
-        (LacksSet-part zero.nodes zero.nodes store.ordered store.ordered (Extends-same zero.nodes) early track var false roots low valid from_least low_are (λ same. apart (sym same)))
+  -- the parts of what they ask for
+  pub collecting_split : var ≢ track_of state → (low high : I) → AreHalves zero.nodes var false (roots_of item) (roots_of low) → AreHalves zero.nodes var true (roots_of item) (roots_of high)
+      → IsSplit (collecting track_of sets_of name_of roots_of) state zero.nodes item var low high
+  collecting_split apart low high low_are high_are late new follows = record {
+    low_fits = half_fits late new follows false low low_are apart;
+    high_fits = half_fits late new follows true high high_are apart;
+    low_is = half_part late new follows false low low_are apart;
+    high_is = half_part late new follows true high high_are apart;
+    low_lacks = half_lacks late new follows false low low_are apart;
+    high_lacks = half_lacks late new follows true high high_are apart;
+    low_adds = half_adds late new follows false low low_are apart;
+    high_adds = half_adds late new follows true high high_are apart;
+  }
 
-    module _ (low_end : Ref) (builds_low : Builds zero one (SetNumber zero.nodes early low track) (LacksSet zero.nodes early low track) (Ok low_end))
-        (two : Contents) (late : List (List ℕ)) (numbering_late : IsSetNumbering late) (more : Extends early late) where
-      high_is : IsPart (SetNumber zero.nodes late roots track) (SetNumber one.nodes late high track) var true
-      high_is = SetNumber-part zero.nodes one.nodes store.ordered builds_low.grows.store.ordered builds_low.grows.extends late track var true roots high valid from_least high_are
-          (λ same. apart (sym same)) numbering_late.numbering.no_repeats
+  -- at the track both halves together ask for the same
+  pub collecting_both : var ≡ track_of state → (both : I) → AreBothHalves zero.nodes var (roots_of item) (roots_of both)
+      → StandsFor (collecting track_of sets_of name_of roots_of) state zero.nodes item both
+  collecting_both same both are late new follows =
+      let roots = roots_of item in
+      let halves = roots_of both in
+      let track = track_of late in
+      let sets = sets_of late in
+      let at_track : var ≡ track = same ∙ sym follows.later.0 in
+      let from = subst (λ v. (root : Ref) → Contains roots root → TestsFrom zero.nodes v root) at_track from_item in
+      let are_both = subst (λ v. AreBothHalves zero.nodes v roots halves) at_track are in
+      let valid_both = halves_valid zero store (track_of state) roots valid var least small halves are.only zero.nodes (Extends-same zero.nodes) in
+      record {
+        fits = halves_valid zero store (track_of state) roots valid var least small halves are.only new follows.extends;
+        implies = λ bits number there.
+            SetNumber-later zero.nodes new store.ordered follows.extends roots valid track sets bits number
+            (SetNumber-both zero.nodes store.ordered sets track roots halves valid from are_both bits number
+            (SetNumber-before zero.nodes new store.ordered follows.extends halves valid_both track sets bits number there));
+        lacks = λ lacks.
+            LacksSet-later zero.nodes new store.ordered follows.extends roots valid track sets
+            (LacksSet-both zero.nodes store.ordered sets track roots halves valid from are_both
+            (LacksSet-before zero.nodes new store.ordered follows.extends halves valid_both track sets lacks));
+        adds = λ before after. AddsOnly-implies (HasLeafSet new halves track) (HasLeafSet new roots track) (sets_of before) (sets_of after)
+            (λ set has. HasLeafSet-later zero.nodes new store.ordered follows.extends roots valid track set
+            (HasLeafSet-both zero.nodes store.ordered sets track roots halves valid from are_both set
+            (HasLeafSet-before zero.nodes new store.ordered follows.extends halves valid_both track set has)));
+      }
 
-      -- the high answer is refused
-      pub high_set_refused : (fault : StepFault) → Builds one two (SetNumber one.nodes late high track) (LacksSet one.nodes late high track) (Err fault)
-          → Builds zero two (SetNumber zero.nodes late roots track) (LacksSet zero.nodes late roots track) (Err fault)
-      high_set_refused = Builds-high_refused zero one two two (SetNumber zero.nodes early roots track) (SetNumber zero.nodes late roots track)
-          (SetNumber zero.nodes early low track) (SetNumber zero.nodes late low track) (SetNumber one.nodes late high track)
-          (LacksSet zero.nodes late roots track) (LacksSet zero.nodes early low track) (LacksSet one.nodes late high track) var low_end low_end store
-          (SetNumber-more zero.nodes early late more roots track) (SetNumber-more zero.nodes early late more low track)
-          (low_is early numbering) (low_is late numbering_late) high_is builds_low
-          (LacksSet-part zero.nodes one.nodes store.ordered builds_low.grows.store.ordered builds_low.grows.extends late track var true roots high valid from_least high_are
-          (λ same. apart (sym same)))
+-- what the walk has built
+module _ {S N I : Type 0} (track_of : S → ℕ) (sets_of : S → List (List ℕ)) (name_of : S → N) (roots_of : I → List Ref) (old new : Contents) (early late : S) (item : I)
+    (entries : List (I × Ref)) (result : Result Ref StepFault) (walked : IsWalked (collecting track_of sets_of name_of roots_of) old early item new late entries result) where
+  module _ (store : IsStore old.nodes old.limit) (valid : All (IsValid old.nodes) (roots_of item)) where
+    pub collecting_builds : Builds old new (SetNumber old.nodes (sets_of late) (roots_of item) (track_of early)) (LacksSet old.nodes (sets_of late) (roots_of item) (track_of early)) result
+    collecting_builds =
+        let extends = walked.builds.grows.extends in
+        subst (λ track. Builds old new (SetNumber old.nodes (sets_of late) (roots_of item) track) (LacksSet old.nodes (sets_of late) (roots_of item) track) result) walked.later.0
+        (Builds-implies old new (SetNumber new.nodes (sets_of late) (roots_of item) (track_of late)) (SetNumber old.nodes (sets_of late) (roots_of item) (track_of late))
+        (LacksSet new.nodes (sets_of late) (roots_of item) (track_of late)) (LacksSet old.nodes (sets_of late) (roots_of item) (track_of late))
+        (SetNumber-before old.nodes new.nodes store.ordered extends (roots_of item) valid (track_of late) (sets_of late))
+        (LacksSet-before old.nodes new.nodes store.ordered extends (roots_of item) valid (track_of late) (sets_of late)) result walked.builds)
 
-      module _ (high_end : Ref) (builds_high : Builds one two (SetNumber one.nodes late high track) (LacksSet one.nodes late high track) (Ok high_end)) where
-        -- both answers may be the ends of a node
-        pub above_low_set : TestsAbove two.nodes var low_end
-        above_low_set = TestsAbove-low_built zero one two two (SetNumber zero.nodes early roots track) (SetNumber zero.nodes late roots track)
-            (SetNumber zero.nodes early low track) (SetNumber zero.nodes late low track) (SetNumber one.nodes late high track)
-            (LacksSet zero.nodes late roots track) (LacksSet zero.nodes early low track) (LacksSet one.nodes late high track) var low_end high_end store
-            (SetNumber-more zero.nodes early late more roots track) (SetNumber-more zero.nodes early late more low track)
-            (low_is early numbering) (low_is late numbering_late) high_is builds_low builds_high
+    pub collecting_added : AddsOnly (HasLeafSet old.nodes (roots_of item) (track_of early)) (sets_of early) (sets_of late)
+    collecting_added =
+        subst (λ track. AddsOnly (HasLeafSet old.nodes (roots_of item) track) (sets_of early) (sets_of late)) walked.later.0
+        (AddsOnly-implies (HasLeafSet new.nodes (roots_of item) (track_of late)) (HasLeafSet old.nodes (roots_of item) (track_of late)) (sets_of early) (sets_of late)
+        (HasLeafSet-before old.nodes new.nodes store.ordered walked.builds.grows.extends (roots_of item) valid (track_of late)) walked.added)
 
-        pub above_high_set : TestsAbove two.nodes var high_end
-        above_high_set = TestsAbove-high_built zero one two two (SetNumber zero.nodes early roots track) (SetNumber zero.nodes late roots track)
-            (SetNumber zero.nodes early low track) (SetNumber zero.nodes late low track) (SetNumber one.nodes late high track)
-            (LacksSet zero.nodes late roots track) (LacksSet zero.nodes early low track) (LacksSet one.nodes late high track) var low_end high_end store
-            (SetNumber-more zero.nodes early late more roots track) (SetNumber-more zero.nodes early late more low track)
-            (low_is early numbering) (low_is late numbering_late) high_is builds_low builds_high
-
-        -- and this node is the answer
-        pub set_node_built : (three : Contents) (result : Result Ref StepFault) → Makes two three var low_end high_end result
-            → Builds zero three (SetNumber zero.nodes late roots track) (LacksSet zero.nodes late roots track) result
-        set_node_built three = Builds-node zero one two three (SetNumber zero.nodes early roots track) (SetNumber zero.nodes late roots track)
-            (SetNumber zero.nodes early low track) (SetNumber zero.nodes late low track) (SetNumber one.nodes late high track)
-            (LacksSet zero.nodes late roots track) (LacksSet zero.nodes early low track) (LacksSet one.nodes late high track) var low_end high_end store
-            (SetNumber-more zero.nodes early late more roots track) (SetNumber-more zero.nodes early late more low track)
-            (low_is early numbering) (low_is late numbering_late) high_is builds_low builds_high
+  pub collecting_table : EachEntry (λ key. IsCollected new.nodes (sets_of late) (track_of early) (roots_of key)) entries
+  collecting_table = subst (λ track. EachEntry (λ key. IsCollected new.nodes (sets_of late) track (roots_of key)) entries) walked.later.0 walked.table

@@ -1,5 +1,4 @@
 pub mod ApplyLemmas
-pub mod ApplySteps
 pub mod BringLemmas
 pub mod Building
 pub mod CollectLemmas
@@ -8,6 +7,8 @@ pub mod EvalLemmas
 pub mod Keys
 pub mod LeavesLemmas
 pub mod ListLemmas
+pub mod NotesLemmas
+pub mod Noting
 pub mod NumberingLemmas
 pub mod PairLemmas
 pub mod RelabelLemmas
@@ -16,3 +17,5 @@ pub mod SetLemmas
 pub mod StoreLemmas
 pub mod TableGrowth
 pub mod TableLemmas
+pub mod WalkLemmas
+pub mod Walking

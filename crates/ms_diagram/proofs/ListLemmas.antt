@@ -1,21 +1,12 @@
 -- The `==` of lists is equality where that of the items is, and strictly rising lists with the same items are equal.
 use Rattle.std.proofs.Common.{◌≡◌, ℕ, zero, suc, ◌+◌, ◌<◌, ◌⊎◌, Bool, true, nat_eq, List, [], ◌∷◌, get_or, Contains, refl, sym, subst, inl, inr, ⊎_elim, arith}
-use Rattle.std.proofs.lemmas.Bool.{eqb-true, eq-eqb, and_parts, and_from, false≢true}
+use Rattle.std.proofs.lemmas.Bool.{eqb-true, eq-eqb, and_from}
 use Rattle.std.proofs.lemmas.List.Kept.{AllPairs-from_increasing}
 use Rattle.std.specs.Cmp.Lexicographic.{pointwise}
+pub use Rattle.ms_diagram.specs.Equal.{same_list}
 use Rattle.std.specs.List.Sorted.{IsStrictlyIncreasing}
 
 module _ {X : Type 0} (eq : X → X → Bool) where
-  pub same_list : ((x y : X) → eq x y ≡ true → x ≡ y) → (xs ys : List X) → pointwise eq xs ys ≡ true → xs ≡ ys
-  same_list same [] [] equal = refl
-  same_list same [] (y ∷ ys) equal = absurd (false≢true equal)
-  same_list same (x ∷ xs) [] equal = absurd (false≢true equal)
-  same_list same (x ∷ xs) (y ∷ ys) equal =
-      let parts = and_parts (eq x y) (pointwise eq xs ys) equal in
-      let first = same x y parts.0 in
-      let rest = same_list same xs ys parts.1 in
-      λ i. first i ∷ rest i
-
   pub list_itself : ((x : X) → eq x x ≡ true) → (xs : List X) → pointwise eq xs xs ≡ true
   list_itself itself [] = refl
   list_itself itself (x ∷ xs) = and_from (eq x x) (pointwise eq xs xs) (itself x) (list_itself itself xs)

@@ -1,9 +1,9 @@
 -- A numbering stays one when an item gets a number.
 use Rattle.std.proofs.Common.{◌<◌, List, [], ◌∷◌, ◌++◌, length, slice_get, Some, sym, ap, subst, ◌∙◌, inl, inr, ⊎_elim, length-append, append-nil, arith}
-use Rattle.std.proofs.lemmas.Bool.{cases_lt}
 use Rattle.std.proofs.lemmas.Option.{slice_get_within}
 use Rattle.ms_arena.specs.Target.{Extends}
-use Rattle.ms_arena.proofs.Lists.{slice_get-append_left, slice_get-pushed}
+use Rattle.ms_arena.proofs.Lists.{slice_get-pushed}
+pub use Rattle.ms_diagram.specs.Adding.{AddsOnly-same, AddsOnly-then, AddsOnly-implies}
 use Rattle.ms_diagram.specs.Numbering.{HasNoRepeats, IsNumbering, IsMissing, Numbers, AddsOnly}
 
 module _ {X : Type 0} (old new : List X) (item : X) where
@@ -32,10 +32,6 @@ module _ {X : Type 0} (old new : List X) (item : X) where
     small = omega (arith, length-append old (item ∷ []));
   })
 
--- nothing is added to the same list
-pub AddsOnly-same : {X : Type 0} (fact : X → Type 0) (items : List X) → AddsOnly fact items items
-AddsOnly-same fact items number item behind held = let within = slice_get_within items number item held in absurd (omega (arith, behind, within))
-
 -- an item that got a number is added alone
 pub AddsOnly-numbers : {X : Type 0} (fact : X → Type 0) (old new : List X) (item : X) → Numbers old new item → fact item → AddsOnly fact old new
 AddsOnly-numbers fact old new item (inl same) is number other behind held = subst (AddsOnly fact old) (sym same) (AddsOnly-same fact old) number other behind held
@@ -43,15 +39,3 @@ AddsOnly-numbers fact old new item (inr added) is number other behind held = ⊎
     (λ before. let within = slice_get_within old number other before in absurd (omega (arith, behind, within)))
     (λ last. subst fact last.1 is)
     (slice_get-pushed old item number other (ap (λ list. slice_get list number) (sym added.1) ∙ held))
-
--- what is added is of one kind, also in two steps
-pub AddsOnly-then : {X : Type 0} (first second fact : X → Type 0) (one two three : List X) → ((item : X) → first item → fact item) → ((item : X) → second item → fact item)
-    → Extends two three → AddsOnly first one two → AddsOnly second two three → AddsOnly fact one three
-AddsOnly-then first second fact one two three from_first from_second extends early late number item behind held = ⊎_elim
-    (λ within. from_first item (early number item behind (sym (slice_get-append_left two extends.0 number within) ∙ sym (ap (λ list. slice_get list number) extends.1) ∙ held)))
-    (λ beyond. from_second item (late number item beyond held))
-    (cases_lt number (length two))
-
--- and of another that it implies
-pub AddsOnly-implies : {X : Type 0} (first fact : X → Type 0) (old new : List X) → ((item : X) → first item → fact item) → AddsOnly first old new → AddsOnly fact old new
-AddsOnly-implies first fact old new from added number item behind held = from item (added number item behind held)

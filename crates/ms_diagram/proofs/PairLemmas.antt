@@ -1,21 +1,11 @@
 -- The `==` of pairs is equality.
-use Rattle.std.proofs.Common.{◌≡◌, ℕ, Bool, true, ◌&&◌, nat_eq, refl}
-use Rattle.std.proofs.lemmas.Bool.{eqb-true, eq-eqb, and_parts, and_from}
+use Rattle.std.proofs.Common.{◌≡◌, ℕ, Bool, true, nat_eq, refl}
+use Rattle.std.proofs.lemmas.Bool.{eqb-true, eq-eqb, and_from}
+pub use Rattle.ms_diagram.specs.Equal.{pair_eq, same_pair}
 
 module _ {A B : Type 0} (eq_a : A → A → Bool) (eq_b : B → B → Bool) where
-  abbrev pub pair_eq : A × B → A × B → Bool
-  pair_eq x y = eq_a x.0 y.0 && eq_b x.1 y.1
-
-  -- pairs that compare equal are equal
-  pub same_pair : ((x y : A) → eq_a x y ≡ true → x ≡ y) → ((x y : B) → eq_b x y ≡ true → x ≡ y) → (x y : A × B) → pair_eq x y ≡ true → x ≡ y
-  same_pair same_a same_b x y same =
-      let parts = and_parts (eq_a x.0 y.0) (eq_b x.1 y.1) same in
-      let first = same_a x.0 y.0 parts.0 in
-      let second = same_b x.1 y.1 parts.1 in
-      λ i. (first i, second i)
-
   -- a pair compares equal to itself
-  pub pair_itself : ((x : A) → eq_a x x ≡ true) → ((x : B) → eq_b x x ≡ true) → (x : A × B) → pair_eq x x ≡ true
+  pub pair_itself : ((x : A) → eq_a x x ≡ true) → ((x : B) → eq_b x x ≡ true) → (x : A × B) → pair_eq eq_a eq_b x x ≡ true
   pair_itself itself_a itself_b x = and_from (eq_a x.0 x.0) (eq_b x.1 x.1) (itself_a x.0) (itself_b x.1)
 
 -- at numbers

@@ -5,14 +5,15 @@ use Rattle.ms_arena.specs.declared.node.Node.{Node}
 use Rattle.ms_arena.specs.Diagram.{IsOrdered}
 use Rattle.ms_arena.specs.Target.{Extends}
 use Rattle.ms_arena.proofs.Appending.{Extends-same}
+use Rattle.ms_cache.proofs.MemoLemmas.{EachEntry-weaker}
 use Rattle.ms_diagram.specs.Apply.{IsPaired}
 use Rattle.ms_diagram.specs.Bring.{IsBrought}
 use Rattle.ms_diagram.specs.Relabel.{IsRelabelled}
 use Rattle.ms_diagram.specs.Table.{ArePaired, AreBrought, AreRelabelled}
-use Rattle.ms_diagram.proofs.ApplyLemmas.{IsPaired-grows}
-use Rattle.ms_diagram.proofs.BringLemmas.{IsBrought-grows, IsBrought-origin_grows}
-use Rattle.ms_diagram.proofs.RelabelLemmas.{IsRelabelled-grows}
-use Rattle.ms_diagram.proofs.TableLemmas.{EachEntry-weaker}
+use Rattle.ms_diagram.specs.Applying.{IsPaired-grows}
+use Rattle.ms_diagram.specs.Bringing.{IsBrought-grows}
+use Rattle.ms_diagram.proofs.BringLemmas.{IsBrought-origin_grows}
+use Rattle.ms_diagram.specs.Relabelling.{IsRelabelled-grows}
 
 module _ (old new : List Node) (ordered : IsOrdered old) (extends : Extends old new) where
   pub ArePaired-grow : (pairs : List (ℕ × ℕ)) (table : List ((Ref × Ref) × Ref)) → ArePaired old pairs table → ArePaired new pairs table

@@ -1,9 +1,17 @@
+pub mod Adding
 pub mod Apply
+pub mod Applying
 pub mod Bring
+pub mod Bringing
 pub mod Collect
+pub mod Collecting
+pub mod Equal
 pub mod Growth
 pub mod Leaves
+pub mod Notes
 pub mod Numbering
 pub mod Relabel
+pub mod Relabelling
 pub mod Store
 pub mod Table
+pub mod Walk

@@ -1,16 +1,12 @@
 -- A table of what calls have built so far, as its list of entries, and which entries are right.
-use Rattle.std.specs.Prelude.{ℕ, List, [], ◌∷◌, Vec}
+pub use Rattle.ms_cache.specs.Memo.{EachEntry}
+use Rattle.std.specs.Prelude.{ℕ, List, Vec}
 use Rattle.ms_arena.specs.declared.node.Ref.{Ref}
 use Rattle.ms_arena.specs.declared.node.Node.{Node}
 use Rattle.ms_diagram.specs.Apply.{IsPaired}
 use Rattle.ms_diagram.specs.Bring.{IsBrought}
 use Rattle.ms_diagram.specs.Collect.{IsCollected}
 use Rattle.ms_diagram.specs.Relabel.{IsRelabelled}
-
--- the fact holds of the key and the value of each entry
-abbrev pub EachEntry : {K V : Type 0} → (K → V → Type 0) → List (K × V) → Type 0
-EachEntry fact [] = Unit {0}
-EachEntry fact (entry ∷ entries) = fact entry.0 entry.1 × EachEntry fact entries
 
 -- each pair of references has become the reference of the numbers of its leaves' pairs
 abbrev pub ArePaired : List Node → List (ℕ × ℕ) → List ((Ref × Ref) × Ref) → Type 0

@@ -3,15 +3,12 @@ ghost use Rattle.ms_arena.specs.Diagram.{IsValid};
 ghost use Rattle.ms_arena.specs.Target.{Extends};
 ghost use Rattle.ms_arena.specs.Halves.{IsInner};
 
+use crate::notes::Notes;
 use crate::pairs::Pairs;
 use crate::store::Store;
-use crate::table::remember;
-use indexmap::IndexMap;
+use crate::walk::{Visit, Walk};
 use ms_arena::Ref;
 use ms_edge::StepFault;
-
-// What each pair of references has become.
-type PairTable = IndexMap<(Ref, Ref), Ref>;
 
 // Two diagrams at one place: two leaves, or the first variable of the two with their halves.
 #[derive(Clone, Copy)]
@@ -22,6 +19,43 @@ enum PairSplit {
         low: (Ref, Ref),
         high: (Ref, Ref),
     },
+}
+
+impl Walk for Pairs {
+    ghost use Rattle.ms_diagram.specs.Applying.{applying, applying_laws};
+
+    type Item = (Ref, Ref);
+
+    type Key = (Ref, Ref);
+
+    ghost rules = { applying };
+
+    ghost laws = { applying_laws };
+
+    fn visit<T: Notes<(Ref, Ref)>>(
+        &mut self,
+        store: &Store,
+        item: (Ref, Ref),
+        notes: &mut T,
+    ) -> Result<Visit<(Ref, Ref), (Ref, Ref)>, StepFault> {
+        match store.split_pair(item.0, item.1) {
+            PairSplit::Leaves(left, right) => {
+                let made = store.pair_leaf(left, right, self)?;
+                Ok(Visit::Made(made))
+            }
+            PairSplit::Branch { var, low, high } => {
+                if let Some(made) = notes.ask(&item) {
+                    return Ok(Visit::Made(made));
+                }
+                Ok(Visit::Split {
+                    key: item,
+                    var,
+                    low,
+                    high,
+                })
+            }
+        }
+    }
 }
 
 impl Store {
@@ -40,43 +74,37 @@ impl Store {
         ensures pairs { Extends pairs.old pairs.new }
         ensures added { AddsOnly (HasLeaves self.old.nodes f g) pairs.old pairs.new }
     {
-        // The length tells that the pairs are a numbering.
+        // The lengths tell that the pairs are a numbering, and the nodes those of a store.
         let _ = pairs.len();
-        let mut table = IndexMap::new(self.alloc);
-        self.apply_at(f, g, pairs, &mut table)
+        let _ = self.len();
+        let Ok(mut memo) = self.take_memo() else {
+            return Err(StepFault::Memory);
+        };
+        let made = self.apply_at(f, g, pairs, &mut memo);
+        self.put_memo(memo);
+        made
     }
 
-    // The same for the halves of the two functions, over a table of what is done.
-    pub(crate) fn apply_at(
+    // The same over notes of what is done.
+    pub(crate) fn apply_at<T: Notes<(Ref, Ref)>>(
         &mut self,
         f: Ref,
         g: Ref,
         pairs: &mut Pairs,
-        table: &mut PairTable,
+        notes: &mut T,
     ) -> Result<Ref, StepFault>
         requires store { IsStore self.old.nodes self.old.limit }
         requires numbering { IsNumbering pairs.old }
         requires valid_f { IsValid self.old.nodes f }
         requires valid_g { IsValid self.old.nodes g }
-        requires table { EachEntry (IsPaired self.old.nodes pairs.old) table.old.entries }
+        requires table { EachEntry (IsPaired self.old.nodes pairs.old) (T.entries notes.old) }
         ensures builds { Builds self.old self.new (PairNumber self.old.nodes pairs.new f g) (LacksPair self.old.nodes pairs.new f g) result }
         ensures pairs { Extends pairs.old pairs.new }
         ensures added { AddsOnly (HasLeaves self.old.nodes f g) pairs.old pairs.new }
         ensures numbering { IsNumbering pairs.new }
-        ensures table { EachEntry (IsPaired self.new.nodes pairs.new) table.new.entries }
+        ensures table { EachEntry (IsPaired self.new.nodes pairs.new) (T.entries notes.new) }
     {
-        match self.split_pair(f, g) {
-            PairSplit::Leaves(left, right) => self.pair_leaf(left, right, pairs),
-            PairSplit::Branch { var, low, high } => {
-                if let Some(made) = table.get(&(f, g)) {
-                    return Ok(*made);
-                }
-                let low_end = self.apply_at(low.0, low.1, pairs, table)?;
-                let high_end = self.apply_at(high.0, high.1, pairs, table)?;
-                let made = self.mk(var, low_end, high_end)?;
-                remember(table, (f, g), made)
-            }
-        }
+        self.walk(pairs, (f, g), notes)
     }
 
     // The leaf with the number of the pair.

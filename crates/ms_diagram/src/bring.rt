@@ -1,13 +1,56 @@
 ghost use Rattle.ms_arena.specs.Diagram.{IsValid};
 
+use crate::notes::Notes;
 use crate::store::Store;
-use crate::table::remember;
+use crate::walk::{Visit, Walk};
 use indexmap::IndexMap;
 use ms_arena::Ref;
 use ms_edge::StepFault;
 
 // What the other store's node at each place has become.
 type PlaceTable = IndexMap<u32, Ref>;
+
+// Nodes are read in another store, and their variables in a map.
+#[derive(Drop)]
+struct Bringing<'a> {
+    from: &'a Store,
+    map: &'a [u32],
+}
+
+impl Walk for Bringing<'_> {
+    ghost use Rattle.ms_diagram.specs.Bringing.{bringing, bringing_laws};
+
+    type Item = Ref;
+
+    type Key = u32;
+
+    ghost rules = { bringing (λ s. s.from.now.nodes) (λ s. s.map.now) };
+
+    ghost laws = { bringing_laws (λ s. s.from.now.nodes) (λ s. s.map.now) };
+
+    fn visit<T: Notes<u32>>(
+        &mut self,
+        _store: &Store,
+        item: Ref,
+        notes: &mut T,
+    ) -> Result<Visit<Ref, u32>, StepFault> {
+        match item {
+            Ref::Leaf(value) => Ok(Visit::Made(Ref::Leaf(value))),
+            Ref::Inner(place) => {
+                if let Some(made) = notes.ask(&place) {
+                    return Ok(Visit::Made(made));
+                }
+                let node = self.from.node(place);
+                Ok(Visit::Split {
+                    key: place,
+                    var: self.map[node.var as usize],
+                    low: node.low,
+                    high: node.high,
+                })
+            }
+        }
+    }
+}
 
 impl Store {
     ghost use Rattle.ms_diagram.specs.Bring.{IsBrought, RenamedLeaf, Renames};
@@ -40,18 +83,7 @@ impl Store {
         ensures builds { Builds self.old self.new (RenamedLeaf from.now.nodes map.now root) ⊥ result }
         ensures table { EachEntry (IsBrought from.now.nodes map.now self.new.nodes) table.new.entries }
     {
-        match root {
-            Ref::Leaf(value) => Ok(Ref::Leaf(value)),
-            Ref::Inner(place) => {
-                if let Some(made) = table.get(&place) {
-                    return Ok(*made);
-                }
-                let node = from.node(place);
-                let low = self.bring_at(from, node.low, map, table)?;
-                let high = self.bring_at(from, node.high, map, table)?;
-                let made = self.mk(map[node.var as usize], low, high)?;
-                remember(table, place, made)
-            }
-        }
+        let mut bringing = Bringing { from, map };
+        self.walk(&mut bringing, root, table)
     }
 }

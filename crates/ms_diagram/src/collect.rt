@@ -3,16 +3,72 @@ ghost use Rattle.ms_arena.specs.Diagram.{IsValid};
 ghost use Rattle.ms_arena.specs.Target.{Extends};
 
 use crate::halves::LEAF_LEVEL;
+use crate::notes::Notes;
 use crate::roots::leaf_set;
 use crate::sets::Sets;
 use crate::store::Store;
-use crate::table::remember;
+use crate::walk::{Visit, Walk};
 use indexmap::IndexMap;
 use ms_arena::Ref;
 use ms_edge::StepFault;
 
 // What each list of roots has become.
 type RootTable = IndexMap<Vec<Ref>, Ref>;
+
+// Sets of leaves get numbers, and the bit of the track is read at 0 and at 1.
+#[derive(Drop)]
+struct Collecting<'a> {
+    track: u32,
+    sets: &'a mut Sets,
+}
+
+impl Walk for Collecting<'_> {
+    ghost use Rattle.ms_diagram.specs.Collecting.{collecting, collecting_laws};
+
+    type Item = Vec<Ref>;
+
+    type Key = Vec<Ref>;
+
+    ghost rules = { collecting (λ s. s.track) (λ s. s.sets.now) (λ s. s.sets.ghost_name) (λ roots. roots.items) };
+
+    ghost laws = { collecting_laws (λ s. s.track) (λ s. s.sets.now) (λ s. s.sets.ghost_name) (λ roots. roots.items) };
+
+    fn visit<T: Notes<Vec<Ref>>>(
+        &mut self,
+        store: &Store,
+        item: Vec<Ref>,
+        notes: &mut T,
+    ) -> Result<Visit<Vec<Ref>, Vec<Ref>>, StepFault> {
+        let list = item.as_slice();
+        let level = store.least_level(list);
+        if level == LEAF_LEVEL {
+            let made = store.set_leaf(list, self.sets)?;
+            return Ok(Visit::Made(made));
+        }
+        if let Some(made) = notes.ask(&item) {
+            return Ok(Visit::Made(made));
+        }
+        let var = level as u32;
+        if var == self.track {
+            let Ok(both) = store.both_halves(list, var) else {
+                return Err(StepFault::Memory);
+            };
+            return Ok(Visit::Instead(both));
+        }
+        let Ok(low) = store.half_set(list, var, false) else {
+            return Err(StepFault::Memory);
+        };
+        let Ok(high) = store.half_set(list, var, true) else {
+            return Err(StepFault::Memory);
+        };
+        Ok(Visit::Split {
+            key: item,
+            var,
+            low,
+            high,
+        })
+    }
+}
 
 impl Store {
     ghost use Rattle.ms_diagram.specs.Collect.{HasLeafSet, IsCollected, IsSetOf, IsSetLeaf, IsSetMissing, IsSetNumbering, LacksSet, SetNumber, leaf_values};
@@ -57,31 +113,8 @@ impl Store {
         ensures numbering { IsSetNumbering sets.new }
         ensures table { EachEntry (λ key. IsCollected self.new.nodes sets.new track key.items) table.new.entries }
     {
-        let list = roots.as_slice();
-        let level = self.least_level(list);
-        if level == LEAF_LEVEL {
-            return self.set_leaf(list, sets);
-        }
-        if let Some(made) = table.get(list) {
-            return Ok(*made);
-        }
-        let var = level as u32;
-        if var == track {
-            let Ok(both) = self.both_halves(list, var) else {
-                return Err(StepFault::Memory);
-            };
-            return self.collect_at(both, track, sets, table);
-        }
-        let Ok(low) = self.half_set(list, var, false) else {
-            return Err(StepFault::Memory);
-        };
-        let Ok(high) = self.half_set(list, var, true) else {
-            return Err(StepFault::Memory);
-        };
-        let low_end = self.collect_at(low, track, sets, table)?;
-        let high_end = self.collect_at(high, track, sets, table)?;
-        let made = self.mk(var, low_end, high_end)?;
-        remember(table, roots, made)
+        let mut collecting = Collecting { track, sets };
+        self.walk(&mut collecting, roots, table)
     }
 
     // The leaf with the number of the set of the leaves among the roots.

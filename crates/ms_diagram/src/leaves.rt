@@ -6,6 +6,13 @@ use indexmap::IndexSet;
 use ms_arena::Ref;
 use ms_edge::{List, NoMemory};
 
+// What is left to do: to note the leaves of a diagram, or a place whose leaves are noted.
+#[derive(Clone, Copy)]
+enum Task {
+    Follow(Ref),
+    Note(u32),
+}
+
 impl Store {
     ghost use Rattle.ms_arena.specs.Leaves.{leaves_within};
     ghost use Rattle.ms_diagram.specs.Leaves.{KnowsPlaces, leaves_of, noted};
@@ -36,25 +43,44 @@ impl Store {
         ensures leaves { OnOk result (leaves.new.keys ≡ fold noted leaves.old.keys (leaves_within self.now.nodes (length self.now.nodes) root)) }
         ensures known { OnOk result (KnowsPlaces self.now.nodes leaves.new.keys places.new.keys) }
     {
-        match root {
-            Ref::Leaf(value) => {
-                let Ok(_) = leaves.insert(value) else {
-                    return Err(NoMemory);
-                };
-                Ok(())
-            }
-            Ref::Inner(place) => {
-                if places.contains(&place) {
-                    return Ok(());
+        let mut tasks = Vec::new(self.alloc);
+        let Ok(()) = tasks.push(Task::Follow(root)) else {
+            return Err(NoMemory);
+        };
+        // No diagram asks for so many tasks.
+        for _ in 0..u64::MAX {
+            let Some(task) = tasks.pop() else {
+                return Ok(());
+            };
+            match task {
+                Task::Follow(reference) => match reference {
+                    Ref::Leaf(value) => {
+                        let Ok(_) = leaves.insert(value) else {
+                            return Err(NoMemory);
+                        };
+                    }
+                    Ref::Inner(place) => {
+                        if places.contains(&place) {
+                            continue;
+                        }
+                        let node = self.node(place);
+                        let steps = [
+                            Task::Note(place),
+                            Task::Follow(node.high),
+                            Task::Follow(node.low),
+                        ];
+                        let Ok(()) = tasks.extend_from_slice(&steps) else {
+                            return Err(NoMemory);
+                        };
+                    }
+                },
+                Task::Note(place) => {
+                    let Ok(_) = places.insert(place) else {
+                        return Err(NoMemory);
+                    };
                 }
-                let node = self.node(place);
-                self.note_leaves(node.low, leaves, places)?;
-                self.note_leaves(node.high, leaves, places)?;
-                let Ok(_) = places.insert(place) else {
-                    return Err(NoMemory);
-                };
-                Ok(())
             }
         }
+        Err(NoMemory)
     }
 }

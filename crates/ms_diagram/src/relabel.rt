@@ -1,14 +1,56 @@
 ghost use Rattle.std.specs.Prelude.{IfOk};
 ghost use Rattle.ms_arena.specs.Diagram.{IsValid};
 
+use crate::notes::Notes;
 use crate::store::Store;
-use crate::table::remember;
+use crate::walk::{Visit, Walk};
 use indexmap::IndexMap;
 use ms_arena::Ref;
 use ms_edge::StepFault;
 
 // What the node at each place has become.
 type PlaceTable = IndexMap<u32, Ref>;
+
+// Leaves are read in a map.
+#[derive(Drop)]
+struct Relabelling<'a> {
+    map: &'a [u32],
+}
+
+impl Walk for Relabelling<'_> {
+    ghost use Rattle.ms_diagram.specs.Relabelling.{relabelling, relabelling_laws};
+
+    type Item = Ref;
+
+    type Key = u32;
+
+    ghost rules = { relabelling (λ s. s.map.now) };
+
+    ghost laws = { relabelling_laws (λ s. s.map.now) };
+
+    fn visit<T: Notes<u32>>(
+        &mut self,
+        store: &Store,
+        item: Ref,
+        notes: &mut T,
+    ) -> Result<Visit<Ref, u32>, StepFault> {
+        match item {
+            Ref::Leaf(value) => Ok(Visit::Made(Ref::Leaf(self.map[value as usize]))),
+            Ref::Inner(place) => {
+                if let Some(made) = notes.ask(&place) {
+                    return Ok(Visit::Made(made));
+                }
+                let node = store.node(place);
+                Ok(Visit::Split {
+                    key: place,
+                    var: node.var,
+                    low: node.low,
+                    high: node.high,
+                })
+            }
+        }
+    }
+}
 
 impl Store {
     ghost use Rattle.ms_diagram.specs.Growth.{Builds};
@@ -40,18 +82,7 @@ impl Store {
         ensures builds { Builds self.old self.new (MappedLeaf self.old.nodes map.now root) ⊥ result }
         ensures table { EachEntry (IsRelabelled self.new.nodes map.now) table.new.entries }
     {
-        match root {
-            Ref::Leaf(value) => Ok(Ref::Leaf(map[value as usize])),
-            Ref::Inner(place) => {
-                if let Some(made) = table.get(&place) {
-                    return Ok(*made);
-                }
-                let node = self.node(place);
-                let low = self.relabel_at(node.low, map, table)?;
-                let high = self.relabel_at(node.high, map, table)?;
-                let made = self.mk(node.var, low, high)?;
-                remember(table, place, made)
-            }
-        }
+        let mut relabelling = Relabelling { map };
+        self.walk(&mut relabelling, root, table)
     }
 }

@@ -4,10 +4,14 @@ ghost use Rattle.ms_arena.specs.Reach.{IsTested};
 ghost use Rattle.ms_arena.specs.Target.{Appends, HoldsAt, IsFormed, IsNew};
 
 use ms_arena::{Node, Ref};
+use ms_cache::Memo;
 use ms_edge::{NoMemory, StepFault};
 use ms_unique::Arena;
 use std::alloc::Global;
 use std::marker::Model;
+
+/// How many entries the memo of a store may hold.
+const MEMO_ENTRIES: u32 = 65536;
 
 /// Diagrams over one list of nodes. Equal functions have equal references.
 #[derive(Drop)]
@@ -15,6 +19,7 @@ pub struct Store {
     pub(crate) alloc: Global,
     nodes: Arena,
     limit: u64,
+    memo: Option<Memo>,
 }
 
 impl Model for Store {
@@ -42,6 +47,7 @@ impl Store {
             alloc,
             nodes: Arena::new(alloc),
             limit,
+            memo: None,
         }
     }
 
@@ -67,7 +73,36 @@ impl Store {
         self.limit
     }
 
-    /// An equal store.
+    /// How often `apply` has found in the memo what it was to build, up to the greatest `u64`.
+    pub fn hits(&self) -> u64 {
+        match &self.memo {
+            Some(memo) => memo.hits(),
+            None => 0,
+        }
+    }
+
+    // Takes the memo out of the store, and lets its entries go. The first call makes it.
+    pub(crate) fn take_memo(&mut self) -> Result<Memo, NoMemory>
+        ensures empty { IfOk result (λ memo. memo.entries ≡ []) }
+        ensures store { self.new ≡ self.old }
+    {
+        match self.memo.take() {
+            Some(mut memo) => {
+                memo.clear();
+                Ok(memo)
+            }
+            None => Memo::new(self.alloc, MEMO_ENTRIES),
+        }
+    }
+
+    // Puts the memo into the store.
+    pub(crate) fn put_memo(&mut self, memo: Memo)
+        ensures { self.new ≡ self.old }
+    {
+        self.memo = Some(memo);
+    }
+
+    /// An equal store, whose memo has not been made.
     pub fn copy(&self) -> Result<Store, NoMemory>
         ensures { IfOk result (λ made. made ≡ self.now) }
     {
@@ -76,6 +111,7 @@ impl Store {
             alloc: self.alloc,
             nodes,
             limit: self.limit,
+            memo: None,
         })
     }
 

@@ -8,7 +8,7 @@ use Rattle.ms_arena.specs.declared.node.Ref.{Ref}
 use Rattle.ms_arena.specs.Diagram.{Bits, leaf_of, IsOrdered}
 use Rattle.ms_arena.proofs.Lists.{slice_get-held}
 use Rattle.ms_diagram.specs.Collect.{IsRisingSet}
-use Rattle.ms_diagram.proofs.CollectLemmas.{IsRisingSet-same}
+use Rattle.ms_diagram.specs.Collecting.{IsRisingSet-same}
 use Rattle.ms_logic.specs.declared.sign.Sign.{Sign}
 use Rattle.ms_logic.specs.Assignment.{Variable}
 use Rattle.ms_logic.specs.Content.{Content, StateOf, IsClosed, IsFollowed, IsWordOver, AreLetters, count_of, is_truth_value, is_in_letters, truth_bits, letter_bits, first_state, next_state, next_from, state_after, last_state}

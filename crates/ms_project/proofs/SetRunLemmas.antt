@@ -13,7 +13,8 @@ use Rattle.ms_arena.proofs.Lists.{slice_get-held}
 use Rattle.ms_arena.proofs.ReachLemmas.{leaf_of-tested}
 use Rattle.ms_diagram.specs.Bring.{read_through}
 use Rattle.ms_diagram.specs.Collect.{IsRisingSet, IsSetNumbering}
-use Rattle.ms_diagram.proofs.CollectLemmas.{IsRisingSet-same, same_number}
+use Rattle.ms_diagram.specs.Collecting.{IsRisingSet-same}
+use Rattle.ms_diagram.proofs.CollectLemmas.{same_number}
 use Rattle.ms_dfa.specs.Automaton.{state_of, states_of}
 use Rattle.ms_dfa.specs.declared.state.State.{State}
 use Rattle.ms_dfa.proofs.States.{state_in}

@@ -24,7 +24,8 @@ use Rattle.ms_diagram.specs.Growth.{Builds, Grows}
 use Rattle.ms_diagram.specs.Numbering.{AddsOnly}
 use Rattle.ms_diagram.specs.Store.{Contents, IsStore}
 use Rattle.ms_diagram.proofs.Building.{Builds-implies, Grows-same}
-use Rattle.ms_diagram.proofs.CollectLemmas.{IsRisingSet-same, same_number, IsCollected-built}
+use Rattle.ms_diagram.specs.Collecting.{IsRisingSet-same}
+use Rattle.ms_diagram.proofs.CollectLemmas.{same_number, IsCollected-built}
 use Rattle.ms_dfa.specs.declared.state.State.{State}
 use Rattle.ms_dfa.specs.Automaton.{states_of}
 use Rattle.ms_dfa.proofs.States.{state_in}

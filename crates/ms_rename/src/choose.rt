@@ -5,7 +5,7 @@ ghost use Rattle.ms_diagram.specs.Store.{IsStore};
 ghost use Rattle.ms_rename.specs.Choice.{choice_of};
 
 use ms_arena::Ref;
-use ms_diagram::{Pairs, Store};
+use ms_diagram::{PairTable, Pairs, Store};
 use ms_edge::{List, NoMemory, StepFault, push};
 use std::alloc::Global;
 
@@ -53,12 +53,14 @@ pub(crate) fn choose(
         Err(fault) => return Err(fault),
     };
     let mut ends = Pairs::new(alloc);
-    let both = match store.apply(low, high, &mut ends) {
+    let mut table = PairTable::new(alloc);
+    let both = match store.apply_with(low, high, &mut ends, &mut table) {
         Ok(both) => both,
         Err(fault) => return Err(fault),
     };
     let mut pairs = Pairs::new(alloc);
-    let which = match store.apply(test, both, &mut pairs) {
+    let mut table = PairTable::new(alloc);
+    let which = match store.apply_with(test, both, &mut pairs, &mut table) {
         Ok(which) => which,
         Err(fault) => return Err(fault),
     };
