@@ -4,6 +4,7 @@
 mod arenas;
 mod automata;
 mod functions;
+mod memos;
 mod numberings;
 mod plains;
 mod stores;
@@ -12,6 +13,7 @@ use anyhow::Result;
 
 fn main(rt: HostRuntime) -> Result<()> {
     arenas::tell(&rt)?;
+    memos::tell(&rt)?;
     numberings::tell(&rt)?;
     stores::tell(&rt)?;
     plains::tell(&rt)?;

@@ -3,6 +3,7 @@ use Rattle.std.proofs.Common.{◌≡◌, ◌⊎◌, inl, inr, ℕ, true, List, [
 use Rattle.ms_edge.specs.declared.refusal.Refusal.{Refusal}
 use Rattle.ms_edge.specs.declared.refusal.Refusal.TheVariants.{Memory, Nodes}
 use Rattle.ms_accepted.proofs.Accepting.{sources-are-accepted}
+use Rattle.ms_accepted.proofs.EachLoad.{sources-are-valid}
 use Rattle.ms_gen.specs.Generated.{IsNumber, generated}
 use Rattle.ms_logic.specs.View.{problem_of}
 use Rattle.ms_logic.specs.declared.checked.Checked.{Checked}
@@ -13,9 +14,11 @@ use Rattle.ms_app.specs.Answer.{IsNoNumber, generated_name}
 use Rattle.ms_app.specs.Beyond.{first_use}
 use Rattle.ms_app.specs.Counts.{HasStats}
 use Rattle.ms_app.specs.Decision.{IsDecided, IsFound}
+use Rattle.ms_app.specs.Laws.{GeneratedSourcesAreFoundValid}
 use Rattle.ms_app.specs.Limits.{IsUnsolved, IsWithinLimits}
 use Rattle.ms_app.specs.Source.{IsBuilt, IsRefused, IsSolved, IsUnaccepted, text_of, unaccepted, unsolved}
 use Rattle.ms_app.proofs.Solvable.{solvable, texts_settle}
+use Rattle.ms_app.proofs.VerdictLemmas.{none_against, valid_alone}
 
 -- why the generation is refused
 abbrev pub IsRefusedGeneration : ℕ → Refusal → Type 0
@@ -32,6 +35,14 @@ solved number is =
       };
       within = record { depth = found.within.depth; size = found.within.size };
     }
+
+-- and what is found of it is that it is valid
+pub found-valid : GeneratedSourcesAreFoundValid
+found-valid number stats found is decided =
+    let accepted = decided.is.is.is in
+    let valid = (sources-are-valid number generated_name decided.loaded decided.checked is accepted.is_loaded accepted.typed).1 in
+    let problem = problem_of decided.checked [] in
+    (valid_alone problem valid found.verdict decided.is_found.verdict, none_against problem valid found.counterexample decided.is_found.counterexample)
 
 -- so it is refused for want of memory or of nodes alone
 wanting : (number : ℕ) → IsNumber number → (refusal : Refusal) (files : List (List ℕ)) → IsRefused (text_of generated_name (generated number)) node_limit refusal files → IsRefusedGeneration number refusal

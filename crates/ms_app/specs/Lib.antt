@@ -8,6 +8,7 @@ pub mod Decision
 pub mod Examples
 pub mod Graph
 pub mod HasValue
+pub mod Laws
 pub mod Limits
 pub mod Solution
 pub mod Source

@@ -10,6 +10,7 @@ mod decide;
 mod examples;
 mod found;
 mod graph;
+mod laws;
 mod main_value;
 mod options;
 mod print;
@@ -21,4 +22,5 @@ mod top;
 
 pub use complete_examples::{worked_requests, worked_runs};
 pub use examples::{worked_answers, worked_globals, worked_uses};
+pub use laws::law_of_generated;
 pub use top::run;
