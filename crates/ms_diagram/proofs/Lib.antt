@@ -11,6 +11,7 @@ pub mod NotesLemmas
 pub mod Noting
 pub mod NumberingLemmas
 pub mod PairLemmas
+pub mod PlaceLemmas
 pub mod RelabelLemmas
 pub mod RootLemmas
 pub mod SetLemmas

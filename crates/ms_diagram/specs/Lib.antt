@@ -10,6 +10,7 @@ pub mod Growth
 pub mod Leaves
 pub mod Notes
 pub mod Numbering
+pub mod Places
 pub mod Relabel
 pub mod Relabelling
 pub mod Store

@@ -1,14 +1,11 @@
 ghost use Rattle.ms_arena.specs.Diagram.{IsValid};
 
 use crate::notes::Notes;
+use crate::places::PlaceTable;
 use crate::store::Store;
 use crate::walk::{Visit, Walk};
-use indexmap::IndexMap;
 use ms_arena::Ref;
 use ms_edge::StepFault;
-
-// What the other store's node at each place has become.
-type PlaceTable = IndexMap<u32, Ref>;
 
 // Nodes are read in another store, and their variables in a map.
 #[derive(Drop)]
@@ -64,7 +61,7 @@ impl Store {
         requires renames { Renames from.now.nodes map.now root }
         ensures { Builds self.old self.new (RenamedLeaf from.now.nodes map.now root) ⊥ result }
     {
-        let mut table = IndexMap::new(self.alloc);
+        let mut table = PlaceTable::new(self.alloc);
         self.bring_at(from, root, map, &mut table)
     }
 
@@ -79,9 +76,9 @@ impl Store {
         requires store { IsStore self.old.nodes self.old.limit }
         requires valid { IsValid from.now.nodes root }
         requires renames { Renames from.now.nodes map.now root }
-        requires table { EachEntry (IsBrought from.now.nodes map.now self.old.nodes) table.old.entries }
+        requires table { EachEntry (IsBrought from.now.nodes map.now self.old.nodes) table.old }
         ensures builds { Builds self.old self.new (RenamedLeaf from.now.nodes map.now root) ⊥ result }
-        ensures table { EachEntry (IsBrought from.now.nodes map.now self.new.nodes) table.new.entries }
+        ensures table { EachEntry (IsBrought from.now.nodes map.now self.new.nodes) table.new }
     {
         let mut bringing = Bringing { from, map };
         self.walk(&mut bringing, root, table)

@@ -10,6 +10,7 @@ mod halves;
 mod leaves;
 mod notes;
 mod pairs;
+mod places;
 mod relabel;
 mod roots;
 mod sets;
@@ -18,6 +19,7 @@ mod tables;
 mod walk;
 
 pub use pairs::Pairs;
+pub use places::PlaceTable;
 pub use sets::Sets;
 pub use store::Store;
-pub use tables::{ListTable, PairTable, PlaceTable, Table};
+pub use tables::{ListTable, PairTable, Table};

@@ -2,14 +2,11 @@ ghost use Rattle.std.specs.Prelude.{IfOk};
 ghost use Rattle.ms_arena.specs.Diagram.{IsValid};
 
 use crate::notes::Notes;
+use crate::places::PlaceTable;
 use crate::store::Store;
 use crate::walk::{Visit, Walk};
-use indexmap::IndexMap;
 use ms_arena::Ref;
 use ms_edge::StepFault;
-
-// What the node at each place has become.
-type PlaceTable = IndexMap<u32, Ref>;
 
 // Leaves are read in a map.
 #[derive(Drop)]
@@ -64,7 +61,7 @@ impl Store {
         requires covers { CoversLeaves self.old.nodes map.now root }
         ensures { Builds self.old self.new (MappedLeaf self.old.nodes map.now root) ⊥ result }
     {
-        let mut table = IndexMap::new(self.alloc);
+        let mut table = PlaceTable::new(self.alloc);
         self.relabel_at(root, map, &mut table)
     }
 
@@ -78,9 +75,9 @@ impl Store {
         requires store { IsStore self.old.nodes self.old.limit }
         requires valid { IsValid self.old.nodes root }
         requires covers { CoversLeaves self.old.nodes map.now root }
-        requires table { EachEntry (IsRelabelled self.old.nodes map.now) table.old.entries }
+        requires table { EachEntry (IsRelabelled self.old.nodes map.now) table.old }
         ensures builds { Builds self.old self.new (MappedLeaf self.old.nodes map.now root) ⊥ result }
-        ensures table { EachEntry (IsRelabelled self.new.nodes map.now) table.new.entries }
+        ensures table { EachEntry (IsRelabelled self.new.nodes map.now) table.new }
     {
         let mut relabelling = Relabelling { map };
         self.walk(&mut relabelling, root, table)

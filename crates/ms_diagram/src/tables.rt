@@ -3,6 +3,7 @@ ghost use Rattle.ms_arena.specs.Diagram.{IsValid};
 ghost use Rattle.ms_arena.specs.Target.{Extends};
 
 use crate::pairs::Pairs;
+use crate::places::PlaceTable;
 use crate::sets::Sets;
 use crate::store::Store;
 use indexmap::IndexMap;
@@ -14,9 +15,14 @@ use std::marker::Model;
 
 /// What each key has become in a store. A caller keeps it from call to call, so that what several diagrams share is
 /// built once. Contracts see the list of its entries.
-#[derive(Drop)]
 pub struct Table<K: Eq + Hash + Drop> {
     done: IndexMap<K, Ref>,
+}
+
+impl<K: Eq + Hash + Drop> Drop for Table<K> {
+    fn drop(self) {
+        let Table { done: _ } = self;
+    }
 }
 
 /// What pairs of references have become, where a numbering of pairs grows beside it.
@@ -24,9 +30,6 @@ pub type PairTable = Table<(Ref, Ref)>;
 
 /// What lists of references have become, where a numbering of sets grows beside it.
 pub type ListTable = Table<Vec<Ref>>;
-
-/// What the nodes at places of a store have become.
-pub type PlaceTable = Table<u32>;
 
 impl<K: Eq + Hash + Drop> Model for Table<K> {
     ghost use Rattle.std.specs.Prelude.{List};
@@ -117,7 +120,7 @@ impl Store {
         ensures table { AreBrought from.now.nodes map.now self.new.nodes table.new }
     {
         let _ = self.len();
-        self.bring_at(from, root, map, &mut table.done)
+        self.bring_at(from, root, map, table)
     }
 
     /// What `relabel` gives, over what earlier calls have noted for this map.
@@ -134,6 +137,6 @@ impl Store {
         ensures table { AreRelabelled self.new.nodes map.now table.new }
     {
         let _ = self.len();
-        self.relabel_at(root, map, &mut table.done)
+        self.relabel_at(root, map, table)
     }
 }

@@ -39,7 +39,7 @@ module _ (n : Numbering) where
     as_many_in unrestricted = refl
     as_many_in (restricted d) = as_many d
 
-main_few : (problem : Problem) → subformulas (main_root problem).formula ≤ 17 * size_of_source problem
+pub main_few : (problem : Problem) → subformulas (main_root problem).formula ≤ 17 * size_of_source problem
 main_few problem =
     let c = callees_of problem.given in
     let x = extents_of problem.given.predicates in

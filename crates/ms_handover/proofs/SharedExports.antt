@@ -145,16 +145,14 @@ names_of_variables number (v ∷ vs) = ap (λ (xs : List ℕ). number v.order v.
 
 module _ (checked : Checked) (answers : Answers) (well : IsWellNumbered checked) (lists : ListsVariables checked (problem_of checked answers)) (count : ℕ) (orders : List Order)
     (has : HasOrders checked.globals count orders) where
-  export_lowered : (i : ℕ) (root : code.Root) → IsRootFor checked (problem_of checked answers) (suc i) root → BoundHaveOrders orders (core_form_of root.core) → above_root root ≤ length orders →
-      IsLoweredRoot (problem_of checked answers).given.imports orders root
-  export_lowered i root r bound above =
+  -- the variables of the root of an export have their orders
+  pub export_listed : (i : ℕ) (root : code.Root) (r : IsRootFor checked (problem_of checked answers) (suc i) root) → above_root root ≤ length orders → Each (HasOrder orders) r.made.variables
+  export_listed i root r above =
       let problem = problem_of checked answers in
       let tables = tables_of checked in
       let imports = problem.given.imports in
       let globals = length checked.globals in
       let seen = globals_seen checked in
-      let known = root_scopes checked answers (suc i) r.own r.is_root lists in
-      let n = numbering_in globals imports r.own in
       let kept = min globals (first_free r.own.variables) in
       let within : kept ≤ globals = omega arith in
       let own_variables : r.own.variables ≡ r.is_root.1 = ap (λ s. s.variables) r.is_root.4 in
@@ -170,8 +168,18 @@ module _ (checked : Checked) (answers : Answers) (well : IsWellNumbered checked)
       ap (λ s. map (λ (v : Variable). v.name) s.variables) r.numbers ∙ names_of_variables (number_at kept globals) r.own.variables in
       let numbers : root.variables ≡ map (λ (v : Variable). number_at kept globals v.order v.name) r.own.variables = sym r.variables ∙ made in
       let few : above_all (map (λ (v : Variable). number_at kept globals v.order v.name) r.own.variables) ≤ length orders = let e = ap above_all numbers in omega (arith, e, above) in
-      let listed : Each (HasOrder orders) r.made.variables =
-      subst (λ s. Each (HasOrder orders) s.variables) (sym r.numbers) (orders_at checked answers well lists count orders has kept r.own.variables within are_globals few) in
+      subst (λ s. Each (HasOrder orders) s.variables) (sym r.numbers) (orders_at checked answers well lists count orders has kept r.own.variables within are_globals few)
+
+  export_lowered : (i : ℕ) (root : code.Root) → IsRootFor checked (problem_of checked answers) (suc i) root → BoundHaveOrders orders (core_form_of root.core) → above_root root ≤ length orders →
+      IsLoweredRoot (problem_of checked answers).given.imports orders root
+  export_lowered i root r bound above =
+      let imports = (problem_of checked answers).given.imports in
+      let globals = length checked.globals in
+      let known = root_scopes checked answers (suc i) r.own r.is_root lists in
+      let n = numbering_in globals imports r.own in
+      let kept = min globals (first_free r.own.variables) in
+      let within : kept ≤ globals = omega arith in
+      let listed = export_listed i root r above in
       let stands = subst (Stands imports r.made.variables) r.formula r.stands in
       record {
         rising =
@@ -188,6 +196,15 @@ module _ (checked : Checked) (answers : Answers) (well : IsWellNumbered checked)
       IsLoweredRoot (problem_of checked answers).given.imports orders root
   each_lowered zero root r bound above = root_lowered checked answers lists orders has.of_globals root r bound
   each_lowered (suc i) root r bound above = export_lowered i root r bound above
+
+-- the variables of the roots of exports have their orders
+pub exports_listed : (checked : Checked) (answers : Answers) → IsWellNumbered checked → ListsVariables checked (problem_of checked answers) → (roots : List code.Root) (orders : List Order)
+    → HasOrders checked.globals (above_roots roots) orders → (i : ℕ) (root : code.Root) → slice_get roots (suc i) ≡ Some root → (r : IsRootFor checked (problem_of checked answers) (suc i) root)
+    → Each (HasOrder orders) r.made.variables
+exports_listed checked answers well lists roots orders has i root held r =
+    let above = above_at roots (suc i) root held in
+    let enough = has.enough in
+    export_listed checked answers well lists (above_roots roots) orders has i root r (omega (arith, above, enough))
 
 pub sources_of_few_shared : SourcesOfFewSubformulasAreShared
 sources_of_few_shared checked answers lowered well lists has orders bound few = record {
