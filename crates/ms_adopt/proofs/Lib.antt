@@ -1,0 +1,16 @@
+pub mod AgreeLemmas
+pub mod CheckedLemmas
+pub mod ExampleLemmas
+pub mod FileLemmas
+pub mod LawLemmas
+pub mod ListLemmas
+pub mod MapLemmas
+pub mod ModeLemmas
+pub mod NumberLemmas
+pub mod OpenLemmas
+pub mod PairLemmas
+pub mod RunLemmas
+pub mod SaidLemmas
+pub mod SetLemmas
+pub mod ValueLemmas
+pub mod VariableLemmas

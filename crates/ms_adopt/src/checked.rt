@@ -1,0 +1,70 @@
+ghost use Rattle.std.specs.Prelude.{◌≡◌, ◌≢◌, ◌≤◌, length, IfOk, IfErr, Some};
+ghost use Rattle.ms_edge.specs.declared.refusal.Word.{Word};
+ghost use Rattle.ms_dfa.specs.Automaton.{variables_of};
+ghost use Rattle.ms_logic.specs.declared.sign.Sign.TheVariants.{Outside};
+ghost use Rattle.ms_logic.specs.Content.{sign_of};
+ghost use Rattle.ms_logic.specs.Roots.{AreRising};
+ghost use Rattle.ms_adopt.specs.Checked.{IsChecked, TellsNumbers};
+ghost use Rattle.ms_adopt.specs.Said.{IsAtLimit, read_over};
+ghost use Rattle.ms_adopt.specs.Sets.{as_sets};
+
+use ms_dfa::{Automaton, Track};
+use ms_diagram::{PairTable, Pairs, Store};
+use ms_edge::{List, StepFault};
+use ms_explore::explore;
+use ms_logic::Mode;
+use ms_product::{Op, Product, ProductMachine, bring};
+use std::alloc::Global;
+
+/// What is said where numbers are read as sets, over the tracks themselves: Outside where a word encodes no numbers. The
+/// product of both automata, side by side on one word.
+pub(crate) fn checked(
+    alloc: Global,
+    said: &Automaton,
+    numbers: &Automaton,
+    tracks: List<Track>,
+    limit: u64,
+) -> Result<Automaton, StepFault>
+    requires rising { AreRising (variables_of tracks) }
+    requires sets { said.now.variables ≡ as_sets (variables_of tracks) }
+    requires inside { (word : Word) → sign_of (read_over (variables_of tracks) said.now) word ≢ Some Outside }
+    requires tells { TellsNumbers (variables_of tracks) (length tracks) numbers.now }
+    requires some { 1 ≤ limit }
+    requires small { limit ≤ 4000000000 }
+    ensures checked { IfOk result (IsChecked said.now (variables_of tracks)) }
+    ensures limit { IfErr result (IsAtLimit limit) }
+{
+    let mut store = Store::new(alloc, limit);
+    let left = match bring(alloc, &mut store, said, said.tracks()) {
+        Ok(left) => left,
+        Err(fault) => return Err(fault),
+    };
+    // The states tell that it is an automaton.
+    let _ = numbers.states();
+    let right = match bring(alloc, &mut store, numbers, tracks.slice()) {
+        Ok(right) => right,
+        Err(fault) => return Err(fault),
+    };
+    let op = Op::And;
+    let pairs = Pairs::new(alloc);
+    let product = Product {
+        op,
+        left,
+        right,
+        pairs,
+    };
+    let mut machine = ProductMachine {
+        product,
+        table: PairTable::new(alloc),
+    };
+    let mut states = List::new(alloc);
+    let explored = explore(&mut machine, &mut store, &mut states);
+    let product = machine.product;
+    // The length tells that the pairs are a numbering.
+    let _ = product.pairs.len();
+    let start = match explored {
+        Ok(start) => start,
+        Err(fault) => return Err(fault),
+    };
+    Ok(Automaton::make(store, Mode::M2lStr, tracks, start, states))
+}

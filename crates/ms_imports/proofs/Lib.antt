@@ -1,0 +1,4 @@
+pub mod Later
+pub mod Takings
+pub mod Told
+pub mod Worked

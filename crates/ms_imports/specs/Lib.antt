@@ -1,0 +1,5 @@
+pub mod Adopted
+pub mod Examples
+pub mod Imports
+pub mod Laws
+pub mod Taken

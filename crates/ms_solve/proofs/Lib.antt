@@ -1,0 +1,14 @@
+pub mod AgreeingImports
+pub mod ExportFiles
+pub mod ExportNames
+pub mod FileValues
+pub mod GlobalLemmas
+pub mod Graphs
+pub mod ImportAnswers
+pub mod ImportOrders
+pub mod MovedWords
+pub mod PartsLemmas
+pub mod RootNames
+pub mod RootValues
+pub mod SignOver
+pub mod Solved

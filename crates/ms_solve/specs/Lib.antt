@@ -1,0 +1,7 @@
+pub mod Asked
+pub mod Copies
+pub mod Graph
+pub mod Imported
+pub mod Limits
+pub mod Solution
+pub mod Values

@@ -1,0 +1,6 @@
+pub mod Files
+pub mod Grammar
+pub mod Loads
+pub mod Reading
+pub mod Views
+pub mod Worked
