@@ -1,5 +1,5 @@
 -- Two sources that can be compared are refused for want of memory or of nodes alone.
-use Rattle.std.proofs.Common.{◌≡◌, ℕ, ◌≤◌, inl, inr, List, [], ◌∷◌, length, map, Option, Some, refl, sym, ap, ◌∙◌, subst, arith}
+use Rattle.std.proofs.Common.{◌≡◌, ℕ, ◌≤◌, inl, inr, List, [], ◌∷◌, length, map, Option, None, Some, refl, sym, ap, ◌∙◌, subst, arith}
 use Rattle.ms_edge.specs.Counts.{Rose}
 use Rattle.ms_edge.specs.Files.{FilesTold, Holding, Seen}
 use Rattle.ms_edge.specs.declared.refusal.Refusal.{Refusal}
@@ -12,7 +12,9 @@ use Rattle.ms_loads.specs.Told.{TellSame}
 use Rattle.ms_loads.proofs.Loads.{one_load}
 use Rattle.ms_loads.proofs.Typing.{one_globals}
 use Rattle.ms_app.specs.Comparison as comparisons
-use Rattle.ms_app.specs.Comparison.{AreParts, AreSolved, HaveSameGlobals, IsRefusedComparison}
+use Rattle.ms_app.specs.Comparison.{AreParts, AreSolved, HaveSameGlobals, IsRefusedComparison, Taken}
+use Rattle.ms_imports.specs.Imports.{answers_by}
+use Rattle.ms_solve.specs.Limits.{HasFewParts}
 use Rattle.ms_app.specs.Source.{IsRefused, IsSolved, file_of}
 use Rattle.ms_app.proofs.Solvable.{IsWant, files_settle, solvable}
 
@@ -55,7 +57,7 @@ first_told holding seen first rest are told = ap held_by are.begin ∙ told
 rest_told : (holding : Holding) (seen first rest : Seen) → AreParts seen first rest → seen.before.held ≡ Some holding → rest.before.held ≡ Some holding
 rest_told holding seen first rest are told = ap held_by are.middle ∙ (are.reads.held ∙ first_told holding seen first rest are told)
 
-rose_within : (a b c : ℕ) → a ≤ b → Rose b c → Rose a c
+pub rose_within : (a b c : ℕ) → a ≤ b → Rose b c → Rose a c
 rose_within a b c le (inl less) = inl (omega (arith, le, less))
 rose_within a b c le (inr last) = inr last
 
@@ -68,7 +70,7 @@ rest_rose seen first rest are rose =
 
 -- the left file, and the right one, of two comparisons in one request
 
-same_left : (holding : Holding) (left right right' : List ℕ) (seen : Seen) (one two one' two' : Checked) → seen.before.held ≡ Some holding →
+same_left : (holding : Holding) (left right right' : List ℕ) (seen : Seen) (one two one' two' : Taken) → seen.before.held ≡ Some holding →
     (are : AreSolved left right seen one two) (are' : AreSolved left right' seen one' two') → are.left_loaded ≡ are'.left_loaded
 same_left holding left right right' seen one two one' two' told are are' =
     one_load are.first are'.first (record {
@@ -77,32 +79,32 @@ same_left holding left right right' seen one two one' two' told are are' =
       other_told = first_told holding seen are'.first are'.rest are'.are_parts told;
     }) 0 left are.left_loaded are'.left_loaded are.is_left.is.is.is_loaded are'.is_left.is.is.is_loaded
 
-same_right : (holding : Holding) (left right : List ℕ) (seen : Seen) (one two one' two' : Checked) → seen.before.held ≡ Some holding →
+same_right : (holding : Holding) (left right : List ℕ) (seen : Seen) (one two one' two' : Taken) → seen.before.held ≡ Some holding →
     (are : AreSolved left right seen one two) (are' : AreSolved left right seen one' two') → are.right_loaded ≡ are'.right_loaded
 same_right holding left right seen one two one' two' told are are' =
     let same = same_left holding left right right seen one two one' two' told are are' in
-    let is = subst (λ (l : Loaded). IsSolved (file_of are'.rest (length l.files) right) are'.right_loaded two') (sym same) are'.is_right in
+    let is = subst (λ (l : Loaded). IsSolved (file_of are'.rest (length l.files) right) None are'.right_loaded two'.checked two'.plains) (sym same) are'.is_right in
     one_load are.rest are'.rest (record {
       holding = holding;
       one_told = rest_told holding seen are.first are.rest are.are_parts told;
       other_told = rest_told holding seen are'.first are'.rest are'.are_parts told;
     }) (length are.left_loaded.files) right are.right_loaded are'.right_loaded are.is_right.is.is.is_loaded is.is.is.is_loaded
 
-same_globals : (holding : Holding) (left right : List ℕ) (seen : Seen) (one two one' two' : Checked) → seen.before.held ≡ Some holding →
-    AreSolved left right seen one two → AreSolved left right seen one' two' → HaveSameGlobals one two → HaveSameGlobals one' two'
+same_globals : (holding : Holding) (left right : List ℕ) (seen : Seen) (one two one' two' : Taken) → seen.before.held ≡ Some holding →
+    AreSolved left right seen one two → AreSolved left right seen one' two' → HaveSameGlobals one.checked two.checked → HaveSameGlobals one'.checked two'.checked
 same_globals holding left right seen one two one' two' told are are' globals =
     let on_left = same_left holding left right right seen one two one' two' told are are' in
     let on_right = same_right holding left right seen one two one' two' told are are' in
-    let first = same_source are'.left_loaded one one' (subst (λ l. IsTyped l one) on_left are.is_left.is.is.typed) are'.is_left.is.is.typed in
-    let second = same_source are'.right_loaded two two' (subst (λ l. IsTyped l two) on_right are.is_right.is.is.typed) are'.is_right.is.is.typed in
-    joined one' one two' (turned one one' first) (joined one two two' globals second)
+    let first = same_source are'.left_loaded one.checked one'.checked (subst (λ l. IsTyped l one.checked) on_left are.is_left.is.is.typed) are'.is_left.is.is.typed in
+    let second = same_source are'.right_loaded two.checked two'.checked (subst (λ l. IsTyped l two.checked) on_right are.is_right.is.is.typed) are'.is_right.is.is.typed in
+    joined one'.checked one.checked two'.checked (turned one.checked one'.checked first) (joined one.checked two.checked two'.checked globals second)
 
-pub comparable : (holding : Holding) (left right : List ℕ) (limit : ℕ) (seen : Seen) (one two : Checked) → seen.before.held ≡ Some holding → (Rose seen.before.faults seen.after.faults → ⊥) →
-    AreSolved left right seen one two → HaveSameGlobals one two → (refusal : Refusal) (files : List (List ℕ)) → IsRefusedComparison left right limit seen refusal files → IsWant limit refusal
-comparable holding left right limit seen one two told reads are globals refusal files (comparisons.left_refused why) =
+pub comparable : (holding : Holding) (left right : List ℕ) (limit : ℕ) (seen : Seen) (one two : Taken) → seen.before.held ≡ Some holding → (Rose seen.before.faults seen.after.faults → ⊥) →
+    AreSolved left right seen one two → HasFewParts one.checked (answers_by one.checked.imports one.plains) → HasFewParts two.checked (answers_by two.checked.imports two.plains) → HaveSameGlobals one.checked two.checked → (refusal : Refusal) (files : List (List ℕ)) → IsRefusedComparison left right limit seen refusal files → IsWant limit refusal
+comparable holding left right limit seen one two told works are few_left few_right globals refusal files (comparisons.left_refused why) =
     let same : TellSame are.first seen = record { holding = holding; one_told = first_told holding seen are.first are.rest are.are_parts told; other_told = told } in
-    solvable (file_of are.first 0 left) (file_of seen 0 left) (files_settle are.first seen same reads 0 left) are.left_loaded one are.is_left limit refusal files why
-comparable holding left right limit seen one two told reads are globals refusal files (comparisons.right_refused first rest are_parts loaded one' is_left read all why) =
+    solvable (file_of are.first 0 left) (file_of seen 0 left) (files_settle are.first seen same works 0 left) None are.left_loaded one.checked one.plains are.is_left few_left limit refusal files why
+comparable holding left right limit seen one two told works are few_left few_right globals refusal files (comparisons.right_refused first rest are_parts loaded one' is_left read all why) =
     let left_same : are.left_loaded ≡ loaded = one_load are.first first (record {
       holding = holding;
       one_told = first_told holding seen are.first are.rest are.are_parts told;
@@ -114,9 +116,9 @@ comparable holding left right limit seen one two told reads are globals refusal 
       other_told = rest_told holding seen first rest are_parts told;
     } in
     let base = length are.left_loaded.files in
-    solvable (file_of are.rest base right) (file_of rest base right) (files_settle are.rest rest same (λ rose. reads (rest_rose seen first rest are_parts rose)) base right)
-    are.right_loaded two are.is_right limit refusal read (subst (λ (l : Loaded). IsRefused (file_of rest (length l.files) right) limit refusal read) (sym left_same) why)
-comparable holding left right limit seen one two told reads are globals refusal files (comparisons.not_comparable one' two' are' differ is) =
+    solvable (file_of are.rest base right) (file_of rest base right) (files_settle are.rest rest same (λ rose. works (rest_rose seen first rest are_parts rose)) base right)
+    None are.right_loaded two.checked two.plains are.is_right few_right limit refusal read (subst (λ (l : Loaded). IsRefused (file_of rest (length l.files) right) None limit refusal read) (sym left_same) why)
+comparable holding left right limit seen one two told works are few_left few_right globals refusal files (comparisons.not_comparable one' two' are' differ is) =
     absurd (differ (same_globals holding left right seen one two one' two' told are are' globals))
-comparable holding left right limit seen one two told reads are globals refusal files (comparisons.lacks_nodes one' two' are' same step is) = inr (step, is)
-comparable holding left right limit seen one two told reads are globals refusal files (comparisons.no_memory why) = inl why
+comparable holding left right limit seen one two told works are few_left few_right globals refusal files (comparisons.lacks_nodes one' two' are' same step is) = inr (step, is)
+comparable holding left right limit seen one two told works are few_left few_right globals refusal files (comparisons.no_memory why) = inl why

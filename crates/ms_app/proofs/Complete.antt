@@ -11,20 +11,20 @@ use Rattle.ms_report.specs.Line.{line_of}
 use Rattle.ms_words.specs.declared.command.Command.{Command}
 use Rattle.ms_words.specs.declared.command.Command.TheVariants.{Decide, Same, Gen}
 use Rattle.ms_app.specs.Answer as answers
-use Rattle.ms_app.specs.Answer.{Answer, IsAnswered, IsAnsweredFor, IsRefusedFor, Prints, answer_of, status_of}
+use Rattle.ms_app.specs.Answer.{Answer, IsAnswered, IsAnsweredFor, IsRefusedFor, IsUnwritten, Prints, answer_of, status_of}
 use Rattle.ms_app.specs.Completeness.{CanBeDone, IsComplete, LackedNodes, NothingFailed, WasDone, limit_of}
 use Rattle.ms_app.specs.Source.{file_of}
-use Rattle.ms_app.proofs.Compared.{comparable}
+use Rattle.ms_app.proofs.Compared.{comparable, rose_within}
 use Rattle.ms_words.proofs.OneCommand.{one_command}
 use Rattle.ms_app.proofs.Solvable.{IsWant, files_settle, solvable}
 
 -- what can be done is refused for want of memory or nodes alone
 want : (command : Command) (before after : SinkTold) (seen : Seen) → CanBeDone command seen → NothingFailed before after seen → (refusal : Refusal) (files : List (List ℕ)) →
     IsRefusedFor command seen refusal files → IsWant (limit_of command) refusal
-want (Decide file limit stats) before after seen can well refusal files why =
-    solvable (file_of seen 0 file) (file_of seen 0 file) (files_settle seen seen (record { holding = well.holding; one_told = well.told; other_told = well.told }) well.reads 0 file)
-    can.0 can.1 can.2 limit refusal files why
-want (Same left right limit) before after seen can well refusal files why = comparable well.holding left right limit seen can.0 can.1 well.told well.reads can.2 can.3 refusal files why
+want (Decide file out limit stats) before after seen can well refusal files why =
+    solvable (file_of seen 0 file) (file_of seen 0 file) (files_settle seen seen (record { holding = well.holding; one_told = well.told; other_told = well.told }) well.works 0 file)
+    out can.0 can.1 can.2 can.3 can.4 limit refusal files why
+want (Same left right limit) before after seen can well refusal files why = comparable well.holding left right limit seen can.0 can.1 well.told well.works can.2 can.3 can.4 can.5 refusal files why
 want (Gen number false) before after seen can well refusal files (inl memory) = inl memory
 want (Gen number false) before after seen can well refusal files (inr none) = absurd (none.1 can)
 want (Gen number true) before after seen can well refusal files (inl memory) = inl memory
@@ -43,15 +43,20 @@ wanted command before after refusal files status (is, taken) (inl memory) = inl 
 wanted command before after refusal files status (is, taken) (inr (step, nodes)) =
     inr (is ∙ ap status_of nodes, (step, files, taken ∙ ap (λ r. grown before.taken (line_of r files)) nodes))
 
+-- a write that failed is a fault
+unwritten_rose : (command : Command) (seen : Seen) (name : List ℕ) → IsUnwritten command seen name → Rose seen.before.faults seen.after.faults
+unwritten_rose command seen name is = rose_within seen.before.faults is.middle.faults seen.after.faults is.reads.counts.faults is.rose
+
 answered : (command : Command) (before after : SinkTold) (seen : Seen) (status : Status) → CanBeDone command seen → NothingFailed before after seen → IsAnsweredFor command before after seen status →
     WasDone command before after seen status ⊎ (status ≡ NoMemory) ⊎ LackedNodes command before after status
-answered command before after seen status can well (inl (text, is, prints)) =
+answered command before after seen status can well (answers.done text is prints) =
     let all = printed before after (answers.done_with text) status well.prints prints in inl (all.0, (text, is, all.1))
-answered command before after seen status can well (inr (refusal, files, why, prints)) =
+answered command before after seen status can well (answers.unwritten name is prints) = absurd (well.works (unwritten_rose command seen name is))
+answered command before after seen status can well (answers.refused reads refusal files why prints) =
     inr (wanted command before after refusal files status (printed before after (answer_of refusal files) status well.prints prints) (want command before after seen can well refusal files why))
 
 pub complete : (words : List (List ℕ)) (before after : SinkTold) (seen : Seen) (status : Status) → IsAnswered words before after seen status → IsComplete words before after seen status
-complete words before after seen status (answers.no_command none prints) command is can well = absurd (none command is)
+complete words before after seen status (answers.no_command none kept prints) command is can well = absurd (none command is)
 complete words before after seen status (answers.asked command' is' answer) command is can well =
     answered command before after seen status can well (subst (λ c. IsAnsweredFor c before after seen status) (one_command words command' command is' is) answer)
-complete words before after seen status (answers.no_words prints) command is can well = inr (inl (printed before after (answer_of Memory []) status well.prints prints).0)
+complete words before after seen status (answers.no_words kept prints) command is can well = inr (inl (printed before after (answer_of Memory []) status well.prints prints).0)

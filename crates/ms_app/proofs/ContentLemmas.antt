@@ -1,46 +1,45 @@
 -- The canonical content of an automaton with a main value gives that value.
-use Rattle.std.proofs.Common.{◌≡◌, List, [], ◌∷◌, map, take, drop, slice_get, refl, sym, ap, ap₂, subst, ◌∙◌}
+use Rattle.std.proofs.Common.{◌≡◌, ℕ, List, [], ◌∷◌, map, take, drop, slice_get, refl, sym, ap, ap₂, subst, ◌∙◌}
 use Rattle.std.proofs.lemmas.Option.{none-some, same_Some}
-use Rattle.std.specs.Option.{option_map}
-use Rattle.ms_edge.specs.declared.refusal.Word.{Word}
+use Rattle.ms_canonical.specs.Files.{content_of_file, file_states_of}
+use Rattle.ms_canonical.proofs.OrdersLemmas.{orders_of}
 use Rattle.ms_dfa.specs.declared.plain.FileState.{FileState}
 use Rattle.ms_dfa.specs.declared.plain.Plain.{Plain}
 use Rattle.ms_logic.specs.declared.sign.Sign.{Sign}
-use Rattle.ms_logic.specs.Assignment.{IsAssignment}
-use Rattle.ms_logic.specs.Canonical.{IsCanonical}
-use Rattle.ms_logic.specs.Content.{Content, IsWordOver, sign_of, variables_by_place}
-use Rattle.ms_logic.specs.Verdict.{Problem}
-use Rattle.ms_logic.specs.Word.{Encodes, IsEncoding}
-use Rattle.ms_logic.proofs.WordLaws.{encoding_is_over}
-use Rattle.ms_canonical.specs.Files.{content_of_file, file_sign, file_states_of}
+use Rattle.ms_logic.specs.Assignment.{Variable}
+use Rattle.ms_logic.specs.Content.{Content, variables_by_place}
+use Rattle.ms_logic.specs.Verdict.{Problem, variables_of}
+use Rattle.ms_solve.specs.Copies.{IsCanonicalCopy}
+use Rattle.ms_solve.specs.Values.{GivesValue, HasMainValue, IsFileOf, IsMainFile, content_over}
+use Rattle.ms_solve.proofs.FileValues.{file_of}
+use Rattle.ms_theory.specs.Values.{HasValues, main_meaning}
 use Rattle.ms_app.specs.Counts.{IsCanonicalOf}
-use Rattle.ms_app.specs.HasValue.{HasMainValue}
 
 module _ (problem : Problem) (content : Content Sign) (value : HasMainValue problem content)
-    (by_place : content.variables ≡ variables_by_place (map (λ v. v.order) content.variables)) (plain : Plain) (mode : plain.mode ≡ content.mode)
-    (orders : map (λ v. v.order) plain.variables ≡ map (λ v. v.order) content.variables)
-    (signs : (word : Word) → IsWordOver content.variables word → sign_of (content_of_file plain) word ≡ option_map file_sign (sign_of content word))
-    (canonical : IsCanonical (content_of_file plain)) where
-  same_variables : (content_of_file plain).variables ≡ content.variables
-  same_variables = ap variables_by_place orders ∙ sym by_place
+    (by_place : content.variables ≡ variables_by_place (map (λ v. v.order) content.variables)) (names : List (List ℕ)) (plain : Plain) (copy : IsCanonicalCopy content names plain) where
+  abbrev orders_are : orders_of (variables_of problem.globals) ≡ orders_of content.variables
+  orders_are = ap orders_of (sym value.variables)
+
+  abbrev values : HasValues (main_meaning problem) (record content { variables = variables_of problem.globals })
+  values = let P : List Variable → Type 0 = λ vs. HasValues (main_meaning problem) (record content { variables = vs }) in subst P value.variables value.values
+
+  -- the file of the main value
+  pub file_of_value : IsMainFile problem names plain
+  file_of_value =
+      subst (λ mode. IsFileOf mode (variables_of problem.globals) names (main_meaning problem) plain) value.mode
+      (file_of content names plain copy (variables_of problem.globals) orders_are (main_meaning problem) values)
+
+  same_variables : (content_of_file plain).variables ≡ variables_of problem.globals
+  same_variables = ap variables_by_place copy.orders ∙ sym by_place ∙ value.variables
 
   pub canonical_of_value : IsCanonicalOf problem (content_of_file plain)
   canonical_of_value = record {
-    mode = mode ∙ value.mode;
-    variables = same_variables ∙ value.variables;
-    canonical = canonical;
-    value = record {
-      right = λ word e assigned encodes.
-          let here = subst (λ vs. IsAssignment content.mode vs e) same_variables (subst (λ m. IsAssignment m (content_of_file plain).variables e) mode assigned) in
-          let code = subst (λ vs. Encodes vs word e) same_variables encodes in
-          let found = value.values.right word e here code in
-          (found.0, signs word (encoding_is_over content.variables word e code) ∙ ap (option_map file_sign) found.1, found.2);
-      outside = λ word over out.
-          let there = subst (λ vs. IsWordOver vs word) same_variables over in
-          signs word there
-          ∙ ap (option_map file_sign) (value.values.outside word there
-          (λ encoding. out (subst (λ m. IsEncoding m (content_of_file plain).variables word) (sym mode) (subst (λ vs. IsEncoding content.mode vs word) (sym same_variables) encoding))));
-    };
+    mode = copy.mode_is ∙ value.mode;
+    variables = same_variables;
+    canonical = copy.canonical;
+    value =
+        let P : List Variable → Type 0 = λ vs. GivesValue (main_meaning problem) (content_over vs plain) in
+        subst P (sym same_variables) file_of_value.value;
   }
 
 -- a state of a file by what its content says of it

@@ -19,7 +19,7 @@ use Rattle.ms_theory.specs.Values.{Meaning, IsMeaning, HasValues, main_meaning}
 use Rattle.ms_theory.proofs.ValuesLemmas.{IsMeaning-main, sign_if_right, right_if_sign}
 use Rattle.ms_best.specs.FirstWord.{bits_of_word, IsFirstWord, NoWordHas}
 use Rattle.ms_app.specs.Decision.{ShowsFirst}
-use Rattle.ms_app.specs.HasValue.{HasMainValue}
+use Rattle.ms_solve.specs.Values.{HasMainValue}
 
 -- letters one after the other are their bits
 flat_letters : (g : ℕ → List Bool) (ns : List ℕ) → flat_map (λ (letter : List Bool). letter) (map g ns) ≡ flat_map g ns

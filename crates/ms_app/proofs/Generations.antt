@@ -1,22 +1,35 @@
 -- What comes of a generated source.
-use Rattle.std.proofs.Common.{◌≡◌, ◌⊎◌, inl, inr, ℕ, true, List, [], ◌∷◌, ◌++◌, length, map, sym, ap, subst, ◌∙◌}
+use Rattle.std.proofs.Common.{◌≡◌, ◌⊎◌, ◌+◌, ◌≤◌, inl, inr, ℕ, true, List, [], ◌∷◌, ◌++◌, length, map, slice_get, None, Some, refl, sym, ap, subst, ◌∙◌, arith}
+use Rattle.ms_core.specs.Subformulas.{subformulas}
+use Rattle.ms_handover.proofs.FewOfSources.{main_few}
+use Rattle.ms_imports.specs.Imports.{answers_by}
+use Rattle.ms_include.specs.Load.{IsLoadedText}
+use Rattle.ms_dfa.specs.declared.plain.Plain.{Plain}
 use Rattle.ms_edge.specs.declared.refusal.Refusal.{Refusal}
 use Rattle.ms_edge.specs.declared.refusal.Refusal.TheVariants.{Memory, Nodes}
 use Rattle.ms_accepted.proofs.Accepting.{sources-are-accepted}
 use Rattle.ms_accepted.proofs.EachLoad.{sources-are-valid}
 use Rattle.ms_gen.specs.Generated.{IsNumber, generated}
+use Rattle.ms_logic.specs.declared.checked.ImportUse.{ImportUse}
+use Rattle.ms_logic.specs.declared.sign.Sign.{Sign}
+use Rattle.ms_logic.specs.Content.{Content}
+use Rattle.ms_logic.specs.Roots.{IsRoot, Root}
+use Rattle.ms_logic.specs.Size.{size_of_source}
+use Rattle.ms_logic.specs.Verdict.{IsValid, Problem}
 use Rattle.ms_logic.specs.View.{problem_of}
+use Rattle.ms_logic.specs.declared.checked.ExportUse.{ExportUse}
 use Rattle.ms_logic.specs.declared.checked.Checked.{Checked}
 use Rattle.ms_logic.specs.declared.source.Loaded.{Loaded}
 use Rattle.ms_report.specs.declared.found.Found.{Found}
+use Rattle.ms_solve.specs.Imported.{AreAnswersOf, AreLentFor}
+use Rattle.ms_solve.specs.Limits.{HasFewParts, IsUnsolved, IsWithinLimits, subformulas_of_all}
 use Rattle.ms_words.specs.Command.{node_limit}
 use Rattle.ms_app.specs.Answer.{IsNoNumber, generated_name}
-use Rattle.ms_app.specs.Beyond.{first_use}
 use Rattle.ms_app.specs.Counts.{HasStats}
 use Rattle.ms_app.specs.Decision.{IsDecided, IsFound}
 use Rattle.ms_app.specs.Laws.{GeneratedSourcesAreFoundValid}
-use Rattle.ms_app.specs.Limits.{IsUnsolved, IsWithinLimits}
-use Rattle.ms_app.specs.Source.{IsBuilt, IsRefused, IsSolved, IsUnaccepted, text_of, unaccepted, unsolved}
+use Rattle.ms_app.specs.Source.{IsAccepted, IsRefused, IsSolved, IsTaken, IsUnaccepted, problem_with, text_of, unaccepted, unsolved}
+use Rattle.ms_app.specs.Written.{AreFilesFrom, AreFilesOf, File}
 use Rattle.ms_app.proofs.Solvable.{solvable, texts_settle}
 use Rattle.ms_app.proofs.VerdictLemmas.{none_against, valid_alone}
 
@@ -24,58 +37,116 @@ use Rattle.ms_app.proofs.VerdictLemmas.{none_against, valid_alone}
 abbrev pub IsRefusedGeneration : ℕ → Refusal → Type 0
 IsRefusedGeneration number refusal = (refusal ≡ Memory) ⊎ IsNoNumber number refusal ⊎ (IsNumber number × ((step : ℕ) × (refusal ≡ Nodes step node_limit)))
 
+-- what imports nothing stands for one problem
+alone_problem : (checked : Checked) (plains : List Plain) → checked.imports ≡ [] → problem_of checked [] ≡ problem_with checked plains
+alone_problem checked plains none = ap (λ uses. problem_of checked (answers_by uses plains)) (sym none)
+
 -- a generated source can be solved
-solved : (number : ℕ) (is : IsNumber number) → let found = sources-are-accepted number generated_name is in IsSolved (text_of generated_name (generated number)) found.loaded found.checked
+solved : (number : ℕ) (is : IsNumber number) → let found = sources-are-accepted number generated_name is in IsSolved (text_of generated_name (generated number)) None found.loaded found.checked []
 solved number is =
     let found = sources-are-accepted number generated_name is in
     record {
       is = record {
         is = record { is_loaded = found.is_loaded; accepted = found.no_fault; typed = found.is_typed };
-        built = ap (λ imports. first_use imports found.checked.exports) found.within.imports ∙ ap (first_use []) found.within.exports;
+        free = tt;
+        imported = (found.within.imports, refl);
       };
-      within = record { depth = found.within.depth; size = found.within.size };
+      within = subst IsWithinLimits (alone_problem found.checked [] found.within.imports) (record { depth = found.within.depth; size = found.within.size });
     }
 
--- and what is found of it is that it is valid
+-- and has few parts, since it exports nothing
+one_root : (problem : Problem) (roots : List Root) → length roots ≡ 1 → ((k : ℕ) (root : Root) → slice_get roots k ≡ Some root → IsRoot problem k root) → size_of_source problem ≤ 1000000
+    → subformulas_of_all roots + length roots ≤ 4294967295
+one_root problem [] one are small = absurd (omega (arith, one))
+one_root problem (root ∷ []) one are small =
+    let main = ap (λ (r : Root). subformulas r.formula) (are 0 root refl) in
+    let few = main_few problem in
+    omega (arith, main, few, small)
+one_root problem (root ∷ other ∷ more) one are small = absurd (omega (arith, one))
+
+few : (number : ℕ) (is : IsNumber number) → let found = sources-are-accepted number generated_name is in HasFewParts found.checked (answers_by found.checked.imports [])
+few number is =
+    let found = sources-are-accepted number generated_name is in
+    λ roots are.
+    let exports = ap (λ (list : List ExportUse). length list) found.within.exports in
+    let count = are.all in
+    let problem = problem_with found.checked [] in
+    one_root problem roots (omega (arith, count, exports)) are.each (subst (λ p. size_of_source p ≤ 1000000) (alone_problem found.checked [] found.within.imports) found.within.size)
+
+-- what is found of it is that it is valid
 pub found-valid : GeneratedSourcesAreFoundValid
-found-valid number stats found is decided =
+found-valid number stats found files is decided =
     let accepted = decided.is.is.is in
+    let uses = decided.is.is.imported.0 in
     let valid = (sources-are-valid number generated_name decided.loaded decided.checked is accepted.is_loaded accepted.typed).1 in
-    let problem = problem_of decided.checked [] in
-    (valid_alone problem valid found.verdict decided.is_found.verdict, none_against problem valid found.counterexample decided.is_found.counterexample)
+    let here = subst IsValid (alone_problem decided.checked decided.plains uses) valid in
+    let problem = problem_with decided.checked decided.plains in
+    (valid_alone problem here found.verdict decided.is_found.verdict, none_against problem here found.counterexample decided.is_found.counterexample)
 
 -- so it is refused for want of memory or of nodes alone
-wanting : (number : ℕ) → IsNumber number → (refusal : Refusal) (files : List (List ℕ)) → IsRefused (text_of generated_name (generated number)) node_limit refusal files → IsRefusedGeneration number refusal
+wanting : (number : ℕ) → IsNumber number → (refusal : Refusal) (files : List (List ℕ)) → IsRefused (text_of generated_name (generated number)) None node_limit refusal files → IsRefusedGeneration number refusal
 wanting number is refusal files why =
     let origin = text_of generated_name (generated number) in
     let found = sources-are-accepted number generated_name is in
-    elim (solvable origin origin (texts_settle generated_name (generated number)) found.loaded found.checked (solved number is) node_limit refusal files why) [
+    elim (solvable origin origin (texts_settle generated_name (generated number)) None found.loaded found.checked [] (solved number is) (few number is) node_limit refusal files why) [
       | inl memory ↦ inl memory
       | inr lacks ↦ inr (inr (is, lacks))
     ]
+
+-- it imports nothing and exports nothing
+pub generated_alone : (number : ℕ) → IsNumber number → (bytes : List ℕ) → bytes ≡ generated number → (loaded : Loaded) (checked : Checked) → IsAccepted (text_of generated_name bytes) loaded checked
+    → (checked.imports ≡ []) × (checked.exports ≡ [])
+generated_alone number is bytes same loaded checked accepted =
+    let within = sources-are-valid number generated_name loaded checked is (subst (λ text. IsLoadedText generated_name text loaded) same accepted.is_loaded) accepted.typed in
+    (within.0.imports, within.0.exports)
 
 module _ (number : ℕ) (is_number : IsNumber number) (bytes : List ℕ) (is_text : bytes ≡ generated number) (old new : List (List ℕ)) (none : old ≡ []) where
   only_own : new ≡ old ++ generated_name ∷ [] → generated_name ∷ [] ≡ new
   only_own grown = sym (grown ∙ ap (λ names. names ++ generated_name ∷ []) none)
 
-  text_refused : new ≡ old ++ generated_name ∷ [] → (refusal : Refusal) → IsRefused (text_of generated_name bytes) node_limit refusal (generated_name ∷ [])
-      → IsRefused (text_of generated_name (generated number)) node_limit refusal new
+  text_refused : new ≡ old ++ generated_name ∷ [] → (refusal : Refusal) → IsRefused (text_of generated_name bytes) None node_limit refusal (generated_name ∷ [])
+      → IsRefused (text_of generated_name (generated number)) None node_limit refusal new
   text_refused grown refusal why =
-      let P : List ℕ → Type 0 = λ text. IsRefused (text_of generated_name text) node_limit refusal new in
-      subst P is_text (subst (IsRefused (text_of generated_name bytes) node_limit refusal) (only_own grown) why)
+      let P : List ℕ → Type 0 = λ text. IsRefused (text_of generated_name text) None node_limit refusal new in
+      subst P is_text (subst (IsRefused (text_of generated_name bytes) None node_limit refusal) (only_own grown) why)
 
   pub text_unaccepted : (refusal : Refusal) → (refusal ≡ Memory) ⊎ ((new ≡ old ++ generated_name ∷ []) × IsUnaccepted (text_of generated_name bytes) refusal (generated_name ∷ []))
       → IsRefusedGeneration number refusal
   text_unaccepted refusal (inl memory) = inl memory
   text_unaccepted refusal (inr (grown, why)) = wanting number is_number refusal new (text_refused grown refusal (unaccepted why))
 
-  module _ (loaded : Loaded) (checked : Checked) (is : IsBuilt (text_of generated_name bytes) loaded checked) (grown : new ≡ old ++ generated_name ∷ []) where
-    pub text_unsolved : (refusal : Refusal) → (refusal ≡ Memory) ⊎ IsUnsolved checked node_limit refusal → IsRefusedGeneration number refusal
-    text_unsolved refusal (inl memory) = inl memory
-    text_unsolved refusal (inr why) = wanting number is_number refusal new (text_refused grown refusal (unsolved loaded checked is (sym is.is.is_loaded.files) why))
+  module _ (loaded : Loaded) (checked : Checked) (is : IsAccepted (text_of generated_name bytes) loaded checked) (grown : new ≡ old ++ generated_name ∷ []) where
+    alone : (checked.imports ≡ []) × (checked.exports ≡ [])
+    alone = generated_alone number is_number bytes is_text loaded checked is
 
-    pub text_decided : (found : Found) → IsFound (problem_of checked []) (map (λ g. g.name) checked.globals) found → IsWithinLimits (problem_of checked []) → HasStats true (problem_of checked []) (length loaded.files) found.stats
-        → IsDecided (text_of generated_name (generated number)) true found
-    text_decided found is_found within counted =
-        let P : List ℕ → Type 0 = λ text. IsDecided (text_of generated_name text) true found in
-        subst P is_text (record { loaded = loaded; checked = checked; is = record { is = is; within = within }; is_found = is_found; counted = counted })
+    taken : IsTaken (text_of generated_name bytes) None loaded checked []
+    taken = record { is = is; free = tt; imported = (alone.0, refl) }
+
+    pub text_unsolved : (refusal : Refusal) → (refusal ≡ Memory) ⊎ IsUnsolved checked (answers_by checked.imports []) node_limit refusal → IsRefusedGeneration number refusal
+    text_unsolved refusal (inl memory) = inl memory
+    text_unsolved refusal (inr why) = wanting number is_number refusal new (text_refused grown refusal (unsolved loaded checked [] taken (sym is.is_loaded.files) why))
+
+    pub text_decided : (found : Found) (files : List File) → IsFound (problem_with checked []) (map (λ g. g.name) checked.globals) found → IsWithinLimits (problem_with checked [])
+        → HasStats true (problem_with checked []) (length loaded.files) found.stats → AreFilesOf (problem_with checked []) (map (λ g. g.name) checked.globals) checked.exports None files
+        → IsDecided (text_of generated_name (generated number)) None true found files
+    text_decided found files is_found within counted written =
+        let P : List ℕ → Type 0 = λ text. IsDecided (text_of generated_name text) None true found files in
+        subst P is_text (record { loaded = loaded; checked = checked; plains = []; is = record { is = taken; within = within }; is_found = is_found; counted = counted; written = written })
+
+    -- and no file is written
+    pub no_files : (names : List (List ℕ)) (problem : Problem) (files : List File) → AreFilesOf problem names checked.exports None files → files ≡ []
+    no_files names problem files are = let P : List ExportUse → Type 0 = λ exports. AreFilesFrom problem names 0 exports None files in subst P alone.1 are
+
+    -- its imports need no automata
+    pub nothing_lent : (contents : List (Content Sign)) → contents ≡ [] → AreLentFor checked.mode checked.imports contents
+    nothing_lent contents same =
+        let P : List ImportUse → Type 0 = λ uses. AreLentFor checked.mode uses [] in
+        subst (AreLentFor checked.mode checked.imports) (sym same) (subst P (sym alone.0) tt)
+
+    pub nothing_answers : (contents : List (Content Sign)) → contents ≡ [] → AreAnswersOf checked.mode checked.imports (answers_by checked.imports []) contents
+    nothing_answers contents same =
+        let P : List ImportUse → Type 0 = λ uses. AreAnswersOf checked.mode uses (answers_by uses []) [] in
+        subst (AreAnswersOf checked.mode checked.imports (answers_by checked.imports [])) (sym same) (subst P (sym alone.0) tt)
+
+    pub nothing_counted : length (answers_by checked.imports []) ≡ length checked.imports
+    nothing_counted = let P : List ImportUse → Type 0 = λ uses. length (answers_by uses []) ≡ length uses in subst P (sym alone.0) refl

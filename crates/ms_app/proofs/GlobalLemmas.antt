@@ -1,13 +1,14 @@
 -- Lists of globals that have the same names and orders up to a place.
-use Rattle.std.proofs.Common.{◌≡◌, ℕ, zero, suc, ◌+◌, List, [], ◌∷◌, length, map, slice_get, Some, refl, sym, ap, ap₂, ◌∙◌, arith}
+use Rattle.std.proofs.Common.{◌≡◌, ℕ, zero, suc, List, [], ◌∷◌, length, map, slice_get, Some, refl, sym, ap, ap₂, ◌∙◌, arith}
 use Rattle.std.specs.Option.{option_map}
 use Rattle.std.proofs.lemmas.Option.{none-some, same_Some}
 use Rattle.ms_logic.specs.declared.checked.Checked.{Checked}
 use Rattle.ms_logic.specs.declared.checked.Global.{Global}
-use Rattle.ms_logic.specs.Assignment.{Variable}
 use Rattle.ms_logic.specs.Content.{variables_from}
 use Rattle.ms_logic.specs.Verdict.{variables_of}
-use Rattle.ms_logic.specs.View.{globals_from, problem_of}
+use Rattle.ms_logic.specs.View.{problem_of}
+use Rattle.ms_lower.specs.Measure.{Answers}
+use Rattle.ms_solve.proofs.GlobalLemmas.{globals_by_place}
 use Rattle.ms_app.specs.Comparison.{HaveSameGlobals}
 
 abbrev pub IsSame : Global → Global → Type 0
@@ -52,18 +53,5 @@ mapped_same f n xs ys x y at_x at_y same =
 pub same_at : (n : ℕ) (xs ys : List Global) (x y : Global) → slice_get xs n ≡ Some x → slice_get ys n ≡ Some y → AreSame xs ys → IsSame x y
 same_at n xs ys x y at_x at_y same = (mapped_same (λ g. g.name) n xs ys x y at_x at_y same.0, mapped_same (λ g. g.order) n xs ys x y at_x at_y same.1)
 
--- the variables of globals go by their places
-pub globals_by_place : (k : ℕ) (gs : List Global) → variables_of (globals_from k gs) ≡ variables_from k (map (λ g. g.order) gs)
-globals_by_place k [] = refl
-globals_by_place k (g ∷ gs) = ap (λ (vs : List Variable). record { name = k; order = g.order } ∷ vs) (globals_by_place (k + 1) gs)
-
-pub orders_by_place : (k : ℕ) (gs : List Global) → map (λ v. v.order) (variables_of (globals_from k gs)) ≡ map (λ g. g.order) gs
-orders_by_place k [] = refl
-orders_by_place k (g ∷ gs) = ap (λ orders. g.order ∷ orders) (orders_by_place (k + 1) gs)
-
-pub globals_counted : (k : ℕ) (gs : List Global) → length (map (λ g. g.name) gs) ≡ length (variables_of (globals_from k gs))
-globals_counted k [] = refl
-globals_counted k (g ∷ gs) = ap suc (globals_counted (k + 1) gs)
-
-pub same_variables : (one two : Checked) → HaveSameGlobals one two → variables_of (problem_of one []).globals ≡ variables_of (problem_of two []).globals
-same_variables one two same = globals_by_place 0 one.globals ∙ ap (variables_from 0) same.orders ∙ sym (globals_by_place 0 two.globals)
+pub same_variables : (one two : Checked) (answers others : Answers) → HaveSameGlobals one two → variables_of (problem_of one answers).globals ≡ variables_of (problem_of two others).globals
+same_variables one two answers others same = globals_by_place 0 one.globals ∙ ap (variables_from 0) same.orders ∙ sym (globals_by_place 0 two.globals)

@@ -1,5 +1,10 @@
 -- The examples of what can be done, worked by hand.
-use Rattle.std.proofs.Common.{◌≡◌, ℕ, ◌≤◌, inl, inr, List, [], ◌∷◌, Some, None, refl, arith}
+use Rattle.std.proofs.Common.{◌≡◌, ℕ, ◌+◌, ◌≤◌, inl, inr, List, [], ◌∷◌, length, slice_get, Some, None, refl, ap, arith}
+use Rattle.std.proofs.lemmas.Option.{none-some}
+use Rattle.ms_core.specs.Subformulas.{subformulas}
+use Rattle.ms_logic.specs.Roots.{IsRoot, Root}
+use Rattle.ms_logic.specs.View.{problem_of}
+use Rattle.ms_solve.specs.Limits.{subformulas_of_all}
 use Rattle.std.specs.Prelude.{codes}
 use Rattle.ms_edge.specs.Counts.{Rose}
 use Rattle.ms_edge.specs.Files.{Holding}
@@ -23,10 +28,16 @@ reads_nothing = record {
   reads = record { read = ([], (refl, λ at f header. never_cons _ _ header.3.1), refl); declarations = tt };
 }
 
-pub empty_file : CanBeSolved (file_of (still (empty_files 0)) 0 (codes "a"))
+one_root : (roots : List Root) → length roots ≡ 1 → ((k : ℕ) (root : Root) → slice_get roots k ≡ Some root → IsRoot (problem_of (nothing_checked (codes "a")) []) k root) → subformulas_of_all roots + length roots ≤ 4294967295
+one_root [] one are = absurd (omega (arith, one))
+one_root (root ∷ []) one are = let main = ap (λ (r : Root). subformulas r.formula) (are 0 root refl) in omega (arith, main)
+one_root (root ∷ other ∷ more) one are = absurd (omega (arith, one))
+
+pub empty_file : CanBeSolved (file_of (still (empty_files 0)) 0 (codes "a")) None
 empty_file = (
   nothing_loaded (codes "a"),
   nothing_checked (codes "a"),
+  [],
   record {
     is = record {
       is = record {
@@ -34,24 +45,26 @@ empty_file = (
         accepted = refl;
         typed = record { mode = refl; globals_are = refl; predicates_are = refl; imports_are = refl; exports_are = refl; formulas_are = refl; files = refl };
       };
-      built = refl;
+      free = tt;
+      imported = record { each = tt; once = λ i j one other p q held held' name at at'. absurd (none-some p at) };
     };
     within = record { depth = omega arith; size = omega arith };
   },
+  λ roots are. one_root roots are.all are.each,
 )
 
 nothing_held : (bytes : List ℕ) → None ≡ Some bytes → ⊥
 nothing_held bytes same = cc
 
-pub no_file : CanBeSolved (file_of (still no_files) 0 (codes "a")) → ⊥
-no_file can = let is = can.2.is.is.is_loaded.is in nothing_held is.0 is.1.holds
+pub no_file : CanBeSolved (file_of (still no_files) 0 (codes "a")) None → ⊥
+no_file can = let is = can.3.is.is.is_loaded.is in nothing_held is.0 is.1.holds
 
 same_count : (n : ℕ) → n ≤ 9 → Rose n n → ⊥
 same_count n small (inl less) = omega (arith, less)
 same_count n small (inr last) = omega (arith, last, small)
 
 pub well : NothingFailed (sink_after 3) (sink_after 3) (still (empty_files 2))
-well = record { holding = λ name. Some []; told = refl; reads = same_count 2 (omega arith); prints = same_count 3 (omega arith) }
+well = record { holding = λ name. Some []; told = refl; works = same_count 2 (omega arith); prints = same_count 3 (omega arith) }
 
 pub sink_failed : NothingFailed (sink_after 3) (sink_after 4) (still (empty_files 2)) → ⊥
 sink_failed is = is.prints (inl (omega arith))

@@ -1,83 +1,142 @@
 -- A source that can be solved is refused for want of memory or of nodes alone.
-use Rattle.std.proofs.Common.{◌≡◌, ℕ, ◌⊎◌, inl, inr, List, [], Option, Some, None, sym, ap, ◌∙◌, subst}
+use Rattle.std.proofs.Common.{◌≡◌, ℕ, ◌+◌, ◌⊎◌, inl, inr, length, List, [], Option, Some, None, sym, ap, ◌∙◌, subst, arith}
+use Rattle.std.proofs.lemmas.List.Elements.{All-contains}
+use Rattle.ms_dfa.specs.declared.plain.Plain.{Plain}
 use Rattle.ms_edge.specs.Counts.{Rose}
 use Rattle.ms_edge.specs.Files.{Seen}
-use Rattle.ms_edge.specs.declared.at.At.{At}
 use Rattle.ms_edge.specs.declared.refusal.Refusal.{Refusal}
 use Rattle.ms_edge.specs.declared.refusal.Refusal.TheVariants.{Memory, Nodes}
+use Rattle.ms_imports.specs.Imports.{AreImported, answers_by}
+use Rattle.ms_imports.proofs.Told.{imported-once, imported-refused}
 use Rattle.ms_logic.specs.declared.checked.Checked.{Checked}
+use Rattle.ms_logic.specs.declared.checked.ExportUse.{ExportUse}
+use Rattle.ms_logic.specs.declared.checked.ImportUse.{ImportUse}
+use Rattle.ms_logic.specs.declared.mode.Mode.{Mode}
 use Rattle.ms_logic.specs.declared.source.Loaded.{Loaded}
+use Rattle.ms_logic.specs.Roots.{IsRoot}
 use Rattle.ms_logic.specs.View.{problem_of}
+use Rattle.ms_lower.specs.Measure.{Answers}
 use Rattle.ms_rules.specs.Checking.{IsFirstFault}
 use Rattle.ms_rules.specs.TypedSource.{IsTyped}
 use Rattle.ms_loads.specs.Told.{IsFromOutside, TellSame}
 use Rattle.ms_loads.proofs.Loads.{load_or_refused, one_load, one_text, text_or_refused}
 use Rattle.ms_loads.proofs.Typing.{one_problem}
 use Rattle.ms_loads.proofs.Verdicts.{no_first_fault, not_too_deep, not_too_large}
-use Rattle.ms_app.specs.Beyond.{first_beyond, first_use}
-use Rattle.ms_app.specs.Limits as limits
-use Rattle.ms_app.specs.Limits.{IsUnsolved, IsWithinLimits}
+use Rattle.ms_solve.specs.Limits as limits
+use Rattle.ms_solve.specs.Limits.{AreRootsOf, HasFewParts, IsTooLarge, IsUnsolved, IsWithinLimits}
 use Rattle.ms_app.specs.Source as sources
-use Rattle.ms_app.specs.Source.{IsAccepted, IsNotBuilt, IsRefused, IsSolved, IsUnaccepted, Origin, file_of, text_of}
-
--- what one origin loads as, the other does, and it is refused there for want of memory alone
-pub record Settles (origin other : Origin) : Type 0 where
-  pub one_load : (one two : Loaded) → origin.Loads one → other.Loads two → one ≡ two
-  pub loads : (loaded : Loaded) (refusal : Refusal) (read : List (List ℕ)) → origin.Loads loaded → other.IsRefused refusal read → refusal ≡ Memory
+use Rattle.ms_app.specs.Source.{IsAccepted, IsOutFree, IsOutTaken, IsRefused, IsSolved, IsTaken, IsUnaccepted, Origin, file_of, problem_with, text_of}
 
 -- want of memory, or of nodes in a step
 abbrev pub IsWant : ℕ → Refusal → Type 0
 IsWant limit refusal = (refusal ≡ Memory) ⊎ ((step : ℕ) × (refusal ≡ Nodes step limit))
 
+-- what one origin loads as and imports, the other does, and it is refused there for want of memory or of nodes alone
+pub record Settles (origin other : Origin) : Type 0 where
+  pub one_load : (one two : Loaded) → origin.Loads one → other.Loads two → one ≡ two
+  pub loads : (loaded : Loaded) (refusal : Refusal) (read : List (List ℕ)) → origin.Loads loaded → other.IsRefused refusal read → refusal ≡ Memory
+  pub one_content : (mode : Mode) (uses : List ImportUse) (plains others : List Plain) → origin.Imports mode uses plains → other.Imports mode uses others → plains ≡ others
+  pub imports : (mode : Mode) (limit : ℕ) (uses : List ImportUse) (plains : List Plain) (refusal : Refusal) → origin.Imports mode uses plains → other.IsUnimported mode limit uses refusal → IsWant limit refusal
+
 -- files and texts settle
 
 memory_alone : (seen : Seen) (refusal : Refusal) → (Rose seen.before.faults seen.after.faults → ⊥) → IsFromOutside seen refusal → refusal ≡ Memory
-memory_alone seen refusal reads (inl memory) = memory
-memory_alone seen refusal reads (inr (name, is, rose)) = absurd (reads rose)
+memory_alone seen refusal works (inl memory) = memory
+memory_alone seen refusal works (inr (name, is, rose)) = absurd (works rose)
 
 pub files_settle : (seen other : Seen) → TellSame seen other → (Rose other.before.faults other.after.faults → ⊥) → (base : ℕ) (name : List ℕ) → Settles (file_of seen base name) (file_of other base name)
-files_settle seen other told reads base name = record {
+files_settle seen other told works base name = record {
   one_load = one_load seen other told base name;
-  loads = λ loaded refusal read is refused. memory_alone other refusal reads (load_or_refused seen other told base name loaded refusal read is refused);
+  loads = λ loaded refusal read is refused. memory_alone other refusal works (load_or_refused seen other told base name loaded refusal read is refused);
+  one_content = λ mode uses plains others are also.
+      imported-once other.before.held told.holding mode uses plains others told.other_told (subst (λ held. AreImported held mode uses plains) (told.one_told ∙ sym told.other_told) are) also;
+  imports = λ mode limit uses plains refusal are why.
+      imported-refused other told.holding mode limit uses plains refusal told.other_told works (subst (λ held. AreImported held mode uses plains) (told.one_told ∙ sym told.other_told) are) why;
 }
+
+nothing_imported : (uses : List ImportUse) (plains others : List Plain) → (uses ≡ []) × (plains ≡ []) → (uses ≡ []) × (others ≡ []) → plains ≡ others
+nothing_imported uses plains others one two = one.1 ∙ sym two.1
 
 pub texts_settle : (name bytes : List ℕ) → Settles (text_of name bytes) (text_of name bytes)
 texts_settle name bytes = record {
   one_load = one_text name bytes;
   loads = λ loaded refusal read is refused. text_or_refused name bytes loaded refusal is refused.0;
+  one_content = λ mode uses plains others one two. nothing_imported uses plains others one two;
+  imports = λ mode limit uses plains refusal one why. absurd why;
 }
 
 -- a source that can be solved is not refused for what it is
 
-some_beyond : (place : At) (found : Option At) → found ≡ None → found ≡ Some place → ⊥
-some_beyond place found none some = let never : None ≡ Some place = sym none ∙ some in cc
+same_imports : (loaded : Loaded) (one other : Checked) → IsTyped loaded one → IsTyped loaded other → one.imports ≡ other.imports
+same_imports loaded one other is is' = is.imports_are ∙ sym is'.imports_are
 
-same_beyond : (loaded : Loaded) (one other : Checked) → IsTyped loaded one → IsTyped loaded other → first_beyond one ≡ first_beyond other
-same_beyond loaded one other is is' =
-    ap (λ is. first_use is one.exports) (is.imports_are ∙ sym is'.imports_are) ∙ ap (λ es. first_use other.imports es) (is.exports_are ∙ sym is'.exports_are)
+same_exports : (loaded : Loaded) (one other : Checked) → IsTyped loaded one → IsTyped loaded other → one.exports ≡ other.exports
+same_exports loaded one other is is' = is.exports_are ∙ sym is'.exports_are
 
-built : (loaded : Loaded) (one other : Checked) (refusal : Refusal) → IsTyped loaded one → IsTyped loaded other → first_beyond one ≡ None → IsNotBuilt other refusal → ⊥
-built loaded one other refusal is is' none beyond = some_beyond beyond.place (first_beyond other) (sym (same_beyond loaded one other is is') ∙ none) beyond.beyond
+free_or_taken : (out : Option (List ℕ)) (exports : List ExportUse) (refusal : Refusal) → IsOutFree out exports → IsOutTaken out exports refusal → ⊥
+free_or_taken None exports refusal free (used, contains, is, why) = let never : ⊥ = cc in never
+free_or_taken (Some out) exports refusal free (used, contains, is, why) =
+    let same : out ≡ used.name = cc in All-contains (λ (u : ExportUse). u.name ≡ out → ⊥) exports used free contains (sym same)
 
-unaccepted : (origin other : Origin) → Settles origin other → (loaded : Loaded) (checked : Checked) → IsSolved origin loaded checked → (refusal : Refusal) (read : List (List ℕ)) → IsUnaccepted other refusal read → refusal ≡ Memory
-unaccepted origin other settles loaded checked is refusal read (sources.not_loaded why) = settles.loads loaded refusal read is.is.is.is_loaded why
-unaccepted origin other settles loaded checked is refusal read (sources.faulty loaded' is_loaded all why) =
-    let same : loaded ≡ loaded' = settles.one_load loaded loaded' is.is.is.is_loaded is_loaded in
-    absurd (no_first_fault loaded refusal is.is.is.accepted (subst (λ l. IsFirstFault l refusal) (sym same) why))
-unaccepted origin other settles loaded checked is refusal read (sources.not_built loaded' checked' is' all why) =
-    let same : loaded ≡ loaded' = settles.one_load loaded loaded' is.is.is.is_loaded is'.is_loaded in
-    absurd (built loaded checked checked' refusal is.is.is.typed (subst (λ l. IsTyped l checked') (sym same) is'.typed) is.is.built why)
+module _ (origin other : Origin) (settles : Settles origin other) (out : Option (List ℕ)) (loaded : Loaded) (checked : Checked) (plains : List Plain) (is : IsSolved origin out loaded checked plains) where
+  abbrev accepted : IsAccepted origin loaded checked
+  accepted = is.is.is
 
-unsolved : (limit : ℕ) (checked : Checked) (refusal : Refusal) → IsWithinLimits (problem_of checked []) → IsUnsolved checked limit refusal → IsWant limit refusal
-unsolved limit checked refusal within (limits.too_large (inl deep)) = absurd (not_too_deep checked [] refusal within.depth deep)
-unsolved limit checked refusal within (limits.too_large (inr large)) = absurd (not_too_large checked [] refusal within.size large)
-unsolved limit checked refusal within (limits.lacks_nodes within' step is) = inr (step, is)
+  unaccepted : (refusal : Refusal) (read : List (List ℕ)) → IsUnaccepted other refusal read → refusal ≡ Memory
+  unaccepted refusal read (sources.not_loaded why) = settles.loads loaded refusal read accepted.is_loaded why
+  unaccepted refusal read (sources.faulty loaded' is_loaded all why) =
+      let same : loaded ≡ loaded' = settles.one_load loaded loaded' accepted.is_loaded is_loaded in
+      absurd (no_first_fault loaded refusal accepted.accepted (subst (λ l. IsFirstFault l refusal) (sym same) why))
 
-pub solvable : (origin other : Origin) → Settles origin other → (loaded : Loaded) (checked : Checked) → IsSolved origin loaded checked →
-    (limit : ℕ) (refusal : Refusal) (read : List (List ℕ)) → IsRefused other limit refusal read → IsWant limit refusal
-solvable origin other settles loaded checked is limit refusal read (sources.unaccepted why) = inl (unaccepted origin other settles loaded checked is refusal read why)
-solvable origin other settles loaded checked is limit refusal read (sources.unsolved loaded' checked' is' all why) =
-    let same : loaded ≡ loaded' = settles.one_load loaded loaded' is.is.is.is_loaded is'.is.is_loaded in
-    let problem = one_problem loaded checked checked' [] is.is.is.typed (subst (λ l. IsTyped l checked') (sym same) is'.is.typed) in
-    unsolved limit checked' refusal (subst IsWithinLimits problem is.within) why
-solvable origin other settles loaded checked is limit refusal read (sources.no_memory why) = inl why
+  -- another reading of the same source
+  module _ (loaded' : Loaded) (checked' : Checked) (is' : IsAccepted other loaded' checked') where
+    same_load : loaded ≡ loaded'
+    same_load = settles.one_load loaded loaded' accepted.is_loaded is'.is_loaded
+
+    typed' : IsTyped loaded checked'
+    typed' = subst (λ l. IsTyped l checked') (sym same_load) is'.typed
+
+    imports_are : checked.imports ≡ checked'.imports
+    imports_are = same_imports loaded checked checked' accepted.typed typed'
+
+    exports_are : checked.exports ≡ checked'.exports
+    exports_are = same_exports loaded checked checked' accepted.typed typed'
+
+    mode_is : checked.mode ≡ checked'.mode
+    mode_is = accepted.typed.mode ∙ sym typed'.mode
+
+    imported : origin.Imports checked'.mode checked'.imports plains
+    imported = subst (λ uses. origin.Imports checked'.mode uses plains) imports_are (subst (λ mode. origin.Imports mode checked.imports plains) mode_is is.is.imported)
+
+  too_large : (checked' : Checked) (answers : Answers) (refusal : Refusal) → IsWithinLimits (problem_of checked' answers) → HasFewParts checked' answers → IsTooLarge checked' answers refusal → ⊥
+  too_large checked' answers refusal within few (limits.too_deep deep) = not_too_deep checked' answers refusal within.depth deep
+  too_large checked' answers refusal within few (limits.too_large large) = not_too_large checked' answers refusal within.size large
+  too_large checked' answers refusal within few (limits.too_many_parts many) =
+      let most = few many.roots many.are_roots in let more = many.many in omega (arith, most, more)
+
+  unsolved : (limit : ℕ) (checked' : Checked) (answers : Answers) (refusal : Refusal) → IsWithinLimits (problem_of checked' answers) → HasFewParts checked' answers → IsUnsolved checked' answers limit refusal
+      → IsWant limit refusal
+  unsolved limit checked' answers refusal within few (limits.not_made why) = absurd (too_large checked' answers refusal within few why)
+  unsolved limit checked' answers refusal within few (limits.lacks_nodes within' step lacks) = inr (step, lacks)
+
+  pub solvable : HasFewParts checked (answers_by checked.imports plains) → (limit : ℕ) (refusal : Refusal) (read : List (List ℕ)) → IsRefused other out limit refusal read → IsWant limit refusal
+  solvable few limit refusal read (sources.unaccepted why) = inl (unaccepted refusal read why)
+  solvable few limit refusal read (sources.out_taken loaded' checked' is' all why) =
+      absurd (free_or_taken out checked'.exports refusal (subst (IsOutFree out) (exports_are loaded' checked' is') is.is.free) why)
+  solvable few limit refusal read (sources.unimported loaded' checked' is' free all why) =
+      settles.imports checked'.mode limit checked'.imports plains refusal (imported loaded' checked' is') why
+  solvable few limit refusal read (sources.unsolved loaded' checked' plains' taken all why) =
+      let is' = taken.is in
+      let contents : plains ≡ plains' = settles.one_content checked'.mode checked'.imports plains plains' (imported loaded' checked' is') taken.imported in
+      let answers = answers_by checked'.imports plains' in
+      let same_answers : answers_by checked.imports plains ≡ answers = ap (λ uses. answers_by uses plains) (imports_are loaded' checked' is') ∙ ap (answers_by checked'.imports) contents in
+      let problem : problem_of checked answers ≡ problem_of checked' answers = one_problem loaded checked checked' answers accepted.typed (typed' loaded' checked' is') in
+      let within : IsWithinLimits (problem_of checked' answers) = subst IsWithinLimits problem (subst (λ list. IsWithinLimits (problem_of checked list)) same_answers is.within) in
+      let few_here : HasFewParts checked answers = subst (HasFewParts checked) same_answers few in
+      unsolved limit checked' answers refusal within
+      (λ roots are.
+      few_here roots (record {
+        all = are.all ∙ ap (λ (exports : List ExportUse). 1 + length exports) (sym (exports_are loaded' checked' is'));
+        each = λ k root held. subst (λ p. IsRoot p k root) (sym problem) (are.each k root held);
+      })) why
+  solvable few limit refusal read (sources.no_memory why) = inl why

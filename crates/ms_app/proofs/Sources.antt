@@ -3,31 +3,23 @@ use Rattle.std.proofs.Common.{◌≡◌, ◌⊎◌, inl, inr, ℕ, List, [], ◌
 use Rattle.ms_edge.specs.Files.{Seen}
 use Rattle.ms_edge.specs.declared.refusal.Refusal.{Refusal}
 use Rattle.ms_edge.specs.declared.refusal.Refusal.TheVariants.{Memory}
+use Rattle.ms_include.specs.Load.{files_of, IsLoaded, IsLoadedText, IsRefusedLoad, IsRefusedText}
 use Rattle.ms_logic.specs.declared.checked.Checked.{Checked}
 use Rattle.ms_logic.specs.declared.source.Loaded.{Loaded}
-use Rattle.ms_include.specs.Load.{files_of, IsLoaded, IsLoadedText, IsRefusedLoad, IsRefusedText}
 use Rattle.ms_rules.specs.Checking.{IsFirstFault}
 use Rattle.ms_rules.specs.Declarations.{first_fault_of}
 use Rattle.ms_rules.specs.TypedSource.{IsTyped}
 use Rattle.ms_rules.specs.View.{placed_of}
-use Rattle.ms_app.specs.Beyond.{first_beyond}
-use Rattle.ms_app.specs.Source.{IsBuilt, IsNotBuilt, IsUnaccepted, Origin, file_of, text_of, not_loaded, faulty, not_built}
+use Rattle.ms_app.specs.Source.{IsAccepted, IsUnaccepted, Origin, file_of, text_of, not_loaded, faulty}
 
--- why a source that is loaded is refused
-abbrev pub IsWrong : Loaded → Refusal → Type 0
-IsWrong loaded refusal =
-    (refusal ≡ Memory) ⊎ IsFirstFault loaded refusal
-    ⊎ ((checked : Checked) × (first_fault_of loaded.mode (map placed_of loaded.items) ≡ None) × IsTyped loaded checked × IsNotBuilt checked refusal)
-
-pub wrong_refused : (origin : Origin) (loaded : Loaded) → origin.Loads loaded → (refusal : Refusal) → IsWrong loaded refusal → (refusal ≡ Memory) ⊎ IsUnaccepted origin refusal loaded.files
+pub wrong_refused : (origin : Origin) (loaded : Loaded) → origin.Loads loaded → (refusal : Refusal) → (refusal ≡ Memory) ⊎ IsFirstFault loaded refusal
+    → (refusal ≡ Memory) ⊎ IsUnaccepted origin refusal loaded.files
 wrong_refused origin loaded is refusal (inl memory) = inl memory
-wrong_refused origin loaded is refusal (inr (inl why)) = inr (faulty loaded is refl why)
-wrong_refused origin loaded is refusal (inr (inr (checked, accepted, typed, why))) =
-    inr (not_built loaded checked (record { is_loaded = is; accepted = accepted; typed = typed }) refl why)
+wrong_refused origin loaded is refusal (inr why) = inr (faulty loaded is refl why)
 
-pub right_built : (origin : Origin) (loaded : Loaded) → origin.Loads loaded → (checked : Checked) → first_fault_of loaded.mode (map placed_of loaded.items) ≡ None → IsTyped loaded checked
-    → first_beyond checked ≡ None → IsBuilt origin loaded checked
-right_built origin loaded is checked accepted typed built = record { is = record { is_loaded = is; accepted = accepted; typed = typed }; built = built }
+pub right_accepted : (origin : Origin) (loaded : Loaded) → origin.Loads loaded → (checked : Checked) → first_fault_of loaded.mode (map placed_of loaded.items) ≡ None → IsTyped loaded checked
+    → IsAccepted origin loaded checked
+right_accepted origin loaded is checked accepted typed = record { is_loaded = is; accepted = accepted; typed = typed }
 
 -- under the name that was asked for
 pub loaded_as : (seen : Seen) (base : ℕ) (text name : List ℕ) (loaded : Loaded) → text ≡ name → IsLoaded (files_of seen base) text loaded → IsLoaded (files_of seen base) name loaded
@@ -40,7 +32,7 @@ module _ (seen : Seen) (old new : List (List ℕ)) (text name : List ℕ) (same 
   load_refused refusal (inl memory) = inl memory
   load_refused refusal (inr (read, grown, why)) = inr (read, grown, not_loaded (subst (λ n. IsRefusedLoad (files_of seen (length old)) n refusal read) same why))
 
-  pub file_refused : (loaded : Loaded) → IsLoaded (files_of seen (length old)) text loaded → new ≡ old ++ loaded.files → (refusal : Refusal) → IsWrong loaded refusal
+  pub file_refused : (loaded : Loaded) → IsLoaded (files_of seen (length old)) text loaded → new ≡ old ++ loaded.files → (refusal : Refusal) → (refusal ≡ Memory) ⊎ IsFirstFault loaded refusal
       → (refusal ≡ Memory) ⊎ ((read : List (List ℕ)) × (new ≡ old ++ read) × IsUnaccepted (file_of seen (length old) name) refusal read)
   file_refused loaded is grown refusal why = elim (wrong_refused (file_of seen (length old) name) loaded (loaded_as seen (length old) text name loaded same is) refusal why) [
     | inl memory ↦ inl memory
@@ -53,7 +45,7 @@ module _ (name bytes : List ℕ) (new old : List (List ℕ)) (grown : new ≡ ol
   text_unloaded refusal (inl memory) = inl memory
   text_unloaded refusal (inr why) = inr (grown, not_loaded (why, refl))
 
-  pub text_refused : (loaded : Loaded) → IsLoadedText name bytes loaded → (refusal : Refusal) → IsWrong loaded refusal
+  pub text_refused : (loaded : Loaded) → IsLoadedText name bytes loaded → (refusal : Refusal) → (refusal ≡ Memory) ⊎ IsFirstFault loaded refusal
       → (refusal ≡ Memory) ⊎ ((new ≡ old ++ name ∷ []) × IsUnaccepted (text_of name bytes) refusal (name ∷ []))
   text_refused loaded is refusal why = elim (wrong_refused (text_of name bytes) loaded is refusal why) [
     | inl memory ↦ inl memory

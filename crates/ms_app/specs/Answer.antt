@@ -1,5 +1,5 @@
 -- How a run is to end and what it is to print, by its words and by what the files hold.
-use Rattle.std.specs.Prelude.{◌≡◌, ℕ, ◌<◌, ◌⊎◌, Bool, true, false, List, [], ◌∷◌, ◌++◌, length, take, codes, None}
+use Rattle.std.specs.Prelude.{◌≡◌, ℕ, ◌<◌, ◌⊎◌, Bool, true, false, List, [], ◌∷◌, ◌++◌, length, map, slice_get, take, codes, None, Some}
 use Rattle.ms_edge.specs.declared.refusal.Refusal.{Refusal}
 use Rattle.ms_edge.specs.declared.refusal.Refusal.TheVariants.{ConstRange, FileSize, Includes, Depth, CoreSize, Nodes, ReadFault, WriteFault, Memory}
 use Rattle.ms_edge.specs.declared.refusal.Refusal.TheVariants as refusals
@@ -7,7 +7,7 @@ use Rattle.ms_edge.specs.declared.refusal.Status.{Status}
 use Rattle.ms_edge.specs.declared.refusal.Status.TheVariants.{Done, Usage, Refused, Limit, FileFault, NoMemory}
 use Rattle.ms_edge.specs.declared.refusal.Status.TheVariants as statuses
 use Rattle.ms_edge.specs.Counts.{Rose}
-use Rattle.ms_edge.specs.Files.{Seen}
+use Rattle.ms_edge.specs.Files.{FilesTold, OnlyRead, Seen, between}
 use Rattle.ms_edge.specs.Sink.{SinkTold, grown}
 use Rattle.ms_build.specs.Built.{IsLimit}
 use Rattle.ms_gen.specs.Generated.{IsNumber, generated}
@@ -20,6 +20,7 @@ use Rattle.ms_words.specs.declared.command.Command.TheVariants.{Decide, Same, Ge
 use Rattle.ms_app.specs.Comparison.{AreCompared, IsRefusedComparison, comparison_text}
 use Rattle.ms_app.specs.Decision.{IsDecided}
 use Rattle.ms_app.specs.Source.{IsRefused, file_of, text_of}
+use Rattle.ms_app.specs.Written.{AreHeld, AreHeldUpTo, File}
 
 -- a status, and the text that goes with it
 pub record Answer : Type 0 where
@@ -62,18 +63,19 @@ Prints before after answer status =
 abbrev pub generated_name : List ℕ
 generated_name = codes "generated"
 
--- what a command prints where it is done: the report on a file; whether two files agree; a generated source, or the summary of it
-abbrev pub IsTextOf : Command → Seen → List ℕ → Type 0
-IsTextOf (Decide file max_nodes stats) seen text = (found : Found) × IsDecided (file_of seen 0 file) stats found × (text ≡ report_of found)
-IsTextOf (Same left right max_nodes) seen text = (agree : Bool) × AreCompared left right seen agree × (text ≡ comparison_text agree)
-IsTextOf (Gen number false) seen text = IsNumber number × (text ≡ generated number)
-IsTextOf (Gen number true) seen text =
-    IsNumber number
-    × ((found : Found) × IsDecided (text_of generated_name (generated number)) true found × (text ≡ summary_of number (length (generated number)) found))
+-- What a command asks for where it is done, by what was seen while the files were read: the text to print, and the files to write. A file is
+-- decided: the report on it, and its automaton files; two files are compared; a source is generated, or the summary of it made.
+abbrev pub IsGivenFor : Command → Seen → List ℕ → List File → Type 0
+IsGivenFor (Decide file out max_nodes stats) seen text written = (found : Found) × IsDecided (file_of seen 0 file) out stats found written × (text ≡ report_of found)
+IsGivenFor (Same left right max_nodes) seen text written = (written ≡ []) × ((agree : Bool) × AreCompared left right seen agree × (text ≡ comparison_text agree))
+IsGivenFor (Gen number false) seen text written = (written ≡ []) × IsNumber number × (text ≡ generated number)
+IsGivenFor (Gen number true) seen text written =
+    (written ≡ []) × IsNumber number
+    × ((found : Found) × IsDecided (text_of generated_name (generated number)) None true found written × (text ≡ summary_of number (length (generated number)) found))
 
 -- a limit that a command names is one
 abbrev pub IsLimited : Command → Type 0
-IsLimited (Decide file max_nodes stats) = IsLimit max_nodes
+IsLimited (Decide file out max_nodes stats) = IsLimit max_nodes
 IsLimited (Same left right max_nodes) = IsLimit max_nodes
 IsLimited (Gen number decide) = Unit {0}
 
@@ -84,26 +86,50 @@ IsNoNumber number refusal = (refusal ≡ ConstRange None) × ¬ IsNumber number
 -- Why a command is refused, and the files that the refusal may number. A generated source has no fault and is within the limits, so
 -- that only a step of its decision may be refused; what shows that it lacked nodes is open.
 abbrev pub IsRefusedFor : Command → Seen → Refusal → List (List ℕ) → Type 0
-IsRefusedFor (Decide file max_nodes stats) seen refusal files = IsRefused (file_of seen 0 file) max_nodes refusal files
+IsRefusedFor (Decide file out max_nodes stats) seen refusal files = IsRefused (file_of seen 0 file) out max_nodes refusal files
 IsRefusedFor (Same left right max_nodes) seen refusal files = IsRefusedComparison left right max_nodes seen refusal files
 IsRefusedFor (Gen number false) seen refusal files = (refusal ≡ Memory) ⊎ IsNoNumber number refusal
 IsRefusedFor (Gen number true) seen refusal files =
     (refusal ≡ Memory) ⊎ IsNoNumber number refusal ⊎ (IsNumber number × ((step : ℕ) × (refusal ≡ Nodes step node_limit)))
 
--- what a run comes to that is asked for something: its text is printed, or it is refused for a cause and its line is printed
-abbrev pub IsAnsweredFor : Command → SinkTold → SinkTold → Seen → Status → Type 0
-IsAnsweredFor command before after seen status =
-    ((text : List ℕ) × IsTextOf command seen text × Prints before after (done_with text) status)
-    ⊎ ((refusal : Refusal) × (files : List (List ℕ)) × IsRefusedFor command seen refusal files × Prints before after (answer_of refusal files) status)
+-- The files were read, up to some moment; what the command asks for came of that; and its files are written since.
+pub record IsDelivered (command : Command) (seen : Seen) (text : List ℕ) : Type 0 where
+  pub middle : FilesTold
+  pub reads : OnlyRead seen.before middle
+  pub written : List File
+  pub is_given : IsGivenFor command (between seen.before middle) text written
+  pub held : AreHeld middle.held seen.after.held written
+
+-- The same, but one of the files was not written: those before it stand.
+pub record IsUnwritten (command : Command) (seen : Seen) (name : List ℕ) : Type 0 where
+  pub middle : FilesTold
+  pub reads : OnlyRead seen.before middle
+  pub text : List ℕ
+  pub written : List File
+  pub is_given : IsGivenFor command (between seen.before middle) text written
+  pub count : ℕ
+  pub held : AreHeldUpTo count middle.held seen.after.held written
+  pub next : slice_get (map (λ file. file.0) written) count ≡ Some name
+  pub rose : Rose middle.faults seen.after.faults
+
+-- What a run comes to that is asked for something.
+pub data IsAnsweredFor (command : Command) (before after : SinkTold) (seen : Seen) (status : Status) : Type 0 where
+  -- it is done, and the text is printed
+  done : (text : List ℕ) (is : IsDelivered command seen text) (prints : Prints before after (done_with text) status) → IsAnsweredFor command before after seen status
+  -- a file was not written, and the line of this fault is printed
+  unwritten : (name : List ℕ) (is : IsUnwritten command seen name) (prints : Prints before after (answer_of (WriteFault name) []) status) → IsAnsweredFor command before after seen status
+  -- it is refused for a cause, with nothing written, and its line is printed
+  refused : (reads : OnlyRead seen.before seen.after) (refusal : Refusal) (files : List (List ℕ)) (why : IsRefusedFor command seen refusal files) (prints : Prints before after (answer_of refusal files) status)
+      → IsAnsweredFor command before after seen status
 
 -- What a run comes to by its words: words that are no command are answered so, and what words ask for is done. Want of memory may come
 -- already where the words are read.
 pub data IsAnswered (words : List (List ℕ)) (before after : SinkTold) (seen : Seen) (status : Status) : Type 0 where
-  no_command : (none : (command : Command) → ¬ IsCommand words command) (prints : Prints before after usage status) → IsAnswered words before after seen status
+  no_command : (none : (command : Command) → ¬ IsCommand words command) (kept : seen.after ≡ seen.before) (prints : Prints before after usage status) → IsAnswered words before after seen status
   asked : (command : Command) (is : IsCommand words command) (answered : IsAnsweredFor command before after seen status) → IsAnswered words before after seen status
-  no_words : (prints : Prints before after (answer_of Memory []) status) → IsAnswered words before after seen status
+  no_words : (kept : seen.after ≡ seen.before) (prints : Prints before after (answer_of Memory []) status) → IsAnswered words before after seen status
 
 -- a run that is done did what the words asked for, and the sink took its text
 abbrev pub IsDone : List (List ℕ) → SinkTold → SinkTold → Seen → Type 0
 IsDone words before after seen =
-    (command : Command) × IsCommand words command × ((text : List ℕ) × IsTextOf command seen text × (after.taken ≡ grown before.taken text))
+    (command : Command) × IsCommand words command × ((text : List ℕ) × IsDelivered command seen text × (after.taken ≡ grown before.taken text))

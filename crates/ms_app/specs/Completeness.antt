@@ -1,52 +1,60 @@
 -- Which requests are done, by what the files hold, where nothing outside goes wrong.
-use Rattle.std.specs.Prelude.{◌≡◌, ℕ, ◌⊎◌, List, Some}
+use Rattle.std.specs.Prelude.{◌≡◌, ℕ, ◌⊎◌, List, Option, Some}
 use Rattle.ms_edge.specs.declared.refusal.Refusal.TheVariants.{Nodes}
 use Rattle.ms_edge.specs.declared.refusal.Status.{Status}
 use Rattle.ms_edge.specs.declared.refusal.Status.TheVariants.{Done, Limit, NoMemory}
 use Rattle.ms_edge.specs.Counts.{Rose}
+use Rattle.ms_dfa.specs.declared.plain.Plain.{Plain}
 use Rattle.ms_edge.specs.Files.{Holding, Seen}
 use Rattle.ms_edge.specs.Sink.{SinkTold, grown}
 use Rattle.ms_gen.specs.Generated.{IsNumber}
+use Rattle.ms_imports.specs.Imports.{answers_by}
 use Rattle.ms_logic.specs.declared.checked.Checked.{Checked}
 use Rattle.ms_logic.specs.declared.source.Loaded.{Loaded}
 use Rattle.ms_report.specs.Line.{line_of}
+use Rattle.ms_solve.specs.Limits.{HasFewParts}
 use Rattle.ms_words.specs.Command.{IsCommand, node_limit}
 use Rattle.ms_words.specs.declared.command.Command.{Command}
 use Rattle.ms_words.specs.declared.command.Command.TheVariants.{Decide, Same, Gen}
-use Rattle.ms_app.specs.Answer.{IsTextOf}
-use Rattle.ms_app.specs.Comparison.{AreSolved, HaveSameGlobals}
+use Rattle.ms_app.specs.Answer.{IsDelivered}
+use Rattle.ms_app.specs.Comparison.{AreSolved, HaveSameGlobals, Taken}
 use Rattle.ms_app.specs.Source.{IsSolved, Origin, file_of}
 
--- what the files hold was told, no read of them failed, and the sink did not fail
+-- what the files hold was told, no read or write of them failed, and the sink did not fail
 pub record NothingFailed (before after : SinkTold) (seen : Seen) : Type 0 where
   pub holding : Holding
   pub told : seen.before.held ≡ Some holding
-  pub reads : ¬ Rose seen.before.faults seen.after.faults
+  pub works : ¬ Rose seen.before.faults seen.after.faults
   pub prints : ¬ Rose before.faults after.faults
 
--- it loads as a source without a fault, which is built and within the limits
-abbrev pub CanBeSolved : Origin → Type 0
-CanBeSolved origin = (loaded : Loaded) × (checked : Checked) × IsSolved origin loaded checked
+-- it loads as a source without a fault, whose imports can be taken, which is within the limits, and whose parts have numbers
+abbrev pub CanBeSolved : Origin → Option (List ℕ) → Type 0
+CanBeSolved origin out =
+    (loaded : Loaded) × (checked : Checked) × (plains : List Plain) × IsSolved origin out loaded checked plains
+    × HasFewParts checked (answers_by checked.imports plains)
 
 -- both files load as such sources, with the same globals
 abbrev pub CanBeCompared : List ℕ → List ℕ → Seen → Type 0
-CanBeCompared left right seen = (one two : Checked) × AreSolved left right seen one two × HaveSameGlobals one two
+CanBeCompared left right seen =
+    (one two : Taken) × AreSolved left right seen one two × HasFewParts one.checked (answers_by one.checked.imports one.plains)
+    × HasFewParts two.checked (answers_by two.checked.imports two.plains) × HaveSameGlobals one.checked two.checked
 
 -- what the command asks for can be done
 abbrev pub CanBeDone : Command → Seen → Type 0
-CanBeDone (Decide file max_nodes stats) seen = CanBeSolved (file_of seen 0 file)
+CanBeDone (Decide file out max_nodes stats) seen = CanBeSolved (file_of seen 0 file) out
 CanBeDone (Same left right max_nodes) seen = CanBeCompared left right seen
 CanBeDone (Gen number decide) seen = IsNumber number
 
 -- the limit on the nodes and states of a step
 abbrev pub limit_of : Command → ℕ
-limit_of (Decide file max_nodes stats) = max_nodes
+limit_of (Decide file out max_nodes stats) = max_nodes
 limit_of (Same left right max_nodes) = max_nodes
 limit_of (Gen number decide) = node_limit
 
--- it was done, and its text printed
+-- it was done: its text was printed, and its files written
 abbrev pub WasDone : Command → SinkTold → SinkTold → Seen → Status → Type 0
-WasDone command before after seen status = (status ≡ Done) × ((text : List ℕ) × IsTextOf command seen text × (after.taken ≡ grown before.taken text))
+WasDone command before after seen status =
+    (status ≡ Done) × ((text : List ℕ) × IsDelivered command seen text × (after.taken ≡ grown before.taken text))
 
 -- a step was refused under the limit, and this was printed; what shows that it lacked nodes is open
 abbrev pub LackedNodes : Command → SinkTold → SinkTold → Status → Type 0

@@ -1,5 +1,6 @@
 -- What is found of a problem: its verdict, and the first assignment of each value.
-use Rattle.std.specs.Prelude.{◌≡◌, ℕ, Bool, true, false, List, [], length, map, Option, Some, None}
+use Rattle.std.specs.Prelude.{◌≡◌, ℕ, Bool, true, false, List, length, map, Option, Some, None}
+use Rattle.ms_dfa.specs.declared.plain.Plain.{Plain}
 use Rattle.ms_logic.specs.declared.assignment.Assignment.{Assignment}
 use Rattle.ms_logic.specs.Assignment.{Env}
 use Rattle.ms_logic.specs.First.{IsFirst, assignment_of}
@@ -7,11 +8,11 @@ use Rattle.ms_logic.specs.Verdict.{Problem, variables_of, Assigns, MainYes, Main
 use Rattle.ms_report.specs.declared.found.Verdict.{Verdict}
 use Rattle.ms_report.specs.declared.found.Verdict.TheVariants.{Valid, Unsatisfiable, Contingent, Vacuous}
 use Rattle.ms_report.specs.declared.found.Found.{Found}
-use Rattle.ms_logic.specs.View.{problem_of}
 use Rattle.ms_logic.specs.declared.checked.Checked.{Checked}
 use Rattle.ms_logic.specs.declared.source.Loaded.{Loaded}
 use Rattle.ms_app.specs.Counts.{HasStats}
-use Rattle.ms_app.specs.Source.{IsSolved, Origin}
+use Rattle.ms_app.specs.Source.{IsSolved, Origin, problem_with}
+use Rattle.ms_app.specs.Written.{AreFilesOf, File}
 
 -- what is shown is the first assignment of the globals that has the property; nothing is shown where none has it
 abbrev pub ShowsFirst : Problem → (Env → Type 0) → Option Assignment → Type 0
@@ -40,10 +41,13 @@ pub record IsFound (problem : Problem) (names : List (List ℕ)) (found : Found)
   pub example : ShowsFirst problem (MainYes problem) found.example
   pub counterexample : ShowsFirst problem (MainNo problem) found.counterexample
 
--- The source can be solved, and what was found is true of it, with counts where they are asked for.
-pub record IsDecided (origin : Origin) (stats : Bool) (found : Found) : Type 0 where
+-- The source can be solved, and what was found is true of it, with counts where they are asked for; and these are the automaton files of its
+-- exports, and of its main value where that is asked for.
+pub record IsDecided (origin : Origin) (out : Option (List ℕ)) (stats : Bool) (found : Found) (files : List File) : Type 0 where
   pub loaded : Loaded
   pub checked : Checked
-  pub is : IsSolved origin loaded checked
-  pub is_found : IsFound (problem_of checked []) (map (λ g. g.name) checked.globals) found
-  pub counted : HasStats stats (problem_of checked []) (length loaded.files) found.stats
+  pub plains : List Plain
+  pub is : IsSolved origin out loaded checked plains
+  pub is_found : IsFound (problem_with checked plains) (map (λ g. g.name) checked.globals) found
+  pub counted : HasStats stats (problem_with checked plains) (length loaded.files) found.stats
+  pub written : AreFilesOf (problem_with checked plains) (map (λ g. g.name) checked.globals) checked.exports out files

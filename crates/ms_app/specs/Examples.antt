@@ -1,10 +1,10 @@
--- Imports, exports and globals for worked examples.
-use Rattle.std.specs.Prelude.{ℕ, List, [], ◌∷◌, codes, None}
+-- Exports, files and globals for worked examples.
+use Rattle.std.specs.Prelude.{ℕ, List, [], ◌∷◌, codes, Option, Some, None}
 use Rattle.ms_edge.specs.declared.at.At.{At}
+use Rattle.ms_edge.specs.Files.{Holding}
 use Rattle.ms_logic.specs.declared.checked.Checked.{Checked}
 use Rattle.ms_logic.specs.declared.checked.ExportUse.{ExportUse}
 use Rattle.ms_logic.specs.declared.checked.Global.{Global}
-use Rattle.ms_logic.specs.declared.checked.ImportUse.{ImportUse}
 use Rattle.ms_logic.specs.declared.mode.Mode.{Mode}
 use Rattle.ms_logic.specs.declared.mode.Mode.TheVariants.{Ws1s, M2lStr}
 use Rattle.ms_logic.specs.declared.mode.Order.{Order}
@@ -13,11 +13,13 @@ use Rattle.ms_logic.specs.declared.mode.Order.TheVariants.{One, Two}
 abbrev pub at : ℕ → At
 at place = record { file = 0; place = place }
 
-abbrev pub import_at : ℕ → ImportUse
-import_at place = record { at = at place; name = []; pairs = [] }
+-- an export to a file of this name, of a formula without free variables
+abbrev pub export_to : List ℕ → ExportUse
+export_to name = record { at = at 7; name = name; variables = []; names = [] }
 
-abbrev pub export_at : ℕ → ExportUse
-export_at place = record { at = at place; name = []; variables = []; names = [] }
+-- files that hold nothing
+abbrev pub nothing_held : Option Holding
+nothing_held = Some (λ name. None)
 
 -- a global of an order, without a restriction
 abbrev pub declared : Order → List ℕ → Global

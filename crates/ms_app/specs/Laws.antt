@@ -1,14 +1,15 @@
 -- What is proved of a generated source that is decided.
-use Rattle.std.specs.Prelude.{◌≡◌, ℕ, Bool, None}
+use Rattle.std.specs.Prelude.{◌≡◌, ℕ, Bool, List, None}
 use Rattle.ms_gen.specs.Generated.{IsNumber, generated}
 use Rattle.ms_report.specs.declared.found.Found.{Found}
 use Rattle.ms_report.specs.declared.found.Verdict.TheVariants.{Valid}
 use Rattle.ms_app.specs.Answer.{generated_name}
 use Rattle.ms_app.specs.Decision.{IsDecided}
 use Rattle.ms_app.specs.Source.{text_of}
+use Rattle.ms_app.specs.Written.{File}
 
 -- it is found valid, and no counterexample is shown
 abbrev pub GeneratedSourcesAreFoundValid : Type 0
 GeneratedSourcesAreFoundValid =
-    (number : ℕ) (stats : Bool) (found : Found) → IsNumber number → IsDecided (text_of generated_name (generated number)) stats found →
+    (number : ℕ) (stats : Bool) (found : Found) (files : List File) → IsNumber number → IsDecided (text_of generated_name (generated number)) None stats found files →
     (found.verdict ≡ Valid) × (found.counterexample ≡ None)

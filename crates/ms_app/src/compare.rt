@@ -1,17 +1,18 @@
-ghost use Rattle.std.specs.Prelude.{◌≡◌, ◌≤◌, ◌⊎◌, ◌++◌, ℕ, [], List, length, map, IfErr, IfOk};
-ghost use Rattle.ms_edge.specs.Files.{OnlyRead, between};
-ghost use Rattle.ms_logic.specs.View.{problem_of};
-ghost use Rattle.ms_logic.specs.declared.source.Loaded.{Loaded as Declarations};
-ghost use Rattle.ms_app.specs.Comparison.{AreCompared, IsRefusedComparison};
-ghost use Rattle.ms_app.specs.Solution.{IsNamed, IsSolution};
-ghost use Rattle.ms_app.specs.Source.{IsRefused, IsSolved, file_of};
+ghost use Rattle.std.specs.Prelude.{◌≡◌, ◌≤◌, ◌⊎◌, ◌++◌, ℕ, [], List, None, length, map, IfErr, IfOk};
 ghost use Rattle.ms_build.specs.Built.{IsLimit};
+ghost use Rattle.ms_dfa.specs.declared.plain.Plain.{Plain};
+ghost use Rattle.ms_edge.specs.Files.{OnlyRead, between};
+ghost use Rattle.ms_logic.specs.declared.source.Loaded.{Loaded as Declarations};
+ghost use Rattle.ms_solve.specs.Solution.{IsNamed, IsSolution};
+ghost use Rattle.ms_app.specs.Comparison.{AreCompared, IsRefusedComparison};
+ghost use Rattle.ms_app.specs.Source.{IsRefused, IsSolved, file_of, problem_with};
 
 use crate::agreement::agree;
 use crate::same_globals::have_same_globals;
-use crate::solve::{Solution, solve};
-use crate::source::{Accepted, accept_file};
+use crate::source::Accepted;
+use crate::taken::{Wanted, take_file};
 use ms_edge::{Files, List, Refusal, Text};
+use ms_solve::{Solution, solve};
 use std::alloc::Global;
 
 /// The names of two files.
@@ -38,20 +39,28 @@ fn solve_file<F: Files>(
 ) -> Result<Solved, Refusal>
     requires few { length names.old ≤ 64 }
     requires limit { IsLimit limit }
-    ensures solved { IfOk result (λ made. (loaded : Declarations) × IsSolved (file_of (between (F.told files.old) (F.told files.new)) (length names.old) name.now) loaded made.source.checked
+    ensures solved { IfOk result (λ made. (loaded : Declarations) × (plains : List Plain)
+        × IsSolved (file_of (between (F.told files.old) (F.told files.new)) (length names.old) name.now) None loaded made.source.checked plains
+        × IsSolution (problem_with made.source.checked plains) (map (λ g. g.name) made.source.checked.globals) made.solution
         × (length loaded.files ≤ 64) × (names.new ≡ names.old ++ loaded.files)) }
-    ensures solution { IfOk result (λ made. IsSolution (problem_of made.source.checked []) (map (λ g. g.name) made.source.checked.globals) made.solution) }
     ensures named { IfOk result (λ made. IsNamed made.solution) }
     ensures refused { IfErr result (λ refusal. (refusal ≡ Refusal.Memory) ⊎ ((read : List (List ℕ)) × (names.new ≡ names.old ++ read)
-        × IsRefused (file_of (between (F.told files.old) (F.told files.new)) (length names.old) name.now) limit refusal read)) }
+        × IsRefused (file_of (between (F.told files.old) (F.told files.new)) (length names.old) name.now) None limit refusal read)) }
     ensures only_read { OnlyRead (F.told files.old) (F.told files.new) }
 {
-    let source = match accept_file(alloc, name, files, names) {
-        Ok(source) => source,
+    let wanted = Wanted {
+        out: None,
+        max_nodes: limit,
+    };
+    let taken = match take_file(alloc, name, wanted, files, names) {
+        Ok(taken) => taken,
         Err(refusal) => return Err(refusal),
     };
-    match solve(alloc, &source.checked, limit) {
-        Ok(solution) => Ok(Solved { source, solution }),
+    match solve(alloc, &taken.source.checked, &taken.imports, limit, false) {
+        Ok(solution) => Ok(Solved {
+            source: taken.source,
+            solution,
+        }),
         Err(refusal) => Err(refusal),
     }
 }

@@ -8,10 +8,10 @@ ghost use Rattle.ms_app.specs.CompletenessExamples.{empty_files, no_files, silen
 /// Requests that can be done, and requests that cannot.
 pub fn worked_requests()
     // A file without bytes is the source without declarations.
-    ensures empty_file { CanBeDone (Decide (codes "a") 5 false) (still (empty_files 0)) }
+    ensures empty_file { CanBeDone (Decide (codes "a") None 5 false) (still (empty_files 0)) }
 
     // A file that is not there.
-    ensures no_file { ¬ CanBeDone (Decide (codes "a") 5 false) (still no_files) }
+    ensures no_file { ¬ CanBeDone (Decide (codes "a") None 5 false) (still no_files) }
 
     // The first generated source; there is none with number 0.
     ensures first { CanBeDone (Gen 1 false) (still no_files) }

@@ -1,14 +1,18 @@
-ghost use Rattle.std.specs.Prelude.{◌≡◌, ◌⊎◌, ℕ, List, IfErr, IfOk};
-ghost use Rattle.ms_logic.specs.Verdict.{Problem};
-ghost use Rattle.ms_canonical.specs.Files.{content_of_file};
-ghost use Rattle.ms_app.specs.Counts.{IsCanonicalOf};
-ghost use Rattle.ms_app.specs.Solution.{IsNamed, IsSolution};
+ghost use Rattle.std.specs.Prelude.{◌≡◌, ◌⊎◌, ◌≤◌, ◌+◌, ℕ, List, length, IfErr, IfOk};
 ghost use Rattle.ms_build.specs.Built.{IsLimit};
+ghost use Rattle.ms_canonical.specs.Files.{content_of_file};
+ghost use Rattle.ms_dfafile.specs.File.{names_of};
+ghost use Rattle.ms_logic.specs.Canonical.{IsCanonical};
+ghost use Rattle.ms_logic.specs.Verdict.{Problem};
+ghost use Rattle.ms_solve.specs.Copies.{IsCanonicalCopy};
+ghost use Rattle.ms_solve.specs.Solution.{IsNamed, IsSolution};
+ghost use Rattle.ms_solve.specs.Values.{IsMainFile};
+ghost use Rattle.ms_app.specs.Counts.{IsCanonicalOf};
 
-use crate::solve::Solution;
 use ms_canonical::canonical;
 use ms_dfa::Plain;
 use ms_edge::{Refusal, StepFault};
+use ms_solve::Solution;
 use std::alloc::Global;
 
 /// The canonical content of the main value of a source over its globals, where nodes and states of a step are together at
@@ -16,7 +20,12 @@ use std::alloc::Global;
 pub fn canonical_of(alloc: Global, solution: &Solution, limit: u64) -> Result<Plain, Refusal>
     requires named { IsNamed solution.now }
     requires limit { IsLimit limit }
+    ensures copy { IfOk result (IsCanonicalCopy solution.now.automaton solution.now.names) }
     ensures content { IfOk result (λ made. (problem : Problem) (names : List (List ℕ)) → IsSolution problem names solution.now → IsCanonicalOf problem (content_of_file made)) }
+    ensures file { IfOk result (λ made. (problem : Problem) (names : List (List ℕ)) → IsSolution problem names solution.now → IsMainFile problem names made) }
+    ensures canonical { IfOk result (λ made. IsCanonical (content_of_file made)) }
+    ensures names { IfOk result (λ made. names_of made ≡ solution.now.names) }
+    ensures small { IfOk result (λ made. length made.nodes + length made.states ≤ 4000000000) }
     ensures refused { IfErr result (λ refusal. (refusal ≡ Refusal.Memory) ⊎ ((step : ℕ) × (refusal ≡ Refusal.Nodes step limit))) }
 {
     match canonical(alloc, &solution.automaton, &solution.names, limit) {

@@ -1,40 +1,135 @@
-ghost use Rattle.std.specs.Prelude.{◌≡◌, ◌⊎◌, [], map, None, IfErr, IfOk};
+ghost use Rattle.std.specs.Prelude.{◌≡◌, ◌⊎◌, ℕ, List, [], length, map, IfErr, IfOk};
+ghost use Rattle.std.specs.Option.{option_copied};
+ghost use Rattle.ms_build.specs.Built.{IsLimit};
+ghost use Rattle.ms_logic.specs.Verdict.{Problem};
 ghost use Rattle.ms_logic.specs.View.{problem_of};
-ghost use Rattle.ms_app.specs.Beyond.{first_beyond};
+ghost use Rattle.ms_lower.specs.Measure.{Answers};
+ghost use Rattle.ms_solve.specs.Imported.{AreAnswersOf, AreLentFor};
+ghost use Rattle.ms_solve.specs.Limits.{IsUnsolved, IsWithinLimits};
+ghost use Rattle.ms_solve.specs.Solution.{AreExportFiles, IsNamed, IsSolution};
 ghost use Rattle.ms_app.specs.Counts.{HasStats};
 ghost use Rattle.ms_app.specs.Decision.{IsFound};
-ghost use Rattle.ms_app.specs.Limits.{IsUnsolved, IsWithinLimits};
-ghost use Rattle.ms_build.specs.Built.{IsLimit};
-ghost use Rattle.ms_rules.specs.Numbers.{IsWellNumbered};
+ghost use Rattle.ms_app.specs.Files.{AreNames, AreWritable, IsWithMain, IsWritable, pairs_of};
+ghost use Rattle.ms_app.specs.Right.{IsRight};
+ghost use Rattle.ms_app.specs.Written.{AreFilesOf};
 
-use crate::found::{found, stats};
+use crate::content::canonical_of;
+use crate::files::{AutomatonFile, add_file, export_files};
+use crate::found::{asked_counts, found};
 use crate::options::Options;
-use crate::solve::solve;
 use crate::source::Accepted;
-use ms_edge::Refusal;
-use ms_report::Found;
+use crate::taken::Taken;
+use ms_dfa::Plain;
+use ms_edge::{List, Refusal, Text};
+use ms_report::{Found, Stats};
+use ms_solve::{Solution, solve};
 use std::alloc::Global;
 
-/// What is found of a source that is built.
-pub fn decide(alloc: Global, source: &Accepted, options: Options) -> Result<Found, Refusal>
-    requires numbered { IsWellNumbered source.now.checked }
-    requires built { first_beyond source.now.checked ≡ None }
-    requires limit { IsLimit options.max_nodes }
-    ensures found { IfOk result (IsFound (problem_of source.now.checked []) (map (λ g. g.name) source.now.checked.globals)) }
-    ensures stats { IfOk result (λ found. HasStats options.stats (problem_of source.now.checked []) source.now.files found.stats) }
-    ensures within { IfOk result (λ found. IsWithinLimits (problem_of source.now.checked [])) }
-    ensures refused { IfErr result (λ refusal. (refusal ≡ Refusal.Memory) ⊎ IsUnsolved source.now.checked options.max_nodes refusal) }
+/// What is found of a source, and the automaton files that are to be written.
+#[derive(Drop)]
+pub struct Decided {
+    pub found: Found,
+    pub files: List<AutomatonFile>,
+}
+
+/// The counts of a source, and its automaton files.
+#[derive(Drop)]
+struct Made {
+    stats: Option<Stats>,
+    files: List<AutomatonFile>,
+}
+
+/// The files with that of the main value, where one is asked for.
+fn with_main(
+    alloc: Global,
+    files: List<AutomatonFile>,
+    out: Option<&Text>,
+    content: &Plain,
+) -> Result<List<AutomatonFile>, Refusal>
+    requires { IsWritable content.now }
+    ensures files { IfOk result (λ more. IsWithMain (pairs_of files) (option_copied out.entry) content.now (pairs_of more)) }
+    ensures refused { IfErr result (λ refusal. refusal ≡ Refusal.Memory) }
 {
-    let solution = match solve(alloc, &source.checked, options.max_nodes) {
+    let Some(name) = out else {
+        return Ok(files);
+    };
+    match add_file(alloc, files, name, content) {
+        Ok(files) => Ok(files),
+        Err(_) => Err(Refusal::Memory),
+    }
+}
+
+/// What is made of a solution: counts, where they are asked for, and the automaton files of the exports and of the main value.
+fn made_of(
+    alloc: Global,
+    source: &Accepted,
+    solution: &Solution,
+    options: Options,
+) -> Result<Made, Refusal>
+    requires named { IsNamed solution.now }
+    requires names { AreNames solution.now.names }
+    requires long { length source.now.checked.exports ≡ length solution.now.exports }
+    requires writable { AreWritable solution.now.exports }
+    requires limit { IsLimit options.max_nodes }
+    ensures stats { IfOk result (λ made. (problem : Problem) (names : List (List ℕ)) → IsSolution problem names solution.now → HasStats options.entry.stats problem source.now.files made.stats) }
+    ensures files { IfOk result (λ made. (problem : Problem) (names : List (List ℕ)) → IsSolution problem names solution.now →
+        AreExportFiles problem 0 source.now.checked.exports solution.now.exports →
+        AreFilesOf problem names source.now.checked.exports (option_copied options.entry.out) (pairs_of made.files)) }
+    ensures refused { IfErr result (λ refusal. (refusal ≡ Refusal.Memory) ⊎ ((step : ℕ) × (refusal ≡ Refusal.Nodes step options.entry.max_nodes))) }
+{
+    let Ok(files) = export_files(
+        alloc,
+        source.checked.exports.slice(),
+        solution.exports.slice(),
+    ) else {
+        return Err(Refusal::Memory);
+    };
+    if !options.stats {
+        match options.out {
+            None => return Ok(Made { stats: None, files }),
+            Some(_) => {}
+        }
+    }
+    let content = match canonical_of(alloc, solution, options.max_nodes) {
+        Ok(content) => content,
+        Err(refusal) => return Err(refusal),
+    };
+    let files = match with_main(alloc, files, options.out, &content) {
+        Ok(files) => files,
+        Err(refusal) => return Err(refusal),
+    };
+    let stats = asked_counts(options.stats, solution, &content, source.files);
+    Ok(Made { stats, files })
+}
+
+/// What is found of a source, and its automaton files.
+pub fn decide(alloc: Global, taken: &Taken, options: Options) -> Result<Decided, Refusal>
+    requires right { IsRight taken.now.source.checked }
+    requires imports { AreLentFor taken.now.source.checked.mode taken.now.source.checked.imports taken.now.imports }
+    requires limit { IsLimit options.max_nodes }
+    ensures found { IfOk result (λ made. (answers : Answers) → AreAnswersOf taken.now.source.checked.mode taken.now.source.checked.imports answers taken.now.imports →
+        IsFound (problem_of taken.now.source.checked answers) (map (λ g. g.name) taken.now.source.checked.globals) made.found
+        × HasStats options.entry.stats (problem_of taken.now.source.checked answers) taken.now.source.files made.found.stats
+        × AreFilesOf (problem_of taken.now.source.checked answers) (map (λ g. g.name) taken.now.source.checked.globals) taken.now.source.checked.exports
+        (option_copied options.entry.out) (pairs_of made.files)) }
+    ensures within { IfOk result (λ made. (answers : Answers) → IsWithinLimits (problem_of taken.now.source.checked answers)) }
+    ensures refused { IfErr result (λ refusal. (answers : Answers) → length answers ≡ length taken.now.source.checked.imports →
+        (refusal ≡ Refusal.Memory) ⊎ IsUnsolved taken.now.source.checked answers options.entry.max_nodes refusal) }
+{
+    let checked = &taken.source.checked;
+    let solution = match solve(alloc, checked, &taken.imports, options.max_nodes, true) {
         Ok(solution) => solution,
         Err(refusal) => return Err(refusal),
     };
-    let stats = match stats(alloc, &solution, source.files, options) {
-        Ok(stats) => stats,
+    let made = match made_of(alloc, &taken.source, &solution, options) {
+        Ok(made) => made,
         Err(refusal) => return Err(refusal),
     };
-    match found(alloc, solution, stats) {
-        Ok(found) => Ok(found),
+    match found(alloc, solution, made.stats) {
+        Ok(found) => Ok(Decided {
+            found,
+            files: made.files,
+        }),
         Err(_) => Err(Refusal::Memory),
     }
 }

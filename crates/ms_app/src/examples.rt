@@ -1,18 +1,14 @@
-ghost use Rattle.ms_app.specs.Beyond.{first_use};
+//! Worked examples of what is compared, printed and written. The functions have empty bodies, and their contracts state the examples.
+
 ghost use Rattle.std.specs.Prelude.{◌≡◌, ◌∷◌, ◌++◌, [], codes, false, true, None, Some};
+ghost use Rattle.ms_edge.specs.declared.refusal.Refusal.TheVariants.{Twice};
 ghost use Rattle.ms_logic.specs.View.{problem_of};
+ghost use Rattle.ms_solve.specs.Limits.{IsWithinLimits};
 ghost use Rattle.ms_app.specs.Comparison.{HaveSameGlobals, comparison_text};
 ghost use Rattle.ms_app.specs.Counts.{HasStats};
-ghost use Rattle.ms_app.specs.Examples.{at, export_at, import_at, one_set, other_mode, other_order, turned_round, two_sets};
-ghost use Rattle.ms_app.specs.Limits.{IsWithinLimits};
-
-/// Where sources with some imports and exports go beyond what is built.
-pub fn worked_uses()
-    ensures nothing { first_use [] [] ≡ None }
-    ensures import { first_use (import_at 7 ∷ import_at 9 ∷ []) [] ≡ Some (at 7) }
-    ensures export { first_use [] (export_at 3 ∷ export_at 5 ∷ []) ≡ Some (at 3) }
-    ensures both { first_use (import_at 7 ∷ []) (export_at 3 ∷ []) ≡ Some (at 7) }
-{}
+ghost use Rattle.ms_app.specs.Examples.{at, export_to, nothing_held, one_set, other_mode, other_order, turned_round, two_sets};
+ghost use Rattle.ms_app.specs.Source.{IsOutFree, IsOutTaken};
+ghost use Rattle.ms_app.specs.Written.{AreFilesOf, AreHeld, KeepsAllBut};
 
 /// Sources that can be compared, and sources that cannot.
 pub fn worked_globals()
@@ -29,4 +25,18 @@ pub fn worked_answers()
     ensures differ { comparison_text false ≡ codes "differ" ++ 10 ∷ [] }
     ensures no_counts { HasStats false (problem_of two_sets []) 1 None }
     ensures small { IsWithinLimits (problem_of two_sets []) }
+{}
+
+/// Names for the file of the main value, and files where nothing is written.
+pub fn worked_files()
+    // The name of the main value's file may not be one that the source exports.
+    ensures free { IsOutFree (Some (codes "m.aut")) (export_to (codes "e.aut") ∷ []) }
+    ensures not_free { ¬ IsOutFree (Some (codes "e.aut")) (export_to (codes "e.aut") ∷ []) }
+    ensures taken { IsOutTaken (Some (codes "e.aut")) (export_to (codes "e.aut") ∷ []) (Twice (at 7) (codes "e.aut")) }
+    ensures unnamed { ¬ IsOutTaken None (export_to (codes "e.aut") ∷ []) (Twice (at 7) (codes "e.aut")) }
+
+    // A source without exports writes nothing where no name is given, and what is held stays.
+    ensures no_files { AreFilesOf (problem_of two_sets []) [] [] None [] }
+    ensures nothing { AreHeld nothing_held nothing_held [] }
+    ensures told { ¬ KeepsAllBut nothing_held None [] }
 {}

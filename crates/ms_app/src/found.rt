@@ -1,20 +1,18 @@
-ghost use Rattle.std.specs.Prelude.{◌≡◌, ◌⊎◌, ℕ, List, IfErr, IfOk};
+ghost use Rattle.std.specs.Prelude.{◌≡◌, ◌⊎◌, ℕ, List, IfOk};
+ghost use Rattle.ms_canonical.specs.Files.{content_of_file};
 ghost use Rattle.ms_logic.specs.Verdict.{Problem};
-ghost use Rattle.ms_app.specs.Counts.{HasCounts, HasStats};
+ghost use Rattle.ms_app.specs.Counts.{HasCounts, HasStats, IsCanonicalOf};
 ghost use Rattle.ms_app.specs.Decision.{ShowsFirst, IsFound, verdict_by};
-ghost use Rattle.ms_app.specs.HasValue.{HasMainValue};
-ghost use Rattle.ms_app.specs.Solution.{IsNamed, IsSolution};
-ghost use Rattle.ms_build.specs.Built.{IsLimit};
+ghost use Rattle.ms_solve.specs.Solution.{IsSolution};
+ghost use Rattle.ms_solve.specs.Values.{HasMainValue};
 ghost use Rattle.ms_theory.specs.Values.{main_meaning};
 
-use crate::content::canonical_of;
-use crate::options::Options;
-use crate::solve::Solution;
 use ms_best::{assignment, first};
-use ms_dfa::{Automaton, Sign};
-use ms_edge::{NoMemory, Refusal};
+use ms_dfa::{Automaton, Plain, Sign};
+use ms_edge::NoMemory;
 use ms_logic::Assignment;
 use ms_report::{Found, Stats, Verdict};
+use ms_solve::Solution;
 use std::alloc::Global;
 
 /// The first assignment at which the automaton has the sign, if there is one.
@@ -43,45 +41,27 @@ fn verdict(example: bool, counterexample: bool) -> Verdict
     }
 }
 
-/// The counts of a source of so many files, by its solution, where nodes and states of a step are together at most
-/// `limit`.
-fn counts(alloc: Global, solution: &Solution, files: u32, limit: u64) -> Result<Stats, Refusal>
-    requires named { IsNamed solution.now }
-    requires limit { IsLimit limit }
-    ensures counts { IfOk result (λ stats. (problem : Problem) (names : List (List ℕ)) → IsSolution problem names solution.now → HasCounts problem files stats) }
-    ensures refused { IfErr result (λ refusal. (refusal ≡ Refusal.Memory) ⊎ ((step : ℕ) × (refusal ≡ Refusal.Nodes step limit))) }
+/// The counts of a source of so many files, by its solution and the canonical content of its main value.
+fn counts(solution: &Solution, content: &Plain, files: u32) -> Stats
+    ensures { (problem : Problem) (names : List (List ℕ)) → IsSolution problem names solution.now → IsCanonicalOf problem (content_of_file content.now) → HasCounts problem files result }
 {
-    match canonical_of(alloc, solution, limit) {
-        Ok(content) => Ok(Stats {
-            files,
-            size: solution.size,
-            depth: solution.depth,
-            states: content.states.len() as u64,
-            nodes: content.nodes.len() as u64,
-        }),
-        Err(refusal) => Err(refusal),
+    Stats {
+        files,
+        size: solution.size,
+        depth: solution.depth,
+        states: content.states.len() as u64,
+        nodes: content.nodes.len() as u64,
     }
 }
 
-/// The counts, where they are asked for.
-pub fn stats(
-    alloc: Global,
-    solution: &Solution,
-    files: u32,
-    options: Options,
-) -> Result<Option<Stats>, Refusal>
-    requires named { IsNamed solution.now }
-    requires limit { IsLimit options.max_nodes }
-    ensures stats { IfOk result (λ stats. (problem : Problem) (names : List (List ℕ)) → IsSolution problem names solution.now → HasStats options.stats problem files stats) }
-    ensures refused { IfErr result (λ refusal. (refusal ≡ Refusal.Memory) ⊎ ((step : ℕ) × (refusal ≡ Refusal.Nodes step options.max_nodes))) }
+/// The counts of a source, where they are asked for.
+pub fn asked_counts(asked: bool, solution: &Solution, content: &Plain, files: u32) -> Option<Stats>
+    ensures { (problem : Problem) (names : List (List ℕ)) → IsSolution problem names solution.now → IsCanonicalOf problem (content_of_file content.now) → HasStats asked problem files result }
 {
-    if options.stats {
-        match counts(alloc, solution, files, options.max_nodes) {
-            Ok(counts) => Ok(Some(counts)),
-            Err(refusal) => Err(refusal),
-        }
+    if asked {
+        Some(counts(solution, content, files))
     } else {
-        Ok(None)
+        None
     }
 }
 

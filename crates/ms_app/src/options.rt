@@ -1,6 +1,10 @@
-/// How a source is decided: the greatest number of nodes and states of a step, and whether counts are asked for.
+use ms_edge::Text;
+
+/// How a source is decided: the greatest number of nodes and states of a step, whether counts are asked for, and the name under which
+/// the automaton of the main value is to be written, where there is one.
 #[derive(Clone, Copy)]
-pub struct Options {
+pub struct Options<'a> {
     pub max_nodes: u64,
     pub stats: bool,
+    pub out: Option<&'a Text>,
 }

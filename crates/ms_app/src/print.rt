@@ -11,6 +11,9 @@ use std::alloc::Global;
 /// The line of the refusal for want of memory, which takes none.
 const OUT_OF_MEMORY: &[u8] = b"70 out of memory\n";
 
+/// The beginning of the line of a file that was not written.
+const UNWRITTEN: &[u8] = b"61 write fault: ";
+
 /// Prints the text, and ends with the status that goes with it.
 pub fn print<S: Sink>(out: &mut S, status: Status, text: &[u8]) -> Status
     ensures { Prints (S.told out.old) (S.told out.new) (record { status = status; text = text.now }) result }
@@ -75,5 +78,24 @@ pub fn refuse<S: Sink>(alloc: Global, refusal: &Refusal, files: &List<Text>, out
     match refusal_line(alloc, refusal, files) {
         Ok(line) => print(out, status(refusal), line.slice()),
         Err(_) => out_of_memory(out),
+    }
+}
+
+/// Prints the line of a file that was not written. It takes no memory.
+pub fn print_unwritten<S: Sink>(name: &Text, out: &mut S) -> Status
+    ensures printed { Prints (S.told out.old) (S.told out.new) (answer_of (Refusal.WriteFault name.now) []) result }
+    ensures sink_only { result ≡ Status.SinkFault → Rose (S.told out.old).faults (S.told out.new).faults }
+{
+    match write_all(out, UNWRITTEN) {
+        Ok(()) => {}
+        Err(_) => return Status::SinkFault,
+    }
+    match write_all(out, name.bytes()) {
+        Ok(()) => {}
+        Err(_) => return Status::SinkFault,
+    }
+    match write_all(out, b"\n") {
+        Ok(()) => Status::FileFault,
+        Err(_) => Status::SinkFault,
     }
 }

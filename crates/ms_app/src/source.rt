@@ -1,47 +1,42 @@
 ghost use Rattle.std.specs.Prelude.{◌≡◌, ◌≤◌, ◌⊎◌, ◌++◌, ◌∷◌, ℕ, [], List, None, length, map, IfErr, IfOk, OnOk};
+ghost use Rattle.ms_checked.specs.Checked.{MeetsRules};
 ghost use Rattle.ms_edge.specs.Files.{OnlyRead, between};
 ghost use Rattle.ms_include.specs.Load.{IsLoadedText};
-ghost use Rattle.ms_logic.specs.declared.checked.Checked.{Checked as TypedTree};
 ghost use Rattle.ms_logic.specs.declared.source.Loaded.{Loaded as Declarations};
 ghost use Rattle.ms_rules.specs.Checking.{IsFirstFault};
 ghost use Rattle.ms_rules.specs.Declarations.{first_fault_of};
 ghost use Rattle.ms_rules.specs.Numbers.{IsWellNumbered};
 ghost use Rattle.ms_rules.specs.TypedSource.{IsTyped};
 ghost use Rattle.ms_rules.specs.View.{placed_of};
-ghost use Rattle.ms_app.specs.Beyond.{first_beyond};
-ghost use Rattle.ms_app.specs.Source.{IsBuilt, IsNotBuilt, IsUnaccepted, file_of, text_of};
+ghost use Rattle.ms_app.specs.Right.{IsRight};
+ghost use Rattle.ms_app.specs.Source.{IsAccepted, IsUnaccepted, file_of, text_of};
 
-use crate::beyond::first_beyond;
 use ms_edge::{Bytes, Files, List, NoMemory, Refusal, Text, push};
 use ms_include::{load, load_bytes};
 use ms_logic::{Checked, Loaded};
 use ms_names::check;
 use std::alloc::Global;
 
-/// The typed tree of a source that is built, and how many files the source has.
+/// The typed tree of a source, and how many files the source has.
 #[derive(Drop)]
 pub struct Accepted {
     pub checked: Checked,
     pub files: u32,
 }
 
-/// The typed tree of a loaded source in which nothing is wrong and that is built.
+/// The typed tree of a loaded source in which nothing is wrong.
 fn accept(alloc: Global, loaded: &Loaded) -> Result<Accepted, Refusal>
     ensures accepted { IfOk result (λ made. first_fault_of loaded.now.mode (map placed_of loaded.now.items) ≡ None) }
     ensures typed { IfOk result (λ made. IsTyped loaded.now made.checked) }
     ensures numbered { IfOk result (λ made. IsWellNumbered made.checked) }
-    ensures built { IfOk result (λ made. first_beyond made.checked ≡ None) }
+    ensures meets_rules { IfOk result (λ made. MeetsRules made.checked) }
     ensures files { IfOk result (λ made. made.files ≡ length loaded.now.files) }
-    ensures refused { IfErr result (λ refusal. (refusal ≡ Refusal.Memory) ⊎ IsFirstFault loaded.now refusal
-        ⊎ ((checked : TypedTree) × (first_fault_of loaded.now.mode (map placed_of loaded.now.items) ≡ None) × IsTyped loaded.now checked × IsNotBuilt checked refusal)) }
+    ensures refused { IfErr result (λ refusal. (refusal ≡ Refusal.Memory) ⊎ IsFirstFault loaded.now refusal) }
 {
     let checked = match check(alloc, loaded) {
         Ok(checked) => checked,
         Err(refusal) => return Err(refusal),
     };
-    if let Some(at) = first_beyond(&checked) {
-        return Err(Refusal::NotBuilt { at });
-    }
     match u32::try_from(loaded.files.len()) {
         Ok(files) => Ok(Accepted { checked, files }),
         Err(_) => Err(Refusal::Memory),
@@ -56,9 +51,9 @@ pub fn accept_file<F: Files>(
     names: &mut List<Text>,
 ) -> Result<Accepted, Refusal>
     requires { length names.old ≤ 4294967231 }
-    ensures built { IfOk result (λ made. (loaded : Declarations) × IsBuilt (file_of (between (F.told files.old) (F.told files.new)) (length names.old) name.now) loaded made.checked
+    ensures accepted { IfOk result (λ made. (loaded : Declarations) × IsAccepted (file_of (between (F.told files.old) (F.told files.new)) (length names.old) name.now) loaded made.checked
         × (made.files ≡ length loaded.files) × (length loaded.files ≤ 64) × (names.new ≡ names.old ++ loaded.files)) }
-    ensures numbered { IfOk result (λ made. IsWellNumbered made.checked) }
+    ensures right { IfOk result (λ made. IsRight made.checked) }
     ensures refused { IfErr result (λ refusal. (refusal ≡ Refusal.Memory) ⊎ ((read : List (List ℕ)) × (names.new ≡ names.old ++ read)
         × IsUnaccepted (file_of (between (F.told files.old) (F.told files.new)) (length names.old) name.now) refusal read)) }
     ensures only_read { OnlyRead (F.told files.old) (F.told files.new) }
@@ -85,9 +80,9 @@ pub fn accept_text(
     names: &mut List<Text>,
 ) -> Result<Accepted, Refusal>
     requires { length bytes ≤ 1048576 }
-    ensures built { IfOk result (λ made. (loaded : Declarations) × IsBuilt (text_of name.now bytes) loaded made.checked × (made.files ≡ length loaded.files)) }
+    ensures accepted { IfOk result (λ made. (loaded : Declarations) × IsAccepted (text_of name.now bytes) loaded made.checked × (made.files ≡ length loaded.files)) }
     ensures names { IfOk result (λ made. names.new ≡ names.old ++ name.now ∷ []) }
-    ensures numbered { IfOk result (λ made. IsWellNumbered made.checked) }
+    ensures right { IfOk result (λ made. IsRight made.checked) }
     ensures refused { IfErr result (λ refusal. (refusal ≡ Refusal.Memory)
         ⊎ ((names.new ≡ names.old ++ name.now ∷ []) × IsUnaccepted (text_of name.now bytes) refusal (name.now ∷ []))) }
 {

@@ -1,14 +1,18 @@
 ghost use Rattle.std.specs.Prelude.{◌≡◌, [], true, IfErr, IfOk};
-ghost use Rattle.ms_edge.specs.Files.{Seen, between};
-ghost use Rattle.ms_words.specs.declared.command.Command.TheVariants.{Decide, Same, Gen};
-ghost use Rattle.ms_app.specs.Answer.{IsRefusedFor, IsTextOf};
-ghost use Rattle.ms_app.specs.Comparison.{comparison_text};
+ghost use Rattle.std.specs.Option.{option_copied};
 ghost use Rattle.ms_build.specs.Built.{IsLimit};
+ghost use Rattle.ms_edge.specs.Files.{OnlyRead, Seen, between};
+ghost use Rattle.ms_words.specs.declared.command.Command.TheVariants.{Decide, Same, Gen};
+ghost use Rattle.ms_app.specs.Answer.{IsGivenFor, IsRefusedFor};
+ghost use Rattle.ms_app.specs.Comparison.{comparison_text};
+ghost use Rattle.ms_app.specs.Files.{HaveOwnNames, pairs_of};
 
 use crate::compare::{Pair, compare};
 use crate::decide::decide;
+use crate::files::AutomatonFile;
 use crate::options::Options;
-use crate::source::{accept_file, accept_text};
+use crate::source::accept_text;
+use crate::taken::{Taken, Wanted, take_file};
 use ms_edge::{Bytes, Files, List, Refusal, Text};
 use ms_gen::generate;
 use ms_report::{report, summary};
@@ -17,30 +21,58 @@ use std::alloc::Global;
 /// The most nodes and states of a step of a generated source.
 const NODE_LIMIT: u64 = 16_777_216;
 
-/// The report on a file.
+/// What a command asks for: the text to be printed, and the files to be written before.
+#[derive(Drop)]
+pub struct Given {
+    pub text: Bytes,
+    pub files: List<AutomatonFile>,
+}
+
+/// A text to be printed, with no file to be written.
+fn text_alone(alloc: Global, text: Bytes) -> Given
+    ensures text { result.text ≡ text }
+    ensures files { pairs_of result.files ≡ [] }
+{
+    Given {
+        text,
+        files: List::new(alloc),
+    }
+}
+
+/// The report on a file, and its automaton files.
 pub fn decision<F: Files>(
     alloc: Global,
     name: &Text,
     options: Options,
     files: &mut F,
     names: &mut List<Text>,
-) -> Result<Bytes, Refusal>
+) -> Result<Given, Refusal>
     requires first { names.old ≡ [] }
     requires limit { IsLimit options.max_nodes }
-    ensures text { IfOk result (IsTextOf (Decide name.now options.max_nodes options.stats) (between (F.told files.old) (F.told files.new))) }
-    ensures refused { IfErr result (λ refusal. IsRefusedFor (Decide name.now options.max_nodes options.stats) (between (F.told files.old) (F.told files.new)) refusal names.new) }
-    ensures kept { (F.told files.new).held ≡ (F.told files.old).held }
+    ensures given { IfOk result (λ given. IsGivenFor (Decide name.now (option_copied options.entry.out) options.entry.max_nodes options.entry.stats)
+        (between (F.told files.old) (F.told files.new)) given.text (pairs_of given.files)) }
+    ensures own_names { IfOk result (λ given. HaveOwnNames (pairs_of given.files)) }
+    ensures refused { IfErr result (λ refusal. IsRefusedFor (Decide name.now (option_copied options.entry.out) options.entry.max_nodes options.entry.stats)
+        (between (F.told files.old) (F.told files.new)) refusal names.new) }
+    ensures only_read { OnlyRead (F.told files.old) (F.told files.new) }
 {
-    let source = match accept_file(alloc, name, files, names) {
-        Ok(source) => source,
+    let wanted = Wanted {
+        out: options.out,
+        max_nodes: options.max_nodes,
+    };
+    let taken = match take_file(alloc, name, wanted, files, names) {
+        Ok(taken) => taken,
         Err(refusal) => return Err(refusal),
     };
-    let found = match decide(alloc, &source, options) {
-        Ok(found) => found,
+    let decided = match decide(alloc, &taken, options) {
+        Ok(decided) => decided,
         Err(refusal) => return Err(refusal),
     };
-    match report(alloc, &found) {
-        Ok(text) => Ok(text),
+    match report(alloc, &decided.found) {
+        Ok(text) => Ok(Given {
+            text,
+            files: decided.files,
+        }),
         Err(_) => Err(Refusal::Memory),
     }
 }
@@ -75,23 +107,29 @@ pub fn comparison<F: Files>(
     limit: u64,
     files: &mut F,
     names: &mut List<Text>,
-) -> Result<Bytes, Refusal>
+) -> Result<Given, Refusal>
     requires first { names.old ≡ [] }
     requires limit { IsLimit limit }
-    ensures text { IfOk result (IsTextOf (Same pair.entry.left.now pair.entry.right.now limit) (between (F.told files.old) (F.told files.new))) }
+    ensures given { IfOk result (λ given. IsGivenFor (Same pair.entry.left.now pair.entry.right.now limit) (between (F.told files.old) (F.told files.new)) given.text (pairs_of given.files)) }
+    ensures own_names { IfOk result (λ given. HaveOwnNames (pairs_of given.files)) }
     ensures refused { IfErr result (λ refusal. IsRefusedFor (Same pair.entry.left.now pair.entry.right.now limit) (between (F.told files.old) (F.told files.new)) refusal names.new) }
-    ensures kept { (F.told files.new).held ≡ (F.told files.old).held }
+    ensures only_read { OnlyRead (F.told files.old) (F.told files.new) }
 {
-    match compare(alloc, pair, limit, files, names) {
-        Ok(agree) => comparison_line(alloc, agree),
-        Err(refusal) => Err(refusal),
+    let agree = match compare(alloc, pair, limit, files, names) {
+        Ok(agree) => agree,
+        Err(refusal) => return Err(refusal),
+    };
+    match comparison_line(alloc, agree) {
+        Ok(text) => Ok(text_alone(alloc, text)),
+        Err(_) => Err(Refusal::Memory),
     }
 }
 
 /// The summary of the generated source with this number.
-fn generation_summary(alloc: Global, number: u64, names: &mut List<Text>) -> Result<Bytes, Refusal>
+fn generation_summary(alloc: Global, number: u64, names: &mut List<Text>) -> Result<Given, Refusal>
     requires first { names.old ≡ [] }
-    ensures text { IfOk result (λ text. (seen : Seen) → IsTextOf (Gen number true) seen text) }
+    ensures given { IfOk result (λ given. (seen : Seen) → IsGivenFor (Gen number true) seen given.text (pairs_of given.files)) }
+    ensures no_files { IfOk result (λ given. pairs_of given.files ≡ []) }
     ensures refused { IfErr result (λ refusal. (seen : Seen) → IsRefusedFor (Gen number true) seen refusal names.new) }
 {
     let text = match generate(alloc, number) {
@@ -103,16 +141,24 @@ fn generation_summary(alloc: Global, number: u64, names: &mut List<Text>) -> Res
         Ok(source) => source,
         Err(refusal) => return Err(refusal),
     };
+    let taken = Taken {
+        source,
+        imports: List::new(alloc),
+    };
     let options = Options {
         max_nodes: NODE_LIMIT,
         stats: true,
+        out: None,
     };
-    let found = match decide(alloc, &source, options) {
-        Ok(found) => found,
+    let decided = match decide(alloc, &taken, options) {
+        Ok(decided) => decided,
         Err(refusal) => return Err(refusal),
     };
-    match summary(alloc, number, bytes, &found) {
-        Ok(text) => Ok(text),
+    match summary(alloc, number, bytes, &decided.found) {
+        Ok(text) => Ok(Given {
+            text,
+            files: decided.files,
+        }),
         Err(_) => Err(Refusal::Memory),
     }
 }
@@ -123,14 +169,18 @@ pub fn generation(
     number: u64,
     decide: bool,
     names: &mut List<Text>,
-) -> Result<Bytes, Refusal>
+) -> Result<Given, Refusal>
     requires first { names.old ≡ [] }
-    ensures text { IfOk result (λ text. (seen : Seen) → IsTextOf (Gen number decide) seen text) }
+    ensures given { IfOk result (λ given. (seen : Seen) → IsGivenFor (Gen number decide) seen given.text (pairs_of given.files)) }
+    ensures no_files { IfOk result (λ given. pairs_of given.files ≡ []) }
     ensures refused { IfErr result (λ refusal. (seen : Seen) → IsRefusedFor (Gen number decide) seen refusal names.new) }
 {
     if decide {
         generation_summary(alloc, number, names)
     } else {
-        generate(alloc, number)
+        match generate(alloc, number) {
+            Ok(text) => Ok(text_alone(alloc, text)),
+            Err(refusal) => Err(refusal),
+        }
     }
 }

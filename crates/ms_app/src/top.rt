@@ -1,42 +1,48 @@
 ghost use Rattle.std.specs.Prelude.{◌≡◌, ℕ, [], List, IfErr, IfOk};
 ghost use Rattle.ms_edge.specs.Counts.{Rose};
-ghost use Rattle.ms_edge.specs.Files.{between};
+ghost use Rattle.ms_edge.specs.Files.{OnlyRead, between};
 ghost use Rattle.ms_edge.specs.Sink.{grown};
 ghost use Rattle.ms_words.specs.Command.{IsCommand};
 ghost use Rattle.ms_words.specs.declared.command.Command.{Command as Asked};
-ghost use Rattle.ms_app.specs.Answer.{IsAnswered, IsAnsweredFor, IsDone, IsLimited, IsRefusedFor, IsTextOf};
+ghost use Rattle.ms_app.specs.Answer.{IsAnswered, IsAnsweredFor, IsDelivered, IsDone, IsGivenFor, IsLimited, IsRefusedFor};
 ghost use Rattle.ms_app.specs.Completeness.{IsComplete};
+ghost use Rattle.ms_app.specs.Delivery.{WasDelivered};
+ghost use Rattle.ms_app.specs.Files.{HaveOwnNames, pairs_of};
 
 use crate::compare::Pair;
 use crate::options::Options;
-use crate::print::{out_of_memory, print, refuse};
-use crate::text::{comparison, decision, generation};
-use ms_edge::{Bytes, Files, List, Refusal, Sink, Status, Text, Words};
+use crate::print::{out_of_memory, print, print_unwritten, refuse};
+use crate::text::{Given, comparison, decision, generation};
+use crate::write::write_each;
+use ms_edge::{Files, List, Refusal, Sink, Status, Text, Words};
 use ms_words::{Command, WordsFault, options};
 use std::alloc::Global;
 
-/// The text that a command prints where it is done. The files that a refusal numbers are in `names`.
-fn text<F: Files>(
+/// What a command asks for, by what the files hold. The files that a refusal numbers are in `names`.
+fn given<F: Files>(
     alloc: Global,
     command: &Command,
     files: &mut F,
     names: &mut List<Text>,
-) -> Result<Bytes, Refusal>
+) -> Result<Given, Refusal>
     requires first { names.old ≡ [] }
     requires limited { IsLimited command.now }
-    ensures text { IfOk result (IsTextOf command.now (between (F.told files.old) (F.told files.new))) }
+    ensures given { IfOk result (λ given. IsGivenFor command.now (between (F.told files.old) (F.told files.new)) given.text (pairs_of given.files)) }
+    ensures own_names { IfOk result (λ given. HaveOwnNames (pairs_of given.files)) }
     ensures refused { IfErr result (λ refusal. IsRefusedFor command.now (between (F.told files.old) (F.told files.new)) refusal names.new) }
-    ensures kept { (F.told files.new).held ≡ (F.told files.old).held }
+    ensures only_read { OnlyRead (F.told files.old) (F.told files.new) }
 {
     match command {
         Command::Decide {
             file,
+            out,
             max_nodes,
             stats,
         } => {
             let options = Options {
                 max_nodes: *max_nodes,
                 stats: *stats,
+                out: out.as_ref(),
             };
             decision(alloc, file, options, files, names)
         }
@@ -49,30 +55,44 @@ fn text<F: Files>(
     }
 }
 
+/// Writes the files, and prints the text, or the line of a file that was not written.
+fn deliver<F: Files, S: Sink>(given: &Given, files: &mut F, out: &mut S) -> Status
+    requires { HaveOwnNames (pairs_of given.now.files) }
+    ensures delivered { WasDelivered (F.told files.old) (F.told files.new) (S.told out.old) (S.told out.new) given.now.text (pairs_of given.now.files) result }
+    ensures not_usage { ¬ (result ≡ Status.Usage) }
+    ensures sink_only { result ≡ Status.SinkFault → Rose (S.told out.old).faults (S.told out.new).faults }
+{
+    match write_each(given.files.slice(), files) {
+        Ok(()) => print(out, Status::Done, given.text.slice()),
+        Err(place) => print_unwritten(&given.files.get(place).name, out),
+    }
+}
+
 /// Does what a command asks for, and prints its text or the line of its refusal.
 fn answer<F: Files, S: Sink>(alloc: Global, command: &Command, files: &mut F, out: &mut S) -> Status
     requires { IsLimited command.now }
     ensures answered { IsAnsweredFor command.now (S.told out.old) (S.told out.new) (between (F.told files.old) (F.told files.new)) result }
-    ensures done { result ≡ Status.Done → (text : List ℕ) × IsTextOf command.now (between (F.told files.old) (F.told files.new)) text
+    ensures done { result ≡ Status.Done → (text : List ℕ) × IsDelivered command.now (between (F.told files.old) (F.told files.new)) text
         × ((S.told out.new).taken ≡ grown (S.told out.old).taken text) }
     ensures not_usage { ¬ (result ≡ Status.Usage) }
     ensures sink_only { result ≡ Status.SinkFault → Rose (S.told out.old).faults (S.told out.new).faults }
-    ensures kept { (F.told files.new).held ≡ (F.told files.old).held }
 {
     let mut names = List::new(alloc);
-    match text(alloc, command, files, &mut names) {
-        Ok(text) => print(out, Status::Done, text.slice()),
+    match given(alloc, command, files, &mut names) {
+        Ok(given) => deliver(&given, files, out),
         Err(refusal) => refuse(alloc, &refusal, &names, out),
     }
 }
 
-/// Does what the words ask: `decide FILE [--max-nodes N] [--stats]` reads the file and reports on its formula;
-/// `same LEFT RIGHT [--max-nodes N]` says whether the main values of two files agree; `gen K [--decide]` prints the generated
-/// source with this number, or decides it. The words are those after the program's name. What is printed goes to the
-/// sink: the text, or one line where the request is refused (docs/FORMATS.md).
+/// Does what the words ask: `decide FILE [--out NAME] [--max-nodes N] [--stats]` reads the file, writes the automata that it exports
+/// and that of its main value to NAME, and reports on its formula; `same LEFT RIGHT [--max-nodes N]` says whether the main values of
+/// two files agree; `gen K [--decide]` prints the generated source with this number, or decides it. The words are those after the
+/// program's name. What is printed goes to the sink: the text, or one line where the request is refused or a file is not written
+/// (docs/FORMATS.md).
 pub fn run<F: Files, S: Sink>(alloc: Global, words: &Words, files: &mut F, out: &mut S) -> Status
-    // Words that are no command are answered so. A file is decided, and the report on it is printed; two files are compared;
-    // a source is generated, and decided; or the request is refused for a cause, and its line is printed.
+    // Words that are no command are answered so. A file is decided, its automata are written, and the report on it is printed; two files
+    // are compared; a source is generated, and decided; or the request is refused for a cause, with nothing written, or one of the files
+    // is not, and the line of this is printed.
     ensures answered { IsAnswered words.now (S.told out.old) (S.told out.new) (between (F.told files.old) (F.told files.new)) result }
 
     // Done comes only with what the words asked for; usage only where the words are no command; and a fault of the sink
@@ -83,9 +103,6 @@ pub fn run<F: Files, S: Sink>(alloc: Global, words: &Words, files: &mut F, out: 
 
     // What can be done is done where nothing outside fails, unless memory is wanting, or nodes in a step.
     ensures complete { IsComplete words.now (S.told out.old) (S.told out.new) (between (F.told files.old) (F.told files.new)) result }
-
-    // No file is written.
-    ensures kept { (F.told files.new).held ≡ (F.told files.old).held }
 {
     match options(alloc, words) {
         Ok(command) => answer(alloc, &command, files, out),

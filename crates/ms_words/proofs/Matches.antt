@@ -12,7 +12,7 @@ module _ (rows : List Row) where
   -- what asks for a command has the values that it names
   decide_parts : (command : Command) → AsksBy verb.Decide rows command
       → ((file : Text) × (first_of (codes "FILE") rows ≡ Some file)) × ((limit : ℕ) × HasLimit (first_of (codes "max-nodes") rows) limit)
-  decide_parts (Decide file max_nodes stats) asked = ((file, asked.1.0), (max_nodes, asked.1.1))
+  decide_parts (Decide file out max_nodes stats) asked = ((file, asked.1.0), (max_nodes, asked.1.2))
   decide_parts (Same left right max_nodes) asked = let never : ⊥ = (let is = asked.0 in cc) in absurd never
   decide_parts (Gen number decide) asked = let never : ⊥ = (let is = asked.0 in cc) in absurd never
 
@@ -20,12 +20,12 @@ module _ (rows : List Row) where
       → ((left : Text) × (first_of (codes "LEFT") rows ≡ Some left)) × ((right : Text) × (first_of (codes "RIGHT") rows ≡ Some right))
       × ((limit : ℕ) × HasLimit (first_of (codes "max-nodes") rows) limit)
   same_parts (Same left right max_nodes) asked = ((left, asked.1.0), (right, asked.1.1), (max_nodes, asked.1.2))
-  same_parts (Decide file max_nodes stats) asked = let never : ⊥ = (let is = asked.0 in cc) in absurd never
+  same_parts (Decide file out max_nodes stats) asked = let never : ⊥ = (let is = asked.0 in cc) in absurd never
   same_parts (Gen number decide) asked = let never : ⊥ = (let is = asked.0 in cc) in absurd never
 
   gen_parts : (command : Command) → AsksBy verb.Gen rows command → (number : ℕ) × HasNumber (first_of (codes "K") rows) number
   gen_parts (Gen number decide) asked = (number, asked.1.0)
-  gen_parts (Decide file max_nodes stats) asked = let never : ⊥ = (let is = asked.0 in cc) in absurd never
+  gen_parts (Decide file out max_nodes stats) asked = let never : ⊥ = (let is = asked.0 in cc) in absurd never
   gen_parts (Same left right max_nodes) asked = let never : ⊥ = (let is = asked.0 in cc) in absurd never
 
   -- where one of them is lacking, nothing asks for the command

@@ -27,9 +27,10 @@ flag name = record (new_rule name) { long = Some name; action = Some SetTrue }
 abbrev pub command : Text → App
 command name = let app = new_app name in record app { top = record app.top { disable_help_flag = true } }
 
--- decide FILE [--max-nodes N] [--stats]
+-- decide FILE [--out NAME] [--max-nodes N] [--stats]
 abbrev pub decide_app : App
-decide_app = with_rule (with_rule (with_rule (command (codes "decide")) (required (codes "FILE"))) (option (codes "max-nodes"))) (flag (codes "stats"))
+decide_app =
+    with_rule (with_rule (with_rule (with_rule (command (codes "decide")) (required (codes "FILE"))) (option (codes "out"))) (option (codes "max-nodes"))) (flag (codes "stats"))
 
 -- same LEFT RIGHT [--max-nodes N]
 abbrev pub same_app : App
@@ -74,14 +75,15 @@ is_given name rows = option_map_or (λ text. bytes_eq text (codes "true")) (firs
 
 -- which command it is
 abbrev pub verb_of : Command → Verb
-verb_of (Decide file max_nodes stats) = verb.Decide
+verb_of (Decide file out max_nodes stats) = verb.Decide
 verb_of (Same left right max_nodes) = verb.Same
 verb_of (Gen number decide) = verb.Gen
 
 -- what the matches of the words ask for
 abbrev pub Asks : List Row → Command → Type 0
-Asks rows (Decide file max_nodes stats) =
-    (first_of (codes "FILE") rows ≡ Some file) × HasLimit (first_of (codes "max-nodes") rows) max_nodes × (stats ≡ is_given (codes "stats") rows)
+Asks rows (Decide file out max_nodes stats) =
+    (first_of (codes "FILE") rows ≡ Some file) × (out ≡ first_of (codes "out") rows) × HasLimit (first_of (codes "max-nodes") rows) max_nodes
+    × (stats ≡ is_given (codes "stats") rows)
 Asks rows (Same left right max_nodes) =
     (first_of (codes "LEFT") rows ≡ Some left) × (first_of (codes "RIGHT") rows ≡ Some right) × HasLimit (first_of (codes "max-nodes") rows) max_nodes
 Asks rows (Gen number decide) = HasNumber (first_of (codes "K") rows) number × (decide ≡ is_given (codes "decide") rows)

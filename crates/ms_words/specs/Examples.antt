@@ -14,6 +14,9 @@ two_files = codes "decide" ∷ codes "t.mona" ∷ codes "u.mona" ∷ []
 abbrev pub with_limit : List Text
 with_limit = codes "decide" ∷ codes "--max-nodes" ∷ codes "5" ∷ codes "t.mona" ∷ []
 
+abbrev pub with_out : List Text
+with_out = codes "decide" ∷ codes "t.mona" ∷ codes "--out" ∷ codes "t.dfa" ∷ []
+
 abbrev pub with_counts : List Text
 with_counts = codes "decide" ∷ codes "t.mona" ∷ codes "--stats" ∷ []
 

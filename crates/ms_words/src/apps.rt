@@ -37,12 +37,13 @@ fn flag<'a>(alloc: Global, name: &'a str) -> Arg<'a>
     Arg::new(alloc, name).long(name).action(ArgAction::SetTrue)
 }
 
-/// The command `decide FILE [--max-nodes N] [--stats]`.
+/// The command `decide FILE [--out NAME] [--max-nodes N] [--stats]`.
 fn decide_app<'a>(alloc: Global) -> Result<Command<'a>, AllocError>
     ensures { IfOk result (λ made. app_of made ≡ decide_app) }
 {
     let with_file = command(alloc, "decide").arg(required(alloc, "FILE"))?;
-    let with_limit = with_file.arg(option(alloc, "max-nodes"))?;
+    let with_out = with_file.arg(option(alloc, "out"))?;
+    let with_limit = with_out.arg(option(alloc, "max-nodes"))?;
     let whole = with_limit.arg(flag(alloc, "stats"))?;
     Ok(whole)
 }

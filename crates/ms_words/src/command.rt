@@ -12,9 +12,10 @@ pub enum Verb {
 #[derive(Drop)]
 pub enum Command {
     /// To decide a source, where nodes and states of a step are together at most `max_nodes`, and to report on it, with
-    /// counts where `stats` holds.
+    /// counts where `stats` holds. The automaton of its main value is written to the file `out`, where one is named.
     Decide {
         file: Text,
+        out: Option<Text>,
         max_nodes: u64,
         stats: bool,
     },

@@ -3,7 +3,7 @@
 ghost use Rattle.std.specs.Prelude.{◌≡◌, [], codes, false, true, None, Some};
 ghost use Rattle.clap.specs.Words.{fault_of, first_of, matches_of};
 ghost use Rattle.ms_words.specs.Command.{HasLimit, HasNumber, decide_app, first_verb, gen_app, is_given, same_app};
-ghost use Rattle.ms_words.specs.Examples.{for_help, gen_and_decide, gen_by_number, no_file, one_file, only_left, two_files, two_to_compare, with_counts, with_limit};
+ghost use Rattle.ms_words.specs.Examples.{for_help, gen_and_decide, gen_by_number, no_file, one_file, only_left, two_files, two_to_compare, with_counts, with_limit, with_out};
 ghost use Rattle.ms_words.specs.declared.command.Verb.TheVariants.{Decide, Gen, Same};
 
 /// The first word says which command it is.
@@ -25,6 +25,9 @@ pub fn worked_words()
     ensures with_limit { fault_of decide_app with_limit ≡ [] }
     ensures the_limit { first_of (codes "max-nodes") (matches_of decide_app with_limit) ≡ Some (codes "5") }
     ensures same_file { first_of (codes "FILE") (matches_of decide_app with_limit) ≡ Some (codes "t.mona") }
+    ensures no_out { first_of (codes "out") (matches_of decide_app one_file) ≡ None }
+    ensures with_out { fault_of decide_app with_out ≡ [] }
+    ensures the_out { first_of (codes "out") (matches_of decide_app with_out) ≡ Some (codes "t.dfa") }
     ensures with_counts { fault_of decide_app with_counts ≡ [] }
     ensures counts { is_given (codes "stats") (matches_of decide_app with_counts) ≡ true }
     ensures for_help { ¬ (fault_of decide_app for_help ≡ []) }

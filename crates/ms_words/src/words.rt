@@ -97,7 +97,17 @@ fn text_of(alloc: Global, matches: &ArgMatches, name: &str) -> Result<Text, Word
     }
 }
 
-/// What the matches of `decide FILE [--max-nodes N] [--stats]` ask for.
+/// The text of an option's value, where the option was given.
+fn option_of(alloc: Global, matches: &ArgMatches, name: &str) -> Result<Option<Text>, NoMemory>
+    ensures { IfOk result (λ text. text ≡ first_of name.now (rows_of (found_of matches.now))) }
+{
+    match value_of(matches, name) {
+        Some(text) => Ok(Some(Text::new(alloc, text)?)),
+        None => Ok(None),
+    }
+}
+
+/// What the matches of `decide FILE [--out NAME] [--max-nodes N] [--stats]` ask for.
 fn decide_by(alloc: Global, matches: &ArgMatches) -> Result<Command, WordsFault>
     ensures command { IfOk result (AsksBy Verb.Decide (rows_of (found_of matches.now))) }
     ensures usage { IfErr result (λ fault. fault ≡ WordsFault.Usage → (command : Asked) → ¬ AsksBy Verb.Decide (rows_of (found_of matches.now)) command) }
@@ -109,9 +119,13 @@ fn decide_by(alloc: Global, matches: &ArgMatches) -> Result<Command, WordsFault>
         Ok(file) => file,
         Err(fault) => return Err(fault),
     };
+    let Ok(out) = option_of(alloc, matches, "out") else {
+        return Err(WordsFault::NoMemory);
+    };
     let stats = is_given(matches, "stats");
     Ok(Command::Decide {
         file,
+        out,
         max_nodes,
         stats,
     })

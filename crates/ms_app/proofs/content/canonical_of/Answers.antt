@@ -1,7 +1,22 @@
-use Rattle.ms_app.proofs.ContentLemmas.{canonical_of_value}
+use Rattle.std.proofs.Common.{subst, arith}
+use Rattle.ms_solve.specs.Values.{IsMainFile}
+use Rattle.ms_app.proofs.ContentLemmas.{canonical_of_value, file_of_value}
 use Rattle.ms_app.proofs.content.canonical_of.Goals as goal
+
+pub returns-in-Ok-clause-copy : goal.returns-in-Ok-clause-copy
+returns-in-Ok-clause-copy c =
+    let made = c.in-Ok.ensures in
+    let few = made.few in
+    let small = c.requires.limit.small in
+    record { mode_is = made.mode; orders = made.orders; names_are = made.names; signs = made.signs; canonical = made.canonical; few = omega (arith, few, small) }
 
 pub returns-in-Ok-clause-content : goal.returns-in-Ok-clause-content
 returns-in-Ok-clause-content c = λ problem names is.
-    let made = c.in-Ok.ensures in
-    canonical_of_value problem c.args.solution.now.automaton is.value c.requires.named.by_place c.in-Ok.content made.mode made.orders made.signs made.canonical
+    let solution = c.args.solution.now in
+    canonical_of_value problem solution.automaton is.value c.requires.named.by_place solution.names c.in-Ok.content (returns-in-Ok-clause-copy c)
+
+pub returns-in-Ok-clause-file : goal.returns-in-Ok-clause-file
+returns-in-Ok-clause-file c = λ problem names is.
+    let solution = c.args.solution.now in
+    subst (λ them. IsMainFile problem them c.in-Ok.content) is.names_are
+    (file_of_value problem solution.automaton is.value c.requires.named.by_place solution.names c.in-Ok.content (returns-in-Ok-clause-copy c))

@@ -1,13 +1,15 @@
 use Rattle.std.proofs.Common.{Bool, sym, subst}
 use Rattle.std.proofs.lemmas.Result.{IfErr-weaker, IfOk-weaker}
 use Rattle.ms_words.specs.declared.command.Command.TheVariants.{Gen}
-use Rattle.ms_app.specs.Answer.{IsRefusedFor, IsTextOf}
+use Rattle.ms_app.specs.Answer.{IsGivenFor, IsRefusedFor}
+use Rattle.ms_app.specs.Files.{pairs_of}
 use Rattle.ms_app.proofs.text.generation.Goals as goal
 
-pub returns-then-decide-clause-text : goal.returns-then-decide-clause-text
-returns-then-decide-clause-text c =
-    IfOk-weaker c.generation_summary.result _ _ (λ text is seen. subst (λ (decide : Bool). IsTextOf (Gen c.args.number decide) seen text) (sym c.if-decide.true) (is seen))
-    c.generation_summary.ensures.text
+pub returns-then-decide-clause-given : goal.returns-then-decide-clause-given
+returns-then-decide-clause-given c =
+    IfOk-weaker c.generation_summary.result _ _
+    (λ given is seen. subst (λ (decide : Bool). IsGivenFor (Gen c.args.number decide) seen given.text (pairs_of given.files)) (sym c.if-decide.true) (is seen))
+    c.generation_summary.ensures.given
 
 pub returns-then-decide-clause-refused : goal.returns-then-decide-clause-refused
 returns-then-decide-clause-refused c =

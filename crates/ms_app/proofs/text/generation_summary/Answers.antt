@@ -1,9 +1,11 @@
-use Rattle.std.proofs.Common.{◌≤◌, ℕ, true, List, [], length, ap, sym, subst, ◌∙◌}
+use Rattle.std.proofs.Common.{◌≤◌, ℕ, true, List, [], length, ap, map, sym, subst, ◌∙◌}
 use Rattle.ms_gen.proofs.Lengths.{generated_short}
-use Rattle.ms_logic.specs.View.{problem_of}
+use Rattle.ms_imports.specs.Imports.{answers_by}
 use Rattle.ms_report.specs.Report.{summary_of}
 use Rattle.ms_app.specs.Counts.{HasStats}
-use Rattle.ms_app.proofs.Generations.{text_decided, text_unaccepted, text_unsolved}
+use Rattle.ms_app.specs.Files.{pairs_of}
+use Rattle.ms_app.specs.Source.{problem_with}
+use Rattle.ms_app.proofs.Generations.{no_files, nothing_answers, nothing_counted, nothing_lent, text_decided, text_unaccepted, text_unsolved}
 use Rattle.ms_app.proofs.text.generation_summary.Goals as goal
 
 pub accept_text-requires : goal.accept_text-requires
@@ -14,18 +16,54 @@ returns-in-Err-accept_text-clause-refused c = λ seen.
     text_unaccepted c.args.number c.in-Ok.ensures.is_number c.in-Ok.text c.in-Ok.ensures.text c.args.names.now c.accept_text.new.names c.requires.first c.in-Err-accept_text.refusal
     c.in-Err-accept_text.ensures.refused
 
+pub decide-requires-clause-imports : goal.decide-requires-clause-imports
+decide-requires-clause-imports c =
+    let made = c.in-Ok-accept_text.ensures.accepted in
+    nothing_lent c.args.number c.in-Ok.ensures.is_number c.in-Ok.text c.in-Ok.ensures.text c.args.names.now c.accept_text.new.names c.requires.first made.0 c.in-Ok-accept_text.source.checked made.1
+    c.in-Ok-accept_text.ensures.names c.new.result c.new.ensures
+
 pub returns-in-Err-decide-clause-refused : goal.returns-in-Err-decide-clause-refused
 returns-in-Err-decide-clause-refused c = λ seen.
-    let made = c.in-Ok-accept_text.ensures.built in
-    text_unsolved c.args.number c.in-Ok.ensures.is_number c.in-Ok.text c.in-Ok.ensures.text c.args.names.now c.accept_text.new.names c.requires.first made.0 c.in-Ok-accept_text.source.checked made.1
-    c.in-Ok-accept_text.ensures.names c.in-Err-decide.refusal c.in-Err-decide.ensures.refused
-
-pub returns-in-Ok-summary-clause-text : goal.returns-in-Ok-summary-clause-text
-returns-in-Ok-summary-clause-text c = λ seen.
-    let made = c.in-Ok-accept_text.ensures.built in
-    let found = c.in-Ok-decide.found in
+    let made = c.in-Ok-accept_text.ensures.accepted in
     let checked = c.in-Ok-accept_text.source.checked in
-    let counted = subst (λ n. HasStats true (problem_of checked []) n found.stats) made.2 c.in-Ok-decide.ensures.stats in
-    let decided = text_decided c.args.number c.in-Ok.ensures.is_number c.in-Ok.text c.in-Ok.ensures.text c.args.names.now c.accept_text.new.names c.requires.first made.0 checked made.1
-    c.in-Ok-accept_text.ensures.names found c.in-Ok-decide.ensures.found c.in-Ok-decide.ensures.within counted in
-    (c.in-Ok.ensures.is_number, (found, decided, c.in-Ok-summary.ensures ∙ ap (λ n. summary_of c.args.number n found) (c.len-bytes.ensures ∙ ap (λ (t : List ℕ). length t) c.in-Ok.ensures.text)))
+    let long =
+    nothing_counted c.args.number c.in-Ok.ensures.is_number c.in-Ok.text c.in-Ok.ensures.text c.args.names.now c.accept_text.new.names c.requires.first made.0 checked made.1 c.in-Ok-accept_text.ensures.names in
+    text_unsolved c.args.number c.in-Ok.ensures.is_number c.in-Ok.text c.in-Ok.ensures.text c.args.names.now c.accept_text.new.names c.requires.first made.0 checked made.1
+    c.in-Ok-accept_text.ensures.names c.in-Err-decide.refusal (c.in-Err-decide.ensures.refused (answers_by checked.imports []) long)
+
+pub returns-in-Ok-summary-clause-given : goal.returns-in-Ok-summary-clause-given
+returns-in-Ok-summary-clause-given c = λ seen.
+    let made = c.in-Ok-accept_text.ensures.accepted in
+    let number = c.args.number in
+    let is_number = c.in-Ok.ensures.is_number in
+    let bytes = c.in-Ok.text in
+    let same = c.in-Ok.ensures.text in
+    let decided = c.in-Ok-decide.decided in
+    let found = decided.found in
+    let files = pairs_of decided.files in
+    let checked = c.in-Ok-accept_text.source.checked in
+    let names = c.in-Ok-accept_text.ensures.names in
+    let answers = nothing_answers number is_number bytes same c.args.names.now c.accept_text.new.names c.requires.first made.0 checked made.1 names c.new.result c.new.ensures in
+    let all = c.in-Ok-decide.ensures.found (answers_by checked.imports []) answers in
+    let counted = subst (λ n. HasStats true (problem_with checked []) n found.stats) made.2 all.1 in
+    let within = c.in-Ok-decide.ensures.within (answers_by checked.imports []) in
+    let is = text_decided number is_number bytes same c.args.names.now c.accept_text.new.names c.requires.first made.0 checked made.1 names found files all.0 within counted all.2 in
+    let none = no_files number is_number bytes same c.args.names.now c.accept_text.new.names c.requires.first made.0 checked made.1 names (map (λ g. g.name) checked.globals) (problem_with checked []) files all.2 in (
+      none,
+      is_number,
+      (found, is, c.in-Ok-summary.ensures ∙ ap (λ n. summary_of number n found) (c.len-bytes.ensures ∙ ap (λ (t : List ℕ). length t) same)),
+    )
+
+pub returns-in-Ok-summary-clause-no_files : goal.returns-in-Ok-summary-clause-no_files
+returns-in-Ok-summary-clause-no_files c =
+    let made = c.in-Ok-accept_text.ensures.accepted in
+    let number = c.args.number in
+    let is_number = c.in-Ok.ensures.is_number in
+    let bytes = c.in-Ok.text in
+    let same = c.in-Ok.ensures.text in
+    let checked = c.in-Ok-accept_text.source.checked in
+    let names = c.in-Ok-accept_text.ensures.names in
+    let answers = nothing_answers number is_number bytes same c.args.names.now c.accept_text.new.names c.requires.first made.0 checked made.1 names c.new.result c.new.ensures in
+    let all = c.in-Ok-decide.ensures.found (answers_by checked.imports []) answers in
+    no_files number is_number bytes same c.args.names.now c.accept_text.new.names c.requires.first made.0 checked made.1 names (map (λ g. g.name) checked.globals) (problem_with checked [])
+    (pairs_of c.in-Ok-decide.decided.files) all.2

@@ -1,3 +1,4 @@
+use Rattle.std.proofs.Common.{refl}
 use Rattle.ms_edge.specs.Files.{between}
 use Rattle.ms_app.specs.Answer as answers
 use Rattle.ms_app.proofs.Commands.{limited}
@@ -16,14 +17,14 @@ returns-in-Ok-clause-complete g c =
     (answers.asked c.in-Ok.command c.in-Ok.ensures.command c.answer.ensures.answered)
 
 pub returns-in-Err-Usage-clause-answered : goal.returns-in-Err-Usage-clause-answered
-returns-in-Err-Usage-clause-answered g c = answers.no_command (c.in-Err-Usage.ensures.usage c.in-Err-Usage.field-0-is) c.print.ensures
+returns-in-Err-Usage-clause-answered g c = answers.no_command (c.in-Err-Usage.ensures.usage c.in-Err-Usage.field-0-is) refl c.print.ensures
 
 pub returns-in-Err-Usage-clause-complete : goal.returns-in-Err-Usage-clause-complete
 returns-in-Err-Usage-clause-complete g c =
     complete c.args.words.now (g.S.Sink.told c.args.out.now) (g.S.Sink.told c.print.new.out) (between (g.F.Files.told c.args.files.now) (g.F.Files.told c.args.files.now)) c.print.result
-    (answers.no_command (c.in-Err-Usage.ensures.usage c.in-Err-Usage.field-0-is) c.print.ensures)
+    (answers.no_command (c.in-Err-Usage.ensures.usage c.in-Err-Usage.field-0-is) refl c.print.ensures)
 
 pub returns-in-Err-NoMemory-clause-complete : goal.returns-in-Err-NoMemory-clause-complete
 returns-in-Err-NoMemory-clause-complete g c =
     complete c.args.words.now (g.S.Sink.told c.args.out.now) (g.S.Sink.told c.out_of_memory.new.out) (between (g.F.Files.told c.args.files.now) (g.F.Files.told c.args.files.now)) c.out_of_memory.result
-    (answers.no_words c.out_of_memory.ensures)
+    (answers.no_words refl c.out_of_memory.ensures)

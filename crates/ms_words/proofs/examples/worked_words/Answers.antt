@@ -49,3 +49,15 @@ returns-clause-counts c = refl
 pub returns-clause-for_help : goal.returns-clause-for_help
 unfolding clap_on_literals
 returns-clause-for_help c = λ none. let never : ⊥ = cc in never
+
+pub returns-clause-no_out : goal.returns-clause-no_out
+unfolding clap_on_literals
+returns-clause-no_out c = refl
+
+pub returns-clause-with_out : goal.returns-clause-with_out
+unfolding clap_on_literals
+returns-clause-with_out c = refl
+
+pub returns-clause-the_out : goal.returns-clause-the_out
+unfolding clap_on_literals
+returns-clause-the_out c = refl

@@ -12,4 +12,4 @@ returns-in-Err-clause-usage c = λ is_usage. no_file (rows_of (found_of c.args.m
 
 pub returns-clause-command : goal.returns-clause-command
 returns-clause-command c =
-    (refl, (c.in-Ok.ensures.text, MatchOption-at_some _ _ c.in-Some.max_nodes c.in-Some.is c.limit_of.ensures, c.is_given-stats.ensures))
+    (refl, (c.in-Ok.ensures.text, c.in-Ok-option_of.ensures, MatchOption-at_some _ _ c.in-Some.max_nodes c.in-Some.is c.limit_of.ensures, c.is_given-stats.ensures))

@@ -1,0 +1,107 @@
+-- A source that was taken, with the automata of its imports, is decided or not solved.
+use Rattle.std.proofs.Common.{◌≡◌, ◌⊎◌, ℕ, Bool, true, List, [], ◌++◌, length, map, All, Option, sym, subst}
+use Rattle.ms_checked.specs.Names.{AreDifferent}
+use Rattle.ms_checked.specs.Spellings.{IsName}
+use Rattle.ms_dfa.specs.declared.plain.Plain.{Plain}
+use Rattle.ms_edge.specs.Files.{Seen}
+use Rattle.ms_edge.specs.declared.refusal.Refusal.{Refusal}
+use Rattle.ms_edge.specs.declared.refusal.Refusal.TheVariants.{Memory}
+use Rattle.ms_handover.proofs.SharedExports.{each_all}
+use Rattle.ms_imports.specs.Adopted.{AreAdopted}
+use Rattle.ms_imports.specs.Imports.{answers_by}
+use Rattle.ms_logic.specs.declared.checked.Checked.{Checked}
+use Rattle.ms_logic.specs.declared.checked.Global.{Global}
+use Rattle.ms_logic.specs.declared.sign.Sign.{Sign}
+use Rattle.ms_logic.specs.declared.source.Loaded.{Loaded}
+use Rattle.ms_logic.specs.Content.{Content}
+use Rattle.ms_logic.specs.View.{problem_of}
+use Rattle.ms_lower.specs.Measure.{Answers}
+use Rattle.ms_report.specs.declared.found.Found.{Found}
+use Rattle.ms_rules.specs.Numbers.{Each}
+use Rattle.ms_solve.specs.Imported.{AreAnswersOf, AreLentFor}
+use Rattle.ms_solve.specs.Limits.{IsUnsolved, IsWithinLimits}
+use Rattle.ms_solve.specs.Solution.{HasExports, IsSmall, IsSolution}
+use Rattle.ms_solve.specs.declared.solution.Solution.{Solution}
+use Rattle.ms_solve.proofs.Solved.{answers_counted, are_own_answers, own_answers}
+use Rattle.ms_app.specs.Counts.{HasStats}
+use Rattle.ms_app.specs.Decision.{IsDecided, IsFound}
+use Rattle.ms_app.specs.Files.{AreNames, AreWritable, HaveOwnNames}
+use Rattle.ms_app.specs.Right.{IsRight}
+use Rattle.ms_app.specs.Source.{IsRefused, IsSolved, IsTaken, Origin, file_of, problem_with}
+use Rattle.ms_app.specs.Written.{AreFilesOf, File}
+use Rattle.ms_app.proofs.Adopted.{are_answers}
+use Rattle.ms_app.proofs.Comparisons.{RefusedWith, unsolved_refused}
+use Rattle.ms_app.proofs.Writing.{all_writable, exports_counted, own_names}
+
+module _ (checked : Checked) where
+  abbrev global_names : List (List ℕ)
+  global_names = map (λ (g : Global). g.name) checked.globals
+
+  -- what is found of a source, for each list of answers that automata give
+  abbrev pub FoundBy : List (Content Sign) → Option (List ℕ) → Bool → ℕ → Found → List File → Type 0
+  FoundBy contents out stats count found files =
+      (answers : Answers) → AreAnswersOf checked.mode checked.imports answers contents →
+      IsFound (problem_of checked answers) global_names found × HasStats stats (problem_of checked answers) count found.stats
+      × AreFilesOf (problem_of checked answers) global_names checked.exports out files
+
+  -- automata that imports have become
+  module _ (plains : List Plain) (contents : List (Content Sign)) (adopted : AreAdopted checked.mode checked.imports plains contents) where
+    abbrev pub answers : Answers
+    answers = answers_by checked.imports plains
+
+    pub are : AreAnswersOf checked.mode checked.imports answers contents
+    are = are_answers checked.mode checked.imports plains contents adopted
+
+    pub counted : length answers ≡ length checked.imports
+    counted = answers_counted checked.mode checked.imports answers contents are
+
+    module _ (origin : Origin) (out : Option (List ℕ)) (loaded : Loaded) (taken : IsTaken origin out loaded checked plains) where
+      pub solved_of : ((answers : Answers) → IsWithinLimits (problem_of checked answers)) → IsSolved origin out loaded checked plains
+      solved_of within = record { is = taken; within = within answers }
+
+      pub decided_of : (stats : Bool) (count : ℕ) → count ≡ length loaded.files → (found : Found) (files : List File) → FoundBy contents out stats count found files
+          → ((answers : Answers) → IsWithinLimits (problem_of checked answers)) → IsDecided origin out stats found files
+      decided_of stats count same found files by within =
+          let all = by answers are in
+          record {
+            loaded = loaded;
+            checked = checked;
+            plains = plains;
+            is = solved_of within;
+            is_found = all.0;
+            counted = subst (λ n. HasStats stats (problem_with checked plains) n found.stats) same all.1;
+            written = all.2;
+          }
+
+      pub own_names_of : IsRight checked → (stats : Bool) (count : ℕ) (found : Found) (files : List File) → FoundBy contents out stats count found files → HaveOwnNames files
+      own_names_of right stats count found files by = own_names (problem_with checked plains) global_names checked.exports out files right.meets_rules.names.files taken.free (by answers are).2
+
+      pub unsolved_of : (limit : ℕ) (refusal : Refusal) (old new : List (List ℕ)) → new ≡ old ++ loaded.files
+          → ((answers : Answers) → length answers ≡ length checked.imports → (refusal ≡ Memory) ⊎ IsUnsolved checked answers limit refusal)
+          → RefusedWith old new (IsRefused origin out limit refusal) refusal
+      unsolved_of limit refusal old new grown why = unsolved_refused origin out limit refusal old new loaded checked plains taken grown (why answers counted)
+
+  -- what is made of automata that are lent can be written
+  module _ (right : IsRight checked) (contents : List (Content Sign)) (lent : AreLentFor checked.mode checked.imports contents) (solution : Solution) where
+    abbrev own : Answers
+    own = own_answers contents
+
+    are_own : AreAnswersOf checked.mode checked.imports own contents
+    are_own = are_own_answers checked.mode checked.imports contents lent
+
+    pub names_good : ((answers : Answers) → AreAnswersOf checked.mode checked.imports answers contents → IsSolution (problem_of checked answers) global_names solution) → AreNames solution.names
+    names_good by =
+        let same = (by own are_own).names_are in
+        record { spelled = subst (All IsName) (sym same) (each_all IsName global_names right.names.globals); different = subst AreDifferent (sym same) right.meets_rules.names.globals }
+
+    module _ (exports : (answers : Answers) → AreAnswersOf checked.mode checked.imports answers contents → HasExports true (problem_of checked answers) checked.exports solution.exports) where
+      pub as_many : length checked.exports ≡ length solution.exports
+      as_many = exports_counted (problem_of checked own) 0 checked.exports solution.exports (exports own are_own)
+
+      pub writable : Each IsSmall solution.exports → AreWritable solution.exports
+      writable small = all_writable (problem_of checked own) 0 checked.exports solution.exports (exports own are_own) small right.names.exports right.meets_rules.names.exports
+
+-- the first source of a request
+pub first_decided : (seen : Seen) (name : List ℕ) (out : Option (List ℕ)) (stats : Bool) (found : Found) (files : List File) (old : List (List ℕ)) → old ≡ []
+    → IsDecided (file_of seen (length old) name) out stats found files → IsDecided (file_of seen 0 name) out stats found files
+first_decided seen name out stats found files old none is = let P : List (List ℕ) → Type 0 = λ names. IsDecided (file_of seen (length names) name) out stats found files in subst P none is

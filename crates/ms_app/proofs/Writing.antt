@@ -1,0 +1,137 @@
+-- The files that a decision writes, and their names.
+use Rattle.std.proofs.Common.{◌≡◌, ◌≢◌, ℕ, zero, suc, ◌+◌, List, [], ◌∷◌, ◌++◌, length, map, take, slice_get, All, Option, Some, None, refl, sym, ap, ap₂, subst, ◌∙◌, arith}
+use Rattle.std.proofs.lemmas.List.Elements.{All-cons, All-head, All-nil, All-tail}
+use Rattle.std.proofs.lemmas.List.Quantifiers.{all_pairs_push}
+use Rattle.std.proofs.lemmas.Option.{none-some, same_Some}
+use Rattle.ms_checked.specs.Names.{AreDifferent}
+use Rattle.ms_dfa.specs.declared.plain.Plain.{Plain}
+use Rattle.ms_dfafile.specs.File.{IsSpelled}
+use Rattle.ms_logic.specs.declared.checked.ExportUse.{ExportUse}
+use Rattle.ms_logic.specs.Verdict.{Problem}
+use Rattle.ms_rules.specs.Numbers.{Each}
+use Rattle.ms_handover.proofs.SharedExports.{each_all}
+use Rattle.ms_checked.specs.Spellings.{IsName}
+use Rattle.ms_solve.specs.Solution.{AreExportFiles, IsSmall}
+use Rattle.ms_solve.specs.Values.{IsMainFile}
+use Rattle.ms_app.specs.Files.{AreSpelled, AreWritable, HaveOwnNames, IsWithMain, pairs_of}
+use Rattle.ms_app.specs.declared.files.AutomatonFile.{AutomatonFile}
+use Rattle.ms_app.specs.Source.{IsOutFree}
+use Rattle.ms_app.specs.Written.{AreFilesFrom, AreFilesOfMain, File}
+
+module _ (problem : Problem) (names : List (List ℕ)) where
+  -- files of exports, and behind them that of the main value
+  pub files_from : (i : ℕ) (uses : List ExportUse) (plains : List Plain) (files rest : List File) (out : Option (List ℕ)) → AreSpelled uses plains files → AreExportFiles problem i uses plains
+      → AreFilesOfMain problem names out rest → AreFilesFrom problem names i uses out (files ++ rest)
+  files_from i [] [] [] rest out spelled exports main = main
+  files_from i [] [] (file ∷ files) rest out spelled exports main = absurd spelled
+  files_from i [] (plain ∷ plains) files rest out spelled exports main = absurd exports
+  files_from i (used ∷ uses) [] files rest out spelled exports main = absurd exports
+  files_from i (used ∷ uses) (plain ∷ plains) [] rest out spelled exports main = absurd spelled
+  files_from i (used ∷ uses) (plain ∷ plains) (file ∷ files) rest out spelled exports main =
+      ((spelled.0.0, (plain, spelled.0.1, exports.0)), files_from (i + 1) uses plains files rest out spelled.1 exports.1 main)
+
+  no_more : (files : List File) → files ++ [] ≡ files
+  no_more [] = refl
+  no_more (file ∷ files) = ap (λ fs. file ∷ fs) (no_more files)
+
+  -- where none is asked for
+  pub files_alone : (uses : List ExportUse) (plains : List Plain) (files : List File) → AreSpelled uses plains files → AreExportFiles problem 0 uses plains → AreFilesFrom problem names 0 uses None files
+  files_alone uses plains files spelled exports = subst (AreFilesFrom problem names 0 uses None) (no_more files) (files_from 0 uses plains files [] None spelled exports refl)
+
+  -- and where one may be
+  pub files_with : (uses : List ExportUse) (plains : List Plain) (files more : List File) (out : Option (List ℕ)) (main : Plain) → AreSpelled uses plains files → AreExportFiles problem 0 uses plains
+      → IsMainFile problem names main → IsWithMain files out main more → AreFilesFrom problem names 0 uses out more
+  files_with uses plains files more None main spelled exports is with = subst (AreFilesFrom problem names 0 uses None) (sym with) (files_alone uses plains files spelled exports)
+  files_with uses plains files more (Some out) main spelled exports is (bytes, are, text) =
+      subst (AreFilesFrom problem names 0 uses (Some out)) (sym are) (files_from 0 uses plains files ((out, bytes) ∷ []) (Some out) spelled exports (bytes, refl, (main, text, is)))
+
+  -- the names of the files
+  abbrev name_of_out : Option (List ℕ) → List (List ℕ)
+  name_of_out None = []
+  name_of_out (Some out) = out ∷ []
+
+  names_are : (i : ℕ) (uses : List ExportUse) (out : Option (List ℕ)) (files : List File) → AreFilesFrom problem names i uses out files
+      → map (λ (file : File). file.0) files ≡ map (λ (used : ExportUse). used.name) uses ++ name_of_out out
+  names_are i [] None files are = ap (map (λ (file : File). file.0)) are
+  names_are i [] (Some out) files are = ap (map (λ (file : File). file.0)) are.1
+  names_are i (used ∷ uses) out [] are = absurd are
+  names_are i (used ∷ uses) out (file ∷ files) are = ap₂ (λ n ns. n ∷ ns) are.0.0 (names_are (i + 1) uses out files are.1)
+
+  free_name : (out : List ℕ) (uses : List ExportUse) → All (λ (used : ExportUse). used.name ≢ out) uses → All (λ n. n ≢ out) (map (λ (used : ExportUse). used.name) uses)
+  free_name out [] free = All-nil (λ n. n ≢ out)
+  free_name out (used ∷ uses) free =
+      let P : ExportUse → Type 0 = λ u. u.name ≢ out in
+      All-cons (λ n. n ≢ out) used.name (map (λ (u : ExportUse). u.name) uses) (All-head P used uses free) (free_name out uses (All-tail P used uses free))
+
+  -- no two have one name
+  pub own_names : (uses : List ExportUse) (out : Option (List ℕ)) (files : List File) → AreDifferent (map (λ (used : ExportUse). used.name) uses) → IsOutFree out uses
+      → AreFilesFrom problem names 0 uses out files → HaveOwnNames files
+  own_names uses None files different free are =
+      subst AreDifferent (sym (names_are 0 uses None files are ∙ nothing_more (map (λ (u : ExportUse). u.name) uses))) different
+    where
+      nothing_more : (ns : List (List ℕ)) → ns ++ [] ≡ ns
+      nothing_more [] = refl
+      nothing_more (n ∷ ns) = ap (λ ms. n ∷ ms) (nothing_more ns)
+  own_names uses (Some out) files different free are =
+      let ns = map (λ (u : ExportUse). u.name) uses in
+      subst AreDifferent (sym (names_are 0 uses (Some out) files are)) (all_pairs_push (λ n m. n ≢ m) ns out different (λ k d less. free_name out uses free k d less))
+
+-- what is made of exports can be written
+pub all_writable : (problem : Problem) (i : ℕ) (uses : List ExportUse) (plains : List Plain) → AreExportFiles problem i uses plains → Each IsSmall plains
+    → Each (λ (used : ExportUse). Each IsName used.names) uses → Each (λ (used : ExportUse). AreDifferent used.names) uses → AreWritable plains
+all_writable problem i [] [] exports small names different = tt
+all_writable problem i [] (plain ∷ plains) exports small names different = absurd exports
+all_writable problem i (used ∷ uses) [] exports small names different = absurd exports
+all_writable problem i (used ∷ uses) (plain ∷ plains) exports small names different = (
+  record {
+    names = record {
+      spelled = subst (All IsName) (sym exports.0.file.names_are) (each_all IsName used.names names.0);
+      different = subst AreDifferent (sym exports.0.file.names_are) different.0;
+    };
+    canonical = exports.0.file.canonical;
+    small = small.0;
+  },
+  all_writable problem (i + 1) uses plains exports.1 small.1 names.1 different.1,
+)
+
+-- as many as exports
+pub exports_counted : (problem : Problem) (i : ℕ) (uses : List ExportUse) (plains : List Plain) → AreExportFiles problem i uses plains → length uses ≡ length plains
+exports_counted problem i [] [] exports = refl
+exports_counted problem i [] (plain ∷ plains) exports = absurd exports
+exports_counted problem i (used ∷ uses) [] exports = absurd exports
+exports_counted problem i (used ∷ uses) (plain ∷ plains) exports = ap suc (exports_counted problem (i + 1) uses plains exports.1)
+
+-- one file more
+pub spelled_more : (uses : List ExportUse) (plains : List Plain) (n : ℕ) (files : List File) (used : ExportUse) (plain : Plain) (file : File) → AreSpelled (take n uses) (take n plains) files
+    → slice_get uses n ≡ Some used → slice_get plains n ≡ Some plain → file.0 ≡ used.name → IsSpelled file.1 plain → AreSpelled (take (n + 1) uses) (take (n + 1) plains) (files ++ file ∷ [])
+spelled_more [] plains n files used plain file so_far at_used at_plain name text = absurd (none-some used at_used)
+spelled_more (u ∷ uses) [] n files used plain file so_far at_used at_plain name text = absurd (none-some plain at_plain)
+spelled_more (u ∷ uses) (p ∷ plains) zero [] used plain file so_far at_used at_plain name text =
+    let same_used = same_Some u used at_used in
+    let same_plain = same_Some p plain at_plain in
+    ((name ∙ ap (λ (x : ExportUse). x.name) (sym same_used), subst (IsSpelled file.1) (sym same_plain) text), tt)
+spelled_more (u ∷ uses) (p ∷ plains) zero (first ∷ files) used plain file so_far at_used at_plain name text = absurd so_far
+spelled_more (u ∷ uses) (p ∷ plains) (suc n) [] used plain file so_far at_used at_plain name text = absurd so_far
+spelled_more (u ∷ uses) (p ∷ plains) (suc n) (first ∷ files) used plain file so_far at_used at_plain name text =
+    let next : suc n + 1 ≡ suc (n + 1) = omega arith in
+    subst (λ count. AreSpelled (take count (u ∷ uses)) (take count (p ∷ plains)) (first ∷ files ++ file ∷ [])) (sym next)
+    (so_far.0, spelled_more uses plains n files used plain file so_far.1 at_used at_plain name text)
+
+take_all_of : {X : Type 0} (xs : List X) (n : ℕ) → n ≡ length xs → take n xs ≡ xs
+take_all_of [] zero all = refl
+take_all_of [] (suc n) all = absurd (omega (arith, all))
+take_all_of (x ∷ xs) zero all = absurd (omega (arith, all))
+take_all_of (x ∷ xs) (suc n) all = ap (λ ys. x ∷ ys) (take_all_of xs n (omega (arith, all)))
+
+pub all_spelled : (uses : List ExportUse) (plains : List Plain) (n : ℕ) (files : List File) → length uses ≡ length plains → n ≡ length uses → AreSpelled (take n uses) (take n plains) files
+    → AreSpelled uses plains files
+all_spelled uses plains n files long all so_far =
+    subst (λ us. AreSpelled us plains files) (take_all_of uses n all) (subst (λ ps. AreSpelled (take n uses) ps files) (take_all_of plains n (all ∙ long)) so_far)
+
+-- the names and bytes of one file more
+pub pairs_more : (files : List AutomatonFile) (file : AutomatonFile) → pairs_of (files ++ file ∷ []) ≡ pairs_of files ++ (file.name, file.bytes) ∷ []
+pairs_more [] file = refl
+pairs_more (first ∷ files) file = ap (λ pairs. (first.name, first.bytes) ∷ pairs) (pairs_more files file)
+
+pub spelled_here : (us uses : List ExportUse) (ps plains : List Plain) (files : List File) → us ≡ uses → ps ≡ plains → AreSpelled us ps files → AreSpelled uses plains files
+spelled_here us uses ps plains files same_uses same_plains are = subst (λ list. AreSpelled uses list files) same_plains (subst (λ list. AreSpelled list ps files) same_uses are)
