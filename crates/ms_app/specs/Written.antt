@@ -22,7 +22,7 @@ AreFilesOfMain problem names None files = files ≡ []
 AreFilesOfMain problem names (Some out) files =
     (bytes : List ℕ) × (files ≡ (out, bytes) ∷ []) × ((plain : Plain) × IsSpelled bytes plain × IsMainFile problem names plain)
 
--- the files of the exports, in the order of the source, whose numbers go on from one, and then that of the main value
+-- the files of the exports, in the order of the source, numbered on from a first number, and then that of the main value
 abbrev pub AreFilesFrom : Problem → List (List ℕ) → ℕ → List ExportUse → Option (List ℕ) → List File → Type 0
 AreFilesFrom problem names i [] out files = AreFilesOfMain problem names out files
 AreFilesFrom problem names i (used ∷ uses) out [] = ⊥

@@ -13,7 +13,7 @@ pub record IsNamed (solution : Solution) : Type 0 where
   pub one_each : length solution.names ≡ length solution.automaton.variables
   pub by_place : solution.automaton.variables ≡ variables_by_place (map (λ v. v.order) solution.automaton.variables)
 
--- the files of exports, whose numbers go on from one
+-- the files of exports, numbered on from a first number
 abbrev pub AreExportFiles : Problem → ℕ → List ExportUse → List Plain → Type 0
 AreExportFiles problem i [] [] = Unit {0}
 AreExportFiles problem i [] (plain ∷ plains) = ⊥
