@@ -11,7 +11,7 @@ use Rattle.ms_logic.specs.declared.mode.Mode.TheVariants.{M2lStr}
 use Rattle.ms_logic.specs.declared.mode.Order.{Order}
 use Rattle.ms_logic.specs.declared.mode.Order.TheVariants.{Zero, One, Two}
 use Rattle.ms_logic.specs.declared.sign.Sign.{Sign}
-use Rattle.ms_logic.specs.Assignment.{Universe, Env, Variable, IsAssignment, IsValueOf, value_at}
+use Rattle.ms_logic.specs.Assignment.{Universe, Env, Variable, IsAssignment, IsValueOf, value_at, AreValuesOf}
 use Rattle.ms_logic.specs.Content.{Content, answer_by, env_of, shortest_word, sign_of, variables_by_place}
 use Rattle.ms_logic.specs.Roots.{AreRising}
 use Rattle.ms_logic.proofs.Agreement.{universe-assign_all}
@@ -35,7 +35,6 @@ use Rattle.ms_canonical.proofs.ContentLemmas.{IsClosed-content}
 use Rattle.ms_dfafile.specs.File.{IsFile}
 use Rattle.ms_rename.specs.Renamed.{read_by, renamed, renamed_meaning}
 use Rattle.ms_rename.proofs.RenamedLemmas.{renamed-at, renamed-of}
-use Rattle.ms_adopt.specs.Laws.{AreValuesOf}
 use Rattle.ms_adopt.specs.Import.{adopted_meaning, answer_for_file, answer_of_file, value_named}
 use Rattle.ms_adopt.specs.Map.{IsNaming, pair_names}
 use Rattle.ms_adopt.specs.Said.{HasSignsOf, own_sign, own_variables}
@@ -47,7 +46,7 @@ use Rattle.ms_adopt.proofs.VariableLemmas.{at-by_place, by_place-at, gives_among
 
 -- values that are of their orders place by place
 are_values : (universe : Universe) (vs : List Variable) (values : List Value) → length values ≡ length vs
-    → ((place : ℕ) (v : Variable) (value : Value) → slice_get vs place ≡ Some v → slice_get values place ≡ Some value → IsValueOf v.order universe value) → AreValuesOf universe vs values
+    → ((place : ℕ) (v : Variable) (value : Value) → slice_get vs place ≡ Some v → slice_get values place ≡ Some value → IsValueOf v.order universe value) → AreValuesOf universe (map (λ v. v.order) vs) values
 are_values universe [] [] long each = tt
 are_values universe [] (value ∷ values) long each = absurd (omega (arith, long))
 are_values universe (v ∷ vs) [] long each = absurd (omega (arith, long))
@@ -202,7 +201,7 @@ module _ (plain : Plain) (rules : IsFile plain) (pairs : List MapPair) (differen
         is_item (λ (variable : FileVar). value_named (pair_names pairs) values variable.name) plain.variables place at.variable at.held
         ∙ ap Some (value_at_name (pair_names pairs) values j at.variable.name (value_at v.order j e) different name value ∙ sym (read_at e place v held))
 
-    asked_are : AreValuesOf e.universe vs asked
+    asked_are : AreValuesOf e.universe (map (λ v. v.order) vs) asked
     asked_are =
         are_values e.universe vs asked (length-map plain.variables (λ (variable : FileVar). value_named (pair_names pairs) values variable.name) ∙ sym naming.long ∙ as_long)
         (λ place v value held there. subst (IsValueOf v.order e.universe) (same_Some (value_at v.order v.name f) value (sym (asked_at place v held) ∙ there))

@@ -5,12 +5,11 @@ use Rattle.std.proofs.lemmas.Bool.{cases_Bool}
 use Rattle.std.proofs.lemmas.Option.{none-some, same_Some, slice_get_within, get_or_from_slice_get}
 use Rattle.std.proofs.lemmas.Slice.Eq.{bytes_eq-Decides}
 use Rattle.ms_logic.specs.declared.assignment.Value.{Value}
-use Rattle.ms_logic.specs.Assignment.{Universe, Env, Variable, GivesEach, IsValueOf, assign, value_at}
+use Rattle.ms_logic.specs.Assignment.{Universe, Env, Variable, GivesEach, IsValueOf, assign, value_at, AreValuesOf}
 use Rattle.ms_logic.specs.Content.{env_of}
 use Rattle.ms_logic.specs.Roots.{AreRising, IsBelowFirst}
 use Rattle.ms_logic.proofs.Saying.{value_at-assign, value_at-assign_other}
 use Rattle.ms_adopt.specs.Import.{value_named}
-use Rattle.ms_adopt.specs.Laws.{AreValuesOf}
 
 -- a number below a variable's is below those of the variables behind it
 below_next : (x : ℕ) (v : Variable) (vs : List Variable) → x < v.name → IsBelowFirst v.name vs → IsBelowFirst x vs
@@ -26,7 +25,7 @@ later_keep x value e (v ∷ vs) below rising =
     let others = later_keep x value e vs (below_next x v vs below rising.0) rising.1 in cc
 
 -- variables whose numbers rise have the values that they are given
-pub given_values : (universe : Universe) (vs : List Variable) (values : List Value) → AreRising vs → AreValuesOf universe vs values
+pub given_values : (universe : Universe) (vs : List Variable) (values : List Value) → AreRising vs → AreValuesOf universe (map (λ v. v.order) vs) values
     → map (λ v. value_at v.order v.name (env_of universe vs values)) vs ≡ values
 given_values universe [] [] rising are = refl
 given_values universe [] (value ∷ values) rising are = absurd are
@@ -38,7 +37,7 @@ given_values universe (v ∷ vs) (value ∷ values) rising are =
     let others = given_values universe vs values rising.1 are.1 in cc
 
 -- what each variable has
-pub given_each : (universe : Universe) (e : Env) (vs : List Variable) (values : List Value) → e.universe ≡ universe → map (λ v. value_at v.order v.name e) vs ≡ values → AreValuesOf universe vs values
+pub given_each : (universe : Universe) (e : Env) (vs : List Variable) (values : List Value) → e.universe ≡ universe → map (λ v. value_at v.order v.name e) vs ≡ values → AreValuesOf universe (map (λ v. v.order) vs) values
     → GivesEach vs e
 given_each universe e [] values same are_values are = tt
 given_each universe e (v ∷ vs) [] same are_values are = absurd are

@@ -1,9 +1,9 @@
 -- What an adopted file answers as an import.
-use Rattle.std.specs.Prelude.{◌≡◌, ℕ, List, [], ◌∷◌}
+use Rattle.std.specs.Prelude.{◌≡◌, ℕ, List, map}
 use Rattle.ms_logic.specs.declared.assignment.Value.{Value}
 use Rattle.ms_logic.specs.declared.sign.Sign.{Sign}
 use Rattle.ms_logic.specs.declared.sign.Sign.TheVariants.{Yes, No, Undefined, Outside}
-use Rattle.ms_logic.specs.Assignment.{Universe, Variable, IsUniverseOf, IsValueOf}
+use Rattle.ms_logic.specs.Assignment.{Universe, AreValuesOf, IsUniverseOf}
 use Rattle.ms_logic.specs.Content.{Content, answer_of}
 use Rattle.ms_logic.specs.Roots.{AreRising}
 use Rattle.ms_logic.specs.Truth.{Answer, answer_yes, answer_no, answer_undefined}
@@ -18,16 +18,9 @@ answer_for No = answer_no
 answer_for Undefined = answer_undefined
 answer_for Outside = answer_undefined
 
--- a value of its order for each variable, and no more
-abbrev pub AreValuesOf : Universe → List Variable → List Value → Type 0
-AreValuesOf universe [] [] = Unit {0}
-AreValuesOf universe [] (value ∷ values) = ⊥
-AreValuesOf universe (v ∷ vs) [] = ⊥
-AreValuesOf universe (v ∷ vs) (value ∷ values) = IsValueOf v.order universe value × AreValuesOf universe vs values
-
 -- a content over rising variables with the values of a file answers what the file says, at all values of its variables
 abbrev pub AnswersAsFile : Type 0
 AnswersAsFile =
     (plain : Plain) (names : List (List ℕ)) (content : Content Sign) → AreRising content.variables → HasValues (adopted_meaning plain names content.variables) content
-    → (universe : Universe) (values : List Value) → IsUniverseOf content.mode universe → AreValuesOf universe content.variables values
+    → (universe : Universe) (values : List Value) → IsUniverseOf content.mode universe → AreValuesOf universe (map (λ v. v.order) content.variables) values
     → answer_of answer_for content universe values ≡ answer_of_file plain names universe values

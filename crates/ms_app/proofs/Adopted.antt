@@ -14,11 +14,11 @@ use Rattle.ms_logic.specs.declared.mode.Mode.{Mode}
 use Rattle.ms_logic.specs.declared.mode.Order.{Order}
 use Rattle.ms_logic.specs.declared.sign.Sign.{Sign}
 use Rattle.ms_logic.specs.declared.sign.Sign.TheVariants.{Yes, No, Undefined, Outside}
-use Rattle.ms_logic.specs.Assignment.{Universe, Variable, IsUniverseOf}
+use Rattle.ms_logic.specs.Assignment.{Universe, AreValuesOf, Variable, IsUniverseOf}
 use Rattle.ms_logic.specs.Content.{Content, answer_of, variables_by_place, variables_from}
 use Rattle.ms_logic.specs.Roots.{AreRising}
 use Rattle.ms_logic.specs.Truth.{Answer}
-use Rattle.ms_solve.specs.Imported.{AreAnswersOf, AreLentFor, AreValuesOf, IsAnswerOf, orders_of_pairs}
+use Rattle.ms_solve.specs.Imported.{AreAnswersOf, AreLentFor, IsAnswerOf, orders_of_pairs}
 use Rattle.ms_theory.specs.Values.{HasValues}
 
 pub are_lent : (mode : Mode) (uses : List ImportUse) (plains : List Plain) (contents : List (Content Sign)) → AreAdopted mode uses plains contents → AreLentFor mode uses contents
@@ -35,7 +35,7 @@ same_answer No = refl
 same_answer Undefined = refl
 same_answer Outside = refl
 
-values_over : (universe : Universe) (k : ℕ) (orders : List Order) (values : List Value) → AreValuesOf universe orders values → law.AreValuesOf universe (variables_from k orders) values
+values_over : (universe : Universe) (k : ℕ) (orders : List Order) (values : List Value) → AreValuesOf universe orders values → AreValuesOf universe (map (λ v. v.order) (variables_from k orders)) values
 values_over universe k [] [] are = tt
 values_over universe k [] (value ∷ values) are = absurd are
 values_over universe k (order ∷ orders) [] are = absurd are
@@ -48,7 +48,7 @@ module _ (mode : Mode) (used : ImportUse) (plain : Plain) (content : Content Sig
   gives_answer : IsAnswerOf mode used (answer_of_file plain names) content
   gives_answer universe values is_universe are =
       let over : content.variables ≡ variables_by_place (orders_of_pairs used) = is.variables_are in
-      let V : List Variable → Type 0 = λ vs. law.AreValuesOf universe vs values in
+      let V : List Variable → Type 0 = λ vs. AreValuesOf universe (map (λ v. v.order) vs) values in
       let M : List Variable → Type 0 = λ vs. HasValues (adopted_meaning plain names vs) content in
       let said =
       answers_as_file plain names content (subst AreRising (sym over) (rising-by_place 0 (orders_of_pairs used))) (subst M (sym over) is.values) universe values

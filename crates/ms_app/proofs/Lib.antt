@@ -7,6 +7,7 @@ pub mod Complete
 pub mod ContentLemmas
 pub mod Decisions
 pub mod EqualLemmas
+pub mod ExampleFiles
 pub mod FileCounts
 pub mod FirstAssignments
 pub mod Generations

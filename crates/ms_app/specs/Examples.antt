@@ -1,5 +1,6 @@
 -- Exports, files and globals for worked examples.
-use Rattle.std.specs.Prelude.{ℕ, List, [], ◌∷◌, codes, Option, Some, None}
+use Rattle.std.specs.Prelude.{ℕ, if◌then◌else◌, List, [], ◌∷◌, codes, Option, Some, None}
+use Rattle.std.specs.Str.{bytes_eq}
 use Rattle.ms_edge.specs.declared.at.At.{At}
 use Rattle.ms_edge.specs.Files.{Holding}
 use Rattle.ms_logic.specs.declared.checked.Checked.{Checked}
@@ -9,6 +10,7 @@ use Rattle.ms_logic.specs.declared.mode.Mode.{Mode}
 use Rattle.ms_logic.specs.declared.mode.Mode.TheVariants.{Ws1s, M2lStr}
 use Rattle.ms_logic.specs.declared.mode.Order.{Order}
 use Rattle.ms_logic.specs.declared.mode.Order.TheVariants.{One, Two}
+use Rattle.ms_app.specs.Written.{File}
 
 abbrev pub at : ℕ → At
 at place = record { file = 0; place = place }
@@ -20,6 +22,14 @@ export_to name = record { at = at 7; name = name; variables = []; names = [] }
 -- files that hold nothing
 abbrev pub nothing_held : Option Holding
 nothing_held = Some (λ name. None)
+
+-- files that hold these bytes under this name alone
+abbrev pub one_held : List ℕ → List ℕ → Option Holding
+one_held name bytes = Some (λ other. if bytes_eq other name then Some bytes else None)
+
+-- two files to be written
+abbrev pub two_files : List File
+two_files = (codes "a", 1 ∷ []) ∷ (codes "b", 2 ∷ []) ∷ []
 
 -- a global of an order, without a restriction
 abbrev pub declared : Order → List ℕ → Global

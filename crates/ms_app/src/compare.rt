@@ -23,10 +23,18 @@ pub struct Pair<'a> {
 }
 
 /// A source and its solution.
-#[derive(Drop)]
 struct Solved {
     source: Accepted,
     solution: Solution,
+}
+
+impl Drop for Solved {
+    fn drop(self) {
+        let Solved {
+            source: _,
+            solution: _,
+        } = self;
+    }
 }
 
 /// A file and its solution.

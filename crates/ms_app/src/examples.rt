@@ -6,9 +6,9 @@ ghost use Rattle.ms_logic.specs.View.{problem_of};
 ghost use Rattle.ms_solve.specs.Limits.{IsWithinLimits};
 ghost use Rattle.ms_app.specs.Comparison.{HaveSameGlobals, comparison_text};
 ghost use Rattle.ms_app.specs.Counts.{HasStats};
-ghost use Rattle.ms_app.specs.Examples.{at, export_to, nothing_held, one_set, other_mode, other_order, turned_round, two_sets};
+ghost use Rattle.ms_app.specs.Examples.{at, export_to, nothing_held, one_held, one_set, other_mode, other_order, turned_round, two_files, two_sets};
 ghost use Rattle.ms_app.specs.Source.{IsOutFree, IsOutTaken};
-ghost use Rattle.ms_app.specs.Written.{AreFilesOf, AreHeld, KeepsAllBut};
+ghost use Rattle.ms_app.specs.Written.{AreFilesOf, AreHeld, AreHeldUpTo, KeepsAllBut};
 
 /// Sources that can be compared, and sources that cannot.
 pub fn worked_globals()
@@ -39,4 +39,22 @@ pub fn worked_files()
     ensures no_files { AreFilesOf (problem_of two_sets []) [] [] None [] }
     ensures nothing { AreHeld nothing_held nothing_held [] }
     ensures told { ¬ KeepsAllBut nothing_held None [] }
+{}
+
+/// Files that are written one after the other, and what is held when one of them is not.
+pub fn worked_writes()
+    // One file, which was written.
+    ensures written { AreHeld nothing_held (one_held (codes "a") (1 ∷ [])) ((codes "a", 1 ∷ []) ∷ []) }
+    ensures other_bytes { ¬ AreHeld nothing_held (one_held (codes "a") (7 ∷ [])) ((codes "a", 1 ∷ []) ∷ []) }
+
+    // Of two files the first was written, and the second was not.
+    ensures first_stands { AreHeldUpTo 1 nothing_held (one_held (codes "a") (1 ∷ [])) two_files }
+    ensures first_lacks { ¬ AreHeldUpTo 1 nothing_held nothing_held two_files }
+
+    // The one that was not written may hold anything, and no other name may.
+    ensures in_part { AreHeldUpTo 0 nothing_held (one_held (codes "a") (7 ∷ [])) two_files }
+    ensures another { ¬ AreHeldUpTo 0 nothing_held (one_held (codes "b") (2 ∷ [])) two_files }
+
+    // Where both were written, none is left.
+    ensures none_left { ¬ AreHeldUpTo 2 nothing_held nothing_held two_files }
 {}

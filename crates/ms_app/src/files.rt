@@ -10,10 +10,15 @@ use ms_logic::ExportUse;
 use std::alloc::Global;
 
 /// A file that is to be written: its name, and all its bytes.
-#[derive(Drop)]
 pub struct AutomatonFile {
     pub name: Text,
     pub bytes: Bytes,
+}
+
+impl Drop for AutomatonFile {
+    fn drop(self) {
+        let AutomatonFile { name: _, bytes: _ } = self;
+    }
 }
 
 /// The greatest number of variables of an automaton file.

@@ -48,7 +48,6 @@ fn status(refusal: &Refusal) -> Status
         | Refusal::ConstRange { .. }
         | Refusal::NotHere { .. }
         | Refusal::LeftOut { .. }
-        | Refusal::NotBuilt { .. }
         | Refusal::VarsDiffer
         | Refusal::FileMissing { .. }
         | Refusal::IncludeCycle { .. }

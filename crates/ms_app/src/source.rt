@@ -18,10 +18,18 @@ use ms_names::check;
 use std::alloc::Global;
 
 /// The typed tree of a source, and how many files the source has.
-#[derive(Drop)]
 pub struct Accepted {
     pub checked: Checked,
     pub files: u32,
+}
+
+impl Drop for Accepted {
+    fn drop(self) {
+        let Accepted {
+            checked: _,
+            files: _,
+        } = self;
+    }
 }
 
 /// The typed tree of a loaded source in which nothing is wrong.

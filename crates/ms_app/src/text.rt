@@ -22,10 +22,15 @@ use std::alloc::Global;
 const NODE_LIMIT: u64 = 16_777_216;
 
 /// What a command asks for: the text to be printed, and the files to be written before.
-#[derive(Drop)]
 pub struct Given {
     pub text: Bytes,
     pub files: List<AutomatonFile>,
+}
+
+impl Drop for Given {
+    fn drop(self) {
+        let Given { text: _, files: _ } = self;
+    }
 }
 
 /// A text to be printed, with no file to be written.

@@ -14,3 +14,6 @@ pub mod FormLemmas
 pub mod RootLemmas
 pub mod LawLemmas
 pub mod RefusalLemmas
+pub mod VariableLemmas
+pub mod WiderLemmas
+pub mod LackedLemmas

@@ -6,9 +6,11 @@ use Rattle.std.proofs.lemmas.Option.{get_or_from_slice_get, none-some, slice_get
 use Rattle.ms_arena.proofs.Lists.{slice_get-append_some, slice_get-push}
 use Rattle.ms_dag.specs.Dag.{places_in_maps}
 use Rattle.ms_dfa.specs.Automaton.{IsAutomaton}
-use Rattle.ms_explore.specs.Tracks.{joined}
+use Rattle.ms_explore.specs.Tracks.{IsAmong, joined}
 use Rattle.ms_logic.specs.declared.mode.Order.{Order}
 use Rattle.ms_logic.specs.Content.{Content}
+use Rattle.ms_minim.specs.Residual.{HaveEqualSigns}
+use Rattle.ms_rename.proofs.RenamedLemmas.{HasValues-same}
 use Rattle.ms_product.specs.Combined.{HaveEqualOrders, combined}
 use Rattle.ms_build.specs.declared.plan.Plan.{Plan}
 use Rattle.ms_build.proofs.MeaningLemmas.{HasValues-to}
@@ -152,6 +154,17 @@ module _ (plan : Plan) (many : Many) where
         covers = λ j o covered there. part.covers j o (⊎_elim (λ here. here) (λ never. absurd (let none = never.1 in omega (arith, none))) (Contains-append_cases c.map [] j covered)) there;
         values = HasValues-to (child_meaning imports entries c) (many_meaning many imports entries (c ∷ [])) content
             (λ word e sign assigned encodes right. only_one imports entries c e many sign right) part.values;
+      }
+
+  -- what gives each word the same sign is one too
+  pub IsManyOf-same : (cs : List Child) (made few : Content Sign) → few.mode ≡ made.mode → few.variables ≡ made.variables → HaveEqualSigns made few → IsManyOf plan many cs made → IsManyOf plan many cs few
+  IsManyOf-same cs made few mode_is variables_are signs before orders are =
+      let part = before orders are in
+      record {
+        mode_is = mode_is ∙ part.mode_is;
+        among = λ v there. part.among v (subst (λ vs. IsAmong vs v) variables_are there);
+        covers = λ j o covered there. subst (λ vs. IsAmong vs (record { name = j; order = o })) (sym variables_are) (part.covers j o covered there);
+        values = HasValues-same (many_meaning many imports entries cs) made few mode_is variables_are signs part.values;
       }
 
   module _ (cs : List Child) (c : Child) (made next : Content Sign) (made_is : IsAutomaton made) (next_is : IsAutomaton next) (before : IsManyOf plan many cs made) (last : IsBrought plan c next) where

@@ -1,9 +1,11 @@
 -- Variables that stand at their own places, and where a map leads them.
-use Rattle.std.proofs.Common.{◌≡◌, ℕ, zero, suc, ◌+◌, ◌<◌, nat_eq, inl, inr, ⊎_elim, false, if◌then◌else◌, List, [], ◌∷◌, Contains, drop, length, map, slice_get, slice_index, Some, refl, sym, ap, subst, ◌∙◌, arith}
+use Rattle.std.proofs.Common.{◌≡◌, ℕ, zero, suc, ◌+◌, ◌<◌, nat_eq, inl, inr, ⊎_elim, false, if◌then◌else◌, List, [], ◌∷◌, ◌++◌, Contains, drop, get_or, length, map, slice_get, slice_index, Some, refl, sym, ap, subst, ◌∙◌, arith, add-one, append_assoc, drop-cons}
 use Rattle.std.proofs.lemmas.Bool.{cases_Bool, eqb-true, eq-eqb}
 use Rattle.std.proofs.lemmas.Option.{none-some, same_Some, slice_get_within, slice_get-map, slice_get-get_or}
 use Rattle.std.specs.Option.{option_map}
-use Rattle.std.proofs.lemmas.List.{length-map}
+use Rattle.std.proofs.lemmas.List.{length-map, map_push}
+use Rattle.ms_dfa.specs.declared.track.Track.{Track}
+use Rattle.ms_dfa.specs.Automaton.{variable_of, variables_of}
 use Rattle.ms_dag.specs.Places.{AreAt}
 use Rattle.ms_dag.specs.Values.{read_through}
 use Rattle.ms_logic.specs.declared.mode.Mode.{Mode}
@@ -146,3 +148,16 @@ AreAt-one items places given at place j x held there =
 -- where an item of a list stands
 pub contains_place : (list : List ℕ) (j : ℕ) → Contains list j → (place : ℕ) × (slice_get list place ≡ Some j)
 contains_place list j is = (is.0, slice_get-get_or list is.0 j is.1 ∙ ap Some is.2)
+
+-- tracks of the first of these variables, and one more
+pub first_tracks : (orders behind : List Order) (made : List Track) (i : ℕ) (default : Order) → i < length orders
+    → variables_of made ++ variables_from i (drop i orders ++ behind) ≡ variables_by_place (orders ++ behind)
+    → variables_of (made ++ record { variable = i; order = get_or orders i default } ∷ []) ++ variables_from (i + 1) (drop (i + 1) orders ++ behind) ≡ variables_by_place (orders ++ behind)
+first_tracks orders behind made i default less were =
+    let order = get_or orders i default in
+    let rest = variables_from (i + 1) (drop (i + 1) orders ++ behind) in
+    let next : drop i orders ≡ order ∷ drop (i + 1) orders = drop-cons orders i default less ∙ ap (λ n. order ∷ drop n orders) (sym (add-one i)) in
+    ap (λ (vs : List Variable). vs ++ rest) (map_push variable_of made (record { variable = i; order = order }))
+    ∙ append_assoc (variables_of made) (record { name = i; order = order } ∷ []) rest
+    ∙ ap (λ (list : List Order). variables_of made ++ variables_from i (list ++ behind)) (sym next)
+    ∙ were

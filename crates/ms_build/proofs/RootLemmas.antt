@@ -1,7 +1,6 @@
--- The automaton of a root, one variable after the other.
-use Rattle.std.proofs.Common.{◌≡◌, ℕ, zero, suc, ◌+◌, ◌<◌, inl, inr, ⊎_elim, Result, Ok, Err, IfOk, Option, None, List, [], ◌∷◌, Contains, length, map, slice_get, slice_index, slice_index_or, Some, refl, sym, ap, subst, ◌∙◌, arith}
+-- The automaton of a root, and its variables.
+use Rattle.std.proofs.Common.{◌≡◌, ℕ, zero, suc, ◌+◌, ◌<◌, inl, inr, Result, Ok, Err, IfOk, Option, None, List, [], ◌∷◌, ◌++◌, Contains, length, map, take, slice_get, slice_index, slice_index_or, Some, refl, sym, ap, subst, ◌∙◌, arith}
 use Rattle.std.specs.List.Sorted.{IsStrictlyIncreasing}
-use Rattle.std.proofs.lemmas.Bool.{cases_lt}
 use Rattle.std.proofs.lemmas.Option.{none-some, same_Some, slice_get_within, slice_get-map, slice_get-get_or, get_or_from_slice_get}
 use Rattle.std.specs.List.{AllZip}
 use Rattle.std.specs.Option.{option_map}
@@ -19,7 +18,6 @@ use Rattle.ms_minim.specs.Residual.{HasFewestStates, HaveEqualSigns}
 use Rattle.ms_build.specs.declared.plan.Plan.{Plan}
 use Rattle.ms_build.proofs.FormLemmas.{least_by}
 use Rattle.ms_dag.specs.declared.node.Child.{Child}
-use Rattle.ms_dfa.specs.Automaton.{IsAutomaton}
 use Rattle.ms_explore.specs.Tracks.{IsAmong}
 use Rattle.ms_logic.specs.declared.mode.Mode.{Mode}
 use Rattle.ms_logic.specs.declared.mode.Order.{Order}
@@ -28,26 +26,21 @@ use Rattle.ms_logic.specs.declared.sign.Sign.{Sign}
 use Rattle.ms_logic.specs.Assignment.{Variable}
 use Rattle.ms_logic.specs.Content.{Content}
 use Rattle.ms_logic.specs.Roots.{AreRising}
-use Rattle.ms_product.specs.Combined.{HaveEqualOrders}
-use Rattle.ms_theory.specs.Values.{HasValues, Meaning, own_meaning}
-use Rattle.ms_build.specs.Built.{HasOneMore, HasOnly, IsOver, IsPart, child_meaning, entries_of, imports_for}
+use Rattle.ms_dfa.specs.declared.track.Track.{Track}
+use Rattle.ms_dfa.specs.Automaton.{variable_of, variables_of}
+use Rattle.std.proofs.lemmas.List.{map_push, take_more}
+use Rattle.ms_theory.specs.Values.{Meaning}
+use Rattle.ms_build.specs.Built.{HasOnly, IsOver, IsPart, child_meaning, entries_of, imports_for}
 use Rattle.ms_build.specs.Roots.{AreRootVariables, AreRootsRead, IsRootAt, named}
 use Rattle.ms_build.proofs.ChildLemmas.{same_variable}
 use Rattle.ms_build.proofs.PlaceLemmas.{contains_place, own-among}
-use Rattle.ms_build.proofs.WholeLemmas.{IsPart-track, own_orders, rising_equal}
 
 -- a variable with its order
 abbrev pub variable_at : List Order → ℕ → Variable
 variable_at orders x = record { name = x; order = slice_index_or orders x Zero }
 
--- over variables of the root alone, among them the first ones
-pub record IsRootPart (mode : Mode) (orders : List Order) (covered variables : List ℕ) (meaning : Meaning) (content : Content Sign) (done : ℕ) : Type 0 where
-  pub part : IsPart mode orders covered meaning content
-  pub within : (v : Variable) → IsAmong content.variables v → Contains variables v.name
-  pub first : (place x : ℕ) → place < done → slice_get variables place ≡ Some x → IsAmong content.variables (variable_at orders x)
-
 -- variables by rising numbers rise
-named-rising : (orders : List Order) (variables : List ℕ) → IsStrictlyIncreasing variables → AreRising (named orders variables)
+pub named-rising : (orders : List Order) (variables : List ℕ) → IsStrictlyIncreasing variables → AreRising (named orders variables)
 named-rising orders [] rising = tt
 named-rising orders (x ∷ []) rising = (tt, tt)
 named-rising orders (x ∷ y ∷ variables) rising = (
@@ -61,67 +54,28 @@ named-among orders [] place x held = absurd (none-some x held)
 named-among orders (y ∷ variables) zero x held = inl (ap (variable_at orders) (same_Some y x held))
 named-among orders (y ∷ variables) (suc place) x held = inr (named-among orders variables place x held)
 
-named-at : (orders : List Order) (variables : List ℕ) (v : Variable) → IsAmong (named orders variables) v → (place : ℕ) × (x : ℕ) × (slice_get variables place ≡ Some x) × (variable_at orders x ≡ v)
-named-at orders [] v among = absurd among
-named-at orders (y ∷ variables) v among = ⊎_elim
-    (λ here. (0, y, refl, here))
-    (λ there. let found = named-at orders variables v there in (suc found.0, found.1, found.2, found.3))
-    among
-
 -- the order of a variable that was looked up
 pub variable_held : (orders : List Order) (x : ℕ) (o : Order) → slice_get orders x ≡ Some o → record { name = x; order = o } ≡ variable_at orders x
 variable_held orders x o held = ap (λ (order : Order). record { name = x; order = order }) (sym (get_or_from_slice_get orders x o Zero held))
 
--- at first the formula's own variables
-pub IsRootPart-first : (mode : Mode) (orders : List Order) (child : Child) (variables : List ℕ) → AreRootVariables orders child variables → (meaning : Meaning) (content : Content Sign)
-    → IsPart mode orders child.map meaning content → HasOnly child.map content → IsRootPart mode orders child.map variables meaning content 0
-IsRootPart-first mode orders child variables are meaning content part own =
-    record { part = part; within = λ v there. are.among v.name (own v there); first = λ place x less. absurd (omega (arith, less)) }
+-- one track more
+pub named-more : (orders : List Order) (variables : List ℕ) (made : List Track) (i x : ℕ) (order : Order) → i < length variables → x ≡ slice_index variables i → slice_get orders x ≡ Some order
+    → variables_of made ≡ named orders (take i variables) → variables_of (made ++ record { variable = x; order = order } ∷ []) ≡ named orders (take (i + 1) variables)
+named-more orders variables made i x order less is held were =
+    map_push variable_of made (record { variable = x; order = order })
+    ∙ ap (λ (vs : List Variable). vs ++ record { name = x; order = order } ∷ []) were
+    ∙ ap (λ (v : Variable). named orders (take i variables) ++ v ∷ []) (variable_held orders x order held ∙ ap (variable_at orders) is)
+    ∙ sym (map_push (variable_at orders) (take i variables) (slice_index variables i))
+    ∙ ap (named orders) (sym (take_more variables i 0 less))
 
-module _ (mode : Mode) (orders : List Order) (child : Child) (variables : List ℕ) (are : AreRootVariables orders child variables) (meaning : Meaning) (content : Content Sign) (automaton : IsAutomaton content) where
-  held_order : (x : ℕ) → x < length orders → slice_get orders x ≡ Some (slice_index_or orders x Zero)
-  held_order x less = slice_get-get_or orders x Zero less
-
-  module _ (done : ℕ) (part : IsRootPart mode orders child.map variables meaning content done) where
-    module _ (x : ℕ) (held : slice_get variables done ≡ Some x) where
-      there : slice_get orders x ≡ Some (slice_index_or orders x Zero)
-      there = held_order x (are.known done x held)
-
-      pub root_orders : HaveEqualOrders content.variables (variable_at orders x ∷ [])
-      root_orders = own_orders mode orders child.map meaning content automaton part.part x (slice_index_or orders x Zero) there
-
-      pub IsRootPart-more : (made : Content Sign) → made.mode ≡ content.mode → HasOneMore content.variables (variable_at orders x) made → HasValues (own_meaning content) made
-          → IsRootPart mode orders child.map variables meaning made (done + 1)
-      IsRootPart-more made mode_is one values = record {
-        part = IsPart-track mode orders child.map meaning content automaton part.part x (slice_index_or orders x Zero) there made mode_is one values;
-        within = λ v is. ⊎_elim (λ before. part.within v before)
-            (λ own. (let name : x ≡ v.name = sym (ap (λ (u : Variable). u.name) own) in let less = slice_get_within variables done x held in (done, less, get_or_from_slice_get variables done x v.name held ∙ name)))
-            ((one v).0 is);
-        first = λ place y less there_too. ⊎_elim (λ before. (one (variable_at orders y)).1 (inl (part.first place y before there_too)))
-            (λ past.
-            let last : done ≡ place = omega (arith, less, past) in
-            let same : y ≡ x = same_Some y x (sym there_too ∙ ap (slice_get variables) (sym last) ∙ held) in
-            (one (variable_at orders y)).1 (inr (ap (variable_at orders) same)))
-            (cases_lt place done);
-      }
-
-    -- and at last all of the root's
-    pub IsOver-root : length variables ≡ done → IsOver mode (named orders variables) meaning content
-    IsOver-root all = record {
-      mode_is = part.part.mode_is;
-      variables_are = rising_equal content.variables (named orders variables) automaton.rising (named-rising orders variables are.rising)
-          (λ v is.
-          let at = contains_place variables v.name (part.within v is) in
-          let own = own-among orders v (part.part.among v is) in
-          let known = held_order v.name (are.known at.0 v.name at.1) in
-          let same : variable_at orders v.name ≡ v = same_variable (variable_at orders v.name) v refl (same_Some (slice_index_or orders v.name Zero) v.order (sym known ∙ own)) in
-          subst (IsAmong (named orders variables)) same (named-among orders variables at.0 v.name at.1))
-          (λ v is.
-          let at = named-at orders variables v is in
-          let less = slice_get_within variables at.0 at.1 at.2 in
-          subst (IsAmong content.variables) at.3 (part.first at.0 at.1 (omega (arith, less, all)) at.2));
-      values = part.part.values;
-    }
+-- the formula's own variables are among those of the root
+pub root-among : (mode : Mode) (orders : List Order) (child : Child) (variables : List ℕ) → AreRootVariables orders child variables → (meaning : Meaning) (content : Content Sign)
+    → IsPart mode orders child.map meaning content → HasOnly child.map content → (v : Variable) → IsAmong content.variables v → IsAmong (named orders variables) v
+root-among mode orders child variables are meaning content part own v there =
+    let at = contains_place variables v.name (are.among v.name (own v there)) in
+    let known = slice_get-get_or orders v.name Zero (are.known at.0 v.name at.1) in
+    let same : variable_at orders v.name ≡ v = same_variable (variable_at orders v.name) v refl (same_Some (slice_index_or orders v.name Zero) v.order (sym known ∙ own-among orders v (part.among v there))) in
+    subst (IsAmong (named orders variables)) same (named-among orders variables at.0 v.name at.1)
 
 -- a root by its child and its variables
 pub root_at : (roots : List SharedRoot) (r : ℕ) (child : Child) (variables : List ℕ) → slice_get (children_of_roots roots) r ≡ Some child → slice_get (variables_of_roots roots) r ≡ Some variables

@@ -1,13 +1,9 @@
 -- Automata over all variables of a node.
-use Rattle.std.proofs.Common.{◌≡◌, ℕ, suc, ◌+◌, ◌<◌, inl, inr, ⊎_elim, nat_eq, if◌then◌else◌, Result, Ok, Err, IfOk, List, [], ◌∷◌, Contains, length, slice_get, Some, refl, sym, ap, subst, ◌∙◌, arith}
-use Rattle.std.proofs.lemmas.Bool.{cases_Bool, cases_lt, eqb-true}
-use Rattle.std.proofs.lemmas.Option.{same_Some, slice_get_within}
+use Rattle.std.proofs.Common.{◌≡◌, ℕ, ◌+◌, ◌<◌, inl, inr, ⊎_elim, List, [], ◌∷◌, Contains, length, refl, sym, ap, subst, ◌∙◌, arith}
+use Rattle.std.proofs.lemmas.Option.{slice_get_within}
 use Rattle.ms_dfa.specs.Automaton.{IsAutomaton}
-use Rattle.ms_edge.specs.declared.fault.StepFault.{StepFault}
-use Rattle.ms_explore.specs.Tracks.{IsAmong, joined, place_of}
-use Rattle.ms_explore.proofs.AmongLemmas.{joined-either}
-use Rattle.ms_explore.proofs.TracksLemmas.{joined-left, joined-right}
-use Rattle.ms_product.specs.Combined.{HaveEqualOrders}
+use Rattle.ms_explore.specs.Tracks.{IsAmong}
+use Rattle.ms_basic.specs.Operands.{HaveOneOrder}
 use Rattle.ms_logic.specs.declared.mode.Mode.{Mode}
 use Rattle.ms_logic.specs.declared.mode.Order.{Order}
 use Rattle.ms_logic.specs.declared.sign.Sign.{Sign}
@@ -15,14 +11,12 @@ use Rattle.ms_logic.specs.Assignment.{Variable, IsAssignment}
 use Rattle.ms_logic.specs.Content.{Content, variables_from, variables_by_place}
 use Rattle.ms_logic.specs.Roots.{AreRising, IsBelowFirst}
 use Rattle.ms_theory.specs.Values.{HasValues, Meaning, own_meaning}
-use Rattle.ms_build.specs.Built.{HasFirst, HasOneMore, IsOver, IsPart}
+use Rattle.ms_build.specs.Built.{HasFirst, IsOver, IsPart}
 use Rattle.ms_build.proofs.MeaningLemmas.{HasValues-to, own_means}
-use Rattle.ms_build.proofs.PlaceLemmas.{IsAssignment-among, among-own, own-among}
-use Rattle.ms_build.proofs.ChildLemmas.{same_variable}
-use Rattle.ms_build.proofs.PartLemmas.{one_by_place}
+use Rattle.ms_build.proofs.PlaceLemmas.{IsAssignment-among, own-among}
 
 -- all that stands behind the first is above it
-rising_above : (u : Variable) (vs : List Variable) → AreRising (u ∷ vs) → (v : Variable) → IsAmong vs v → u.name < v.name
+pub rising_above : (u : Variable) (vs : List Variable) → AreRising (u ∷ vs) → (v : Variable) → IsAmong vs v → u.name < v.name
 rising_above u [] rising v among = absurd among
 rising_above u (w ∷ vs) rising v among = ⊎_elim
     (λ here. subst (λ (x : Variable). u.name < x.name) here rising.0)
@@ -46,6 +40,17 @@ rising_equal (v ∷ vs) (w ∷ ws) rising_v rising_w to from =
     (to x (inr among)))
     (λ x among. ⊎_elim (λ here. let above = rising_above w ws rising_w x among in let name = ap (λ (y : Variable). y.name) (sym same ∙ here) in absurd (omega (arith, above, name))) (λ there. there)
     (from x (inr among))))
+
+-- and variables of one that have one number are one
+pub HaveOneOrder-rising : (vs : List Variable) → AreRising vs → HaveOneOrder vs
+HaveOneOrder-rising [] rising v w is also same = absurd is
+HaveOneOrder-rising (u ∷ vs) rising v w is also same = ⊎_elim
+    (λ here. ⊎_elim (λ also_here. sym here ∙ also_here)
+    (λ there. let above = rising_above u vs rising w there in let name = ap (λ (x : Variable). x.name) here in absurd (omega (arith, above, name, same))) also)
+    (λ there. ⊎_elim
+    (λ also_here. let above = rising_above u vs rising v there in let name = ap (λ (x : Variable). x.name) also_here in absurd (omega (arith, above, name, same)))
+    (λ also_there. HaveOneOrder-rising vs rising.1 v w there also_there same) also)
+    is
 
 below_first : (base : ℕ) (orders : List Order) (name : ℕ) → name < base → IsBelowFirst name (variables_from base orders)
 below_first base [] name less = tt
@@ -78,68 +83,3 @@ HasValues-more meaning content made automaton mode_is among values own_values =
     (λ word e sign assigned encodes own.
     own_means meaning content automaton values e (IsAssignment-among content.mode content.variables made.variables e among (subst (λ m. IsAssignment m made.variables e) mode_is assigned)) sign own)
     own_values
-
--- a variable that has a place stands there
-pub place_of-there : (name : ℕ) (vs : List Variable) → place_of name vs < length vs → (u : Variable) × IsAmong vs u × (u.name ≡ name)
-place_of-there name [] less = absurd (omega (arith, less))
-place_of-there name (v ∷ vs) less = ⊎_elim
-    (λ here. (v, inl refl, eqb-true v.name name here))
-    (λ not_here.
-    let later = place_of-there name vs (let moved : suc (place_of name vs) < suc (length vs) = subst (λ test. (if test then 0 else suc (place_of name vs)) < suc (length vs)) not_here less in omega (arith, moved)) in
-    (later.0, inr later.1, later.2))
-    (cases_Bool (nat_eq v.name name))
-
--- the variables of a content that has one more
-pub HasOneMore-there : (variables : List Variable) (more u : Variable) (content : Content Sign) → content.variables ≡ variables → IsAmong variables u → u ≡ more → HasOneMore variables more content
-HasOneMore-there variables more u content same among is v = (
-  λ there. inl (subst (λ vs. IsAmong vs v) same there),
-  λ either. ⊎_elim (λ there. subst (λ vs. IsAmong vs v) (sym same) there) (λ own. subst (λ vs. IsAmong vs v) (sym same) (subst (IsAmong variables) (is ∙ sym own) among)) either,
-)
-
-pub HasOneMore-joined : (variables : List Variable) (more : Variable) (content : Content Sign) → HaveEqualOrders variables (more ∷ []) → content.variables ≡ joined variables (more ∷ []) → HasOneMore variables more content
-HasOneMore-joined variables more content orders same v = (
-  λ there. ⊎_elim (λ left. inl left) (λ right. ⊎_elim (λ own. inr (sym own)) (λ never. absurd never) right) (joined-either variables (more ∷ []) v (subst (λ vs. IsAmong vs v) same there)),
-  λ either. subst (λ vs. IsAmong vs v) (sym same) (⊎_elim (λ left. joined-left variables (more ∷ []) v left)
-      (λ own. subst (IsAmong (joined variables (more ∷ []))) (sym own) (joined-right variables (more ∷ []) more (λ u there name. orders u more there (inl refl) name) (inl refl))) either),
-)
-
-pub one_more_by : (variables : List Variable) (more : Variable) (result : Result (Content Sign) StepFault) (wide : List Variable) → HaveEqualOrders variables (more ∷ []) → wide ≡ joined variables (more ∷ [])
-    → IfOk result (λ made. made.variables ≡ wide) → IfOk result (HasOneMore variables more)
-one_more_by variables more (Ok made) wide orders same variables_are = HasOneMore-joined variables more made orders (variables_are ∙ same)
-one_more_by variables more (Err fault) wide orders same variables_are = tt
-
--- over variables by their places, one more
-module _ (mode : Mode) (orders : List Order) (covered : List ℕ) (meaning : Meaning) (content : Content Sign) (automaton : IsAutomaton content) (part : IsPart mode orders covered meaning content)
-    (place : ℕ) (order : Order) (held : slice_get orders place ≡ Some order) where
-  abbrev pub own : Variable
-  own = record { name = place; order = order }
-
-  pub own_orders : HaveEqualOrders content.variables (own ∷ [])
-  own_orders = one_by_place orders content.variables (own ∷ []) part.among
-      (λ v among. ⊎_elim (λ here. subst (IsAmong (variables_by_place orders)) here (among-own orders own held)) (λ never. absurd never) among)
-
-  module _ (made : Content Sign) (mode_is : made.mode ≡ content.mode) (one : HasOneMore content.variables own made) (values : HasValues (own_meaning content) made) where
-    pub IsPart-track : IsPart mode orders covered meaning made
-    IsPart-track = record {
-      mode_is = mode_is ∙ part.mode_is;
-      among = λ v there. ⊎_elim (λ before. part.among v before) (λ is. subst (IsAmong (variables_by_place orders)) (sym is) (among-own orders own held)) ((one v).0 there);
-      covers = λ j o is there. (one (record { name = j; order = o })).1 (inl (part.covers j o is there));
-      values = HasValues-more meaning content made automaton mode_is (λ v there. (one v).1 (inl there)) part.values values;
-    }
-
-    pub HasFirst-track : HasFirst orders place content.variables → HasFirst orders (place + 1) made.variables
-    HasFirst-track before j o less there = ⊎_elim
-        (λ early. (one (record { name = j; order = o })).1 (inl (before j o early there)))
-        (λ past.
-        let last : j ≡ place = omega (arith, less, past) in
-        let same : o ≡ order = same_Some o order (sym there ∙ ap (slice_get orders) last ∙ held) in
-        (one (record { name = j; order = o })).1 (inr (same_variable (record { name = j; order = o }) own last same)))
-        (cases_lt j place)
-
-    -- where it was the last one, it has all
-    pub IsOver-whole : HasFirst orders place content.variables → IsAutomaton made → length orders ≡ place + 1 → IsOver mode (variables_by_place orders) meaning made
-    IsOver-whole before made_is all = record {
-      mode_is = IsPart-track.mode_is;
-      variables_are = all_by_place orders made made_is IsPart-track.among (subst (λ n. HasFirst orders n made.variables) (sym all) (HasFirst-track before));
-      values = IsPart-track.values;
-    }

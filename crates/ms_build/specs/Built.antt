@@ -1,5 +1,5 @@
 -- What the automata of the nodes of a graph are.
-use Rattle.std.specs.Prelude.{◌≡◌, ◌↔◌, ◌⊎◌, ◌<◌, ◌≤◌, ℕ, ◌++◌, List, [], ◌∷◌, length, map, slice_get, Contains, Some, None, Option}
+use Rattle.std.specs.Prelude.{◌≡◌, ◌<◌, ◌≤◌, ℕ, ◌++◌, List, [], ◌∷◌, length, map, slice_get, Contains, Some, None, Option}
 use Rattle.ms_logic.specs.declared.mode.Mode.{Mode}
 use Rattle.ms_logic.specs.declared.mode.Order.{Order}
 use Rattle.ms_logic.specs.declared.sign.Sign.{Sign}
@@ -180,10 +180,6 @@ abbrev pub IsRestrictionOf : Plan → Child → Content Sign → Type 0
 IsRestrictionOf plan child content =
     (orders : List Order) → IsReadAt (entries_of plan) orders child
     → IsPart plan.mode orders child.map (meaning_by (ChildYes (imports_for plan) (entries_of plan) child) (λ e. ⊥)) content
-
--- a content with one more variable, or with this variable already
-abbrev pub HasOneMore : List Variable → Variable → Content Sign → Type 0
-HasOneMore variables more content = (v : Variable) → IsAmong content.variables v ↔ (IsAmong variables v ⊎ (v ≡ more))
 
 -- the first so many variables of these orders are among those of a content
 abbrev pub HasFirst : List Order → ℕ → List Variable → Type 0

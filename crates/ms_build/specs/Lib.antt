@@ -2,3 +2,5 @@ pub mod Connectives
 pub mod Built
 pub mod Roots
 pub mod Laws
+pub mod Lacked
+pub mod Wider

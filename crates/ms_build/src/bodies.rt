@@ -1,32 +1,29 @@
 ghost use Rattle.std.specs.Prelude.{◌≡◌, ◌<◌, ◌++◌, ◌∷◌, [], length, IfOk};
-ghost use Rattle.ms_dfa.specs.Automaton.{variable_of};
-ghost use Rattle.ms_product.specs.Combined.{HaveEqualOrders};
-ghost use Rattle.ms_theory.specs.Values.{HasValues, own_meaning};
-ghost use Rattle.ms_build.specs.Built.{AreBuiltFor, HasOneMore, IsBodyOf, IsLimit, IsReadAt, entries_of};
+ghost use Rattle.ms_dfa.specs.Automaton.{variables_of};
+ghost use Rattle.ms_logic.specs.Content.{variables_by_place};
+ghost use Rattle.ms_build.specs.Built.{AreBuiltFor, IsBodyOf, IsLimit, IsReadAt, entries_of};
 
-use crate::children::{brought, least};
+use crate::children::brought;
 use crate::plan::Plan;
+use crate::wider::over_tracks;
 use ms_dag::Child;
 use ms_dfa::{Automaton, Track};
-use ms_edge::{List, StepFault};
-use ms_explore::place_of;
+use ms_edge::{List, NoMemory, StepFault, push};
 use ms_logic::Order;
-use ms_rename::widen;
+use std::alloc::Global;
 
-/// The automaton over one more variable, with fewest states; the automaton itself where it has the variable.
-pub(crate) fn with_track(plan: &Plan, part: Automaton, track: Track) -> Result<Automaton, StepFault>
-    requires limit { IsLimit plan.now.limit }
-    requires orders { HaveEqualOrders part.variables (variable_of track ∷ []) }
-    ensures mode { IfOk result (λ made. made.mode ≡ part.mode) }
-    ensures variables { IfOk result (HasOneMore part.variables (variable_of track)) }
-    ensures values { IfOk result (HasValues (own_meaning part)) }
+/// The tracks of variables of these orders, each by its place, and that of the bound one behind them.
+fn body_tracks(alloc: Global, orders: &[Order], bound: Track) -> Result<List<Track>, NoMemory>
+    requires { bound.variable ≡ length orders.now }
+    ensures { IfOk result (λ made. variables_of made ≡ variables_by_place (orders.now ++ bound.order ∷ [])) }
 {
-    // The tracks tell that it is an automaton.
-    if place_of(part.tracks(), track.variable) < part.tracks().len() {
-        return Ok(part);
+    let mut made = List::new(alloc);
+    for variable in 0..bound.variable {
+        let order = orders[variable as usize];
+        push(&mut made, Track { variable, order })?;
     }
-    let wide = widen(plan.alloc, &part, track, plan.limit)?;
-    least(plan, &wide)
+    push(&mut made, bound)?;
+    Ok(made)
 }
 
 /// The body of a quantifier, over the variables of the node above it, which have these orders, and the bound one.
@@ -44,22 +41,11 @@ pub(crate) fn whole_body(
     requires read { IsReadAt (entries_of plan.now) (orders.now ++ bound.order ∷ []) body.now }
     ensures { IfOk result (IsBodyOf plan.now (orders.now ++ bound.order ∷ []) body.now) }
 {
-    let mut made = brought(plan, built, body)?;
-    for place in 0..orders.len() as u32 {
-        // The states tell that it is an automaton.
-        let _ = made.states();
-        let order = orders[place as usize];
-        made = with_track(
-            plan,
-            made,
-            Track {
-                variable: place,
-                order,
-            },
-        )?;
-    }
-    let _ = made.states();
-    let whole = with_track(plan, made, bound)?;
-    let _ = whole.states();
-    Ok(whole)
+    let part = brought(plan, built, body)?;
+    // The states tell that it is an automaton.
+    let _ = part.states();
+    let Ok(tracks) = body_tracks(plan.alloc, orders, bound) else {
+        return Err(StepFault::Memory);
+    };
+    over_tracks(plan, part, tracks.slice())
 }

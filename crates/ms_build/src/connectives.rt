@@ -1,8 +1,5 @@
 ghost use Rattle.std.specs.Prelude.{◌≡◌, ◌<◌, [], length, IfOk};
-ghost use Rattle.ms_explore.specs.Tracks.{joined};
-ghost use Rattle.ms_minim.specs.Residual.{HasFewestStates};
-ghost use Rattle.ms_product.specs.Combined.{HaveEqualOrders, combined};
-ghost use Rattle.ms_theory.specs.Values.{HasValues, own_meaning};
+ghost use Rattle.ms_minim.specs.Residual.{HaveEqualSigns};
 ghost use Rattle.ms_build.specs.Built.{AreBuiltFor, AreReadSomewhere, AreReadable, IsLimit, IsManyOf, IsNegationOf, IsPairOf, IsReadSomewhere, IsRestrictionOf, op_of};
 
 use crate::children::{brought, least};
@@ -12,25 +9,6 @@ use ms_dag::Child;
 use ms_dfa::Automaton;
 use ms_edge::{List, StepFault};
 use ms_product::{Op, combine, negate, restrict_to};
-
-/// The connective of two automata, with fewest states.
-fn combined(
-    plan: &Plan,
-    left: &Automaton,
-    right: &Automaton,
-    op: Op,
-) -> Result<Automaton, StepFault>
-    requires limit { IsLimit plan.now.limit }
-    requires mode { left.now.mode ≡ right.now.mode }
-    requires orders { HaveEqualOrders left.now.variables right.now.variables }
-    ensures mode { IfOk result (λ made. made.mode ≡ left.now.mode) }
-    ensures variables { IfOk result (λ made. made.variables ≡ joined left.now.variables right.now.variables) }
-    ensures values { IfOk result (HasValues (combined op (own_meaning left.now) (own_meaning right.now))) }
-    ensures fewest { IfOk result HasFewestStates }
-{
-    let made = combine(plan.alloc, left, right, op, plan.limit)?;
-    least(plan, &made)
-}
 
 /// The connective of two children.
 pub(crate) fn pair(
@@ -52,7 +30,7 @@ pub(crate) fn pair(
     // The states tell that these are automata.
     let _ = one.states();
     let _ = other.states();
-    combined(plan, &one, &other, op)
+    combine(plan.alloc, &one, &other, op, plan.limit)
 }
 
 /// The negation of a child.
@@ -121,6 +99,20 @@ fn none(plan: &Plan, many: Many) -> Result<Automaton, StepFault>
     }
 }
 
+/// The connective of the first children, of which there are so many, with fewest states. A child alone has fewest states as it
+/// is.
+fn of_first(plan: &Plan, made: Automaton, count: usize) -> Result<Automaton, StepFault>
+    requires limit { IsLimit plan.now.limit }
+    ensures mode { IfOk result (λ few. few.mode ≡ made.mode) }
+    ensures variables { IfOk result (λ few. few.variables ≡ made.variables) }
+    ensures signs { IfOk result (HaveEqualSigns made) }
+{
+    if count == 1 {
+        return Ok(made);
+    }
+    least(plan, &made)
+}
+
 /// The connective of these children, from the left. That of the first ones has fewest states.
 pub(crate) fn many(
     plan: &Plan,
@@ -139,10 +131,11 @@ pub(crate) fn many(
     let mut made = brought(plan, built, children.get(0))?;
     for place in 1..children.len() {
         let next = brought(plan, built, children.get(place))?;
+        let first = of_first(plan, made, place)?;
         // The states tell that these are automata.
-        let _ = made.states();
+        let _ = first.states();
         let _ = next.states();
-        made = combined(plan, &made, &next, op_of(many))?;
+        made = combine(plan.alloc, &first, &next, op_of(many), plan.limit)?;
     }
     Ok(made)
 }

@@ -5,12 +5,14 @@ mod bodies;
 mod built;
 mod children;
 mod connectives;
+mod lacked;
 mod laws;
 mod leaves;
 mod nodes;
 mod plan;
 mod quantified;
 mod roots;
+mod wider;
 
 pub use built::{Built, build};
 pub use laws::laws_of_built;

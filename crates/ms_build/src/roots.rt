@@ -1,13 +1,30 @@
-ghost use Rattle.std.specs.Prelude.{◌≡◌, ◌<◌, length, IfOk};
+ghost use Rattle.std.specs.Prelude.{◌≡◌, ◌<◌, ℕ, length, slice_get, IfOk, Some};
+ghost use Rattle.ms_dfa.specs.Automaton.{variables_of};
 ghost use Rattle.ms_build.specs.Built.{AreBuiltFor, IsLimit, IsReadAt, entries_of};
-ghost use Rattle.ms_build.specs.Roots.{AreRootVariables, IsOverRoot};
+ghost use Rattle.ms_build.specs.Roots.{AreRootVariables, IsOverRoot, named};
 
-use crate::bodies::with_track;
 use crate::children::brought;
 use crate::plan::Plan;
+use crate::wider::over_tracks;
 use ms_dag::Child;
 use ms_dfa::{Automaton, Track};
-use ms_edge::{List, StepFault};
+use ms_edge::{List, NoMemory, StepFault, push};
+
+/// The tracks of variables of the source, each with its order.
+fn root_tracks(plan: &Plan, variables: &[u32]) -> Result<List<Track>, NoMemory>
+    requires { (place x : ℕ) → slice_get variables.now place ≡ Some x → x < length plan.now.dag.now.orders }
+    ensures { IfOk result (λ made. variables_of made ≡ named plan.now.dag.now.orders variables.now) }
+{
+    let mut made = List::new(plan.alloc);
+    for variable in variables {
+        let track = Track {
+            variable: *variable,
+            order: plan.dag.order(*variable),
+        };
+        push(&mut made, track)?;
+    }
+    Ok(made)
+}
 
 /// The automaton of a root's formula, over the root's variables.
 pub(crate) fn over_variables(
@@ -23,16 +40,11 @@ pub(crate) fn over_variables(
     requires variables { AreRootVariables plan.now.dag.now.orders child.now variables.now }
     ensures { IfOk result (IsOverRoot plan.now child.now variables.now) }
 {
-    let mut made = brought(plan, built, child)?;
-    for variable in variables {
-        // The states tell that it is an automaton.
-        let _ = made.states();
-        let track = Track {
-            variable: *variable,
-            order: plan.dag.order(*variable),
-        };
-        made = with_track(plan, made, track)?;
-    }
-    let _ = made.states();
-    Ok(made)
+    let part = brought(plan, built, child)?;
+    // The states tell that it is an automaton.
+    let _ = part.states();
+    let Ok(tracks) = root_tracks(plan, variables) else {
+        return Err(StepFault::Memory);
+    };
+    over_tracks(plan, part, tracks.slice())
 }

@@ -10,7 +10,7 @@ ghost use Rattle.ms_logic.specs.Truth.{Import};
 ghost use Rattle.std.specs.Prelude.{◌≡◌, ◌+◌, ◌≤◌, [], All, length, List as Sequence, IfOk, OnOk};
 
 use crate::dag::{Dag, SharedRoot};
-use crate::formulas::share_core;
+use crate::formulas::{LEVELS, share_core};
 use crate::nodes::Nodes;
 use ms_edge::{List, NoMemory, push};
 use ms_logic::{Lowered, Order, Root};
@@ -36,7 +36,7 @@ fn share_root(nodes: &mut Nodes, orders: &[Order], root: &Root) -> Result<Shared
     ensures keyed { OnOk result (IsKeyed nodes.new) }
     ensures shared { IfOk result (λ made. IsRootNow orders.now nodes.old.entries nodes.new.entries root.now made) }
 {
-    let child = share_core(nodes, orders, &root.core)?;
+    let child = share_core(nodes, orders, &root.core, LEVELS)?;
     let variables = copied(nodes.alloc, root.variables.slice())?;
     Ok(SharedRoot { child, variables })
 }

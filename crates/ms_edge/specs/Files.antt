@@ -16,6 +16,10 @@ pub record FilesTold : Type 0 where
   pub absences : ℕ
   pub overlongs : ℕ
 
+-- what is told where nothing is told of what is held: the counts alone
+abbrev pub untold : ℕ → ℕ → ℕ → FilesTold
+untold faults absences overlongs = record { held = None; faults = faults; absences = absences; overlongs = overlongs }
+
 -- what was told before and after a call, or several
 pub record Seen : Type 0 where
   pub before : FilesTold

@@ -2,7 +2,7 @@
 use Rattle.std.specs.Prelude.{ℕ, ◌<◌, List, length, Option, Some, None}
 use Rattle.ms_edge.specs.declared.at.At.{At}
 use Rattle.ms_edge.specs.declared.refusal.Refusal.{Refusal}
-use Rattle.ms_edge.specs.declared.refusal.Refusal.TheVariants.{Word, NumberTooLarge, Grammar, Unclosed, UnknownName, Twice, WrongOrder, Arity, ConstRange, NotHere, LeftOut, NotBuilt, VarsDiffer, FileMissing, IncludeCycle, ImportMissing, ImportText, ImportMode, ImportVars, ImportOpen, FileSize, Includes, Depth, CoreSize, Nodes, ReadFault, WriteFault, SinkFault, Memory}
+use Rattle.ms_edge.specs.declared.refusal.Refusal.TheVariants.{Word, NumberTooLarge, Grammar, Unclosed, UnknownName, Twice, WrongOrder, Arity, ConstRange, NotHere, LeftOut, VarsDiffer, FileMissing, IncludeCycle, ImportMissing, ImportText, ImportMode, ImportVars, ImportOpen, FileSize, Includes, Depth, CoreSize, Nodes, ReadFault, WriteFault, SinkFault, Memory}
 
 -- the place of a refusal, where it has one
 abbrev pub place_of : Refusal → Option At
@@ -17,7 +17,6 @@ place_of (Arity at name given wanted) = Some at
 place_of (ConstRange at) = at
 place_of (NotHere at) = Some at
 place_of (LeftOut at word) = Some at
-place_of (NotBuilt at) = Some at
 place_of VarsDiffer = None
 place_of (FileMissing at name) = at
 place_of (IncludeCycle at name chain) = Some at

@@ -1,5 +1,6 @@
-ghost use Rattle.std.specs.Prelude.{◌≡◌, ◌+◌, ◌≤◌, ◌<◌, ℕ, length, vec_len, Option, None, IfOk, OnOk};
-ghost use Rattle.ms_edge.specs.Files.{Holding};
+ghost use Rattle.std.specs.Prelude.{◌≡◌, ◌+◌, ◌≤◌, ◌<◌, ℕ, length, vec_len, Option, None, IfErr, IfOk, OnErr, OnOk};
+ghost use Rattle.ms_edge.specs.Counts.{Rose};
+ghost use Rattle.ms_edge.specs.Files.{Holding, IsCauseOfRead, NoCountFell, OnlyRead, untold};
 
 use crate::files::{Files, ReadAnswer, WriteFailed};
 use crate::list::{Bytes, List};
@@ -81,14 +82,19 @@ fn read_up_to<F: Read>(
 }
 
 impl<R: Runtime> Files for DiskFiles<R> {
-    ghost told = { λ files. record {
-      held = None;
-      faults = files.faults;
-      absences = files.absences;
-      overlongs = files.overlongs;
-    } };
+    ghost told = { λ files. untold files.faults files.absences files.overlongs };
 
-    fn read(&mut self, alloc: Global, name: &str, limit: u64) -> Result<Bytes, ReadAnswer> {
+    fn read(&mut self, alloc: Global, name: &str, limit: u64) -> Result<Bytes, ReadAnswer>
+        ensures within { IfOk result (λ bytes. length bytes ≤ limit) }
+        ensures cause { IfErr result (IsCauseOfRead
+            (untold self.old.faults self.old.absences self.old.overlongs) (untold self.new.faults self.new.absences self.new.overlongs)
+            name.now limit) }
+        ensures only_read { OnlyRead
+            (untold self.old.faults self.old.absences self.old.overlongs) (untold self.new.faults self.new.absences self.new.overlongs) }
+
+        // Where the bytes were read, no count rose.
+        ensures same { OnOk result (self.new ≡ self.old) }
+    {
         let answer = self.load(alloc, name, limit);
         match &answer {
             Err(ReadAnswer::Missing) => self.absences = self.absences.saturating_add(1),
@@ -99,7 +105,14 @@ impl<R: Runtime> Files for DiskFiles<R> {
         answer
     }
 
-    fn write(&mut self, name: &str, bytes: &[u8]) -> Result<(), WriteFailed> {
+    fn write(&mut self, name: &str, bytes: &[u8]) -> Result<(), WriteFailed>
+        ensures cause { OnErr result (Rose self.old.faults self.new.faults) }
+        ensures counts { NoCountFell
+            (untold self.old.faults self.old.absences self.old.overlongs) (untold self.new.faults self.new.absences self.new.overlongs) }
+
+        // Where the bytes were written, no count rose.
+        ensures same { OnOk result (self.new ≡ self.old) }
+    {
         if std::fs::write(&self.rt, name, bytes).is_ok() {
             return Ok(());
         }

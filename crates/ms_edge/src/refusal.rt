@@ -65,10 +65,6 @@ pub enum Refusal {
         at: At,
         word: Name,
     },
-    /// 27: a form that is not built yet.
-    NotBuilt {
-        at: At,
-    },
     /// 28: two sources with other modes or other lists of globals.
     VarsDiffer,
     /// 30: a source file that is not there.
@@ -165,7 +161,6 @@ impl Refusal {
             | Refusal::Arity { at, .. }
             | Refusal::NotHere { at }
             | Refusal::LeftOut { at, .. }
-            | Refusal::NotBuilt { at }
             | Refusal::IncludeCycle { at, .. }
             | Refusal::ImportMissing { at, .. }
             | Refusal::ImportText { at, .. }

@@ -1,4 +1,5 @@
-ghost use Rattle.std.specs.Prelude.{◌≡◌, None};
+ghost use Rattle.std.specs.Prelude.{◌≡◌, ◌<◌, ◌≤◌, None, length, IfOk, OnErr, OnOk};
+ghost use Rattle.ms_edge.specs.Counts.{Rose};
 
 use crate::sink::{Sink, SinkFailed};
 use std::io;
@@ -23,7 +24,15 @@ impl<R: Runtime> StdSink<R> {
 impl<R: Runtime> Sink for StdSink<R> {
     ghost told = { λ sink. record { taken = None; faults = sink.faults } };
 
-    fn write(&mut self, piece: &[u8]) -> Result<usize, SinkFailed> {
+    fn write(&mut self, piece: &[u8]) -> Result<usize, SinkFailed>
+        ensures some { IfOk result (λ count. 0 < count) }
+        ensures within { IfOk result (λ count. count ≤ length piece.now) }
+        ensures cause { OnErr result (Rose self.old.faults self.new.faults) }
+        ensures faults_last { self.old.faults ≤ self.new.faults }
+
+        // Where something was taken, the count did not rise.
+        ensures same { OnOk result (self.new ≡ self.old) }
+    {
         match io::writer(&self.rt).write(piece) {
             Ok(count) if count != 0 => Ok(count),
             _ => {

@@ -11,7 +11,7 @@ pub struct Text {
 }
 
 impl Model for Text {
-    ghost use Rattle.std.specs.Prelude.{List, ℕ, string_bytes};
+    ghost use Rattle.std.specs.Prelude.{IsUtf8, List, ℕ, string_bytes};
     ghost use Rattle.std.specs.Coded.{coded_list, coded_ℕ};
 
     ghost Value = { List ℕ };
@@ -19,6 +19,8 @@ impl Model for Text {
     ghost coded = { coded_list coded_ℕ };
 
     ghost view = { λ text. string_bytes text.inner };
+
+    ghost invariant = { λ text. IsUtf8 (string_bytes text.inner) };
 }
 
 impl Text {

@@ -16,7 +16,7 @@ use Rattle.ms_grammar.specs.Tree.{Declared}
 use Rattle.ms_grammar.specs.View.{declared_of, document_of}
 use Rattle.ms_grammar.proofs.Sizes.{document_fits}
 use Rattle.ms_include.specs.declared.begun.Begun.{Begun}
-use Rattle.ms_include.specs.File.{IsSource, source_limit}
+use Rattle.ms_include.specs.File.{IsSource, ReadAs, source_limit}
 use Rattle.ms_include.specs.Include.{Loading, Becomes, AllBecome, Loads, and_next, include_of, greatest_depth, most_files}
 use Rattle.ms_include.specs.Load.{files_of, IsLoaded}
 
@@ -33,11 +33,15 @@ tokens-within place bytes (token ∷ tokens) (rest, begins, more) =
       tokens-within (place_behind token) rest tokens more,
     )
 
+-- bytes have no more parts than there are bytes
+pub read-within : (number : ℕ) (bytes : List ℕ) (source : Source) → ReadAs number bytes source → size_of_items source.items ≤ length bytes
+read-within number bytes source read =
+    let lexed : Lexed = record { bytes = bytes; tokens = read.tokens } in
+    omega (arith, document_fits true (map (placed_symbol number lexed) read.tokens) (document_of source) read.reads, length-map read.tokens (placed_symbol number lexed), tokens-within 0 bytes read.tokens read.are_tokens)
+
 -- a file has no more parts than a file may have bytes
 source-within : (held : Option Holding) (number : ℕ) (name : List ℕ) (source : Source) → IsSource held number name source → size_of_items source.items ≤ source_limit
-source-within held number name source (bytes, are_bytes, read) =
-    let lexed : Lexed = record { bytes = bytes; tokens = read.tokens } in
-    omega (arith, document_fits true (map (placed_symbol number lexed) read.tokens) (document_of source) read.reads, length-map read.tokens (placed_symbol number lexed), tokens-within 0 bytes read.tokens read.are_tokens, are_bytes.within)
+source-within held number name source (bytes, are_bytes, read) = omega (arith, read-within number bytes source read, are_bytes.within)
 
 sizes-add : (ds es : List Declared) → size_of_declarations (ds ++ es) ≡ size_of_declarations ds + size_of_declarations es
 sizes-add [] es = omega arith

@@ -1,4 +1,5 @@
 ghost use Rattle.std.specs.Prelude.{◌≡◌, ◌≤◌, ◌⊎◌, List, ℕ, length, None, IfOk, IfErr};
+ghost use Rattle.ms_grammar.specs.Size.{size_of_items};
 ghost use Rattle.ms_include.specs.File.{source_limit};
 ghost use Rattle.ms_include.specs.Include.{include_of};
 ghost use Rattle.ms_include.specs.Load.{place_or, first_include, IsLoadedText, IsRefusedText};
@@ -39,6 +40,7 @@ fn first_include(items: &[Item]) -> Option<At>
 pub fn load_bytes(alloc: Global, name: &str, bytes: Bytes) -> Result<Loaded, Refusal>
     requires { length bytes ≤ source_limit }
     ensures loaded { IfOk result (IsLoadedText name.now bytes) }
+    ensures bounded { IfOk result (λ loaded. size_of_items loaded.items ≤ length bytes) }
     ensures refused { IfErr result (λ refusal. (refusal ≡ Refusal.Memory) ⊎ IsRefusedText bytes refusal) }
 {
     let parsed = match parse(alloc, bytes, 0) {

@@ -76,6 +76,7 @@ yes_is_not_no same = grind arith
 -- P sub Q over P and Q
 pub full_subset : IsFullContent [] Ws1s set_P_and_Q (basic (Sub 0 1)) full_subset_content
 full_subset = record {
+  covers = λ w listed. listed;
   canonical = subset_content_canonical sign.Yes sign.No yes_is_not_no;
   same_mode = refl;
   same_variables = refl;
@@ -136,6 +137,7 @@ canonical_of_true = record {
 -- `true` over P and Q
 pub full_true : IsFullContent [] Ws1s set_P_and_Q truth encodings_content
 full_true = record {
+  covers = λ w listed. absurd (let below = listed.1 in omega (arith, below));
   canonical = canonical_of_true;
   same_mode = refl;
   same_variables = refl;

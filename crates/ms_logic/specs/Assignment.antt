@@ -60,6 +60,13 @@ IsValueOf One universe (Number n) = IsWithin universe n
 IsValueOf Two universe (Set members) = IsRising members × AllWithin universe members
 IsValueOf order universe value = ⊥
 
+-- values of these orders, one for each
+abbrev pub AreValuesOf : Universe → List Order → List Value → Type 0
+AreValuesOf universe [] [] = Unit {0}
+AreValuesOf universe [] (value ∷ values) = ⊥
+AreValuesOf universe (order ∷ orders) [] = ⊥
+AreValuesOf universe (order ∷ orders) (value ∷ values) = IsValueOf order universe value × AreValuesOf universe orders values
+
 -- a variable by its number, with its order
 pub record Variable : Type 0 where
   pub name : ℕ

@@ -42,7 +42,7 @@ encodings_content = record {
 
 -- var2 P, Q; P sub Q
 abbrev pub measured_subset : Measured
-measured_subset = record { problem = subset_source; files = [] }
+measured_subset = record { problem = subset_source; files = []; tied = tt }
 
 -- P sub Q and P sub Q
 abbrev pub subset_form : CoreForm

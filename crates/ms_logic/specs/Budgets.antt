@@ -1,10 +1,12 @@
 -- The budgets of the steps of a source, and when a limit on the nodes of a step is enough.
-use Rattle.std.specs.Prelude.{◌≡◌, ℕ, ◌+◌, ◌*◌, ◌^◌, ◌≤◌, ◌⊎◌, List, [], ◌∷◌, map, length, slice_get, Some}
+use Rattle.std.specs.Prelude.{◌≡◌, ℕ, ◌+◌, ◌*◌, ◌^◌, ◌≤◌, ◌⊎◌, ◌↔◌, false, List, [], ◌∷◌, map, length, slice_get, unwrap_or, Some, Contains}
 use Rattle.ms_logic.specs.declared.sign.Sign.{Sign}
 use Rattle.ms_logic.specs.declared.mode.Mode.{Mode}
-use Rattle.ms_logic.specs.Assignment.{Variable}
+use Rattle.ms_logic.specs.declared.assignment.Value.{Value}
+use Rattle.ms_logic.specs.declared.assignment.Value.TheVariants.{Truth}
+use Rattle.ms_logic.specs.Assignment.{Universe, Variable, AreValuesOf, IsUniverseOf}
 use Rattle.ms_logic.specs.CallMeasures.{LeadToPairs, IsBasicMeasure, IsCombineMeasure, IsProjectMeasure, IsRenameMeasure, IsAdoptMeasure, no_restriction}
-use Rattle.ms_logic.specs.Content.{Content, variables_by_place}
+use Rattle.ms_logic.specs.Content.{Content, answer_of, variables_by_place}
 use Rattle.ms_logic.specs.CoreForm.{CoreForm, truth, imported, CoreRestriction, unrestricted, restricted}
 use Rattle.ms_logic.specs.FiniteSet.{numbers_below}
 use Rattle.ms_logic.specs.FullContent.{IsFullContent, HasPartCount, part_count}
@@ -13,10 +15,34 @@ use Rattle.ms_logic.specs.Steps.{Step, constant, of_one, relation, connective, b
 use Rattle.ms_logic.specs.Truth.{Answer, Import}
 use Rattle.ms_logic.specs.Verdict.{Problem}
 
--- a source with the contents of its imported files, one for each import; the variables of a content go by the places of their pairs
+-- the answer of a file's content whose variables go by the places of their pairs: value j goes to the variable with the number j,
+-- in whatever order the content has them
+abbrev pub answer_by_places : Content Answer → Universe → List Value → Answer
+answer_by_places file universe values =
+    answer_of (λ said. said) file universe (map (λ v. unwrap_or (slice_get values v.name) (Truth false)) file.variables)
+
+-- the content is that of the file of an import: of the same mode, with one variable for each pair, and at values of the orders of the
+-- pairs the import answers as it does
+pub record IsContentOfImport (mode : Mode) (found : Import) (file : Content Answer) : Type 0 where
+  pub same_mode : file.mode ≡ mode
+  pub variables : (v : Variable) → Contains file.variables v ↔ Contains (variables_by_place (map (λ w. w.order) found.variables)) v
+  pub count : length file.variables ≡ length found.variables
+  pub answers :
+      (universe : Universe) (values : List Value) → IsUniverseOf mode universe → AreValuesOf universe (map (λ w. w.order) found.variables) values
+      → found.answer universe values ≡ answer_by_places file universe values
+
+-- the contents are those of the files of the imports, one for each
+abbrev pub AreContentsOfImports : Mode → List Import → List (Content Answer) → Type 0
+AreContentsOfImports mode [] [] = Unit {0}
+AreContentsOfImports mode [] (file ∷ files) = ⊥
+AreContentsOfImports mode (found ∷ imports) [] = ⊥
+AreContentsOfImports mode (found ∷ imports) (file ∷ files) = IsContentOfImport mode found file × AreContentsOfImports mode imports files
+
+-- a source with the contents of its imported files
 pub record Measured : Type 0 where
   pub problem : Problem
   pub files : List (Content Answer)
+  pub tied : AreContentsOfImports problem.mode problem.given.imports files
 
 -- one variable for each pair of an import, in the order of the pairs
 abbrev pub pair_variables : List Import → ℕ → List Variable

@@ -1,6 +1,6 @@
 -- The full content of a formula: the canonical content whose runs give the value of the formula on every word, and tell the words
 -- that encode no assignment from the others. By Myhill and Nerode there is exactly one.
-use Rattle.std.specs.Prelude.{◌≡◌, ℕ, ◌+◌, List, length, Some}
+use Rattle.std.specs.Prelude.{◌≡◌, ℕ, ◌+◌, List, length, Some, Contains}
 use Rattle.ms_edge.specs.declared.refusal.Word.{Word}
 use Rattle.ms_logic.specs.declared.sign.Sign.{Sign}
 use Rattle.ms_logic.specs.declared.sign.Sign.TheVariants as sign
@@ -9,6 +9,7 @@ use Rattle.ms_logic.specs.Assignment.{Variable}
 use Rattle.ms_logic.specs.Canonical.{IsCanonical}
 use Rattle.ms_logic.specs.Content.{Content, IsWordOver, sign_of}
 use Rattle.ms_logic.specs.CoreForm.{CoreForm, CoreYes, CoreNo}
+use Rattle.ms_logic.specs.Steps.{free_variables}
 use Rattle.ms_logic.specs.Truth.{Import}
 use Rattle.ms_logic.specs.WordSign.{EncodesSome, IsOutside}
 
@@ -20,8 +21,13 @@ HasValueOn imports mode variables f word sign.Undefined =
     EncodesSome mode variables (λ e. (¬ CoreYes imports f e) × (¬ CoreNo imports f e)) word
 HasValueOn imports mode variables f word sign.Outside = IsOutside mode variables word
 
--- the full content of a formula over a list of variables, its free ones among them
+-- the list has each free variable of the core formula
+abbrev pub CoversCoreFormula : List Import → List Variable → CoreForm → Type 0
+CoversCoreFormula imports variables f = (w : Variable) → Contains (free_variables imports f) w → Contains variables w
+
+-- the full content of a formula over a list of variables that covers it
 pub record IsFullContent (imports : List Import) (mode : Mode) (variables : List Variable) (f : CoreForm) (content : Content Sign) : Type 0 where
+  pub covers : CoversCoreFormula imports variables f
   pub canonical : IsCanonical content
   pub same_mode : content.mode ≡ mode
   pub same_variables : content.variables ≡ variables

@@ -3,6 +3,7 @@ use Rattle.std.specs.Prelude.{◌≡◌, ℕ, ◌≤◌, List}
 use Rattle.ms_edge.specs.declared.refusal.Word.{Word}
 use Rattle.ms_logic.specs.declared.mode.Mode.{Mode}
 use Rattle.ms_logic.specs.Assignment.{Env, Variable, IsAssignment}
+use Rattle.ms_logic.specs.FreeVariables.{IsFree, IsListed}
 use Rattle.ms_logic.specs.OrderLaws.{GiveSameValues}
 use Rattle.ms_logic.specs.Tree.{Form}
 use Rattle.ms_logic.specs.Truth.{Given, Yes, No, IsUndefined}
@@ -12,15 +13,19 @@ use Rattle.ms_logic.specs.Word.{Encodes, IsEncoding, HasLength, bound_of, truth_
 abbrev pub EncodesSome : Mode → List Variable → (Env → Type 0) → Word → Type 0
 EncodesSome mode variables Property word = (e : Env) × IsAssignment mode variables e × Encodes variables word e × Property e
 
--- the formula is Yes on the word: at the assignment that the word encodes
+-- the list has each free variable of the formula: only over such a list does a word settle the formula's value
+abbrev pub CoversFormula : Given → List Variable → Form → Type 0
+CoversFormula given variables f = (w : Variable) → IsFree given f w → IsListed variables w
+
+-- the formula is Yes on a word over a list that covers it: at the assignment that the word encodes
 abbrev pub IsYesOn : Given → Mode → List Variable → Form → Word → Type 0
-IsYesOn given mode variables f word = EncodesSome mode variables (Yes given f) word
+IsYesOn given mode variables f word = CoversFormula given variables f × EncodesSome mode variables (Yes given f) word
 
 abbrev pub IsNoOn : Given → Mode → List Variable → Form → Word → Type 0
-IsNoOn given mode variables f word = EncodesSome mode variables (No given f) word
+IsNoOn given mode variables f word = CoversFormula given variables f × EncodesSome mode variables (No given f) word
 
 abbrev pub IsUndefinedOn : Given → Mode → List Variable → Form → Word → Type 0
-IsUndefinedOn given mode variables f word = EncodesSome mode variables (IsUndefined given f) word
+IsUndefinedOn given mode variables f word = CoversFormula given variables f × EncodesSome mode variables (IsUndefined given f) word
 
 -- the word encodes no assignment
 abbrev pub IsOutside : Mode → List Variable → Word → Type 0

@@ -17,9 +17,17 @@ use Rattle.ms_explore.specs.Tracks.{place_of, places_among}
 use Rattle.ms_explore.proofs.AmongLemmas.{one_place, leads_to}
 use Rattle.ms_arena.proofs.Lists.{slice_get-held}
 use Rattle.std.proofs.lemmas.List.{length-map}
-use Rattle.ms_diagram.proofs.TableGrowth.{AreBrought-grow, AreRelabelled-grow}
+use Rattle.std.specs.Prelude.{IsTrue}
+use Rattle.ms_arena.proofs.Appending.{slice_get-extends}
+use Rattle.ms_diagram.specs.Table.{AreBrought, ArePaired}
+use Rattle.ms_diagram.proofs.TableGrowth.{AreBrought-grow, AreBrought-origin_grows, AreRelabelled-grow}
 use Rattle.ms_minim.specs.declared.classes.LeadTables.{LeadTables}
-use Rattle.ms_minim.specs.Lead.{AreLed}
+use Rattle.ms_minim.specs.declared.origins.Origins.{Origins}
+use Rattle.ms_minim.specs.declared.quotient.QuotientTables.{QuotientTables}
+use Rattle.ms_minim.specs.Image.{AreImages}
+use Rattle.ms_minim.specs.Lead.{AreLed, AreNumbered, IsGrownFrom}
+use Rattle.ms_minim.specs.Origin.{AreOrigins}
+use Rattle.ms_minim.proofs.ImageLemmas.{AreImages-grow}
 use Rattle.ms_minim.specs.Partition.{IsIdentity, IsRoot}
 
 -- what is tested is read through the map
@@ -65,6 +73,21 @@ pub AreLed-grow : (old new : List Node) → IsOrdered old → Extends old new �
 AreLed-grow old new ordered extends content places classes tables were = record {
   brought = AreBrought-grow old new ordered extends content.nodes places tables.brought were.brought;
   led = AreRelabelled-grow old new ordered extends classes tables.led were.led;
+}
+
+-- what is numbered stays right, where the store of the images grows
+pub AreNumbered-grown : (content : Content Sign) (places classes : List ℕ) (pairs late_pairs : List (ℕ × ℕ)) (nodes : List Node) (early late : QuotientTables) → IsGrownFrom early late → Extends pairs late_pairs
+    → ArePaired late.images.store.nodes late_pairs late.numbered → AreNumbered content places classes pairs nodes early → AreNumbered content places classes late_pairs nodes late
+AreNumbered-grown content places classes pairs late_pairs nodes early late grown extends numbered were = record {
+  origins = subst (AreOrigins content) (sym grown.origins) were.origins;
+  images = subst (λ (origins : Origins). AreImages content.nodes classes origins.nodes.items late.images) (sym grown.origins)
+      (subst (λ (list : List Ref). AreImages content.nodes classes early.origins.nodes.items (record { store = late.images.store; list = list })) (sym grown.list)
+      (AreImages-grow content.nodes classes early.origins.nodes.items early.images late.images.store grown.extends grown.store were.images));
+  numbered = numbered;
+  brought = subst (AreBrought late.images.store.nodes places nodes) (sym grown.brought)
+      (AreBrought-origin_grows early.images.store.nodes late.images.store.nodes were.images.store.ordered grown.extends nodes places early.brought were.brought);
+  settled = λ is state class held.
+      slice_get-extends pairs late_pairs extends class (class, 0) (were.settled (subst IsTrue grown.settled is) state class held);
 }
 
 -- what holds in any case holds where a call succeeds

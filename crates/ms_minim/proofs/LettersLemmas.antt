@@ -18,7 +18,7 @@ pub sign_of-with_letters : {Sign : Type 0} (content : Content Sign) (word : Word
     → sign_of content (with_letters word letters) ≡ sign_at content (state_after content (last_state content word) letters)
 sign_of-with_letters content word letters = ap (sign_at content) (state_after-append content (first_state content word.truth) word.letters letters)
 
-AreLetters-append : (variables : List Variable) (first second : List (List Bool)) → AreLetters variables first → AreLetters variables second → AreLetters variables (first ++ second)
+pub AreLetters-append : (variables : List Variable) (first second : List (List Bool)) → AreLetters variables first → AreLetters variables second → AreLetters variables (first ++ second)
 AreLetters-append variables [] second are also = also
 AreLetters-append variables (letter ∷ first) second are also = (are.0, AreLetters-append variables first second are.1 also)
 

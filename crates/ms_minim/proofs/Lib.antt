@@ -5,7 +5,9 @@ pub mod ResidualLemmas
 pub mod SplitLemmas
 pub mod PartitionLemmas
 pub mod MarkLemmas
+pub mod ImageLemmas
 pub mod LeadLemmas
+pub mod OriginLemmas
 pub mod QuotientLemmas
 pub mod ReadingLemmas
 pub mod FewestLemmas

@@ -10,7 +10,7 @@ use Rattle.ms_logic.specs.Content.{Content}
 use Rattle.ms_edge.specs.declared.fault.NoMemory.{NoMemory}
 use Rattle.ms_minim.specs.declared.classes.Partition.{Partition}
 use Rattle.ms_minim.specs.Residual.{HaveEqualResiduals}
-use Rattle.ms_minim.specs.Partition.{HaveOneClass, IsInhabited, LeadAlike, IsPartition, AreNerodeClasses, AreMarks, AreSignMarks, next_by}
+use Rattle.ms_minim.specs.Partition.{HaveOneClass, IsInhabited, LeadAlike, IsPartition, IsPassed, AreNerodeClasses, AreMarks, AreSignMarks, next_by}
 use Rattle.ms_minim.specs.Grouping.{NeverSplits}
 use Rattle.ms_minim.specs.Split.{IsSplit, AreZeros}
 use Rattle.ms_minim.proofs.Pigeonhole.{counted}
@@ -48,12 +48,16 @@ module _ (content : Content Sign) (automaton : IsRead content) (classes members 
           (are.alike one other in_one in_other (lead_alike one other in_one in_other equal));
     }
 
-    pub AreNerodeClasses-done : length made_members ≡ length members → AreNerodeClasses content classes members
+    AreNerodeClasses-done : length made_members ≡ length members → AreNerodeClasses content classes members
     AreNerodeClasses-done count = record {
       partition = partition;
       stable = λ one other in_one in_other same.
           are.apart one other in_one in_other (split.done count one other (in_classes one in_one) (in_classes other in_other) same);
     }
+
+    -- what a pass comes to
+    pub IsPassed-split : IsPassed content classes members made made_members
+    IsPassed-split = record { partition = IsPartition-split; more = split.more; stable = AreNerodeClasses-done }
 
 -- the first partition is by signs
 pub IsPartition-signs : (content : Content Sign) (classes members marks made made_members : List ℕ) → length classes ≡ length content.states
@@ -99,15 +103,14 @@ some_state content automaton =
     omega (arith, below)
 
 -- fewer classes are left to come
-pub fewer_left : (classes members made made_members marks : List ℕ) (states : ℕ) → IsSplit classes members marks made made_members → length classes ≡ states
-    → (length made_members ≡ length members → ⊥) → states - length made_members < states - length members
-fewer_left classes members made made_members marks states split all differs =
-    let few = few_classes made made_members split.inhabited in
-    let made_all = split.all in
-    let more = split.more in
-    ⊎_elim (λ less. omega (arith, few, made_all, all, less))
+pub fewer_left : (content : Content Sign) (classes members : List ℕ) (old finer : ℕ) → IsPartition content classes members → old ≤ finer → (finer ≡ old → ⊥) → finer ≤ length members
+    → length content.states - length members < length content.states - old
+fewer_left content classes members old finer partition more differs further =
+    let few = few_classes classes members partition.inhabited in
+    let all = partition.all in
+    ⊎_elim (λ less. omega (arith, few, all, further, less))
     (λ equal. absurd (differs (omega (arith, more, equal))))
-    (cases_lt (length members) (length made_members))
+    (cases_lt old finer)
 
 pub HaveOneClass-zeros : (classes : List ℕ) (states : ℕ) → AreZeros classes → length classes ≡ states → (one other : ℕ) → one < states → other < states → HaveOneClass classes one other
 HaveOneClass-zeros classes states are all one other in_one in_other = are one (omega (arith, in_one, all)) ∙ sym (are other (omega (arith, in_other, all)))

@@ -23,18 +23,18 @@ use Rattle.ms_diagram.specs.Store.{Contents}
 use Rattle.ms_diagram.proofs.Building.{Builds-implies}
 use Rattle.ms_diagram.proofs.NumberingLemmas.{AddsOnly-implies}
 use Rattle.ms_logic.specs.declared.sign.Sign.{Sign}
-use Rattle.ms_logic.specs.Assignment.{Variable}
-use Rattle.ms_logic.specs.Content.{StateOf, Content, AreLetters, count_of, is_truth_value, is_in_letters, first_state, state_after, last_state, sign_at}
+use Rattle.ms_logic.specs.Content.{StateOf, Content, is_truth_value, first_state, state_after, last_state, sign_at}
 use Rattle.ms_theory.specs.Narrow.{gathered}
 use Rattle.ms_theory.proofs.FunctionLemmas.{TestsOnly-by_function}
 use Rattle.ms_theory.proofs.GatheredLemmas.{length-gathered}
 use Rattle.ms_theory.proofs.NarrowLemmas.{leaf_of-gathered}
 use Rattle.ms_theory.proofs.OwnMeaningLemmas.{last_within}
-use Rattle.ms_minim.specs.Partition.{IsIdentity, IsRoot, HaveOneClass, next_by}
-use Rattle.ms_minim.specs.Quotient.{Quotienting, sign_or_outside, sign_of_number, IsNumberOf, NumberBehind, IsClassBehind, LeadsOn, IsReached, IsQuotient}
+use Rattle.ms_minim.specs.Origin.{IsReachedState}
+use Rattle.ms_minim.specs.Partition.{IsIdentity, IsPartition, IsRoot, HaveOneClass, next_by}
+use Rattle.ms_minim.specs.Quotient.{Quotienting, sign_or_outside, sign_of_number, IsNumberOf, NumberBehind, HaveOwnNumbers, IsClassBehind, LeadsOn, IsReached, AreReached, IsQuotient}
 use Rattle.ms_minim.proofs.LeadLemmas.{Renames-identity, tested_within, identity_leaf}
 use Rattle.ms_minim.proofs.MarkLemmas.{leads_by}
-use Rattle.ms_minim.proofs.LettersLemmas.{state_after-append}
+use Rattle.ms_minim.proofs.LettersLemmas.{AreLetters-append, state_after-append}
 use Rattle.ms_minim.proofs.ResidualLemmas.{letter_for, length-letter_for, next_state-letter_for}
 
 -- states of one class have one number
@@ -44,8 +44,7 @@ one_number classes pairs numbering state other number second first_is second_is 
     let class_is : first_is.class ≡ second_is.class = same_Some first_is.class second_is.class (sym first_is.class_is ∙ same ∙ second_is.class_is) in
     numbering.no_repeats number second (second_is.class, 0) (first_is.number_is ∙ ap (λ (n : ℕ). Some (n, 0)) class_is) second_is.number_is
 
-module _ (content : Content Sign) (ordered : IsOrdered content.nodes) (root : Ref) (is : IsRoot content root) (map : List ℕ) (identity : IsIdentity (length content.variables) map)
-    (classes : List ℕ) (first : List Node) (behind zero : Ref) (zero_is : zero ≡ Leaf 0) (leads : Meets first (MappedLeaf content.nodes classes root) behind) where
+module _ (content : Content Sign) (root : Ref) (classes : List ℕ) (first : List Node) (behind zero : Ref) (zero_is : zero ≡ Leaf 0) (leads : Meets first (MappedLeaf content.nodes classes root) behind) where
   zero_leaf : (bits : Bits) → leaf_of first zero bits ≡ 0
   zero_leaf bits = ap (λ r. leaf_of first r bits) zero_is ∙ leaf_of-leaf first bits 0
 
@@ -56,49 +55,66 @@ module _ (content : Content Sign) (ordered : IsOrdered content.nodes) (root : Re
       let zero_at : leaf_of first zero has.0 ≡ item.1 = ap (λ (p : ℕ × ℕ). p.1) has.1 in
       (has.0, leads has.0 ∙ ap Some class_is, sym zero_at ∙ zero_leaf has.0))
 
-  module _ (pairs : List (ℕ × ℕ)) (numbering : IsNumbering pairs) (second : List Node) (ordered_second : IsOrdered second) (reduced_second : IsReduced second) (numbers : Ref)
-      (meets : Meets second (PairNumber first pairs behind zero) numbers) where
-    -- the leaves are the numbers of the classes
-    numbered : (bits : Bits) → IsNumberOf classes pairs (leaf_of content.nodes root bits) (leaf_of second numbers bits)
-    numbered bits =
-        let at_zero = zero_leaf bits in
-        record {
-          class = leaf_of first behind bits;
-          class_is = leads bits;
-          number_is = meets bits ∙ ap (λ (n : ℕ). Some (leaf_of first behind bits, n)) at_zero;
-        }
+  -- the numbers of pairs with 0 are those of the classes
+  pub Meets-numbered : (pairs : List (ℕ × ℕ)) (second : List Node) (numbers : Ref) → Meets second (PairNumber first pairs behind zero) numbers → Meets second (NumberBehind content classes pairs root) numbers
+  Meets-numbered pairs second numbers meets bits =
+      let at_zero = zero_leaf bits in
+      record {
+        class = leaf_of first behind bits;
+        class_is = leads bits;
+        number_is = meets bits ∙ ap (λ (n : ℕ). Some (leaf_of first behind bits, n)) at_zero;
+      }
 
-    -- bits past the variables matter to neither
-    same_leaf : (var : ℕ) → length content.variables ≤ var → (bits : Bits) → leaf_of content.nodes root (with_bit bits var false) ≡ leaf_of content.nodes root (with_bit bits var true)
-    same_leaf var past bits =
-        leaf_of-tested content.nodes ordered root (with_bit bits var false) (with_bit bits var true) is.1.valid (λ own tested.
-        let within = tested_within content ordered root is map identity own tested in
-        let apart : own ≢ var = λ same. (let never : var < length content.variables = omega (arith, same, within) in omega (arith, never, past)) in
-        with_bit-other bits var false own apart ∙ sym (with_bit-other bits var true own apart))
+-- where each class has its own number, it is the class
+pub Meets-own : (content : Content Sign) (root : Ref) (classes : List ℕ) (first : List Node) (behind : Ref) → Meets first (MappedLeaf content.nodes classes root) behind → (pairs : List (ℕ × ℕ))
+    → HaveOwnNumbers classes pairs → Meets first (NumberBehind content classes pairs root) behind
+Meets-own content root classes first behind leads pairs own bits = record {
+  class = leaf_of first behind bits;
+  class_is = leads bits;
+  number_is = own (leaf_of content.nodes root bits) (leaf_of first behind bits) (leads bits);
+}
 
-    pub Renames-numbers : Renames second map numbers
-    Renames-numbers = Renames-identity second numbers (length content.variables) map identity
-        (TestsOnly-by_function second (leaf_of second numbers) (λ var. var < length content.variables) numbers ordered_second reduced_second (λ bits. refl)
-        (λ var. ⊎_elim (λ less. inl less)
-        (λ past. inr (λ bits.
-        one_number classes pairs numbering (leaf_of content.nodes root (with_bit bits var false)) (leaf_of content.nodes root (with_bit bits var true))
-        (leaf_of second numbers (with_bit bits var false)) (leaf_of second numbers (with_bit bits var true))
-        (numbered (with_bit bits var false)) (numbered (with_bit bits var true)) (ap (slice_get classes) (same_leaf var past bits))))
-        (cases_lt var (length content.variables))))
+module _ (content : Content Sign) (ordered : IsOrdered content.nodes) (root : Ref) (is : IsRoot content root) (map : List ℕ) (identity : IsIdentity (length content.variables) map)
+    (classes : List ℕ) (pairs : List (ℕ × ℕ)) (numbering : IsNumbering pairs) (second : List Node) (ordered_second : IsOrdered second) (reduced_second : IsReduced second) (numbers : Ref)
+    (numbered : Meets second (NumberBehind content classes pairs root) numbers) where
+  -- bits past the variables matter to neither
+  same_leaf : (var : ℕ) → length content.variables ≤ var → (bits : Bits) → leaf_of content.nodes root (with_bit bits var false) ≡ leaf_of content.nodes root (with_bit bits var true)
+  same_leaf var past bits =
+      leaf_of-tested content.nodes ordered root (with_bit bits var false) (with_bit bits var true) is.1.valid (λ own tested.
+      let within = tested_within content ordered root is map identity own tested in
+      let apart : own ≢ var = λ same. (let never : var < length content.variables = omega (arith, same, within) in omega (arith, never, past)) in
+      with_bit-other bits var false own apart ∙ sym (with_bit-other bits var true own apart))
 
-    pub Builds-numbers : (old new : Contents) (result : Result Ref StepFault) → Builds old new (RenamedLeaf second map numbers) ⊥ result → Builds old new (NumberBehind content classes pairs root) ⊥ result
-    Builds-numbers old new result = Builds-implies old new (RenamedLeaf second map numbers) (NumberBehind content classes pairs root) ⊥ ⊥
-        (λ bits number same.
-        subst (IsNumberOf classes pairs (leaf_of content.nodes root bits)) (sym same)
-        (subst (λ s. IsNumberOf classes pairs s (leaf_of second numbers (read_through map bits))) (identity_leaf content ordered root is map identity bits)
-        (numbered (read_through map bits))))
-        (λ never. never) result
+  pub Renames-numbers : Renames second map numbers
+  Renames-numbers = Renames-identity second numbers (length content.variables) map identity
+      (TestsOnly-by_function second (leaf_of second numbers) (λ var. var < length content.variables) numbers ordered_second reduced_second (λ bits. refl)
+      (λ var. ⊎_elim (λ less. inl less)
+      (λ past. inr (λ bits.
+      one_number classes pairs numbering (leaf_of content.nodes root (with_bit bits var false)) (leaf_of content.nodes root (with_bit bits var true))
+      (leaf_of second numbers (with_bit bits var false)) (leaf_of second numbers (with_bit bits var true))
+      (numbered (with_bit bits var false)) (numbered (with_bit bits var true)) (ap (slice_get classes) (same_leaf var past bits))))
+      (cases_lt var (length content.variables))))
 
--- letters, and one more
-AreLetters-more : (variables : List Variable) (letters : List (List Bool)) (letter : List Bool) → AreLetters variables letters → length letter ≡ count_of is_in_letters variables
-    → AreLetters variables (letters ++ letter ∷ [])
-AreLetters-more variables [] letter are long = (long, tt)
-AreLetters-more variables (first ∷ letters) letter are long = (are.0, AreLetters-more variables letters letter are.1 long)
+  pub Builds-numbers : (old new : Contents) (result : Result Ref StepFault) → Builds old new (RenamedLeaf second map numbers) ⊥ result → Builds old new (NumberBehind content classes pairs root) ⊥ result
+  Builds-numbers old new result = Builds-implies old new (RenamedLeaf second map numbers) (NumberBehind content classes pairs root) ⊥ ⊥
+      (λ bits number same.
+      subst (IsNumberOf classes pairs (leaf_of content.nodes root bits)) (sym same)
+      (subst (λ s. IsNumberOf classes pairs s (leaf_of second numbers (read_through map bits))) (identity_leaf content ordered root is map identity bits)
+      (numbered (read_through map bits))))
+      (λ never. never) result
+
+-- where words lead to all states, they lead to one of each class
+pub AreReached-own : (content : Content Sign) (classes members : List ℕ) → IsPartition content classes members → ((state : ℕ) → state < length content.states → IsReachedState content state)
+    → (pairs : List (ℕ × ℕ)) → length pairs ≡ length members → ((class : ℕ) → class < length members → slice_get pairs class ≡ Some (class, 0)) → AreReached content classes pairs
+AreReached-own content classes members partition reached pairs count own number pair held =
+    let within : number < length members = let less = slice_get_within pairs number pair held in omega (arith, less, count) in
+    let pair_is : (number, 0) ≡ pair = same_Some (number, 0) pair (sym (own number within) ∙ held) in
+    let member = slice_get-held members number within in
+    let class_is = partition.inhabited.member number member.0 member.1 in
+    let inside : member.0 < length content.states = let all = partition.all in let less = slice_get_within classes member.0 number class_is in omega (arith, all, less) in
+    let word = reached member.0 inside in
+    subst (λ (p : ℕ × ℕ). IsReached content classes p.0 × (p.1 ≡ 0)) pair_is
+    (record { word = word.0; over = word.1; ends = ap (slice_get classes) word.2 ∙ class_is }, refl)
 
 module _ (content : Content Sign) (classes members map : List ℕ) (pairs : List (ℕ × ℕ)) (quotient : IsQuotient content classes members map pairs) where
   -- a class behind the start is reached
@@ -131,7 +147,7 @@ module _ (content : Content Sign) (classes members map : List ℕ) (pairs : List
         word = record { truth = reached.word.truth; letters = reached.word.letters ++ letter ∷ [] };
         over = record {
           truth = reached.over.truth;
-          letters = AreLetters-more content.variables reached.word.letters letter reached.over.letters (length-letter_for content automaton.ordered automaton.closed behind.0);
+          letters = AreLetters-append content.variables reached.word.letters (letter ∷ []) reached.over.letters (length-letter_for content automaton.ordered automaton.closed behind.0, tt);
         };
         ends = ap (slice_get classes) there ∙ alike ∙ ap (slice_get classes) (leads_by content classes state root within next behind.0) ∙ behind.1;
       }

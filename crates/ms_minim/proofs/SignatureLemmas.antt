@@ -15,7 +15,7 @@ use Rattle.ms_logic.specs.declared.sign.Sign.{Sign}
 use Rattle.ms_logic.specs.Content.{Content}
 use Rattle.ms_minim.specs.declared.signatures.Seen.{Seen}
 use Rattle.ms_minim.specs.Marks.{IsMarkOf, pair_of}
-use Rattle.ms_minim.specs.Partition.{AreSignMarks, LeadAlike, next_by}
+use Rattle.ms_minim.specs.Partition.{IsPartition, LeadAlike, next_by}
 use Rattle.ms_minim.specs.Predecessors.{AreBelow, ArePredecessors}
 use Rattle.ms_minim.specs.Residual.{HaveEqualResiduals}
 use Rattle.ms_minim.specs.Grouping.{AreCovered, AreGrouped, AreLabels, AreListed, AreSplitters, IsDue, IsLabel, IsLaterSeen, IsMoved, IsNewClass, IsSeen, NeverSplits, through}
@@ -182,12 +182,12 @@ module _ (content : Content Sign) (automaton : IsRead content) (classes splitter
     below = below;
   }
 
--- the classes of the signs
-pub AreGrouped-signs : (content : Content Sign) (classes : List ℕ) (members : List (List ℕ)) → AreSignMarks content classes → AreListed classes members → AreBelow (length classes) members
+-- so are those of a partition
+pub AreGrouped-partition : (content : Content Sign) (classes known : List ℕ) (members : List (List ℕ)) → IsPartition content classes known → AreListed classes members → AreBelow (length classes) members
     → AreGrouped content classes members
-AreGrouped-signs content classes members are listed below = record {
-  all = are.all;
-  kept = λ one other in_one in_other equal. are.alike one other in_one in_other (equal [] tt);
+AreGrouped-partition content classes known members partition listed below = record {
+  all = partition.all;
+  kept = partition.kept;
   listed = listed;
-  below = subst (λ n. AreBelow n members) are.all below;
+  below = subst (λ n. AreBelow n members) partition.all below;
 }

@@ -5,6 +5,8 @@ pub mod Split
 pub mod Predecessors
 pub mod Grouping
 pub mod Quotient
+pub mod Image
+pub mod Origin
 pub mod Lead
 pub mod Reading
 pub mod Reduced

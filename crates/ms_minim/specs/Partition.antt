@@ -1,5 +1,5 @@
 -- Partitions of the states of an automaton into classes.
-use Rattle.std.specs.Prelude.{◌≡◌, ℕ, ◌<◌, Bool, List, length, slice_get, slice_index, Option, Some, None}
+use Rattle.std.specs.Prelude.{◌≡◌, ℕ, ◌<◌, ◌≤◌, Bool, List, length, slice_get, slice_index, Option, Some, None}
 use Rattle.ms_arena.specs.declared.node.Ref.{Ref}
 use Rattle.ms_arena.specs.Diagram.{Bits, leaf_of}
 use Rattle.ms_logic.specs.declared.mode.Order.{Order}
@@ -48,6 +48,12 @@ pub record IsPartition (content : Content Sign) (classes members : List ℕ) : T
 pub record AreNerodeClasses (content : Content Sign) (classes members : List ℕ) : Type 0 where
   pub partition : IsPartition content classes members
   pub stable : (one other : ℕ) → one < length content.states → other < length content.states → HaveOneClass classes one other → LeadAlike content classes one other
+
+-- a pass over all states has split the classes of a partition; where it has split none, states of one class lead alike
+pub record IsPassed (content : Content Sign) (classes members made made_members : List ℕ) : Type 0 where
+  pub partition : IsPartition content made made_members
+  pub more : length members ≤ length made_members
+  pub stable : length made_members ≡ length members → AreNerodeClasses content classes members
 
 -- states have equal marks exactly where they lead alike
 pub record AreMarks (content : Content Sign) (classes marks : List ℕ) : Type 0 where

@@ -25,6 +25,10 @@ pub record IsMemberOf (members : List ℕ) (pairs : List (ℕ × ℕ)) (number s
   pub number_is : slice_get pairs number ≡ Some (class, 0)
   pub member_is : slice_get members class ≡ Some state
 
+-- each class has its own number
+abbrev pub HaveOwnNumbers : List ℕ → List (ℕ × ℕ) → Type 0
+HaveOwnNumbers classes pairs = (state class : ℕ) → slice_get classes state ≡ Some class → slice_get pairs class ≡ Some (class, 0)
+
 -- from a reference of the automaton to the number of the class of its leaf
 abbrev pub NumberBehind : Content Sign → List ℕ → List (ℕ × ℕ) → Ref → Target
 NumberBehind content classes pairs root = λ bits number. IsNumberOf classes pairs (leaf_of content.nodes root bits) number

@@ -13,10 +13,18 @@ use ms_edge::{List, NoMemory};
 use std::alloc::Global;
 
 /// A class for each state of an automaton, and for each class one of its states.
-#[derive(Drop)]
 pub(crate) struct Partition {
     pub classes: List<u32>,
     pub members: List<u32>,
+}
+
+impl Drop for Partition {
+    fn drop(self) {
+        let Partition {
+            classes: _,
+            members: _,
+        } = self;
+    }
 }
 
 /// An automaton and the places of its tracks.
@@ -29,10 +37,15 @@ pub(crate) struct Plan<'a> {
 
 /// What the nodes of an automaton have become in another store, and what the nodes of that have become with classes at
 /// their leaves.
-#[derive(Drop)]
 pub(crate) struct LeadTables {
     pub brought: PlaceTable,
     pub led: PlaceTable,
+}
+
+impl Drop for LeadTables {
+    fn drop(self) {
+        let LeadTables { brought: _, led: _ } = self;
+    }
 }
 
 impl LeadTables {

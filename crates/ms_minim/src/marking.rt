@@ -1,19 +1,19 @@
 ghost use Rattle.std.specs.Prelude.{◌≡◌, length, slice_get, Some, IfOk, OnOk};
 ghost use Rattle.ms_arena.specs.Target.{Extends};
 ghost use Rattle.ms_diagram.specs.Numbering.{IsNumbering, Numbers};
-ghost use Rattle.ms_minim.specs.Partition.{AreMarks, AreSignMarks, IsIdentity};
+ghost use Rattle.ms_minim.specs.Image.{AreImages};
+ghost use Rattle.ms_minim.specs.Partition.{AreMarks, AreSignMarks};
 ghost use Rattle.ms_minim.specs.Marks.{mark_of_sign, pair_of};
+ghost use Rattle.ms_minim.specs.Origin.{AreOrigins};
 
-use crate::classes::{LeadTables, Plan, lead};
+use crate::images::{Images, image};
+use crate::origins::Origins;
 use crate::reading::Reader;
 use ms_arena::Ref;
-use ms_diagram::{Pairs, Store};
+use ms_diagram::Pairs;
 use ms_edge::{List, NoMemory, push};
 use ms_logic::Sign;
 use std::alloc::Global;
-
-/// How many nodes a store holds at most.
-pub(crate) const ROOM: u64 = 4000000000;
 
 /// The number of a pair.
 pub(crate) fn number(known: &mut Pairs, left: u32, right: u32) -> Result<u32, NoMemory>
@@ -43,28 +43,22 @@ pub(crate) fn mark(known: &mut Pairs, reference: Ref) -> Result<u32, NoMemory>
 pub(crate) fn marks(
     alloc: Global,
     automaton: &Reader,
-    places: &[u32],
+    origins: &Origins,
+    images: &Images,
     classes: &[u32],
 ) -> Result<List<u32>, NoMemory>
-    requires places { IsIdentity (length automaton.now.variables) places.now }
+    requires origins { AreOrigins automaton.now origins.now }
+    requires images { AreImages automaton.now.nodes classes.now origins.now.nodes.items images.now }
     requires classes { length classes.now ≡ length automaton.now.states }
     ensures { IfOk result (AreMarks automaton.now classes.now) }
 {
-    let mut scratch = Store::new(alloc, ROOM);
     let mut known = Pairs::new(alloc);
-    let mut tables = LeadTables::new(alloc);
-    let plan = Plan {
-        alloc,
-        automaton,
-        places,
-    };
     let mut made = List::new(alloc);
-    // The lengths tell that these are a store and a numbering.
-    let _ = scratch.len();
+    // The length tells that these are a numbering.
     let _ = known.len();
     for state in 0..automaton.states() {
         let root = automaton.next_ref(state);
-        let reference = lead(&plan, &mut scratch, root, classes, &mut tables)?;
+        let reference = image(images.list.slice(), classes, root);
         let found = mark(&mut known, reference)?;
         push(&mut made, found)?;
     }

@@ -1,20 +1,22 @@
-ghost use Rattle.std.specs.Prelude.{◌≡◌, ◌<◌, ◌≤◌, ◌+◌, ℕ, List, length, OnOk};
-ghost use Rattle.ms_arena.specs.declared.node.Node.{Node};
-ghost use Rattle.ms_arena.specs.Target.{Extends};
+ghost use Rattle.std.specs.Prelude.{◌≡◌, ◌<◌, ◌≤◌, ◌+◌, length, IsTrue, IfOk, OnOk};
+ghost use Rattle.ms_arena.specs.Diagram.{IsValid};
+ghost use Rattle.ms_arena.specs.Target.{Extends, Meets};
 ghost use Rattle.ms_diagram.specs.Growth.{Builds};
 ghost use Rattle.ms_diagram.specs.Numbering.{AddsOnly, IsNumbering};
-ghost use Rattle.ms_logic.specs.declared.sign.Sign.{Sign};
-ghost use Rattle.ms_logic.specs.Content.{Content};
-ghost use Rattle.ms_minim.specs.Lead.{AreNoted, AreNumbered};
+ghost use Rattle.ms_diagram.specs.Table.{ArePaired};
+ghost use Rattle.ms_minim.specs.Image.{AreImages};
+ghost use Rattle.ms_minim.specs.Lead.{AreNoted, AreNumbered, IsGrownFrom};
+ghost use Rattle.ms_minim.specs.Origin.{IsSeen};
 ghost use Rattle.ms_minim.specs.Partition.{IsIdentity, IsRoot};
-ghost use Rattle.ms_minim.specs.Quotient.{IsClassBehind, IsLaterQuotient, NumberBehind, findings_of};
+ghost use Rattle.ms_minim.specs.Quotient.{HaveOwnNumbers, IsClassBehind, IsLaterQuotient, NumberBehind, findings_of};
 
-use crate::classes::{LeadTables, Partition, Plan, lead};
-use crate::marking::ROOM;
+use crate::classes::Partition;
+use crate::images::{Images, image};
+use crate::origins::Origins;
 use crate::reading::Reader;
 use ms_arena::Ref;
 use ms_diagram::{PairTable, Pairs, PlaceTable, Store};
-use ms_edge::{List, StepFault};
+use ms_edge::{List, NoMemory, StepFault};
 use ms_explore::Machine;
 use ms_logic::Sign;
 use std::alloc::Global;
@@ -29,31 +31,73 @@ pub(crate) struct Source<'a> {
     pub places: List<u32>,
 }
 
-/// What has been built of the diagrams of a quotient: those of the automaton with classes at their leaves, and with the
-/// numbers of classes, in a store of their own; and what that store's nodes have become in the store of the answer.
-#[derive(Drop)]
+/// What has been built of the diagrams of a quotient: the images of the automaton's nodes by classes, in whose store are too
+/// their diagrams with the numbers of classes at their leaves, where these are not the classes themselves; and what that store's
+/// nodes have become in the store of the answer.
 pub(crate) struct QuotientTables {
-    pub scratch: Store,
-    pub lead: LeadTables,
+    pub origins: Origins,
+    pub images: Images,
     pub numbered: PairTable,
     pub brought: PlaceTable,
+    // Each class has its own number.
+    pub settled: bool,
 }
 
-impl QuotientTables {
-    pub(crate) fn new(alloc: Global) -> QuotientTables
-        ensures { (content : Content Sign) (places classes : List ℕ) (pairs : List (ℕ × ℕ)) (nodes : List Node) → AreNumbered content places classes pairs nodes result }
-    {
-        QuotientTables {
-            scratch: Store::new(alloc, ROOM),
-            lead: LeadTables::new(alloc),
-            numbered: PairTable::new(alloc),
-            brought: PlaceTable::new(alloc),
-        }
+impl Drop for QuotientTables {
+    fn drop(self) {
+        let QuotientTables {
+            origins: _,
+            images: _,
+            numbered: _,
+            brought: _,
+            settled: _,
+        } = self;
     }
 }
 
-/// A diagram of the automaton with the numbers of classes at its leaves. A class that is new gets its number at first sight,
-/// as the pair of itself and 0.
+/// A diagram of the automaton with the numbers of classes at its leaves, in the store of the images. A class that is new gets
+/// its number at first sight, as the pair of itself and 0.
+fn numbers_behind(
+    source: &Source,
+    pairs: &mut Pairs,
+    root: Ref,
+    tables: &mut QuotientTables,
+) -> Result<Ref, NoMemory>
+    requires root { IsRoot source.now.automaton.now root }
+    requires seen { IsSeen tables.old.origins root }
+    requires places { IsIdentity (length source.now.automaton.now.variables) source.now.places }
+    requires classes { length source.now.partition.classes ≡ length source.now.automaton.now.states }
+    requires images { AreImages source.now.automaton.now.nodes source.now.partition.classes tables.old.origins.nodes.items tables.old.images }
+    requires numbered { ArePaired tables.old.images.store.nodes pairs.old tables.old.numbered }
+    requires settled { IsTrue tables.old.settled → HaveOwnNumbers source.now.partition.classes pairs.old }
+    ensures pairs { Extends pairs.old pairs.new }
+    ensures numbering { IsNumbering pairs.new }
+    ensures added { AddsOnly (IsClassBehind source.now.automaton.now source.now.partition.classes root) pairs.old pairs.new }
+    ensures kept { IsGrownFrom tables.old tables.new }
+    ensures valid { IfOk result (IsValid tables.new.images.store.nodes) }
+    ensures numbers { IfOk result (Meets tables.new.images.store.nodes (NumberBehind source.now.automaton.now source.now.partition.classes pairs.new root)) }
+    ensures numbered { OnOk result (ArePaired tables.new.images.store.nodes pairs.new tables.new.numbered) }
+{
+    // The lengths tell that these are a store and a numbering, and the states that it is an automaton.
+    let _ = tables.images.store.len();
+    let _ = pairs.len();
+    let _ = source.automaton.states();
+    let classes = source.partition.classes.slice();
+    let behind = image(tables.images.list.slice(), classes, root);
+    if tables.settled {
+        return Ok(behind);
+    }
+    let scratch = &mut tables.images.store;
+    let zero = scratch.leaf(0);
+    let applied = scratch.apply_with(behind, zero, pairs, &mut tables.numbered);
+    let _ = pairs.len();
+    match applied {
+        Ok(numbers) => Ok(numbers),
+        Err(_) => Err(NoMemory),
+    }
+}
+
+/// The same in the store of the answer.
 fn lead_to_numbers(
     store: &mut Store,
     source: &Source,
@@ -62,6 +106,7 @@ fn lead_to_numbers(
     tables: &mut QuotientTables,
 ) -> Result<Ref, StepFault>
     requires root { IsRoot source.now.automaton.now root }
+    requires seen { IsSeen tables.old.origins root }
     requires places { IsIdentity (length source.now.automaton.now.variables) source.now.places }
     requires classes { length source.now.partition.classes ≡ length source.now.automaton.now.states }
     requires tables { AreNumbered source.now.automaton.now source.now.places source.now.partition.classes pairs.old store.old.nodes tables.old }
@@ -71,28 +116,20 @@ fn lead_to_numbers(
     ensures builds { Builds store.old store.new (NumberBehind source.now.automaton.now source.now.partition.classes pairs.new root) ⊥ result }
     ensures tables { OnOk result (AreNumbered source.now.automaton.now source.now.places source.now.partition.classes pairs.new store.new.nodes tables.new) }
 {
-    // The lengths tell that these are stores and a numbering, and the states that it is an automaton.
+    // The lengths tell that these are stores, and the states that it is an automaton.
     let _ = store.len();
-    let _ = tables.scratch.len();
-    let _ = pairs.len();
     let _ = source.automaton.states();
-    let plan = Plan {
-        alloc: source.alloc,
-        automaton: source.automaton,
-        places: source.places.slice(),
-    };
-    let classes = source.partition.classes.slice();
-    let scratch = &mut tables.scratch;
-    let Ok(behind) = lead(&plan, scratch, root, classes, &mut tables.lead) else {
+    let Ok(numbers) = numbers_behind(source, pairs, root, tables) else {
         return Err(StepFault::Memory);
     };
-    let zero = scratch.leaf(0);
-    let applied = scratch.apply_with(behind, zero, pairs, &mut tables.numbered);
     let _ = pairs.len();
-    let Ok(numbers) = applied else {
-        return Err(StepFault::Memory);
-    };
-    store.bring_with(scratch, numbers, plan.places, &mut tables.brought)
+    let _ = tables.images.store.len();
+    store.bring_with(
+        &tables.images.store,
+        numbers,
+        source.places.slice(),
+        &mut tables.brought,
+    )
 }
 
 /// The quotient of an automaton: its states are classes, which get numbers at first sight.

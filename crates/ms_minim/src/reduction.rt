@@ -1,15 +1,18 @@
-ghost use Rattle.std.specs.Prelude.{◌≡◌, ◌≤◌, ◌<◌, ◌+◌, length, IfOk};
+ghost use Rattle.std.specs.Prelude.{◌≡◌, ◌≤◌, ◌<◌, ◌+◌, List as Sequence, length, IfOk};
+ghost use Rattle.ms_arena.specs.declared.node.Node.{Node};
 ghost use Rattle.ms_explore.specs.Explored.{OnRefused};
-ghost use Rattle.ms_minim.specs.Partition.{AreNerodeClasses, IsIdentity};
+ghost use Rattle.ms_minim.specs.Lead.{AreNoted};
 ghost use Rattle.ms_minim.specs.Reading.{read_content};
 ghost use Rattle.ms_minim.specs.Reduced.{IsReducedOf, content_over};
 
+use crate::numbers::{Numbered, first_numbers};
+use crate::origins::origins_of;
 use crate::quotient::{Quotient, QuotientMachine, QuotientTables, Source};
 use crate::reading::{Reader, Reading};
-use crate::refinement::refine;
+use crate::refinement::{Residuals, refine};
 use ms_arena::Ref;
 use ms_dfa::{Automaton, State};
-use ms_diagram::{Pairs, Store};
+use ms_diagram::{PairTable, PlaceTable, Store};
 use ms_edge::{List, NoMemory, StepFault};
 use ms_explore::{explore, places_among};
 use std::alloc::Global;
@@ -22,20 +25,32 @@ pub struct Reduced {
     pub states: List<State>,
 }
 
-/// The automaton with its states by their residuals.
-fn source<'a>(alloc: Global, automaton: &'a Reader<'a>) -> Result<Source<'a>, NoMemory>
-    ensures automaton { IfOk result (λ made. made.automaton.now ≡ automaton.now) }
-    ensures classes { IfOk result (λ made. AreNerodeClasses automaton.now made.partition.classes made.partition.members) }
-    ensures places { IfOk result (λ made. IsIdentity (length automaton.now.variables) made.places) }
+/// The quotient of an automaton by the residuals of its states, with what has been built for it.
+fn machine_of<'a>(alloc: Global, automaton: &'a Reader<'a>) -> Result<QuotientMachine<'a>, NoMemory>
+    ensures automaton { IfOk result (λ made. made.quotient.content ≡ automaton.now) }
+    ensures ready { IfOk result (λ made. (nodes : Sequence Node) → AreNoted made.quotient nodes made.tables) }
 {
     let tracks = automaton.tracks();
     let places = places_among(alloc, tracks, tracks)?;
-    let partition = refine(alloc, automaton, places.slice())?;
-    Ok(Source {
+    let origins = origins_of(alloc, automaton)?;
+    let Residuals { partition, images } = refine(alloc, automaton, places.slice(), &origins)?;
+    let Numbered { pairs, settled } = first_numbers(alloc, automaton, &origins, &partition)?;
+    let source = Source {
         alloc,
         automaton,
         partition,
         places,
+    };
+    let tables = QuotientTables {
+        origins,
+        images,
+        numbered: PairTable::new(alloc),
+        brought: PlaceTable::new(alloc),
+        settled,
+    };
+    Ok(QuotientMachine {
+        quotient: Quotient { source, pairs },
+        tables,
     })
 }
 
@@ -54,15 +69,8 @@ pub fn reduce(
     ensures nodes { OnRefused result (λ refused. (refused ≡ limit) × (limit < length a.now.nodes + length a.now.states)) }
 {
     let reader = Reader::new(a, reading);
-    let source = match source(alloc, &reader) {
-        Ok(source) => source,
-        Err(_) => return Err(StepFault::Memory),
-    };
-    let pairs = Pairs::new(alloc);
-    let quotient = Quotient { source, pairs };
-    let mut machine = QuotientMachine {
-        quotient,
-        tables: QuotientTables::new(alloc),
+    let Ok(mut machine) = machine_of(alloc, &reader) else {
+        return Err(StepFault::Memory);
     };
     let mut store = Store::new(alloc, limit);
     let mut states = List::new(alloc);

@@ -1,13 +1,20 @@
 ghost use Rattle.std.specs.Prelude.{◌≡◌, ◌≤◌, ◌<◌, ℕ, length, slice_get, IfOk};
-ghost use Rattle.ms_minim.specs.Partition.{IsIdentity, IsPartition, AreNerodeClasses, IsInhabited};
+ghost use Rattle.ms_minim.specs.Image.{AreImages};
+ghost use Rattle.ms_minim.specs.Origin.{AreOrigins};
+ghost use Rattle.ms_minim.specs.Partition.{IsIdentity, IsPartition, IsPassed, AreNerodeClasses, IsInhabited};
 
 use crate::classes::Partition;
+use crate::images::{Images, Reached, images_of};
 use crate::marking::{marks, sign_marks};
+use crate::origins::Origins;
 use crate::reading::Reader;
 use crate::rounds::group;
 use crate::splitting::split;
 use ms_edge::{List, NoMemory, push};
 use std::alloc::Global;
+
+/// How many passes over all states are tried before classes are split where few states lead elsewhere.
+const PASSES: u32 = 16;
 
 /// All of so many states in one class.
 fn one_class(alloc: Global, states: u32) -> Result<Partition, NoMemory>
@@ -34,26 +41,90 @@ fn by_signs(alloc: Global, automaton: &Reader) -> Result<Partition, NoMemory>
     split(alloc, &one, signs.slice())
 }
 
+/// Classes of states with the images of the nodes by them, and these classes split by where letters lead.
+#[derive(Drop)]
+pub(crate) struct Pass {
+    pub images: Images,
+    pub finer: Partition,
+}
+
+/// The states by their residuals, with the images of the nodes by them.
+#[derive(Drop)]
+pub(crate) struct Residuals {
+    pub partition: Partition,
+    pub images: Images,
+}
+
+/// All classes split by where letters lead from their states.
+fn split_once(
+    alloc: Global,
+    automaton: &Reader,
+    origins: &Origins,
+    partition: &Partition,
+) -> Result<Pass, NoMemory>
+    requires origins { AreOrigins automaton.now origins.now }
+    requires partition { IsPartition automaton.now partition.now.classes partition.now.members }
+    ensures images { IfOk result (λ made. AreImages automaton.now.nodes partition.now.classes origins.now.nodes.items made.images) }
+    ensures finer { IfOk result (λ made. IsPassed automaton.now partition.now.classes partition.now.members made.finer.classes made.finer.members) }
+{
+    // The states tell that it is an automaton.
+    let _ = automaton.states();
+    let classes = partition.classes.slice();
+    let reached = Reached {
+        store: automaton.store(),
+        origins: &origins.nodes,
+        classes,
+    };
+    let images = images_of(alloc, &reached)?;
+    let marks = marks(alloc, automaton, origins, &images, classes)?;
+    let finer = split(alloc, partition, marks.slice())?;
+    Ok(Pass { images, finer })
+}
+
+/// Classes that passes have come to. After so many of them they are split too by what `group` makes of them, which goes on
+/// where few states lead elsewhere.
+fn regrouped(
+    alloc: Global,
+    automaton: &Reader,
+    places: &[u32],
+    partition: Partition,
+    passes: u32,
+) -> Result<Partition, NoMemory>
+    requires places { IsIdentity (length automaton.now.variables) places.now }
+    requires partition { IsPartition automaton.now partition.classes partition.members }
+    ensures partition { IfOk result (λ made. IsPartition automaton.now made.classes made.members) }
+    ensures more { IfOk result (λ made. length partition.members ≤ length made.members) }
+{
+    if passes != PASSES {
+        return Ok(partition);
+    }
+    // The states tell that it is an automaton.
+    let _ = automaton.states();
+    let groups = group(alloc, automaton, places, &partition)?;
+    let finer = split(alloc, &partition, &groups)?;
+    Ok(finer)
+}
+
 /// The states by their residuals.
 pub(crate) fn refine(
     alloc: Global,
     automaton: &Reader,
     places: &[u32],
-) -> Result<Partition, NoMemory>
-    requires { IsIdentity (length automaton.now.variables) places.now }
-    ensures { IfOk result (λ made. AreNerodeClasses automaton.now made.classes made.members) }
+    origins: &Origins,
+) -> Result<Residuals, NoMemory>
+    requires places { IsIdentity (length automaton.now.variables) places.now }
+    requires origins { AreOrigins automaton.now origins.now }
+    ensures classes { IfOk result (λ made. AreNerodeClasses automaton.now made.partition.classes made.partition.members) }
+    ensures images { IfOk result (λ made. AreImages automaton.now.nodes made.partition.classes origins.now.nodes.items made.images) }
 {
-    // The states tell that it is an automaton.
-    let _ = automaton.states();
-    let signs = by_signs(alloc, automaton)?;
-    let groups = group(alloc, automaton, places)?;
-    let mut partition = split(alloc, &signs, &groups)?;
+    let mut partition = by_signs(alloc, automaton)?;
+    let mut passes: u32 = 0;
     loop {
-        let marks = marks(alloc, automaton, places, partition.classes.slice())?;
-        let finer = split(alloc, &partition, marks.slice())?;
+        let Pass { images, finer } = split_once(alloc, automaton, origins, &partition)?;
         if finer.members.len() == partition.members.len() {
-            return Ok(partition);
+            return Ok(Residuals { partition, images });
         }
-        partition = finer;
+        passes = passes.saturating_add(1);
+        partition = regrouped(alloc, automaton, places, finer, passes)?;
     }
 }

@@ -1,12 +1,11 @@
 ghost use Rattle.std.specs.Prelude.{◌≡◌, ◌<◌, ◌≤◌, ℕ, length, IfOk, OnOk};
 ghost use Rattle.ms_minim.specs.Grouping.{AreGrouped, AreSplitters, NeverSplits};
-ghost use Rattle.ms_minim.specs.Partition.{IsIdentity};
+ghost use Rattle.ms_minim.specs.Partition.{IsIdentity, IsPartition};
 ghost use Rattle.ms_minim.specs.Predecessors.{ArePredecessors};
 
-use crate::classes::Plan;
+use crate::classes::{Partition, Plan};
 use crate::due::due;
 use crate::grouping::{Groups, grouped, make_room, settle, size_of, zeros};
-use crate::marking::sign_marks;
 use crate::predecessors::predecessors;
 use crate::reading::Reader;
 use crate::signatures::{Choice, labels, nothing_seen};
@@ -14,21 +13,24 @@ use crate::splitters::{Splitters, all_but_largest, choose, more_classes};
 use ms_edge::{List, NoMemory, push};
 use std::alloc::Global;
 
-/// The number of signs.
-const SIGNS: u32 = 4;
-
-/// All signs but one that most states have.
-fn all_but_most(alloc: Global, sizes: &[u32]) -> Result<List<u32>, NoMemory> {
+/// A class that most states are in, among the first so many.
+fn most(sizes: &[u32], count: u32) -> u32 {
     let mut most = 0;
-    for sign in 0..SIGNS {
-        if size_of(sizes, sign) > size_of(sizes, most) {
-            most = sign;
+    for class in 0..count {
+        if size_of(sizes, class) > size_of(sizes, most) {
+            most = class;
         }
     }
+    most
+}
+
+/// The first so many classes but one that most states are in.
+fn all_but_most(alloc: Global, sizes: &[u32], count: u32) -> Result<List<u32>, NoMemory> {
+    let most = most(sizes, count);
     let mut made = List::new(alloc);
-    for sign in 0..SIGNS {
-        if sign != most {
-            push(&mut made, sign)?;
+    for class in 0..count {
+        if class != most {
+            push(&mut made, class)?;
         }
     }
     Ok(made)
@@ -77,10 +79,16 @@ fn round(
     Ok(())
 }
 
-/// Classes of the states that tell no two states with equal residuals apart: those of the signs, split over and over by where
-/// their states lead among the classes that were split off last (Hopcroft, 1971).
-pub(crate) fn group(alloc: Global, automaton: &Reader, places: &[u32]) -> Result<Vec<u32>, NoMemory>
-    requires { IsIdentity (length automaton.now.variables) places.now }
+/// Classes of the states that tell no two states with equal residuals apart: those that are given, split over and over by
+/// where their states lead among the classes that were split off last (Hopcroft, 1971).
+pub(crate) fn group(
+    alloc: Global,
+    automaton: &Reader,
+    places: &[u32],
+    partition: &Partition,
+) -> Result<Vec<u32>, NoMemory>
+    requires places { IsIdentity (length automaton.now.variables) places.now }
+    requires partition { IsPartition automaton.now partition.now.classes partition.now.members }
     ensures all { IfOk result (λ made. length made.items ≡ length automaton.now.states) }
     ensures kept { IfOk result (λ made. NeverSplits automaton.now made.items) }
 {
@@ -90,14 +98,17 @@ pub(crate) fn group(alloc: Global, automaton: &Reader, places: &[u32]) -> Result
         places,
     };
     let states = automaton.states();
+    let count = partition.members.len() as u32;
     let predecessors = predecessors(alloc, automaton)?;
-    let signs = sign_marks(alloc, automaton)?.into_vec();
-    let mut groups = grouped(alloc, signs, SIGNS)?;
+    let Ok(classes) = Vec::from_slice(alloc, partition.classes.slice()) else {
+        return Err(NoMemory);
+    };
+    let mut groups = grouped(alloc, classes, count)?;
     let mut splitters = Splitters {
         chosen: List::new(alloc),
-        numbers: zeros(alloc, SIGNS)?,
+        numbers: zeros(alloc, count)?,
     };
-    choose(&mut splitters, all_but_most(alloc, &groups.sizes)?);
+    choose(&mut splitters, all_but_most(alloc, &groups.sizes, count)?);
     for _ in 0..states {
         if splitters.chosen.len() == 0 {
             break;

@@ -9,7 +9,8 @@ ghost use Rattle.ms_minim.specs.Partition.{IsIdentity, next_by};
 ghost use Rattle.ms_minim.specs.Grouping.{AreLabels, AreWithin, IsDue, IsLabel, IsLaterSeen, IsNewClass, IsSeen, through};
 
 use crate::classes::{LeadTables, Plan, lead};
-use crate::marking::{ROOM, mark, number};
+use crate::images::ROOM;
+use crate::marking::{mark, number};
 use ms_arena::Ref;
 use ms_diagram::{Pairs, PlaceTable, Store};
 use ms_edge::{List, NoMemory, push};
@@ -68,10 +69,15 @@ pub(crate) fn nothing_seen(alloc: Global, first: u32) -> Result<Seen, NoMemory>
 }
 
 /// What has been built of the diagrams of an automaton with the numbers of chosen classes at their leaves.
-#[derive(Drop)]
 pub(crate) struct SignatureTables {
     pub lead: LeadTables,
     pub chosen: PlaceTable,
+}
+
+impl Drop for SignatureTables {
+    fn drop(self) {
+        let SignatureTables { lead: _, chosen: _ } = self;
+    }
 }
 
 /// Where a state leads among the chosen classes.

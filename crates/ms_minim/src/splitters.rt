@@ -8,10 +8,18 @@ use ms_edge::{List, NoMemory, push};
 use std::alloc::Global;
 
 /// The classes that are chosen to split others, and a number for each class, which is 0 where it is not chosen.
-#[derive(Drop)]
 pub(crate) struct Splitters {
     pub chosen: List<u32>,
     pub numbers: Vec<u32>,
+}
+
+impl Drop for Splitters {
+    fn drop(self) {
+        let Splitters {
+            chosen: _,
+            numbers: _,
+        } = self;
+    }
 }
 
 /// The number of a class, where there is one, is another.

@@ -1,4 +1,5 @@
 pub mod Declaring
+pub mod FewParameters
 pub mod Lists
 pub mod Makes
 pub mod Operands

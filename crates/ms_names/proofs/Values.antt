@@ -1,5 +1,5 @@
 -- What an expression becomes, by what is inside it.
-use Rattle.std.proofs.Common.{◌≡◌, ℕ, Bool, true, List, Option, Some, None, refl, sym, ap, ◌∙◌}
+use Rattle.std.proofs.Common.{◌≡◌, ℕ, ◌+◌, Bool, true, List, take, Option, Some, None, refl, sym, ap, ◌∙◌, arith}
 use Rattle.std.specs.Option.{option_map}
 use Rattle.ms_edge.specs.declared.at.At.{At}
 use Rattle.ms_logic.specs.declared.mode.Order.{Order}
@@ -14,31 +14,34 @@ use Rattle.ms_rules.specs.Before.{Before, after_bounds, after_parts, with_names}
 use Rattle.ms_rules.specs.Binder.{quantified_over, restricted_variable, restricted_variables, restriction_in, typed_sides}
 use Rattle.ms_rules.specs.Occurrence.{Occurrence}
 use Rattle.ms_rules.specs.Order.{parameters_of}
+use Rattle.ms_rules.specs.Rules.{count}
 use Rattle.ms_rules.specs.Scope.{bind, count_of_bounds, count_of_parts, meaning_of, under_bounds, under_parts, without_exports}
 use Rattle.ms_rules.specs.Typed.{both, formula_in, numbers_of_parts, typed, typed_arguments, typed_call, typed_parts, typed_restriction}
 use Rattle.ms_rules.proofs.Exports.{arguments-same, parts-same, typed-same, under_parts-same}
 use Rattle.ms_rules.proofs.Lists.{call-typed, quantifiers-all, restriction-own}
+use Rattle.ms_names.proofs.FewParameters.{arguments-typed-few}
 use Rattle.ms_scopes.specs.State.{after_restrictions, State, with_faults, passed, noted}
 
 pub call-value : (s r q u v : State) (fs : List Fault) (rs : List Reading) (os : List Occurrence) (b : Before) (at : At) (n : Bytes) (es : Expressions)
-    (parameters : List Order) (allowed : Bool) (made : Option Arguments) (value : Option Argument) →
-    parameters ≡ parameters_of (meaning_of s.scope n) →
+    (given : ℕ) (parameters : List Order) (allowed : Bool) (made : Option Arguments) (value : Option Argument) →
+    given ≡ count es → parameters ≡ take (given + 1) (parameters_of (meaning_of s.scope n)) →
     r ≡ noted s fs rs → q ≡ record r { scope = without_exports r.scope } → u ≡ passed q os b →
     v ≡ record u { scope = record u.scope { exports_allowed = allowed } } →
     made ≡ typed_arguments q.scope q.before parameters es →
     value ≡ typed_call (meaning_of v.scope n) (λ orders. made) →
     value ≡ typed s.scope s.before (call at n es)
-call-value s r q u v fs rs os b at n es parameters allowed made value known named without within last given called =
+call-value s r q u v fs rs os b at n es given parameters allowed made value counted known named without within last typed_so called =
     let outer = without_exports s.scope in
     let m = meaning_of s.scope n in
     let meant : meaning_of v.scope n ≡ m =
     ap (λ (there : State). meaning_of there.scope n) last ∙ (ap (λ (there : State). meaning_of there.scope n) within
     ∙ (ap (λ (there : State). meaning_of there.scope n) without ∙ ap (λ (there : State). meaning_of there.scope n) named)) in
     let given_is : made ≡ typed_arguments s.scope s.before (parameters_of m) es =
-    given ∙ (ap (λ (there : State). typed_arguments there.scope there.before parameters es) without
+    typed_so ∙ (ap (λ (there : State). typed_arguments there.scope there.before parameters es) without
     ∙ (ap (λ (there : State). typed_arguments (without_exports there.scope) there.before parameters es) named
     ∙ (ap (λ orders. typed_arguments outer s.before orders es) known
-    ∙ arguments-same outer s.scope s.before (parameters_of m) es refl))) in
+    ∙ (arguments-typed-few outer s.before (parameters_of m) es (given + 1) (omega (arith, counted))
+    ∙ arguments-same outer s.scope s.before (parameters_of m) es refl)))) in
     called ∙ (ap (λ there. typed_call there (λ orders. made)) meant
     ∙ (ap (λ there. typed_call m (λ orders. there)) given_is ∙ call-typed s.scope s.before es m))
 

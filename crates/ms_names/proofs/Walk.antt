@@ -1,5 +1,5 @@
 -- An expression after what is inside it.
-use Rattle.std.proofs.Common.{◌≡◌, ℕ, ◌+◌, Bool, List, [], ◌∷◌, ◌++◌, append_assoc, length, drop, Option, Result, Ok, Err, IfOk, OnOk, refl, sym, subst, ap, ◌∙◌}
+use Rattle.std.proofs.Common.{◌≡◌, ℕ, ◌+◌, Bool, List, [], ◌∷◌, ◌++◌, append_assoc, length, drop, Option, Result, Ok, Err, IfOk, OnOk, take, refl, sym, subst, ap, ◌∙◌, arith}
 use Rattle.std.specs.Prelude.{flat_map, not}
 use Rattle.std.specs.List.{insert}
 use Rattle.std.proofs.lemmas.List.{drop-drop}
@@ -26,6 +26,7 @@ use Rattle.ms_rules.specs.Scope.{Scope, bind, count_of_bounds, count_of_parts, m
 use Rattle.ms_rules.specs.Typed.{both, typed}
 use Rattle.ms_rules.specs.Uses.{import_at, export_at}
 use Rattle.ms_scopes.specs.State.{after_restrictions, unbound, State, with_faults, passed, noted, formed}
+use Rattle.ms_names.proofs.FewParameters.{arguments-inside-few}
 use Rattle.ms_scopes.proofs.States.{first_with-append, passed-passed}
 
 -- after some faults and readings, and then some expressions
@@ -69,7 +70,7 @@ faults-passed s fs os b =
     ap (λ known. record (passed s os b) { first = known }) (sym (first_with-append s.first fs (flat_map faults_at os)))
 
 pub call-formed : (s r t u v : State) (at : At) (n : Bytes) (es : Expressions) (given : ℕ) (parameters : List Order) (allowed : Bool) →
-    given ≡ count es → parameters ≡ parameters_of (meaning_of s.scope n) →
+    given ≡ count es → parameters ≡ take (given + 1) (parameters_of (meaning_of s.scope n)) →
     r ≡ noted s (faults_of_call at n given (meaning_of s.scope n)) (readings_of_call (meaning_of s.scope n)) →
     allowed ≡ r.scope.exports_allowed →
     t ≡ record r { scope = without_exports r.scope } →
@@ -87,8 +88,10 @@ call-formed s r t u v at n es given parameters allowed counted known named was w
     ∙ (ap (λ was_allowed. record (F r) { scope = record r.scope { exports_allowed = was_allowed } }) was
     ∙ (ap (λ (there : State). record (F there) { scope = there.scope }) named
     ∙ (ap (λ orders. passed (noted s (faults_of_call at n given m) (readings_of_call m)) (inside_arguments (without_exports s.scope) s.before orders es) (after_all s.before es)) known
+    ∙ (ap (λ os. passed (noted s (faults_of_call at n given m) (readings_of_call m)) os (after_all s.before es))
+    (arguments-inside-few (without_exports s.scope) s.before (parameters_of m) es (given + 1) (omega (arith, counted)))
     ∙ (ap (λ k. passed (noted s (faults_of_call at n k m) (readings_of_call m)) (inside_arguments (without_exports s.scope) s.before (parameters_of m) es) (after_all s.before es)) counted
-    ∙ noted-passed s (faults_of_call at n (count es) m) (readings_of_call m) (inside_arguments (without_exports s.scope) s.before (parameters_of m) es) (after_all s.before es))))))
+    ∙ noted-passed s (faults_of_call at n (count es) m) (readings_of_call m) (inside_arguments (without_exports s.scope) s.before (parameters_of m) es) (after_all s.before es)))))))
 
 -- without the variables of a list
 pub unbound-bounds : (s : Scope) (x : ℕ) (vs : Bounds) →

@@ -8,6 +8,7 @@ pub mod MarkLemmas
 pub mod QuantifiedLemmas
 pub mod ListSteps
 pub mod PairSteps
+pub mod TruthLemmas
 pub mod LeaveLemmas
 pub mod SearchSteps
 pub mod FinalLemmas

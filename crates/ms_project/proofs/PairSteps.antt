@@ -1,8 +1,6 @@
 -- The steps of a product of a body and a domain: both are brought, one after the other, and then the pairs are explored.
-use Rattle.std.proofs.Common.{◌≡◌, ℕ, inl, inr, List, [], length, slice_get, Some, Result, Ok, ap, sym, subst, ◌∙◌}
-use Rattle.ms_edge.specs.declared.fault.StepFault.{StepFault}
+use Rattle.std.proofs.Common.{◌≡◌, ℕ, inl, inr, List, [], Ok, ap, ◌∙◌}
 use Rattle.ms_arena.specs.declared.node.Ref.{Ref}
-use Rattle.ms_arena.specs.declared.node.Node.{Node}
 use Rattle.ms_diagram.specs.Numbering.{IsNumbering}
 use Rattle.ms_diagram.specs.Store.{Contents}
 use Rattle.ms_dfa.specs.declared.state.State.{State}
@@ -12,7 +10,7 @@ use Rattle.ms_logic.specs.Content.{Content}
 use Rattle.ms_explore.specs.Explored.{GrowsForSome, Explores}
 use Rattle.ms_explore.specs.Tracks.{places_among}
 use Rattle.ms_product.specs.declared.op.Op.TheVariants.{And}
-use Rattle.ms_product.specs.Pairing.{Operands, AreStates, product_findings}
+use Rattle.ms_product.specs.Pairing.{AreStates, product_findings}
 use Rattle.ms_product.specs.Widened.{widened_findings}
 use Rattle.ms_product.proofs.SizeLemmas.{AllNeeded-first, AllNeeded-then}
 use Rattle.ms_project.specs.Paired.{operands_over, IsPairedIn, IsPairedStore}

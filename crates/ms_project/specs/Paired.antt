@@ -1,11 +1,12 @@
 -- The product of a body and a domain over the variables of the body.
-use Rattle.std.specs.Prelude.{◌≡◌, ℕ, ◌+◌, ◌==◌, if◌then◌else◌, List, [], ◌∷◌, length, slice_get, Some}
+use Rattle.std.specs.Prelude.{◌≡◌, ℕ, ◌<◌, ◌+◌, ◌==◌, if◌then◌else◌, List, [], ◌∷◌, length, slice_get, Some}
 use Rattle.ms_arena.specs.declared.node.Ref.{Ref}
 use Rattle.ms_arena.specs.declared.node.Node.{Node}
 use Rattle.ms_diagram.specs.Numbering.{IsNumbering}
 use Rattle.ms_diagram.specs.Store.{Contents, IsStore}
 use Rattle.ms_dfa.specs.declared.state.State.{State}
 use Rattle.ms_logic.specs.declared.sign.Sign.{Sign}
+use Rattle.ms_logic.specs.declared.sign.Sign.TheVariants.{Yes}
 use Rattle.ms_logic.specs.Assignment.{Variable}
 use Rattle.ms_logic.specs.Content.{Content}
 use Rattle.ms_explore.specs.Explored.{Leads, Follows}
@@ -43,6 +44,16 @@ pub record IsPairedStore (held : Contents) (limit : ℕ) (body domain : Content 
   pub store : IsStore held.nodes held.limit
   pub limited : held.limit ≡ limit
   pub needed : (place : ℕ) (node : Node) → slice_get held.nodes place ≡ Some node → IsNeededFor And (operands_over body domain) pairs held.nodes node
+
+-- a domain that is truth: it has one state, and that is Yes
+pub record IsTruth (domain : Content Sign) : Type 0 where
+  pub one : length domain.states ≡ 1
+  pub yes : sign_in domain 0 ≡ Yes
+
+-- so many states, each of which has its own number beside the state of truth
+pub record AreOwnPairs (count : ℕ) (pairs : List (ℕ × ℕ)) : Type 0 where
+  pub long : length pairs ≡ count
+  pub own : (state : ℕ) → state < count → slice_get pairs state ≡ Some (state, 0)
 
 -- the marks of a pair of states
 abbrev pub marks_of_pair : Content Sign → Content Sign → ℕ × ℕ → Marks

@@ -1,10 +1,15 @@
--- What holds at each assignment of one variable adds the variable to an automaton, and leaves its signs.
-use Rattle.std.proofs.Common.{◌≡◌, ◌≢◌, ℕ, ◌+◌, ◌*◌, ◌<◌, ◌==◌, nat_lt, nat_eq, true, false, if◌then◌else◌, List, [], ◌∷◌, ◌++◌, Some, Result, Ok, Err, IfOk, refl, sym, ap, subst, ◌∙◌, arith}
+-- What holds at each assignment of some variables adds these to an automaton, and leaves its signs.
+use Rattle.std.proofs.Common.{◌≡◌, ℕ, zero, suc, ◌+◌, ◌*◌, ◌<◌, ◌==◌, inl, inr, get_or, nat_lt, nat_eq, false, true, Bool, if◌then◌else◌, List, [], ◌∷◌, ◌++◌, Some, Result, Ok, Err, IfOk, refl, sym, ap, subst, ◌∙◌, arith}
 use Rattle.std.proofs.lemmas.Bool.Decides.{nat_tests}
-use Rattle.std.proofs.lemmas.Option.{same_Some}
+use Rattle.std.proofs.lemmas.Option.{none-some, same_Some}
 use Rattle.ms_edge.specs.declared.fault.StepFault.{StepFault}
 use Rattle.ms_edge.specs.declared.refusal.Word.{Word}
-use Rattle.ms_dfa.specs.Automaton.{IsAutomaton}
+use Rattle.ms_arena.specs.declared.node.Node.{Node}
+use Rattle.ms_arena.specs.declared.node.Ref.TheVariants.{Leaf}
+use Rattle.ms_arena.proofs.Paths.{leaf_of-leaf}
+use Rattle.ms_dfa.specs.Automaton.{IsAutomaton, content_of, variables_of}
+use Rattle.ms_dfa.specs.declared.state.State.{State}
+use Rattle.ms_dfa.specs.declared.track.Track.{Track}
 use Rattle.ms_logic.specs.declared.core_formula.Basic.TheVariants.{Plus}
 use Rattle.ms_logic.specs.declared.mode.Mode.{Mode}
 use Rattle.ms_logic.specs.declared.mode.Order.{Order}
@@ -12,15 +17,15 @@ use Rattle.ms_logic.specs.declared.mode.Order.TheVariants.{Zero, One, Two}
 use Rattle.ms_logic.specs.declared.sign.Sign.{Sign}
 use Rattle.ms_logic.specs.declared.sign.Sign.TheVariants.{Yes, No, Undefined, Outside}
 use Rattle.ms_logic.specs.Assignment.{Env, Variable, IsAssignment}
-use Rattle.ms_logic.specs.Content.{Content, IsWordOver, sign_of, shortest_word}
+use Rattle.ms_logic.specs.Content.{Content, StateOf, HasValueAt, IsFollowed, IsWordOver, is_in_letters, is_truth_value, letter_bits, sign_at, sign_of, shortest_word, state_after, truth_bits, with_zero_letter}
 use Rattle.ms_logic.specs.CoreForm.{basic}
-use Rattle.ms_logic.specs.Decoding.{HasOneBit}
+use Rattle.ms_logic.specs.Decoding.{HasOneBit, HaveOneBit, column_after}
+use Rattle.ms_logic.specs.Roots.{AreRising}
 use Rattle.ms_logic.specs.Word.{IsEncoding}
 use Rattle.ms_logic.proofs.DecodedWords.{encodings_are}
-use Rattle.ms_logic.proofs.WordLaws.{encoding_is_over}
 use Rattle.ms_theory.specs.Values.{HasValues, core_meaning, own_meaning}
 use Rattle.ms_theory.proofs.EncodingLemmas.{shortest}
-use Rattle.ms_explore.specs.Small.{IsClosedTable, TellsWords, sign_by}
+use Rattle.ms_theory.proofs.FunctionLemmas.{TestsOnly-leaf}
 use Rattle.ms_explore.specs.Tracks.{IsAmong, distinct, joined}
 use Rattle.ms_explore.proofs.TracksLemmas.{joined-right}
 use Rattle.ms_basic.specs.Operands.{number}
@@ -29,37 +34,90 @@ use Rattle.ms_basic.proofs.DistinctLemmas.{IsAssignment-some}
 use Rattle.ms_product.specs.declared.op.Op.TheVariants.{And}
 use Rattle.ms_product.specs.Combined.{HaveEqualOrders, combined}
 use Rattle.ms_product.specs.Signs.{strict}
-use Rattle.ms_rename.specs.Whole.{IsWhole, whole_table}
+use Rattle.ms_rename.specs.Whole.{HasNoNumber, IsWhole}
 
--- a word over a variable that is no number encodes an assignment
-whole-encodes : (mode : Mode) (v : Variable) (word : Word) → v.order ≢ One → IsWordOver (v ∷ []) word → IsEncoding mode (v ∷ []) word
-whole-encodes mode v word other over = (encodings_are mode (v ∷ []) word (tt, tt)).1 (over, (by v.order refl, tt))
-  where
-    by : (o : Order) → v.order ≡ o → HasOneBit word.letters v.order 0
-    by Zero is = subst (λ o. HasOneBit word.letters o 0) (sym is) tt
-    by One is = absurd (other is)
-    by Two is = subst (λ o. HasOneBit word.letters o 0) (sym is) tt
+-- the column of a variable that is no number is like any other
+no_number : (letters : List (List Bool)) (order : Order) (column : ℕ) → ¬ (order ≡ One) → HasOneBit letters order column
+no_number letters Zero column other = tt
+no_number letters One column other = absurd (other refl)
+no_number letters Two column other = tt
 
-pub IsClosedTable-whole : IsClosedTable whole_table
-IsClosedTable-whole = record { start = λ bits. omega arith; step = λ state bits within. omega arith }
+no_numbers : (letters : List (List Bool)) (column : ℕ) (vs : List Variable) → HasNoNumber vs → HaveOneBit letters column vs
+no_numbers letters column [] none = tt
+no_numbers letters column (v ∷ vs) none = (no_number letters v.order column (none v (inl refl)), no_numbers letters (column_after v.order column) vs (λ w there. none w (inr there)))
 
-pub TellsWords-whole : (mode : Mode) (v : Variable) → v.order ≢ One → TellsWords mode (v ∷ []) whole_table
-TellsWords-whole mode v other = record {
-  encodings = λ word over. (λ encoding same. (let never : ⊥ = cc in never), λ inside. whole-encodes mode v word other over);
-  settled = λ numbers word over encoding. refl;
-}
+-- one state, at which all words are Yes
+abbrev pub free_content : Mode → List Variable → Content Sign
+free_content mode vs = record { mode = mode; variables = vs; start = Leaf 0; states = record { sign = Yes; next = Leaf 0 } ∷ []; nodes = [] }
 
--- what has the sign Yes at each word over the variable is whole
-pub IsWhole-machine : (v : Variable) (made : Content Sign) → v.order ≢ One → made.variables ≡ v ∷ [] → ((word : Word) → IsWordOver (v ∷ []) word → sign_of made word ≡ Some Yes) → IsWhole v made
-IsWhole-machine v made other variables signs = record {
-  variables = variables;
-  values = record {
-    right = λ word e assigned encodes. (Yes, signs word (subst (λ vs. IsWordOver vs word) variables (encoding_is_over made.variables word e encodes)), refl);
-    outside = λ word over outside.
-        let over_here = subst (λ vs. IsWordOver vs word) variables over in
-        absurd (outside (subst (λ vs. IsEncoding made.mode vs word) (sym variables) (whole-encodes made.mode v word other over_here)));
-  };
-}
+-- what is made of these parts
+pub free_is : (nodes : List Node) (mode : Mode) (given tracks : List Track) (none states : List State) → nodes ≡ [] → tracks ≡ given → none ≡ [] → states ≡ none ++ record { sign = Yes; next = Leaf 0 } ∷ []
+    → content_of nodes mode tracks (Leaf 0) states ≡ free_content mode (variables_of given)
+free_is nodes mode given tracks none states no_nodes same empty one =
+    let states_are : states ≡ record { sign = Yes; next = Leaf 0 } ∷ [] = one ∙ ap (λ (list : List State). list ++ record { sign = Yes; next = Leaf 0 } ∷ []) empty in
+    λ i. content_of (no_nodes i) mode (same i) (Leaf 0) (states_are i)
+
+-- where none of the variables is a number, it is an automaton
+module _ (mode : Mode) (vs : List Variable) (rising : AreRising vs) (none : HasNoNumber vs) where
+  abbrev free : Content Sign
+  free = free_content mode vs
+
+  encodes : (word : Word) → IsWordOver vs word → IsEncoding mode vs word
+  encodes word over = (encodings_are mode vs word rising).1 (over, no_numbers word.letters 0 vs none)
+
+  free-after : (letters : List (List Bool)) → state_after free 0 letters ≡ 0
+  free-after [] = refl
+  free-after (letter ∷ letters) = ap (λ s. state_after free s letters) (leaf_of-leaf [] (letter_bits vs letter) 0) ∙ free-after letters
+
+  sign_of-free : (word : Word) → sign_of free word ≡ Some Yes
+  sign_of-free word =
+      ap (λ s. sign_at free (state_after free s word.letters)) (leaf_of-leaf [] (truth_bits vs word.truth) 0) ∙ ap (sign_at free) (free-after word.letters)
+
+  free-followed : (has_value : Order → Bool) → IsFollowed free has_value (Leaf 0)
+  free-followed has_value = record {
+    valid = tt;
+    states = λ bits. (let at = leaf_of-leaf [] bits 0 in omega (arith, at));
+    tests = TestsOnly-leaf [] (HasValueAt vs has_value) 0;
+  }
+
+  pub IsAutomaton-free : IsAutomaton free
+  IsAutomaton-free = record {
+    ordered = record {
+      earlier_low = λ place node held. absurd (none-some node held);
+      earlier_high = λ place node held. absurd (none-some node held);
+      rising_low = λ place node held. absurd (none-some node held);
+      rising_high = λ place node held. absurd (none-some node held);
+    };
+    reduced = record {
+      ends_differ = λ place node held. absurd (none-some node held);
+      distinct = λ one two node first second. absurd (none-some node first);
+    };
+    closed = record { start = free-followed is_truth_value; next = only };
+    rising = rising;
+    few_states = omega arith;
+    encodings = λ word over. (
+      λ encoding outside. (let never : ⊥ = yes_is_not_outside (same_Some Yes Outside (sym (sign_of-free word) ∙ outside)) in never),
+      λ inside. encodes word over,
+    );
+    settled = λ numbers word over encoding. sign_of-free (with_zero_letter vs word) ∙ sym (sign_of-free word);
+  }
+    where
+      yes_is_not_outside : Yes ≡ Outside → ⊥
+      yes_is_not_outside same = cc
+
+      only : (k : ℕ) (d : StateOf Sign) → k < 1 → IsFollowed free is_in_letters (get_or free.states k d).next
+      only zero d within = free-followed is_in_letters
+      only (suc k) d within = absurd (omega (arith, within))
+
+  -- and it is whole
+  pub IsWhole-free : IsWhole vs free
+  IsWhole-free = record {
+    variables = refl;
+    values = record {
+      right = λ word e assigned encoded. (Yes, sign_of-free word, refl);
+      outside = λ word over outside. absurd (outside (encodes word over));
+    };
+  }
 
 -- a number is itself and nothing more
 plus_right : (e : Env) (x : ℕ) (sign : Sign) → core_meaning [] (basic (Plus x x 0)) e sign → sign ≡ Yes
@@ -80,7 +138,7 @@ distinct-twice v =
     without name [] = []
     without name (w ∷ ws) = if nat_eq w.name name then ws else w ∷ ws
 
-pub IsWhole-number : (x : ℕ) (made : Content Sign) → made.variables ≡ distinct (number x ∷ number x ∷ []) → HasValues (core_meaning [] (basic (Plus x x 0))) made → IsWhole (number x) made
+pub IsWhole-number : (x : ℕ) (made : Content Sign) → made.variables ≡ distinct (number x ∷ number x ∷ []) → HasValues (core_meaning [] (basic (Plus x x 0))) made → IsWhole (number x ∷ []) made
 IsWhole-number x made variables values = record {
   variables = variables ∙ distinct-twice (number x);
   values = record {
@@ -101,12 +159,12 @@ strict-yes No = refl
 strict-yes Undefined = refl
 strict-yes Outside = refl
 
-module _ (a other made : Content Sign) (v : Variable) (other_is : IsAutomaton other) (whole : IsWhole v other) (mode_is : made.mode ≡ other.mode) (orders : HaveEqualOrders a.variables (v ∷ []))
+module _ (a other made : Content Sign) (vs : List Variable) (other_is : IsAutomaton other) (whole : IsWhole vs other) (mode_is : made.mode ≡ other.mode) (orders : HaveEqualOrders a.variables vs)
     (variables_are : made.variables ≡ joined a.variables other.variables) where
   among : (w : Variable) → IsAmong other.variables w → IsAmong made.variables w
   among w there =
-      subst (λ vs. IsAmong vs w) (sym variables_are)
-      (joined-right a.variables other.variables w (λ u u_among same. orders u w u_among (subst (λ vs. IsAmong vs w) whole.variables there) same) there)
+      subst (λ us. IsAmong us w) (sym variables_are)
+      (joined-right a.variables other.variables w (λ u u_among same. orders u w u_among (subst (λ us. IsAmong us w) whole.variables there) same) there)
 
   -- the conjunction with it has the values of the automaton
   pub HasValues-widened : HasValues (combined And (own_meaning a) (own_meaning other)) made → HasValues (own_meaning a) made
@@ -120,15 +178,9 @@ module _ (a other made : Content Sign) (v : Variable) (other_is : IsAutomaton ot
     outside = values.outside;
   }
 
-pub made_whole : (v : Variable) (variables : List Variable) (result : Result (Content Sign) StepFault) → v.order ≢ One → variables ≡ v ∷ [] → IfOk result (λ made. made.variables ≡ variables)
-    → IfOk result (λ made. (word : Word) → IsWordOver variables word → sign_of made word ≡ Some (sign_by whole_table variables word)) → IfOk result (IsWhole v)
-made_whole v variables (Ok made) other same variables_are signs =
-    IsWhole-machine v made other (variables_are ∙ same) (λ word over. signs word (subst (λ vs. IsWordOver vs word) (sym same) over))
-made_whole v variables (Err fault) other same variables_are signs = tt
-
-pub values_widened : (a other : Content Sign) (v : Variable) (result : Result (Content Sign) StepFault) (mode : Mode) → IsAutomaton other → IsWhole v other → mode ≡ a.mode → other.mode ≡ mode
-    → HaveEqualOrders a.variables (v ∷ []) → IfOk result (λ made. made.mode ≡ a.mode) → IfOk result (λ made. made.variables ≡ joined a.variables other.variables)
+pub values_widened : (a other : Content Sign) (vs : List Variable) (result : Result (Content Sign) StepFault) (mode : Mode) → IsAutomaton other → IsWhole vs other → mode ≡ a.mode → other.mode ≡ mode
+    → HaveEqualOrders a.variables vs → IfOk result (λ made. made.mode ≡ a.mode) → IfOk result (λ made. made.variables ≡ joined a.variables other.variables)
     → IfOk result (HasValues (combined And (own_meaning a) (own_meaning other))) → IfOk result (HasValues (own_meaning a))
-values_widened a other v (Ok made) mode other_is whole mode_is other_mode orders made_mode variables_are values =
-    HasValues-widened a other made v other_is whole (made_mode ∙ sym (other_mode ∙ mode_is)) orders variables_are values
-values_widened a other v (Err fault) mode other_is whole mode_is other_mode orders made_mode variables_are values = tt
+values_widened a other vs (Ok made) mode other_is whole mode_is other_mode orders made_mode variables_are values =
+    HasValues-widened a other made vs other_is whole (made_mode ∙ sym (other_mode ∙ mode_is)) orders variables_are values
+values_widened a other vs (Err fault) mode other_is whole mode_is other_mode orders made_mode variables_are values = tt

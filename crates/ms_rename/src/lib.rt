@@ -13,4 +13,4 @@ pub use examples::worked_renamings;
 pub use needed::compact;
 pub use renaming::rename;
 pub use tracks::renamed_tracks;
-pub use whole::widen;
+pub use whole::{widen, widen_all};

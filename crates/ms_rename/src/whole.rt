@@ -1,71 +1,41 @@
-ghost use Rattle.std.specs.Prelude.{◌≡◌, ◌≢◌, ◌≤◌, ◌<◌, ◌⊎◌, [], ◌∷◌, IfOk};
-ghost use Rattle.ms_dfa.specs.Automaton.{variable_of};
+ghost use Rattle.std.specs.Prelude.{◌≡◌, ◌≤◌, ◌<◌, ◌⊎◌, [], ◌∷◌, IfOk};
+ghost use Rattle.ms_dfa.specs.Automaton.{variable_of, variables_of};
 ghost use Rattle.ms_logic.specs.declared.sign.Sign.{Sign};
 ghost use Rattle.ms_logic.specs.Content.{Content};
+ghost use Rattle.ms_logic.specs.Roots.{AreRising};
 ghost use Rattle.ms_theory.specs.Values.{HasValues, own_meaning};
 ghost use Rattle.ms_explore.specs.Explored.{OnRefused};
 ghost use Rattle.ms_explore.specs.Tracks.{joined};
 ghost use Rattle.ms_product.specs.Combined.{HaveEqualOrders};
 ghost use Rattle.ms_product.specs.Pairing.{AreAtLeast, operands_of};
-ghost use Rattle.ms_rename.specs.Whole.{IsWhole, always};
+ghost use Rattle.ms_rename.specs.Whole.{HasNoNumber, IsWhole};
 
+use crate::tracks;
+use ms_arena::Ref;
 use ms_basic::basic;
-use ms_dfa::{Automaton, Track};
-use ms_edge::{List, StepFault, push};
-use ms_explore::{SmallMachine, TrackBits, build};
+use ms_dfa::{Automaton, State, Track};
+use ms_diagram::Store;
+use ms_edge::{List, NoMemory, StepFault, push};
 use ms_logic::{Basic, Mode, Order, Sign};
 use ms_product::{Op, combine};
 use std::alloc::Global;
 
-/// The machine of what holds at each value of a variable that is no number: each word encodes one.
-#[derive(Clone, Copy)]
-struct WholeMachine;
-
-impl SmallMachine for WholeMachine {
-    ghost use Rattle.ms_rename.specs.Whole.{whole_table};
-
-    ghost table = { λ machine. whole_table };
-
-    fn states(&self) -> u32 {
-        1
-    }
-
-    fn start(&self, bits: TrackBits) -> u32 {
-        let _ = bits;
-        0
-    }
-
-    fn step(&self, state: u32, bits: TrackBits) -> u32 {
-        let _ = (state, bits);
-        0
-    }
-
-    fn sign(&self, state: u32) -> Sign {
-        let _ = state;
-        Sign::Yes
-    }
-}
-
-/// The automaton that holds at each value of a variable that is no number.
-fn whole_machine(
-    alloc: Global,
-    track: Track,
-    mode: Mode,
-    limit: u64,
-) -> Result<Automaton, StepFault>
-    requires order { track.order ≢ Order.One }
-    requires some { 1 ≤ limit }
-    requires small { limit ≤ 4000000000 }
+/// The automaton that holds at each value of these variables, none of which is a number: each word over them encodes values.
+fn free(alloc: Global, tracks: &[Track], mode: Mode) -> Result<Automaton, NoMemory>
+    requires rising { AreRising (variables_of tracks.now) }
+    requires numbers { HasNoNumber (variables_of tracks.now) }
     ensures mode { IfOk result (λ made. made.mode ≡ mode) }
-    ensures whole { IfOk result (IsWhole (variable_of track)) }
-    ensures nodes { OnRefused result (λ refused. (refused ≡ limit) × (limit < 32)) }
+    ensures whole { IfOk result (IsWhole (variables_of tracks.now)) }
 {
-    let mut tracks = List::new(alloc);
-    match push(&mut tracks, track) {
-        Ok(()) => {}
-        Err(_) => return Err(StepFault::Memory),
-    }
-    build(alloc, WholeMachine, mode, tracks, limit)
+    let tracks = tracks::copy(alloc, tracks)?;
+    let mut states = List::new(alloc);
+    let state = State {
+        sign: Sign::Yes,
+        next: Ref::Leaf(0),
+    };
+    push(&mut states, state)?;
+    let store = Store::new(alloc, 1);
+    Ok(Automaton::make(store, mode, tracks, Ref::Leaf(0), states))
 }
 
 /// The automaton that holds at each value of a number.
@@ -78,7 +48,7 @@ fn whole_number(
     requires some { 1 ≤ limit }
     requires small { limit ≤ 4000000000 }
     ensures mode { IfOk result (λ made. made.mode ≡ mode) }
-    ensures whole { IfOk result (IsWhole (record { name = variable; order = Order.One })) }
+    ensures whole { IfOk result (IsWhole (record { name = variable; order = Order.One } ∷ [])) }
     ensures nodes { OnRefused result (λ refused. (refused ≡ limit) × (limit < 32)) }
 {
     basic(alloc, &Basic::Plus(variable, variable, 0), mode, limit)
@@ -89,13 +59,15 @@ fn whole(alloc: Global, track: Track, mode: Mode, limit: u64) -> Result<Automato
     requires some { 1 ≤ limit }
     requires small { limit ≤ 4000000000 }
     ensures mode { IfOk result (λ made. made.mode ≡ mode) }
-    ensures whole { IfOk result (IsWhole (variable_of track)) }
+    ensures whole { IfOk result (IsWhole (variable_of track ∷ [])) }
     ensures nodes { OnRefused result (λ refused. (refused ≡ limit) × (limit < 32)) }
 {
-    match track.order {
-        Order::One => whole_number(alloc, track.variable, mode, limit),
-        Order::Zero => whole_machine(alloc, track, mode, limit),
-        Order::Two => whole_machine(alloc, track, mode, limit),
+    if track.order == Order::One {
+        return whole_number(alloc, track.variable, mode, limit);
+    }
+    match free(alloc, &[track], mode) {
+        Ok(made) => Ok(made),
+        Err(_) => Err(StepFault::Memory),
     }
 }
 
@@ -109,13 +81,40 @@ pub fn widen(alloc: Global, a: &Automaton, track: Track, limit: u64) -> Result<A
     ensures variables { IfOk result (λ made. made.variables ≡ joined a.now.variables (variable_of track ∷ [])) }
     ensures values { IfOk result (HasValues (own_meaning a.now)) }
     ensures nodes { OnRefused result (λ refused. (refused ≡ limit)
-        × ((limit < 32) ⊎ ((other : Content Sign) × IsWhole (variable_of track) other × AreAtLeast limit Op.And (operands_of a.now other)))) }
+        × ((limit < 32) ⊎ ((other : Content Sign) × IsWhole (variable_of track ∷ []) other × AreAtLeast limit Op.And (operands_of a.now other)))) }
 {
     // The numbers of states tell that these are automata.
     let _ = a.states();
     let other = match whole(alloc, track, a.mode(), limit) {
         Ok(other) => other,
         Err(fault) => return Err(fault),
+    };
+    let _ = other.states();
+    combine(alloc, a, &other, Op::And, limit)
+}
+
+/// The same over many tracks more, none of which is that of a number.
+pub fn widen_all(
+    alloc: Global,
+    a: &Automaton,
+    tracks: &[Track],
+    limit: u64,
+) -> Result<Automaton, StepFault>
+    requires rising { AreRising (variables_of tracks.now) }
+    requires numbers { HasNoNumber (variables_of tracks.now) }
+    requires orders { HaveEqualOrders a.now.variables (variables_of tracks.now) }
+    requires some { 1 ≤ limit }
+    requires small { limit ≤ 4000000000 }
+    ensures mode { IfOk result (λ made. made.mode ≡ a.now.mode) }
+    ensures variables { IfOk result (λ made. made.variables ≡ joined a.now.variables (variables_of tracks.now)) }
+    ensures values { IfOk result (HasValues (own_meaning a.now)) }
+    ensures nodes { OnRefused result (λ refused. (refused ≡ limit)
+        × ((other : Content Sign) × IsWhole (variables_of tracks.now) other × AreAtLeast limit Op.And (operands_of a.now other))) }
+{
+    // The numbers of states tell that these are automata.
+    let _ = a.states();
+    let Ok(other) = free(alloc, tracks, a.mode()) else {
+        return Err(StepFault::Memory);
     };
     let _ = other.states();
     combine(alloc, a, &other, Op::And, limit)

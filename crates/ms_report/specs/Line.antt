@@ -5,7 +5,7 @@ use Rattle.std.specs.Fmt.{decimal}
 use Rattle.ms_edge.specs.declared.at.At.{At}
 use Rattle.ms_edge.specs.Refusal.{place_of}
 use Rattle.ms_edge.specs.declared.refusal.Refusal.{Refusal}
-use Rattle.ms_edge.specs.declared.refusal.Refusal.TheVariants.{Word, NumberTooLarge, Grammar, Unclosed, UnknownName, Twice, WrongOrder, Arity, ConstRange, NotHere, LeftOut, NotBuilt, VarsDiffer, FileMissing, IncludeCycle, ImportMissing, ImportText, ImportMode, ImportVars, ImportOpen, FileSize, Includes, Depth, CoreSize, Nodes, ReadFault, WriteFault, SinkFault, Memory}
+use Rattle.ms_edge.specs.declared.refusal.Refusal.TheVariants.{Word, NumberTooLarge, Grammar, Unclosed, UnknownName, Twice, WrongOrder, Arity, ConstRange, NotHere, LeftOut, VarsDiffer, FileMissing, IncludeCycle, ImportMissing, ImportText, ImportMode, ImportVars, ImportOpen, FileSize, Includes, Depth, CoreSize, Nodes, ReadFault, WriteFault, SinkFault, Memory}
 
 -- the number and the words of a refusal; a fault of the sink has no line
 abbrev pub words_of : Refusal → List ℕ
@@ -20,7 +20,6 @@ words_of (Arity at name given wanted) = codes "23 wrong number of arguments"
 words_of (ConstRange at) = codes "24 out of range"
 words_of (NotHere at) = codes "25 not allowed here"
 words_of (LeftOut at word) = codes "26 left out"
-words_of (NotBuilt at) = codes "27 not built"
 words_of VarsDiffer = codes "28 variables differ"
 words_of (FileMissing at name) = codes "30 no such file"
 words_of (IncludeCycle at name chain) = codes "31 include cycle"
@@ -56,7 +55,6 @@ detail_of (Arity at name given wanted) = Some name
 detail_of (ConstRange at) = None
 detail_of (NotHere at) = None
 detail_of (LeftOut at word) = Some word
-detail_of (NotBuilt at) = None
 detail_of VarsDiffer = None
 detail_of (FileMissing at name) = Some name
 detail_of (IncludeCycle at name chain) = Some name

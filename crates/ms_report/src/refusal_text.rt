@@ -45,7 +45,6 @@ fn words(refusal: &Refusal) -> &'static str
         Refusal::ConstRange { .. } => "24 out of range",
         Refusal::NotHere { .. } => "25 not allowed here",
         Refusal::LeftOut { .. } => "26 left out",
-        Refusal::NotBuilt { .. } => "27 not built",
         Refusal::VarsDiffer => "28 variables differ",
         Refusal::FileMissing { .. } => "30 no such file",
         Refusal::IncludeCycle { .. } => "31 include cycle",
@@ -116,7 +115,6 @@ fn push_detail(line: &mut String, refusal: &Refusal) -> Result<(), AllocError>
         | Refusal::WrongOrder { .. }
         | Refusal::ConstRange { .. }
         | Refusal::NotHere { .. }
-        | Refusal::NotBuilt { .. }
         | Refusal::VarsDiffer
         | Refusal::Depth { .. }
         | Refusal::CoreSize

@@ -1,5 +1,7 @@
 pub mod FreeVariables
 pub mod Lists
+pub mod NamesRead
+pub mod Places
 pub mod Repeats
 pub mod States
 pub mod Sums

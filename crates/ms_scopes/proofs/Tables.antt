@@ -1,13 +1,14 @@
 -- The table of names: what is found in it, and what it becomes with one entry more or less.
-use Rattle.std.proofs.Common.{◌≡◌, ℕ, ◌<◌, List, [], ◌∷◌, ◌++◌, length, map, reverse, get_or, Option, Some, None, refl, sym, subst, ap, ◌∙◌, arith}
+use Rattle.std.proofs.Common.{◌≡◌, ℕ, ◌-◌, ◌<◌, List, [], ◌∷◌, ◌++◌, length, map, take, reverse, get_or, Option, Some, None, refl, sym, subst, ap, ◌∙◌, arith}
 use Rattle.std.specs.Prelude.{bytes_eq, string_bytes, Bool, true, false, if◌then◌else◌}
-use Rattle.std.proofs.lemmas.List.{reverse-append, length-reverse}
+use Rattle.std.proofs.lemmas.List.{length-reverse, length_push, map-append, reverse-append, take_at}
 use Rattle.std.proofs.lemmas.Grind.{common_steps}
 use Rattle.std.proofs.lemmas.Slice.Eq.{bytes_eq-Decides}
 use Rattle.ms_rules.specs.Scope.{meaning_among}
 use Rattle.ms_rules.specs.Syntax.{Bytes}
 use Rattle.ms_scopes.specs.declared.names.Entry.{Entry}
-use Rattle.ms_scopes.specs.Table.{flat, innermost, KnowHidden, IsTable, IsNoted, named_meaning}
+use Rattle.ms_scopes.specs.Numbers.{Numbered}
+use Rattle.ms_scopes.specs.Table.{entry_numbers, flat, innermost, number_of, KnowHidden, IsTable, IsNoted, named_meaning}
 
 pub innermost-below : (r : List Entry) (n : Bytes) (i : ℕ) → innermost r n ≡ Some i → i < length r
 innermost-below [] n i h = grind arith
@@ -31,10 +32,11 @@ flat-noted true place held = refl
 flat-noted false place held = refl
 
 -- with one more entry
-pub IsTable-more : (held noted : Bytes → Option (Option ℕ)) (entries : List Entry) (e : Entry) →
-    IsTable held entries → e.hidden ≡ flat (held (string_bytes e.name)) →
-    IsNoted held noted (string_bytes e.name) (Some (length entries)) → IsTable noted (entries ++ e ∷ [])
-IsTable-more held noted entries e table hides is_noted =
+pub IsTable-more : (held noted : Bytes → Option (Option ℕ)) (numbers more : Numbered) (entries : List Entry) (e : Entry) →
+    IsTable held numbers entries → e.hidden ≡ flat (held (string_bytes e.name)) →
+    IsNoted held noted (string_bytes e.name) (Some (length entries)) → more ≡ numbers ++ number_of e.meaning ∷ [] →
+    IsTable noted more (entries ++ e ∷ [])
+IsTable-more held noted numbers more entries e table hides is_noted is_more =
     let P : List Entry → Type 0 = KnowHidden in
     record {
       found = λ n.
@@ -43,6 +45,7 @@ IsTable-more held noted entries e table hides is_noted =
           ∙ (ap (λ i. if bytes_eq (string_bytes e.name) n then Some (length (reverse entries)) else i) (table.found n)
           ∙ ap (λ r. innermost r n) (sym (reverse-more entries e)))));
       hidden = subst P (sym (reverse-more entries e)) (hides ∙ table.found (string_bytes e.name), table.hidden);
+      numbered = is_more ∙ (ap (λ ns. ns ++ number_of e.meaning ∷ []) table.numbered ∙ sym (map-append (λ f. number_of f.meaning) entries (e ∷ [])));
     }
 
 choose-hidden : (b : Bool) (outer : List Entry) (n : Bytes) (place : Option ℕ) →
@@ -55,9 +58,9 @@ bytes_eq-same : (a : Bytes) → bytes_eq a a ≡ true
 bytes_eq-same a = (bytes_eq-Decides a a).1 refl
 
 -- the name of the innermost entry has a place
-pub IsTable-named : (held : Bytes → Option (Option ℕ)) (all entries : List Entry) (e : Entry) →
-    IsTable held all → all ≡ entries ++ e ∷ [] → held (string_bytes e.name) ≡ None → ⊥
-IsTable-named held all entries e table are absent =
+pub IsTable-named : (held : Bytes → Option (Option ℕ)) (numbers : Numbered) (all entries : List Entry) (e : Entry) →
+    IsTable held numbers all → all ≡ entries ++ e ∷ [] → held (string_bytes e.name) ≡ None → ⊥
+IsTable-named held numbers all entries e table are absent =
     let found : None ≡ innermost (e ∷ reverse entries) (string_bytes e.name) =
     ap flat (sym absent) ∙ (table.found (string_bytes e.name) ∙ ap (λ r. innermost r (string_bytes e.name)) (ap reverse are ∙ reverse-more entries e)) in
     let there : innermost (e ∷ reverse entries) (string_bytes e.name) ≡ Some (length (reverse entries)) =
@@ -65,10 +68,20 @@ IsTable-named held all entries e table are absent =
     let never : None ≡ Some (length (reverse entries)) = found ∙ there in
     cc
 
+-- the numbers without the last
+fewer-numbers : (numbers : Numbered) (all entries : List Entry) (e : Entry) → numbers ≡ entry_numbers all → all ≡ entries ++ e ∷ [] →
+    take (length numbers - 1) numbers ≡ entry_numbers entries
+fewer-numbers numbers all entries e are_numbers are =
+    let own = entry_numbers entries in
+    let split : numbers ≡ own ++ number_of e.meaning ∷ [] = are_numbers ∙ (ap entry_numbers are ∙ map-append (λ f. number_of f.meaning) entries (e ∷ [])) in
+    let count : length own ≡ length (own ++ number_of e.meaning ∷ []) - 1 = omega (arith, length_push own (number_of e.meaning)) in
+    ap (λ ns. take (length ns - 1) ns) split ∙ take_at own (number_of e.meaning ∷ []) (length (own ++ number_of e.meaning ∷ []) - 1) count
+
 -- without the innermost entry
-pub IsTable-less : (held noted : Bytes → Option (Option ℕ)) (all entries : List Entry) (e : Entry) →
-    IsTable held all → all ≡ entries ++ e ∷ [] → IsNoted held noted (string_bytes e.name) e.hidden → IsTable noted entries
-IsTable-less held noted all entries e table are is_noted =
+pub IsTable-less : (held noted : Bytes → Option (Option ℕ)) (numbers fewer : Numbered) (all entries : List Entry) (e : Entry) →
+    IsTable held numbers all → all ≡ entries ++ e ∷ [] → IsNoted held noted (string_bytes e.name) e.hidden →
+    fewer ≡ take (length numbers - 1) numbers → IsTable noted fewer entries
+IsTable-less held noted numbers fewer all entries e table are is_noted is_fewer =
     let P : List Entry → Type 0 = KnowHidden in
     let known : KnowHidden (e ∷ reverse entries) = subst P (ap reverse are ∙ reverse-more entries e) table.hidden in
     record {
@@ -78,4 +91,5 @@ IsTable-less held noted all entries e table are is_noted =
           ∙ choose-hidden (bytes_eq (string_bytes e.name) n) (reverse entries) n e.hidden
           (λ same. known.0 ∙ ap (λ m. innermost (reverse entries) m) ((bytes_eq-Decides (string_bytes e.name) n).0 same))));
       hidden = known.1;
+      numbered = is_fewer ∙ fewer-numbers numbers all entries e table.numbered are;
     }

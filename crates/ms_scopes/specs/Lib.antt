@@ -1,4 +1,5 @@
 pub mod Declaration
+pub mod Numbers
 pub mod Read
 pub mod State
 pub mod Table

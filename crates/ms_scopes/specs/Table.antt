@@ -2,8 +2,10 @@
 -- outermost. Each entry has the place of the entry that it hides.
 use Rattle.std.specs.Prelude.{◌≡◌, ℕ, if◌then◌else◌, List, [], ◌∷◌, length, map, reverse, bytes_eq, string_bytes, Option, Some, None}
 use Rattle.ms_rules.specs.declared.meaning.Meaning.{Meaning}
+use Rattle.ms_rules.specs.declared.meaning.Meaning.TheVariants.{Variable, Constant, Predicate}
 use Rattle.ms_rules.specs.Syntax.{Bytes}
 use Rattle.ms_scopes.specs.declared.names.Entry.{Entry}
+use Rattle.ms_scopes.specs.Numbers.{Numbered}
 
 abbrev pub flat : Option (Option ℕ) → Option ℕ
 flat None = None
@@ -19,10 +21,21 @@ abbrev pub KnowHidden : List Entry → Type 0
 KnowHidden [] = Unit {0}
 KnowHidden (e ∷ outer) = (e.hidden ≡ innermost outer (string_bytes e.name)) × KnowHidden outer
 
--- the entries, the outermost first, with what is held for each name
-pub record IsTable (held : Bytes → Option (Option ℕ)) (entries : List Entry) : Type 0 where
+-- the number of a variable
+abbrev pub number_of : Meaning → Option ℕ
+number_of (Variable x order) = Some x
+number_of (Constant value) = None
+number_of (Predicate p parameters) = None
+
+-- the numbers of the entries that are variables
+abbrev pub entry_numbers : List Entry → Numbered
+entry_numbers entries = map (λ e. number_of e.meaning) entries
+
+-- the entries, the outermost first, with what is held for each name, and their numbers
+pub record IsTable (held : Bytes → Option (Option ℕ)) (numbers : Numbered) (entries : List Entry) : Type 0 where
   pub found : (n : Bytes) → flat (held n) ≡ innermost (reverse entries) n
   pub hidden : KnowHidden (reverse entries)
+  pub numbered : numbers ≡ entry_numbers entries
 
 abbrev pub named_meaning : Entry → Bytes × Meaning
 named_meaning e = (string_bytes e.name, e.meaning)

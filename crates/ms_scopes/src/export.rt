@@ -75,10 +75,7 @@ impl Checker {
         requires { from ≤ length self.now.reads }
         ensures { IfOk result (λ read. Tells read (with_predicates self.now.scope.readings (drop from self.now.reads))) }
     {
-        let mut read = Read::new(self.alloc);
-        read.add_all(&self.reads.slice()[from..])?;
-        read.add_predicates(&self.predicates)?;
-        Ok(read)
+        Read::through(self.alloc, &self.reads.slice()[from..], &self.predicates)
     }
 
     /// Notes an export before those inside it, with the variables that are read from a place on.

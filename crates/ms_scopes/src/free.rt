@@ -1,66 +1,77 @@
 ghost use Rattle.indexmap.specs.IndexSet.{contains};
 ghost use Rattle.ms_rules.specs.Free.{Readings};
-ghost use Rattle.ms_rules.specs.Reads.{reads_predicate, reads_variable, with_predicates};
-ghost use Rattle.ms_scopes.specs.Read.{Tells};
-ghost use Rattle.std.specs.Prelude.{◌≡◌, ◌==◌, ◌∷◌, ◌++◌, [], ℕ, if◌then◌else◌, true, nat_eq, reverse, OnOk};
+ghost use Rattle.ms_rules.specs.Reads.{with_predicates};
+ghost use Rattle.ms_scopes.specs.Read.{IsLastRead, NoneIsRead, Tells};
+ghost use Rattle.std.specs.Prelude.{◌≡◌, ◌==◌, ◌∷◌, ◌++◌, [], ℕ, if◌then◌else◌, true, nat_eq, reverse, IfNone, IfOk, IfSome, OnOk};
 
-use crate::name::small;
+use crate::ordered::insert;
 use indexmap::IndexSet;
 use ms_edge::{List, NoMemory};
 use ms_rules::Reading;
 use std::alloc::Global;
+use std::collections::BTreeSet;
 
-/// The numbers of the variables and of the predicates among some readings.
+/// What some readings lead to. Predicates are followed from the last to the first.
 #[derive(Drop)]
 pub(crate) struct Read {
+    // The numbers of the variables.
     pub(crate) variables: IndexSet<u32>,
-    pub(crate) predicates: IndexSet<u32>,
+    // The numbers of the predicates that are read and left to follow.
+    pub(crate) waiting: BTreeSet<usize>,
+    // The predicates below this number are left.
+    pub(crate) left: usize,
 }
 
 impl Read {
-    /// Of no readings.
-    pub(crate) fn new(alloc: Global) -> Read
-        ensures { Tells result [] }
+    // No readings, where so many predicates are left.
+    fn new(alloc: Global, left: usize) -> Read
+        ensures tells { Tells result [] }
+        ensures left { result.left ≡ left }
     {
         Read {
             variables: IndexSet::new(alloc),
-            predicates: IndexSet::new(alloc),
+            waiting: BTreeSet::new(alloc),
+            left,
         }
     }
 
-    /// Whether the variable is among them.
-    pub(crate) fn reads_variable(&self, x: u32) -> bool
-        ensures { (rs : Readings) → Tells self.now rs → result ≡ reads_variable x rs }
+    /// What some readings lead to through these predicates, of which each has its readings.
+    pub(crate) fn through(
+        alloc: Global,
+        readings: &[Reading],
+        predicates: &[List<Reading>],
+    ) -> Result<Read, NoMemory>
+        ensures { IfOk result (λ read. Tells read (with_predicates (reverse predicates.now) readings.now)) }
     {
-        self.variables.contains(&x)
+        let mut read = Read::new(alloc, predicates.len());
+        read.add_all(readings)?;
+        while let Some(p) = read.next_predicate() {
+            let more = &predicates[p];
+            read.add_all(more.slice())?;
+        }
+        Ok(read)
     }
 
-    // Whether the predicate is among them.
-    fn reads_predicate(&self, p: u32) -> bool
-        ensures { (rs : Readings) → Tells self.now rs → result ≡ reads_predicate p rs }
+    // The last predicate that is read and left, if there is one. It is left no more, nor are those behind it.
+    fn next_predicate(&mut self) -> Option<usize>
+        ensures tells { (rs : Readings) → Tells self.old rs → Tells self.new rs }
+        ensures last { IfSome result (λ p. (rs : Readings) → Tells self.old rs → IsLastRead p self.old.left rs) }
+        ensures left { IfSome result (λ p. self.new.left ≡ p) }
+        ensures none { IfNone result ((rs : Readings) → Tells self.old rs → NoneIsRead 0 self.old.left rs) }
     {
-        self.predicates.contains(&p)
-    }
-
-    // One reading more.
-    fn add(&mut self, reading: Reading) -> Result<(), NoMemory>
-        ensures { OnOk result ((rs : Readings) → Tells self.old rs → Tells self.new (rs ++ reading ∷ [])) }
-    {
-        match reading {
-            Reading::Variable(x) => {
-                note(&mut self.variables, x)?;
-                Ok(())
+        match self.waiting.pop_last() {
+            Some(p) => {
+                self.left = p;
+                Some(p)
             }
-            Reading::Predicate(p) => {
-                note(&mut self.predicates, p)?;
-                Ok(())
-            }
+            None => None,
         }
     }
 
-    /// Some readings more.
-    pub(crate) fn add_all(&mut self, readings: &[Reading]) -> Result<(), NoMemory>
-        ensures { OnOk result ((rs : Readings) → Tells self.old rs → Tells self.new (rs ++ readings.now)) }
+    // Some readings more.
+    fn add_all(&mut self, readings: &[Reading]) -> Result<(), NoMemory>
+        ensures tells { OnOk result ((rs : Readings) → Tells self.old rs → Tells self.new (rs ++ readings.now)) }
+        ensures left { OnOk result (self.new.left ≡ self.old.left) }
     {
         for reading in readings {
             self.add(*reading)?;
@@ -68,29 +79,25 @@ impl Read {
         Ok(())
     }
 
-    // What a predicate with a number reads too, if it is read.
-    fn add_predicate(&mut self, p: usize, readings: &[Reading]) -> Result<(), NoMemory>
-        ensures { OnOk result ((rs : Readings) → Tells self.old rs → Tells self.new (if reads_predicate p rs then rs ++ readings.now else rs)) }
+    // One reading more.
+    fn add(&mut self, reading: Reading) -> Result<(), NoMemory>
+        ensures tells { OnOk result ((rs : Readings) → Tells self.old rs → Tells self.new (rs ++ reading ∷ [])) }
+        ensures left { OnOk result (self.new.left ≡ self.old.left) }
     {
-        let p = small(p)?;
-        if self.reads_predicate(p) {
-            self.add_all(readings)?;
-            return Ok(());
+        match reading {
+            Reading::Variable(x) => {
+                note(&mut self.variables, x)?;
+                Ok(())
+            }
+            Reading::Predicate(p) => {
+                let p = p as usize;
+                if p < self.left {
+                    insert(&mut self.waiting, p)?;
+                    return Ok(());
+                }
+                Ok(())
+            }
         }
-        Ok(())
-    }
-
-    /// What is read through the predicates too.
-    pub(crate) fn add_predicates(&mut self, predicates: &[List<Reading>]) -> Result<(), NoMemory>
-        ensures { OnOk result ((rs : Readings) → Tells self.old rs → Tells self.new (with_predicates (reverse predicates.now) rs)) }
-    {
-        let mut left = predicates.len();
-        while left > 0 {
-            left -= 1;
-            let readings = &predicates[left];
-            self.add_predicate(left, readings.slice())?;
-        }
-        Ok(())
     }
 }
 

@@ -2,10 +2,12 @@ ghost use Rattle.indexmap.specs.IndexMap.{get_by_text};
 ghost use Rattle.ms_rules.specs.Free.{Readings, read_among};
 ghost use Rattle.ms_rules.specs.Scope.{meaning_among, variables_among};
 ghost use Rattle.ms_scopes.specs.Read.{Tells};
-ghost use Rattle.ms_scopes.specs.Table.{flat, IsNoted, IsSame, named_meaning};
+ghost use Rattle.ms_scopes.specs.Table.{flat, number_of, IsNoted, IsSame, named_meaning};
 ghost use Rattle.std.specs.Prelude.{◌≡◌, [], ◌∷◌, ◌++◌, drop, length, map, IfOk, OnOk, OnErr, option_copied, string_bytes};
 
 use crate::free::Read;
+use crate::numbers::Numbers;
+use crate::ordered::take_first;
 use indexmap::IndexMap;
 use ms_edge::{List, Name, NoMemory, push};
 use ms_rules::Meaning;
@@ -25,6 +27,7 @@ pub(crate) struct Entry {
 pub(crate) struct Names {
     alloc: Global,
     places: IndexMap<String, Option<usize>>,
+    numbers: Numbers,
     entries: Vec<Entry>,
 }
 
@@ -38,7 +41,7 @@ impl Model for Names {
 
     ghost view = { λ names. names_of names.entries.items };
 
-    ghost invariant = { λ names. IsTable (λ n. get_by_text names.places n) names.entries.items };
+    ghost invariant = { λ names. IsTable (λ n. get_by_text names.places n) names.numbers names.entries.items };
 }
 
 impl Names {
@@ -49,6 +52,7 @@ impl Names {
         Names {
             alloc,
             places: IndexMap::new(alloc),
+            numbers: Numbers::new(alloc),
             entries: Vec::new(alloc),
         }
     }
@@ -82,14 +86,19 @@ impl Names {
         };
         let hidden = place_in(&self.places, name);
         let place = self.entries.len();
+        self.numbers.push(variable_number(&meaning))?;
         let entry = Entry {
             name: own,
             meaning,
             hidden,
         };
-        add(&mut self.entries, entry)?;
+        let Ok(()) = add(&mut self.entries, entry) else {
+            self.numbers.pop();
+            return Err(NoMemory);
+        };
         let Ok(()) = set_place(&mut self.places, key, Some(place)) else {
             self.entries.pop();
+            self.numbers.pop();
             return Err(NoMemory);
         };
         Ok(())
@@ -101,10 +110,13 @@ impl Names {
             → (free.0 ≡ map (λ v. v.number) (read_among rs (variables_among self.now)))
             × (free.1 ≡ map (λ v. v.name) (read_among rs (variables_among self.now)))) }
     {
+        let mut places = self
+            .numbers
+            .places_of(self.alloc, read.variables.as_slice())?;
         let mut numbers = List::new(self.alloc);
         let mut names = List::new(self.alloc);
-        for entry in &self.entries {
-            note_entry(self.alloc, entry, read, &mut numbers, &mut names)?;
+        while let Some(place) = take_first(&mut places) {
+            note_entry(self.alloc, &self.entries[place], &mut numbers, &mut names)?;
         }
         Ok((numbers, names))
     }
@@ -123,6 +135,7 @@ impl Names {
         ensures { self.new ≡ drop 1 self.old }
     {
         if let Some(entry) = self.entries.pop() {
+            self.numbers.pop();
             let Entry {
                 name,
                 meaning: _,
@@ -136,31 +149,34 @@ impl Names {
     }
 }
 
-// An entry behind those before it, if it is a variable that is read.
+// The number of a variable.
+fn variable_number(meaning: &Meaning) -> Option<u32>
+    ensures { result ≡ number_of meaning.now }
+{
+    match meaning {
+        Meaning::Variable(x, _) => Some(*x),
+        Meaning::Constant(_) => None,
+        Meaning::Predicate(_, _) => None,
+    }
+}
+
+// An entry behind those before it, if it is a variable.
 fn note_entry(
     alloc: Global,
     entry: &Entry,
-    read: &Read,
     numbers: &mut List<u32>,
     names: &mut List<Name>,
 ) -> Result<(), NoMemory>
-    ensures numbers { OnOk result ((rs : Readings) → Tells read.now rs
-        → numbers.new ≡ numbers.old ++ map (λ v. v.number) (read_among rs (variables_among (named_meaning entry.now ∷ [])))) }
-    ensures names { OnOk result ((rs : Readings) → Tells read.now rs
-        → names.new ≡ names.old ++ map (λ v. v.name) (read_among rs (variables_among (named_meaning entry.now ∷ [])))) }
+    ensures numbers { OnOk result (numbers.new ≡ numbers.old ++ map (λ v. v.number) (variables_among (named_meaning entry.now ∷ []))) }
+    ensures names { OnOk result (names.new ≡ names.old ++ map (λ v. v.name) (variables_among (named_meaning entry.now ∷ []))) }
 {
-    match &entry.meaning {
-        Meaning::Variable(x, _) => {
-            if read.reads_variable(*x) {
-                let name = Name::new(alloc, entry.name.as_str())?;
-                push(numbers, *x)?;
-                push(names, name)?;
-            }
-            Ok(())
-        }
-        Meaning::Constant(_) => Ok(()),
-        Meaning::Predicate(_, _) => Ok(()),
-    }
+    let Some(x) = variable_number(&entry.meaning) else {
+        return Ok(());
+    };
+    let name = Name::new(alloc, entry.name.as_str())?;
+    push(numbers, x)?;
+    push(names, name)?;
+    Ok(())
 }
 
 // The place of the innermost entry of a name.

@@ -31,12 +31,23 @@ impl Checker {
         }
     }
 
-    /// Reports an expression whose order is not the wanted one.
-    pub fn check_order(&mut self, wanted: Wanted, e: &Expr)
+    // Reports an expression whose order is not the wanted one.
+    fn check_wanted(&mut self, wanted: Wanted, e: &Expr)
         ensures { self.new ≡ with_faults self.old (faults_of_order self.old.scope wanted (expression_of e.now)) }
     {
         if !wanted.fits(self.order(e)) {
             self.report(Fault::WrongOrder(e.at));
+        }
+    }
+
+    /// Reports an expression whose order is not the wanted one. Where any order will do, none is asked for: so brackets in one another
+    /// are looked through once.
+    pub fn check_order(&mut self, wanted: Wanted, e: &Expr)
+        ensures { self.new ≡ with_faults self.old (faults_of_order self.old.scope wanted (expression_of e.now)) }
+    {
+        match wanted {
+            Wanted::Anything => {}
+            _ => self.check_wanted(wanted, e),
         }
     }
 }

@@ -19,7 +19,7 @@ use Rattle.ms_logic.specs.declared.core_formula.Lowered.{Lowered}
 use Rattle.ms_logic.specs.declared.mode.Mode.{Mode}
 use Rattle.ms_logic.specs.declared.mode.Order.{Order}
 use Rattle.ms_logic.specs.declared.sign.Sign.{Sign}
-use Rattle.ms_logic.specs.Assignment.{Env, Universe, Variable, IsUniverseOf, value_at}
+use Rattle.ms_logic.specs.Assignment.{Env, AreValuesOf, Universe, Variable, IsUniverseOf, value_at}
 use Rattle.ms_logic.specs.Content.{Content}
 use Rattle.ms_logic.specs.CoreForm.{CoreForm, truth, falsity, basic, negation, conjunction, disjunction, implication, equivalence, restrict, imported, quantified, CoreForms, no_forms, more_forms, CoreRestriction, unrestricted, restricted, answer_over}
 use Rattle.ms_logic.specs.Spread.{variables_of_import}
@@ -29,7 +29,7 @@ use Rattle.ms_logic.specs.View.{import_of, problem_of}
 use Rattle.ms_lower.specs.Measure.{Answers}
 use Rattle.ms_rules.specs.Numbers.{Each}
 use Rattle.ms_solve.specs.Asked.{AnswerAlike, HasValueIn}
-use Rattle.ms_solve.specs.Imported.{AreAnswersOf, AreLentFor, AreValuesOf, IsAnswerOf, IsLentFor, orders_of_pairs}
+use Rattle.ms_solve.specs.Imported.{AreAnswersOf, AreLentFor, IsAnswerOf, IsLentFor, orders_of_pairs}
 use Rattle.ms_solve.proofs.ImportOrders.{imports_have_orders}
 
 abbrev orders_of : List Variable → List Order

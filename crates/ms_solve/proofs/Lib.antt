@@ -1,4 +1,6 @@
 pub mod AgreeingImports
+pub mod ExampleFiles
+pub mod ExampleLimits
 pub mod ExportFiles
 pub mod ExportNames
 pub mod FileValues

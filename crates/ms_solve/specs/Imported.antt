@@ -6,7 +6,7 @@ use Rattle.ms_logic.specs.declared.checked.ImportUse.{ImportUse}
 use Rattle.ms_logic.specs.declared.mode.Mode.{Mode}
 use Rattle.ms_logic.specs.declared.mode.Order.{Order}
 use Rattle.ms_logic.specs.declared.sign.Sign.{Sign}
-use Rattle.ms_logic.specs.Assignment.{Universe, IsUniverseOf, IsValueOf}
+use Rattle.ms_logic.specs.Assignment.{Universe, AreValuesOf, IsUniverseOf}
 use Rattle.ms_logic.specs.Content.{Content, answer_of, variables_by_place}
 use Rattle.ms_logic.specs.Truth.{Answer}
 use Rattle.ms_lower.specs.Measure.{Answers}
@@ -26,13 +26,6 @@ AreLentFor mode [] [] = Unit {0}
 AreLentFor mode [] (content ∷ contents) = ⊥
 AreLentFor mode (used ∷ uses) [] = ⊥
 AreLentFor mode (used ∷ uses) (content ∷ contents) = IsLentFor mode used content × AreLentFor mode uses contents
-
--- values of these orders, one for each
-abbrev pub AreValuesOf : Universe → List Order → List Value → Type 0
-AreValuesOf universe [] [] = Unit {0}
-AreValuesOf universe [] (value ∷ values) = ⊥
-AreValuesOf universe (order ∷ orders) [] = ⊥
-AreValuesOf universe (order ∷ orders) (value ∷ values) = IsValueOf order universe value × AreValuesOf universe orders values
 
 -- the answer of an import is that of the automaton, at all values of the orders of its variables
 abbrev pub IsAnswerOf : Mode → ImportUse → (Universe → List Value → Answer) → Content Sign → Type 0

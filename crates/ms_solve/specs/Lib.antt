@@ -1,5 +1,6 @@
 pub mod Asked
 pub mod Copies
+pub mod Examples
 pub mod Graph
 pub mod Imported
 pub mod Limits

@@ -2,8 +2,10 @@
 #![tactic(auto)]
 
 mod count;
+mod examples;
 mod graph;
 mod roots;
 mod solution;
 
+pub use examples::{worked_files, worked_imports, worked_limits};
 pub use solution::{Solution, solve};

@@ -124,7 +124,6 @@ fn lines_of_names(rt: &HostRuntime) -> Result<()> {
     line(rt, Refusal::ConstRange { at: Some(at) })?;
     line(rt, Refusal::NotHere { at })?;
     left_out(rt)?;
-    line(rt, Refusal::NotBuilt { at })?;
     line(rt, Refusal::VarsDiffer)
 }
 

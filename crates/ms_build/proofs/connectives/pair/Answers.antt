@@ -3,13 +3,13 @@ use Rattle.ms_build.specs.Built.{ChildNo, ChildYes, entries_of, imports_for}
 use Rattle.ms_build.proofs.PartLemmas.{combined_by, equal_orders, pair_by}
 use Rattle.ms_build.proofs.connectives.pair.Goals as goal
 
-pub combined-requires-clause-mode : goal.combined-requires-clause-mode
-combined-requires-clause-mode c =
+pub combine-requires-clause-mode : goal.combine-requires-clause-mode
+combine-requires-clause-mode c =
     let read = c.requires.read in
     (c.in_ok-one.ensures.part read.0 read.1).mode_is ∙ sym (c.in_ok-other.ensures.part read.0 read.2).mode_is
 
-pub combined-requires-clause-orders : goal.combined-requires-clause-orders
-combined-requires-clause-orders c =
+pub combine-requires-clause-orders : goal.combine-requires-clause-orders
+combine-requires-clause-orders c =
     let read = c.requires.read in
     let plan = c.args.plan.now in
     let left = c.args.left.now in
@@ -23,7 +23,7 @@ returns c =
     let plan = c.args.plan.now in
     let left = c.args.left.now in
     let right = c.args.right.now in
-    pair_by plan c.args.op left right c.combined.result (λ orders read also.
+    pair_by plan c.args.op left right c.combine.result (λ orders read also.
     combined_by plan.mode orders left.map right.map (ChildYes (imports_for plan) (entries_of plan) left) (ChildNo (imports_for plan) (entries_of plan) left)
     (ChildYes (imports_for plan) (entries_of plan) right) (ChildNo (imports_for plan) (entries_of plan) right) c.in_ok-one.one c.in_ok-other.other c.states.ensures.automaton c.states-2.ensures.automaton
-    (c.in_ok-one.ensures.part orders read) (c.in_ok-other.ensures.part orders also) c.args.op c.combined.result c.combined.ensures.mode c.combined.ensures.variables c.combined.ensures.values)
+    (c.in_ok-one.ensures.part orders read) (c.in_ok-other.ensures.part orders also) c.args.op c.combine.result c.combine.ensures.mode c.combine.ensures.variables c.combine.ensures.values)

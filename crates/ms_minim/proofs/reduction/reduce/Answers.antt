@@ -9,16 +9,16 @@ use Rattle.ms_minim.proofs.NodeLemmas.{few_nodes, refused_quotient}
 use Rattle.ms_minim.proofs.ReadingLemmas.{refused-read}
 use Rattle.ms_minim.proofs.reduction.reduce.Goals as goal
 
-pub returns-in-Err-explored-clause-nodes : goal.returns-in-Err-explored-clause-nodes
-returns-in-Err-explored-clause-nodes c =
+pub returns-in-Err-clause-nodes : goal.returns-in-Err-clause-nodes
+returns-in-Err-clause-nodes c =
     let a = c.args.a.now in
     let content = read_content c.args.reading a in
     let seen = c.explore-explored.new.machine.quotient in
     let same = ap (λ (q : Quotienting). q.content) c.explore-explored.ensures.later.same ∙ c.in-Ok.ensures.automaton ∙ c.new-reader.ensures in
     let quotient = quotient_of content seen same _ _ c.quotient.view_is c.quotient.invariant in
-    refused-read Reduced c.args.reading a c.args.limit c.in-Err-explored.fault
+    refused-read Reduced c.args.reading a c.args.limit c.in-Err.fault
     (refused_quotient content seen.classes seen.members _ seen.pairs quotient (Content Sign) c.new-store.result c.explore-explored.new.store c.args.limit c.new-store.ensures.empty c.new-store.ensures.limit c.explore-explored.new.states
-    c.in-Err-explored.fault (explores_of content seen same c.new-store.result c.explore-explored.new.store c.explore-explored.new.states _ c.in-Err-explored.ensures.explored))
+    c.in-Err.fault (explores_of content seen same c.new-store.result c.explore-explored.new.store c.explore-explored.new.states _ c.in-Err.ensures.explored))
 
 pub returns-clause-reduced : goal.returns-clause-reduced
 returns-clause-reduced c =
@@ -44,4 +44,4 @@ returns-clause-few c =
     omega (arith, within, all, limit, given)
 
 pub explore-explored-requires-clause-ready : goal.explore-explored-requires-clause-ready
-explore-explored-requires-clause-ready c = c.new.ensures _ _ _ _ _
+explore-explored-requires-clause-ready c = c.in-Ok.ensures.ready c.new-store.result.nodes

@@ -359,7 +359,8 @@ form-returns-in_ok-made-in-Call-clause-value t c =
     let os = inside_arguments q.scope q.before ps (expressions_of c.slice-in-Call-2.result.now) in
     call-value s c.begin_call.new.self q c.arguments_for.new.checker c.allow_exports.new.self
     (faults_of_call at n c.len.result (meaning_of s.scope n)) (readings_of_call (meaning_of s.scope n)) os (after_all q.before (expressions_of c.slice-in-Call-2.result.now))
-    at n es ps c.forbid_exports-allowed.result (option_map arguments_of c.in_ok-made-in-Call.made) (option_map argument_of c.called.result)
+    at n es c.len.result ps c.forbid_exports-allowed.result (option_map arguments_of c.in_ok-made-in-Call.made) (option_map argument_of c.called.result)
+    (c.len.ensures ∙ sym (count-length c.in-Call.arguments))
     (c.slice-in-Call.ensures ∙ c.in_ok-parameters-in-Call.ensures.parameters)
     c.in_ok-parameters-in-Call.ensures.state c.forbid_exports-allowed.ensures.state c.in_ok-made-in-Call.ensures.state c.allow_exports.ensures
     (c.in_ok-made-in-Call.ensures.value ∙ ap (λ (there : List Expr). typed_arguments q.scope q.before ps (expressions_of there)) c.slice-in-Call-2.ensures)

@@ -1,4 +1,4 @@
-use Rattle.std.proofs.Common.{◌≡◌, ℕ, List, Ok, Err, refl, sym, ap, subst, ◌∙◌}
+use Rattle.std.proofs.Common.{◌≡◌, List, Ok, Err, refl, sym, ap, subst}
 use Rattle.ms_arena.proofs.Appending.{Extends-same}
 use Rattle.ms_diagram.specs.Table.{ArePaired}
 use Rattle.ms_dfa.specs.Automaton.{variables_of}

@@ -1,12 +1,10 @@
-use Rattle.std.proofs.Common.{◌≡◌, map, take}
-use Rattle.ms_rules.specs.Free.{Readings, read_among}
-use Rattle.ms_rules.specs.Scope.{variables_among}
-use Rattle.ms_scopes.specs.Read.{Tells}
-use Rattle.ms_scopes.specs.Table.{names_of}
+use Rattle.std.specs.BTreeSet.{btree_set_len, contains}
+use Rattle.std.specs.Ordering.{nat_cmp}
+use Rattle.ms_scopes.proofs.NamesRead.{Noted}
 use Rattle.ms_scopes.proofs.names.Names.variables_read.Given as goal
 
-abbrev pub invariant-loop-entry : goal.invariant-loop-entry
-invariant-loop-entry l = record {
-  numbers : (rs : Readings) → Tells l.read rs → l.numbers ≡ map (λ v. v.number) (read_among rs (variables_among (names_of (take l.entry-index l.entry-items))));
-  names : (rs : Readings) → Tells l.read rs → l.names ≡ map (λ v. v.name) (read_among rs (variables_among (names_of (take l.entry-index l.entry-items))));
-}
+abbrev pub invariant-loop-place : goal.invariant-loop-place
+invariant-loop-place l = Noted l.read l.self-inside.entries.items (contains nat_cmp l.places) l.numbers l.names
+
+abbrev pub decreases-loop-place : goal.decreases-loop-place
+decreases-loop-place l = btree_set_len l.places

@@ -1,0 +1,115 @@
+-- Automata over more variables.
+use Rattle.std.proofs.Common.{◌≡◌, ℕ, inl, inr, ⊎_elim, Result, Ok, Err, IfOk, List, [], ◌∷◌, ◌++◌, take, slice_get, Some, refl, sym, subst, ◌∙◌}
+use Rattle.ms_dfa.specs.Automaton.{IsAutomaton, variables_of}
+use Rattle.ms_edge.specs.declared.fault.StepFault.{StepFault}
+use Rattle.ms_explore.specs.Tracks.{IsAmong, joined}
+use Rattle.ms_explore.proofs.AmongLemmas.{among_at, joined-either}
+use Rattle.ms_explore.proofs.TracksLemmas.{among-left, among-right, joined-left, joined-right}
+use Rattle.ms_basic.specs.Operands.{HaveOneOrder}
+use Rattle.ms_product.specs.Combined.{HaveEqualOrders}
+use Rattle.ms_rename.proofs.RenamedLemmas.{values_same}
+use Rattle.ms_minim.specs.Residual.{HaveEqualSigns}
+use Rattle.ms_logic.specs.declared.mode.Mode.{Mode}
+use Rattle.ms_logic.specs.declared.sign.Sign.{Sign}
+use Rattle.ms_logic.specs.Assignment.{Variable}
+use Rattle.ms_logic.specs.Content.{Content}
+use Rattle.ms_logic.specs.Roots.{AreRising}
+use Rattle.ms_theory.specs.Values.{HasValues, Meaning, own_meaning}
+use Rattle.ms_theory.proofs.OwnMeaningLemmas.{HasValues-own}
+use Rattle.ms_build.specs.Built.{IsOver}
+use Rattle.ms_build.specs.declared.lacked.Lacked.{Lacked}
+use Rattle.ms_build.specs.Lacked.{IsLacked}
+use Rattle.ms_build.specs.Wider.{IsWider}
+use Rattle.ms_build.proofs.VariableLemmas.{among_either, taken-among}
+use Rattle.ms_build.proofs.WholeLemmas.{HasValues-more, HaveOneOrder-rising, rising_equal}
+
+-- over no more variables
+pub IsWider-none : (content : Content Sign) → IsAutomaton content → IsWider content [] content
+IsWider-none content automaton = record {
+  mode_is = refl;
+  variables = λ v. (inl, λ either. ⊎_elim (λ own. own) (λ never. absurd never) either);
+  values = HasValues-own content automaton;
+}
+
+-- over these variables, and then over those
+pub IsWider-then : (content between made : Content Sign) (first second : List Variable) → IsAutomaton between → IsWider content first between → IsWider between second made
+    → IsWider content (first ++ second) made
+IsWider-then content between made first second automaton one two = record {
+  mode_is = two.mode_is ∙ one.mode_is;
+  variables = λ v. (
+    λ there. ⊎_elim (λ before. ⊎_elim inl (λ new. inr (among-left first second v new)) ((one.variables v).0 before)) (λ last. inr (among-right first second v last)) ((two.variables v).0 there),
+    λ either. (two.variables v).1 (⊎_elim (λ own. inl ((one.variables v).1 (inl own)))
+        (λ more. ⊎_elim (λ new. inl ((one.variables v).1 (inr new))) inr (among_either first second v more)) either),
+  );
+  values = HasValues-more (own_meaning content) between made automaton two.mode_is (λ v there. (two.variables v).1 (inl there)) one.values two.values;
+}
+
+-- what was widened, once it has fewest states
+pub wider_by : (content wide : Content Sign) (more : List Variable) (result : Result (Content Sign) StepFault) → HaveEqualOrders content.variables more → wide.mode ≡ content.mode
+    → wide.variables ≡ joined content.variables more → HasValues (own_meaning content) wide → IfOk result (λ least. least.mode ≡ wide.mode) → IfOk result (λ least. least.variables ≡ wide.variables)
+    → IfOk result (HaveEqualSigns wide) → IfOk result (IsWider content more)
+wider_by content wide more (Ok least) orders mode_is variables_are values least_mode least_variables signs = record {
+  mode_is = least_mode ∙ mode_is;
+  variables = λ v. (
+    λ there. joined-either content.variables more v (subst (λ vs. IsAmong vs v) (least_variables ∙ variables_are) there),
+    λ either. subst (λ vs. IsAmong vs v) (sym (least_variables ∙ variables_are))
+        (⊎_elim (λ own. joined-left content.variables more v own) (λ new. joined-right content.variables more v (λ u there name. orders u v there new name) new) either),
+  );
+  values = values_same (own_meaning content) wide (Ok least) least_mode least_variables signs values;
+}
+wider_by content wide more (Err fault) orders mode_is variables_are values least_mode least_variables signs = tt
+
+-- over the first ones of some variables, the next one has its order
+pub next_orders : (content made : Content Sign) (vs : List Variable) (i : ℕ) (v : Variable) → HaveOneOrder vs → HaveEqualOrders content.variables vs → IsWider content (take i vs) made
+    → slice_get vs i ≡ Some v → HaveEqualOrders made.variables (v ∷ [])
+next_orders content made vs i v one orders wider held u w is also same = ⊎_elim
+    (λ here.
+    let last = subst (IsAmong vs) here (among_at vs i v held) in
+    ⊎_elim (λ own. orders u w own last same) (λ some. one u w (taken-among i vs u some) last same) ((wider.variables u).0 is))
+    (λ never. absurd never)
+    also
+
+-- an automaton over all wanted variables, which have all of its own
+module _ (content : Content Sign) (wanted : List Variable) (rising : AreRising wanted) (among : (v : Variable) → IsAmong content.variables v → IsAmong wanted v) (lacked : Lacked)
+    (is : IsLacked content.variables wanted lacked) where
+  abbrev free : List Variable
+  free = variables_of lacked.free
+
+  abbrev numbers : List Variable
+  numbers = variables_of lacked.numbers
+
+  one : HaveOneOrder wanted
+  one = HaveOneOrder-rising wanted rising
+
+  pub free_orders : HaveEqualOrders content.variables free
+  free_orders v w own some same = one v w (among v own) (is.free w some) same
+
+  pub one_order : HaveOneOrder numbers
+  one_order v w some other same = one v w (is.numbers v some) (is.numbers w other) same
+
+  module _ (wide : Content Sign) (first : IsWider content free wide) where
+    pub number_orders : HaveEqualOrders wide.variables numbers
+    number_orders v w there some same = one v w (⊎_elim (λ own. among v own) (λ new. is.free v new) ((first.variables v).0 there)) (is.numbers w some) same
+
+    pub IsOver-lacked : (made : Content Sign) → IsAutomaton wide → IsAutomaton made → IsWider wide numbers made → IsOver content.mode wanted (own_meaning content) made
+    IsOver-lacked made wide_is made_is second =
+        let wider = IsWider-then content wide made free numbers wide_is first second in
+        record {
+          mode_is = wider.mode_is;
+          variables_are = rising_equal made.variables wanted made_is.rising rising
+              (λ v there. ⊎_elim (λ own. among v own) (λ new. ⊎_elim (λ some. is.free v some) (λ some. is.numbers v some) (among_either free numbers v new)) ((wider.variables v).0 there))
+              (λ v there. (wider.variables v).1 (⊎_elim (λ own. inl (subst (IsAmong content.variables) (one own.0 v (among own.0 own.1) there own.2) own.1))
+              (λ new. inr (⊎_elim (λ some. among-left free numbers v some) (λ some. among-right free numbers v some) new)) (is.all v there)));
+          values = wider.values;
+        }
+
+-- it has the values of each meaning that the automaton has
+pub over_by : (mode : Mode) (over : List Variable) (meaning : Meaning) (part : Content Sign) (tracks : List Variable) (result : Result (Content Sign) StepFault) → IsAutomaton part → part.mode ≡ mode
+    → HasValues meaning part → tracks ≡ over → ((v : Variable) → IsAmong part.variables v → IsAmong over v) → IfOk result (IsOver part.mode tracks (own_meaning part))
+    → IfOk result (IsOver mode over meaning)
+over_by mode over meaning part tracks (Ok made) automaton mode_is values tracks_are among is = record {
+  mode_is = is.mode_is ∙ mode_is;
+  variables_are = is.variables_are ∙ tracks_are;
+  values = HasValues-more meaning part made automaton is.mode_is (λ v there. subst (λ vs. IsAmong vs v) (sym (is.variables_are ∙ tracks_are)) (among v there)) values is.values;
+}
+over_by mode over meaning part tracks (Err fault) automaton mode_is values tracks_are among is = tt

@@ -1,0 +1,43 @@
+use Rattle.std.proofs.Common.{◌+◌, get_or, take, refl, sym, subst, ◌∙◌, arith}
+use Rattle.std.proofs.lemmas.List.{length-map, take_all}
+use Rattle.ms_dfa.specs.Automaton.{variable_of, variables_of}
+use Rattle.ms_dfa.specs.declared.track.Track.{Track}
+use Rattle.ms_logic.specs.declared.mode.Order.TheVariants.{Zero}
+use Rattle.ms_build.specs.Lacked.{IsLacked, with_track}
+use Rattle.ms_build.proofs.LackedLemmas.{IsLacked-more, IsLacked-none, IsLacked-there}
+use Rattle.ms_build.proofs.VariableLemmas.{taken-next, taken_below, variable_at_place}
+use Rattle.ms_build.proofs.lacked.lacked_tracks.Goals as goal
+use Rattle.ms_build.proofs.lacked.lacked_tracks.Goals.{then-not-stands_at+in_ok-add, else-not-stands_at}
+
+-- what is read where no track stands
+abbrev no_track : Track
+no_track = record { variable = 0; order = Zero }
+
+pub loop-track-init : goal.loop-track-init
+loop-track-init c = IsLacked-none (variables_of c.args.own.now) (record { free = c.new.result; numbers = c.new-2.result }) c.new.ensures c.new-2.ensures
+
+pub loop-track-preserved : goal.loop-track-preserved
+loop-track-preserved c =
+    let own = variables_of c.args.own.now in
+    let tracks = c.args.wanted.now in
+    let i = c.loop-track.track-index in
+    let track = get_or tracks i no_track in
+    let there = variable_at_place tracks i no_track c.loop-track-test.true in
+    let next = taken-next (variables_of tracks) i (variable_of track) there in
+    let ws = take i (variables_of tracks) in
+    elim c.if-not-stands_at.branch [
+      | then-not-stands_at+in_ok-add w ↦
+          subst (IsLacked own (take (i + 1) (variables_of tracks))) (sym (w.lacked-is ∙ w.in_ok-add.ensures))
+          (subst (λ vs. IsLacked own vs (with_track c.loop-track.lacked track)) (sym next)
+          (IsLacked-more own ws c.loop-track.lacked c.loop-track.invariant track (taken_below (variables_of tracks) i (variable_of track) c.requires there)))
+      | else-not-stands_at w ↦
+          subst (IsLacked own (take (i + 1) (variables_of tracks))) (sym w.lacked-is)
+          (subst (λ vs. IsLacked own vs c.loop-track.lacked) (sym next) (IsLacked-there own ws c.loop-track.lacked c.loop-track.invariant track (w.if-not-stands_at.ensures refl)))
+    ]
+
+pub returns : goal.returns
+returns c =
+    let tracks = c.args.wanted.now in
+    let past = c.loop-track-test.false in
+    let all = take_all c.loop-track.track-index (variables_of tracks) (let long = length-map tracks variable_of in omega (arith, past, long)) in
+    subst (λ vs. IsLacked (variables_of c.args.own.now) vs c.loop-track.lacked) all c.loop-track.invariant

@@ -1,0 +1,8 @@
+use Rattle.std.proofs.Common.{take}
+use Rattle.ms_dfa.specs.Automaton.{variables_of}
+use Rattle.ms_build.specs.Lacked.{IsLacked}
+use Rattle.ms_build.proofs.lacked.lacked_tracks.Given as goal
+
+-- what is lacked of the wanted tracks so far
+abbrev pub invariant-loop-track : goal.invariant-loop-track
+invariant-loop-track l = IsLacked (variables_of l.own) (take l.track-index (variables_of l.wanted)) l.lacked

@@ -1,0 +1,104 @@
+ghost use Rattle.std.specs.Prelude.{◌≡◌, ◌<◌, length, slice_index, IfOk};
+ghost use Rattle.ms_arena.specs.declared.node.Ref.TheVariants.{Inner};
+ghost use Rattle.ms_arena.specs.Diagram.{IsBefore};
+ghost use Rattle.ms_arena.specs.Target.{Extends};
+ghost use Rattle.ms_diagram.specs.Store.{IsStore};
+ghost use Rattle.ms_minim.specs.Image.{AreImages, HaveImages, IsImage, image_of};
+ghost use Rattle.ms_minim.specs.Origin.{AreClosed, IsOn};
+
+use crate::origins::is_seen;
+use ms_arena::Ref;
+use ms_diagram::Store;
+use ms_edge::{List, NoMemory, push};
+use std::alloc::Global;
+
+/// How many nodes a store holds at most.
+pub(crate) const ROOM: u64 = 4000000000;
+
+/// What each node of an automaton has become in a store of their own, where leaves are read as classes.
+pub(crate) struct Images {
+    pub store: Store,
+    pub list: List<Ref>,
+}
+
+// Written out, so that a function that lets one go at each of its exits is proved at the cost of a call.
+impl Drop for Images {
+    fn drop(self) {
+        let Images { store: _, list: _ } = self;
+    }
+}
+
+/// The class of a state, and 0 where there is no such state.
+fn class_of(classes: &[u32], state: u32) -> u32
+    ensures { result ≡ slice_index classes.now state }
+{
+    match classes.get(state as usize) {
+        Some(class) => *class,
+        None => 0,
+    }
+}
+
+/// What a reference becomes, by what the nodes have become.
+pub(crate) fn image(images: &[Ref], classes: &[u32], reference: Ref) -> Ref
+    requires { IsBefore (length images.now) reference }
+    ensures { result ≡ image_of images.now classes.now reference }
+{
+    match reference {
+        Ref::Leaf(value) => Ref::Leaf(class_of(classes, value)),
+        Ref::Inner(place) => images[place as usize],
+    }
+}
+
+/// The nodes of an automaton, from where each is reached, and the classes of its states.
+#[derive(Clone, Copy)]
+pub(crate) struct Reached<'a> {
+    pub store: &'a Store,
+    pub origins: &'a [u32],
+    pub classes: &'a [u32],
+}
+
+/// What the node at a place becomes, by what the nodes before it have become, and a leaf where it is reached from nowhere.
+fn image_at(
+    store: &mut Store,
+    reached: &Reached,
+    images: &[Ref],
+    place: u32,
+) -> Result<Ref, NoMemory>
+    requires store { IsStore store.old.nodes store.old.limit }
+    requires place { place < length reached.now.store.now.nodes }
+    requires long { length images.now ≡ place }
+    requires origins { length reached.now.origins.now ≡ length reached.now.store.now.nodes }
+    requires closed { AreClosed reached.now.store.now.nodes reached.now.origins.now }
+    requires images { HaveImages store.old.nodes reached.now.store.now.nodes reached.now.classes.now reached.now.origins.now images.now }
+    ensures extends { Extends store.old.nodes store.new.nodes }
+    ensures store { IsStore store.new.nodes store.new.limit }
+    ensures image { IfOk result (λ made. IsOn reached.now.origins.now (Inner place) → IsImage store.new.nodes reached.now.store.now.nodes reached.now.classes.now (Inner place) made) }
+{
+    if !is_seen(reached.origins[place as usize]) {
+        return Ok(Ref::Leaf(0));
+    }
+    let node = reached.store.node(place);
+    let low = image(images, reached.classes, node.low);
+    let high = image(images, reached.classes, node.high);
+    let Ok(made) = store.mk(node.var, low, high) else {
+        return Err(NoMemory);
+    };
+    Ok(made)
+}
+
+/// The nodes of an automaton that are reached from somewhere, one after the other, with the classes of states at their leaves.
+pub(crate) fn images_of(alloc: Global, reached: &Reached) -> Result<Images, NoMemory>
+    requires origins { length reached.now.origins.now ≡ length reached.now.store.now.nodes }
+    requires closed { AreClosed reached.now.store.now.nodes reached.now.origins.now }
+    ensures { IfOk result (AreImages reached.now.store.now.nodes reached.now.classes.now reached.now.origins.now) }
+{
+    let mut store = Store::new(alloc, ROOM);
+    let mut list = List::new(alloc);
+    // The length tells that the nodes are those of a store.
+    let _ = store.len();
+    for place in 0..reached.store.len() {
+        let made = image_at(&mut store, reached, list.slice(), place as u32)?;
+        push(&mut list, made)?;
+    }
+    Ok(Images { store, list })
+}

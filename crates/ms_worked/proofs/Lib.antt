@@ -1,0 +1,15 @@
+pub mod Counting
+pub mod FullOverNone
+pub mod FullTruths
+pub mod FullZero
+pub mod OnlyDiagrams
+pub mod OnlySubset
+pub mod OrderedStarts
+pub mod Pigeonhole
+pub mod Runs
+pub mod SameRuns
+pub mod ShortContents
+pub mod SubsetBudgets
+pub mod TruthStarts
+pub mod TurnedStarts
+pub mod ZeroLetters

@@ -1,0 +1,2 @@
+pub mod WorkedContents
+pub mod WorkedForms
