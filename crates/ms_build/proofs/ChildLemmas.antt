@@ -16,7 +16,7 @@ use Rattle.ms_logic.specs.Assignment.{Env, Variable, IsAssignment, IsUniverseOf,
 use Rattle.ms_logic.specs.Content.{Content, variables_by_place, variables_from}
 use Rattle.ms_rename.specs.Renamed.{read_by, renamed, renamed_meaning}
 use Rattle.ms_theory.specs.Values.{HasValues, Meaning, own_meaning}
-use Rattle.ms_build.specs.Built.{AreBuilt, HasOnly, IsPart, IsReadAt, child_meaning, node_meaning}
+use Rattle.ms_build.specs.Built.{AreBuilt, HasOnly, IsPart, IsReadAt, IsUsedFrom, child_meaning, node_meaning}
 use Rattle.ms_dag.specs.declared.node.Child.{Child}
 use Rattle.ms_dag.specs.declared.node.Entry.{Entry}
 use Rattle.ms_edge.specs.declared.fault.StepFault.{StepFault}
@@ -127,8 +127,8 @@ child_is imports entries child e No is = is
 child_is imports entries child e Undefined is = is
 child_is imports entries child e Outside is = is
 
-module _ (imports : List Import) (mode : Mode) (entries : List Entry) (contents : List (Content Sign)) (are : AreBuilt imports mode entries contents) (child : Child) (content : Content Sign)
-    (held : slice_get contents child.node ≡ Some content) (automaton : IsAutomaton content) where
+module _ (imports : List Import) (mode : Mode) (entries : List Entry) (roots : List Child) (contents : List (Content Sign)) (are : AreBuilt imports mode entries roots contents) (child : Child) (content : Content Sign)
+    (held : slice_get contents child.node ≡ Some content) (used : IsUsedFrom entries roots (length contents) child.node) (automaton : IsAutomaton content) where
   -- the orders of the child's own variables
   module _ (orders : List Order) (read : IsReadAt entries orders child) where
     abbrev given : List Order
@@ -136,13 +136,13 @@ module _ (imports : List Import) (mode : Mode) (entries : List Entry) (contents 
 
     pub variables_of_child : content.variables ≡ variables_by_place given
     variables_of_child =
-        let is = are child.node content held in
+        let is = are child.node content held used in
         is.2.variables_are ∙ ap (λ (entry : Entry). variables_by_place entry.orders) (same_Some is.0 read.0 (sym is.1 ∙ read.1))
 
     pub IsPart-brought : (made : Content Sign) → made.mode ≡ content.mode → made.variables ≡ distinct (renamed child.map content.variables)
         → HasValues (renamed_meaning child.map content.variables (own_meaning content)) made → IsPart mode orders child.map (child_meaning imports entries child) made
     IsPart-brought made mode_is made_variables values =
-        let is = are child.node content held in
+        let is = are child.node content held used in
         let part = IsPart-read mode orders child.map given read.2 content variables_of_child automaton (node_meaning imports entries child.node) is.2.values made mode_is made_variables values is.2.mode_is in
         record {
           mode_is = part.mode_is;

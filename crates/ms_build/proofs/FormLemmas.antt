@@ -1,5 +1,5 @@
 -- What has been made of a node by its form has the value of the node, over the node's own variables.
-use Rattle.std.proofs.Common.{◌≡◌, ℕ, ◌<◌, ⊎_elim, Result, Ok, Err, IfOk, List, [], ◌∷◌, ◌++◌, All, Contains, length, map, slice_get, Some, None, Option, refl, sym, ap, subst, ◌∙◌, arith}
+use Rattle.std.proofs.Common.{◌≡◌, ℕ, ◌<◌, ◌≤◌, inl, inr, ⊎_elim, Result, Ok, Err, IfOk, OnOk, List, [], ◌∷◌, ◌++◌, ◌+◌, All, Contains, length, length-append, map, slice_get, Some, None, Option, refl, sym, ap, subst, ◌∙◌, arith}
 use Rattle.std.specs.Option.{option_map}
 use Rattle.std.proofs.lemmas.Option.{none-some, same_Some, slice_get_within, slice_get-map, get_or_from_slice_get}
 use Rattle.std.proofs.lemmas.List.Elements.{Contains-append_cases, Contains-append_left, Contains-append_right}
@@ -22,7 +22,8 @@ use Rattle.ms_logic.specs.declared.core_formula.Basic.{Basic as Relation}
 use Rattle.ms_logic.specs.declared.core_formula.Basic.TheVariants.{Truth, Number, Plus, Less, Member, Sub, Union, Inter, Diff, Up, Down, Min, Max, Bits}
 use Rattle.ms_logic.specs.declared.mode.Mode.{Mode}
 use Rattle.ms_logic.specs.declared.mode.Order.{Order}
-use Rattle.ms_logic.specs.declared.mode.Quant.TheVariants as Quant
+use Rattle.ms_logic.specs.declared.mode.Quant.{Quant}
+use Rattle.ms_logic.specs.declared.mode.Quant.TheVariants as quant
 use Rattle.ms_logic.specs.declared.sign.Sign.{Sign}
 use Rattle.ms_logic.specs.Assignment.{Env, Variable}
 use Rattle.ms_logic.specs.Content.{Content, variables_by_place}
@@ -37,12 +38,13 @@ use Rattle.ms_minim.specs.Residual.{HasFewestStates, HaveEqualSigns}
 use Rattle.ms_project.proofs.AlwaysLemmas.{sign_moves}
 use Rattle.ms_rename.proofs.RenamedLemmas.{HasValues-same}
 use Rattle.ms_theory.specs.Values.{Meaning, meaning_by}
+use Rattle.ms_build.specs.declared.nodes.Binder.{Binder}
 use Rattle.ms_build.specs.declared.plan.Plan.{Plan}
-use Rattle.ms_build.specs.Built.{AreBuiltFor, AreReadable, ChildNo, ChildYes, IsBuiltAt, IsLeastOf, IsMadeOf, IsOver, IsReadAt, ManyNo, ManyYes, child_meaning, entries_of, import_meaning, imports_for, many_meaning, node_meaning, pair_meaning}
+use Rattle.ms_build.specs.Built.{AreBuiltFor, AreReadable, IsThere, IsUsedFrom, ChildNo, ChildYes, IsBinderOf, IsBuiltAt, IsDomainRead, IsLeastOf, IsMadeOf, IsOver, IsReadAt, ManyNo, ManyYes, child_meaning, entries_of, import_meaning, imports_for, many_meaning, node_meaning, pair_meaning, roots_of}
 use Rattle.ms_build.proofs.ChildLemmas.{same_variable}
 use Rattle.ms_build.proofs.MeaningLemmas.{HasValues-to}
 use Rattle.ms_build.proofs.NodeLemmas.{node_from_children}
-use Rattle.ms_build.proofs.PlaceLemmas.{among-own, contains_place, own-among}
+use Rattle.ms_build.proofs.PlaceLemmas.{among-own, contains_at, contains_place, own-among}
 use Rattle.ms_build.proofs.WholeLemmas.{IsOver-part, rising-by_place, rising_equal}
 
 -- the variables of a relation are its operands
@@ -76,9 +78,56 @@ read_child entries i orders children all place child held =
     let is = all_at (IsChild entries i orders) children all place child held in
     (is.part.smaller, is.ordered)
 
-pub readable : (plan : Plan) (built : List (Content Sign)) (orders : List Order) (children : List Child) → All (IsChild (entries_of plan) (length built) orders) children → AreReadable plan built children
-readable plan built orders children all = (
-  λ place child held. (read_child (entries_of plan) (length built) orders children all place child held).0,
+-- a child of the next node has its automaton
+pub child_there : (plan : Plan) (count : ℕ) (entry : Entry) → slice_get (entries_of plan) count ≡ Some entry → IsNode (entries_of plan) count entry → (node : DagNode) → entry.node ≡ node
+    → (place : ℕ) (child : Child) → slice_get (children_of node) place ≡ Some child → IsThere plan count child.node
+child_there plan count entry held is node same place child at =
+    let children = subst (λ n. All (IsChild (entries_of plan) count (orders_inside n entry.orders)) (children_of n)) same is.children in (
+      (read_child (entries_of plan) count (orders_inside node entry.orders) (children_of node) children place child at).0,
+      inr (
+        count,
+        entry,
+        omega arith,
+        held,
+        subst (λ n. Contains (map (λ (c : Child). c.node) (children_of n)) child.node) (sym same)
+            (contains_at (map (λ (c : Child). c.node) (children_of node)) place child.node (slice_get-map (λ (c : Child). c.node) (children_of node) place ∙ ap (option_map (λ (c : Child). c.node)) at)),
+      ),
+    )
+
+-- the children of a quantifier have theirs
+module _ (plan : Plan) (count : ℕ) (entry : Entry) (held : slice_get (entries_of plan) count ≡ Some entry) (is : IsNode (entries_of plan) count entry) (q : Quant) (o : Order) (k : ℕ) (body : Child) where
+  read_inside : (d : Option Child) → entry.node ≡ Bind q o k d body → (place : ℕ) (child : Child) → slice_get (children_of (Bind q o k d body)) place ≡ Some child
+      → IsThere plan count child.node × IsReadAt (entries_of plan) (entry.orders ++ o ∷ []) child
+  read_inside d same place child at = (
+    child_there plan count entry held is (Bind q o k d body) same place child at,
+    (read_child (entries_of plan) count (entry.orders ++ o ∷ []) (children_of (Bind q o k d body))
+        (subst (λ n. All (IsChild (entries_of plan) count (orders_inside n entry.orders)) (children_of n)) same is.children) place child at).1,
+  )
+
+  in_binder : (d : Option Child) → entry.node ≡ Bind q o k d body
+      → (IsThere plan count body.node × IsReadAt (entries_of plan) (entry.orders ++ o ∷ []) body) × IsDomainRead plan (entry.orders ++ o ∷ []) count d
+  in_binder None same = (read_inside None same 0 body refl, tt)
+  in_binder (Some domain) same = (read_inside (Some domain) same 1 body refl, read_inside (Some domain) same 0 domain refl)
+
+pub binder_read : (plan : Plan) (count : ℕ) (entry : Entry) → slice_get (entries_of plan) count ≡ Some entry → IsNode (entries_of plan) count entry → (q : Quant) (binder : Binder) (orders : List Order) → orders ≡ entry.orders
+    → entry.node ≡ Bind q binder.quantifier.track.order binder.quantifier.track.variable binder.domain.now binder.body.now → IsBinderOf plan orders count binder
+binder_read plan count entry held is q binder orders orders_are same =
+    let o = binder.quantifier.track.order in
+    let k = binder.quantifier.track.variable in
+    let both = in_binder plan count entry held is q o k binder.body.now binder.domain.now same in
+    subst (λ list. IsBinderOf plan list count binder) (sym orders_are)
+    (record {
+      bound = subst (λ n. HasOwnOrders n entry.orders) same is.own;
+      body = both.0.0;
+      read = both.0.1;
+      domain = both.1;
+    })
+
+pub readable : (plan : Plan) (built : List (Content Sign)) (orders : List Order) (children : List Child)
+    → ((place : ℕ) (child : Child) → slice_get children place ≡ Some child → IsThere plan (length built) child.node)
+    → All (IsChild (entries_of plan) (length built) orders) children → AreReadable plan built children
+readable plan built orders children there all = (
+  there,
   (orders, λ place child held. (read_child (entries_of plan) (length built) orders children all place child held).1),
 )
 
@@ -216,12 +265,12 @@ module _ (plan : Plan) (are : AreNodes (entries_of plan)) (i : ℕ) (entry : Ent
   IsOver-node (Import n xs) same made =
       to_node (Import n xs) same (λ e. answer_over (slice_get imports n) xs e ≡ answer_yes) (λ e. answer_over (slice_get imports n) xs e ≡ answer_no) (λ e h. h) (λ e h. h) (λ e h. h) (λ e h. h)
       (IsOver-part plan.mode orders xs (import_meaning imports n xs) content automaton made (all_there (Import n xs) same))
-  IsOver-node (Bind Quant.Ex o k d c) same made =
-      to_node (Bind Quant.Ex o k d c) same (QuantifiedYes Quant.Ex (record { name = k; order = o }) (λ there. IsMetBy Y d there) (child_meaning imports entries c))
-      (QuantifiedNo Quant.Ex (record { name = k; order = o }) (λ there. IsMetBy Y d there) (child_meaning imports entries c)) (λ e h. h) (λ e h. h) (λ e h. h) (λ e h. h) made
-  IsOver-node (Bind Quant.All o k d c) same made =
-      to_node (Bind Quant.All o k d c) same (QuantifiedYes Quant.All (record { name = k; order = o }) (λ there. IsMetBy Y d there) (child_meaning imports entries c))
-      (QuantifiedNo Quant.All (record { name = k; order = o }) (λ there. IsMetBy Y d there) (child_meaning imports entries c)) (λ e h. h) (λ e h. h) (λ e h. h) (λ e h. h) made
+  IsOver-node (Bind quant.Ex o k d c) same made =
+      to_node (Bind quant.Ex o k d c) same (QuantifiedYes quant.Ex (record { name = k; order = o }) (λ there. IsMetBy Y d there) (child_meaning imports entries c))
+      (QuantifiedNo quant.Ex (record { name = k; order = o }) (λ there. IsMetBy Y d there) (child_meaning imports entries c)) (λ e h. h) (λ e h. h) (λ e h. h) (λ e h. h) made
+  IsOver-node (Bind quant.All o k d c) same made =
+      to_node (Bind quant.All o k d c) same (QuantifiedYes quant.All (record { name = k; order = o }) (λ there. IsMetBy Y d there) (child_meaning imports entries c))
+      (QuantifiedNo quant.All (record { name = k; order = o }) (λ there. IsMetBy Y d there) (child_meaning imports entries c)) (λ e h. h) (λ e h. h) (λ e h. h) (λ e h. h) made
 
 -- and then with fewest states
 pub least_by : (mode : Mode) (variables : List Variable) (meaning : Meaning) (part : Content Sign) → IsOver mode variables meaning part → (result : Result (Content Sign) StepFault)
@@ -243,10 +292,20 @@ built_by plan i entry held part over (Ok made) mode_is variables_are signs fewes
     (entry, held, least_by plan.mode (variables_by_place entry.orders) (node_meaning (imports_for plan) (entries_of plan) i) part over (Ok made) mode_is variables_are signs fewest)
 built_by plan i entry held part over (Err fault) mode_is variables_are signs fewest = tt
 
+-- what is used from a later node on is used from an earlier one on
+pub used_before : (plan : Plan) (late early i : ℕ) → early ≤ late → IsUsedFrom (entries_of plan) (roots_of plan) late i → IsUsedFrom (entries_of plan) (roots_of plan) early i
+used_before plan late early i less (inl root) = inl root
+used_before plan late early i less (inr (k, entry, from, held, child)) = inr (k, entry, omega (arith, less, from), held, child)
+
 -- the automaton of one node more
 pub AreBuilt-more : (plan : Plan) (built : List (Content Sign)) (made : Content Sign) (more : List (Content Sign)) → more ≡ built ++ made ∷ [] → AreBuiltFor plan built → IsBuiltAt plan (length built) made
     → AreBuiltFor plan more
-AreBuilt-more plan built made more same are is i content held = ⊎_elim
-    (λ before. are i content before)
+AreBuilt-more plan built made more same are is i content held used = ⊎_elim
+    (λ before. are i content before (used_before plan (length more) (length built) i (let long = ap length same ∙ length-append built (made ∷ []) in omega (arith, long)) used))
     (λ last. subst (λ n. IsBuiltAt plan n content) (sym last.0) (subst (IsBuiltAt plan (length built)) last.1 is))
     (slice_get-pushed built made i content (ap (λ list. slice_get list i) (sym same) ∙ held))
+
+pub AreBuilt-pushed : (plan : Plan) (built : List (Content Sign)) (made : Content Sign) (more : List (Content Sign)) {A : Type 0} (result : Result A StepFault) → IfOk result (λ done. more ≡ built ++ made ∷ [])
+    → AreBuiltFor plan built → IsBuiltAt plan (length built) made → OnOk result (AreBuiltFor plan more × (length more ≡ length built + 1))
+AreBuilt-pushed plan built made more (Ok done) same are is = (AreBuilt-more plan built made more same are is, ap length same ∙ length-append built (made ∷ []))
+AreBuilt-pushed plan built made more (Err fault) same are is = tt

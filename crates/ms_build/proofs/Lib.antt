@@ -12,6 +12,7 @@ pub mod BinderLemmas
 pub mod ImportLemmas
 pub mod FormLemmas
 pub mod RootLemmas
+pub mod UsesLemmas
 pub mod LawLemmas
 pub mod RefusalLemmas
 pub mod VariableLemmas

@@ -200,9 +200,9 @@ module _ (plan : Plan) (many : Many) where
           }
 
 -- the first children of a list, and the next one
-pub take_next : (children : List Child) (place : ℕ) (c : Child) → slice_get children place ≡ Some c → take (place + 1) children ≡ take place children ++ c ∷ []
-take_next children place c held =
-    take_more children place c (slice_get_within children place c held) ∙ ap (λ d. take place children ++ d ∷ []) (get_or_from_slice_get children place c c held)
+pub take_next : {X : Type 0} (items : List X) (place : ℕ) (x : X) → slice_get items place ≡ Some x → take (place + 1) items ≡ take place items ++ x ∷ []
+take_next items place x held =
+    take_more items place x (slice_get_within items place x held) ∙ ap (λ d. take place items ++ d ∷ []) (get_or_from_slice_get items place x x held)
 
 -- the first ones are read where all are
 taken_at : (xs : List Child) (count place : ℕ) (x : Child) → slice_get (take count xs) place ≡ Some x → slice_get xs place ≡ Some x

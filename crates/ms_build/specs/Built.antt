@@ -1,5 +1,5 @@
 -- What the automata of the nodes of a graph are.
-use Rattle.std.specs.Prelude.{◌≡◌, ◌<◌, ◌≤◌, ℕ, ◌++◌, List, [], ◌∷◌, length, map, slice_get, Contains, Some, None, Option}
+use Rattle.std.specs.Prelude.{◌≡◌, ◌<◌, ◌≤◌, ◌⊎◌, ℕ, ◌++◌, List, [], ◌∷◌, length, map, slice_get, Contains, Some, None, Option}
 use Rattle.ms_logic.specs.declared.mode.Mode.{Mode}
 use Rattle.ms_logic.specs.declared.mode.Order.{Order}
 use Rattle.ms_logic.specs.declared.sign.Sign.{Sign}
@@ -15,7 +15,8 @@ use Rattle.ms_logic.specs.Truth.{Answer, Import as Imported, answer_yes, answer_
 use Rattle.ms_dag.specs.declared.dag.Dag.{Dag}
 use Rattle.ms_dag.specs.declared.node.Child.{Child}
 use Rattle.ms_dag.specs.declared.node.Entry.{Entry}
-use Rattle.ms_dag.specs.Dag.{places_in_maps}
+use Rattle.ms_dag.specs.Dag.{IsNodeOf, children_of, places_in_maps}
+use Rattle.ms_dag.specs.Share.{children_of_roots}
 use Rattle.ms_dag.specs.Places.{AreAt}
 use Rattle.ms_dag.specs.Values.{EachIs, EachIsDefined, IsMetBy, NodeYes, NodeNo, SomeIs, read_through}
 use Rattle.ms_build.specs.declared.plan.Many.{Many}
@@ -108,10 +109,15 @@ pub record IsLeastOf (mode : Mode) (variables : List Variable) (meaning : Meanin
   pub values : HasValues meaning content
   pub fewest : HasFewestStates content
 
--- each is the automaton of the node at its place, over the node's own variables
-abbrev pub AreBuilt : List Imported → Mode → List Entry → List (Content Sign) → Type 0
-AreBuilt imports mode entries contents =
-    (i : ℕ) (content : Content Sign) → slice_get contents i ≡ Some content
+-- the node of a root, or a child of a node from this number on
+abbrev pub IsUsedFrom : List Entry → List Child → ℕ → ℕ → Type 0
+IsUsedFrom entries roots from i =
+    IsNodeOf roots i ⊎ ((k : ℕ) × (entry : Entry) × (from ≤ k) × (slice_get entries k ≡ Some entry) × IsNodeOf (children_of entry.node) i)
+
+-- each that is used from here on is the automaton of the node at its place, over the node's own variables
+abbrev pub AreBuilt : List Imported → Mode → List Entry → List Child → List (Content Sign) → Type 0
+AreBuilt imports mode entries roots contents =
+    (i : ℕ) (content : Content Sign) → slice_get contents i ≡ Some content → IsUsedFrom entries roots (length contents) i
     → (entry : Entry) × (slice_get entries i ≡ Some entry) × IsLeastOf mode (variables_by_place entry.orders) (node_meaning imports entries i) content
 
 -- the parts of what is being built
@@ -121,8 +127,15 @@ entries_of plan = plan.dag.now.entries
 abbrev pub imports_for : Plan → List Imported
 imports_for plan = imports_of plan.imports.now
 
+abbrev pub roots_of : Plan → List Child
+roots_of plan = children_of_roots plan.dag.now.roots
+
 abbrev pub AreBuiltFor : Plan → List (Content Sign) → Type 0
-AreBuiltFor plan contents = AreBuilt (imports_for plan) plan.mode (entries_of plan) contents
+AreBuiltFor plan contents = AreBuilt (imports_for plan) plan.mode (entries_of plan) (roots_of plan) contents
+
+-- a node has its automaton among the first so many: it is one of these, and is used from there on
+abbrev pub IsThere : Plan → ℕ → ℕ → Type 0
+IsThere plan count i = (i < count) × IsUsedFrom (entries_of plan) (roots_of plan) count i
 
 -- a limit on nodes and states
 pub record IsLimit (limit : ℕ) : Type 0 where
@@ -155,7 +168,7 @@ IsPairOf plan op left right content =
 -- children that have automata, read at variables of some orders
 abbrev pub AreReadable : Plan → List (Content Sign) → List Child → Type 0
 AreReadable plan built children =
-    ((place : ℕ) (child : Child) → slice_get children place ≡ Some child → child.node < length built)
+    ((place : ℕ) (child : Child) → slice_get children place ≡ Some child → IsThere plan (length built) child.node)
     × ((orders : List Order) × AreReadAt (entries_of plan) orders children)
 
 -- an automaton of the connective of many children, wherever they are read
@@ -239,12 +252,12 @@ IsImported plan entry = (i : ℕ) (xs : List ℕ) → entry.node ≡ Import i xs
 -- a restriction, if there is one, has an automaton, and is read at variables of these orders
 abbrev pub IsDomainRead : Plan → List Order → ℕ → Option Child → Type 0
 IsDomainRead plan inside count None = Unit {0}
-IsDomainRead plan inside count (Some child) = (child.node < count) × IsReadAt (entries_of plan) inside child
+IsDomainRead plan inside count (Some child) = IsThere plan count child.node × IsReadAt (entries_of plan) inside child
 
 -- a quantifier of a node with variables of these orders, whose restriction and body have automata
 pub record IsBinderOf (plan : Plan) (orders : List Order) (count : ℕ) (binder : Binder) : Type 0 where
   pub bound : binder.quantifier.track.variable ≡ length orders
-  pub body : binder.body.now.node < count
+  pub body : IsThere plan count binder.body.now.node
   pub read : IsReadAt (entries_of plan) (orders ++ binder.quantifier.track.order ∷ []) binder.body.now
   pub domain : IsDomainRead plan (orders ++ binder.quantifier.track.order ∷ []) count binder.domain.now
 
@@ -254,7 +267,7 @@ IsBuiltAt plan i content =
     (entry : Entry) × (slice_get (entries_of plan) i ≡ Some entry)
     × IsLeastOf plan.mode (variables_by_place entry.orders) (node_meaning (imports_for plan) (entries_of plan) i) content
 
--- the automata of all nodes of a graph
+-- the automata of all nodes of a graph that are roots
 pub record IsBuiltOver (imports : List (Content Sign)) (mode : Mode) (dag : Dag) (built : Built) : Type 0 where
   pub imports_are : built.plan.imports.now ≡ imports
   pub mode_is : built.plan.mode ≡ mode

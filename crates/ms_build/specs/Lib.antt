@@ -4,3 +4,4 @@ pub mod Roots
 pub mod Laws
 pub mod Lacked
 pub mod Wider
+pub mod Uses

@@ -1,7 +1,7 @@
-ghost use Rattle.std.specs.Prelude.{◌≡◌, ◌<◌, ◌++◌, ◌∷◌, [], length, IfOk};
+ghost use Rattle.std.specs.Prelude.{◌≡◌, ◌++◌, ◌∷◌, [], length, IfOk};
 ghost use Rattle.ms_dfa.specs.Automaton.{variables_of};
 ghost use Rattle.ms_logic.specs.Content.{variables_by_place};
-ghost use Rattle.ms_build.specs.Built.{AreBuiltFor, IsBodyOf, IsLimit, IsReadAt, entries_of};
+ghost use Rattle.ms_build.specs.Built.{AreBuiltFor, IsBodyOf, IsLimit, IsReadAt, IsThere, entries_of};
 
 use crate::children::brought;
 use crate::plan::Plan;
@@ -29,14 +29,14 @@ fn body_tracks(alloc: Global, orders: &[Order], bound: Track) -> Result<List<Tra
 /// The body of a quantifier, over the variables of the node above it, which have these orders, and the bound one.
 pub(crate) fn whole_body(
     plan: &Plan,
-    built: &List<Automaton>,
+    built: &[Automaton],
     body: &Child,
     orders: &[Order],
     bound: Track,
 ) -> Result<Automaton, StepFault>
     requires limit { IsLimit plan.now.limit }
     requires built { AreBuiltFor plan.now built.now }
-    requires there { body.now.node < length built.now }
+    requires there { IsThere plan.now (length built.now) body.now.node }
     requires bound { bound.variable ≡ length orders.now }
     requires read { IsReadAt (entries_of plan.now) (orders.now ++ bound.order ∷ []) body.now }
     ensures { IfOk result (IsBodyOf plan.now (orders.now ++ bound.order ∷ []) body.now) }

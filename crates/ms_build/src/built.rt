@@ -1,19 +1,22 @@
-ghost use Rattle.std.specs.Prelude.{◌≡◌, ◌<◌, ◌≤◌, ◌+◌, length, IfOk, IfErr, OnOk};
+ghost use Rattle.std.specs.Prelude.{◌≡◌, ◌<◌, ◌≤◌, ◌+◌, ◌++◌, [], ◌∷◌, length, IfOk, IfErr, OnOk};
 ghost use Rattle.ms_build.specs.Roots.{AreRootsRead, IsRootAt};
 ghost use Rattle.ms_dag.specs.Dag.{AreNodes};
-ghost use Rattle.ms_build.specs.Built.{AreBuiltFor, AreImportsOf, IsBuiltOver, IsLimit, IsStepRefused, entries_of, refusal_of};
+ghost use Rattle.ms_build.specs.Built.{AreBuiltFor, AreImportsOf, IsBuiltOver, IsLimit, IsStepRefused, entries_of, refusal_of, roots_of};
+ghost use Rattle.ms_build.specs.Uses.{AreLastUses};
 
 use crate::children::least;
 use crate::nodes::node;
 use crate::plan::Plan;
 use crate::roots::over_variables;
+use crate::uses::{last_uses, release};
 use ms_dag::Dag;
 use ms_dfa::Automaton;
-use ms_edge::{List, NoMemory, Refusal, StepFault, push};
+use ms_edge::{List, NoMemory, Refusal, StepFault};
 use ms_logic::Mode;
 use std::alloc::Global;
 
-/// The automata of a graph, by the numbers of its nodes, each over the node's own variables and with fewest states.
+/// The automata of a graph, by the numbers of its nodes: those of the roots, each over the node's own variables and with
+/// fewest states. In the place of another stands its own or a small one that means nothing.
 #[derive(Drop)]
 pub struct Built<'a> {
     pub(crate) plan: Plan<'a>,
@@ -30,19 +33,44 @@ fn refusal(step: u32, limit: u64, fault: StepFault) -> Refusal
     }
 }
 
+/// One automaton more in a list.
+fn push_automaton(automata: &mut Vec<Automaton>, made: Automaton) -> Result<(), StepFault>
+    ensures { IfOk result (λ done. automata.new.items ≡ automata.old.items ++ made ∷ []) }
+{
+    match automata.push(made) {
+        Ok(()) => Ok(()),
+        Err(_) => Err(StepFault::Memory),
+    }
+}
+
 /// The automaton of one node more.
-fn build_next(plan: &Plan, automata: &mut List<Automaton>) -> Result<(), StepFault>
+fn build_next(plan: &Plan, automata: &mut Vec<Automaton>) -> Result<(), StepFault>
     requires limit { IsLimit plan.now.limit }
     requires nodes { AreNodes (entries_of plan.now) }
     requires few { length (entries_of plan.now) ≤ 4294967295 }
     requires imports { AreImportsOf plan.now.imports.now plan.now.mode (entries_of plan.now) }
-    requires built { AreBuiltFor plan.now automata.old }
-    requires next { length automata.old < length (entries_of plan.now) }
-    ensures built { OnOk result (AreBuiltFor plan.now automata.new) }
-    ensures count { OnOk result (length automata.new ≡ length automata.old + 1) }
+    requires built { AreBuiltFor plan.now automata.old.items }
+    requires next { length automata.old.items < length (entries_of plan.now) }
+    ensures { OnOk result (AreBuiltFor plan.now automata.new.items × (length automata.new.items ≡ length automata.old.items + 1)) }
 {
-    let made = node(plan, automata)?;
-    match push(automata, made) {
+    let made = node(plan, automata.as_slice())?;
+    push_automaton(automata, made)
+}
+
+/// The automaton of one node more, without those of its children that no later node uses.
+fn build_step(plan: &Plan, last: &[u32], automata: &mut Vec<Automaton>) -> Result<(), StepFault>
+    requires limit { IsLimit plan.now.limit }
+    requires nodes { AreNodes (entries_of plan.now) }
+    requires few { length (entries_of plan.now) ≤ 4294967295 }
+    requires imports { AreImportsOf plan.now.imports.now plan.now.mode (entries_of plan.now) }
+    requires last { AreLastUses (entries_of plan.now) (roots_of plan.now) last.now }
+    requires built { AreBuiltFor plan.now automata.old.items }
+    requires next { length automata.old.items < length (entries_of plan.now) }
+    ensures built { OnOk result (AreBuiltFor plan.now automata.new.items) }
+    ensures count { OnOk result (length automata.new.items ≡ length automata.old.items + 1) }
+{
+    build_next(plan, automata)?;
+    match release(plan, last, automata) {
         Ok(()) => Ok(()),
         Err(NoMemory) => Err(StepFault::Memory),
     }
@@ -58,17 +86,21 @@ fn build_each(plan: &Plan) -> Result<List<Automaton>, Refusal>
     ensures all { IfOk result (λ made. length made ≡ length (entries_of plan.now)) }
     ensures refused { IfErr result (IsStepRefused (length (entries_of plan.now)) plan.now.limit) }
 {
-    let mut automata = List::new(plan.alloc);
+    let Ok(last) = last_uses(plan) else {
+        return Err(Refusal::Memory);
+    };
+    let mut automata = Vec::new(plan.alloc);
     for step in 0..plan.dag.len() {
-        if let Err(fault) = build_next(plan, &mut automata) {
+        if let Err(fault) = build_step(plan, last.as_slice(), &mut automata) {
             return Err(refusal(step, plan.limit, fault));
         }
     }
-    Ok(automata)
+    Ok(List::from(automata))
 }
 
-/// The automata of the nodes of a graph, lowest first, over the automata of its imports. Nodes and states of a step are
-/// together at most `limit`; a step that needs more is refused by its number.
+/// The automata of the roots of a graph, over the automata of its imports: nodes are built lowest first, and those that
+/// are no roots are let go behind their last use. Nodes and states of a step are together at most `limit`; a step that
+/// needs more is refused by its number.
 pub fn build<'a>(
     alloc: Global,
     dag: &'a Dag,
@@ -116,7 +148,7 @@ impl<'a> Built<'a> {
     {
         let child = self.plan.dag.root(r);
         let variables = self.plan.dag.variables(r);
-        let over = over_variables(&self.plan, &self.automata, child, variables)?;
+        let over = over_variables(&self.plan, self.automata.slice(), child, variables)?;
         least(&self.plan, &over)
     }
 }

@@ -1,11 +1,11 @@
-ghost use Rattle.std.specs.Prelude.{◌≡◌, ◌<◌, length, IfOk};
+ghost use Rattle.std.specs.Prelude.{◌≡◌, length, IfOk};
 ghost use Rattle.ms_minim.specs.Residual.{HasFewestStates, HaveEqualSigns};
-ghost use Rattle.ms_build.specs.Built.{AreBuiltFor, HasOnly, IsBrought, IsLimit, IsReadSomewhere};
+ghost use Rattle.ms_build.specs.Built.{AreBuiltFor, HasOnly, IsBrought, IsLimit, IsReadSomewhere, IsThere};
 
 use crate::plan::Plan;
 use ms_dag::Child;
 use ms_dfa::Automaton;
-use ms_edge::{List, StepFault};
+use ms_edge::StepFault;
 use ms_minim::minimise;
 use ms_rename::rename;
 
@@ -23,17 +23,17 @@ pub(crate) fn least(plan: &Plan, made: &Automaton) -> Result<Automaton, StepFaul
 /// The automaton of a child, over the variables of the node above it that the child has.
 pub(crate) fn brought(
     plan: &Plan,
-    built: &List<Automaton>,
+    built: &[Automaton],
     child: &Child,
 ) -> Result<Automaton, StepFault>
     requires limit { IsLimit plan.now.limit }
     requires built { AreBuiltFor plan.now built.now }
-    requires there { child.now.node < length built.now }
+    requires there { IsThere plan.now (length built.now) child.now.node }
     requires read { IsReadSomewhere plan.now child.now }
     ensures part { IfOk result (IsBrought plan.now child.now) }
     ensures only { IfOk result (HasOnly child.now.map) }
 {
-    let automaton = built.get(child.node as usize);
+    let automaton = &built[child.node as usize];
     // The states tell that it is an automaton.
     let _ = automaton.states();
     rename(plan.alloc, automaton, child.map.slice(), plan.limit)

@@ -1,6 +1,6 @@
-ghost use Rattle.std.specs.Prelude.{◌≡◌, ◌<◌, [], length, IfOk};
+ghost use Rattle.std.specs.Prelude.{◌≡◌, [], length, IfOk};
 ghost use Rattle.ms_minim.specs.Residual.{HaveEqualSigns};
-ghost use Rattle.ms_build.specs.Built.{AreBuiltFor, AreReadSomewhere, AreReadable, IsLimit, IsManyOf, IsNegationOf, IsPairOf, IsReadSomewhere, IsRestrictionOf, op_of};
+ghost use Rattle.ms_build.specs.Built.{AreBuiltFor, AreReadSomewhere, AreReadable, IsLimit, IsManyOf, IsNegationOf, IsPairOf, IsReadSomewhere, IsRestrictionOf, IsThere, op_of};
 
 use crate::children::{brought, least};
 use crate::plan::{Many, Plan};
@@ -13,15 +13,15 @@ use ms_product::{Op, combine, negate, restrict_to};
 /// The connective of two children.
 pub(crate) fn pair(
     plan: &Plan,
-    built: &List<Automaton>,
+    built: &[Automaton],
     left: &Child,
     right: &Child,
     op: Op,
 ) -> Result<Automaton, StepFault>
     requires limit { IsLimit plan.now.limit }
     requires built { AreBuiltFor plan.now built.now }
-    requires left { left.now.node < length built.now }
-    requires right { right.now.node < length built.now }
+    requires left { IsThere plan.now (length built.now) left.now.node }
+    requires right { IsThere plan.now (length built.now) right.now.node }
     requires read { AreReadSomewhere plan.now left.now right.now }
     ensures { IfOk result (IsPairOf plan.now op left.now right.now) }
 {
@@ -36,12 +36,12 @@ pub(crate) fn pair(
 /// The negation of a child.
 pub(crate) fn negation(
     plan: &Plan,
-    built: &List<Automaton>,
+    built: &[Automaton],
     child: &Child,
 ) -> Result<Automaton, StepFault>
     requires limit { IsLimit plan.now.limit }
     requires built { AreBuiltFor plan.now built.now }
-    requires there { child.now.node < length built.now }
+    requires there { IsThere plan.now (length built.now) child.now.node }
     requires read { IsReadSomewhere plan.now child.now }
     ensures { IfOk result (IsNegationOf plan.now child.now) }
 {
@@ -57,12 +57,12 @@ pub(crate) fn negation(
 /// A child as a restriction.
 pub(crate) fn restriction(
     plan: &Plan,
-    built: &List<Automaton>,
+    built: &[Automaton],
     child: &Child,
 ) -> Result<Automaton, StepFault>
     requires limit { IsLimit plan.now.limit }
     requires built { AreBuiltFor plan.now built.now }
-    requires there { child.now.node < length built.now }
+    requires there { IsThere plan.now (length built.now) child.now.node }
     requires read { IsReadSomewhere plan.now child.now }
     ensures { IfOk result (IsRestrictionOf plan.now child.now) }
 {
@@ -116,7 +116,7 @@ fn of_first(plan: &Plan, made: Automaton, count: usize) -> Result<Automaton, Ste
 /// The connective of these children, from the left. That of the first ones has fewest states.
 pub(crate) fn many(
     plan: &Plan,
-    built: &List<Automaton>,
+    built: &[Automaton],
     children: &List<Child>,
     many: Many,
 ) -> Result<Automaton, StepFault>

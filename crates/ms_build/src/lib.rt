@@ -1,4 +1,4 @@
-//! From a graph of formulas to automata of fewest states, one for each node.
+//! From a graph of formulas to automata of fewest states, one for each root.
 #![tactic(auto)]
 
 mod bodies;
@@ -12,6 +12,7 @@ mod nodes;
 mod plan;
 mod quantified;
 mod roots;
+mod uses;
 mod wider;
 
 pub use built::{Built, build};

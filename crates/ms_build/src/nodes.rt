@@ -1,4 +1,4 @@
-ghost use Rattle.std.specs.Prelude.{◌≡◌, ◌<◌, ◌≤◌, length, IfOk};
+ghost use Rattle.std.specs.Prelude.{◌≡◌, ◌<◌, ◌≤◌, length, slice_get, Some, IfOk};
 ghost use Rattle.ms_dag.specs.Dag.{AreNodes, IsNode};
 ghost use Rattle.ms_build.specs.Built.{AreBuiltFor, AreImportsOf, IsBuiltAt, IsImported, IsLimit, IsMadeOf, IsQuantifiedOf, IsBinderOf, entries_of};
 
@@ -9,7 +9,7 @@ use crate::plan::{Many, Plan};
 use crate::quantified::{Scope, over_all, within};
 use ms_dag::{Child, DagNode, Entry};
 use ms_dfa::{Automaton, Track};
-use ms_edge::{List, StepFault};
+use ms_edge::StepFault;
 use ms_logic::Order;
 use ms_product::Op;
 use ms_project::Quantifier;
@@ -24,7 +24,7 @@ pub(crate) struct Binder<'a> {
 
 fn quantified(
     plan: &Plan,
-    built: &List<Automaton>,
+    built: &[Automaton],
     binder: Binder,
     orders: &[Order],
 ) -> Result<Automaton, StepFault>
@@ -46,9 +46,10 @@ fn quantified(
 }
 
 /// The automaton of a node, by its form.
-fn of_form(plan: &Plan, built: &List<Automaton>, entry: &Entry) -> Result<Automaton, StepFault>
+fn of_form(plan: &Plan, built: &[Automaton], entry: &Entry) -> Result<Automaton, StepFault>
     requires limit { IsLimit plan.now.limit }
     requires built { AreBuiltFor plan.now built.now }
+    requires held { slice_get (entries_of plan.now) (length built.now) ≡ Some entry.now }
     requires node { IsNode (entries_of plan.now) (length built.now) entry.now }
     requires imports { IsImported plan.now entry.now }
     ensures { IfOk result (IsMadeOf plan.now entry.now entry.now.node) }
@@ -85,7 +86,7 @@ fn of_form(plan: &Plan, built: &List<Automaton>, entry: &Entry) -> Result<Automa
 }
 
 /// The automaton of the next node, with fewest states.
-pub(crate) fn node(plan: &Plan, built: &List<Automaton>) -> Result<Automaton, StepFault>
+pub(crate) fn node(plan: &Plan, built: &[Automaton]) -> Result<Automaton, StepFault>
     requires limit { IsLimit plan.now.limit }
     requires nodes { AreNodes (entries_of plan.now) }
     requires imports { AreImportsOf plan.now.imports.now plan.now.mode (entries_of plan.now) }

@@ -1,27 +1,27 @@
-ghost use Rattle.std.specs.Prelude.{◌≡◌, ◌<◌, ◌++◌, ◌∷◌, [], length, IfOk, Some, None};
+ghost use Rattle.std.specs.Prelude.{◌≡◌, ◌++◌, ◌∷◌, [], length, IfOk, Some, None};
 ghost use Rattle.ms_dfa.specs.Automaton.{variable_of};
-ghost use Rattle.ms_build.specs.Built.{AreBuiltFor, IsLimit, IsQuantifiedOf, IsReadAt, entries_of};
+ghost use Rattle.ms_build.specs.Built.{AreBuiltFor, IsLimit, IsQuantifiedOf, IsReadAt, IsThere, entries_of};
 
 use crate::bodies::whole_body;
 use crate::children::brought;
 use crate::plan::Plan;
 use ms_dag::Child;
 use ms_dfa::Automaton;
-use ms_edge::{List, StepFault};
+use ms_edge::StepFault;
 use ms_logic::Order;
 use ms_project::{Quantifier, project};
 
 /// A quantifier over all values of its variable.
 pub(crate) fn over_all(
     plan: &Plan,
-    built: &List<Automaton>,
+    built: &[Automaton],
     quantifier: Quantifier,
     body: &Child,
     orders: &[Order],
 ) -> Result<Automaton, StepFault>
     requires limit { IsLimit plan.now.limit }
     requires built { AreBuiltFor plan.now built.now }
-    requires there { body.now.node < length built.now }
+    requires there { IsThere plan.now (length built.now) body.now.node }
     requires bound { quantifier.track.variable ≡ length orders.now }
     requires read { IsReadAt (entries_of plan.now) (orders.now ++ quantifier.track.order ∷ []) body.now }
     ensures { IfOk result (IsQuantifiedOf plan.now orders.now quantifier None body.now) }
@@ -42,15 +42,15 @@ pub(crate) struct Scope<'a> {
 /// A quantifier over the values at which its restriction is met.
 pub(crate) fn within(
     plan: &Plan,
-    built: &List<Automaton>,
+    built: &[Automaton],
     quantifier: Quantifier,
     scope: Scope,
     orders: &[Order],
 ) -> Result<Automaton, StepFault>
     requires limit { IsLimit plan.now.limit }
     requires built { AreBuiltFor plan.now built.now }
-    requires there { scope.body.now.node < length built.now }
-    requires domain_there { scope.domain.now.node < length built.now }
+    requires there { IsThere plan.now (length built.now) scope.body.now.node }
+    requires domain_there { IsThere plan.now (length built.now) scope.domain.now.node }
     requires bound { quantifier.track.variable ≡ length orders.now }
     requires read { IsReadAt (entries_of plan.now) (orders.now ++ quantifier.track.order ∷ []) scope.body.now }
     requires domain_read { IsReadAt (entries_of plan.now) (orders.now ++ quantifier.track.order ∷ []) scope.domain.now }

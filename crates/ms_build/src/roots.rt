@@ -1,6 +1,6 @@
 ghost use Rattle.std.specs.Prelude.{◌≡◌, ◌<◌, ℕ, length, slice_get, IfOk, Some};
 ghost use Rattle.ms_dfa.specs.Automaton.{variables_of};
-ghost use Rattle.ms_build.specs.Built.{AreBuiltFor, IsLimit, IsReadAt, entries_of};
+ghost use Rattle.ms_build.specs.Built.{AreBuiltFor, IsLimit, IsReadAt, IsThere, entries_of};
 ghost use Rattle.ms_build.specs.Roots.{AreRootVariables, IsOverRoot, named};
 
 use crate::children::brought;
@@ -29,13 +29,13 @@ fn root_tracks(plan: &Plan, variables: &[u32]) -> Result<List<Track>, NoMemory>
 /// The automaton of a root's formula, over the root's variables.
 pub(crate) fn over_variables(
     plan: &Plan,
-    built: &List<Automaton>,
+    built: &[Automaton],
     child: &Child,
     variables: &[u32],
 ) -> Result<Automaton, StepFault>
     requires limit { IsLimit plan.now.limit }
     requires built { AreBuiltFor plan.now built.now }
-    requires there { child.now.node < length built.now }
+    requires there { IsThere plan.now (length built.now) child.now.node }
     requires read { IsReadAt (entries_of plan.now) plan.now.dag.now.orders child.now }
     requires variables { AreRootVariables plan.now.dag.now.orders child.now variables.now }
     ensures { IfOk result (IsOverRoot plan.now child.now variables.now) }

@@ -66,6 +66,13 @@ impl Dag {
         self.roots.len() as u32
     }
 
+    /// The roots, by their numbers.
+    pub fn shared_roots(&self) -> &[SharedRoot]
+        ensures { result.now ≡ self.now.roots }
+    {
+        self.roots.slice()
+    }
+
     /// The formula of this root, whose variables have their numbers in the source.
     pub fn root(&self, r: u32) -> &Child
         requires { r < length self.now.roots }

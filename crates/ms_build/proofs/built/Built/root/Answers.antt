@@ -1,7 +1,10 @@
-use Rattle.std.proofs.Common.{sym, subst, arith}
-use Rattle.std.proofs.lemmas.Option.{slice_get_within}
-use Rattle.ms_build.specs.Built.{IsReadAt, entries_of}
+use Rattle.std.proofs.Common.{inl, map, length, sym, ap, subst, ◌∙◌, arith}
+use Rattle.std.specs.Option.{option_map}
+use Rattle.std.proofs.lemmas.Option.{slice_get-map, slice_get_within}
+use Rattle.ms_dag.specs.declared.node.Child.{Child}
+use Rattle.ms_build.specs.Built.{IsReadAt, entries_of, roots_of}
 use Rattle.ms_build.specs.Roots.{AreRootVariables, IsOverRoot}
+use Rattle.ms_build.proofs.PlaceLemmas.{contains_at}
 use Rattle.ms_build.proofs.RootLemmas.{root_at, root_by}
 use Rattle.ms_build.proofs.built.Built.root.Goals as goal
 
@@ -18,7 +21,11 @@ over_variables-requires-clause-there c =
     let read = subst (IsReadAt (entries_of plan) plan.dag.now.orders) root.2 (c.requires.read c.args.r root.0 root.1).0 in
     let less = slice_get_within (entries_of plan) c.root-child.result.now.node read.0 read.1 in
     let all = c.requires.all in
-    omega (arith, less, all)
+    let same = ap length c.slice.ensures in (
+      omega (arith, less, all, same),
+      inl (contains_at (map (λ (c : Child). c.node) (roots_of plan)) c.args.r c.root-child.result.now.node
+          (slice_get-map (λ (c : Child). c.node) (roots_of plan) c.args.r ∙ ap (option_map (λ (c : Child). c.node)) c.root-child.ensures)),
+    )
 
 pub over_variables-requires-clause-variables : goal.over_variables-requires-clause-variables
 over_variables-requires-clause-variables c =
