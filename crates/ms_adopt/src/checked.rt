@@ -9,11 +9,9 @@ ghost use Rattle.ms_adopt.specs.Said.{IsAtLimit, read_over};
 ghost use Rattle.ms_adopt.specs.Sets.{as_sets};
 
 use ms_dfa::{Automaton, Track};
-use ms_diagram::{PairTable, Pairs, Store};
 use ms_edge::{List, StepFault};
-use ms_explore::explore;
 use ms_logic::Mode;
-use ms_product::{Op, Product, ProductMachine, bring};
+use ms_product::{Op, Paired, pair_up, widen};
 use std::alloc::Global;
 
 /// What is said where numbers are read as sets, over the tracks themselves: Outside where a word encodes no numbers. The
@@ -34,37 +32,23 @@ pub(crate) fn checked(
     ensures checked { IfOk result (IsChecked said.now (variables_of tracks)) }
     ensures limit { IfErr result (IsAtLimit limit) }
 {
-    let mut store = Store::new(alloc, limit);
-    let left = match bring(alloc, &mut store, said, said.tracks()) {
-        Ok(left) => left,
-        Err(fault) => return Err(fault),
-    };
     // The states tell that it is an automaton.
     let _ = numbers.states();
-    let right = match bring(alloc, &mut store, numbers, tracks.slice()) {
-        Ok(right) => right,
+    let Ok(left) = widen(alloc, said, said.tracks()) else {
+        return Err(StepFault::Memory);
+    };
+    let Ok(right) = widen(alloc, numbers, tracks.slice()) else {
+        return Err(StepFault::Memory);
+    };
+    let paired = match pair_up(alloc, Op::And, left, right, limit) {
+        Ok(paired) => paired,
         Err(fault) => return Err(fault),
     };
-    let op = Op::And;
-    let pairs = Pairs::new(alloc);
-    let product = Product {
-        op,
-        left,
-        right,
-        pairs,
-    };
-    let mut machine = ProductMachine {
-        product,
-        table: PairTable::new(alloc),
-    };
-    let mut states = List::new(alloc);
-    let explored = explore(&mut machine, &mut store, &mut states);
-    let product = machine.product;
-    // The length tells that the pairs are a numbering.
-    let _ = product.pairs.len();
-    let start = match explored {
-        Ok(start) => start,
-        Err(fault) => return Err(fault),
-    };
+    let Paired {
+        store,
+        start,
+        states,
+        pairs: _,
+    } = paired;
     Ok(Automaton::make(store, Mode::M2lStr, tracks, start, states))
 }

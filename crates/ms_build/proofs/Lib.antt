@@ -18,3 +18,4 @@ pub mod RefusalLemmas
 pub mod VariableLemmas
 pub mod WiderLemmas
 pub mod LackedLemmas
+pub mod ExampleLemmas

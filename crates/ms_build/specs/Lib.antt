@@ -5,3 +5,4 @@ pub mod Laws
 pub mod Lacked
 pub mod Wider
 pub mod Uses
+pub mod Examples

@@ -1,5 +1,5 @@
 ghost use Rattle.std.specs.Prelude.{◌≡◌, [], length, IfOk};
-ghost use Rattle.ms_minim.specs.Residual.{HaveEqualSigns};
+ghost use Rattle.ms_minim.specs.Residual.{HasFewestStates, HaveEqualSigns};
 ghost use Rattle.ms_build.specs.Built.{AreBuiltFor, AreReadSomewhere, AreReadable, IsLimit, IsManyOf, IsNegationOf, IsPairOf, IsReadSomewhere, IsRestrictionOf, IsThere, op_of};
 
 use crate::children::{brought, least};
@@ -106,6 +106,7 @@ fn of_first(plan: &Plan, made: Automaton, count: usize) -> Result<Automaton, Ste
     ensures mode { IfOk result (λ few. few.mode ≡ made.mode) }
     ensures variables { IfOk result (λ few. few.variables ≡ made.variables) }
     ensures signs { IfOk result (HaveEqualSigns made) }
+    ensures fewest { IfOk result (λ few. ¬ (count ≡ 1) → HasFewestStates few) }
 {
     if count == 1 {
         return Ok(made);

@@ -5,6 +5,7 @@ mod bodies;
 mod built;
 mod children;
 mod connectives;
+mod examples;
 mod lacked;
 mod laws;
 mod leaves;
@@ -16,4 +17,5 @@ mod uses;
 mod wider;
 
 pub use built::{Built, build};
+pub use examples::{worked_last_uses, worked_uses};
 pub use laws::laws_of_built;

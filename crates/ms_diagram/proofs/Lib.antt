@@ -1,3 +1,4 @@
+pub mod AcrossLemmas
 pub mod ApplyLemmas
 pub mod BringLemmas
 pub mod Building
@@ -15,6 +16,7 @@ pub mod PlaceLemmas
 pub mod RelabelLemmas
 pub mod RootLemmas
 pub mod SetLemmas
+pub mod ShortLemmas
 pub mod StoreLemmas
 pub mod TableGrowth
 pub mod TableLemmas

@@ -1,3 +1,4 @@
+pub mod Across
 pub mod Adding
 pub mod Apply
 pub mod Applying
@@ -5,6 +6,7 @@ pub mod Bring
 pub mod Bringing
 pub mod Collect
 pub mod Collecting
+pub mod Crossing
 pub mod Equal
 pub mod Growth
 pub mod Leaves
@@ -13,6 +15,8 @@ pub mod Numbering
 pub mod Places
 pub mod Relabel
 pub mod Relabelling
+pub mod Short
+pub mod Side
 pub mod Store
 pub mod Table
 pub mod Walk

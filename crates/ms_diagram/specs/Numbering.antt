@@ -1,5 +1,5 @@
 -- Numberings: the number of an item is its place in a list without repeats.
-use Rattle.std.specs.Prelude.{◌≡◌, ◌≢◌, ◌⊎◌, ℕ, ◌≤◌, List, [], ◌∷◌, ◌++◌, length, slice_get, Some}
+use Rattle.std.specs.Prelude.{◌≡◌, ◌≢◌, ◌⊎◌, ℕ, ◌<◌, ◌≤◌, List, [], ◌∷◌, ◌++◌, length, slice_get, Some}
 use Rattle.ms_arena.specs.declared.node.Ref.{Ref}
 use Rattle.ms_arena.specs.declared.node.Ref.TheVariants.{Leaf, Inner}
 
@@ -12,6 +12,11 @@ HasNoRepeats {X} items =
 pub record IsNumbering {X : Type 0} (items : List X) : Type 0 where
   pub no_repeats : HasNoRepeats items
   pub small : length items ≤ 4294967295
+
+-- so many numbers, each of which is that of the pair of itself and 0
+pub record AreOwnPairs (count : ℕ) (pairs : List (ℕ × ℕ)) : Type 0 where
+  pub long : length pairs ≡ count
+  pub own : (number : ℕ) → number < count → slice_get pairs number ≡ Some (number, 0)
 
 -- the item has no number
 abbrev pub IsMissing : {X : Type 0} → List X → X → Type 0

@@ -3,6 +3,8 @@ pub use Rattle.ms_cache.specs.Memo.{EachEntry}
 use Rattle.std.specs.Prelude.{ℕ, List, Vec}
 use Rattle.ms_arena.specs.declared.node.Ref.{Ref}
 use Rattle.ms_arena.specs.declared.node.Node.{Node}
+use Rattle.ms_diagram.specs.declared.sides.Sides.{Sides}
+use Rattle.ms_diagram.specs.Across.{IsPairedAcross}
 use Rattle.ms_diagram.specs.Apply.{IsPaired}
 use Rattle.ms_diagram.specs.Bring.{IsBrought}
 use Rattle.ms_diagram.specs.Collect.{IsCollected}
@@ -11,6 +13,10 @@ use Rattle.ms_diagram.specs.Relabel.{IsRelabelled}
 -- each pair of references has become the reference of the numbers of its leaves' pairs
 abbrev pub ArePaired : List Node → List (ℕ × ℕ) → List ((Ref × Ref) × Ref) → Type 0
 ArePaired nodes pairs = EachEntry (IsPaired nodes pairs)
+
+-- the same for references of other stores
+abbrev pub ArePairedAcross : Sides → List (ℕ × ℕ) → List Node → List ((Ref × Ref) × Ref) → Type 0
+ArePairedAcross sides pairs nodes = EachEntry (IsPairedAcross sides pairs nodes)
 
 -- each list of references has become the reference of the numbers of its sets of leaves
 abbrev pub AreCollected : {A : Type 0} → List Node → List (List ℕ) → ℕ → List (Vec Ref A × Ref) → Type 0

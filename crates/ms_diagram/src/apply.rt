@@ -12,7 +12,7 @@ use ms_edge::StepFault;
 
 // Two diagrams at one place: two leaves, or the first variable of the two with their halves.
 #[derive(Clone, Copy)]
-enum PairSplit {
+pub(crate) enum PairSplit {
     Leaves(u32, u32),
     Branch {
         var: u32,
@@ -108,7 +108,12 @@ impl Store {
     }
 
     // The leaf with the number of the pair.
-    fn pair_leaf(&self, left: u32, right: u32, pairs: &mut Pairs) -> Result<Ref, StepFault>
+    pub(crate) fn pair_leaf(
+        &self,
+        left: u32,
+        right: u32,
+        pairs: &mut Pairs,
+    ) -> Result<Ref, StepFault>
         ensures made { IfOk result (IsLeafOf pairs.new (left, right)) }
         ensures pairs { Extends pairs.old pairs.new }
         ensures added { AddsOnly (λ pair. pair ≡ (left, right)) pairs.old pairs.new }

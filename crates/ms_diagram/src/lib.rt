@@ -3,23 +3,28 @@
 //! The calls that go over a diagram do it with a stack of their own on the heap, so no path is too long for them.
 #![tactic(auto)]
 
+mod across;
 mod apply;
 mod bring;
 mod collect;
 mod halves;
 mod leaves;
 mod notes;
+mod pair_table;
 mod pairs;
 mod places;
 mod relabel;
 mod roots;
 mod sets;
+mod sides;
 mod store;
 mod tables;
 mod walk;
 
+pub use pair_table::PairTable;
 pub use pairs::Pairs;
 pub use places::PlaceTable;
 pub use sets::Sets;
+pub use sides::{Renamed, Sides};
 pub use store::Store;
-pub use tables::{ListTable, PairTable, Table};
+pub use tables::{ListTable, Table};

@@ -1,5 +1,5 @@
 ghost use Rattle.std.specs.Prelude.{◌≡◌, ◌<◌, [], length, slice_get, IfOk, OnErr, MatchOption};
-ghost use Rattle.ms_diagram.specs.Numbering.{IsMissing, IsNumbering, Numbers};
+ghost use Rattle.ms_diagram.specs.Numbering.{AreOwnPairs, IsMissing, IsNumbering, Numbers};
 
 use indexmap::IndexSet;
 use ms_edge::NoMemory;
@@ -31,6 +31,17 @@ impl Pairs {
         Pairs {
             pairs: IndexSet::new(alloc),
         }
+    }
+
+    /// So many pairs, each of its own number and 0.
+    pub fn own(alloc: Global, count: u32) -> Result<Pairs, NoMemory>
+        ensures { IfOk result (AreOwnPairs count) }
+    {
+        let mut pairs = Pairs::new(alloc);
+        for number in 0..count {
+            let _ = pairs.number(number, 0)?;
+        }
+        Ok(pairs)
     }
 
     pub fn len(&self) -> u32

@@ -73,6 +73,14 @@ impl Store {
         self.limit
     }
 
+    /// Makes room for so many more nodes at once, or for as many as the store may hold.
+    pub fn reserve(&mut self, more: u64) -> Result<(), NoMemory>
+        ensures { self.new ≡ self.old }
+    {
+        let room = more.min(self.limit - self.len());
+        self.nodes.reserve(room as u32)
+    }
+
     /// How often `apply` has found in the memo what it was to build, up to the greatest `u64`.
     pub fn hits(&self) -> u64 {
         match &self.memo {

@@ -2,9 +2,11 @@ ghost use Rattle.std.specs.Prelude.{◌≡◌, [], All};
 ghost use Rattle.ms_arena.specs.Diagram.{IsValid};
 ghost use Rattle.ms_arena.specs.Target.{Extends};
 
+use crate::pair_table::PairTable;
 use crate::pairs::Pairs;
 use crate::places::PlaceTable;
 use crate::sets::Sets;
+use crate::sides::Sides;
 use crate::store::Store;
 use indexmap::IndexMap;
 use ms_arena::Ref;
@@ -24,9 +26,6 @@ impl<K: Eq + Hash + Drop> Drop for Table<K> {
         let Table { done: _ } = self;
     }
 }
-
-/// What pairs of references have become, where a numbering of pairs grows beside it.
-pub type PairTable = Table<(Ref, Ref)>;
 
 /// What lists of references have become, where a numbering of sets grows beside it.
 pub type ListTable = Table<Vec<Ref>>;
@@ -52,13 +51,14 @@ impl<K: Eq + Hash + Drop> Table<K> {
 }
 
 impl Store {
+    ghost use Rattle.ms_diagram.specs.Across.{AreOn, HasLeavesAcross, LacksAcross, NumberAcross};
     ghost use Rattle.ms_diagram.specs.Apply.{HasLeaves, LacksPair, PairNumber};
     ghost use Rattle.ms_diagram.specs.Bring.{RenamedLeaf, Renames};
     ghost use Rattle.ms_diagram.specs.Collect.{HasLeafSet, LacksSet, SetNumber};
     ghost use Rattle.ms_diagram.specs.Growth.{Builds};
     ghost use Rattle.ms_diagram.specs.Numbering.{AddsOnly};
     ghost use Rattle.ms_diagram.specs.Relabel.{CoversLeaves, MappedLeaf};
-    ghost use Rattle.ms_diagram.specs.Table.{AreBrought, AreCollected, ArePaired, AreRelabelled};
+    ghost use Rattle.ms_diagram.specs.Table.{AreBrought, AreCollected, ArePaired, ArePairedAcross, AreRelabelled};
 
     /// What `apply` gives, over what earlier calls have noted for these pairs.
     pub fn apply_with(
@@ -79,7 +79,30 @@ impl Store {
         // The lengths tell that the pairs are a numbering, and the nodes those of a store.
         let _ = pairs.len();
         let _ = self.len();
-        self.apply_at(f, g, pairs, &mut table.done)
+        self.apply_at(f, g, pairs, table)
+    }
+
+    /// What `apply_with` gives for two diagrams of other stores, none of whose nodes come into this one: the function that
+    /// has at each bits the number of the pair of their leaves, over what earlier calls have noted for these stores. A pair
+    /// that is new gets its number at first sight; no other gets one.
+    pub fn apply_across(
+        &mut self,
+        sides: &Sides,
+        roots: (Ref, Ref),
+        pairs: &mut Pairs,
+        table: &mut PairTable,
+    ) -> Result<Ref, StepFault>
+        requires on { AreOn sides.now roots }
+        requires table { ArePairedAcross sides.now pairs.old self.old.nodes table.old }
+        ensures builds { Builds self.old self.new (NumberAcross sides.now pairs.new roots) (LacksAcross sides.now pairs.new roots) result }
+        ensures pairs { Extends pairs.old pairs.new }
+        ensures added { AddsOnly (HasLeavesAcross sides.now roots) pairs.old pairs.new }
+        ensures table { ArePairedAcross sides.now pairs.new self.new.nodes table.new }
+    {
+        // The lengths tell that the pairs are a numbering, and the nodes those of a store.
+        let _ = pairs.len();
+        let _ = self.len();
+        self.cross(sides, roots, pairs, table)
     }
 
     /// What `collect` gives, over what earlier calls have noted for these sets and this track.

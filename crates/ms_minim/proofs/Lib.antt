@@ -1,4 +1,6 @@
 pub mod ExampleLemmas
+pub mod ExampleOrigins
+pub mod ExampleImages
 pub mod Pigeonhole
 pub mod LettersLemmas
 pub mod ResidualLemmas
@@ -14,4 +16,5 @@ pub mod FewestLemmas
 pub mod NodeLemmas
 pub mod PredecessorsLemmas
 pub mod GroupingLemmas
+pub mod SettledLemmas
 pub mod SignatureLemmas

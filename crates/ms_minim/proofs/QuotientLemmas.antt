@@ -177,11 +177,9 @@ module _ (content : Content Sign) (classes members map : List ℕ) (pairs : List
       IsQuotient-next added = with_reached (IsClassBehind content classes root) added (λ pair_behind behind.
           (reached_next pair.0 state (quotient.reached number pair held).0 (quotient.nerode.partition.inhabited.member pair.0 state member) root next pair_behind behind, behind.2))
 
-      -- a state of the quotient leads where the state of its class does
-      pub Builds-leads_on : (old new : Contents) (result : Result Ref StepFault) → Builds old new (NumberBehind content classes late root) ⊥ result
-          → Builds old new (LeadsOn content classes members late number) ⊥ result
-      Builds-leads_on old new result = Builds-implies old new (NumberBehind content classes late root) (LeadsOn content classes members late number) ⊥ ⊥
-          (λ bits later is.
+      -- what is right behind the state of its class is right behind a number
+      pub LeadsOn-behind : (bits : Bits) (later : ℕ) → NumberBehind content classes late root bits later → LeadsOn content classes members late number bits later
+      LeadsOn-behind bits later is =
           let class_is = quotient.nerode.partition.inhabited.member pair.0 state member in
           let within : state < length content.states = (let all = quotient.nerode.partition.all in let less = slice_get_within classes state pair.0 class_is in omega (arith, all, less)) in
           let zero_is : pair.1 ≡ 0 = (quotient.reached number pair held).1 in
@@ -193,8 +191,12 @@ module _ (content : Content Sign) (classes members map : List ℕ) (pairs : List
               member_is = member;
             };
             leads = subst (λ s. IsNumberOf classes late s later) (sym (leads_by content classes state root within next bits)) is;
-          })
-          (λ never. never) result
+          }
+
+      -- so a state of the quotient leads where the state of its class does
+      pub Builds-leads_on : (old new : Contents) (result : Result Ref StepFault) → Builds old new (NumberBehind content classes late root) ⊥ result
+          → Builds old new (LeadsOn content classes members late number) ⊥ result
+      Builds-leads_on old new result = Builds-implies old new (NumberBehind content classes late root) (LeadsOn content classes members late number) ⊥ ⊥ LeadsOn-behind (λ never. never) result
 
   -- a number has a class, and the class a state
   pub class_within : (number : ℕ) (pair : ℕ × ℕ) → slice_get pairs number ≡ Some pair → pair.0 < length members

@@ -1,12 +1,16 @@
--- Contents over one set for worked examples.
-use Rattle.std.specs.Prelude.{List, [], ◌∷◌}
+-- Contents over one set for worked examples, and nodes, origins and images for them.
+use Rattle.std.specs.Prelude.{◌≡◌, ℕ, List, [], ◌∷◌}
+use Rattle.ms_arena.specs.declared.node.Ref.{Ref}
 use Rattle.ms_arena.specs.declared.node.Ref.TheVariants.{Leaf, Inner}
+use Rattle.ms_arena.specs.declared.node.Node.{Node}
 use Rattle.ms_logic.specs.declared.mode.Mode.TheVariants.{M2lStr}
 use Rattle.ms_logic.specs.declared.mode.Order.TheVariants.{Two}
 use Rattle.ms_logic.specs.declared.sign.Sign.{Sign}
 use Rattle.ms_logic.specs.declared.sign.Sign.TheVariants.{Yes, No}
 use Rattle.ms_logic.specs.Assignment.{Variable}
 use Rattle.ms_logic.specs.Content.{Content}
+use Rattle.ms_minim.specs.declared.images.Images.{Images}
+use Rattle.ms_minim.specs.declared.origins.Origins.{Origins}
 
 abbrev pub one_set : List Variable
 one_set = record { name = 0; order = Two } ∷ []
@@ -40,3 +44,19 @@ with_unreached = record {
   states = record { sign = Yes; next = Leaf 0 } ∷ record { sign = No; next = Leaf 1 } ∷ [];
   nodes = [];
 }
+
+-- one node that tests a variable, with leaves at its ends
+abbrev pub one_node : ℕ → ℕ → ℕ → List Node
+one_node var low high = record { var = var; low = Leaf low; high = Leaf high } ∷ []
+
+-- a node, and another that leads to it
+abbrev pub two_nodes : List Node
+two_nodes = record { var = 1; low = Leaf 0; high = Leaf 1 } ∷ record { var = 0; low = Inner 0; high = Leaf 2 } ∷ []
+
+-- these are the origins of the nodes, and these those of the states
+abbrev pub AreNoted : Origins → List ℕ → List ℕ → Type 0
+AreNoted origins nodes states = (origins.nodes.items ≡ nodes) × (origins.states.items ≡ states)
+
+-- the image of one node, in a store for one node
+abbrev pub one_image : List Node → Ref → Images
+one_image nodes image = record { store = record { nodes = nodes; limit = 1 }; list = image ∷ [] }

@@ -1,9 +1,13 @@
 ghost use Rattle.ms_minim.specs.Residual.{HaveEqualResiduals, HasFewestStates};
-ghost use Rattle.std.specs.Prelude.{◌≡◌};
+ghost use Rattle.std.specs.Prelude.{◌≡◌, [], ◌∷◌};
+ghost use Rattle.ms_arena.specs.declared.node.Ref.TheVariants.{Leaf, Inner};
 ghost use Rattle.ms_logic.specs.declared.sign.Sign.TheVariants.{No, Undefined, Outside};
+ghost use Rattle.ms_minim.specs.declared.origins.Origins.{Origins};
 ghost use Rattle.ms_minim.specs.declared.reading.Reading.TheVariants.{AsInFiles, AsTheyAre};
 ghost use Rattle.ms_minim.specs.Reading.{read_sign};
-ghost use Rattle.ms_minim.specs.Examples.{three_states, one_state, with_unreached};
+ghost use Rattle.ms_minim.specs.Examples.{AreNoted, one_image, one_node, one_state, three_states, two_nodes, with_unreached};
+ghost use Rattle.ms_minim.specs.Image.{AreImages, IsImage, image_of};
+ghost use Rattle.ms_minim.specs.Origin.{AreClosed, AreOrigins, ComesFrom, nowhere};
 
 /// States that lead to each other with one sign have equal residuals, and states with different signs have not.
 pub fn worked_residuals()
@@ -22,4 +26,62 @@ pub fn worked_readings()
     ensures own { read_sign AsTheyAre Undefined ≡ Undefined }
     ensures undefined { read_sign AsInFiles Undefined ≡ Outside }
     ensures no { read_sign AsInFiles No ≡ No }
+{}
+
+/// The start leads to the first state alone, and letters lead from there to the first two. A node comes from where each of its
+/// leaves does.
+pub fn worked_comes_from()
+    ensures start { ComesFrom three_states 0 (Leaf 0) }
+    ensures letter { ComesFrom three_states 1 (Leaf 1) }
+    ensures node { ComesFrom three_states 1 (Inner 0) }
+    ensures later { ComesFrom three_states 2 (Leaf 2) }
+    ensures not_by_start { ¬ ComesFrom three_states 0 (Leaf 1) }
+    ensures not_by_letter { ¬ ComesFrom three_states 1 (Leaf 2) }
+    ensures one_leaf_only { ¬ ComesFrom three_states 0 (Inner 0) }
+{}
+
+/// Where the upper node is reached, so is the lower, but the lower can be reached without it.
+pub fn worked_are_closed()
+    ensures leaves { AreClosed three_states.nodes (1 ∷ []) }
+    ensures both { AreClosed two_nodes (1 ∷ 1 ∷ []) }
+    ensures lower { AreClosed two_nodes (1 ∷ nowhere ∷ []) }
+    ensures upper { ¬ AreClosed two_nodes (nowhere ∷ 1 ∷ []) }
+{}
+
+/// Of several origins each is right. The origin of a state that no word leads to is here the state itself.
+pub fn worked_are_origins()
+    ensures least { (origins : Origins) → AreNoted origins (1 ∷ []) (0 ∷ 1 ∷ 2 ∷ []) → AreOrigins three_states origins }
+    ensures another { (origins : Origins) → AreNoted origins (1 ∷ []) (0 ∷ 3 ∷ 2 ∷ []) → AreOrigins three_states origins }
+    ensures itself { (origins : Origins) → AreNoted origins [] (0 ∷ 2 ∷ []) → AreOrigins with_unreached origins }
+    ensures wrong_origin { (origins : Origins) → AreNoted origins [] (0 ∷ 1 ∷ []) → ¬ AreOrigins with_unreached origins }
+    ensures no_start { (origins : Origins) → AreNoted origins [] (nowhere ∷ 2 ∷ []) → ¬ AreOrigins with_unreached origins }
+    ensures no_node { (origins : Origins) → AreNoted origins (nowhere ∷ []) (0 ∷ 1 ∷ 2 ∷ []) → ¬ AreOrigins three_states origins }
+    ensures no_end { (origins : Origins) → AreNoted origins (1 ∷ []) (0 ∷ nowhere ∷ 2 ∷ []) → ¬ AreOrigins three_states origins }
+    ensures too_short { (origins : Origins) → AreNoted origins [] (0 ∷ []) → ¬ AreOrigins with_unreached origins }
+{}
+
+/// A leaf becomes its class, and a node what was found for it.
+pub fn worked_image_of()
+    ensures leaf { image_of (Inner 0 ∷ Leaf 7 ∷ []) (4 ∷ 6 ∷ []) (Leaf 1) ≡ Leaf 6 }
+    ensures node { image_of (Inner 0 ∷ Leaf 7 ∷ []) (4 ∷ 6 ∷ []) (Inner 0) ≡ Inner 0 }
+    ensures to_leaf { image_of (Inner 0 ∷ Leaf 7 ∷ []) (4 ∷ 6 ∷ []) (Inner 1) ≡ Leaf 7 }
+{}
+
+/// An image has the classes of the leaves, is in its list, and tests no variable before those of the root.
+pub fn worked_is_image()
+    ensures same { IsImage (one_node 0 0 1) three_states.nodes (0 ∷ 1 ∷ 1 ∷ []) (Inner 0) (Inner 0) }
+    ensures turned_round { IsImage (one_node 0 1 0) three_states.nodes (1 ∷ 0 ∷ 0 ∷ []) (Inner 0) (Inner 0) }
+    ensures one_class { IsImage [] three_states.nodes (3 ∷ 3 ∷ 0 ∷ []) (Inner 0) (Leaf 3) }
+    ensures two_classes { ¬ IsImage [] three_states.nodes (0 ∷ 1 ∷ 1 ∷ []) (Inner 0) (Leaf 1) }
+    ensures no_node { ¬ IsImage [] three_states.nodes (0 ∷ 0 ∷ 0 ∷ []) (Inner 0) (Inner 0) }
+    ensures earlier { ¬ IsImage (one_node 0 2 2) (one_node 1 0 1) (2 ∷ 2 ∷ []) (Inner 0) (Inner 0) }
+{}
+
+/// Each node that is reached has an image, and the store is reduced.
+pub fn worked_are_images()
+    ensures same { AreImages three_states.nodes (0 ∷ 1 ∷ 1 ∷ []) (1 ∷ []) (one_image (one_node 0 0 1) (Inner 0)) }
+    ensures one_class { AreImages three_states.nodes (3 ∷ 3 ∷ 0 ∷ []) (1 ∷ []) (one_image [] (Leaf 3)) }
+    ensures unreached { AreImages three_states.nodes (0 ∷ 1 ∷ 1 ∷ []) (nowhere ∷ []) (one_image [] (Leaf 0)) }
+    ensures other { ¬ AreImages three_states.nodes (0 ∷ 1 ∷ 1 ∷ []) (1 ∷ []) (one_image [] (Leaf 0)) }
+    ensures equal_ends { ¬ AreImages three_states.nodes (3 ∷ 3 ∷ 0 ∷ []) (1 ∷ []) (one_image (one_node 0 3 3) (Inner 0)) }
 {}

@@ -1,4 +1,4 @@
-ghost use Rattle.std.specs.Prelude.{◌≡◌, ◌<◌, length, slice_index, IfOk};
+ghost use Rattle.std.specs.Prelude.{◌≡◌, ◌<◌, ◌≤◌, ◌+◌, length, slice_index, IfOk};
 ghost use Rattle.ms_arena.specs.declared.node.Ref.TheVariants.{Inner};
 ghost use Rattle.ms_arena.specs.Diagram.{IsBefore};
 ghost use Rattle.ms_arena.specs.Target.{Extends};
@@ -25,6 +25,16 @@ pub(crate) struct Images {
 impl Drop for Images {
     fn drop(self) {
         let Images { store: _, list: _ } = self;
+    }
+}
+
+impl Images {
+    /// Their store alone.
+    pub(crate) fn into_store(self) -> Store
+        ensures { result ≡ self.store }
+    {
+        let Images { store, list: _ } = self;
+        store
     }
 }
 
@@ -71,6 +81,7 @@ fn image_at(
     requires closed { AreClosed reached.now.store.now.nodes reached.now.origins.now }
     requires images { HaveImages store.old.nodes reached.now.store.now.nodes reached.now.classes.now reached.now.origins.now images.now }
     ensures extends { Extends store.old.nodes store.new.nodes }
+    ensures one { length store.new.nodes ≤ length store.old.nodes + 1 }
     ensures store { IsStore store.new.nodes store.new.limit }
     ensures image { IfOk result (λ made. IsOn reached.now.origins.now (Inner place) → IsImage store.new.nodes reached.now.store.now.nodes reached.now.classes.now (Inner place) made) }
 {
@@ -90,10 +101,12 @@ fn image_at(
 pub(crate) fn images_of(alloc: Global, reached: &Reached) -> Result<Images, NoMemory>
     requires origins { length reached.now.origins.now ≡ length reached.now.store.now.nodes }
     requires closed { AreClosed reached.now.store.now.nodes reached.now.origins.now }
-    ensures { IfOk result (AreImages reached.now.store.now.nodes reached.now.classes.now reached.now.origins.now) }
+    ensures images { IfOk result (AreImages reached.now.store.now.nodes reached.now.classes.now reached.now.origins.now) }
+    ensures few { IfOk result (λ made. length made.store.nodes ≤ length reached.now.store.now.nodes) }
 {
     let mut store = Store::new(alloc, ROOM);
     let mut list = List::new(alloc);
+    store.reserve(reached.store.len())?;
     // The length tells that the nodes are those of a store.
     let _ = store.len();
     for place in 0..reached.store.len() {

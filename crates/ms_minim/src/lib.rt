@@ -16,11 +16,15 @@ mod reading;
 mod reduction;
 mod refinement;
 mod rounds;
+mod settled;
 mod signatures;
 mod splitters;
 mod splitting;
 
-pub use examples::{worked_fewest, worked_readings, worked_residuals};
+pub use examples::{
+    worked_are_closed, worked_are_images, worked_are_origins, worked_comes_from, worked_fewest,
+    worked_image_of, worked_is_image, worked_readings, worked_residuals,
+};
 pub use fewest::minimise;
 pub use reading::Reading;
 pub use reduction::{Reduced, reduce};

@@ -1,11 +1,10 @@
-ghost use Rattle.std.specs.Prelude.{◌≡◌, ◌<◌, ℕ, length, slice_get, IsTrue, Some, IfOk};
+ghost use Rattle.std.specs.Prelude.{IsTrue, IfOk};
 ghost use Rattle.ms_diagram.specs.Numbering.{IsNumbering};
 ghost use Rattle.ms_minim.specs.Origin.{AreOrigins};
 ghost use Rattle.ms_minim.specs.Partition.{AreNerodeClasses};
 ghost use Rattle.ms_minim.specs.Quotient.{AreReached, HaveOwnNumbers};
 
 use crate::classes::Partition;
-use crate::marking::number;
 use crate::origins::{Origins, reach_all};
 use crate::reading::Reader;
 use ms_diagram::Pairs;
@@ -18,21 +17,6 @@ pub(crate) struct Numbered {
     pub pairs: Pairs,
     // Each class has its own number.
     pub settled: bool,
-}
-
-/// So many classes, each with its own number.
-fn own_numbers(alloc: Global, count: u32) -> Result<Pairs, NoMemory>
-    ensures numbering { IfOk result IsNumbering }
-    ensures count { IfOk result (λ made. length made ≡ count) }
-    ensures own { IfOk result (λ made. (class : ℕ) → class < count → slice_get made class ≡ Some (class, 0)) }
-{
-    let mut pairs = Pairs::new(alloc);
-    // The length tells that these are a numbering.
-    let _ = pairs.len();
-    for class in 0..count {
-        let _ = number(&mut pairs, class, 0)?;
-    }
-    Ok(pairs)
 }
 
 /// Where words lead to all states, each class has its own number from the first; else none has one.
@@ -59,7 +43,8 @@ pub(crate) fn first_numbers(
             settled: false,
         });
     }
-    let pairs = own_numbers(alloc, partition.members.len() as u32)?;
+    let pairs = Pairs::own(alloc, partition.members.len() as u32)?;
+    let _ = pairs.len();
     Ok(Numbered {
         pairs,
         settled: true,

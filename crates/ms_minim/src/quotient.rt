@@ -55,6 +55,22 @@ impl Drop for QuotientTables {
     }
 }
 
+impl QuotientTables {
+    /// The store of the images alone.
+    pub(crate) fn into_store(self) -> Store
+        ensures { result ≡ self.images.store }
+    {
+        let QuotientTables {
+            origins: _,
+            images,
+            numbered: _,
+            brought: _,
+            settled: _,
+        } = self;
+        images.into_store()
+    }
+}
+
 /// A diagram of the automaton with the numbers of classes at its leaves, in the store of the images. A class that is new gets
 /// its number at first sight, as the pair of itself and 0.
 fn numbers_behind(

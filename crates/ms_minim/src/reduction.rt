@@ -1,4 +1,4 @@
-ghost use Rattle.std.specs.Prelude.{◌≡◌, ◌≤◌, ◌<◌, ◌+◌, List as Sequence, length, IfOk};
+ghost use Rattle.std.specs.Prelude.{◌≡◌, ◌≤◌, ◌<◌, ◌+◌, List as Sequence, length, IsTrue, IfOk};
 ghost use Rattle.ms_arena.specs.declared.node.Node.{Node};
 ghost use Rattle.ms_explore.specs.Explored.{OnRefused};
 ghost use Rattle.ms_minim.specs.Lead.{AreNoted};
@@ -10,6 +10,7 @@ use crate::origins::origins_of;
 use crate::quotient::{Quotient, QuotientMachine, QuotientTables, Source};
 use crate::reading::{Reader, Reading};
 use crate::refinement::{Residuals, refine};
+use crate::settled::{own_start, own_states};
 use ms_arena::Ref;
 use ms_dfa::{Automaton, State};
 use ms_diagram::{PairTable, PlaceTable, Store};
@@ -29,6 +30,7 @@ pub struct Reduced {
 fn machine_of<'a>(alloc: Global, automaton: &'a Reader<'a>) -> Result<QuotientMachine<'a>, NoMemory>
     ensures automaton { IfOk result (λ made. made.quotient.content ≡ automaton.now) }
     ensures ready { IfOk result (λ made. (nodes : Sequence Node) → AreNoted made.quotient nodes made.tables) }
+    ensures few { IfOk result (λ made. length made.tables.images.store.nodes ≤ length automaton.now.nodes) }
 {
     let tracks = automaton.tracks();
     let places = places_among(alloc, tracks, tracks)?;
@@ -54,6 +56,39 @@ fn machine_of<'a>(alloc: Global, automaton: &'a Reader<'a>) -> Result<QuotientMa
     })
 }
 
+/// The quotient of an automaton where each class has its own number: its diagrams are the images of the automaton's nodes. Nodes
+/// and states are together at most `limit`.
+fn reduce_settled(machine: QuotientMachine, limit: u64) -> Result<Reduced, StepFault>
+    requires ready { (nodes : Sequence Node) → AreNoted machine.quotient nodes machine.tables }
+    requires settled { IsTrue machine.tables.settled }
+    requires few { length machine.tables.images.store.nodes ≤ length machine.quotient.content.nodes }
+    ensures reduced { IfOk result (λ made. IsReducedOf machine.entry.quotient.content (content_over machine.entry.quotient.content made.store.nodes made.start made.states)) }
+    ensures few { IfOk result (λ made. length made.store.nodes + length made.states ≤ limit) }
+    ensures nodes { OnRefused result (λ refused. (refused ≡ limit) × (limit < length machine.entry.quotient.content.nodes + length machine.entry.quotient.content.states)) }
+{
+    let QuotientMachine { quotient, tables } = machine;
+    let Quotient { source, pairs } = quotient;
+    if tables.images.store.len() + u64::from(pairs.len()) > limit {
+        return Err(StepFault::Nodes { limit });
+    }
+    let Ok(states) = own_states(&source, &pairs, &tables) else {
+        return Err(StepFault::Memory);
+    };
+    let start = own_start(&source, &pairs, &tables);
+    Ok(Reduced {
+        store: tables.into_store(),
+        start,
+        states,
+    })
+}
+
+/// Whether each class has its own number, and few nodes fall together, so that little room is left in the store of the images.
+fn is_nearly_reduced(tables: &QuotientTables, nodes: u64) -> bool
+    ensures { IsTrue result → IsTrue tables.now.settled }
+{
+    tables.settled && tables.images.store.len() >= nodes / 2
+}
+
 /// The states of an automaton that words reach, one for all with equal residuals, where its signs are read in some way. Nodes
 /// and states are together at most `limit`.
 pub fn reduce(
@@ -72,7 +107,13 @@ pub fn reduce(
     let Ok(mut machine) = machine_of(alloc, &reader) else {
         return Err(StepFault::Memory);
     };
+    if is_nearly_reduced(&machine.tables, a.store().len()) {
+        return reduce_settled(machine, limit);
+    }
     let mut store = Store::new(alloc, limit);
+    let Ok(()) = store.reserve(machine.tables.images.store.len()) else {
+        return Err(StepFault::Memory);
+    };
     let mut states = List::new(alloc);
     let explored = explore(&mut machine, &mut store, &mut states);
     let quotient = machine.quotient;

@@ -65,6 +65,7 @@ fn split_once(
     requires origins { AreOrigins automaton.now origins.now }
     requires partition { IsPartition automaton.now partition.now.classes partition.now.members }
     ensures images { IfOk result (λ made. AreImages automaton.now.nodes partition.now.classes origins.now.nodes.items made.images) }
+    ensures few { IfOk result (λ made. length made.images.store.nodes ≤ length automaton.now.nodes) }
     ensures finer { IfOk result (λ made. IsPassed automaton.now partition.now.classes partition.now.members made.finer.classes made.finer.members) }
 {
     // The states tell that it is an automaton.
@@ -116,6 +117,7 @@ pub(crate) fn refine(
     requires origins { AreOrigins automaton.now origins.now }
     ensures classes { IfOk result (λ made. AreNerodeClasses automaton.now made.partition.classes made.partition.members) }
     ensures images { IfOk result (λ made. AreImages automaton.now.nodes made.partition.classes origins.now.nodes.items made.images) }
+    ensures few { IfOk result (λ made. length made.images.store.nodes ≤ length automaton.now.nodes) }
 {
     let mut partition = by_signs(alloc, automaton)?;
     let mut passes: u32 = 0;

@@ -1,108 +1,97 @@
 -- The product leads from pairs to pairs of states, and runs as both automata do side by side.
-use Rattle.std.proofs.Common.{◌≡◌, ℕ, ◌<◌, ⊎_elim, Bool, true, false, List, [], ◌∷◌, length, slice_get, slice_index, Some, Result, refl, sym, ap, subst, ◌∙◌}
+use Rattle.std.proofs.Common.{◌≡◌, ℕ, ◌<◌, ⊎_elim, Bool, true, false, List, [], ◌∷◌, length, slice_get, slice_index, Some, IfSome, Result, refl, sym, ap, subst, ◌∙◌}
 use Rattle.std.specs.Prelude.{map as map_list}
 use Rattle.std.proofs.lemmas.Bool.{cases_lt}
 use Rattle.std.proofs.lemmas.Option.{slice_get_within, same_Some}
 use Rattle.ms_edge.specs.declared.fault.StepFault.{StepFault}
 use Rattle.ms_edge.specs.declared.refusal.Word.{Word}
 use Rattle.ms_arena.specs.declared.node.Ref.{Ref}
-use Rattle.ms_arena.specs.declared.node.Node.{Node}
 use Rattle.ms_arena.specs.Bits.{with_bit}
-use Rattle.ms_arena.specs.Diagram.{Bits, IsOrdered}
-use Rattle.ms_arena.specs.Target.{Extends, Meets}
+use Rattle.ms_arena.specs.Diagram.{Bits, leaf_of, IsOrdered}
+use Rattle.ms_arena.specs.Target.{Extends}
 use Rattle.ms_arena.proofs.Lists.{slice_get-held}
 use Rattle.ms_arena.proofs.Appending.{slice_get-extends}
-use Rattle.ms_diagram.specs.Apply.{leaves_at, HasLeaves, PairNumber, LacksPair}
+use Rattle.ms_diagram.specs.Across.{AreOn, leaves_across, HasLeavesAcross, NumberAcross, LacksAcross}
+use Rattle.ms_diagram.specs.Bring.{read_through}
 use Rattle.ms_diagram.specs.Growth.{Builds}
 use Rattle.ms_diagram.specs.Numbering.{AddsOnly, IsNumbering}
 use Rattle.ms_diagram.specs.Store.{Contents}
 use Rattle.ms_diagram.proofs.Building.{Builds-implies}
+use Rattle.ms_logic.specs.declared.mode.Order.{Order}
+use Rattle.ms_logic.specs.declared.sign.Sign.{Sign}
 use Rattle.ms_logic.specs.Assignment.{Variable}
-use Rattle.ms_logic.specs.Content.{HasValueAt, IsClosed, is_truth_value, is_in_letters, first_state, next_state, state_after, last_state, letter_bits}
+use Rattle.ms_logic.specs.Content.{StateOf, Content, HasValueAt, IsClosed, IsFollowed, is_truth_value, is_in_letters, first_state, next_state, state_after, last_state, letter_bits}
 use Rattle.ms_theory.specs.Machine.{Machine, after, end_of}
 use Rattle.ms_theory.specs.Narrow.{narrowed_truth, narrowed_letter, narrowed}
-use Rattle.ms_dfa.specs.declared.state.State.{State}
-use Rattle.ms_explore.specs.Explored.{Leads}
 use Rattle.ms_explore.specs.Run.{IsOver, AreNames}
 use Rattle.ms_product.specs.declared.op.Op.{Op}
-use Rattle.ms_product.specs.Later.{brought_later}
-use Rattle.ms_product.specs.Widened.{first_through, next_through}
-use Rattle.ms_product.specs.Pairing.{Operands, Pairing, AreBroughtIn, first_pair, next_pair, pair_sign, behind_pair, sign_of_number, product_findings, AreStates}
-use Rattle.ms_product.proofs.WidenedLemmas.{first_below, next_below, first_reads, next_reads, first_narrowed, next_narrowed}
+use Rattle.ms_product.specs.Widened.{behind_through, next_through}
+use Rattle.ms_product.specs.Pairing.{Operands, HaveRisingMaps, sides_of, first_pair, next_pair, pair_sign, behind_pair, sign_of_number, product_findings, AreStates}
+use Rattle.ms_product.proofs.WidenedLemmas.{Renames-followed, first_reads, next_reads, first_narrowed, next_narrowed}
 
--- where two brought references lead
-module _ (nodes : List Node) (f g : Ref) (first second : Bits → ℕ) (meets_f : Meets nodes (λ bits number. number ≡ first bits) f)
-    (meets_g : Meets nodes (λ bits number. number ≡ second bits) g) where
-  pub leaves_are : (bits : Bits) → leaves_at nodes f g bits ≡ (first bits, second bits)
-  leaves_are bits = let one = meets_f bits in let other = meets_g bits in λ i. (one i, other i)
+-- two references of the operands' diagrams
+module _ (operands : Operands) (roots : Ref × Ref) where
+  -- they are read at the places of their variables
+  pub AreOn-followed : HaveRisingMaps operands → (has_value : Order → Bool) → IsFollowed operands.left has_value roots.0 → IsFollowed operands.right has_value roots.1 → AreOn (sides_of operands) roots
+  AreOn-followed maps has_value left right = (
+    (left.valid, Renames-followed operands.left operands.left.nodes has_value operands.left_map roots.0 refl maps.left left),
+    (right.valid, Renames-followed operands.right operands.right.nodes has_value operands.right_map roots.1 refl maps.right right),
+  )
 
-  -- the numbers of the pairs of their leaves are those of the pairs to which they should lead
-  pub Builds-paired : (pairs : List (ℕ × ℕ)) (old new : Contents) (result : Result Ref StepFault) → Builds old new (PairNumber nodes pairs f g) (LacksPair nodes pairs f g) result
-      → Builds old new (λ bits number. slice_get pairs number ≡ Some (first bits, second bits)) (length pairs ≡ 4294967295) result
-  Builds-paired pairs old new result = Builds-implies old new (PairNumber nodes pairs f g) (λ bits number. slice_get pairs number ≡ Some (first bits, second bits)) (LacksPair nodes pairs f g)
-      (length pairs ≡ 4294967295) (λ bits number held. held ∙ ap Some (leaves_are bits)) (λ lacks. lacks.0) result
+  module _ (wanted : Bits → ℕ × ℕ) (leads : (bits : Bits) → leaves_across (sides_of operands) roots bits ≡ wanted bits) where
+    -- the numbers of the pairs of their leaves are those of the pairs to which they should lead
+    pub Builds-across : (pairs : List (ℕ × ℕ)) (old new : Contents) (result : Result Ref StepFault)
+        → Builds old new (NumberAcross (sides_of operands) pairs roots) (LacksAcross (sides_of operands) pairs roots) result
+        → Builds old new (λ bits number. slice_get pairs number ≡ Some (wanted bits)) (length pairs ≡ 4294967295) result
+    Builds-across pairs old new result =
+        Builds-implies old new (NumberAcross (sides_of operands) pairs roots) (λ bits number. slice_get pairs number ≡ Some (wanted bits)) (LacksAcross (sides_of operands) pairs roots)
+        (length pairs ≡ 4294967295) (λ bits number held. held ∙ ap Some (leads bits)) (λ lacks. lacks.0) result
 
-  -- and pairs that are added are pairs of states, where they should lead to states
-  pub AreStates-added : (operands : Operands) (early late : List (ℕ × ℕ)) → AreStates operands early → Extends early late → AddsOnly (HasLeaves nodes f g) early late
-      → ((bits : Bits) → first bits < length operands.left.states) → ((bits : Bits) → second bits < length operands.right.states) → AreStates operands late
-  AreStates-added operands early late were extends added below_first below_second number pair held = ⊎_elim
+  -- and pairs that are added are pairs of states
+  pub AreStates-added : (has_value : Order → Bool) → IsFollowed operands.left has_value roots.0 → IsFollowed operands.right has_value roots.1
+      → (early late : List (ℕ × ℕ)) → AreStates operands early → Extends early late → AddsOnly (HasLeavesAcross (sides_of operands) roots) early late → AreStates operands late
+  AreStates-added has_value left right early late were extends added number pair held = ⊎_elim
       (λ before.
       let there = slice_get-held early number before in
       let same : there.0 ≡ pair = same_Some there.0 pair (sym (slice_get-extends early late extends number there.0 there.1) ∙ held) in
       subst (λ (p : ℕ × ℕ). (p.0 < length operands.left.states) × (p.1 < length operands.right.states)) same (were number there.0 there.1))
       (λ behind.
       let has = added number pair behind held in
-      subst (λ (p : ℕ × ℕ). (p.0 < length operands.left.states) × (p.1 < length operands.right.states)) (sym (leaves_are has.0) ∙ has.1) (below_first has.0, below_second has.0))
+      subst (λ (p : ℕ × ℕ). (p.0 < length operands.left.states) × (p.1 < length operands.right.states)) has.1
+      (left.states (read_through operands.left_map has.0), right.states (read_through operands.right_map has.0)))
       (cases_lt number (length early))
 
-module _ (inside seen : Pairing) (same : inside ≡ seen) (nodes : List Node) (ready : AreBroughtIn nodes seen.operands seen.left seen.right) (were : AreStates inside.operands inside.pairs)
-    (late : List (ℕ × ℕ)) (extends : Extends inside.pairs late) where
-  is_ready : AreBroughtIn nodes inside.operands inside.left inside.right
-  is_ready = subst (λ (p : Pairing). AreBroughtIn nodes p.operands p.left p.right) (sym same) ready
+-- the starts lead where the product starts
+pub first_leads : (operands : Operands) (roots : Ref × Ref) → roots.0 ≡ operands.left.start → roots.1 ≡ operands.right.start → (bits : Bits)
+    → leaves_across (sides_of operands) roots bits ≡ first_pair operands bits
+first_leads operands roots left right bits =
+    λ i. (leaf_of operands.left.nodes (left i) (read_through operands.left_map bits), leaf_of operands.right.nodes (right i) (read_through operands.right_map bits))
 
-  -- what was brought for the product stays there while the store grows
-  pub brought_further : (further : List Node) → IsOrdered nodes → Extends nodes further → AreBroughtIn further inside.operands inside.left inside.right
-  brought_further further ordered grows = record {
-    left_in = brought_later nodes further ordered grows inside.operands.left inside.operands.left_map inside.left.start inside.left.states is_ready.left_in;
-    right_in = brought_later nodes further ordered grows inside.operands.right inside.operands.right_map inside.right.start inside.right.states is_ready.right_in;
-  }
+-- what a state of an operand leads to
+next_leads_one : (content : Content Sign) (map : List ℕ) (state : ℕ) (root : Ref) → state < length content.states → IfSome (slice_get content.states state) (λ (found : StateOf Sign). root ≡ found.next)
+    → (bits : Bits) → leaf_of content.nodes root (read_through map bits) ≡ next_through content map state bits
+next_leads_one content map state root within is bits =
+    let held = slice_get-held content.states state within in
+    let root_is : root ≡ held.0.next = subst (λ found. IfSome found (λ (s : StateOf Sign). root ≡ s.next)) held.1 is in
+    ap (λ (r : Ref). leaf_of content.nodes r (read_through map bits)) root_is ∙ ap (λ found. behind_through content map found bits) (sym held.1)
 
-  -- behind the start of the product, pairs are pairs of states
-  pub AreStates-start : AddsOnly (HasLeaves nodes inside.left.start inside.right.start) inside.pairs late → AreStates inside.operands late
-  AreStates-start added =
-      let operands = inside.operands in
-      let left = is_ready.left_in in
-      let right = is_ready.right_in in
-      AreStates-added nodes inside.left.start inside.right.start (first_through operands.left operands.left_map) (first_through operands.right operands.right_map)
-      left.starts.meets right.starts.meets operands inside.pairs late were extends added
-      (first_below operands.left operands.left_map left.closed) (first_below operands.right operands.right_map right.closed)
+-- and those of a pair of states
+pub next_leads : (operands : Operands) (pair : ℕ × ℕ) (roots : Ref × Ref) → pair.0 < length operands.left.states → pair.1 < length operands.right.states
+    → IfSome (slice_get operands.left.states pair.0) (λ (found : StateOf Sign). roots.0 ≡ found.next) → IfSome (slice_get operands.right.states pair.1) (λ (found : StateOf Sign). roots.1 ≡ found.next)
+    → (bits : Bits) → leaves_across (sides_of operands) roots bits ≡ next_pair operands pair bits
+next_leads operands pair roots within_left within_right left right bits =
+    let one = next_leads_one operands.left operands.left_map pair.0 roots.0 within_left left bits in
+    let other = next_leads_one operands.right operands.right_map pair.1 roots.1 within_right right bits in
+    λ i. (one i, other i)
 
-  module _ (state : ℕ) (pair : ℕ × ℕ) (left_state right_state : State) (held : slice_get inside.pairs state ≡ Some pair)
-      (left_held : slice_get inside.left.states pair.0 ≡ Some left_state) (right_held : slice_get inside.right.states pair.1 ≡ Some right_state) where
-    left_leads_on : Leads nodes (λ bits number. number ≡ next_through inside.operands.left inside.operands.left_map pair.0 bits) left_state.next
-    left_leads_on = (is_ready.left_in.follows pair.0 left_state left_held).0
-
-    right_leads_on : Leads nodes (λ bits number. number ≡ next_through inside.operands.right inside.operands.right_map pair.1 bits) right_state.next
-    right_leads_on = (is_ready.right_in.follows pair.1 right_state right_held).0
-
-    -- and behind a state of it
-    pub AreStates-next : AddsOnly (HasLeaves nodes left_state.next right_state.next) inside.pairs late → AreStates inside.operands late
-    AreStates-next added =
-        let operands = inside.operands in
-        let within = were state pair held in
-        AreStates-added nodes left_state.next right_state.next (next_through operands.left operands.left_map pair.0) (next_through operands.right operands.right_map pair.1)
-        left_leads_on.meets right_leads_on.meets operands inside.pairs late were extends added
-        (next_below operands.left operands.left_map is_ready.left_in.closed pair.0 within.0) (next_below operands.right operands.right_map is_ready.right_in.closed pair.1 within.1)
-
-    -- a state of the product leads where its pair does
-    pub Builds-next_pair : (old new : Contents) (result : Result Ref StepFault)
-        → Builds old new (PairNumber nodes late left_state.next right_state.next) (LacksPair nodes late left_state.next right_state.next) result
-        → Builds old new (behind_pair inside.operands late (slice_get late state)) (length late ≡ 4294967295) result
-    Builds-next_pair old new result builds =
-        let operands = inside.operands in
-        subst (λ found. Builds old new (behind_pair operands late found) (length late ≡ 4294967295) result) (sym (slice_get-extends inside.pairs late extends state pair held))
-        (Builds-paired nodes left_state.next right_state.next (next_through operands.left operands.left_map pair.0) (next_through operands.right operands.right_map pair.1)
-        left_leads_on.meets right_leads_on.meets late old new result builds)
+-- a state of the product leads where its pair does
+pub Builds-next_pair : (operands : Operands) (pairs late : List (ℕ × ℕ)) → Extends pairs late → (state : ℕ) (pair : ℕ × ℕ) → slice_get pairs state ≡ Some pair → (roots : Ref × Ref)
+    → ((bits : Bits) → leaves_across (sides_of operands) roots bits ≡ next_pair operands pair bits) → (old new : Contents) (result : Result Ref StepFault)
+    → Builds old new (NumberAcross (sides_of operands) late roots) (LacksAcross (sides_of operands) late roots) result
+    → Builds old new (behind_pair operands late (slice_get late state)) (length late ≡ 4294967295) result
+Builds-next_pair operands pairs late extends state pair held roots leads old new result builds =
+    subst (λ found. Builds old new (behind_pair operands late found) (length late ≡ 4294967295) result) (sym (slice_get-extends pairs late extends state pair held))
+    (Builds-across operands roots (next_pair operands pair) leads late old new result builds)
 
 -- two automata that go side by side
 abbrev pub side_by_side : Operands → List Variable → Machine (ℕ × ℕ)

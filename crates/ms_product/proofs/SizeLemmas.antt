@@ -1,65 +1,47 @@
--- What a product holds is needed: nodes that are brought, and nodes that it adds itself.
-use Rattle.std.proofs.Common.{◌≡◌, ℕ, ◌+◌, ◌≤◌, inl, inr, ⊎_elim, List, [], length, slice_get, Some, sym, ap, ◌∙◌, arith}
-use Rattle.std.proofs.lemmas.Bool.{cases_lt}
-use Rattle.ms_arena.specs.declared.node.Node.{Node}
-use Rattle.ms_arena.specs.Diagram.{IsOrdered, IsReduced}
-use Rattle.ms_arena.specs.Target.{Extends}
-use Rattle.ms_arena.proofs.Lists.{slice_get-append_left}
-use Rattle.ms_arena.proofs.Needs.{IsFormed-held, IsNeeded-extends}
+-- What a product holds is needed: the nodes that it adds to an empty store, and its pairs.
+use Rattle.std.proofs.Common.{◌≡◌, ℕ, ◌+◌, ◌≤◌, ⊎_elim, List, [], length, Err, ap, ◌∙◌, arith}
+use Rattle.ms_edge.specs.declared.fault.StepFault.{StepFault}
+use Rattle.ms_edge.specs.declared.fault.StepFault.TheVariants.{Nodes, Memory}
 use Rattle.ms_diagram.specs.Numbering.{IsNumbering}
-use Rattle.ms_diagram.specs.Store.{Contents, IsStore}
-use Rattle.ms_explore.specs.Explored.{Findings, GrowsForSome, target_of}
+use Rattle.ms_diagram.specs.Store.{Contents}
+use Rattle.ms_dfa.specs.declared.state.State.{State}
+use Rattle.ms_explore.specs.Explored.{GrowsForSome, OnRefused, Explores}
 use Rattle.ms_product.specs.declared.op.Op.{Op}
-use Rattle.ms_product.specs.Widened.{widened_findings}
-use Rattle.ms_product.specs.Pairing.{Operands, product_findings, AreStates, IsNeededForSome, IsNeededFor, AreAtLeast}
+use Rattle.ms_product.specs.Pairing.{Operands, product_findings, AreStates, IsPairedStore, AreAtLeast}
 
--- what is needed for some origin is needed in a longer list
-needed_later : (old new : List Node) (findings : Findings) → IsOrdered old → IsReduced old → Extends old new → (place : ℕ) (node : Node) → slice_get old place ≡ Some node
-    → IsNeededForSome old findings node → IsNeededForSome new findings node
-needed_later old new findings ordered reduced extends place node held needed = (
-  needed.0,
-  needed.1,
-  IsNeeded-extends old new ordered extends (target_of findings needed.0) (target_of findings needed.0) (λ bits number right. right) node
-      (IsFormed-held old ordered reduced place node held) needed.2,
-)
+module _ (op : Op) (operands : Operands) (limit : ℕ) (pairs : List (ℕ × ℕ)) where
+  -- a store that was empty holds what is needed
+  pub IsPairedStore-grown : (zero held : Contents) → zero.nodes ≡ [] → zero.limit ≡ limit → GrowsForSome zero held (product_findings op operands pairs) → IsPairedStore held limit op operands pairs
+  IsPairedStore-grown zero held empty limit_is grows = record {
+    store = grows.store;
+    limited = grows.limit ∙ limit_is;
+    needed = λ place node there. let none = ap length empty in grows.needed place node (omega (arith, none)) there;
+  }
 
--- nodes, each of which is needed
-abbrev pub AllNeeded : Op → Operands → List (ℕ × ℕ) → List Node → Type 0
-AllNeeded op operands pairs nodes = (place : ℕ) (node : Node) → slice_get nodes place ≡ Some node → IsNeededFor op operands pairs nodes node
+  module _ (held : Contents) (is : IsPairedStore held limit op operands pairs) (numbering : IsNumbering pairs) (are : AreStates operands pairs) where
+    -- so many are needed as there are nodes and pairs
+    pub AreAtLeast-held : (count : ℕ) → count ≤ length held.nodes + length pairs → AreAtLeast count op operands
+    AreAtLeast-held count most = record {
+      nodes = held.nodes;
+      pairs = pairs;
+      ordered = is.store.ordered;
+      reduced = is.store.reduced;
+      needed = is.needed;
+      numbering = numbering;
+      states = are;
+      many = most;
+    }
 
--- all nodes of a store that was empty are needed
-pub AllNeeded-first : (op : Op) (operands : Operands) (pairs : List (ℕ × ℕ)) (findings : Findings) (old new : Contents)
-    → ((nodes : List Node) (node : Node) → IsNeededForSome nodes findings node → IsNeededFor op operands pairs nodes node)
-    → old.nodes ≡ [] → GrowsForSome old new findings → AllNeeded op operands pairs new.nodes
-AllNeeded-first op operands pairs findings old new one_of empty grows place node held =
-    let none = ap length empty in one_of new.nodes node (grows.needed place node (omega (arith, none)) held)
-
--- nodes that are added for one of the three are needed
-pub AllNeeded-then : (op : Op) (operands : Operands) (pairs : List (ℕ × ℕ)) (findings : Findings) (old new : Contents)
-    → ((nodes : List Node) (node : Node) → IsNeededForSome nodes findings node → IsNeededFor op operands pairs nodes node)
-    → IsStore old.nodes old.limit → GrowsForSome old new findings → AllNeeded op operands pairs old.nodes → AllNeeded op operands pairs new.nodes
-AllNeeded-then op operands pairs findings old new one_of store grows were place node held = ⊎_elim
-    (λ before.
-    let extends = grows.extends in
-    let there : slice_get old.nodes place ≡ Some node = sym (slice_get-append_left old.nodes extends.0 place before) ∙ sym (ap (λ list. slice_get list place) extends.1) ∙ held in
-    let later = λ (f : Findings). needed_later old.nodes new.nodes f store.ordered store.reduced extends place node there in
-    ⊎_elim (λ left. inl (later (widened_findings operands.left operands.left_map) left))
-    (λ other. ⊎_elim (λ right. inr (inl (later (widened_findings operands.right operands.right_map) right)))
-    (λ own. inr (inr (later (product_findings op operands pairs) own))) other)
-    (were place node there))
-    (λ behind. one_of new.nodes node (grows.needed place node behind held))
-    (cases_lt place (length old.nodes))
-
--- so nodes and pairs are at least so many
-pub AreAtLeast-by : (count : ℕ) (op : Op) (operands : Operands) (pairs : List (ℕ × ℕ)) (nodes : List Node) → IsOrdered nodes → IsReduced nodes → AllNeeded op operands pairs nodes
-    → IsNumbering pairs → AreStates operands pairs → count ≤ length nodes + length pairs + length operands.left.states + length operands.right.states → AreAtLeast count op operands
-AreAtLeast-by count op operands pairs nodes ordered reduced needed numbering states many = record {
-  nodes = nodes;
-  pairs = pairs;
-  ordered = ordered;
-  reduced = reduced;
-  needed = needed;
-  numbering = numbering;
-  states = states;
-  many = many;
-}
+    -- a product that is refused has so many as the limit
+    pub refused_at : (A : Type 0) (zero : Contents) → zero.limit ≡ limit → (states : List State) (fault : StepFault)
+        → Explores zero held (product_findings op operands pairs) states (Err fault) → OnRefused {A = A} (Err fault) (λ refused. (refused ≡ limit) × AreAtLeast limit op operands)
+    refused_at A zero limit_is states Memory explores = tt
+    refused_at A zero limit_is states (Nodes refused) explores =
+        let after = is.limited in
+        let small = is.store.small in (
+          explores.nodes.0 ∙ limit_is,
+          AreAtLeast-held limit (⊎_elim
+              (λ full. let at_limit : length held.nodes ≡ held.limit = full.2.0 in omega (arith, at_limit, after))
+              (λ other. ⊎_elim (λ many. omega (arith, many, after)) (λ lacks. omega (arith, lacks, small, after)) other)
+              explores.nodes.1),
+        )

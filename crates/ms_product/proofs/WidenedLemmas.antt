@@ -1,5 +1,5 @@
 -- An automaton over more variables leads, by the bits of a word over them, where it leads by the word read over its own.
-use Rattle.std.proofs.Common.{◌≡◌, ◌≢◌, ℕ, ◌<◌, Bool, true, false, List, length, slice_get, slice_index, Some, None, Result, IfSome, sym, ap, subst, ◌∙◌, arith}
+use Rattle.std.proofs.Common.{◌≡◌, ◌≢◌, ℕ, ◌<◌, Bool, true, false, List, length, slice_get, slice_index, Some, None, Result, Ok, IfSome, sym, ap, subst, ◌∙◌, arith}
 use Rattle.std.proofs.lemmas.Option.{slice_get_within, get_or_from_slice_get}
 use Rattle.ms_edge.specs.declared.fault.StepFault.{StepFault}
 use Rattle.ms_arena.specs.declared.node.Ref.{Ref}
@@ -12,6 +12,7 @@ use Rattle.ms_arena.proofs.ReachLemmas.{leaf_of-tested}
 use Rattle.ms_diagram.specs.Bring.{read_through, RenamedLeaf, Renames}
 use Rattle.ms_diagram.specs.Growth.{Builds}
 use Rattle.ms_diagram.specs.Store.{Contents, IsStore}
+use Rattle.ms_dfa.specs.declared.state.State.{State}
 use Rattle.ms_logic.specs.declared.mode.Order.{Order}
 use Rattle.ms_logic.specs.declared.sign.Sign.{Sign}
 use Rattle.ms_logic.specs.Assignment.{Variable}
@@ -21,11 +22,11 @@ use Rattle.ms_theory.proofs.NarrowLemmas.{leaf_of-gathered}
 use Rattle.std.proofs.lemmas.List.{length-map}
 use Rattle.ms_diagram.proofs.Building.{Grows-same}
 use Rattle.ms_logic.specs.Roots.{AreRising}
-use Rattle.ms_explore.specs.Explored.{Findings, GrowsForSome}
+use Rattle.ms_explore.specs.Explored.{Findings, GrowsForSome, Explores}
 use Rattle.ms_explore.specs.Tracks.{IsAmong, place_of, places_among}
 use Rattle.ms_explore.proofs.AmongLemmas.{places_rise}
 use Rattle.ms_explore.proofs.ExploredLemmas.{GrowsForSome-one}
-use Rattle.ms_product.specs.Widened.{first_through, behind_through, next_through, sign_or_outside, sign_in, widened_findings, IsRisingMap}
+use Rattle.ms_product.specs.Widened.{first_through, behind_through, next_through, sign_or_outside, sign_in, widened_findings, IsRisingMap, IsBroughtIn}
 
 -- what a followed reference tests is read through a rising map
 pub Renames-followed : (content : Content Sign) (nodes : List Node) (has_value : Order → Bool) (map : List ℕ) (root : Ref) → nodes ≡ content.nodes
@@ -121,3 +122,11 @@ pub GrowsForSome-none : (store : Contents) (findings : Findings) → IsStore sto
 GrowsForSome-none store findings is =
     let grows = Grows-same store findings.starts is in
     GrowsForSome-one store store findings None tt grows
+
+-- what an exploration of it found has been brought
+pub brought_by : (content given : Content Sign) (map places : List ℕ) (old new : Contents) (start : Ref) (states : List State) → IsClosed content → given ≡ content → map ≡ places
+    → Explores old new (widened_findings given map) states (Ok start) → IsBroughtIn new.nodes content places start states
+brought_by content given map places old new start states closed same_content same_map explores =
+    let is = subst (λ (m : List ℕ). Explores old new (widened_findings content m) states (Ok start)) same_map
+    (subst (λ (c : Content Sign). Explores old new (widened_findings c map) states (Ok start)) same_content explores) in
+    record { closed = closed; starts = is.start; all = is.all; follows = is.follows }

@@ -1,21 +1,13 @@
 -- What stays true of a product when more pairs get numbers: the laws that an exploration asks of it.
 use Rattle.std.proofs.Common.{◌≡◌, ℕ, ◌≤◌, List, length, slice_get, Option, Some, None, refl, sym, ap, subst, ◌∙◌}
 use Rattle.std.proofs.Math.Nat.{le_refl, le_trans}
-use Rattle.ms_arena.specs.declared.node.Ref.{Ref}
-use Rattle.ms_arena.specs.declared.node.Node.{Node}
-use Rattle.ms_arena.specs.Diagram.{Bits, IsOrdered}
+use Rattle.ms_arena.specs.Diagram.{Bits}
 use Rattle.ms_arena.specs.Target.{Extends}
-use Rattle.ms_arena.proofs.Appending.{Extends-same, Extends-further}
+use Rattle.ms_arena.proofs.Appending.{Extends-same, Extends-further, slice_get-extends}
 use Rattle.ms_arena.proofs.Lists.{slice_get-held}
-use Rattle.ms_arena.proofs.Appending.{slice_get-extends}
-use Rattle.ms_dfa.specs.declared.state.State.{State}
-use Rattle.ms_logic.specs.declared.sign.Sign.{Sign}
-use Rattle.ms_logic.specs.Content.{Content}
 use Rattle.ms_explore.specs.Explored.{AreMore}
-use Rattle.ms_explore.proofs.ExploredLemmas.{Leads-later}
 use Rattle.ms_product.specs.declared.op.Op.{Op}
-use Rattle.ms_product.specs.Widened.{widened_findings, IsBroughtIn}
-use Rattle.ms_product.specs.Pairing.{Operands, Pairing, AreBroughtIn, IsLaterPairing, next_pair, first_pair, behind_pair, sign_of_number, product_findings}
+use Rattle.ms_product.specs.Pairing.{Operands, Pairing, IsLaterPairing, next_pair, first_pair, behind_pair, sign_of_number, product_findings}
 
 pub pairing_later_itself : (pairing : Pairing) → IsLaterPairing pairing pairing
 pairing_later_itself pairing = record { same = refl; pairs = Extends-same pairing.pairs; count = le_refl (length pairing.pairs) }
@@ -25,20 +17,6 @@ pairing_later_later one two three first second = record {
   same = second.same ∙ ap (λ (p : Pairing). record p { pairs = three.pairs }) first.same;
   pairs = Extends-further one.pairs two.pairs three.pairs first.pairs second.pairs;
   count = le_trans first.count second.count;
-}
-
--- what was brought into a store stays there
-pub brought_later : (old new : List Node) → IsOrdered old → Extends old new → (content : Content Sign) (map : List ℕ) (start : Ref) (states : List State)
-    → IsBroughtIn old content map start states → IsBroughtIn new content map start states
-brought_later old new ordered extends content map start states was = record {
-  closed = was.closed;
-  starts = Leads-later old new (widened_findings content map).starts (widened_findings content map).starts start ordered extends (λ bits number right. right) was.starts;
-  all = was.all;
-  follows = λ number state held. (
-    Leads-later old new ((widened_findings content map).steps number) ((widened_findings content map).steps number) state.next ordered extends (λ bits after right. right)
-        (was.follows number state held).0,
-    (was.follows number state held).1,
-  );
 }
 
 module _ (op : Op) (operands : Operands) (early late : List (ℕ × ℕ)) (extends : Extends early late) where

@@ -1,36 +1,55 @@
--- The product of two automata over the variables of both: its states are the pairs of states that are reached, and are
--- numbered at first sight.
-use Rattle.std.specs.Prelude.{◌≡◌, ℕ, ◌<◌, ◌≤◌, ◌+◌, ◌⊎◌, List, length, slice_get, Option, Some, None}
+-- The product of two automata over some variables: its states are the pairs of states that are reached, and are numbered at
+-- first sight.
+use Rattle.std.specs.Prelude.{◌≡◌, ℕ, ◌<◌, ◌≤◌, ◌+◌, List, length, slice_get, Option, Some, None}
 use Rattle.ms_arena.specs.declared.node.Ref.{Ref}
 use Rattle.ms_arena.specs.declared.node.Node.{Node}
 use Rattle.ms_arena.specs.Diagram.{Bits, IsOrdered, IsReduced}
 use Rattle.ms_arena.specs.Target.{Target, Extends, IsNeeded}
+use Rattle.ms_diagram.specs.declared.sides.Sides.{Sides}
 use Rattle.ms_diagram.specs.Numbering.{IsNumbering}
+use Rattle.ms_diagram.specs.Store.{Contents, IsStore}
 use Rattle.ms_dfa.specs.declared.state.State.{State}
 use Rattle.ms_logic.specs.declared.sign.Sign.{Sign}
 use Rattle.ms_logic.specs.declared.sign.Sign.TheVariants.{Outside}
+use Rattle.ms_logic.specs.Assignment.{Variable}
 use Rattle.ms_logic.specs.Content.{Content}
-use Rattle.ms_explore.specs.Explored.{Findings, Origin, IsFound, target_of}
+use Rattle.ms_explore.specs.Explored.{Findings, Leads, Follows, Origin, IsFound, target_of}
 use Rattle.ms_explore.specs.Tracks.{joined, places_among}
 use Rattle.ms_product.specs.declared.op.Op.{Op}
 use Rattle.ms_product.specs.Signs.{strict}
-use Rattle.ms_product.specs.Widened.{first_through, next_through, sign_in, widened_findings, IsBroughtIn}
+use Rattle.ms_product.specs.Widened.{first_through, next_through, sign_in, IsRisingMap}
 
--- two automata, each with the places of its variables among those of both
+-- two automata, each with the places of its variables among others
 pub record Operands : Type 0 where
   pub left : Content Sign
   pub left_map : List ℕ
   pub right : Content Sign
   pub right_map : List ℕ
 
+-- two automata over variables among which those of both are
+abbrev pub operands_over : Content Sign → Content Sign → List Variable → Operands
+operands_over left right wide = record {
+  left = left;
+  left_map = places_among left.variables wide;
+  right = right;
+  right_map = places_among right.variables wide;
+}
+
 -- two automata over the variables of both
 abbrev pub operands_of : Content Sign → Content Sign → Operands
-operands_of left right = record {
-  left = left;
-  left_map = places_among left.variables (joined left.variables right.variables);
-  right = right;
-  right_map = places_among right.variables (joined left.variables right.variables);
+operands_of left right = operands_over left right (joined left.variables right.variables)
+
+-- their diagrams, with each variable read at its place
+abbrev pub sides_of : Operands → Sides
+sides_of operands = record {
+  left = record { nodes = operands.left.nodes; map = operands.left_map };
+  right = record { nodes = operands.right.nodes; map = operands.right_map };
 }
+
+-- the places of both rise
+pub record HaveRisingMaps (operands : Operands) : Type 0 where
+  pub left : IsRisingMap (length operands.left.variables) operands.left_map
+  pub right : IsRisingMap (length operands.right.variables) operands.right_map
 
 -- the pair to which the bits lead from both starts
 abbrev pub first_pair : Operands → Bits → ℕ × ℕ
@@ -70,23 +89,11 @@ abbrev pub AreStates : Operands → List (ℕ × ℕ) → Type 0
 AreStates operands pairs =
     (number : ℕ) (pair : ℕ × ℕ) → slice_get pairs number ≡ Some pair → (pair.0 < length operands.left.states) × (pair.1 < length operands.right.states)
 
--- a start and states that were brought into a store
-pub record Brought : Type 0 where
-  pub start : Ref
-  pub states : List State
-
 -- a product under way
 pub record Pairing : Type 0 where
   pub op : Op
   pub operands : Operands
-  pub left : Brought
-  pub right : Brought
   pub pairs : List (ℕ × ℕ)
-
--- both operands have been brought among the nodes of a store
-pub record AreBroughtIn (nodes : List Node) (operands : Operands) (left right : Brought) : Type 0 where
-  pub left_in : IsBroughtIn nodes operands.left operands.left_map left.start left.states
-  pub right_in : IsBroughtIn nodes operands.right operands.right_map right.start right.states
 
 -- the same product with more pairs
 pub record IsLaterPairing (early late : Pairing) : Type 0 where
@@ -98,21 +105,28 @@ pub record IsLaterPairing (early late : Pairing) : Type 0 where
 abbrev pub IsNeededForSome : List Node → Findings → Node → Type 0
 IsNeededForSome nodes findings node = (origin : Origin) × IsFound findings origin × IsNeeded nodes (target_of findings origin) node
 
--- an operand over the variables of both needs the node, or the product does, so far as its pairs have numbers
-abbrev pub IsNeededFor : Op → Operands → List (ℕ × ℕ) → List Node → Node → Type 0
-IsNeededFor op operands pairs nodes node =
-    IsNeededForSome nodes (widened_findings operands.left operands.left_map) node
-    ⊎ IsNeededForSome nodes (widened_findings operands.right operands.right_map) node
-    ⊎ IsNeededForSome nodes (product_findings op operands pairs) node
+-- the product has been built among the nodes of a store
+pub record IsPairedIn (nodes : List Node) (op : Op) (operands : Operands) (pairs : List (ℕ × ℕ)) (start : Ref) (states : List State) : Type 0 where
+  pub starts : Leads nodes (product_findings op operands pairs).starts start
+  pub all : length states ≡ length pairs
+  pub follows : Follows nodes (product_findings op operands pairs) states
+  pub numbering : IsNumbering pairs
+  pub are : AreStates operands pairs
 
--- nodes that differ in their functions, all of them needed, and different pairs of states: with the states of both automata
--- they are together at least so many
+-- and the store holds no node that it does not need
+pub record IsPairedStore (held : Contents) (limit : ℕ) (op : Op) (operands : Operands) (pairs : List (ℕ × ℕ)) : Type 0 where
+  pub store : IsStore held.nodes held.limit
+  pub limited : held.limit ≡ limit
+  pub needed : (place : ℕ) (node : Node) → slice_get held.nodes place ≡ Some node → IsNeededForSome held.nodes (product_findings op operands pairs) node
+
+-- nodes that differ in their functions, each of which the product needs, so far as its pairs have numbers, and different pairs
+-- of states: together they are at least so many
 pub record AreAtLeast (count : ℕ) (op : Op) (operands : Operands) : Type 0 where
   pub nodes : List Node
   pub pairs : List (ℕ × ℕ)
   pub ordered : IsOrdered nodes
   pub reduced : IsReduced nodes
-  pub needed : (place : ℕ) (node : Node) → slice_get nodes place ≡ Some node → IsNeededFor op operands pairs nodes node
+  pub needed : (place : ℕ) (node : Node) → slice_get nodes place ≡ Some node → IsNeededForSome nodes (product_findings op operands pairs) node
   pub numbering : IsNumbering pairs
   pub states : AreStates operands pairs
-  pub many : count ≤ length nodes + length pairs + length operands.left.states + length operands.right.states
+  pub many : count ≤ length nodes + length pairs

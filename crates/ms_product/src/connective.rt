@@ -6,12 +6,11 @@ ghost use Rattle.ms_product.specs.Combined.{HaveEqualOrders, combined};
 ghost use Rattle.ms_product.specs.Pairing.{AreAtLeast, operands_of};
 
 use crate::op::Op;
-use crate::operand::bring;
-use crate::product::{Product, ProductMachine};
+use crate::operand::widen;
+use crate::pairing::{Paired, pair_up};
 use ms_dfa::Automaton;
-use ms_diagram::{PairTable, Pairs, Store};
-use ms_edge::{List, StepFault};
-use ms_explore::{explore, join};
+use ms_edge::StepFault;
+use ms_explore::join;
 use std::alloc::Global;
 
 /// The connective of two automata over the tracks of both: at each assignment the sign that the strict connective gives the
@@ -33,38 +32,24 @@ pub fn combine(
     ensures size { IfOk result (λ made. AreAtLeast (length made.nodes + length made.states) op (operands_of a.now b.now)) }
     ensures nodes { OnRefused result (λ refused. (refused ≡ limit) × AreAtLeast limit op (operands_of a.now b.now)) }
 {
-    let tracks = match join(alloc, a.tracks(), b.tracks()) {
-        Ok(tracks) => tracks,
-        Err(_) => return Err(StepFault::Memory),
+    let Ok(tracks) = join(alloc, a.tracks(), b.tracks()) else {
+        return Err(StepFault::Memory);
     };
-    let mut store = Store::new(alloc, limit);
-    let left = match bring(alloc, &mut store, a, tracks.slice()) {
-        Ok(left) => left,
+    let Ok(left) = widen(alloc, a, tracks.slice()) else {
+        return Err(StepFault::Memory);
+    };
+    let Ok(right) = widen(alloc, b, tracks.slice()) else {
+        return Err(StepFault::Memory);
+    };
+    let paired = match pair_up(alloc, op, left, right, limit) {
+        Ok(paired) => paired,
         Err(fault) => return Err(fault),
     };
-    let right = match bring(alloc, &mut store, b, tracks.slice()) {
-        Ok(right) => right,
-        Err(fault) => return Err(fault),
-    };
-    let pairs = Pairs::new(alloc);
-    let product = Product {
-        op,
-        left,
-        right,
-        pairs,
-    };
-    let mut machine = ProductMachine {
-        product,
-        table: PairTable::new(alloc),
-    };
-    let mut states = List::new(alloc);
-    let explored = explore(&mut machine, &mut store, &mut states);
-    let product = machine.product;
-    // The length tells that the pairs are a numbering.
-    let _ = product.pairs.len();
-    let start = match explored {
-        Ok(start) => start,
-        Err(fault) => return Err(fault),
-    };
+    let Paired {
+        store,
+        start,
+        states,
+        pairs: _,
+    } = paired;
     Ok(Automaton::make(store, a.mode(), tracks, start, states))
 }

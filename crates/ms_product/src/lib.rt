@@ -6,11 +6,12 @@ mod connective;
 mod examples;
 mod op;
 mod operand;
+mod pairing;
 mod product;
 
 pub use change::{negate, restrict_to};
 pub use connective::combine;
 pub use examples::{worked_changes, worked_connectives};
 pub use op::Op;
-pub use operand::{Operand, Widened, bring};
-pub use product::{Product, ProductMachine};
+pub use operand::{Brought, Widened, bring, widen};
+pub use pairing::{Paired, pair_up};

@@ -4,12 +4,12 @@ ghost use Rattle.ms_logic.specs.Roots.{AreRising};
 ghost use Rattle.ms_dfa.specs.Automaton.{variables_of};
 ghost use Rattle.ms_explore.specs.Explored.{GrowsForSome, OnRefused};
 ghost use Rattle.ms_explore.specs.Tracks.{IsAmong, places_among};
-ghost use Rattle.ms_product.specs.Widened.{IsBroughtIn, widened_findings};
+ghost use Rattle.ms_product.specs.Widened.{IsBroughtIn, IsRisingMap, widened_findings};
 
 use ms_arena::Ref;
 use ms_dfa::{Automaton, State, Track};
 use ms_diagram::{PlaceTable, Store};
-use ms_edge::{List, StepFault};
+use ms_edge::{List, NoMemory, StepFault};
 use ms_explore::{Machine, explore, places_among};
 use ms_logic::Sign;
 use std::alloc::Global;
@@ -19,6 +19,22 @@ use std::alloc::Global;
 pub struct Widened<'a> {
     pub automaton: &'a Automaton,
     pub map: List<u32>,
+}
+
+/// The automaton with its tracks at their places among these.
+pub fn widen<'a>(
+    alloc: Global,
+    automaton: &'a Automaton,
+    tracks: &[Track],
+) -> Result<Widened<'a>, NoMemory>
+    requires rising { AreRising (variables_of tracks.now) }
+    requires among { (v : Variable) → IsAmong automaton.now.variables v → IsAmong (variables_of tracks.now) v }
+    ensures automaton { IfOk result (λ made. made.automaton.now ≡ automaton.now) }
+    ensures map { IfOk result (λ made. made.map ≡ places_among automaton.now.variables (variables_of tracks.now)) }
+    ensures rising { IfOk result (λ made. IsRisingMap (length made.automaton.now.variables) made.map) }
+{
+    let map = places_among(alloc, automaton.tracks(), tracks)?;
+    Ok(Widened { automaton, map })
 }
 
 /// A widened automaton with the table of what has been brought into the store of the answer.
@@ -79,47 +95,40 @@ impl<'a> Machine for WidenedMachine<'a> {
     }
 }
 
-/// An operand whose start and states have been brought into the store of the answer.
+/// The start and the states of an automaton that has been brought into a store.
 #[derive(Drop)]
-pub struct Operand<'a> {
-    pub widened: Widened<'a>,
+pub struct Brought {
     pub start: Ref,
     pub states: List<State>,
 }
 
 /// The automaton over these tracks, brought into a store.
-pub fn bring<'a>(
+pub fn bring(
     alloc: Global,
     store: &mut Store,
-    automaton: &'a Automaton,
+    automaton: &Automaton,
     tracks: &[Track],
-) -> Result<Operand<'a>, StepFault>
+) -> Result<Brought, StepFault>
     requires rising { AreRising (variables_of tracks.now) }
     requires among { (v : Variable) → IsAmong automaton.now.variables v → IsAmong (variables_of tracks.now) v }
-    ensures automaton { IfOk result (λ made. made.widened.automaton.now ≡ automaton.now) }
-    ensures map { IfOk result (λ made. made.widened.map ≡ places_among automaton.now.variables (variables_of tracks.now)) }
     ensures brought { IfOk result (λ made. IsBroughtIn store.new.nodes automaton.now (places_among automaton.now.variables (variables_of tracks.now)) made.start made.states) }
     ensures grows { GrowsForSome store.old store.new (widened_findings automaton.now (places_among automaton.now.variables (variables_of tracks.now))) }
     ensures nodes { OnRefused result (λ limit. (limit ≡ store.old.limit) × (limit ≤ length store.new.nodes + length automaton.now.states)) }
 {
-    // The length tells that the nodes are those of a store.
+    // The length tells that the nodes are those of a store, and the states that it is an automaton.
     let _ = store.len();
-    let map = match places_among(alloc, automaton.tracks(), tracks) {
-        Ok(map) => map,
-        Err(_) => return Err(StepFault::Memory),
+    let _ = automaton.states();
+    let Ok(widened) = widen(alloc, automaton, tracks) else {
+        return Err(StepFault::Memory);
     };
     let mut states = List::new(alloc);
     let mut machine = WidenedMachine {
-        widened: Widened { automaton, map },
+        widened,
         table: PlaceTable::new(alloc),
     };
     let start = match explore(&mut machine, store, &mut states) {
         Ok(start) => start,
         Err(fault) => return Err(fault),
     };
-    Ok(Operand {
-        widened: machine.widened,
-        start,
-        states,
-    })
+    Ok(Brought { start, states })
 }

@@ -1,23 +1,23 @@
 ghost use Rattle.std.specs.Prelude.{◌≡◌, ◌<◌, ◌≤◌, ◌+◌, length};
 ghost use Rattle.ms_diagram.specs.Growth.{Builds};
-ghost use Rattle.ms_diagram.specs.Table.{ArePaired};
-ghost use Rattle.ms_product.specs.Pairing.{AreBroughtIn, IsLaterPairing, product_findings};
+ghost use Rattle.ms_diagram.specs.Table.{ArePairedAcross};
+ghost use Rattle.ms_product.specs.Pairing.{HaveRisingMaps, IsLaterPairing, product_findings, sides_of};
 
 use crate::op::{Op, strict};
-use crate::operand::Operand;
+use crate::operand::Widened;
 use ms_arena::Ref;
-use ms_diagram::{PairTable, Pairs, Store};
+use ms_diagram::{PairTable, Pairs, Renamed, Sides, Store};
 use ms_edge::StepFault;
 use ms_explore::Machine;
 use ms_logic::Sign;
 use std::marker::Model;
 
-/// The product of two automata: its states are pairs of theirs, which get numbers at first sight.
+/// The product of two automata, each read where it is: its states are pairs of theirs, which get numbers at first sight.
 #[derive(Drop)]
-pub struct Product<'a> {
+pub(crate) struct Product<'a> {
     pub op: Op,
-    pub left: Operand<'a>,
-    pub right: Operand<'a>,
+    pub left: Widened<'a>,
+    pub right: Widened<'a>,
     pub pairs: Pairs,
 }
 
@@ -28,15 +28,29 @@ impl<'a> Model for Product<'a> {
 
     ghost view = { λ p. record {
       op = p.op;
-      operands = record { left = p.left.widened.automaton.now; left_map = p.left.widened.map; right = p.right.widened.automaton.now; right_map = p.right.widened.map };
-      left = record { start = p.left.start; states = p.left.states };
-      right = record { start = p.right.start; states = p.right.states };
+      operands = record { left = p.left.automaton.now; left_map = p.left.map; right = p.right.automaton.now; right_map = p.right.map };
       pairs = p.pairs;
     } };
 
     ghost invariant = { λ p. AreStates
-        (record { left = p.left.widened.automaton.now; left_map = p.left.widened.map; right = p.right.widened.automaton.now; right_map = p.right.widened.map })
+        (record { left = p.left.automaton.now; left_map = p.left.map; right = p.right.automaton.now; right_map = p.right.map })
         p.pairs };
+}
+
+/// The stores of both, with the places at which their tracks are read.
+fn sides<'a>(left: &'a Widened, right: &'a Widened) -> Sides<'a>
+    ensures { result ≡ sides_of (record { left = left.now.automaton.now; left_map = left.now.map; right = right.now.automaton.now; right_map = right.now.map }) }
+{
+    Sides {
+        left: Renamed {
+            store: left.automaton.store(),
+            map: left.map.slice(),
+        },
+        right: Renamed {
+            store: right.automaton.store(),
+            map: right.map.slice(),
+        },
+    }
 }
 
 impl<'a> Product<'a> {
@@ -46,17 +60,19 @@ impl<'a> Product<'a> {
         store: &mut Store,
         table: &mut PairTable,
     ) -> Result<Ref, StepFault>
-        requires brought { AreBroughtIn store.old.nodes self.old.operands self.old.left self.old.right }
-        requires table { ArePaired store.old.nodes self.old.pairs table.old }
+        requires maps { HaveRisingMaps self.old.operands }
+        requires table { ArePairedAcross (sides_of self.old.operands) self.old.pairs store.old.nodes table.old }
         ensures later { IsLaterPairing self.old self.new }
-        ensures brought { AreBroughtIn store.new.nodes self.new.operands self.new.left self.new.right }
-        ensures table { ArePaired store.new.nodes self.new.pairs table.new }
+        ensures table { ArePairedAcross (sides_of self.new.operands) self.new.pairs store.new.nodes table.new }
         ensures builds { Builds store.old store.new (product_findings self.new.op self.new.operands self.new.pairs).starts (product_findings self.new.op self.new.operands self.new.pairs).LacksNumber result }
         ensures few { length store.new.nodes ≤ length store.old.nodes + (product_findings self.new.op self.new.operands self.new.pairs).most_nodes }
     {
         // The length tells that the nodes are those of a store.
         let _ = store.len();
-        store.apply_with(self.left.start, self.right.start, &mut self.pairs, table)
+        let left = self.left.automaton.start_ref();
+        let right = self.right.automaton.start_ref();
+        let sides = sides(&self.left, &self.right);
+        store.apply_across(&sides, (left, right), &mut self.pairs, table)
     }
 
     /// The same for a letter from the pair of this number.
@@ -67,19 +83,19 @@ impl<'a> Product<'a> {
         table: &mut PairTable,
     ) -> Result<Ref, StepFault>
         requires state { state < (product_findings self.old.op self.old.operands self.old.pairs).count }
-        requires brought { AreBroughtIn store.old.nodes self.old.operands self.old.left self.old.right }
-        requires table { ArePaired store.old.nodes self.old.pairs table.old }
+        requires maps { HaveRisingMaps self.old.operands }
+        requires table { ArePairedAcross (sides_of self.old.operands) self.old.pairs store.old.nodes table.old }
         ensures later { IsLaterPairing self.old self.new }
-        ensures brought { AreBroughtIn store.new.nodes self.new.operands self.new.left self.new.right }
-        ensures table { ArePaired store.new.nodes self.new.pairs table.new }
+        ensures table { ArePairedAcross (sides_of self.new.operands) self.new.pairs store.new.nodes table.new }
         ensures builds { Builds store.old store.new ((product_findings self.new.op self.new.operands self.new.pairs).steps state) (product_findings self.new.op self.new.operands self.new.pairs).LacksNumber result }
         ensures few { length store.new.nodes ≤ length store.old.nodes + (product_findings self.new.op self.new.operands self.new.pairs).most_nodes }
     {
         let _ = store.len();
-        let (left, right) = self.pairs.get(state);
-        let left_next = self.left.states.get(left as usize).next;
-        let right_next = self.right.states.get(right as usize).next;
-        store.apply_with(left_next, right_next, &mut self.pairs, table)
+        let (left_state, right_state) = self.pairs.get(state);
+        let left = self.left.automaton.next_ref(left_state);
+        let right = self.right.automaton.next_ref(right_state);
+        let sides = sides(&self.left, &self.right);
+        store.apply_across(&sides, (left, right), &mut self.pairs, table)
     }
 
     /// The connective of the signs of the pair of this number.
@@ -88,8 +104,8 @@ impl<'a> Product<'a> {
         ensures { result ≡ (product_findings self.now.op self.now.operands self.now.pairs).sign_of state }
     {
         let (left, right) = self.pairs.get(state);
-        let left_sign = self.left.widened.automaton.sign(left);
-        let right_sign = self.right.widened.automaton.sign(right);
+        let left_sign = self.left.automaton.sign(left);
+        let right_sign = self.right.automaton.sign(right);
         strict(self.op, left_sign, right_sign)
     }
 
@@ -103,20 +119,20 @@ impl<'a> Product<'a> {
 
 /// A product with the table of what pairs of references have become in the store of the answer.
 #[derive(Drop)]
-pub struct ProductMachine<'a> {
+pub(crate) struct ProductMachine<'a> {
     pub product: Product<'a>,
     pub table: PairTable,
 }
 
 impl<'a> Machine for ProductMachine<'a> {
-    ghost use Rattle.ms_diagram.specs.Table.{ArePaired};
-    ghost use Rattle.ms_product.specs.Pairing.{AreBroughtIn, IsLaterPairing, product_findings};
+    ghost use Rattle.ms_diagram.specs.Table.{ArePairedAcross};
+    ghost use Rattle.ms_product.specs.Pairing.{HaveRisingMaps, IsLaterPairing, product_findings, sides_of};
     ghost use Rattle.ms_product.specs.Later.{pairing_later_itself, pairing_later_later, pairing_later_findings};
 
     ghost findings = { λ machine. product_findings machine.product.op machine.product.operands machine.product.pairs };
 
-    ghost IsReady = { λ machine nodes. AreBroughtIn nodes machine.product.operands machine.product.left machine.product.right
-        × ArePaired nodes machine.product.pairs machine.table };
+    ghost IsReady = { λ machine nodes. HaveRisingMaps machine.product.operands
+        × ArePairedAcross (sides_of machine.product.operands) machine.product.pairs nodes machine.table };
 
     ghost IsLater = { λ early late. IsLaterPairing early.product late.product };
 

@@ -42,7 +42,8 @@ use Rattle.ms_quotient.specs.Closure.{no_marks, marks_at, StandsOnWay, AreMarksF
 use Rattle.ms_quotient.specs.Way.{union_along}
 use Rattle.ms_quotient.proofs.WayLemmas.{IsSplit}
 use Rattle.ms_project.specs.Marks.{marks_of, sign_by, can_be_empty, AreClosedMarks}
-use Rattle.ms_project.specs.Paired.{IsDomainFor, operands_over, IsPairedIn, marks_of_pair, places_left}
+use Rattle.ms_product.specs.Pairing.{IsPairedIn}
+use Rattle.ms_project.specs.Paired.{IsDomainFor, operands_for, marks_of_pair, places_left}
 use Rattle.ms_project.specs.Quantified.{QuantifiedYes, QuantifiedNo, quantified, without}
 use Rattle.ms_project.specs.Signed.{AreSigned, TestBelow, zero_step}
 use Rattle.ms_project.specs.Subsets.{IsLeftOut, IsReachedSet}
@@ -89,7 +90,7 @@ IsMeaning-quantified All own body domain mode variables =
 
 module _ (body domain : Content Sign) (body_is : IsAutomaton body) (domain_is : IsAutomaton domain) (is_domain : IsDomainFor body domain) (own : Variable) (own_among : IsAmong body.variables own)
     (inner : Contents) (product_start : Ref) (product_states : List State) (sets : List (List ℕ)) (pairs : List (ℕ × ℕ))
-    (is_paired : IsPairedIn inner.nodes body domain pairs product_start product_states) where
+    (is_paired : IsPairedIn inner.nodes And (operands_for body domain) pairs product_start product_states) where
   -- the construction
   abbrev pub construction : Subsetting
   construction = record {
@@ -123,7 +124,7 @@ module _ (body domain : Content Sign) (body_is : IsAutomaton body) (domain_is : 
         → slice_get pairs (last_state (paired construction) word)
         ≡ Some (last_state body word, last_state domain (narrowed (places_among domain.variables body.variables) domain.variables body.variables word))
     pair_at_end word over =
-        let operands = operands_over body domain in
+        let operands = operands_for body domain in
         let over_product = IsOver-product And operands body.variables body_is.ordered body_is.closed body_leads domain_is.ordered domain_is.closed domain_leads pairs is_paired.numbering is_paired.are in
         let names = AreNames-product And operands body.variables body_is.ordered body_is.closed body_leads domain_is.ordered domain_is.closed domain_leads pairs is_paired.numbering is_paired.are in
         let simulation = IsSimulation-explored inner.nodes body.mode body.variables product_start product_states (product_findings And operands pairs) inner_store.ordered inner_store.reduced over_product

@@ -7,7 +7,6 @@ pub mod SetRunLemmas
 pub mod MarkLemmas
 pub mod QuantifiedLemmas
 pub mod ListSteps
-pub mod PairSteps
 pub mod TruthLemmas
 pub mod LeaveLemmas
 pub mod SearchSteps

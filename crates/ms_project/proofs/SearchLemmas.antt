@@ -26,7 +26,8 @@ use Rattle.ms_product.specs.declared.op.Op.TheVariants.{And}
 use Rattle.ms_product.specs.Pairing.{AreAtLeast, product_findings}
 use Rattle.ms_product.proofs.ProductLemmas.{IsOver-product}
 use Rattle.ms_quotient.specs.declared.marks.Marks.{Marks}
-use Rattle.ms_project.specs.Paired.{IsDomainFor, operands_over, IsPairedIn, IsPairedStore, marks_of_pair, places_left}
+use Rattle.ms_product.specs.Pairing.{IsPairedIn, IsPairedStore}
+use Rattle.ms_project.specs.Paired.{IsDomainFor, operands_for, marks_of_pair, places_left}
 use Rattle.ms_project.specs.Projection.{IsProjection, SetsOfProductAreAtLeast, NeedsAtLeast}
 use Rattle.ms_project.specs.Signed.{TestBelow, zero_step}
 use Rattle.ms_project.specs.Subsetting.{Subsetting, paired, subset_findings, IsReadyForSets, IsLaterSubsetting, AreSetsFound, SetsAreAtLeast, begun}
@@ -34,9 +35,9 @@ use Rattle.ms_project.proofs.LeaveLemmas.{length-places_left, places_left-rise}
 
 -- what was paired stays so in a longer list
 IsPairedIn-extends : (old new : List Node) → IsOrdered old → Extends old new → (body domain : Content Sign) (pairs : List (ℕ × ℕ)) (start : Ref) (states : List State)
-    → IsPairedIn old body domain pairs start states → IsPairedIn new body domain pairs start states
+    → IsPairedIn old And (operands_for body domain) pairs start states → IsPairedIn new And (operands_for body domain) pairs start states
 IsPairedIn-extends old new ordered extends body domain pairs start states is =
-    let findings = product_findings And (operands_over body domain) pairs in
+    let findings = product_findings And (operands_for body domain) pairs in
     record {
       starts = Leads-later old new findings.starts findings.starts start ordered extends (λ bits number right. right) is.starts;
       all = is.all;
@@ -49,7 +50,7 @@ IsPairedIn-extends old new ordered extends body domain pairs start states is =
     }
 
 module _ (body domain : Content Sign) (body_is : IsAutomaton body) (domain_is : IsAutomaton domain) (is_domain : IsDomainFor body domain) (own : Variable) (own_among : IsAmong body.variables own)
-    (store : Contents) (is_store : IsStore store.nodes store.limit) (pairs : List (ℕ × ℕ)) (start : Ref) (states : List State) (is : IsPairedIn store.nodes body domain pairs start states) where
+    (store : Contents) (is_store : IsStore store.nodes store.limit) (pairs : List (ℕ × ℕ)) (start : Ref) (states : List State) (is : IsPairedIn store.nodes And (operands_for body domain) pairs start states) where
   abbrev pub at_first : Subsetting
   at_first = begun body store start states (place_of own.name body.variables) (places_left own.name 0 body.variables)
 
@@ -57,8 +58,8 @@ module _ (body domain : Content Sign) (body_is : IsAutomaton body) (domain_is : 
   pub ready_at_first : IsReadyForSets at_first
   ready_at_first = record {
     closed =
-        IsClosed-explored store.nodes body.mode body.variables start states (product_findings And (operands_over body domain) pairs) is_store.ordered is_store.reduced
-        (IsOver-product And (operands_over body domain) body.variables body_is.ordered body_is.closed (leads_to body.variables body.variables body_is.rising body_is.rising (λ v among. among))
+        IsClosed-explored store.nodes body.mode body.variables start states (product_findings And (operands_for body domain) pairs) is_store.ordered is_store.reduced
+        (IsOver-product And (operands_for body domain) body.variables body_is.ordered body_is.closed (leads_to body.variables body.variables body_is.rising body_is.rising (λ v among. among))
         domain_is.ordered domain_is.closed (leads_to domain.variables body.variables domain_is.rising body_is.rising is_domain.among) pairs is.numbering is.are)
         is.starts is.all is.follows;
     members = λ number set held. absurd (none-some set held);
@@ -75,7 +76,7 @@ module _ (body domain : Content Sign) (body_is : IsAutomaton body) (domain_is : 
         same = from ∙ ap (λ (u : Subsetting). record { body = body; inner = v.inner; start = u.start; states = u.states; bound = place_of own.name body.variables; back = places_left own.name 0 body.variables; sets = v.sets }) (sym from);
         pairs = pairs;
         paired =
-            subst (λ (u : Subsetting). IsPairedIn v.inner.nodes body domain pairs u.start u.states) (sym from)
+            subst (λ (u : Subsetting). IsPairedIn v.inner.nodes And (operands_for body domain) pairs u.start u.states) (sym from)
             (IsPairedIn-extends store.nodes v.inner.nodes is_store.ordered (later.grows is_store).extends body domain pairs start states is);
         marks_are = marks_are;
         ready = later.ready ready_at_first;
@@ -83,7 +84,7 @@ module _ (body domain : Content Sign) (body_is : IsAutomaton body) (domain_is : 
       }
 
   -- and a refusal names the limit
-  pub sets_refused : (A B : Type 0) (limit : ℕ) → IsPairedStore store limit body domain pairs → (fault : StepFault)
+  pub sets_refused : (A B : Type 0) (limit : ℕ) → IsPairedStore store limit And (operands_for body domain) pairs → (fault : StepFault)
       → OnRefused {A = B} (Err fault) (λ refused. (refused ≡ store.limit) × SetsAreAtLeast refused at_first)
       → OnRefused {A = A} (Err fault) (λ refused. (refused ≡ limit) × NeedsAtLeast limit body domain own.name)
   sets_refused A B limit needed Memory cause = tt
@@ -94,6 +95,6 @@ module _ (body domain : Content Sign) (body_is : IsAutomaton body) (domain_is : 
       )
 
 pub pairs_refused : (A B : Type 0) (limit : ℕ) (body domain : Content Sign) (name : ℕ) (fault : StepFault)
-    → OnRefused {A = B} (Err fault) (λ refused. (refused ≡ limit) × AreAtLeast limit And (operands_over body domain)) → OnRefused {A = A} (Err fault) (λ refused. (refused ≡ limit) × NeedsAtLeast limit body domain name)
+    → OnRefused {A = B} (Err fault) (λ refused. (refused ≡ limit) × AreAtLeast limit And (operands_for body domain)) → OnRefused {A = A} (Err fault) (λ refused. (refused ≡ limit) × NeedsAtLeast limit body domain name)
 pairs_refused A B limit body domain name Memory cause = tt
 pairs_refused A B limit body domain name (Nodes refused) cause = (cause.0, inl cause.1)

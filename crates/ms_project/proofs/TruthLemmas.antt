@@ -1,24 +1,28 @@
 -- The product of a body and truth is the body itself.
-use Rattle.std.proofs.Common.{◌≡◌, ℕ, ◌<◌, inl, List, [], length, slice_get, Some, IfSome, refl, sym, ap, subst, ◌∙◌, arith}
+use Rattle.std.proofs.Common.{◌≡◌, ℕ, ◌<◌, ◌≤◌, ◌+◌, List, [], length, slice_get, None, Some, IfSome, Err, refl, sym, ap, subst, ◌∙◌, arith}
 use Rattle.std.proofs.lemmas.Option.{slice_get_within}
+use Rattle.ms_edge.specs.declared.fault.StepFault.{StepFault}
+use Rattle.ms_edge.specs.declared.fault.StepFault.TheVariants.{Nodes, Memory}
 use Rattle.ms_arena.specs.declared.node.Ref.{Ref}
 use Rattle.ms_arena.specs.declared.node.Node.{Node}
+use Rattle.ms_arena.specs.Bits.{below_from}
 use Rattle.ms_arena.specs.Diagram.{Bits}
+use Rattle.ms_arena.specs.Target.{IsNeeded}
 use Rattle.ms_dfa.specs.declared.state.State.{State}
-use Rattle.ms_diagram.specs.Numbering.{IsNumbering}
+use Rattle.ms_diagram.specs.Numbering.{IsNumbering, AreOwnPairs}
 use Rattle.ms_diagram.specs.Store.{Contents}
 use Rattle.ms_logic.specs.declared.sign.Sign.{Sign}
 use Rattle.ms_logic.specs.declared.sign.Sign.TheVariants.{Yes, No, Undefined, Outside}
 use Rattle.ms_logic.specs.Content.{Content, IsClosed}
-use Rattle.ms_explore.specs.Explored.{GrowsForSome, Leads}
+use Rattle.ms_explore.specs.Explored.{GrowsForSome, Leads, OnRefused, Origin, IsFound, target_of}
 use Rattle.ms_explore.specs.Tracks.{places_among}
 use Rattle.ms_product.specs.declared.op.Op.TheVariants.{And}
-use Rattle.ms_product.specs.Pairing.{behind_pair, sign_of_number, AreStates}
+use Rattle.ms_product.specs.Pairing.{behind_pair, sign_of_number, product_findings, AreStates, AreAtLeast, IsNeededForSome, IsPairedIn, IsPairedStore}
 use Rattle.ms_product.specs.Signs.{strict}
 use Rattle.ms_product.specs.Widened.{first_through, next_through, sign_in, widened_findings, IsBroughtIn}
-use Rattle.ms_product.proofs.SizeLemmas.{AllNeeded-first}
+use Rattle.ms_product.proofs.SizeLemmas.{AreAtLeast-held}
 use Rattle.ms_product.proofs.WidenedLemmas.{first_below, next_below}
-use Rattle.ms_project.specs.Paired.{AreOwnPairs, IsPairedIn, IsPairedStore, IsTruth, operands_over}
+use Rattle.ms_project.specs.Paired.{IsTruth, operands_for}
 
 -- the conjunction of a sign and Yes is the sign
 strict-yes : (sign : Sign) → sign ≡ strict And sign Yes
@@ -46,7 +50,7 @@ module _ (body domain : Content Sign) (closed : IsClosed domain) (truth : IsTrut
       let one = truth.one in
       own.own state less ∙ ap (λ other. Some (state, other)) (only (next_through domain right_map 0 bits) (next_below domain right_map closed 0 (omega (arith, one)) bits))
 
-  are_states : AreStates (operands_over body domain) pairs
+  are_states : AreStates (operands_for body domain) pairs
   are_states number pair held =
       let long = own.long in
       let within = slice_get_within pairs number pair held in
@@ -58,7 +62,7 @@ module _ (body domain : Content Sign) (closed : IsClosed domain) (truth : IsTrut
 
   module _ (nodes : List Node) (start : Ref) (states : List State) (brought : IsBroughtIn nodes body left_map start states) where
     follows_at : (number : ℕ) (state : State) → number < length body.states → Leads nodes (λ bits after. after ≡ next_through body left_map number bits) state.next × (state.sign ≡ sign_in body number)
-        → Leads nodes (behind_pair (operands_over body domain) pairs (Some (number, 0))) state.next × (state.sign ≡ sign_of_number And (operands_over body domain) (Some (number, 0)))
+        → Leads nodes (behind_pair (operands_for body domain) pairs (Some (number, 0))) state.next × (state.sign ≡ sign_of_number And (operands_for body domain) (Some (number, 0)))
     follows_at number state less was = (
       record {
         valid = was.0.valid;
@@ -67,7 +71,7 @@ module _ (body domain : Content Sign) (closed : IsClosed domain) (truth : IsTrut
       was.1 ∙ strict-yes (sign_in body number) ∙ ap (strict And (sign_in body number)) (sym truth.yes),
     )
 
-    pub alone_in : IsPairedIn nodes body domain pairs start states
+    pub alone_in : IsPairedIn nodes And (operands_for body domain) pairs start states
     alone_in = record {
       starts = record {
         valid = brought.starts.valid;
@@ -78,17 +82,57 @@ module _ (body domain : Content Sign) (closed : IsClosed domain) (truth : IsTrut
           let all = brought.all in
           let within = slice_get_within states number state held in
           let less : number < length body.states = omega (arith, within, all) in
-          subst (λ found. Leads nodes (behind_pair (operands_over body domain) pairs found) state.next × (state.sign ≡ sign_of_number And (operands_over body domain) found)) (sym (own.own number less))
+          subst (λ found. Leads nodes (behind_pair (operands_for body domain) pairs found) state.next × (state.sign ≡ sign_of_number And (operands_for body domain) found)) (sym (own.own number less))
           (follows_at number state less (brought.follows number state held));
       numbering = numbering;
       are = are_states;
     }
 
--- all that the store holds is needed for the body
-pub alone_store : (body domain : Content Sign) (limit : ℕ) (zero one : Contents) → zero.nodes ≡ [] → zero.limit ≡ limit → (pairs : List (ℕ × ℕ))
-    → GrowsForSome zero one (widened_findings body (places_among body.variables body.variables)) → IsPairedStore one limit body domain pairs
-alone_store body domain limit zero one empty limit_is pairs grows = record {
-  store = grows.store;
-  limited = grows.limit ∙ limit_is;
-  needed = AllNeeded-first And (operands_over body domain) pairs (widened_findings body (places_among body.variables body.variables)) zero one (λ nodes node needed. inl needed) empty grows;
-}
+  module _ (body_closed : IsClosed body) where
+    -- what the body needs, the product needs
+    needed_from : (nodes : List Node) (node : Node) (origin : Origin) → IsFound (widened_findings body left_map) origin → IsNeeded nodes (target_of (widened_findings body left_map) origin) node
+        → IsNeededForSome nodes (product_findings And (operands_for body domain) pairs) node
+    needed_from nodes node None found needed = (
+      None,
+      tt,
+      (
+        needed.0,
+        λ bits.
+            let there = below_from node.var needed.0 bits in
+            ap (slice_get pairs) (needed.1 bits) ∙ own_first there (first_through body left_map there) (first_below body left_map body_closed there),
+      ),
+    )
+    needed_from nodes node (Some state) found needed =
+        let long = own.long in
+        let less : state < length body.states = found in (
+          Some state,
+          omega (arith, less, long),
+          subst (λ pair. IsNeeded nodes (behind_pair (operands_for body domain) pairs pair) node) (sym (own.own state less)) (
+            needed.0,
+            λ bits.
+                let there = below_from node.var needed.0 bits in
+                ap (slice_get pairs) (needed.1 bits) ∙ own_next there (next_through body left_map state there) (next_below body left_map body_closed state less there),
+          ),
+        )
+
+    module _ (limit : ℕ) (zero one : Contents) (empty : zero.nodes ≡ []) (limit_is : zero.limit ≡ limit) (grows : GrowsForSome zero one (widened_findings body left_map)) where
+      -- all that the store holds is needed
+      pub alone_store : IsPairedStore one limit And (operands_for body domain) pairs
+      alone_store = record {
+        store = grows.store;
+        limited = grows.limit ∙ limit_is;
+        needed = λ place node there.
+            let none = ap length empty in
+            let needed = grows.needed place node (omega (arith, none)) there in
+            needed_from one.nodes node needed.0 needed.1 needed.2;
+      }
+
+      -- where the body does not fit, the product is as large
+      pub alone_refused : (A B : Type 0) (fault : StepFault) → OnRefused {A = B} (Err fault) (λ refused. (refused ≡ zero.limit) × (refused ≤ length one.nodes + length body.states))
+          → OnRefused {A = A} (Err fault) (λ refused. (refused ≡ limit) × AreAtLeast limit And (operands_for body domain))
+      alone_refused A B Memory cause = tt
+      alone_refused A B (Nodes refused) cause =
+          let same : refused ≡ limit = cause.0 ∙ limit_is in
+          let most = cause.1 in
+          let long = own.long in
+          (same, AreAtLeast-held And (operands_for body domain) limit pairs one alone_store numbering are_states limit (omega (arith, same, most, long)))

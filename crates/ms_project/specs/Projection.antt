@@ -16,7 +16,8 @@ use Rattle.ms_quotient.specs.declared.marks.Marks.{Marks}
 use Rattle.ms_quotient.specs.Closure.{no_marks}
 use Rattle.ms_quotient.specs.Way.{union_along}
 use Rattle.ms_project.specs.Marks.{AreClosedMarks, can_be_empty}
-use Rattle.ms_project.specs.Paired.{IsPairedIn, IsPairedStore, marks_of_pair, operands_over, places_left}
+use Rattle.ms_product.specs.Pairing.{IsPairedIn, IsPairedStore}
+use Rattle.ms_project.specs.Paired.{marks_of_pair, operands_for, places_left}
 use Rattle.ms_project.specs.Signed.{AreSigned, zero_step}
 use Rattle.ms_project.specs.Subsetting.{Subsetting, AreSetsFound, IsReadyForSets, SetsAreAtLeast, begun}
 
@@ -24,7 +25,7 @@ use Rattle.ms_project.specs.Subsetting.{Subsetting, AreSetsFound, IsReadyForSets
 pub record IsProjection (body domain : Content Sign) (name : ℕ) (marks : List Marks) (v : Subsetting) (held : Contents) (start : Ref) (states : List State) : Type 0 where
   pub same : v ≡ record v { body = body; bound = place_of name body.variables; back = places_left name 0 body.variables }
   pub pairs : List (ℕ × ℕ)
-  pub paired : IsPairedIn v.inner.nodes body domain pairs v.start v.states
+  pub paired : IsPairedIn v.inner.nodes And (operands_for body domain) pairs v.start v.states
   pub marks_are : marks ≡ map (marks_of_pair body domain) pairs
   pub ready : IsReadyForSets v
   pub found : AreSetsFound v held start states
@@ -41,10 +42,10 @@ pub record SetsOfProductAreAtLeast (count : ℕ) (body domain : Content Sign) (n
   pub start : Ref
   pub states : List State
   pub pairs : List (ℕ × ℕ)
-  pub paired : IsPairedIn inner.nodes body domain pairs start states
-  pub needed : IsPairedStore inner count body domain pairs
+  pub paired : IsPairedIn inner.nodes And (operands_for body domain) pairs start states
+  pub needed : IsPairedStore inner count And (operands_for body domain) pairs
   pub sets : SetsAreAtLeast count (begun body inner start states (place_of name body.variables) (places_left name 0 body.variables))
 
 -- the product, or the sets of its states, have so many needed nodes, pairs and sets
 abbrev pub NeedsAtLeast : ℕ → Content Sign → Content Sign → ℕ → Type 0
-NeedsAtLeast count body domain name = AreAtLeast count And (operands_over body domain) ⊎ SetsOfProductAreAtLeast count body domain name
+NeedsAtLeast count body domain name = AreAtLeast count And (operands_for body domain) ⊎ SetsOfProductAreAtLeast count body domain name

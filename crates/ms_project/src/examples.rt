@@ -1,9 +1,11 @@
-ghost use Rattle.std.specs.Prelude.{◌≡◌, true, false};
+ghost use Rattle.std.specs.Prelude.{◌≡◌, [], ◌∷◌, true, false};
+ghost use Rattle.ms_diagram.specs.Numbering.{AreOwnPairs};
 ghost use Rattle.ms_logic.specs.declared.mode.Mode.TheVariants.{M2lStr, Ws1s};
 ghost use Rattle.ms_logic.specs.declared.mode.Quant.TheVariants.{All, Ex};
 ghost use Rattle.ms_logic.specs.declared.sign.Sign.TheVariants.{No, Outside, Undefined, Yes};
-ghost use Rattle.ms_project.specs.Examples.{number_and_set, only_set};
+ghost use Rattle.ms_project.specs.Examples.{everywhere, number_and_set, only_set};
 ghost use Rattle.ms_project.specs.Marks.{can_be_empty, marks_of, sign_by};
+ghost use Rattle.ms_project.specs.Paired.{IsTruth};
 ghost use Rattle.ms_project.specs.Quantified.{without};
 ghost use Rattle.ms_quotient.specs.Closure.{no_marks};
 
@@ -30,4 +32,13 @@ pub fn worked_marks()
     ensures with_number { can_be_empty M2lStr number_and_set ≡ false }
     ensures numbers { can_be_empty Ws1s only_set ≡ false }
     ensures left_out { without 4 number_and_set ≡ only_set }
+{}
+
+/// A domain that is truth, and the pairs that a body makes with it.
+pub fn worked_truth()
+    ensures truth { IsTruth (everywhere Yes) }
+    ensures never { ¬ IsTruth (everywhere No) }
+    ensures own { AreOwnPairs 2 ((0, 0) ∷ (1, 0) ∷ []) }
+    ensures too_many { ¬ AreOwnPairs 1 ((0, 0) ∷ (1, 0) ∷ []) }
+    ensures turned_round { ¬ AreOwnPairs 2 ((1, 0) ∷ (0, 0) ∷ []) }
 {}

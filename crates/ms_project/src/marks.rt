@@ -1,7 +1,7 @@
 ghost use Rattle.std.specs.Prelude.{◌≡◌, ℕ, ◌<◌, All, IfOk, length, map};
 ghost use Rattle.ms_product.specs.Pairing.{AreStates};
 ghost use Rattle.ms_project.specs.Marks.{is_yes, marks_of, range_sign, empty_sign, sign_by, has_no_number, can_be_empty};
-ghost use Rattle.ms_project.specs.Paired.{marks_of_pair, operands_over};
+ghost use Rattle.ms_project.specs.Paired.{marks_of_pair, operands_for};
 ghost use Rattle.ms_quotient.specs.Closure.{no_marks};
 ghost use Rattle.ms_quotient.specs.Way.{union_along};
 ghost use Rattle.ms_dfa.specs.Automaton.{variables_of};
@@ -33,7 +33,7 @@ pub(crate) fn marks_of_pairs(
     domain: &Automaton,
     pairs: &Pairs,
 ) -> Result<List<Marks>, NoMemory>
-    requires { AreStates (operands_over body.now domain.now) pairs.now }
+    requires { AreStates (operands_for body.now domain.now) pairs.now }
     ensures { IfOk result (λ marks. marks ≡ map (marks_of_pair body.now domain.now) pairs.now) }
 {
     let mut made = List::new(alloc);

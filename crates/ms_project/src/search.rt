@@ -2,13 +2,13 @@ ghost use Rattle.std.specs.Prelude.{◌≡◌, ◌≤◌, IfOk};
 ghost use Rattle.ms_explore.specs.Explored.{OnRefused};
 ghost use Rattle.ms_project.specs.Subsetting.{AreSetsFound, IsLaterSubsetting, IsReadyForSets, SetsAreAtLeast, begun};
 
-use crate::pairing::Paired;
 use crate::subsets::{SubsetTables, Subsets, SubsetsMachine};
 use ms_arena::Ref;
 use ms_dfa::{Automaton, State};
 use ms_diagram::{ListTable, PlaceTable, Sets, Store};
 use ms_edge::{List, StepFault};
 use ms_explore::explore;
+use ms_product::Paired;
 use std::alloc::Global;
 
 /// All sets of a subset construction, with their diagrams over the other tracks in a store of its own.

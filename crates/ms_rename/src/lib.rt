@@ -9,7 +9,7 @@ mod renaming;
 mod tracks;
 mod whole;
 
-pub use examples::worked_renamings;
+pub use examples::{worked_numbers, worked_renamings};
 pub use needed::compact;
 pub use renaming::rename;
 pub use tracks::renamed_tracks;

@@ -9,7 +9,7 @@ use crate::tracks::copy;
 use ms_dfa::Automaton;
 use ms_diagram::Store;
 use ms_edge::StepFault;
-use ms_product::{Operand, bring};
+use ms_product::{Brought, bring};
 use std::alloc::Global;
 
 /// The same automaton in a store of its own that holds the nodes it needs and nothing else. Nodes and states are together at
@@ -26,10 +26,10 @@ pub fn compact(alloc: Global, a: &Automaton, limit: u64) -> Result<Automaton, St
         return Err(StepFault::Memory);
     };
     let mut store = Store::new(alloc, limit);
-    let operand = match bring(alloc, &mut store, a, tracks.slice()) {
-        Ok(operand) => operand,
+    let brought = match bring(alloc, &mut store, a, tracks.slice()) {
+        Ok(brought) => brought,
         Err(fault) => return Err(fault),
     };
-    let Operand { start, states, .. } = operand;
+    let Brought { start, states } = brought;
     Ok(Automaton::make(store, a.mode(), tracks, start, states))
 }

@@ -1,4 +1,4 @@
-use Rattle.std.proofs.Common.{◌+◌, ◌∷◌, [], length, ap, sym, subst, ◌∙◌, length-append}
+use Rattle.std.proofs.Common.{◌+◌, ◌∷◌, [], length, ap, sym, subst, ◌∙◌, length-append, arith}
 use Rattle.ms_arena.specs.declared.node.Ref.TheVariants.{Inner}
 use Rattle.ms_minim.specs.Image.{IsImage, HaveImages}
 use Rattle.ms_minim.specs.Origin.{IsOn}
@@ -22,4 +22,5 @@ loop-place-preserved c =
       subst (HaveImages after old classes origins) (sym pushed)
           (HaveImages-more c.loop-place.store.nodes after old classes origins c.loop-place.list c.in_ok-made.made was.1.ordered c.in_ok-made.ensures.extends was.2
           (subst (λ p. IsOn origins (Inner p) → IsImage after old classes (Inner p) c.in_ok-made.made) (sym was.0) c.in_ok-made.ensures.image)),
+      (let few = was.3 in let one = c.in_ok-made.ensures.one in omega (arith, few, one)),
     )

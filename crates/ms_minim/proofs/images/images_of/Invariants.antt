@@ -1,4 +1,4 @@
-use Rattle.std.proofs.Common.{◌≡◌, length}
+use Rattle.std.proofs.Common.{◌≡◌, ◌≤◌, length}
 use Rattle.ms_diagram.specs.Store.{IsStore}
 use Rattle.ms_minim.specs.Image.{HaveImages}
 use Rattle.ms_minim.proofs.images.images_of.Given as goal
@@ -9,3 +9,4 @@ invariant-loop-place l =
     (length l.list ≡ l.place)
     × IsStore l.store.nodes l.store.limit
     × HaveImages l.store.nodes l.reached.store.now.nodes l.reached.classes.now l.reached.origins.now l.list
+    × (length l.store.nodes ≤ l.place)

@@ -19,4 +19,4 @@ returns-clause-reached c =
     let content = c.args.automaton.now in
     AreReached-own content c.args.partition.now.classes c.args.partition.now.members c.requires.partition.partition
     (reached_all content c.states.ensures.automaton c.args.origins.now c.requires.origins (c.if-not-reach_all.ensures refl))
-    c.in_ok-pairs.pairs (c.in_ok-pairs.ensures.count ∙ c.len-2.ensures) (λ class less. c.in_ok-pairs.ensures.own class (let count = c.len-2.ensures in omega (arith, less, count)))
+    c.in_ok-pairs.pairs (c.in_ok-pairs.ensures.long ∙ c.len-2.ensures) (λ class less. c.in_ok-pairs.ensures.own class (let count = c.len-2.ensures in omega (arith, less, count)))

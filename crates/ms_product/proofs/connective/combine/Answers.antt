@@ -1,155 +1,90 @@
-use Rattle.std.proofs.Common.{◌+◌, length, Ok, Err, refl, sym, subst, ◌∙◌, arith}
-use Rattle.ms_arena.proofs.Appending.{Extends-same}
-use Rattle.ms_diagram.specs.Table.{ArePaired}
+use Rattle.std.proofs.Common.{◌+◌, length, refl, sym, subst, ◌∙◌, arith}
 use Rattle.ms_dfa.specs.Automaton.{IsAutomaton, variables_of, states_of}
-use Rattle.ms_logic.specs.declared.sign.Sign.{Sign}
 use Rattle.ms_logic.specs.Content.{Content}
 use Rattle.ms_logic.specs.Roots.{AreRising}
+use Rattle.ms_logic.specs.declared.sign.Sign.{Sign}
 use Rattle.ms_theory.specs.Values.{HasValues, own_meaning}
-use Rattle.ms_explore.specs.Explored.{GrowsForSome}
-use Rattle.ms_explore.specs.Tracks.{IsAmong, joined, places_among}
+use Rattle.ms_explore.specs.Tracks.{IsAmong, joined}
 use Rattle.ms_explore.proofs.RunLemmas.{explored, length-states_of}
-use Rattle.ms_product.specs.declared.operand.Operand.{Operand}
 use Rattle.ms_product.specs.Combined.{combined}
-use Rattle.ms_product.specs.Pairing.{operands_of, product_findings, AreAtLeast}
-use Rattle.ms_product.specs.Widened.{widened_findings}
+use Rattle.ms_product.specs.Pairing.{Operands, operands_of, product_findings, IsPairedIn, IsPairedStore, AreAtLeast}
 use Rattle.ms_product.proofs.ChangeLemmas.{content_is}
-use Rattle.ms_product.proofs.CombineSteps.{refused_left, refused_right, refused_product, needed_at_least, Explores-seen, AreStates-seen, IsNumbering-seen, variables_joined, brought_as, operands_as}
+use Rattle.ms_product.proofs.CombineSteps.{variables_joined, operands_as}
 use Rattle.ms_product.proofs.CombinedLemmas.{wide-rising, left_among, right_among, HasValues-made, IsAutomaton-made}
+use Rattle.ms_product.proofs.SizeLemmas.{AreAtLeast-held}
 use Rattle.ms_product.proofs.connective.combine.Goals as goal
 
-pub bring-requires-clause-rising : goal.bring-requires-clause-rising
-bring-requires-clause-rising c =
+pub widen-requires-clause-rising : goal.widen-requires-clause-rising
+widen-requires-clause-rising c =
     subst AreRising (sym (variables_joined c.slice.result.now c.in-Ok.tracks c.tracks.result.now c.tracks-2.result.now c.args.a.now c.args.b.now c.slice.ensures c.in-Ok.ensures c.tracks.ensures.variables c.tracks-2.ensures.variables))
     (wide-rising c.args.op c.args.a.now c.args.b.now c.tracks.ensures.automaton c.tracks-2.ensures.automaton c.requires.mode c.requires.orders)
 
-pub bring-requires-clause-among : goal.bring-requires-clause-among
-bring-requires-clause-among c = λ v among.
+pub widen-requires-clause-among : goal.widen-requires-clause-among
+widen-requires-clause-among c = λ v among.
     subst (λ vs. IsAmong vs v) (sym (variables_joined c.slice.result.now c.in-Ok.tracks c.tracks.result.now c.tracks-2.result.now c.args.a.now c.args.b.now c.slice.ensures c.in-Ok.ensures c.tracks.ensures.variables c.tracks-2.ensures.variables))
     (left_among c.args.op c.args.a.now c.args.b.now c.tracks.ensures.automaton c.tracks-2.ensures.automaton c.requires.mode c.requires.orders v among)
 
-pub bring-requires-2-clause-rising : goal.bring-requires-2-clause-rising
-bring-requires-2-clause-rising c =
+pub widen-requires-2-clause-rising : goal.widen-requires-2-clause-rising
+widen-requires-2-clause-rising c =
     subst AreRising (sym (variables_joined c.slice-2.result.now c.in-Ok.tracks c.tracks.result.now c.tracks-2.result.now c.args.a.now c.args.b.now c.slice-2.ensures c.in-Ok.ensures c.tracks.ensures.variables c.tracks-2.ensures.variables))
     (wide-rising c.args.op c.args.a.now c.args.b.now c.tracks.ensures.automaton c.tracks-2.ensures.automaton c.requires.mode c.requires.orders)
 
-pub bring-requires-2-clause-among : goal.bring-requires-2-clause-among
-bring-requires-2-clause-among c = λ v among.
+pub widen-requires-2-clause-among : goal.widen-requires-2-clause-among
+widen-requires-2-clause-among c = λ v among.
     subst (λ vs. IsAmong vs v) (sym (variables_joined c.slice-2.result.now c.in-Ok.tracks c.tracks.result.now c.tracks-2.result.now c.args.a.now c.args.b.now c.slice-2.ensures c.in-Ok.ensures c.tracks.ensures.variables c.tracks-2.ensures.variables))
     (right_among c.args.op c.args.a.now c.args.b.now c.tracks.ensures.automaton c.tracks-2.ensures.automaton c.requires.mode c.requires.orders v among)
-
-pub returns-in-Err-bring-clause-nodes : goal.returns-in-Err-bring-clause-nodes
-returns-in-Err-bring-clause-nodes c =
-    let a = c.args.a.now in
-    let b = c.args.b.now in
-    let wide = variables_joined c.slice.result.now c.in-Ok.tracks c.tracks.result.now c.tracks-2.result.now c.args.a.now c.args.b.now c.slice.ensures c.in-Ok.ensures c.tracks.ensures.variables c.tracks-2.ensures.variables in
-    let grows_left = subst (λ vs. GrowsForSome c.new-store.result c.bring.new.store (widened_findings a (places_among a.variables vs))) wide c.bring.ensures.grows in
-    refused_left c.args.op (operands_of a b) c.args.limit c.new-store.result c.bring.new.store c.new-store.ensures.empty c.new-store.ensures.limit grows_left (Content Sign) Operand c.in-Err-bring.fault c.in-Err-bring.ensures.nodes
-
-pub returns-in-Err-bring-2-clause-nodes : goal.returns-in-Err-bring-2-clause-nodes
-returns-in-Err-bring-2-clause-nodes c =
-    let a = c.args.a.now in
-    let b = c.args.b.now in
-    let wide = variables_joined c.slice.result.now c.in-Ok.tracks c.tracks.result.now c.tracks-2.result.now c.args.a.now c.args.b.now c.slice.ensures c.in-Ok.ensures c.tracks.ensures.variables c.tracks-2.ensures.variables in
-    let grows_left = subst (λ vs. GrowsForSome c.new-store.result c.bring.new.store (widened_findings a (places_among a.variables vs))) wide c.bring.ensures.grows in
-    let wide_right = variables_joined c.slice-2.result.now c.in-Ok.tracks c.tracks.result.now c.tracks-2.result.now c.args.a.now c.args.b.now c.slice-2.ensures c.in-Ok.ensures c.tracks.ensures.variables c.tracks-2.ensures.variables in
-    let grows_right = subst (λ vs. GrowsForSome c.bring.new.store c.bring-2.new.store (widened_findings b (places_among b.variables vs))) wide_right c.bring-2.ensures.grows in
-    refused_right c.args.op (operands_of a b) c.args.limit c.new-store.result c.bring.new.store c.new-store.ensures.empty c.new-store.ensures.limit grows_left c.bring-2.new.store grows_right (Content Sign) Operand c.in-Err-bring-2.fault c.in-Err-bring-2.ensures.nodes
-
-pub explore-explored-requires-clause-ready : goal.explore-explored-requires-clause-ready
-explore-explored-requires-clause-ready c =
-    let left_made = c.in-Ok-bring.left in
-    let right_made = c.in-Ok-bring-2.right in (
-      record {
-        left_in = brought_as c.bring.new.store.nodes c.bring-2.new.store.nodes c.bring.ensures.grows.store.ordered c.bring-2.ensures.grows.extends c.args.a.now left_made.widened.automaton.now
-            left_made.widened.map (places_among c.args.a.now.variables (variables_of c.slice.result.now)) left_made.start left_made.states c.in-Ok-bring.ensures.automaton c.in-Ok-bring.ensures.map
-            c.in-Ok-bring.ensures.brought;
-        right_in = brought_as c.bring-2.new.store.nodes c.bring-2.new.store.nodes c.bring-2.ensures.grows.store.ordered (Extends-same c.bring-2.new.store.nodes) c.args.b.now right_made.widened.automaton.now
-            right_made.widened.map (places_among c.args.b.now.variables (variables_of c.slice-2.result.now)) right_made.start right_made.states c.in-Ok-bring-2.ensures.automaton c.in-Ok-bring-2.ensures.map
-            c.in-Ok-bring-2.ensures.brought;
-      },
-      subst (λ table. ArePaired c.bring-2.new.store.nodes c.new-pairs.result table) (sym c.new.ensures) tt,
-    )
-
-pub returns-in-Err-explored-clause-nodes : goal.returns-in-Err-explored-clause-nodes
-returns-in-Err-explored-clause-nodes c =
-    let a = c.args.a.now in
-    let b = c.args.b.now in
-    let wide = variables_joined c.slice.result.now c.in-Ok.tracks c.tracks.result.now c.tracks-2.result.now c.args.a.now c.args.b.now c.slice.ensures c.in-Ok.ensures c.tracks.ensures.variables c.tracks-2.ensures.variables in
-    let grows_left = subst (λ vs. GrowsForSome c.new-store.result c.bring.new.store (widened_findings a (places_among a.variables vs))) wide c.bring.ensures.grows in
-    let wide_right = variables_joined c.slice-2.result.now c.in-Ok.tracks c.tracks.result.now c.tracks-2.result.now c.args.a.now c.args.b.now c.slice-2.ensures c.in-Ok.ensures c.tracks.ensures.variables c.tracks-2.ensures.variables in
-    let grows_right = subst (λ vs. GrowsForSome c.bring.new.store c.bring-2.new.store (widened_findings b (places_among b.variables vs))) wide_right c.bring-2.ensures.grows in
-    let left_made = c.in-Ok-bring.left.widened in
-    let right_made = c.in-Ok-bring-2.right.widened in
-    let operands_are = operands_as a b left_made.automaton.now right_made.automaton.now left_made.map right_made.map (variables_of c.slice.result.now) (variables_of c.slice-2.result.now)
-    c.in-Ok-bring.ensures.automaton c.in-Ok-bring.ensures.map wide c.in-Ok-bring-2.ensures.automaton c.in-Ok-bring-2.ensures.map wide_right in
-    let seen = c.explore-explored.new.machine.product in
-    let explores = Explores-seen c.args.op (operands_of a b) _ _ seen refl operands_are c.explore-explored.ensures.later c.product.view_is c.bring-2.new.store c.explore-explored.new.store c.explore-explored.new.states (Err c.in-Err-explored.fault) c.in-Err-explored.ensures.explored in
-    let are = AreStates-seen c.args.op (operands_of a b) _ _ seen refl operands_are c.explore-explored.ensures.later c.product.view_is c.product.invariant in
-    let numbering = IsNumbering-seen c.args.op (operands_of a b) _ _ seen refl operands_are c.explore-explored.ensures.later c.product.view_is c.len.ensures.numbering in
-    refused_product c.args.op (operands_of a b) c.args.limit c.new-store.result c.bring.new.store c.new-store.ensures.empty c.new-store.ensures.limit grows_left c.bring-2.new.store grows_right (Content Sign) seen.pairs numbering are c.explore-explored.new.store c.explore-explored.new.states c.in-Err-explored.fault explores
 
 pub make-requires : goal.make-requires
 make-requires c =
     let a = c.args.a.now in
     let b = c.args.b.now in
-    let wide = variables_joined c.slice.result.now c.in-Ok.tracks c.tracks.result.now c.tracks-2.result.now c.args.a.now c.args.b.now c.slice.ensures c.in-Ok.ensures c.tracks.ensures.variables c.tracks-2.ensures.variables in
-    let grows_left = subst (λ vs. GrowsForSome c.new-store.result c.bring.new.store (widened_findings a (places_among a.variables vs))) wide c.bring.ensures.grows in
-    let wide_right = variables_joined c.slice-2.result.now c.in-Ok.tracks c.tracks.result.now c.tracks-2.result.now c.args.a.now c.args.b.now c.slice-2.ensures c.in-Ok.ensures c.tracks.ensures.variables c.tracks-2.ensures.variables in
-    let grows_right = subst (λ vs. GrowsForSome c.bring.new.store c.bring-2.new.store (widened_findings b (places_among b.variables vs))) wide_right c.bring-2.ensures.grows in
-    let left_made = c.in-Ok-bring.left.widened in
-    let right_made = c.in-Ok-bring-2.right.widened in
-    let operands_are = operands_as a b left_made.automaton.now right_made.automaton.now left_made.map right_made.map (variables_of c.slice.result.now) (variables_of c.slice-2.result.now)
-    c.in-Ok-bring.ensures.automaton c.in-Ok-bring.ensures.map wide c.in-Ok-bring-2.ensures.automaton c.in-Ok-bring-2.ensures.map wide_right in
-    let seen = c.explore-explored.new.machine.product in
-    let explores = Explores-seen c.args.op (operands_of a b) _ _ seen refl operands_are c.explore-explored.ensures.later c.product.view_is c.bring-2.new.store c.explore-explored.new.store c.explore-explored.new.states (Ok c.in-Ok-explored.start) c.in-Ok-explored.ensures.explored in
-    let are = AreStates-seen c.args.op (operands_of a b) _ _ seen refl operands_are c.explore-explored.ensures.later c.product.view_is c.product.invariant in
-    let numbering = IsNumbering-seen c.args.op (operands_of a b) _ _ seen refl operands_are c.explore-explored.ensures.later c.product.view_is c.len.ensures.numbering in
-    let same = content_is c.explore-explored.new.store.nodes c.mode.result c.in-Ok.tracks c.in-Ok-explored.start c.explore-explored.new.states
-    (explored c.explore-explored.new.store.nodes a.mode (joined a.variables b.variables) c.in-Ok-explored.start c.explore-explored.new.states (product_findings c.args.op (operands_of a b) seen.pairs)) refl c.mode.ensures
+    let left = c.in-Ok-widen.left in
+    let right = c.in-Ok-widen-2.right in
+    let made = c.in-Ok-pair_up.paired in
+    let are = operands_as a b left.automaton.now right.automaton.now left.map right.map (joined a.variables b.variables) (variables_of c.slice.result.now) (variables_of c.slice-2.result.now)
+    c.in-Ok-widen.ensures.automaton c.in-Ok-widen.ensures.map (variables_joined c.slice.result.now c.in-Ok.tracks c.tracks.result.now c.tracks-2.result.now a b c.slice.ensures c.in-Ok.ensures c.tracks.ensures.variables c.tracks-2.ensures.variables)
+    c.in-Ok-widen-2.ensures.automaton c.in-Ok-widen-2.ensures.map (variables_joined c.slice-2.result.now c.in-Ok.tracks c.tracks.result.now c.tracks-2.result.now a b c.slice-2.ensures c.in-Ok.ensures c.tracks.ensures.variables c.tracks-2.ensures.variables) in
+    let paired = subst (λ (o : Operands). IsPairedIn made.store.nodes c.args.op o made.pairs made.start made.states) are c.in-Ok-pair_up.ensures.paired in
+    let held = subst (λ (o : Operands). IsPairedStore made.store c.args.limit c.args.op o made.pairs) are c.in-Ok-pair_up.ensures.store in
+    let same = content_is made.store.nodes c.mode.result c.in-Ok.tracks made.start made.states
+    (explored made.store.nodes a.mode (joined a.variables b.variables) made.start made.states (product_findings c.args.op (operands_of a b) made.pairs)) refl c.mode.ensures
     (variables_joined c.in-Ok.tracks c.in-Ok.tracks c.tracks.result.now c.tracks-2.result.now a b refl c.in-Ok.ensures c.tracks.ensures.variables c.tracks-2.ensures.variables) refl refl in
-    subst IsAutomaton (sym same) (IsAutomaton-made c.args.op c.args.a.now c.args.b.now c.tracks.ensures.automaton c.tracks-2.ensures.automaton c.requires.mode c.requires.orders seen.pairs numbering are c.explore-explored.new.store.nodes c.in-Ok-explored.start c.explore-explored.new.states explores.grows.store.ordered explores.grows.store.reduced explores.start explores.all explores.follows numbering.small)
+    subst IsAutomaton (sym same)
+    (IsAutomaton-made c.args.op a b c.tracks.ensures.automaton c.tracks-2.ensures.automaton c.requires.mode c.requires.orders made.pairs paired.numbering paired.are made.store.nodes made.start made.states
+    held.store.ordered held.store.reduced paired.starts paired.all paired.follows paired.numbering.small)
 
 pub returns-clause-values : goal.returns-clause-values
 returns-clause-values c =
     let a = c.args.a.now in
     let b = c.args.b.now in
-    let wide = variables_joined c.slice.result.now c.in-Ok.tracks c.tracks.result.now c.tracks-2.result.now c.args.a.now c.args.b.now c.slice.ensures c.in-Ok.ensures c.tracks.ensures.variables c.tracks-2.ensures.variables in
-    let grows_left = subst (λ vs. GrowsForSome c.new-store.result c.bring.new.store (widened_findings a (places_among a.variables vs))) wide c.bring.ensures.grows in
-    let wide_right = variables_joined c.slice-2.result.now c.in-Ok.tracks c.tracks.result.now c.tracks-2.result.now c.args.a.now c.args.b.now c.slice-2.ensures c.in-Ok.ensures c.tracks.ensures.variables c.tracks-2.ensures.variables in
-    let grows_right = subst (λ vs. GrowsForSome c.bring.new.store c.bring-2.new.store (widened_findings b (places_among b.variables vs))) wide_right c.bring-2.ensures.grows in
-    let left_made = c.in-Ok-bring.left.widened in
-    let right_made = c.in-Ok-bring-2.right.widened in
-    let operands_are = operands_as a b left_made.automaton.now right_made.automaton.now left_made.map right_made.map (variables_of c.slice.result.now) (variables_of c.slice-2.result.now)
-    c.in-Ok-bring.ensures.automaton c.in-Ok-bring.ensures.map wide c.in-Ok-bring-2.ensures.automaton c.in-Ok-bring-2.ensures.map wide_right in
-    let seen = c.explore-explored.new.machine.product in
-    let explores = Explores-seen c.args.op (operands_of a b) _ _ seen refl operands_are c.explore-explored.ensures.later c.product.view_is c.bring-2.new.store c.explore-explored.new.store c.explore-explored.new.states (Ok c.in-Ok-explored.start) c.in-Ok-explored.ensures.explored in
-    let are = AreStates-seen c.args.op (operands_of a b) _ _ seen refl operands_are c.explore-explored.ensures.later c.product.view_is c.product.invariant in
-    let numbering = IsNumbering-seen c.args.op (operands_of a b) _ _ seen refl operands_are c.explore-explored.ensures.later c.product.view_is c.len.ensures.numbering in
-    let same = content_is c.explore-explored.new.store.nodes c.mode.result c.in-Ok.tracks c.in-Ok-explored.start c.explore-explored.new.states
-    (explored c.explore-explored.new.store.nodes a.mode (joined a.variables b.variables) c.in-Ok-explored.start c.explore-explored.new.states (product_findings c.args.op (operands_of a b) seen.pairs)) refl c.mode.ensures
+    let left = c.in-Ok-widen.left in
+    let right = c.in-Ok-widen-2.right in
+    let made = c.in-Ok-pair_up.paired in
+    let are = operands_as a b left.automaton.now right.automaton.now left.map right.map (joined a.variables b.variables) (variables_of c.slice.result.now) (variables_of c.slice-2.result.now)
+    c.in-Ok-widen.ensures.automaton c.in-Ok-widen.ensures.map (variables_joined c.slice.result.now c.in-Ok.tracks c.tracks.result.now c.tracks-2.result.now a b c.slice.ensures c.in-Ok.ensures c.tracks.ensures.variables c.tracks-2.ensures.variables)
+    c.in-Ok-widen-2.ensures.automaton c.in-Ok-widen-2.ensures.map (variables_joined c.slice-2.result.now c.in-Ok.tracks c.tracks.result.now c.tracks-2.result.now a b c.slice-2.ensures c.in-Ok.ensures c.tracks.ensures.variables c.tracks-2.ensures.variables) in
+    let paired = subst (λ (o : Operands). IsPairedIn made.store.nodes c.args.op o made.pairs made.start made.states) are c.in-Ok-pair_up.ensures.paired in
+    let held = subst (λ (o : Operands). IsPairedStore made.store c.args.limit c.args.op o made.pairs) are c.in-Ok-pair_up.ensures.store in
+    let same = content_is made.store.nodes c.mode.result c.in-Ok.tracks made.start made.states
+    (explored made.store.nodes a.mode (joined a.variables b.variables) made.start made.states (product_findings c.args.op (operands_of a b) made.pairs)) refl c.mode.ensures
     (variables_joined c.in-Ok.tracks c.in-Ok.tracks c.tracks.result.now c.tracks-2.result.now a b refl c.in-Ok.ensures c.tracks.ensures.variables c.tracks-2.ensures.variables) refl refl in
     subst (HasValues (combined c.args.op (own_meaning a) (own_meaning b))) (sym (c.make.ensures ∙ same))
-    (HasValues-made c.args.op c.args.a.now c.args.b.now c.tracks.ensures.automaton c.tracks-2.ensures.automaton c.requires.mode c.requires.orders seen.pairs numbering are c.explore-explored.new.store.nodes c.in-Ok-explored.start c.explore-explored.new.states explores.grows.store.ordered explores.grows.store.reduced explores.start explores.all explores.follows)
+    (HasValues-made c.args.op a b c.tracks.ensures.automaton c.tracks-2.ensures.automaton c.requires.mode c.requires.orders made.pairs paired.numbering paired.are made.store.nodes made.start made.states
+    held.store.ordered held.store.reduced paired.starts paired.all paired.follows)
 
 pub returns-clause-size : goal.returns-clause-size
 returns-clause-size c =
     let a = c.args.a.now in
     let b = c.args.b.now in
-    let wide = variables_joined c.slice.result.now c.in-Ok.tracks c.tracks.result.now c.tracks-2.result.now c.args.a.now c.args.b.now c.slice.ensures c.in-Ok.ensures c.tracks.ensures.variables c.tracks-2.ensures.variables in
-    let grows_left = subst (λ vs. GrowsForSome c.new-store.result c.bring.new.store (widened_findings a (places_among a.variables vs))) wide c.bring.ensures.grows in
-    let wide_right = variables_joined c.slice-2.result.now c.in-Ok.tracks c.tracks.result.now c.tracks-2.result.now c.args.a.now c.args.b.now c.slice-2.ensures c.in-Ok.ensures c.tracks.ensures.variables c.tracks-2.ensures.variables in
-    let grows_right = subst (λ vs. GrowsForSome c.bring.new.store c.bring-2.new.store (widened_findings b (places_among b.variables vs))) wide_right c.bring-2.ensures.grows in
-    let left_made = c.in-Ok-bring.left.widened in
-    let right_made = c.in-Ok-bring-2.right.widened in
-    let operands_are = operands_as a b left_made.automaton.now right_made.automaton.now left_made.map right_made.map (variables_of c.slice.result.now) (variables_of c.slice-2.result.now)
-    c.in-Ok-bring.ensures.automaton c.in-Ok-bring.ensures.map wide c.in-Ok-bring-2.ensures.automaton c.in-Ok-bring-2.ensures.map wide_right in
-    let seen = c.explore-explored.new.machine.product in
-    let explores = Explores-seen c.args.op (operands_of a b) _ _ seen refl operands_are c.explore-explored.ensures.later c.product.view_is c.bring-2.new.store c.explore-explored.new.store c.explore-explored.new.states (Ok c.in-Ok-explored.start) c.in-Ok-explored.ensures.explored in
-    let are = AreStates-seen c.args.op (operands_of a b) _ _ seen refl operands_are c.explore-explored.ensures.later c.product.view_is c.product.invariant in
-    let numbering = IsNumbering-seen c.args.op (operands_of a b) _ _ seen refl operands_are c.explore-explored.ensures.later c.product.view_is c.len.ensures.numbering in
-    let counted = length-states_of c.explore-explored.new.states in
-    let all = explores.all in
-    subst (λ (made : Content Sign). AreAtLeast (length made.nodes + length made.states) c.args.op (operands_of a b)) (sym c.make.ensures)
-    (needed_at_least c.args.op (operands_of a b) c.args.limit c.new-store.result c.bring.new.store c.new-store.ensures.empty c.new-store.ensures.limit grows_left c.bring-2.new.store grows_right seen.pairs numbering are c.explore-explored.new.store c.explore-explored.new.states (Ok c.in-Ok-explored.start) explores
-    (length c.explore-explored.new.store.nodes + length (states_of c.explore-explored.new.states)) (omega (arith, counted, all)))
+    let left = c.in-Ok-widen.left in
+    let right = c.in-Ok-widen-2.right in
+    let made = c.in-Ok-pair_up.paired in
+    let are = operands_as a b left.automaton.now right.automaton.now left.map right.map (joined a.variables b.variables) (variables_of c.slice.result.now) (variables_of c.slice-2.result.now)
+    c.in-Ok-widen.ensures.automaton c.in-Ok-widen.ensures.map (variables_joined c.slice.result.now c.in-Ok.tracks c.tracks.result.now c.tracks-2.result.now a b c.slice.ensures c.in-Ok.ensures c.tracks.ensures.variables c.tracks-2.ensures.variables)
+    c.in-Ok-widen-2.ensures.automaton c.in-Ok-widen-2.ensures.map (variables_joined c.slice-2.result.now c.in-Ok.tracks c.tracks.result.now c.tracks-2.result.now a b c.slice-2.ensures c.in-Ok.ensures c.tracks.ensures.variables c.tracks-2.ensures.variables) in
+    let paired = subst (λ (o : Operands). IsPairedIn made.store.nodes c.args.op o made.pairs made.start made.states) are c.in-Ok-pair_up.ensures.paired in
+    let held = subst (λ (o : Operands). IsPairedStore made.store c.args.limit c.args.op o made.pairs) are c.in-Ok-pair_up.ensures.store in
+    let counted = length-states_of made.states in
+    let all = paired.all in
+    subst (λ (content : Content Sign). AreAtLeast (length content.nodes + length content.states) c.args.op (operands_of a b)) (sym c.make.ensures)
+    (AreAtLeast-held c.args.op (operands_of a b) c.args.limit made.pairs made.store held paired.numbering paired.are (length made.store.nodes + length (states_of made.states)) (omega (arith, counted, all)))

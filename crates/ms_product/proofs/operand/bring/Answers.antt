@@ -1,17 +1,25 @@
-use Rattle.std.proofs.Common.{length, ap, sym, subst, ◌∙◌}
-use Rattle.ms_diagram.specs.Table.{AreBrought}
-use Rattle.ms_explore.specs.Tracks.{places_among}
+use Rattle.std.proofs.Common.{Ok, sym, subst}
 use Rattle.ms_dfa.specs.Automaton.{variables_of}
-use Rattle.ms_product.specs.Widened.{IsRisingMap, widened_findings}
-use Rattle.ms_product.proofs.WidenedLemmas.{GrowsForSome-none, IsRisingMap-among}
+use Rattle.ms_diagram.specs.Table.{AreBrought}
+use Rattle.ms_explore.specs.Explored.{Explores}
+use Rattle.ms_explore.specs.Tracks.{places_among}
+use Rattle.ms_product.specs.declared.operand.Widened.{Widened}
+use Rattle.ms_product.specs.Widened.{widened_findings}
+use Rattle.ms_product.proofs.WidenedLemmas.{GrowsForSome-none, brought_by}
 use Rattle.ms_product.proofs.operand.bring.Goals as goal
-
-pub returns-in-Err-clause-grows : goal.returns-in-Err-clause-grows
-returns-in-Err-clause-grows c = GrowsForSome-none c.args.store.now (widened_findings c.args.automaton.now (places_among c.args.automaton.now.variables (variables_of c.args.tracks.now))) c.len.ensures.store
 
 pub explore-requires-clause-ready : goal.explore-requires-clause-ready
 explore-requires-clause-ready c = (
-  subst (IsRisingMap (length c.args.automaton.now.variables)) (sym (c.in-Ok.ensures ∙ ap (λ vs. places_among vs (variables_of c.args.tracks.now)) c.tracks.ensures.variables))
-      (IsRisingMap-among c.args.automaton.now.variables (variables_of c.args.tracks.now) c.tracks.ensures.automaton.rising c.requires.rising c.requires.among),
-  subst (λ table. AreBrought c.args.automaton.now.nodes c.in-Ok.map c.args.store.now.nodes table) (sym c.new.ensures) tt,
+  c.in-Ok.ensures.rising,
+  subst (λ table. AreBrought c.in-Ok.widened.automaton.now.nodes c.in-Ok.widened.map c.args.store.now.nodes table) (sym c.new.ensures) tt,
 )
+
+pub returns-in_default-clause-grows : goal.returns-in_default-clause-grows
+returns-in_default-clause-grows c = GrowsForSome-none c.args.store.now (widened_findings c.args.automaton.now (places_among c.args.automaton.now.variables (variables_of c.args.tracks.now))) c.len.ensures.store
+
+pub returns-clause-brought : goal.returns-clause-brought
+returns-clause-brought c =
+    brought_by c.args.automaton.now c.in-Ok.widened.automaton.now c.in-Ok.widened.map (places_among c.args.automaton.now.variables (variables_of c.args.tracks.now)) c.args.store.now
+    c.explore.new.store c.in-Ok-explore.start c.explore.new.states c.states.ensures.automaton.closed c.in-Ok.ensures.automaton c.in-Ok.ensures.map
+    (subst (λ (w : Widened). Explores c.args.store.now c.explore.new.store (widened_findings w.automaton.now w.map) c.explore.new.states (Ok c.in-Ok-explore.start)) (sym c.in-Ok-explore.ensures.later)
+    c.in-Ok-explore.ensures.explored)

@@ -1,4 +1,4 @@
-use Rattle.std.proofs.Common.{◌≡◌, ℕ, List, subst, ◌∙◌}
+use Rattle.std.proofs.Common.{ℕ, List, subst, ◌∙◌}
 use Rattle.ms_project.specs.declared.search.SetsFound.{SetsFound}
 use Rattle.ms_project.specs.Subsetting.{Subsetting, IsLaterSubsetting, begun}
 use Rattle.ms_project.proofs.SearchSteps.{refused_sets}

@@ -5,7 +5,7 @@ use Rattle.ms_logic.specs.Content.{Content, sign_of}
 use Rattle.ms_explore.specs.Explored.{GrowsForSome}
 use Rattle.ms_explore.specs.Tracks.{places_among}
 use Rattle.ms_explore.proofs.RunLemmas.{explored}
-use Rattle.ms_product.specs.declared.operand.Operand.{Operand}
+use Rattle.ms_product.specs.declared.operand.Brought.{Brought}
 use Rattle.ms_product.specs.Widened.{widened_findings, IsBroughtIn}
 use Rattle.ms_product.proofs.ChangeLemmas.{content_is}
 use Rattle.ms_rename.proofs.CompactLemmas.{IsAutomaton-brought, sign_of-brought, refused_brought}
@@ -15,13 +15,13 @@ pub returns-in-Err-clause-nodes : goal.returns-in-Err-clause-nodes
 returns-in-Err-clause-nodes c =
     let a = c.args.a.now in
     let same = ap variables_of c.slice.ensures ∙ ap variables_of c.in-Ok.ensures ∙ c.tracks.ensures.variables in
-    refused_brought (Content Sign) Operand a (places_among a.variables a.variables) c.args.limit c.new-store.result c.bring.new.store c.in-Err.fault c.new-store.ensures.empty c.new-store.ensures.limit
+    refused_brought (Content Sign) Brought a (places_among a.variables a.variables) c.args.limit c.new-store.result c.bring.new.store c.in-Err.fault c.new-store.ensures.empty c.new-store.ensures.limit
     (subst (λ vs. GrowsForSome c.new-store.result c.bring.new.store (widened_findings a (places_among a.variables vs))) same c.bring.ensures.grows) c.in-Err.ensures.nodes
 
 pub make-requires : goal.make-requires
 make-requires c =
     let a = c.args.a.now in
-    let made = c.in-Ok-bring.operand in
+    let made = c.in-Ok-bring.brought in
     let same = ap variables_of c.slice.ensures ∙ ap variables_of c.in-Ok.ensures ∙ c.tracks.ensures.variables in
     let brought = subst (λ vs. IsBroughtIn c.bring.new.store.nodes a (places_among a.variables vs) made.start made.states) same c.in-Ok-bring.ensures.brought in
     let is = content_is c.bring.new.store.nodes c.mode.result c.in-Ok.tracks made.start made.states
@@ -33,7 +33,7 @@ make-requires c =
 pub returns-clause-signs : goal.returns-clause-signs
 returns-clause-signs c = λ word over.
     let a = c.args.a.now in
-    let made = c.in-Ok-bring.operand in
+    let made = c.in-Ok-bring.brought in
     let same = ap variables_of c.slice.ensures ∙ ap variables_of c.in-Ok.ensures ∙ c.tracks.ensures.variables in
     let brought = subst (λ vs. IsBroughtIn c.bring.new.store.nodes a (places_among a.variables vs) made.start made.states) same c.in-Ok-bring.ensures.brought in
     let is = content_is c.bring.new.store.nodes c.mode.result c.in-Ok.tracks made.start made.states
