@@ -13,3 +13,4 @@ pub mod SubsetBudgets
 pub mod TruthStarts
 pub mod TurnedStarts
 pub mod ZeroLetters
+pub mod BothSides

@@ -1,2 +1,3 @@
 pub mod WorkedContents
 pub mod WorkedForms
+pub mod WorkedDiagrams
