@@ -220,9 +220,6 @@ module _ (one two three four : Contents) (early late low_early low_late high_par
     }
 
     -- the conditions of `mk`
-    pub IsValid-low : IsValid three.nodes low
-    IsValid-low = ends_built.valid_low
-
     pub TestsAbove-low_built : TestsAbove three.nodes var low
     TestsAbove-low_built = TestsAbove-low three.nodes builds_high.grows.store.ordered builds_high.grows.store.reduced late low_late high_part var low high ends_built
 

@@ -1,9 +1,8 @@
 -- What is left to note, the next task first.
-use Rattle.std.proofs.Common.{◌≡◌, ℕ, nat_eq, true, false, List, [], ◌∷◌, ◌++◌, length, slice_get, fold, reverse, Some, sym, ap, subst, ◌∙◌, append_assoc, append-nil}
+use Rattle.std.proofs.Common.{◌≡◌, ℕ, nat_eq, true, false, List, [], ◌∷◌, ◌++◌, length, slice_get, fold, reverse, Some, sym, ap, subst, ◌∙◌, append_assoc}
 use Rattle.std.proofs.lemmas.List.{reverse-append}
 use Rattle.std.specs.List.{list_any}
 use Rattle.indexmap.specs.IndexSet.{insert_key}
-use Rattle.ms_arena.specs.declared.node.Ref.{Ref}
 use Rattle.ms_arena.specs.declared.node.Ref.TheVariants.{Leaf, Inner}
 use Rattle.ms_arena.specs.declared.node.Node.{Node}
 use Rattle.ms_arena.specs.Diagram.{IsValid, IsOrdered}
@@ -31,14 +30,6 @@ pub record IsNoting (nodes : List Node) (all seen places : List ℕ) (tasks : Li
   pub comes : fold noted seen (leaves_ahead nodes tasks) ≡ all
   pub known : KnowsPlaces nodes seen places
   pub ready : IsReady nodes seen tasks
-
-pub noting_begun : (nodes : List Node) (seen places : List ℕ) (root : Ref) → IsValid nodes root → KnowsPlaces nodes seen places
-    → IsNoting nodes (fold noted seen (leaves_within nodes (length nodes) root)) seen places (Follow root ∷ [])
-noting_begun nodes seen places root valid known = record {
-  comes = ap (fold noted seen) (append-nil (leaves_within nodes (length nodes) root));
-  known = known;
-  ready = (valid, tt);
-}
 
 pub noting_popped : (nodes : List Node) (all seen places : List ℕ) (tasks rest : List Task) (task : Task) → IsNoting nodes all seen places (reverse tasks)
     → tasks ≡ rest ++ task ∷ [] → IsNoting nodes all seen places (task ∷ reverse rest)

@@ -1,36 +1,22 @@
 -- Entries by codes, as entries by references.
-use Rattle.std.proofs.Common.{◌≡◌, ℕ, ◌+◌, ◌*◌, ◌/◌, ◌%◌, Bool, true, false, nat_eq, ◌&&◌, if◌then◌else◌, List, [], ◌∷◌, Contains, Option, None, Some, refl, sym, ap, subst, ◌∙◌, inl, inr, ⊎_elim, arith}
-use Rattle.std.proofs.lemmas.Bool.{cases_eq, eqb-true, eq-eqb, ne_eqb}
+use Rattle.std.proofs.Common.{◌≡◌, ℕ, Bool, true, false, nat_eq, ◌&&◌, if◌then◌else◌, List, [], ◌∷◌, Contains, Option, None, Some, refl, sym, ap, subst, ◌∙◌, inl, inr, ⊎_elim, arith}
+use Rattle.std.proofs.lemmas.Bool.{eqb-true, eq-eqb}
 use Rattle.std.specs.Map.{lookup}
 use Rattle.ms_arena.specs.declared.node.Ref.{Ref}
-use Rattle.ms_arena.specs.declared.node.Ref.TheVariants.{Leaf, Inner}
 use Rattle.ms_arena.specs.contracts.node.RefPartialEq.TheImpl as of_ref
 use Rattle.ms_arena.proofs.Equality.{same_ref, ref_itself}
 use Rattle.ms_cache.proofs.Among.{Contains-head, Contains-tail, Contains-cons, Contains-nil}
-use Rattle.ms_unique.specs.Bucket.{code_of}
+use Rattle.ms_unique.specs.Code.{code_of, ref_of}
+use Rattle.ms_unique.proofs.CodeLemmas.{code_of-ref_of, ref_of-code_of}
 use Rattle.ms_diagram.specs.Equal.{pair_eq}
 use Rattle.ms_diagram.specs.Notes.{NotesOnly}
-use Rattle.ms_diagram.specs.Short.{ref_of, with_refs, short_entries, IsShort, AreShort, IsLong}
+use Rattle.ms_diagram.specs.Short.{with_refs, short_entries, IsShort, AreShort, IsLong}
 use Rattle.ms_diagram.proofs.PairLemmas.{numbers_eq, same_numbers}
 use Rattle.ms_diagram.proofs.TableLemmas.{EachEntry-found, EachEntry-noted}
 
 -- the equality of pairs of references
 abbrev pub refs_eq : Ref × Ref → Ref × Ref → Bool
 refs_eq = pair_eq of_ref.eq-value.it of_ref.eq-value.it
-
--- the reference of a code has that code
-code_of-ref_of : (code : ℕ) → code_of (ref_of code) ≡ code
-code_of-ref_of code = ⊎_elim
-    (λ even. ap (λ (t : Bool). code_of (if t then Leaf (code / 2) else Inner (code / 2))) (eq-eqb (code % 2) 0 even) ∙ omega (arith, even))
-    (λ odd. ap (λ (t : Bool). code_of (if t then Leaf (code / 2) else Inner (code / 2))) (ne_eqb (code % 2) 0 odd) ∙ omega (arith, odd))
-    (cases_eq (code % 2) 0)
-
--- and is the reference of its code
-ref_of-code_of : (reference : Ref) → ref_of (code_of reference) ≡ reference
-ref_of-code_of (Leaf value) =
-    ap (λ (t : Bool). if t then Leaf ((2 * value) / 2) else Inner ((2 * value) / 2)) (eq-eqb ((2 * value) % 2) 0 (omega arith)) ∙ ap Leaf (omega arith)
-ref_of-code_of (Inner place) =
-    ap (λ (t : Bool). if t then Leaf ((2 * place + 1) / 2) else Inner ((2 * place + 1) / 2)) (ne_eqb ((2 * place + 1) % 2) 0 (λ same. omega (arith, same))) ∙ ap Inner (omega arith)
 
 -- truth values that imply each other
 both_true : (one other : Bool) → (one ≡ true → other ≡ true) → (other ≡ true → one ≡ true) → one ≡ other

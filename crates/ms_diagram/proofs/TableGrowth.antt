@@ -4,21 +4,15 @@ use Rattle.ms_arena.specs.declared.node.Ref.{Ref}
 use Rattle.ms_arena.specs.declared.node.Node.{Node}
 use Rattle.ms_arena.specs.Diagram.{IsOrdered}
 use Rattle.ms_arena.specs.Target.{Extends}
-use Rattle.ms_arena.proofs.Appending.{Extends-same}
 use Rattle.ms_cache.proofs.MemoLemmas.{EachEntry-weaker}
-use Rattle.ms_diagram.specs.Apply.{IsPaired}
 use Rattle.ms_diagram.specs.Bring.{IsBrought}
 use Rattle.ms_diagram.specs.Relabel.{IsRelabelled}
-use Rattle.ms_diagram.specs.Table.{ArePaired, AreBrought, AreRelabelled}
-use Rattle.ms_diagram.specs.Applying.{IsPaired-grows}
+use Rattle.ms_diagram.specs.Table.{AreBrought, AreRelabelled}
 use Rattle.ms_diagram.specs.Bringing.{IsBrought-grows}
 use Rattle.ms_diagram.proofs.BringLemmas.{IsBrought-origin_grows}
 use Rattle.ms_diagram.specs.Relabelling.{IsRelabelled-grows}
 
 module _ (old new : List Node) (ordered : IsOrdered old) (extends : Extends old new) where
-  pub ArePaired-grow : (pairs : List (ℕ × ℕ)) (table : List ((Ref × Ref) × Ref)) → ArePaired old pairs table → ArePaired new pairs table
-  ArePaired-grow pairs = EachEntry-weaker (IsPaired old pairs) (IsPaired new pairs) (IsPaired-grows old new ordered extends pairs pairs (Extends-same pairs))
-
   pub AreRelabelled-grow : (map : List ℕ) (table : List (ℕ × Ref)) → AreRelabelled old map table → AreRelabelled new map table
   AreRelabelled-grow map = EachEntry-weaker (IsRelabelled old map) (IsRelabelled new map) (IsRelabelled-grows old new map ordered extends)
 

@@ -19,7 +19,7 @@ use Rattle.ms_diagram.specs.Notes.{KeepsOnly, NotesOnly}
 use Rattle.ms_diagram.specs.Store.{Contents, IsStore}
 use Rattle.ms_diagram.specs.Table.{EachEntry}
 use Rattle.ms_diagram.specs.Walk.{Rules, Follows, IsBuilt, AreParts, IsSplit, Answers, StandsFor, OnFault, AreLaws, IsWalked}
-use Rattle.ms_diagram.proofs.Building.{Grows-same, Grows-then, Makes, Builds-made, Builds-then, Builds-found, Builds-memory}
+use Rattle.ms_diagram.proofs.Building.{Grows-same, Grows-then, Makes, Builds-made, Builds-then, Builds-found}
 use Rattle.ms_diagram.proofs.TableLemmas.{EachEntry-kept, EachEntry-noted}
 use Rattle.ms_diagram.proofs.Walking.{Leads, IsAt, IsWalking}
 
@@ -235,11 +235,6 @@ module _ {S I K : Type 0} (rules : Rules S I K) (equal : K → K → Bool) (laws
           table = table;
         }
 
-      -- it ends for want of memory
-      pub walk_memory : IsWalked rules one first root now state entries (Err Memory)
-      walk_memory = walk_ends now state as_it_is (laws.adds_same state now.nodes root state) entries walking.table (Err Memory)
-          (Builds-memory now (rules.Wanted state now.nodes root) (rules.Lacks state now.nodes root) walking.grows.store)
-
     -- down to an item
     module _ (now : Contents) (state : S) (entries : List (K × Ref)) (frames : List (Frame I K)) (item : I)
         (walking : IsWalking rules one first root now state entries frames (Down item)) where
@@ -386,9 +381,6 @@ module _ {S I K : Type 0} (rules : Rules S I K) (equal : K → K → Bool) (laws
 
       pub end_valid_low : IsValid now.nodes low_end
       end_valid_low = ends.valid_low
-
-      pub end_valid_high : IsValid now.nodes made
-      end_valid_high = ends.valid_high
 
       pub end_above_low : TestsAbove now.nodes var low_end
       end_above_low = TestsAbove-low now.nodes same.ordered same.reduced (rules.Wanted state now.nodes (rules.item_of key)) (rules.Wanted state now.nodes frame.0)

@@ -2,14 +2,12 @@
 -- variables are renamed.
 use Rattle.std.specs.Prelude.{◌≡◌, ◌⊎◌, ℕ, ◌<◌, Bool, true, false, List, length, slice_get, slice_index, Some, if◌then◌else◌}
 use Rattle.ms_arena.specs.declared.node.Ref.{Ref}
-use Rattle.ms_arena.specs.declared.node.Ref.TheVariants.{Leaf, Inner}
+use Rattle.ms_arena.specs.declared.node.Ref.TheVariants.{Inner}
 use Rattle.ms_arena.specs.declared.node.Node.{Node}
 use Rattle.ms_arena.specs.Diagram.{Bits, leaf_of, IsOrdered, IsValid}
 use Rattle.ms_arena.specs.Reach.{IsTested}
 use Rattle.ms_arena.specs.Target.{Target, Meets}
 use Rattle.ms_diagram.specs.declared.sides.Sides.{Sides}
-use Rattle.ms_diagram.specs.declared.apply.PairSplit.{PairSplit}
-use Rattle.ms_diagram.specs.declared.apply.PairSplit.TheVariants.{Leaves, Branch}
 use Rattle.ms_diagram.specs.Bring.{read_through, Renames}
 use Rattle.ms_diagram.specs.Numbering.{IsMissing}
 use Rattle.ms_diagram.specs.Side.{Side}
@@ -74,8 +72,3 @@ pub record IsBranchAcross (sides : Sides) (roots : Ref × Ref) (var : ℕ) (low 
   pub low_right : IsHalf sides.right var false roots.1 low.1
   pub high_left : IsHalf sides.left var true roots.0 high.0
   pub high_right : IsHalf sides.right var true roots.1 high.1
-
--- two references are two leaves, or are split
-abbrev pub IsSplitAcross : Sides → Ref × Ref → PairSplit → Type 0
-IsSplitAcross sides roots (Leaves left right) = (roots.0 ≡ Leaf left) × (roots.1 ≡ Leaf right)
-IsSplitAcross sides roots (Branch var low high) = IsBranchAcross sides roots var low high

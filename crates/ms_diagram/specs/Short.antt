@@ -1,13 +1,8 @@
 -- References by codes of four bytes.
-use Rattle.std.specs.Prelude.{ℕ, ◌/◌, ◌%◌, ◌<◌, ◌≤◌, ◌==◌, ◌⊎◌, if◌then◌else◌, List, map}
+use Rattle.std.specs.Prelude.{ℕ, ◌<◌, ◌≤◌, ◌⊎◌, List, map}
 use Rattle.ms_arena.specs.declared.node.Ref.{Ref}
-use Rattle.ms_arena.specs.declared.node.Ref.TheVariants.{Leaf, Inner}
 use Rattle.ms_cache.specs.Memo.{EachEntry}
-use Rattle.ms_unique.specs.Bucket.{code_of}
-
--- the reference of a code: leaves have the even ones
-abbrev pub ref_of : ℕ → Ref
-ref_of code = if code % 2 == 0 then Leaf (code / 2) else Inner (code / 2)
+use Rattle.ms_unique.specs.Code.{code_of, ref_of}
 
 -- an entry, with references in place of its codes
 abbrev pub with_refs : (ℕ × ℕ) × Ref → (Ref × Ref) × Ref

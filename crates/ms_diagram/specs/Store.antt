@@ -1,6 +1,8 @@
 -- What contracts see of a store of diagrams.
-use Rattle.std.specs.Prelude.{ℕ, ◌≤◌, Bool, false, List, length, slice_index_or}
+use Rattle.std.specs.Prelude.{◌≡◌, ℕ, suc, ◌≤◌, Bool, false, List, length, slice_index_or}
 use Rattle.ms_arena.specs.declared.node.Node.{Node}
+use Rattle.ms_arena.specs.declared.node.Ref.{Ref}
+use Rattle.ms_arena.specs.declared.node.Ref.TheVariants.{Leaf, Inner}
 use Rattle.ms_arena.specs.Diagram.{Bits, IsOrdered, IsReduced}
 
 -- the nodes of a store, in the order of their places, and how many it may hold
@@ -14,6 +16,11 @@ pub record IsStore (nodes : List Node) (limit : ℕ) : Type 0 where
   pub reduced : IsReduced nodes
   pub within : length nodes ≤ limit
   pub small : limit ≤ 4000000000
+
+-- the reference is to the node at the last of so many places
+abbrev pub IsNewest : ℕ → Ref → Type 0
+IsNewest places (Leaf value) = ⊥
+IsNewest places (Inner place) = suc place ≡ places
 
 -- the bits of the variables that a list has, and 0 for each later variable
 abbrev pub bits_of : List Bool → Bits

@@ -1,11 +1,11 @@
-ghost use Rattle.std.specs.Prelude.{◌≡◌, ◌<◌, ◌≤◌, ◌⊎◌, ℕ, slice_index, true, false};
+ghost use Rattle.std.specs.Prelude.{◌≡◌, ◌<◌, ◌≤◌, ◌⊎◌, ℕ, slice_index, true, false, MatchOption};
+ghost use Rattle.ms_arena.specs.declared.node.Ref.TheVariants.{Leaf};
 ghost use Rattle.ms_arena.specs.Diagram.{IsOrdered};
 ghost use Rattle.ms_arena.specs.Halves.{IsInner};
 ghost use Rattle.ms_arena.specs.Reach.{IsTested};
 ghost use Rattle.ms_arena.specs.Target.{Extends};
 ghost use Rattle.ms_diagram.specs.Across.{IsHalf, IsOn};
 
-use crate::apply::PairSplit;
 use crate::halves::LEAF_LEVEL;
 use crate::notes::Notes;
 use crate::pairs::Pairs;
@@ -51,30 +51,38 @@ impl Renamed<'_> {
     }
 }
 
-impl Sides<'_> {
-    ghost use Rattle.ms_diagram.specs.Across.{AreOn, IsSplitAcross};
+// The first variable of two diagrams, with the halves of both.
+#[derive(Clone, Copy)]
+struct Branch {
+    var: u32,
+    low: (Ref, Ref),
+    high: (Ref, Ref),
+}
 
-    // Two diagrams at one place: two leaves, or the first variable of the two with their halves.
-    fn split(&self, f: Ref, g: Ref) -> PairSplit
-        requires { AreOn self.now (f, g) }
-        ensures { IsSplitAcross self.now (f, g) result }
-    {
-        match (f, g) {
-            (Ref::Leaf(left), Ref::Leaf(right)) => PairSplit::Leaves(left, right),
-            (Ref::Inner(_), _) => self.branch(f, g),
-            (_, Ref::Inner(_)) => self.branch(f, g),
-        }
+// The numbers of two leaves.
+fn two_leaves(item: (Ref, Ref)) -> Option<(u32, u32)>
+    ensures { MatchOption result (IsInner item.0 ⊎ IsInner item.1) (λ leaves. (item.0 ≡ Leaf leaves.0) × (item.1 ≡ Leaf leaves.1)) }
+{
+    match item {
+        (Ref::Leaf(left), Ref::Leaf(right)) => Some((left, right)),
+        (Ref::Inner(_), _) => None,
+        (_, Ref::Inner(_)) => None,
     }
+}
 
-    fn branch(&self, f: Ref, g: Ref) -> PairSplit
+impl Sides<'_> {
+    ghost use Rattle.ms_diagram.specs.Across.{AreOn, IsBranchAcross};
+
+    // Two diagrams that are not both leaves, at the first variable of the two.
+    fn branch(&self, f: Ref, g: Ref) -> Branch
         requires on { AreOn self.now (f, g) }
         requires inner { IsInner f ⊎ IsInner g }
-        ensures { IsSplitAcross self.now (f, g) result }
+        ensures { IsBranchAcross self.now (f, g) result.var result.low result.high }
     {
         let var = self.left.level(f).min(self.right.level(g)) as u32;
         let (low_f, high_f) = self.left.halves(f, var);
         let (low_g, high_g) = self.right.halves(g, var);
-        PairSplit::Branch {
+        Branch {
             var,
             low: (low_f, low_g),
             high: (high_f, high_g),
@@ -106,23 +114,21 @@ impl Walk for Crossing<'_> {
         item: (Ref, Ref),
         notes: &mut T,
     ) -> Result<Visit<(Ref, Ref), (Ref, Ref)>, StepFault> {
-        match self.sides.split(item.0, item.1) {
-            PairSplit::Leaves(left, right) => {
-                let made = store.pair_leaf(left, right, self.pairs)?;
-                Ok(Visit::Made(made))
-            }
-            PairSplit::Branch { var, low, high } => {
-                if let Some(made) = notes.ask(&item) {
-                    return Ok(Visit::Made(made));
-                }
-                Ok(Visit::Split {
-                    key: item,
-                    var,
-                    low,
-                    high,
-                })
-            }
+        if let Some((left, right)) = two_leaves(item) {
+            let made = store.pair_leaf(left, right, self.pairs)?;
+            return Ok(Visit::Made(made));
         }
+        // The notes are asked before the nodes are read, which lie anywhere.
+        if let Some(made) = notes.ask(&item) {
+            return Ok(Visit::Made(made));
+        }
+        let Branch { var, low, high } = self.sides.branch(item.0, item.1);
+        Ok(Visit::Split {
+            key: item,
+            var,
+            low,
+            high,
+        })
     }
 }
 

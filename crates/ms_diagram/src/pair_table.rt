@@ -1,5 +1,5 @@
 ghost use Rattle.std.specs.Prelude.{◌≡◌, ◌≤◌, MatchOption};
-ghost use Rattle.ms_unique.specs.Bucket.{code_of};
+ghost use Rattle.ms_unique.specs.Code.{code_of};
 ghost use Rattle.ms_diagram.specs.Short.{IsLong, IsShort};
 
 use crate::notes::Notes;

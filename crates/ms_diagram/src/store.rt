@@ -1,7 +1,8 @@
-ghost use Rattle.std.specs.Prelude.{◌≡◌, ◌≢◌, ◌⊎◌, ◌≤◌, ◌<◌, ◌↔◌, ℕ, [], ◌∷◌, ◌++◌, length, slice_get, if◌then◌else◌, IsTrue, IfOk, OnErr, IsErrOf};
+ghost use Rattle.std.specs.Prelude.{◌≡◌, ◌≢◌, ◌⊎◌, ◌≤◌, ◌<◌, ◌↔◌, ℕ, [], ◌∷◌, ◌++◌, length, slice_get, Some, if◌then◌else◌, IsTrue, IfOk, OnErr, IsErrOf, MatchOption};
 ghost use Rattle.ms_arena.specs.Diagram.{Bits, leaf_of, IsValid, SameFunction, TestsAbove};
 ghost use Rattle.ms_arena.specs.Reach.{IsTested};
 ghost use Rattle.ms_arena.specs.Target.{Appends, HoldsAt, IsFormed, IsNew};
+ghost use Rattle.ms_diagram.specs.Store.{IsNewest};
 
 use ms_arena::{Node, Ref};
 use ms_cache::Memo;
@@ -194,10 +195,21 @@ impl Store {
             return Ok(low);
         }
         let node = Node { var, low, high };
-        match self.nodes.find(node) {
+        match self.find(node) {
             Some(place) => Ok(Ref::Inner(place)),
             None => self.append(node),
         }
+    }
+
+    // The place of the node, if it is held. A node over the newest one is not, since nodes name earlier ones alone.
+    fn find(&self, node: Node) -> Option<u32>
+        ensures { MatchOption result (IsNew self.now.nodes node) (λ place. slice_get self.now.nodes place ≡ Some node) }
+    {
+        let places = self.len();
+        if is_newest(node.low, places) || is_newest(node.high, places) {
+            return None;
+        }
+        self.nodes.find(node)
     }
 
     // Appends a new node, and gives the reference to it.
@@ -219,5 +231,15 @@ impl Store {
             return Err(StepFault::Memory);
         }
         Ok(Ref::Inner(self.nodes.push(node)))
+    }
+}
+
+// Whether the reference is to the node at the last of so many places.
+fn is_newest(reference: Ref, places: u64) -> bool
+    ensures { IsTrue result → IsNewest places reference }
+{
+    match reference {
+        Ref::Leaf(_) => false,
+        Ref::Inner(place) => u64::from(place) + 1 == places,
     }
 }

@@ -61,12 +61,6 @@ module _ (operands : Operands) (roots : Ref × Ref) where
       (left.states (read_through operands.left_map has.0), right.states (read_through operands.right_map has.0)))
       (cases_lt number (length early))
 
--- the starts lead where the product starts
-pub first_leads : (operands : Operands) (roots : Ref × Ref) → roots.0 ≡ operands.left.start → roots.1 ≡ operands.right.start → (bits : Bits)
-    → leaves_across (sides_of operands) roots bits ≡ first_pair operands bits
-first_leads operands roots left right bits =
-    λ i. (leaf_of operands.left.nodes (left i) (read_through operands.left_map bits), leaf_of operands.right.nodes (right i) (read_through operands.right_map bits))
-
 -- what a state of an operand leads to
 next_leads_one : (content : Content Sign) (map : List ℕ) (state : ℕ) (root : Ref) → state < length content.states → IfSome (slice_get content.states state) (λ (found : StateOf Sign). root ≡ found.next)
     → (bits : Bits) → leaf_of content.nodes root (read_through map bits) ≡ next_through content map state bits

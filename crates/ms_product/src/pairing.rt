@@ -22,7 +22,7 @@ pub struct Paired {
     pub pairs: Pairs,
 }
 
-/// The product of two automata, with their tracks at the places that the maps have: the pairs of states to which words lead, and
+/// The product of two automata, with their tracks at the places that the maps have: its states are pairs of theirs, and it holds
 /// none of the nodes of the two. Nodes and pairs are together at most `limit`.
 pub fn pair_up(
     alloc: Global,

@@ -2,12 +2,12 @@
 use Rattle.std.proofs.Common.{◌≡◌, ◌≢◌, ℕ, zero, suc, ◌+◌, ◌<◌, ◌≤◌, List, [], ◌∷◌, ◌++◌, length, slice_get, get_or, set, Some, refl, sym, ap, subst, ◌∙◌, ⊎_elim, length-set, get_or-set_same, get_or-set_other, arith}
 use Rattle.std.proofs.lemmas.Bool.{cases_eq}
 use Rattle.std.proofs.lemmas.List.{length-map, map-append}
-use Rattle.std.proofs.lemmas.Option.{same_Some, slice_get_within, slice_get-map, slice_get-get_or}
+use Rattle.std.proofs.lemmas.Option.{same_Some, slice_get_within, slice_get-map}
 use Rattle.std.specs.Option.{option_map}
 use Rattle.ms_arena.specs.declared.node.Node.{Node}
 use Rattle.ms_arena.specs.Target.{IsNew}
 use Rattle.ms_arena.proofs.Lists.{slice_get-append_left}
-use Rattle.ms_unique.specs.declared.chain.Cell.{Cell}
+use Rattle.ms_unique.specs.declared.cells.Cell.{Cell}
 use Rattle.ms_unique.specs.Bucket.{bucket_of}
 use Rattle.ms_unique.specs.Chain.{nodes_of, AreEmpty, IsLast, IsLinked}
 
@@ -26,10 +26,10 @@ slice_get-set_other (y ∷ xs) (suc i) zero x differ = refl
 slice_get-set_other (y ∷ xs) (suc i) (suc j) x differ = slice_get-set_other xs i j x (λ same. differ (ap suc same))
 
 -- a link that is written leaves the nodes
-pub nodes_of-set : (cells : List Cell) (place : ℕ) (other : Cell) (link : ℕ) → nodes_of (set cells place (record { node = (get_or cells place other).node; next = link })) ≡ nodes_of cells
-nodes_of-set [] place other link = refl
-nodes_of-set (cell ∷ cells) zero other link = refl
-nodes_of-set (cell ∷ cells) (suc place) other link = ap (λ nodes. cell.node ∷ nodes) (nodes_of-set cells place other link)
+pub nodes_of-set : (cells : List Cell) (place : ℕ) (cell : Cell) (link : ℕ) → slice_get cells place ≡ Some cell → nodes_of (set cells place (record { node = cell.node; next = link })) ≡ nodes_of cells
+nodes_of-set [] place cell link held = refl
+nodes_of-set (first ∷ cells) zero cell link held = ap (λ (c : Cell). c.node ∷ nodes_of cells) (sym (same_Some first cell held))
+nodes_of-set (first ∷ cells) (suc place) cell link held = ap (λ nodes. first.node ∷ nodes) (nodes_of-set cells place cell link held)
 
 -- the node of a cell
 pub node_at : (cells : List Cell) (place : ℕ) (cell : Cell) → slice_get cells place ≡ Some cell → slice_get (nodes_of cells) place ≡ Some cell.node
@@ -143,20 +143,21 @@ IsLinked-append cells heads cell linked =
           (IsLast-append nodes (length heads) (cell.node ∷ []) place (bucket_of (length heads) other.node) other.next (omega arith) (linked.followed place other before below));
     }
 
-module _ (cells : List Cell) (heads : List ℕ) (place head : ℕ) (other : Cell) where
+module _ (cells : List Cell) (heads : List ℕ) (place head : ℕ) (own : Cell) where
   -- the cell of the place once it links to the head of its bucket
   abbrev written : Cell
-  written = record { node = (get_or cells place other).node; next = get_or heads head 0 }
+  written = record { node = own.node; next = get_or heads head 0 }
 
   -- a place that is put in front of its chain
-  pub IsLinked-link : place < length cells → head ≡ bucket_of (length heads) (get_or cells place other).node → head < length heads → IsLinked cells heads place
+  pub IsLinked-link : slice_get cells place ≡ Some own → head ≡ bucket_of (length heads) own.node → head < length heads → IsLinked cells heads place
       → IsLinked (set cells place written) (set heads head (place + 1)) (place + 1)
-  IsLinked-link within is bucketed linked =
+  IsLinked-link here_is is bucketed linked =
       let nodes = nodes_of cells in
       let buckets = length heads in
-      let node = (get_or cells place other).node in
-      let held : slice_get nodes place ≡ Some node = node_at cells place (get_or cells place other) (slice_get-get_or cells place other within) in
-      let same_nodes = nodes_of-set cells place other (get_or heads head 0) in
+      let node = own.node in
+      let within = slice_get_within cells place own here_is in
+      let held : slice_get nodes place ≡ Some node = node_at cells place own here_is in
+      let same_nodes = nodes_of-set cells place own (get_or heads head 0) here_is in
       let same_buckets = length-set heads head (place + 1) in
       let carry = λ (count bucket link : ℕ) (last : IsLast nodes buckets count bucket link).
       subst (λ list. IsLast list (length (set heads head (place + 1))) count bucket link) (sym same_nodes)

@@ -1,2 +1,4 @@
 pub mod ChainLemmas
+pub mod CodeLemmas
+pub mod PackingLemmas
 pub mod UniqueLemmas

@@ -4,7 +4,7 @@ use Rattle.std.proofs.lemmas.List.{length-map, map-append}
 use Rattle.ms_arena.specs.declared.node.Node.{Node}
 use Rattle.ms_arena.specs.Target.{IsNew}
 use Rattle.ms_arena.proofs.Lists.{slice_get-pushed}
-use Rattle.ms_unique.specs.declared.chain.Cell.{Cell}
+use Rattle.ms_unique.specs.declared.cells.Cell.{Cell}
 use Rattle.ms_unique.specs.Arena.{IsTable, IsUnique}
 use Rattle.ms_unique.specs.Chain.{nodes_of, IsLinked}
 
@@ -24,9 +24,9 @@ IsUnique-push nodes node room new unique = record {
 }
 
 -- so the table stays one when a cell is put behind its cells and linked
-pub IsTable-push : (cells new : List Cell) (heads new_heads : List ℕ) (cell : Cell) (spare capacity : ℕ) → IsTable cells heads spare capacity → IsNew (nodes_of cells) cell.node → 1 ≤ spare
-    → nodes_of new ≡ nodes_of (cells ++ cell ∷ []) → length new_heads ≡ length heads → IsLinked new new_heads (length cells + 1) → IsTable new new_heads (spare - 1) capacity
-IsTable-push cells new heads new_heads cell spare capacity table absent room same same_heads linked =
+pub IsTable-push : (cells new : List Cell) (heads new_heads : List ℕ) (cell : Cell) (spare room new_room : ℕ) → IsTable cells heads spare room → IsNew (nodes_of cells) cell.node → 1 ≤ spare
+    → new_room + 1 ≡ room → nodes_of new ≡ nodes_of (cells ++ cell ∷ []) → length new_heads ≡ length heads → IsLinked new new_heads (length cells + 1) → IsTable new new_heads (spare - 1) new_room
+IsTable-push cells new heads new_heads cell spare room new_room table absent some_room less same same_heads linked =
     let node = λ (c : Cell). c.node in
     let grown = same ∙ map-append node cells (cell ∷ []) in
     let small = table.small in
@@ -37,7 +37,7 @@ IsTable-push cells new heads new_heads cell spare capacity table absent room sam
     record {
       unique = subst IsUnique (sym grown) (IsUnique-push (nodes_of cells) cell.node (omega arith) absent table.unique);
       linked = subst (IsLinked new new_heads) (sym longer) linked;
-      reserved = omega arith;
+      reserved = omega (arith, reserved, less);
       small = omega arith;
       bucketed = λ some. omega arith;
     }

@@ -1,14 +1,8 @@
 -- The bucket of a node in a hash table.
 use Rattle.std.specs.Prelude.{ℕ, ◌+◌, ◌-◌, ◌*◌, ◌/◌, ◌%◌, ◌^◌, bit_and, bit_xor}
-use Rattle.ms_arena.specs.declared.node.Ref.{Ref}
-use Rattle.ms_arena.specs.declared.node.Ref.TheVariants.{Leaf, Inner}
 use Rattle.ms_arena.specs.declared.node.Node.{Node}
 use Rattle.ms_unique.specs.declared.hash.TheConstants.{VAR_FACTOR, LOW_FACTOR, HIGH_FACTOR, LAST_FACTOR}
-
--- a number for each reference: leaves have the even ones
-abbrev pub code_of : Ref → ℕ
-code_of (Leaf value) = 2 * value
-code_of (Inner place) = 2 * place + 1
+use Rattle.ms_unique.specs.Code.{code_of}
 
 -- the product in 64 bits
 abbrev pub product : ℕ → ℕ → ℕ

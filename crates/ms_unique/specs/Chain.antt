@@ -1,7 +1,7 @@
 -- The chains of a hash table, each through the places of one bucket. A link is one more than a place, or 0.
 use Rattle.std.specs.Prelude.{◌≡◌, ℕ, suc, ◌<◌, ◌≤◌, List, length, map, slice_get, slice_index, Some}
 use Rattle.ms_arena.specs.declared.node.Node.{Node}
-use Rattle.ms_unique.specs.declared.chain.Cell.{Cell}
+use Rattle.ms_unique.specs.declared.cells.Cell.{Cell}
 use Rattle.ms_unique.specs.Bucket.{bucket_of}
 
 -- the nodes of the cells

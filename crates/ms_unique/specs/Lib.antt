@@ -1,3 +1,5 @@
 pub mod Arena
 pub mod Bucket
 pub mod Chain
+pub mod Code
+pub mod Packing

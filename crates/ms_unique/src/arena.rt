@@ -1,7 +1,8 @@
 ghost use Rattle.std.specs.Prelude.{◌≡◌, ◌+◌, ◌<◌, ◌≤◌, ◌/◌, [], ◌∷◌, ◌++◌, length, max, slice_get, MatchOption, IfOk, OnOk, OnErr};
 ghost use Rattle.ms_arena.specs.Target.{IsNew};
 
-use crate::chain::{Cell, find_in_chain, link, link_all};
+use crate::cells::Cells;
+use crate::chain::{find_in_chain, link, link_all};
 use ms_arena::Node;
 use ms_edge::NoMemory;
 use std::alloc::Global;
@@ -15,21 +16,20 @@ const LEAST_ROOM: u64 = 64;
 #[derive(Drop)]
 pub struct Arena {
     alloc: Global,
-    cells: Vec<Cell>,
+    cells: Cells,
     heads: Vec<u32>,
     spare: u32,
 }
 
 impl Model for Arena {
-    ghost use Rattle.std.specs.Prelude.{vec_capacity};
     ghost use Rattle.ms_unique.specs.Arena.{Contents, IsTable};
     ghost use Rattle.ms_unique.specs.Chain.{nodes_of};
 
     ghost Value = { Contents };
 
-    ghost view = { λ a. record { nodes = nodes_of a.cells.items; spare = a.spare } };
+    ghost view = { λ a. record { nodes = nodes_of a.cells.cells; spare = a.spare } };
 
-    ghost invariant = { λ a. IsTable a.cells.items a.heads.items a.spare (vec_capacity a.cells) };
+    ghost invariant = { λ a. IsTable a.cells.cells a.heads.items a.spare a.cells.spare };
 }
 
 impl Arena {
@@ -42,7 +42,7 @@ impl Arena {
     {
         Arena {
             alloc,
-            cells: Vec::new(alloc),
+            cells: Cells::new(alloc),
             heads: Vec::new(alloc),
             spare: 0,
         }
@@ -61,14 +61,14 @@ impl Arena {
         requires { place < length self.now.nodes }
         ensures { slice_get self.now.nodes place ≡ Some result }
     {
-        self.cells[place as usize].node
+        self.cells.get(place).node
     }
 
     /// The place of the node, if it is held.
     pub fn find(&self, node: Node) -> Option<u32>
         ensures { MatchOption result (IsNew self.now.nodes node) (λ place. slice_get self.now.nodes place ≡ Some node) }
     {
-        if self.cells.is_empty() {
+        if self.cells.len() == 0 {
             return None;
         }
         find_in_chain(&self.cells, &self.heads, node)
@@ -116,7 +116,7 @@ impl Arena {
         ensures spare { self.new.spare + 1 ≡ self.old.spare }
     {
         let place = self.cells.len() as u32;
-        self.cells.push_reserved(Cell { node, next: 0 });
+        self.cells.push(node);
         link(&mut self.cells, &mut self.heads, place);
         self.spare -= 1;
         place
@@ -126,9 +126,7 @@ impl Arena {
     pub fn copy(&self) -> Result<Arena, NoMemory>
         ensures { IfOk result (λ made. made.nodes ≡ self.now.nodes) }
     {
-        let Ok(cells) = Vec::from_slice(self.alloc, &self.cells) else {
-            return Err(NoMemory);
-        };
+        let cells = self.cells.copy(self.alloc)?;
         let Ok(heads) = Vec::from_slice(self.alloc, &self.heads) else {
             return Err(NoMemory);
         };

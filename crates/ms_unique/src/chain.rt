@@ -2,27 +2,20 @@ ghost use Rattle.std.specs.Prelude.{◌≡◌, ◌+◌, ◌<◌, ◌≤◌, leng
 ghost use Rattle.ms_arena.specs.Target.{IsNew};
 ghost use Rattle.ms_unique.specs.Chain.{nodes_of, AreEmpty, IsLinked};
 
+use crate::cells::Cells;
 use crate::hash::bucket;
 use ms_arena::Node;
 
-// A node, and the link to the place before its own in the chain of its bucket. A link is one more than a place, and 0
-// ends the chain.
-#[derive(Clone, Copy)]
-pub(crate) struct Cell {
-    pub node: Node,
-    pub next: u32,
-}
-
 // The place of the node, which is looked for in the chain of its bucket.
-pub(crate) fn find_in_chain(cells: &[Cell], heads: &[u32], node: Node) -> Option<u32>
+pub(crate) fn find_in_chain(cells: &Cells, heads: &[u32], node: Node) -> Option<u32>
     requires heads { 0 < length heads.now }
-    requires linked { IsLinked cells.now heads.now (length cells.now) }
-    ensures { MatchOption result (IsNew (nodes_of cells.now) node) (λ place. slice_get (nodes_of cells.now) place ≡ Some node) }
+    requires linked { IsLinked cells.now.cells heads.now (length cells.now.cells) }
+    ensures { MatchOption result (IsNew (nodes_of cells.now.cells) node) (λ place. slice_get (nodes_of cells.now.cells) place ≡ Some node) }
 {
     let mut link = heads[bucket(node, heads.len())];
     while link != 0 {
         let place = link - 1;
-        let cell = cells[place as usize];
+        let cell = cells.get(place);
         if cell.node == node {
             return Some(place);
         }
@@ -32,27 +25,28 @@ pub(crate) fn find_in_chain(cells: &[Cell], heads: &[u32], node: Node) -> Option
 }
 
 // Puts the place in front of the chain of its bucket, where those below it are in theirs.
-pub(crate) fn link(cells: &mut [Cell], heads: &mut [u32], place: u32)
-    requires place { place < length cells.old }
+pub(crate) fn link(cells: &mut Cells, heads: &mut [u32], place: u32)
+    requires place { place < length cells.old.cells }
     requires small { place < 4294967295 }
     requires heads { 0 < length heads.old }
-    requires linked { IsLinked cells.old heads.old place }
-    ensures linked { IsLinked cells.new heads.new (place + 1) }
-    ensures nodes { nodes_of cells.new ≡ nodes_of cells.old }
+    requires linked { IsLinked cells.old.cells heads.old place }
+    ensures linked { IsLinked cells.new.cells heads.new (place + 1) }
+    ensures nodes { nodes_of cells.new.cells ≡ nodes_of cells.old.cells }
+    ensures spare { cells.new.spare ≡ cells.old.spare }
 {
-    let at = place as usize;
-    let head = bucket(cells[at].node, heads.len());
-    cells[at].next = heads[head];
+    let head = bucket(cells.get(place).node, heads.len());
+    cells.set_next(place, heads[head]);
     heads[head] = place + 1;
 }
 
 // Makes the chains anew, on heads that are all empty.
-pub(crate) fn link_all(cells: &mut [Cell], heads: &mut [u32])
-    requires small { length cells.old ≤ 4294967295 }
+pub(crate) fn link_all(cells: &mut Cells, heads: &mut [u32])
+    requires small { length cells.old.cells ≤ 4294967295 }
     requires heads { 0 < length heads.old }
     requires empty { AreEmpty heads.old }
-    ensures linked { IsLinked cells.new heads.new (length cells.old) }
-    ensures nodes { nodes_of cells.new ≡ nodes_of cells.old }
+    ensures linked { IsLinked cells.new.cells heads.new (length cells.old.cells) }
+    ensures nodes { nodes_of cells.new.cells ≡ nodes_of cells.old.cells }
+    ensures spare { cells.new.spare ≡ cells.old.spare }
 {
     for place in 0..cells.len() as u32 {
         link(cells, heads, place);

@@ -1,7 +1,8 @@
 ghost use Rattle.std.specs.Prelude.{◌≡◌, ◌<◌};
-ghost use Rattle.ms_unique.specs.Bucket.{bucket_of, code_of, hash_of};
+ghost use Rattle.ms_unique.specs.Bucket.{bucket_of, hash_of};
 
-use ms_arena::{Node, Ref};
+use crate::code::code;
+use ms_arena::Node;
 
 // Odd numbers whose bits look random: the first bits of the golden ratio, and constants of SplitMix64 and Murmur3.
 const VAR_FACTOR: u64 = 0x9E37_79B9_7F4A_7C15;
@@ -31,13 +32,4 @@ fn mix(node: Node) -> u64
         .wrapping_mul(VAR_FACTOR)
         .wrapping_add(ends);
     (sum ^ (sum >> 32)).wrapping_mul(LAST_FACTOR)
-}
-
-fn code(reference: Ref) -> u64
-    ensures { result ≡ code_of reference }
-{
-    match reference {
-        Ref::Leaf(value) => 2 * u64::from(value),
-        Ref::Inner(place) => 2 * u64::from(place) + 1,
-    }
 }

@@ -2,7 +2,11 @@
 #![tactic(auto)]
 
 mod arena;
+mod cells;
 mod chain;
+mod code;
+mod examples;
 mod hash;
 
 pub use arena::Arena;
+pub use examples::{worked_cells, worked_codes};

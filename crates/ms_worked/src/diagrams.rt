@@ -1,7 +1,7 @@
 ghost use Rattle.std.specs.Prelude.{◌≡◌, [], ◌∷◌};
 ghost use Rattle.ms_arena.specs.declared.node.Ref.TheVariants.{Inner, Leaf};
 ghost use Rattle.ms_diagram.specs.Across.{AreOn, HasLeavesAcross, IsOn, LacksAcross, NumberAcross, leaves_across};
-ghost use Rattle.ms_diagram.specs.Short.{AreShort, IsLong, ref_of, short_entries};
+ghost use Rattle.ms_diagram.specs.Short.{AreShort, IsLong, short_entries};
 ghost use Rattle.ms_worked.specs.WorkedDiagrams.{both_roots, crossed, only, without_map};
 
 /// Two diagrams of other stores, each read through a map: the pairs of their leaves, and the numbers of these.
@@ -25,8 +25,6 @@ pub fn worked_sides()
 
 /// Codes of references, which have four bytes up to 2^32 - 1.
 pub fn worked_codes()
-    ensures leaf { ref_of 6 ≡ Leaf 3 }
-    ensures node { ref_of 7 ≡ Inner 3 }
     ensures entries { short_entries (((6, 7), Leaf 1) ∷ ((0, 1), Inner 4) ∷ []) ≡ ((Leaf 3, Inner 3), Leaf 1) ∷ ((Leaf 0, Inner 0), Inner 4) ∷ [] }
     ensures greatest { AreShort (((4294967295, 0), Leaf 1) ∷ []) }
     ensures too_great { ¬ AreShort (((0, 4294967296), Leaf 1) ∷ []) }

@@ -1,13 +1,12 @@
-use Rattle.std.proofs.Common.{◌≡◌, ◌+◌, ◌-◌, ◌<◌, false, get_or, length, sym, ap, subst, ◌∙◌, arith}
+use Rattle.std.proofs.Common.{◌≡◌, ◌+◌, ◌-◌, ◌<◌, false, length, sym, ap, subst, Some, ◌∙◌, arith}
 use Rattle.std.proofs.lemmas.Bool.{both_ways}
 use Rattle.std.proofs.lemmas.List.{length-map}
-use Rattle.std.proofs.lemmas.Option.{slice_get-get_or}
 use Rattle.ms_arena.specs.declared.node.Node.{Node}
 use Rattle.ms_arena.specs.contracts.node.NodePartialEq.TheImpl as of_node
-use Rattle.ms_arena.proofs.Equality.{node_itself}
-use Rattle.ms_unique.specs.declared.chain.Cell.{Cell}
+use Rattle.ms_arena.proofs.Equality.{node_itself, same_node}
+use Rattle.ms_unique.specs.declared.cells.Cell.{Cell}
 use Rattle.ms_unique.specs.Chain.{nodes_of}
-use Rattle.ms_unique.proofs.ChainLemmas.{LeadsTo, LeadsTo-cell}
+use Rattle.ms_unique.proofs.ChainLemmas.{node_at, LeadsTo, LeadsTo-cell}
 use Rattle.ms_unique.proofs.chain.find_in_chain.Goals as goal
 
 -- nodes that compare unequal differ
@@ -16,13 +15,16 @@ differing one two unequal same = both_ways (of_node.eq-value.it one two) (sym un
 
 pub loop-link-preserved : goal.loop-link-preserved
 loop-link-preserved c =
-    let cells = c.args.cells.now in
+    let cells = c.args.cells.now.cells in
     let buckets = length c.args.heads.now in
     let node = c.args.node in
     let place = c.loop-link.link - 1 in
     let within = c.loop-link.invariant.within in
     let inside : place < length cells = omega (arith, length-map cells (λ (cell : Cell). cell.node)) in
     let same : c.loop-link.link ≡ place + 1 = omega arith in
-    LeadsTo-cell cells c.args.heads.now node place (get_or cells place _) c.requires.linked
-    (slice_get-get_or cells place _ inside) (differing _ node c.if-eq.ensures)
+    LeadsTo-cell cells c.args.heads.now node place c.get-cell.result c.requires.linked c.get-cell.ensures (differing _ node c.if-eq.ensures)
     (subst (LeadsTo (nodes_of cells) buckets node) same c.loop-link.invariant)
+
+pub returns-then-eq : goal.returns-then-eq
+returns-then-eq c =
+    node_at c.args.cells.now.cells (c.loop-link.link - 1) c.get-cell.result c.get-cell.ensures ∙ ap Some (same_node _ _ (sym c.if-eq.ensures))

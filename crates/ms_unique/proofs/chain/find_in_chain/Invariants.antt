@@ -4,7 +4,7 @@ use Rattle.ms_unique.proofs.ChainLemmas.{LeadsTo}
 use Rattle.ms_unique.proofs.chain.find_in_chain.Given as goal
 
 abbrev pub invariant-loop-link : goal.invariant-loop-link
-invariant-loop-link l = LeadsTo (nodes_of l.cells) (length l.heads) l.node l.link
+invariant-loop-link l = LeadsTo (nodes_of l.cells.cells) (length l.heads) l.node l.link
 
 abbrev pub decreases-loop-link : goal.decreases-loop-link
 decreases-loop-link l = l.link

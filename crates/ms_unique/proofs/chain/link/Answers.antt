@@ -1,9 +1,13 @@
+use Rattle.std.proofs.Common.{ap, ◌∙◌}
+use Rattle.ms_unique.specs.Chain.{nodes_of}
 use Rattle.ms_unique.proofs.ChainLemmas.{nodes_of-set, IsLinked-link}
 use Rattle.ms_unique.proofs.chain.link.Goals as goal
 
 pub returns-clause-linked : goal.returns-clause-linked
 returns-clause-linked c =
-    IsLinked-link c.args.cells.now c.args.heads.now c.args.place c.bucket-head.result _ c.requires.place c.bucket-head.ensures.value c.bucket-head.ensures.within c.requires.linked
+    rw (c.set_next.ensures.cells c.get.result c.get.ensures)
+    (IsLinked-link c.args.cells.now.cells c.args.heads.now c.args.place c.bucket-head.result c.get.result c.get.ensures c.bucket-head.ensures.value c.bucket-head.ensures.within c.requires.linked)
 
 pub returns-clause-nodes : goal.returns-clause-nodes
-returns-clause-nodes c = nodes_of-set c.args.cells.now c.args.place _ _
+returns-clause-nodes c =
+    ap nodes_of (c.set_next.ensures.cells c.get.result c.get.ensures) ∙ nodes_of-set c.args.cells.now.cells c.args.place c.get.result _ c.get.ensures

@@ -4,4 +4,4 @@ use Rattle.ms_unique.proofs.chain.link_all.Given as goal
 
 abbrev pub invariant-loop-place : goal.invariant-loop-place
 invariant-loop-place l =
-    IsLinked l.cells l.heads l.place × (nodes_of l.cells ≡ nodes_of l.initial.cells)
+    IsLinked l.cells.cells l.heads l.place × (nodes_of l.cells.cells ≡ nodes_of l.initial.cells.cells) × (l.cells.spare ≡ l.initial.cells.spare)

@@ -2,7 +2,6 @@ use Rattle.std.proofs.Common.{subst}
 use Rattle.std.proofs.lemmas.Result.{MatchResult-weaker}
 use Rattle.ms_arena.specs.declared.node.Node.{Node}
 use Rattle.ms_arena.specs.declared.node.Ref.TheVariants.{Inner}
-use Rattle.ms_arena.specs.Target.{HoldsAt}
 use Rattle.ms_arena.proofs.Appending.{Extends-same, Extends-from_appends, IsValid-held, leaf_of-made}
 use Rattle.ms_diagram.specs.Store.{IsStore}
 use Rattle.ms_diagram.proofs.Building.{KeepsFunctions-extends}
@@ -12,15 +11,14 @@ pub returns-in-Some-clause-valid : goal.returns-in-Some-clause-valid
 returns-in-Some-clause-valid c =
     let node : Node = record { var = c.args.var; low = c.args.low; high = c.args.high } in
     IsValid-held c.args.self.now.nodes node (Inner c.in-Some.place)
-    (subst (λ store. HoldsAt store.nodes node (Inner c.in-Some.place)) c.self.view_is c.in-Some.ensures)
+    c.in-Some.ensures
 
 pub returns-in-Some-clause-function : goal.returns-in-Some-clause-function
 returns-in-Some-clause-function c =
     let node : Node = record { var = c.args.var; low = c.args.low; high = c.args.high } in
     let nodes = c.args.self.now.nodes in
     let store = subst (λ store. IsStore store.nodes store.limit) c.self.view_is c.self.invariant in
-    let held = subst (λ store. HoldsAt store.nodes node (Inner c.in-Some.place)) c.self.view_is c.in-Some.ensures in
-    λ bits. leaf_of-made nodes nodes (Extends-same nodes) store.ordered store.ordered node (Inner c.in-Some.place) bits c.requires.valid_low c.requires.valid_high held
+    λ bits. leaf_of-made nodes nodes (Extends-same nodes) store.ordered store.ordered node (Inner c.in-Some.place) bits c.requires.valid_low c.requires.valid_high c.in-Some.ensures
 
 pub returns-in-None-clause-valid : goal.returns-in-None-clause-valid
 returns-in-None-clause-valid c =
