@@ -3,14 +3,13 @@ use Rattle.std.proofs.Common.{◌≡◌, ℕ, zero, suc, ◌+◌, ◌<◌, ◌�
 use Rattle.std.proofs.lemmas.List.{take_more}
 use Rattle.ms_logic.specs.declared.core_formula.Core.{Core}
 use Rattle.ms_logic.specs.declared.mode.Order.{Order}
-use Rattle.ms_logic.specs.CoreForm.{no_forms, core_form_of}
+use Rattle.ms_logic.specs.CoreForm.{core_form_of}
 use Rattle.ms_dag.specs.declared.node.Child.{Child}
 use Rattle.ms_dag.specs.declared.node.Entry.{Entry}
-use Rattle.ms_dag.specs.Dag.{AreNodes}
 use Rattle.ms_dag.specs.Scope.{IsInScope, AreInScope, forms_of}
 use Rattle.ms_core.specs.Subformulas.{subformulas, subformulas_of_each}
 use Rattle.ms_dag.specs.Shared.{IsShared, IsSharedNow, AreShared, AreSharedNow, Grown}
-use Rattle.ms_dag.proofs.Growth.{AreShared-kept, Grown-none, Grown-both}
+use Rattle.ms_dag.proofs.Growth.{AreShared-kept, Grown-both}
 
 pub AreShared-push : (orders : List Order) (entries : List Entry) (xs : List Core) (x : Core) (parts : List Child) (part : Child) → AreShared orders entries (forms_of xs) parts → IsShared orders entries (core_form_of x) part →
     AreShared orders entries (forms_of (xs ++ x ∷ [])) (parts ++ part ∷ [])
@@ -55,6 +54,3 @@ module _ (orders : List Order) (old mid : List Entry) (xs : List Core) (k : ℕ)
             (Grown-both old mid new (subformulas_of_each (forms_of (take k xs))) (subformulas (core_form_of x)) parts (part ∷ []) now.grown next.grown);
         shared = AreShared-push orders new (take k xs) x parts part (AreShared-kept mid new next.grown.kept orders (forms_of (take k xs)) parts now.shared) next.shared;
       })
-
-pub step_none : (orders : List Order) (old : List Entry) → AreNodes old → AreSharedNow orders old old no_forms []
-step_none orders old nodes = record { grown = Grown-none old nodes; shared = tt }

@@ -6,9 +6,8 @@ use Rattle.ms_logic.specs.declared.mode.Order.{Order}
 use Rattle.ms_logic.specs.declared.core_formula.Root.{Root}
 use Rattle.ms_dag.specs.declared.dag.SharedRoot.{SharedRoot}
 use Rattle.ms_dag.specs.Share.{IsRootOf}
-use Rattle.ms_dag.proofs.KeyLemmas.{item_of}
-use Rattle.std.proofs.Common.{◌≡◌, ℕ, zero, suc, ◌<◌, List, [], ◌∷◌, All, Option, Some, None, refl, arith, ◌↔◌, slice_get, subst}
-use Rattle.std.proofs.lemmas.List.Elements.{All-head, All-tail, All-weaker}
+use Rattle.std.proofs.Common.{◌≡◌, ℕ, zero, suc, ◌<◌, List, [], ◌∷◌, All, Option, Some, None, refl, arith, ◌↔◌}
+use Rattle.std.proofs.lemmas.List.Elements.{All-head, All-tail}
 use Rattle.ms_logic.specs.declared.mode.Quant.TheVariants.{Ex, All as Every}
 use Rattle.ms_logic.specs.Assignment.{Env, assign}
 use Rattle.ms_logic.specs.Truth.{Import as Imported}
@@ -16,7 +15,7 @@ use Rattle.ms_dag.specs.declared.node.Child.{Child}
 use Rattle.ms_dag.specs.declared.node.DagNode.{DagNode}
 use Rattle.ms_dag.specs.declared.node.DagNode.TheVariants.{True, False, Basic, Not, And, Or, Implies, Iff, Restrict, Import, Bind}
 use Rattle.ms_dag.specs.declared.node.Entry.{Entry}
-use Rattle.ms_dag.specs.Dag.{children_of, AreNodes, IsChild, orders_inside}
+use Rattle.ms_dag.specs.Dag.{children_of}
 use Rattle.ms_dag.specs.Laws.{ChildrenComeFirst, NodeHasValueByChildren, HaveTheirOrders}
 use Rattle.ms_dag.specs.Unfolds.{node_at}
 use Rattle.ms_dag.specs.Values.{Verdict, Of, EachIs, SomeIs, EachIsDefined, YesAt, NoAt, YesBelow, NoBelow, NodeYes, NodeNo, read_through}
@@ -83,14 +82,6 @@ node_has_value_by_children imports entries i e first =
     same_at (λ j there. YesBelow imports entries i j there) (λ j there. NoBelow imports entries i j there) (λ j there. YesBelow imports entries (suc j) j there) (λ j there. NoBelow imports entries (suc j) j there)
     i (λ c smaller there. same_bound imports entries first i (suc c.node) c.node _ (omega arith) (omega arith)) imports (node_at entries i) (first i) e in
     ((same.yes_to, same.yes_from), (same.no_to, same.no_from))
-
--- in a graph the children of each node have smaller numbers
-pub ChildrenComeFirst-nodes : (entries : List Entry) → AreNodes entries → ChildrenComeFirst entries
-ChildrenComeFirst-nodes entries nodes i node at =
-    let found = item_of (λ (e : Entry). e.node) (slice_get entries i) node at in
-    let is = nodes.nodes i found.0 found.1 in
-    subst (λ n. All (λ (c : Child). c.node < i) (children_of n)) found.2
-    (All-weaker (IsChild entries i (orders_inside found.0.node found.0.orders)) (λ (c : Child). c.node < i) (λ c child. child.part.smaller) (children_of found.0.node) is.children)
 
 -- a root of the graph has the value of its formula, where its variables have the values that their numbers have
 pub root_has_value_of_formula : (imports : List Imported) (orders : List Order) (entries : List Entry) (root : Root) (shared : SharedRoot) (c : Env) → IsRootOf orders entries root shared → HaveTheirOrders imports orders (core_form_of root.core) →

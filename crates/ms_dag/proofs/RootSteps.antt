@@ -15,7 +15,7 @@ use Rattle.ms_core.specs.Subformulas.{subformulas, subformulas_of_roots}
 use Rattle.ms_dag.specs.Share.{IsRootOf, AreRootsOf, children_of_roots}
 use Rattle.ms_dag.specs.Shared.{IsRootNow, AreRootsNow}
 use Rattle.ms_dag.specs.Shared.{Grown}
-use Rattle.ms_dag.proofs.Growth.{Keeps, Unfolds-kept, Grown-none, Grown-both}
+use Rattle.ms_dag.proofs.Growth.{Keeps, Unfolds-kept, Grown-both}
 
 IsRootOf-kept : (orders : List Order) (old new : List Entry) → Keeps old new → (root : Root) (shared : SharedRoot) → IsRootOf orders old root shared → IsRootOf orders new root shared
 IsRootOf-kept orders old new keeps root shared is = record {
@@ -55,9 +55,6 @@ no_nodes = record {
   nodes = λ i entry held. absurd (let never : ⊥ = cc in never);
   distinct = λ one two item first second. absurd (let never : ⊥ = cc in never);
 }
-
-pub no_roots : (orders : List Order) (entries : List Entry) → entries ≡ [] → AreRootsNow orders entries [] []
-no_roots orders entries none = subst (λ list. AreRootsNow orders list [] []) (sym none) (record { grown = Grown-none [] no_nodes; roots_of = tt })
 
 module _ (orders : List Order) (mid : List Entry) (roots : List Root) (k : ℕ) (root : Root) (shared : List SharedRoot) (below : k < length roots) (is : root ≡ get_or roots k root) (now : AreRootsNow orders mid (take k roots) shared) where
   taken : take k roots ++ root ∷ [] ≡ take (k + 1) roots

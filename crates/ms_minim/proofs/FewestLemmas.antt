@@ -172,9 +172,6 @@ module _ (content : Content Sign) (classes members map : List ℕ) (pairs : List
         ∙ ap (λ state. Some (sign_by state)) (sym (state_after-machine content (first_state content word.truth) word.letters))
         ∙ ap (λ sign. Some (sign_or_outside sign)) has.1 ∙ sym has.1
 
-    pub HaveEqualSigns-made : HaveEqualSigns content made
-    HaveEqualSigns-made = sign_of-made
-
     pub HasFewestStates-made : HasFewestStates made
     HasFewestStates-made other closed variables signs =
         let few = few_numbers other closed (λ word over. signs word over ∙ sign_of-made word over) in

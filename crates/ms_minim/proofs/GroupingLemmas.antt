@@ -1,9 +1,9 @@
 -- States that are due, and states that get their new classes.
 use Rattle.std.proofs.Common.{◌≡◌, ◌≢◌, ℕ, zero, suc, ◌+◌, ◌<◌, ◌≤◌, ◌⊎◌, inl, inr, ⊎_elim, List, [], ◌∷◌, ◌++◌, length, slice_get, replicate, slice_index, slice_index_or, get_or, Some, refl, sym, ap, subst, ◌∙◌, arith}
 use Rattle.std.proofs.lemmas.Bool.{cases_lt, cases_eq}
-use Rattle.std.proofs.lemmas.Option.{slice_get_within, same_Some, none-some, slice_get-get_or}
+use Rattle.std.proofs.lemmas.Option.{same_Some, none-some, slice_get-get_or}
 use Rattle.ms_arena.specs.Target.{Extends}
-use Rattle.ms_arena.proofs.Appending.{Extends-same, Extends-further, slice_get-extends}
+use Rattle.ms_arena.proofs.Appending.{Extends-further, slice_get-extends}
 use Rattle.ms_arena.proofs.Lists.{slice_get-pushed}
 use Rattle.ms_diagram.specs.Numbering.{Numbers}
 use Rattle.ms_diagram.proofs.NumberingLemmas.{Extends-numbers}
@@ -75,13 +75,6 @@ pub record AreNotedAt (early late : List (ℕ × ℕ)) (predecessors : List (Lis
       (place state item : ℕ) → place < done → slice_get members place ≡ Some state → slice_get classes state ≡ Some class → IsListed predecessors state item → IsDue late item
   pub only : (item : ℕ) → IsDue late item → IsDue early item ⊎ ((state : ℕ) × IsListed predecessors state item)
 
-pub AreNotedAt-none : (due : List (ℕ × ℕ)) (predecessors : List (List ℕ)) (classes members : List ℕ) (class : ℕ) → AreNotedAt due due predecessors classes members class 0
-AreNotedAt-none due predecessors classes members class = record {
-  later = Extends-same due;
-  noted = λ place state item less. absurd (omega (arith, less));
-  only = λ item is. inl is;
-}
-
 -- a member more, whose predecessors were noted, or which is not in the class
 pub AreNotedAt-more : (early now late : List (ℕ × ℕ)) (predecessors : List (List ℕ)) (classes members : List ℕ) (class done : ℕ) → AreNotedAt early now predecessors classes members class done
     → (member : ℕ) → slice_get members done ≡ Some member → Extends now late
@@ -105,12 +98,6 @@ pub record AreCoveredAt (classes : List ℕ) (predecessors : List (List ℕ)) (c
   pub covered :
       (place state class item : ℕ) → place < done → slice_get chosen place ≡ Some class → slice_get classes state ≡ Some class → IsListed predecessors state item → IsDue due item
   pub only : (item : ℕ) → IsDue due item → (state : ℕ) × IsListed predecessors state item
-
-pub AreCoveredAt-none : (classes : List ℕ) (predecessors : List (List ℕ)) (chosen : List ℕ) (due : List (ℕ × ℕ)) → due ≡ [] → AreCoveredAt classes predecessors chosen due 0
-AreCoveredAt-none classes predecessors chosen due none = record {
-  covered = λ place state class item less. absurd (omega (arith, less));
-  only = λ item is. absurd (none-some is.pair (ap (λ (list : List (ℕ × ℕ)). slice_get list is.place) (sym none) ∙ is.there));
-}
 
 pub AreCoveredAt-more : (classes : List ℕ) (predecessors : List (List ℕ)) (chosen : List ℕ) (now late : List (ℕ × ℕ)) (done : ℕ) → AreCoveredAt classes predecessors chosen now done
     → (class : ℕ) → slice_get chosen done ≡ Some class → Extends now late
@@ -145,14 +132,6 @@ pub AreWithin-listed : (classes : List ℕ) (members : List (List ℕ)) (numbers
 AreWithin-listed classes members numbers listed same state class held =
     let within = IsListed-within members class state (listed state class held) in
     omega (arith, within, same)
-
--- no state has been given its new class
-pub IsMoved-none : (classes : List ℕ) (members : List (List ℕ)) (due : List (ℕ × ℕ)) (labels : List ℕ) → AreListed classes members → IsMoved classes classes members due labels 0
-IsMoved-none classes members due labels listed = record {
-  count = refl;
-  either = λ state. inr (record { same = refl; none = λ place pair less held. absurd (omega (arith, less)) });
-  listed = listed;
-}
 
 -- one state more
 pub IsMoved-more : (early now late : List ℕ) (members late_members : List (List ℕ)) (due : List (ℕ × ℕ)) (labels : List ℕ) (done : ℕ) → IsMoved early now members due labels done
@@ -209,16 +188,6 @@ AreForgotten-more chosen numbers late done class were there own others other is 
     (found.0, found.1, omega (arith, past, not_here)))
     (cases_eq other class)
 
-pub AreChosen-more : (chosen numbers late : List ℕ) (done class : ℕ) → AreChosen chosen numbers done → slice_get chosen done ≡ Some class
-    → ((other : ℕ) → other ≢ class → slice_index late other ≡ slice_index numbers other) → AreChosen chosen late (done + 1)
-AreChosen-more chosen numbers late done class were there others other is = ⊎_elim
-    (λ same. (done, there ∙ ap Some (sym same), omega arith))
-    (λ differs.
-    let found = were other (λ none. is (others other differs ∙ none)) in
-    let before = found.2 in
-    (found.0, found.1, omega (arith, before)))
-    (cases_eq other class)
-
 -- a number more at the end of a list, which is 0
 pub slice_index-more : (numbers : List ℕ) (class : ℕ) → slice_index (numbers ++ 0 ∷ []) class ≢ 0 → slice_index numbers class ≢ 0
 slice_index-more [] zero is = absurd (is refl)
@@ -252,7 +221,3 @@ slice_index-past (item ∷ list) (suc place) past = slice_index-past list place 
 -- a number that was set to 0, or that is in no place
 pub set_to_zero : (old new : List ℕ) (place : ℕ) → length new ≡ length old → (place < length old → slice_index new place ≡ 0) → slice_index new place ≡ 0
 set_to_zero old new place same within = ⊎_elim (λ less. within less) (λ past. slice_index-past new place (omega (arith, past, same))) (cases_lt place (length old))
-
--- the states of so many have their classes among the members
-pub AreListed-all : (classes : List ℕ) (members : List (List ℕ)) → ((state class : ℕ) → state < length classes → slice_get classes state ≡ Some class → IsListed members class state) → AreListed classes members
-AreListed-all classes members listed state class held = listed state class (slice_get_within classes state class held) held

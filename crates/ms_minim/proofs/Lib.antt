@@ -16,5 +16,6 @@ pub mod FewestLemmas
 pub mod NodeLemmas
 pub mod PredecessorsLemmas
 pub mod GroupingLemmas
+pub mod DiscreteLemmas
 pub mod SettledLemmas
 pub mod SignatureLemmas

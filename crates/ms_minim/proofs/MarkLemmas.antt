@@ -1,6 +1,6 @@
 -- States have equal marks exactly where they lead alike, or have one sign.
 use Rattle.std.proofs.Common.{◌≡◌, ℕ, zero, suc, ◌+◌, ◌<◌, List, [], ◌∷◌, ◌++◌, length, length-append, slice_get, Some, IfSome, ⊎_elim, refl, sym, ap, subst, ◌∙◌, arith}
-use Rattle.std.proofs.lemmas.Option.{same_Some, none-some}
+use Rattle.std.proofs.lemmas.Option.{same_Some}
 use Rattle.ms_arena.specs.declared.node.Ref.{Ref}
 use Rattle.ms_arena.specs.declared.node.Ref.TheVariants.{Leaf, Inner}
 use Rattle.ms_arena.specs.declared.node.Node.{Node}
@@ -14,9 +14,9 @@ use Rattle.ms_diagram.specs.Relabel.{MappedLeaf}
 use Rattle.ms_diagram.specs.Store.{IsStore}
 use Rattle.ms_logic.specs.declared.sign.Sign.{Sign}
 use Rattle.ms_logic.specs.declared.sign.Sign.TheVariants.{Yes, No, Undefined, Outside}
-use Rattle.ms_logic.specs.Content.{StateOf, Content, sign_at}
-use Rattle.ms_minim.specs.Partition.{AreMarks, AreSignMarks, behind, next_by}
-use Rattle.ms_minim.specs.Marks.{pair_of, mark_of_sign, IsMarkOf, HaveSignMarks, MarksSoFar}
+use Rattle.ms_logic.specs.Content.{StateOf, Content}
+use Rattle.ms_minim.specs.Partition.{AreMarks, behind, next_by}
+use Rattle.ms_minim.specs.Marks.{pair_of, mark_of_sign, IsMarkOf, MarksSoFar}
 
 -- a pair stands for one reference
 pair_of-one : (one other : Ref) → pair_of one ≡ pair_of other → one ≡ other
@@ -32,15 +32,6 @@ leads_by content classes state root within next bits =
     let held = slice_get-held content.states state within in
     let root_is : root ≡ held.0.next = subst (λ found. IfSome found (λ (s : StateOf Sign). root ≡ s.next)) held.1 next in
     ap (λ found. behind content found bits) held.1 ∙ ap (λ r. leaf_of content.nodes r bits) (sym root_is)
-
-pub MarksSoFar-none : (nodes : List Node) (limit : ℕ) (known : List (ℕ × ℕ)) (content : Content Sign) (classes marks : List ℕ) → IsStore nodes limit → IsNumbering known → marks ≡ []
-    → MarksSoFar nodes limit known content classes marks 0
-MarksSoFar-none nodes limit known content classes marks store numbering none = record {
-  store = store;
-  numbering = numbering;
-  marked = λ state mark held. absurd (none-some mark (ap (λ (list : List ℕ). slice_get list state) (sym none) ∙ held));
-  count = ap length none;
-}
 
 -- one mark more
 pub MarksSoFar-more : (nodes : List Node) (limit : ℕ) (known : List (ℕ × ℕ)) (content : Content Sign) (classes marks : List ℕ) (done : ℕ) → MarksSoFar nodes limit known content classes marks done
@@ -122,36 +113,3 @@ mark_below Yes = omega arith
 mark_below No = omega arith
 mark_below Undefined = omega arith
 mark_below Outside = omega arith
-
-pub HaveSignMarks-none : (content : Content Sign) (marks : List ℕ) → marks ≡ [] → HaveSignMarks content marks
-HaveSignMarks-none content marks none state mark held = absurd (none-some mark (ap (λ (list : List ℕ). slice_get list state) (sym none) ∙ held))
-
-pub HaveSignMarks-more : (content : Content Sign) (marks : List ℕ) (state : ℕ) (sign : Sign) (mark : ℕ) → HaveSignMarks content marks → length marks ≡ state → sign_at content state ≡ Some sign → mark ≡ mark_of_sign sign
-    → HaveSignMarks content (marks ++ mark ∷ [])
-HaveSignMarks-more content marks state sign mark were count is mark_is one found held = ⊎_elim
-    (λ before. were one found before)
-    (λ last.
-    let own : one ≡ state = last.0 ∙ count in
-    (sign, ap (sign_at content) own ∙ is, sym last.1 ∙ mark_is))
-    (slice_get-pushed marks mark one found held)
-
-pub AreSignMarks-all : (content : Content Sign) (marks : List ℕ) → HaveSignMarks content marks → length marks ≡ length content.states → AreSignMarks content marks
-AreSignMarks-all content marks are all = record {
-  all = all;
-  below = λ state mark held. (let is = are state mark held in subst (λ n. n < 4) (sym is.2) (mark_below is.0));
-  alike = λ one other in_one in_other same.
-      let first = mark_of one in_one in
-      let second = mark_of other in_other in
-      let signs : first.2.0 ≡ second.2.0 = same_Some first.2.0 second.2.0 (sym first.2.1 ∙ same ∙ second.2.1) in
-      first.1 ∙ ap Some (first.2.2 ∙ ap mark_of_sign signs ∙ sym second.2.2) ∙ sym second.1;
-  apart = λ one other in_one in_other same.
-      let first = mark_of one in_one in
-      let second = mark_of other in_other in
-      let marks_same : mark_of_sign first.2.0 ≡ mark_of_sign second.2.0 = sym first.2.2 ∙ same_Some first.0 second.0 (sym first.1 ∙ same ∙ second.1) ∙ second.2.2 in
-      first.2.1 ∙ ap Some (sym (sign_back first.2.0) ∙ ap sign_of_mark marks_same ∙ sign_back second.2.0) ∙ sym second.2.1;
-}
-  where
-    mark_of : (state : ℕ) → state < length content.states → (mark : ℕ) × (slice_get marks state ≡ Some mark) × ((sign : Sign) × (sign_at content state ≡ Some sign) × (mark ≡ mark_of_sign sign))
-    mark_of state within =
-        let held = slice_get-held marks state (omega (arith, within, all)) in
-        (held.0, held.1, are state held.0 held.1)

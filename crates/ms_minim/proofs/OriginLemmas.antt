@@ -68,7 +68,7 @@ module _ (content : Content Sign) (automaton : IsRead content) where
       by (Some there) same = (state_followed content automaton.ordered automaton.closed state there same).states bits
 
   -- what is reached from an origin leads to states
-  comes_leaves : (origin : ℕ) (reference : Ref) → ComesFrom content origin reference → (bits : Bits) → leaf_of content.nodes reference bits < length content.states
+  pub comes_leaves : (origin : ℕ) (reference : Ref) → ComesFrom content origin reference → (bits : Bits) → leaf_of content.nodes reference bits < length content.states
   comes_leaves origin reference comes bits = let first = comes bits in subst (λ n. n < length content.states) first.1 (root_leaves origin first.0)
 
   module _ (origins : Origins) (nodes : length origins.nodes.items ≡ length content.nodes) (states : length origins.states.items ≡ length content.states) where

@@ -11,7 +11,6 @@ use Rattle.ms_edge.specs.declared.fault.NoMemory.{NoMemory}
 use Rattle.ms_minim.specs.declared.classes.Partition.{Partition}
 use Rattle.ms_minim.specs.Residual.{HaveEqualResiduals}
 use Rattle.ms_minim.specs.Partition.{HaveOneClass, IsInhabited, LeadAlike, IsPartition, IsPassed, AreNerodeClasses, AreMarks, AreSignMarks, next_by}
-use Rattle.ms_minim.specs.Grouping.{NeverSplits}
 use Rattle.ms_minim.specs.Split.{IsSplit, AreZeros}
 use Rattle.ms_minim.proofs.Pigeonhole.{counted}
 use Rattle.ms_minim.proofs.ResidualLemmas.{next_by-within, residuals_next}
@@ -122,17 +121,3 @@ pub IsPartition-split_by : (content : Content Sign) (classes members marks : Lis
     → IfOk result (λ made. IsPartition content made.classes made.members)
 IsPartition-split_by content classes members marks all one_class are (Ok made) split = IsPartition-signs content classes members marks made.classes made.members all one_class are split
 IsPartition-split_by content classes members marks all one_class are (Err fault) split = tt
-
--- a partition that is split by classes that never split equal residuals
-pub IsPartition-grouped : (content : Content Sign) (classes members groups made made_members : List ℕ) → IsPartition content classes members → NeverSplits content groups
-    → IsSplit classes members groups made made_members → IsPartition content made made_members
-IsPartition-grouped content classes members groups made made_members partition never split = record {
-  all = split.all ∙ partition.all;
-  inhabited = split.inhabited;
-  signs = λ one other in_one in_other same.
-      let all = partition.all in
-      partition.signs one other in_one in_other (split.apart one other (omega (arith, in_one, all)) (omega (arith, in_other, all)) same).0;
-  kept = λ one other in_one in_other equal.
-      let all = partition.all in
-      split.together one other (omega (arith, in_one, all)) (omega (arith, in_other, all)) (partition.kept one other in_one in_other equal) (never one other in_one in_other equal);
-}

@@ -5,7 +5,7 @@ use Rattle.std.proofs.lemmas.Bool.{cases_eq}
 use Rattle.std.proofs.lemmas.Option.{slice_get_within, same_Some, slice_get-map}
 use Rattle.ms_arena.specs.declared.node.Ref.TheVariants.{Leaf}
 use Rattle.ms_arena.specs.Diagram.{Bits, leaf_of}
-use Rattle.ms_arena.proofs.Appending.{Extends-same, Extends-further, slice_get-extends, IsValid-extends, leaf_of-extends}
+use Rattle.ms_arena.proofs.Appending.{Extends-further, slice_get-extends, IsValid-extends, leaf_of-extends}
 use Rattle.ms_arena.proofs.Canonicity.{same_reference}
 use Rattle.ms_arena.proofs.Lists.{slice_get-held, slice_get-pushed}
 use Rattle.ms_arena.proofs.Paths.{leaf_of-leaf}
@@ -88,9 +88,6 @@ module _ (early late : Seen) (seen : IsSeen early) (later : IsLaterSeen early la
         subst (λ (p : ℕ × ℕ). IsNewClass late content classes splitters p.0 found) same (subst (IsNewClass late content classes splitters pair.0) last.1 is))
         (slice_get-pushed labels label place found held);
   }
-
-pub IsLaterSeen-same : (seen : Seen) → IsLaterSeen seen seen
-IsLaterSeen-same seen = record { nodes = Extends-same seen.scratch.nodes; marks = Extends-same seen.marks; keys = Extends-same seen.keys; first = refl }
 
 pub IsLaterSeen-then : (one two three : Seen) → IsLaterSeen one two → IsLaterSeen two three → IsLaterSeen one three
 IsLaterSeen-then one two three left right = record {

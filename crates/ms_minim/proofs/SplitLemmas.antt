@@ -1,42 +1,15 @@
 -- Classes are split by the numbers of their keys.
-use Rattle.std.proofs.Common.{◌≡◌, ℕ, ◌+◌, ◌<◌, ◌≤◌, inl, inr, ⊎_elim, List, [], ◌∷◌, ◌++◌, length, length-append, slice_get, slice_index, Some, refl, sym, ap, subst, ◌∙◌, arith}
+use Rattle.std.proofs.Common.{◌≡◌, ℕ, ◌+◌, ◌<◌, ◌≤◌, ⊎_elim, List, [], ◌∷◌, ◌++◌, length, length-append, slice_get, slice_index, Some, sym, ap, subst, ◌∙◌, arith}
 use Rattle.std.proofs.lemmas.Bool.{cases_lt}
-use Rattle.std.proofs.lemmas.Option.{slice_get_within, same_Some, none-some, get_or_from_slice_get, slice_get-get_or}
+use Rattle.std.proofs.lemmas.Option.{slice_get_within, same_Some, get_or_from_slice_get, slice_get-get_or}
 use Rattle.ms_arena.specs.Target.{Extends}
 use Rattle.ms_arena.proofs.Appending.{Extends-same, slice_get-extends}
 use Rattle.ms_arena.proofs.Lists.{slice_get-held, slice_get-push, slice_get-pushed}
-use Rattle.ms_diagram.specs.Numbering.{IsMissing, IsNumbering, Numbers}
+use Rattle.ms_diagram.specs.Numbering.{IsMissing}
 use Rattle.ms_minim.specs.Partition.{HaveOneClass, IsInhabited}
-use Rattle.ms_minim.specs.Split.{IsPlaced, key_of, AreKeyed, HaveBegun, BeginsWith, AreSplit, IsSplit}
+use Rattle.ms_minim.specs.Split.{IsPlaced, key_of, AreKeyed, HaveBegun, AreSplit, IsSplit}
 
 -- a key that got a number
-module _ (keys : List (ℕ × ℕ)) (members : List ℕ) (equal : length keys ≡ length members) (late_keys : List (ℕ × ℕ)) (key : ℕ × ℕ) (state number : ℕ)
-    (number_is : slice_get late_keys number ≡ Some key) (numbers : Numbers keys late_keys key) (numbering : IsNumbering late_keys) where
-  -- where the number is that of the next member, the key was new
-  pub IsPlaced-new : number ≡ length members → IsPlaced keys members late_keys (members ++ state ∷ []) key state number
-  IsPlaced-new last = record {
-    number_is = number_is;
-    added = ⊎_elim
-        (λ same.
-        let within : number < length keys = slice_get_within keys number key (ap (λ list. slice_get list number) (sym same) ∙ number_is) in
-        absurd (omega (arith, within, last, equal)))
-        (λ added. inr (added.0, added.1, refl)) numbers;
-    numbering = numbering;
-  }
-
-  -- and else it had its number
-  pub IsPlaced-old : (number ≡ length members → ⊥) → IsPlaced keys members late_keys members key state number
-  IsPlaced-old other = record {
-    number_is = number_is;
-    added = ⊎_elim
-        (λ same. inl (same, refl))
-        (λ added. absurd (⊎_elim
-        (λ before. added.0 number before)
-        (λ last. other (last.0 ∙ equal))
-        (slice_get-pushed keys key number key (ap (λ list. slice_get list number) (sym added.1) ∙ number_is)))) numbers;
-    numbering = numbering;
-  }
-
 module _ (keys : List (ℕ × ℕ)) (members : List ℕ) (late_keys : List (ℕ × ℕ)) (late_members : List ℕ) (key : ℕ × ℕ) (state number : ℕ)
     (placed : IsPlaced keys members late_keys late_members key state number) where
   pub Extends-placed : Extends keys late_keys
@@ -73,19 +46,6 @@ module _ (keys : List (ℕ × ℕ)) (members : List ℕ) (late_keys : List (ℕ 
         (slice_get-pushed members state class other (ap (λ list. slice_get list class) (sym added.2) ∙ held)))
         placed.added;
   }
-
--- nothing has a number yet
-pub HaveBegun-none : (classes members marks : List ℕ) (keys : List (ℕ × ℕ)) (made_members : List ℕ) → keys ≡ [] → made_members ≡ [] → IsNumbering keys
-    → HaveBegun classes members marks keys made_members 0
-HaveBegun-none classes members marks keys made_members no_keys no_members numbering = record {
-  keyed = record {
-    numbering = numbering;
-    equal = ap length no_keys ∙ ap length (sym no_members);
-    keyed = λ class state held. absurd (none-some state (ap (λ (list : List ℕ). slice_get list class) (sym no_members) ∙ held));
-  };
-  count = omega arith;
-  old = λ class less. absurd (omega (arith, less));
-}
 
 module _ (classes members marks : List ℕ) (inhabited : IsInhabited classes members) where
   key_of_member : (class state : ℕ) → slice_get members class ≡ Some state → key_of classes marks state ≡ (class, slice_index marks state)
@@ -134,14 +94,6 @@ module _ (classes members marks : List ℕ) (inhabited : IsInhabited classes mem
         },
         omega (arith, longer, count),
       )
-
--- no state has been split off yet
-pub AreSplit-none : (classes members marks : List ℕ) (keys : List (ℕ × ℕ)) (made_members made : List ℕ) → made ≡ [] → BeginsWith classes members marks keys made_members
-    → AreSplit classes members marks keys made_members made
-AreSplit-none classes members marks keys made_members made none begun = record {
-  begun = begun;
-  numbered = λ state number held. absurd (none-some number (ap (λ (list : List ℕ). slice_get list state) (sym none) ∙ held));
-}
 
 -- one state more
 pub AreSplit-more : (classes members marks : List ℕ) (keys : List (ℕ × ℕ)) (made_members made : List ℕ) (state number : ℕ) → AreSplit classes members marks keys made_members made

@@ -11,4 +11,5 @@ pub mod Lead
 pub mod Reading
 pub mod Reduced
 pub mod Later
+pub mod Discrete
 pub mod Examples

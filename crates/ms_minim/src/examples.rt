@@ -6,6 +6,7 @@ ghost use Rattle.ms_minim.specs.declared.origins.Origins.{Origins};
 ghost use Rattle.ms_minim.specs.declared.reading.Reading.TheVariants.{AsInFiles, AsTheyAre};
 ghost use Rattle.ms_minim.specs.Reading.{read_sign};
 ghost use Rattle.ms_minim.specs.Examples.{AreNoted, one_image, one_node, one_state, three_states, two_nodes, with_unreached};
+ghost use Rattle.ms_minim.specs.Discrete.{AreOwnImages};
 ghost use Rattle.ms_minim.specs.Image.{AreImages, IsImage, image_of};
 ghost use Rattle.ms_minim.specs.Origin.{AreClosed, AreOrigins, ComesFrom, nowhere};
 
@@ -84,4 +85,12 @@ pub fn worked_are_images()
     ensures unreached { AreImages three_states.nodes (0 ∷ 1 ∷ 1 ∷ []) (nowhere ∷ []) (one_image [] (Leaf 0)) }
     ensures other { ¬ AreImages three_states.nodes (0 ∷ 1 ∷ 1 ∷ []) (1 ∷ []) (one_image [] (Leaf 0)) }
     ensures equal_ends { ¬ AreImages three_states.nodes (3 ∷ 3 ∷ 0 ∷ []) (1 ∷ []) (one_image (one_node 0 3 3) (Inner 0)) }
+{}
+
+/// The nodes as they are, one after the other.
+pub fn worked_are_own_images()
+    ensures none { AreOwnImages 0 [] }
+    ensures own { AreOwnImages 2 (Inner 0 ∷ Inner 1 ∷ []) }
+    ensures turned_round { ¬ AreOwnImages 2 (Inner 1 ∷ Inner 0 ∷ []) }
+    ensures too_few { ¬ AreOwnImages 2 (Inner 0 ∷ []) }
 {}

@@ -2,6 +2,7 @@
 #![tactic(auto)]
 
 mod classes;
+mod discrete;
 mod due;
 mod examples;
 mod fewest;
@@ -22,8 +23,9 @@ mod splitters;
 mod splitting;
 
 pub use examples::{
-    worked_are_closed, worked_are_images, worked_are_origins, worked_comes_from, worked_fewest,
-    worked_image_of, worked_is_image, worked_readings, worked_residuals,
+    worked_are_closed, worked_are_images, worked_are_origins, worked_are_own_images,
+    worked_comes_from, worked_fewest, worked_image_of, worked_is_image, worked_readings,
+    worked_residuals,
 };
 pub use fewest::minimise;
 pub use reading::Reading;

@@ -131,3 +131,15 @@ pub(crate) fn reach_all(origins: &Origins) -> bool
     }
     true
 }
+
+/// Whether each node is reached from somewhere.
+pub(crate) fn reach_nodes(origins: &Origins) -> bool
+    ensures { IsTrue result → (place : ℕ) → place < length origins.now.nodes.items → slice_index origins.now.nodes.items place < nowhere }
+{
+    for place in 0..origins.nodes.len() {
+        if !is_seen(origins.nodes[place]) {
+            return false;
+        }
+    }
+    true
+}

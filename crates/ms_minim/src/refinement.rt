@@ -1,12 +1,13 @@
-ghost use Rattle.std.specs.Prelude.{◌≡◌, ◌≤◌, ◌<◌, ℕ, length, slice_get, IfOk};
+ghost use Rattle.std.specs.Prelude.{◌≡◌, ◌≤◌, ◌<◌, ℕ, length, slice_get, IfOk, IsTrue};
 ghost use Rattle.ms_minim.specs.Image.{AreImages};
 ghost use Rattle.ms_minim.specs.Origin.{AreOrigins};
 ghost use Rattle.ms_minim.specs.Partition.{IsIdentity, IsPartition, IsPassed, AreNerodeClasses, IsInhabited};
 
 use crate::classes::Partition;
+use crate::discrete::{own_classes, own_images};
 use crate::images::{Images, Reached, images_of};
 use crate::marking::{marks, sign_marks};
-use crate::origins::Origins;
+use crate::origins::{Origins, reach_all, reach_nodes};
 use crate::reading::Reader;
 use crate::rounds::group;
 use crate::splitting::split;
@@ -106,6 +107,37 @@ fn regrouped(
     Ok(finer)
 }
 
+/// Whether each state has a class of its own, and words lead to all of them and to all nodes, so that nothing falls together and
+/// nothing falls away.
+fn is_discrete(automaton: &Reader, origins: &Origins, partition: &Partition) -> bool
+    ensures { IsTrue result → length partition.now.members ≡ length automaton.now.states }
+{
+    partition.members.len() == automaton.states() as usize
+        && reach_all(origins)
+        && reach_nodes(origins)
+}
+
+/// The states and the nodes as they are, where each state has a class of its own.
+fn own_residuals(
+    alloc: Global,
+    automaton: &Reader,
+    origins: &Origins,
+    partition: &Partition,
+) -> Result<Residuals, NoMemory>
+    requires origins { AreOrigins automaton.now origins.now }
+    requires partition { IsPartition automaton.now partition.now.classes partition.now.members }
+    requires own { length partition.now.members ≡ length automaton.now.states }
+    ensures classes { IfOk result (λ made. AreNerodeClasses automaton.now made.partition.classes made.partition.members) }
+    ensures images { IfOk result (λ made. AreImages automaton.now.nodes made.partition.classes origins.now.nodes.items made.images) }
+    ensures few { IfOk result (λ made. length made.images.store.nodes ≤ length automaton.now.nodes) }
+{
+    let partition = own_classes(alloc, automaton.states())?;
+    let images = own_images(alloc, automaton.store())?;
+    // The length tells that the nodes are those of a store.
+    let _ = images.store.len();
+    Ok(Residuals { partition, images })
+}
+
 /// The states by their residuals.
 pub(crate) fn refine(
     alloc: Global,
@@ -122,6 +154,9 @@ pub(crate) fn refine(
     let mut partition = by_signs(alloc, automaton)?;
     let mut passes: u32 = 0;
     loop {
+        if is_discrete(automaton, origins, &partition) {
+            return own_residuals(alloc, automaton, origins, &partition);
+        }
         let Pass { images, finer } = split_once(alloc, automaton, origins, &partition)?;
         if finer.members.len() == partition.members.len() {
             return Ok(Residuals { partition, images });

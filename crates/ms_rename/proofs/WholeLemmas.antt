@@ -28,7 +28,6 @@ use Rattle.ms_theory.proofs.EncodingLemmas.{shortest}
 use Rattle.ms_theory.proofs.FunctionLemmas.{TestsOnly-leaf}
 use Rattle.ms_explore.specs.Tracks.{IsAmong, distinct, joined}
 use Rattle.ms_explore.proofs.TracksLemmas.{joined-right}
-use Rattle.ms_basic.specs.Operands.{number}
 use Rattle.ms_basic.specs.States.{states_of}
 use Rattle.ms_basic.proofs.DistinctLemmas.{IsAssignment-some}
 use Rattle.ms_product.specs.declared.op.Op.TheVariants.{And}
@@ -137,15 +136,6 @@ distinct-twice v =
     without : ℕ → List Variable → List Variable
     without name [] = []
     without name (w ∷ ws) = if nat_eq w.name name then ws else w ∷ ws
-
-pub IsWhole-number : (x : ℕ) (made : Content Sign) → made.variables ≡ distinct (number x ∷ number x ∷ []) → HasValues (core_meaning [] (basic (Plus x x 0))) made → IsWhole (number x ∷ []) made
-IsWhole-number x made variables values = record {
-  variables = variables ∙ distinct-twice (number x);
-  values = record {
-    right = λ word e assigned encodes. (let found = values.right word e assigned encodes in (found.0, found.1, plus_right e x found.0 found.2));
-    outside = values.outside;
-  };
-}
 
 pub few_states : (x limit : ℕ) → limit < 8 * (states_of (Plus x x 0) + 1) → limit < 32
 few_states x limit less =
