@@ -1,5 +1,5 @@
 -- The two diagrams of the worked examples.
-use Rattle.std.proofs.Common.{◌≡◌, ◌≢◌, ℕ, zero, suc, Bool, true, false, if◌then◌else◌, refl, sym, ap, ◌∙◌, arith}
+use Rattle.std.proofs.Common.{◌≡◌, ◌≢◌, ℕ, zero, suc, slice_get, Some, Bool, true, false, if◌then◌else◌, refl, sym, ap, ◌∙◌, arith}
 use Rattle.std.proofs.lemmas.Option.{same_Some, none-some}
 use Rattle.ms_arena.specs.declared.node.Node.{Node}
 use Rattle.ms_arena.specs.declared.node.Ref.{Ref}
@@ -27,6 +27,11 @@ never_two bits is = by (bits 0) (sym (own_bit-leaf bits) ∙ is)
     by : (bit : Bool) → leaf bit ≡ 2 → ⊥
     by true same = omega (arith, same)
     by false same = omega (arith, same)
+
+-- there is no other node
+pub own_node : (place : ℕ) (node : Node) → slice_get own_bit place ≡ Some node → record { var = 0; low = Leaf 0; high = Leaf 1 } ≡ node
+own_node zero node held = same_Some (record { var = 0; low = Leaf 0; high = Leaf 1 }) node held
+own_node (suc place) node held = absurd (none-some node held)
 
 -- no other variable is tested
 pub tests_first : (root : Ref) (var : ℕ) → IsTested own_bit root var → var ≡ 0

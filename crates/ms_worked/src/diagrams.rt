@@ -1,6 +1,7 @@
-ghost use Rattle.std.specs.Prelude.{◌≡◌, [], ◌∷◌};
+ghost use Rattle.std.specs.Prelude.{◌≡◌, [], ◌∷◌, false, true};
 ghost use Rattle.ms_arena.specs.declared.node.Ref.TheVariants.{Inner, Leaf};
-ghost use Rattle.ms_diagram.specs.Across.{AreOn, HasLeavesAcross, IsOn, LacksAcross, NumberAcross, leaves_across};
+ghost use Rattle.ms_diagram.specs.Across.{AreOn, HasLeavesAcross, IsHalf, IsOn, LacksAcross, NumberAcross, leaves_across};
+ghost use Rattle.ms_diagram.specs.Store.{IsNewest};
 ghost use Rattle.ms_diagram.specs.Short.{AreShort, IsLong, short_entries};
 ghost use Rattle.ms_worked.specs.WorkedDiagrams.{both_roots, crossed, only, without_map};
 
@@ -31,4 +32,20 @@ pub fn worked_codes()
     ensures long_node { IsLong (Inner 2147483648, Leaf 0) }
     ensures long_leaf { IsLong (Inner 0, Leaf 2147483648) }
     ensures short_pair { ¬ IsLong (Inner 2147483647, Leaf 2147483647) }
+{}
+
+/// What is left of each diagram once variable 0 has a bit: the right one reads it, and the left one reads variable 1 alone.
+pub fn worked_halves()
+    ensures low_end { IsHalf crossed.right 0 false (Inner 0) (Leaf 0) }
+    ensures high_end { IsHalf crossed.right 0 true (Inner 0) (Leaf 1) }
+    ensures other_end { ¬ IsHalf crossed.right 0 true (Inner 0) (Leaf 0) }
+    ensures as_it_is { IsHalf crossed.left 0 true (Inner 0) (Inner 0) }
+    ensures too_late { ¬ IsHalf crossed.left 1 true (Inner 0) (Inner 0) }
+{}
+
+/// The node at the last of three places.
+pub fn worked_newest()
+    ensures last { IsNewest 3 (Inner 2) }
+    ensures earlier { ¬ IsNewest 3 (Inner 1) }
+    ensures leaf { ¬ IsNewest 3 (Leaf 2) }
 {}

@@ -13,7 +13,7 @@ mod words;
 pub use budgets::worked_limits;
 pub use calls::worked_restrictions;
 pub use contents::{worked_not_canonical, worked_words_over};
-pub use diagrams::{worked_codes, worked_sides};
+pub use diagrams::{worked_codes, worked_halves, worked_newest, worked_sides};
 pub use full::{worked_full_contents, worked_only_contents};
 pub use measures::{worked_files, worked_renamings, worked_restricted_quantifier};
 pub use values::{worked_covers, worked_values};
