@@ -22,7 +22,8 @@ use Rattle.ms_accepted.proofs.Accepting.{accepted}
 use Rattle.ms_accepted.proofs.Alike.{imports-alike, problems-alike}
 use Rattle.ms_accepted.proofs.Pieces.{tokens_from}
 use Rattle.ms_accepted.proofs.Loading.{document-read, tokens-are}
-use Rattle.ms_accepted.proofs.Shown.{items-shown, shown_declared}
+use Rattle.ms_syntax.specs.Shown.{shown_declared}
+use Rattle.ms_syntax.proofs.ShownLemmas.{items-shown}
 use Rattle.ms_accepted.proofs.Source.{source}
 use Rattle.ms_accepted.proofs.Spelling.{pieces}
 use Rattle.ms_accepted.proofs.Validity.{valid}

@@ -10,7 +10,6 @@ pub mod Names
 pub mod Pieces
 pub mod Reading
 pub mod Seen
-pub mod Shown
 pub mod Source
 pub mod Spelling
 pub mod Typing

@@ -6,6 +6,9 @@ use ms_edge::{List, NoMemory, push};
 use ms_logic::{Basic, Order, Quant};
 use std::alloc::Global;
 
+/// How many words there is room for from the first, which is enough for most nodes.
+const ROOM: usize = 16;
+
 fn order_word(order: Order) -> u64
     ensures { result ≡ word_of_order order }
 {
@@ -170,7 +173,10 @@ fn add_node(words: &mut List<u64>, node: &DagNode) -> Result<(), NoMemory>
 pub(crate) fn words_of(alloc: Global, entry: &Entry) -> Result<List<u64>, NoMemory>
     ensures { IfOk result (λ words. words ≡ words_of_entry entry.now) }
 {
-    let mut words = List::new(alloc);
+    let Ok(room) = Vec::with_capacity(alloc, ROOM) else {
+        return Err(NoMemory);
+    };
+    let mut words = List::from(room);
     add_orders(&mut words, entry.orders.slice())?;
     add_node(&mut words, &entry.node)?;
     Ok(words)

@@ -35,10 +35,20 @@ pub fn implies(
     Ok(on_heap(alloc, core)?)
 }
 
+/// A list with nothing in it, which has room for so many items.
+pub fn with_room<T>(alloc: Global, count: usize) -> Result<List<T>, NoMemory>
+    ensures { IfOk result (λ list. list ≡ []) }
+{
+    match Vec::with_capacity(alloc, count) {
+        Ok(items) => Ok(List::from(items)),
+        Err(_) => Err(NoMemory),
+    }
+}
+
 fn two<T: Drop>(alloc: Global, first: Boxed<T>, second: Boxed<T>) -> Result<List<T>, NoMemory>
     ensures { IfOk result (λ list. list ≡ first ∷ second ∷ []) }
 {
-    let mut list = List::new(alloc);
+    let mut list = with_room(alloc, 2)?;
     push(&mut list, first.into_inner())?;
     push(&mut list, second.into_inner())?;
     Ok(list)

@@ -11,7 +11,7 @@ ghost use Rattle.std.specs.Prelude.{◌≡◌, length, map, take, IfOk, OnOk};
 
 use crate::arguments::Arguments;
 use crate::atoms::of_one;
-use crate::cores::{Bound, implies, not, quantify, relation};
+use crate::cores::{Bound, implies, not, quantify, relation, with_room};
 use crate::defined::{Defined, fresh};
 use crate::given::{Entered, enter_all, number_arguments, over_all, with_value};
 use crate::pairs::{
@@ -147,7 +147,7 @@ fn each(
         (spread_each (callees_in tables.now) (forms (map formula_of operands.now)) (names_in scope.old) free)) }
     ensures scope { OnOk result (scope.new ≡ scope.old) }
 {
-    let mut cores = List::new(tables.alloc);
+    let mut cores = with_room(tables.alloc, operands.len())?;
     for operand in operands {
         let core = formula(tables, scope, operand, free, depth)?;
         push(&mut cores, core.into_inner())?;
@@ -219,6 +219,9 @@ fn called(
     let before = tables.before(predicate);
     let mut cores = restrictions(&before, scope, known.params.slice(), free, depth)?;
     let body = formula(&before, scope, &known.body, free, depth)?;
+    if cores.is_empty() {
+        return Ok(body);
+    }
     push(&mut cores, body.into_inner())?;
     conjunction(tables.alloc, cores)
 }

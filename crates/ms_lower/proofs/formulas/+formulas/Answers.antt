@@ -1,8 +1,8 @@
-use Rattle.std.proofs.Common.{◌+◌, ◌++◌, ◌∷◌, [], Some, map, sym, ap, subst, ◌∙◌, arith}
+use Rattle.std.proofs.Common.{◌+◌, ◌++◌, ◌∷◌, [], Some, map, refl, sym, ap, subst, ◌∙◌, arith}
 use Rattle.std.proofs.lemmas.Result.{IfOk-weaker}
 use Rattle.ms_logic.specs.View.{argument_of, arguments, declaration_of, formula_of, predicate_of}
 use Rattle.ms_logic.specs.CoreForm.{core_form_of, restrict}
-use Rattle.ms_logic.specs.Spread.{restrictions_of, spread_under, truth_value, truth_values}
+use Rattle.ms_logic.specs.Spread.{conjunction_of, restrictions_of, spread_under, truth_value, truth_values}
 use Rattle.ms_logic.specs.declared.mode.Order.TheVariants.{Zero}
 use Rattle.ms_lower.specs.Callees.{callees_in, spread_in}
 use Rattle.ms_lower.specs.Given.{IsGiven, IsTruth, below_all, values_of, variables_of}
@@ -125,6 +125,22 @@ called-returns-in-None-clause-core t c =
     let T = c.args.tables.now in
     let nowhere = callee_nowhere T c.args.predicate c.in-None.ensures in
     IfOk-weaker c.restricted.result _ _ (λ core is. is ∙ (ap restrict c.in_ok-constant-in-None.ensures ∙ ap (λ b. renumbered (numbering_of T) (b (names_in c.args.scope.now) c.args.free)) (sym nowhere.body))) c.restricted.ensures
+
+-- without restrictions the body stands alone
+pub called-returns-then-is_empty-clause-core : goal.called-returns-then-is_empty-clause-core
+called-returns-then-is_empty-clause-core t c =
+    let T = c.args.tables.now in
+    let B = c.before-before.result in
+    let same = c.before-before.ensures in
+    let known = c.in-Some.known.now in
+    let names = names_in c.args.scope.now in
+    let body = c.in_ok-body.body in
+    let none = c.is_empty.ensures.0 c.if-is_empty.true in
+    ap (λ l. conjunction_of (map core_form_of (l ++ body ∷ []))) (sym none)
+    ∙ called_lowered (numbering_of T) (numbering_of B) (callees_in T) _ (callees_in B) c.args.predicate (predicate_of known) names c.args.free c.in_ok-cores.cores (c.in_ok-cores.cores ++ body ∷ []) body
+    (callee_at T c.args.predicate known c.in-Some.ensures) (before_same T B c.args.predicate same.predicates same.imports) (numbering_same T B same.kept same.globals same.imports)
+    (c.in_ok-cores.ensures.cores ∙ ap (λ ps. map (renumbered (numbering_of B)) (restrictions_of (callees_in B) (map declaration_of ps) names c.args.free)) c.slice.ensures)
+    (c.in_ok-body.ensures.core ∙ ap (λ s. spread_in B (formula_of known.body) (names_in s) c.args.free) c.in_ok-cores.ensures.scope) refl
 
 pub called-returns-clause-core : goal.called-returns-clause-core
 called-returns-clause-core t c =

@@ -1,4 +1,4 @@
--- The tree of the rules from that of the grammar: a source has one where it has the other.
+-- The tree of the rules of the code is that of the tree of the grammar of the code.
 use Rattle.std.proofs.Common.{◌≡◌, List, [], ◌∷◌, map, Option, Some, None, refl, sym, ap, ◌∙◌, subst}
 use Rattle.ms_edge.specs.declared.at.At.{At}
 use Rattle.ms_logic.specs.declared.source.Bound.{Bound, roll-Bound, map-Bound}
@@ -10,101 +10,11 @@ use Rattle.ms_logic.specs.declared.source.Form.TheFolds.{ind-Expr, ind-Bound, fo
 use Rattle.ms_logic.specs.declared.source.Form.TheOpen.{Bound-F, Expr-F, Form-F, LetPart-F}
 use Rattle.ms_logic.specs.declared.source.Item.{Item}
 use Rattle.ms_logic.specs.declared.source.LetPart.{LetPart, roll-LetPart, map-LetPart}
-use Rattle.ms_grammar.specs.declared.operator.Binary.{Binary}
-use Rattle.ms_grammar.specs.declared.operator.Binary.TheVariants.{Implication, Equivalence, Relation, Union, Intersection, Difference}
-use Rattle.ms_grammar.specs.declared.operator.Bracket.{Bracket}
-use Rattle.ms_grammar.specs.declared.operator.Bracket.TheVariants.{Parentheses, Emptiness, Restriction, Export}
-use Rattle.ms_grammar.specs.declared.operator.Junction.{Junction}
-use Rattle.ms_grammar.specs.declared.operator.Junction.TheVariants.{Conjunction, Disjunction}
-use Rattle.ms_grammar.specs.declared.operator.Listing.{Listing}
-use Rattle.ms_grammar.specs.declared.operator.Listing.TheVariants.{Literal, Call}
-use Rattle.ms_grammar.specs.declared.operator.Prefix.{Prefix}
-use Rattle.ms_grammar.specs.declared.operator.Prefix.TheVariants.{Negation, Minimum, Maximum}
 use Rattle.ms_grammar.specs.Tree as read
 use Rattle.ms_grammar.specs.View as read_view
 use Rattle.ms_rules.specs.Syntax as syntax
 use Rattle.ms_rules.specs.View as view
-
--- one level
-
-abbrev shown_atom : At → read.Atom → syntax.Expression
-shown_atom at read.truth = syntax.truth at
-shown_atom at read.falsity = syntax.falsity at
-shown_atom at read.whole = syntax.whole at
-shown_atom at read.empty_set = syntax.empty_set at
-shown_atom at (read.named n) = syntax.name at n
-shown_atom at (read.numeral n) = syntax.number at n
-shown_atom at (read.pconst n) = syntax.pconst at n
-shown_atom at (read.imported file pairs) = syntax.imported at file pairs
-
-abbrev shown_prefix : At → Prefix → syntax.Expression → syntax.Expression
-shown_prefix at Negation e = syntax.negation at e
-shown_prefix at Minimum e = syntax.minimum at e
-shown_prefix at Maximum e = syntax.maximum at e
-
-abbrev shown_binary : At → Binary → syntax.Expression → syntax.Expression → syntax.Expression
-shown_binary at Implication l r = syntax.implication at l r
-shown_binary at Equivalence l r = syntax.equivalence at l r
-shown_binary at (Relation k) l r = syntax.relation at k l r
-shown_binary at Union l r = syntax.union at l r
-shown_binary at Intersection l r = syntax.intersection at l r
-shown_binary at Difference l r = syntax.difference at l r
-
-abbrev shown_junction : At → Junction → syntax.Expressions → syntax.Expression
-shown_junction at Conjunction es = syntax.conjunction at es
-shown_junction at Disjunction es = syntax.disjunction at es
-
-abbrev shown_bracket : At → Bracket → syntax.Expression → syntax.Expression
-shown_bracket at Parentheses e = syntax.brackets at e
-shown_bracket at Emptiness e = syntax.emptiness at e
-shown_bracket at Restriction e = syntax.restrict at e
-shown_bracket at (Export text_at file) e = syntax.exported at text_at file e
-
-abbrev shown_listing : At → Listing → syntax.Expressions → syntax.Expression
-shown_listing at Literal es = syntax.literal at es
-shown_listing at (Call p) es = syntax.call at p es
-
--- the tree of the rules; lists are built up from their ends
-abbrev mutual
-  pub shown : read.Expression → syntax.Expression
-  shown (read.atom at a) = shown_atom at a
-  shown (read.prefixed at op e) = shown_prefix at op (shown e)
-  shown (read.binary at op l r) = shown_binary at op (shown l) (shown r)
-  shown (read.joined at op es) = shown_junction at op (shown_all es syntax.no_expressions)
-  shown (read.shifted at e n) = syntax.shift at (shown e) n
-  shown (read.enclosed at b e) = shown_bracket at b (shown e)
-  shown (read.listed at l es) = shown_listing at l (shown_all es syntax.no_expressions)
-  shown (read.quantified at q o vs e) = syntax.quantified at q (shown_bounds vs syntax.no_bounds) (shown e)
-  shown (read.let_in at o ps e) = syntax.where_let at o (shown_parts ps syntax.no_parts) (shown e)
-
-  shown_all : read.Expressions → syntax.Expressions → syntax.Expressions
-  shown_all read.no_expressions later = later
-  shown_all (read.and_expression before e) later = shown_all before (syntax.more_expressions (shown e) later)
-
-  pub shown_bounds : read.Variables → syntax.Bounds → syntax.Bounds
-  shown_bounds read.no_variables later = later
-  shown_bounds (read.and_variable before at o n d) later = shown_bounds before (syntax.more_bounds at o n (shown_domain d) later)
-
-  shown_domain : read.Domain → syntax.Domain
-  shown_domain read.unrestricted = syntax.unrestricted
-  shown_domain (read.restricted e) = syntax.restricted (shown e)
-
-  shown_parts : read.Parts → syntax.Parts → syntax.Parts
-  shown_parts read.no_parts later = later
-  shown_parts (read.and_part before at n e) later = shown_parts before (syntax.more_parts at n (shown e) later)
-
-abbrev pub shown_declaration : read.Declaration → syntax.Declaration
-shown_declaration (read.variables vs) = syntax.globals (shown_bounds vs syntax.no_bounds)
-shown_declaration (read.constant at n is) = syntax.constant at n is
-shown_declaration (read.predicate is_pred at n vs e) = syntax.predicate at n (shown_bounds vs syntax.no_bounds) (shown e)
-shown_declaration (read.included at file) = syntax.include
-shown_declaration (read.default_restriction o n e) = syntax.default o n (shown e)
-shown_declaration (read.formula e) = syntax.formula (shown e)
-
-abbrev pub shown_declared : read.Declared → syntax.Placed
-shown_declared d = record { at = d.at; declaration = shown_declaration d.declaration }
-
--- it is that of the code
+use Rattle.ms_syntax.specs.Shown.{shown, shown_all, shown_bounds, shown_domain, shown_parts, shown_declaration, shown_declared}
 
 abbrev placed_form : Form → At → syntax.Expression
 placed_form f = fold-Form (At → syntax.Expression) view.OneBound syntax.Expression view.OnePart view.form_at view.bound_at view.expression_at view.part_at f
@@ -246,26 +156,30 @@ keeps-expression x y is = subst (λ z. KeepsExpression (roll-Expr z)) is (expres
 keeps-part : (x : LetPart-F Form Bound Expr LetPart) (y : LetPart-F FormHere BoundHere ExpressionHere PartHere) → part_in y ≡ x → KeepsPart (roll-LetPart x)
 keeps-part x y is = subst (λ z. KeepsPart (roll-LetPart z)) is (part-here y)
 
-expression-placed : (e : Expr) → KeepsExpression e
-expression-placed e = ind-Expr KeepsForm KeepsBound KeepsExpression KeepsPart keeps-form keeps-bound keeps-expression keeps-part e
+pub expression-shown : (e : Expr) → KeepsExpression e
+expression-shown e = ind-Expr KeepsForm KeepsBound KeepsExpression KeepsPart keeps-form keeps-bound keeps-expression keeps-part e
 
-bound-placed : (v : Bound) → KeepsBound v
-bound-placed v = ind-Bound KeepsForm KeepsBound KeepsExpression KeepsPart keeps-form keeps-bound keeps-expression keeps-part v
+bound-shown : (v : Bound) → KeepsBound v
+bound-shown v = ind-Bound KeepsForm KeepsBound KeepsExpression KeepsPart keeps-form keeps-bound keeps-expression keeps-part v
 
 variables-kept : (before : read.Variables) (vs : List Bound) → shown_bounds (read_view.variables_behind before (map read_view.variable_of vs)) syntax.no_bounds ≡ shown_bounds before (view.bounds_of vs)
 variables-kept before [] = refl
 variables-kept before (v ∷ vs) =
     let w = read_view.variable_of v in
     variables-kept (read.and_variable before w.at w.order w.name w.domain) vs
-    ∙ ap (λ (u : view.OneBound). shown_bounds before (syntax.more_bounds u.at u.order u.name u.domain (view.bounds_of vs))) (bound-placed v)
+    ∙ ap (λ (u : view.OneBound). shown_bounds before (syntax.more_bounds u.at u.order u.name u.domain (view.bounds_of vs))) (bound-shown v)
+
+-- a list of variables
+pub variables-shown : (vs : List Bound) → shown_bounds (read_view.variables_of vs) syntax.no_bounds ≡ view.bounds_of vs
+variables-shown vs = variables-kept read.no_variables vs
 
 declaration-kept : (d : Decl) → shown_declaration (read_view.declaration_of d) ≡ view.declaration_of d
-declaration-kept (declared.Vars vs) = ap syntax.globals (variables-kept read.no_variables vs)
+declaration-kept (declared.Vars vs) = ap syntax.globals (variables-shown vs)
 declaration-kept (declared.Const at n is) = refl
-declaration-kept (declared.Pred is_pred at n vs e) = λ i. syntax.predicate at n (variables-kept read.no_variables vs i) (expression-placed e i)
+declaration-kept (declared.Pred is_pred at n vs e) = λ i. syntax.predicate at n (variables-shown vs i) (expression-shown e i)
 declaration-kept (declared.Include at file) = refl
-declaration-kept (declared.Default o n e) = ap (syntax.default o n) (expression-placed e)
-declaration-kept (declared.Formula e) = ap syntax.formula (expression-placed e)
+declaration-kept (declared.Default o n e) = ap (syntax.default o n) (expression-shown e)
+declaration-kept (declared.Formula e) = ap syntax.formula (expression-shown e)
 
 pub items-shown : (items : List Item) → map shown_declared (map read_view.declared_of items) ≡ map view.placed_of items
 items-shown [] = refl
