@@ -1,35 +1,42 @@
-ghost use Rattle.std.specs.Prelude.{◌≡◌, ◌<◌};
-ghost use Rattle.ms_unique.specs.Bucket.{bucket_of, hash_of};
+ghost use Rattle.std.specs.Prelude.{◌≡◌, ◌<◌, ◌^◌};
+ghost use Rattle.ms_unique.specs.Bucket.{bucket_of, hash_of, position_of};
 
-use crate::code::code;
-use ms_arena::Node;
+use ms_arena::{Node, Ref};
 
-// Odd numbers whose bits look random: the first bits of the golden ratio, and constants of SplitMix64 and Murmur3.
-const VAR_FACTOR: u64 = 0x9E37_79B9_7F4A_7C15;
+// An odd number whose bits look random: the first bits of the golden ratio.
+const LEAF_FACTOR: u64 = 0x9E37_79B9_7F4A_7C15;
 
-const LOW_FACTOR: u64 = 0xBF58_476D_1CE4_E5B9;
+// How far apart the buckets are of nodes whose ends lie side by side.
+const LOW_STEP: u64 = 7;
 
-const HIGH_FACTOR: u64 = 0x94D0_49BB_1331_11EB;
-
-const LAST_FACTOR: u64 = 0xFF51_AFD7_ED55_8CCD;
+const HIGH_STEP: u64 = 16;
 
 // Which of so many buckets the node is in. They are all in use where their number is a power of two.
+//
+// Nodes whose ends lie near each other are in buckets near each other: most nodes are made one after the other over ends that
+// were made one after the other, so their buckets are in the processor's cache. Leaves are scattered, since over few of them
+// there may be many nodes.
 pub(crate) fn bucket(node: Node, buckets: usize) -> usize
     requires { 0 < buckets }
     ensures value { result ≡ bucket_of buckets node }
     ensures within { result < buckets }
 {
-    (mix(node) >> 32) as usize & (buckets - 1)
+    hash(node) as usize & (buckets - 1)
 }
 
-fn mix(node: Node) -> u64
+fn hash(node: Node) -> u64
     ensures { result ≡ hash_of node }
 {
-    let ends = code(node.low)
-        .wrapping_mul(LOW_FACTOR)
-        .wrapping_add(code(node.high).wrapping_mul(HIGH_FACTOR));
-    let sum = u64::from(node.var)
-        .wrapping_mul(VAR_FACTOR)
-        .wrapping_add(ends);
-    (sum ^ (sum >> 32)).wrapping_mul(LAST_FACTOR)
+    LOW_STEP * position(node.low) + HIGH_STEP * position(node.high) + u64::from(node.var)
+}
+
+// The place of a node, or a number by which leaves are scattered.
+fn position(reference: Ref) -> u64
+    ensures value { result ≡ position_of reference }
+    ensures short { result < 2 ^ 32 }
+{
+    match reference {
+        Ref::Leaf(value) => u64::from(value).wrapping_mul(LEAF_FACTOR) >> 32,
+        Ref::Inner(place) => u64::from(place),
+    }
 }

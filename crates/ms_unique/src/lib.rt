@@ -9,4 +9,4 @@ mod examples;
 mod hash;
 
 pub use arena::Arena;
-pub use examples::{worked_cells, worked_codes};
+pub use examples::{worked_buckets, worked_cells, worked_codes};

@@ -1,6 +1,6 @@
 use Rattle.std.proofs.Common.{rules}
 use Rattle.ms_unique.specs.Bucket.{hash_of}
-use Rattle.ms_unique.proofs.hash.mix.Goals as goal
+use Rattle.ms_unique.proofs.hash.hash.Goals as goal
 
 pub returns : goal.returns
 unfolding hash_of
