@@ -13,8 +13,6 @@ use Rattle.ms_loads.proofs.Loads.{one_load}
 use Rattle.ms_loads.proofs.Typing.{one_globals}
 use Rattle.ms_app.specs.Comparison as comparisons
 use Rattle.ms_app.specs.Comparison.{AreParts, AreSolved, HaveSameGlobals, IsRefusedComparison, Taken}
-use Rattle.ms_imports.specs.Imports.{answers_by}
-use Rattle.ms_solve.specs.Limits.{HasFewParts}
 use Rattle.ms_app.specs.Source.{IsRefused, IsSolved, file_of}
 use Rattle.ms_app.proofs.Solvable.{IsWant, files_settle, solvable}
 
@@ -100,11 +98,11 @@ same_globals holding left right seen one two one' two' told are are' globals =
     joined one'.checked one.checked two'.checked (turned one.checked one'.checked first) (joined one.checked two.checked two'.checked globals second)
 
 pub comparable : (holding : Holding) (left right : List ℕ) (limit : ℕ) (seen : Seen) (one two : Taken) → seen.before.held ≡ Some holding → (Rose seen.before.faults seen.after.faults → ⊥) →
-    AreSolved left right seen one two → HasFewParts one.checked (answers_by one.checked.imports one.plains) → HasFewParts two.checked (answers_by two.checked.imports two.plains) → HaveSameGlobals one.checked two.checked → (refusal : Refusal) (files : List (List ℕ)) → IsRefusedComparison left right limit seen refusal files → IsWant limit refusal
-comparable holding left right limit seen one two told works are few_left few_right globals refusal files (comparisons.left_refused why) =
+    AreSolved left right seen one two → HaveSameGlobals one.checked two.checked → (refusal : Refusal) (files : List (List ℕ)) → IsRefusedComparison left right limit seen refusal files → IsWant limit refusal
+comparable holding left right limit seen one two told works are globals refusal files (comparisons.left_refused why) =
     let same : TellSame are.first seen = record { holding = holding; one_told = first_told holding seen are.first are.rest are.are_parts told; other_told = told } in
-    solvable (file_of are.first 0 left) (file_of seen 0 left) (files_settle are.first seen same works 0 left) None are.left_loaded one.checked one.plains are.is_left few_left limit refusal files why
-comparable holding left right limit seen one two told works are few_left few_right globals refusal files (comparisons.right_refused first rest are_parts loaded one' is_left read all why) =
+    solvable (file_of are.first 0 left) (file_of seen 0 left) (files_settle are.first seen same works 0 left) None are.left_loaded one.checked one.plains are.is_left limit refusal files why
+comparable holding left right limit seen one two told works are globals refusal files (comparisons.right_refused first rest are_parts loaded one' is_left read all why) =
     let left_same : are.left_loaded ≡ loaded = one_load are.first first (record {
       holding = holding;
       one_told = first_told holding seen are.first are.rest are.are_parts told;
@@ -117,8 +115,8 @@ comparable holding left right limit seen one two told works are few_left few_rig
     } in
     let base = length are.left_loaded.files in
     solvable (file_of are.rest base right) (file_of rest base right) (files_settle are.rest rest same (λ rose. works (rest_rose seen first rest are_parts rose)) base right)
-    None are.right_loaded two.checked two.plains are.is_right few_right limit refusal read (subst (λ (l : Loaded). IsRefused (file_of rest (length l.files) right) None limit refusal read) (sym left_same) why)
-comparable holding left right limit seen one two told works are few_left few_right globals refusal files (comparisons.not_comparable one' two' are' differ is) =
+    None are.right_loaded two.checked two.plains are.is_right limit refusal read (subst (λ (l : Loaded). IsRefused (file_of rest (length l.files) right) None limit refusal read) (sym left_same) why)
+comparable holding left right limit seen one two told works are globals refusal files (comparisons.not_comparable one' two' are' differ is) =
     absurd (differ (same_globals holding left right seen one two one' two' told are are' globals))
-comparable holding left right limit seen one two told works are few_left few_right globals refusal files (comparisons.lacks_nodes one' two' are' same step is) = inr (step, is)
-comparable holding left right limit seen one two told works are few_left few_right globals refusal files (comparisons.no_memory why) = inl why
+comparable holding left right limit seen one two told works are globals refusal files (comparisons.lacks_nodes one' two' are' same step is) = inr (step, is)
+comparable holding left right limit seen one two told works are globals refusal files (comparisons.no_memory why) = inl why

@@ -23,8 +23,8 @@ want : (command : Command) (before after : SinkTold) (seen : Seen) → CanBeDone
     IsRefusedFor command seen refusal files → IsWant (limit_of command) refusal
 want (Decide file out limit stats) before after seen can well refusal files why =
     solvable (file_of seen 0 file) (file_of seen 0 file) (files_settle seen seen (record { holding = well.holding; one_told = well.told; other_told = well.told }) well.works 0 file)
-    out can.0 can.1 can.2 can.3 can.4 limit refusal files why
-want (Same left right limit) before after seen can well refusal files why = comparable well.holding left right limit seen can.0 can.1 well.told well.works can.2 can.3 can.4 can.5 refusal files why
+    out can.0 can.1 can.2 can.3 limit refusal files why
+want (Same left right limit) before after seen can well refusal files why = comparable well.holding left right limit seen can.0 can.1 well.told well.works can.2 can.3 refusal files why
 want (Gen number false) before after seen can well refusal files (inl memory) = inl memory
 want (Gen number false) before after seen can well refusal files (inr none) = absurd (none.1 can)
 want (Gen number true) before after seen can well refusal files (inl memory) = inl memory

@@ -1,7 +1,5 @@
 -- What comes of a generated source.
-use Rattle.std.proofs.Common.{◌≡◌, ◌⊎◌, ◌+◌, ◌≤◌, inl, inr, ℕ, true, List, [], ◌∷◌, ◌++◌, length, map, slice_get, None, Some, refl, sym, ap, subst, ◌∙◌, arith}
-use Rattle.ms_core.specs.Subformulas.{subformulas}
-use Rattle.ms_handover.proofs.FewOfSources.{main_few}
+use Rattle.std.proofs.Common.{◌≡◌, ◌⊎◌, inl, inr, ℕ, true, List, [], ◌∷◌, ◌++◌, length, map, None, refl, sym, ap, subst, ◌∙◌}
 use Rattle.ms_imports.specs.Imports.{answers_by}
 use Rattle.ms_include.specs.Load.{IsLoadedText}
 use Rattle.ms_dfa.specs.declared.plain.Plain.{Plain}
@@ -13,8 +11,6 @@ use Rattle.ms_gen.specs.Generated.{IsNumber, generated}
 use Rattle.ms_logic.specs.declared.checked.ImportUse.{ImportUse}
 use Rattle.ms_logic.specs.declared.sign.Sign.{Sign}
 use Rattle.ms_logic.specs.Content.{Content}
-use Rattle.ms_logic.specs.Roots.{IsRoot, Root}
-use Rattle.ms_logic.specs.Size.{size_of_source}
 use Rattle.ms_logic.specs.Verdict.{IsValid, Problem}
 use Rattle.ms_logic.specs.View.{problem_of}
 use Rattle.ms_logic.specs.declared.checked.ExportUse.{ExportUse}
@@ -22,7 +18,7 @@ use Rattle.ms_logic.specs.declared.checked.Checked.{Checked}
 use Rattle.ms_logic.specs.declared.source.Loaded.{Loaded}
 use Rattle.ms_report.specs.declared.found.Found.{Found}
 use Rattle.ms_solve.specs.Imported.{AreAnswersOf, AreLentFor}
-use Rattle.ms_solve.specs.Limits.{HasFewParts, IsUnsolved, IsWithinLimits, subformulas_of_all}
+use Rattle.ms_solve.specs.Limits.{IsUnsolved, IsWithinLimits}
 use Rattle.ms_words.specs.Command.{node_limit}
 use Rattle.ms_app.specs.Answer.{IsNoNumber, generated_name}
 use Rattle.ms_app.specs.Counts.{HasStats}
@@ -54,25 +50,6 @@ solved number is =
       within = subst IsWithinLimits (alone_problem found.checked [] found.within.imports) (record { depth = found.within.depth; size = found.within.size });
     }
 
--- and has few parts, since it exports nothing
-one_root : (problem : Problem) (roots : List Root) → length roots ≡ 1 → ((k : ℕ) (root : Root) → slice_get roots k ≡ Some root → IsRoot problem k root) → size_of_source problem ≤ 1000000
-    → subformulas_of_all roots + length roots ≤ 4294967295
-one_root problem [] one are small = absurd (omega (arith, one))
-one_root problem (root ∷ []) one are small =
-    let main = ap (λ (r : Root). subformulas r.formula) (are 0 root refl) in
-    let few = main_few problem in
-    omega (arith, main, few, small)
-one_root problem (root ∷ other ∷ more) one are small = absurd (omega (arith, one))
-
-few : (number : ℕ) (is : IsNumber number) → let found = sources-are-accepted number generated_name is in HasFewParts found.checked (answers_by found.checked.imports [])
-few number is =
-    let found = sources-are-accepted number generated_name is in
-    λ roots are.
-    let exports = ap (λ (list : List ExportUse). length list) found.within.exports in
-    let count = are.all in
-    let problem = problem_with found.checked [] in
-    one_root problem roots (omega (arith, count, exports)) are.each (subst (λ p. size_of_source p ≤ 1000000) (alone_problem found.checked [] found.within.imports) found.within.size)
-
 -- what is found of it is that it is valid
 pub found-valid : GeneratedSourcesAreFoundValid
 found-valid number stats found files is decided =
@@ -88,7 +65,7 @@ wanting : (number : ℕ) → IsNumber number → (refusal : Refusal) (files : Li
 wanting number is refusal files why =
     let origin = text_of generated_name (generated number) in
     let found = sources-are-accepted number generated_name is in
-    elim (solvable origin origin (texts_settle generated_name (generated number)) None found.loaded found.checked [] (solved number is) (few number is) node_limit refusal files why) [
+    elim (solvable origin origin (texts_settle generated_name (generated number)) None found.loaded found.checked [] (solved number is) node_limit refusal files why) [
       | inl memory ↦ inl memory
       | inr lacks ↦ inr (inr (is, lacks))
     ]

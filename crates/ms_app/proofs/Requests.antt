@@ -1,10 +1,6 @@
 -- The examples of what can be done, worked by hand.
-use Rattle.std.proofs.Common.{◌≡◌, ℕ, ◌+◌, ◌≤◌, inl, inr, List, [], ◌∷◌, length, slice_get, Some, None, refl, ap, arith}
+use Rattle.std.proofs.Common.{◌≡◌, ℕ, ◌≤◌, inl, inr, List, [], ◌∷◌, Some, None, refl, arith}
 use Rattle.std.proofs.lemmas.Option.{none-some}
-use Rattle.ms_core.specs.Subformulas.{subformulas}
-use Rattle.ms_logic.specs.Roots.{IsRoot, Root}
-use Rattle.ms_logic.specs.View.{problem_of}
-use Rattle.ms_solve.specs.Limits.{subformulas_of_all}
 use Rattle.std.specs.Prelude.{codes}
 use Rattle.ms_edge.specs.Counts.{Rose}
 use Rattle.ms_edge.specs.Files.{Holding}
@@ -28,11 +24,6 @@ reads_nothing = record {
   reads = record { read = ([], (refl, λ at f header. never_cons _ _ header.3.1), refl); declarations = tt };
 }
 
-one_root : (roots : List Root) → length roots ≡ 1 → ((k : ℕ) (root : Root) → slice_get roots k ≡ Some root → IsRoot (problem_of (nothing_checked (codes "a")) []) k root) → subformulas_of_all roots + length roots ≤ 4294967295
-one_root [] one are = absurd (omega (arith, one))
-one_root (root ∷ []) one are = let main = ap (λ (r : Root). subformulas r.formula) (are 0 root refl) in omega (arith, main)
-one_root (root ∷ other ∷ more) one are = absurd (omega (arith, one))
-
 pub empty_file : CanBeSolved (file_of (still (empty_files 0)) 0 (codes "a")) None
 empty_file = (
   nothing_loaded (codes "a"),
@@ -50,7 +41,6 @@ empty_file = (
     };
     within = record { depth = omega arith; size = omega arith };
   },
-  λ roots are. one_root roots are.all are.each,
 )
 
 nothing_held : (bytes : List ℕ) → None ≡ Some bytes → ⊥

@@ -1,5 +1,5 @@
 -- A source that can be solved is refused for want of memory or of nodes alone.
-use Rattle.std.proofs.Common.{◌≡◌, ℕ, ◌+◌, ◌⊎◌, inl, inr, length, List, [], Option, Some, None, sym, ap, ◌∙◌, subst, arith}
+use Rattle.std.proofs.Common.{◌≡◌, ℕ, ◌⊎◌, inl, inr, List, [], Option, Some, None, sym, ap, ◌∙◌, subst}
 use Rattle.std.proofs.lemmas.List.Elements.{All-contains}
 use Rattle.ms_dfa.specs.declared.plain.Plain.{Plain}
 use Rattle.ms_edge.specs.Counts.{Rose}
@@ -13,7 +13,6 @@ use Rattle.ms_logic.specs.declared.checked.ExportUse.{ExportUse}
 use Rattle.ms_logic.specs.declared.checked.ImportUse.{ImportUse}
 use Rattle.ms_logic.specs.declared.mode.Mode.{Mode}
 use Rattle.ms_logic.specs.declared.source.Loaded.{Loaded}
-use Rattle.ms_logic.specs.Roots.{IsRoot}
 use Rattle.ms_logic.specs.View.{problem_of}
 use Rattle.ms_lower.specs.Measure.{Answers}
 use Rattle.ms_rules.specs.Checking.{IsFirstFault}
@@ -23,7 +22,7 @@ use Rattle.ms_loads.proofs.Loads.{load_or_refused, one_load, one_text, text_or_r
 use Rattle.ms_loads.proofs.Typing.{one_problem}
 use Rattle.ms_loads.proofs.Verdicts.{no_first_fault, not_too_deep, not_too_large}
 use Rattle.ms_solve.specs.Limits as limits
-use Rattle.ms_solve.specs.Limits.{AreRootsOf, HasFewParts, IsTooLarge, IsUnsolved, IsWithinLimits}
+use Rattle.ms_solve.specs.Limits.{IsTooLarge, IsUnsolved, IsWithinLimits}
 use Rattle.ms_app.specs.Source as sources
 use Rattle.ms_app.specs.Source.{IsAccepted, IsOutFree, IsOutTaken, IsRefused, IsSolved, IsTaken, IsUnaccepted, Origin, file_of, problem_with, text_of}
 
@@ -108,35 +107,26 @@ module _ (origin other : Origin) (settles : Settles origin other) (out : Option 
     imported : origin.Imports checked'.mode checked'.imports plains
     imported = subst (λ uses. origin.Imports checked'.mode uses plains) imports_are (subst (λ mode. origin.Imports mode checked.imports plains) mode_is is.is.imported)
 
-  too_large : (checked' : Checked) (answers : Answers) (refusal : Refusal) → IsWithinLimits (problem_of checked' answers) → HasFewParts checked' answers → IsTooLarge checked' answers refusal → ⊥
-  too_large checked' answers refusal within few (limits.too_deep deep) = not_too_deep checked' answers refusal within.depth deep
-  too_large checked' answers refusal within few (limits.too_large large) = not_too_large checked' answers refusal within.size large
-  too_large checked' answers refusal within few (limits.too_many_parts many) =
-      let most = few many.roots many.are_roots in let more = many.many in omega (arith, most, more)
+  too_large : (checked' : Checked) (answers : Answers) (refusal : Refusal) → IsWithinLimits (problem_of checked' answers) → IsTooLarge checked' answers refusal → ⊥
+  too_large checked' answers refusal within (limits.too_deep deep) = not_too_deep checked' answers refusal within.depth deep
+  too_large checked' answers refusal within (limits.too_large large) = not_too_large checked' answers refusal within.size large
 
-  unsolved : (limit : ℕ) (checked' : Checked) (answers : Answers) (refusal : Refusal) → IsWithinLimits (problem_of checked' answers) → HasFewParts checked' answers → IsUnsolved checked' answers limit refusal
-      → IsWant limit refusal
-  unsolved limit checked' answers refusal within few (limits.not_made why) = absurd (too_large checked' answers refusal within few why)
-  unsolved limit checked' answers refusal within few (limits.lacks_nodes within' step lacks) = inr (step, lacks)
+  unsolved : (limit : ℕ) (checked' : Checked) (answers : Answers) (refusal : Refusal) → IsWithinLimits (problem_of checked' answers) → IsUnsolved checked' answers limit refusal → IsWant limit refusal
+  unsolved limit checked' answers refusal within (limits.not_made why) = absurd (too_large checked' answers refusal within why)
+  unsolved limit checked' answers refusal within (limits.lacks_nodes within' step lacks) = inr (step, lacks)
 
-  pub solvable : HasFewParts checked (answers_by checked.imports plains) → (limit : ℕ) (refusal : Refusal) (read : List (List ℕ)) → IsRefused other out limit refusal read → IsWant limit refusal
-  solvable few limit refusal read (sources.unaccepted why) = inl (unaccepted refusal read why)
-  solvable few limit refusal read (sources.out_taken loaded' checked' is' all why) =
+  pub solvable : (limit : ℕ) (refusal : Refusal) (read : List (List ℕ)) → IsRefused other out limit refusal read → IsWant limit refusal
+  solvable limit refusal read (sources.unaccepted why) = inl (unaccepted refusal read why)
+  solvable limit refusal read (sources.out_taken loaded' checked' is' all why) =
       absurd (free_or_taken out checked'.exports refusal (subst (IsOutFree out) (exports_are loaded' checked' is') is.is.free) why)
-  solvable few limit refusal read (sources.unimported loaded' checked' is' free all why) =
+  solvable limit refusal read (sources.unimported loaded' checked' is' free all why) =
       settles.imports checked'.mode limit checked'.imports plains refusal (imported loaded' checked' is') why
-  solvable few limit refusal read (sources.unsolved loaded' checked' plains' taken all why) =
+  solvable limit refusal read (sources.unsolved loaded' checked' plains' taken all why) =
       let is' = taken.is in
       let contents : plains ≡ plains' = settles.one_content checked'.mode checked'.imports plains plains' (imported loaded' checked' is') taken.imported in
       let answers = answers_by checked'.imports plains' in
       let same_answers : answers_by checked.imports plains ≡ answers = ap (λ uses. answers_by uses plains) (imports_are loaded' checked' is') ∙ ap (answers_by checked'.imports) contents in
       let problem : problem_of checked answers ≡ problem_of checked' answers = one_problem loaded checked checked' answers accepted.typed (typed' loaded' checked' is') in
       let within : IsWithinLimits (problem_of checked' answers) = subst IsWithinLimits problem (subst (λ list. IsWithinLimits (problem_of checked list)) same_answers is.within) in
-      let few_here : HasFewParts checked answers = subst (HasFewParts checked) same_answers few in
-      unsolved limit checked' answers refusal within
-      (λ roots are.
-      few_here roots (record {
-        all = are.all ∙ ap (λ (exports : List ExportUse). 1 + length exports) (sym (exports_are loaded' checked' is'));
-        each = λ k root held. subst (λ p. IsRoot p k root) (sym problem) (are.each k root held);
-      })) why
-  solvable few limit refusal read (sources.no_memory why) = inl why
+      unsolved limit checked' answers refusal within why
+  solvable limit refusal read (sources.no_memory why) = inl why

@@ -34,7 +34,7 @@ use Rattle.ms_words.specs.declared.command.Command.TheVariants.{Decide, Same, Ge
 use Rattle.ms_app.specs.Answer.{IsRefusedFor}
 use Rattle.ms_app.specs.Comparison.{IsRefusedComparison, left_refused, right_refused, not_comparable, lacks_nodes}
 use Rattle.ms_app.specs.Comparison as comparisons
-use Rattle.ms_solve.specs.Limits.{IsUnsolved, not_made, too_deep, too_large, too_many_parts}
+use Rattle.ms_solve.specs.Limits.{IsUnsolved, not_made, too_deep, too_large}
 use Rattle.ms_solve.specs.Limits as limits
 use Rattle.ms_app.specs.Source.{IsAccepted, IsOutTaken, IsRefused, IsUnaccepted, Origin, file_of, text_of, not_loaded, faulty, out_taken, unaccepted, unimported, unsolved}
 use Rattle.ms_app.specs.Source as sources
@@ -145,7 +145,6 @@ module _ (before : List (List ℕ)) (origin : Origin) (tells : Tells before orig
       let places = kept loaded checked is in
       over loaded checked read refusal is all (depth-told (IsAmongFiles (length before) (length checked.files)) checked answers refusal places.globals places.formulas deep)
   unsolved-told loaded checked answers read limit refusal is all (not_made (too_large large)) = subst (IsToldOver (before ++ read)) (sym large.is) (tt, tt)
-  unsolved-told loaded checked answers read limit refusal is all (not_made (too_many_parts many)) = subst (IsToldOver (before ++ read)) (sym many.is) (tt, tt)
   unsolved-told loaded checked answers read limit refusal is all (limits.lacks_nodes within step lacks) = subst (IsToldOver (before ++ read)) (sym lacks) (tt, tt)
 
   out-told : (loaded : Loaded) (checked : Checked) (out : Option (List ℕ)) (read : List (List ℕ)) (refusal : Refusal) → IsAccepted origin loaded checked → read ≡ loaded.files → IsOutTaken out checked.exports refusal

@@ -8,11 +8,9 @@ use Rattle.ms_dfa.specs.declared.plain.Plain.{Plain}
 use Rattle.ms_edge.specs.Files.{Holding, Seen}
 use Rattle.ms_edge.specs.Sink.{SinkTold, grown}
 use Rattle.ms_gen.specs.Generated.{IsNumber}
-use Rattle.ms_imports.specs.Imports.{answers_by}
 use Rattle.ms_logic.specs.declared.checked.Checked.{Checked}
 use Rattle.ms_logic.specs.declared.source.Loaded.{Loaded}
 use Rattle.ms_report.specs.Line.{line_of}
-use Rattle.ms_solve.specs.Limits.{HasFewParts}
 use Rattle.ms_words.specs.Command.{IsCommand, node_limit}
 use Rattle.ms_words.specs.declared.command.Command.{Command}
 use Rattle.ms_words.specs.declared.command.Command.TheVariants.{Decide, Same, Gen}
@@ -27,17 +25,15 @@ pub record NothingFailed (before after : SinkTold) (seen : Seen) : Type 0 where
   pub works : ¬ Rose seen.before.faults seen.after.faults
   pub prints : ¬ Rose before.faults after.faults
 
--- it loads as a source without a fault, whose imports can be taken, which is within the limits, and whose parts have numbers
+-- it loads as a source without a fault, whose imports can be taken, and which is within the limits
 abbrev pub CanBeSolved : Origin → Option (List ℕ) → Type 0
 CanBeSolved origin out =
     (loaded : Loaded) × (checked : Checked) × (plains : List Plain) × IsSolved origin out loaded checked plains
-    × HasFewParts checked (answers_by checked.imports plains)
 
 -- both files load as such sources, with the same globals
 abbrev pub CanBeCompared : List ℕ → List ℕ → Seen → Type 0
 CanBeCompared left right seen =
-    (one two : Taken) × AreSolved left right seen one two × HasFewParts one.checked (answers_by one.checked.imports one.plains)
-    × HasFewParts two.checked (answers_by two.checked.imports two.plains) × HaveSameGlobals one.checked two.checked
+    (one two : Taken) × AreSolved left right seen one two × HaveSameGlobals one.checked two.checked
 
 -- what the command asks for can be done
 abbrev pub CanBeDone : Command → Seen → Type 0

@@ -1,8 +1,6 @@
 -- Core formulas for worked examples.
 use Rattle.std.specs.Prelude.{ℕ, List, [], ◌∷◌}
 use Rattle.ms_logic.specs.declared.core_formula.Basic.TheVariants.{Less}
-use Rattle.ms_logic.specs.declared.core_formula.Core.TheVariants as code
-use Rattle.ms_logic.specs.declared.core_formula.Root.{Root}
 use Rattle.ms_logic.specs.declared.mode.Order.TheVariants.{One}
 use Rattle.ms_logic.specs.declared.mode.Quant.TheVariants.{Ex}
 use Rattle.ms_logic.specs.Assignment.{Variable}
@@ -25,10 +23,3 @@ exists x d f = quantified Ex One x d f
 -- an import over one number
 abbrev pub number_import : List Import
 number_import = record { variables = variable 0 One ∷ []; answer = λ universe values. answer_undefined } ∷ []
-
--- two roots: true, and true & false
-abbrev pub two_roots : List Root
-two_roots =
-    record { variables = []; core = code.True }
-    ∷ record { variables = []; core = code.And (code.True ∷ code.False ∷ []) }
-    ∷ []

@@ -1,14 +1,13 @@
 //! The definitions at small core formulas, worked out by hand. Each function has an empty body, and its contract
 //! is the table of its examples.
 
-ghost use Rattle.ms_core.specs.Examples.{between, exists, number_import, two_roots, x_and_y};
+ghost use Rattle.ms_core.specs.Examples.{between, exists, number_import, x_and_y};
 ghost use Rattle.ms_core.specs.Stands.{Stands};
-ghost use Rattle.ms_core.specs.Subformulas.{subformulas, subformulas_of_roots};
-ghost use Rattle.ms_logic.specs.CoreForm.{basic, conjunction, core_forms, falsity, imported, negation, restricted, truth, unrestricted};
+ghost use Rattle.ms_logic.specs.CoreForm.{basic, conjunction, core_forms, imported, restricted, truth, unrestricted};
 ghost use Rattle.ms_logic.specs.Steps.{variable};
 ghost use Rattle.ms_logic.specs.declared.core_formula.Basic.TheVariants.{Less, Member};
 ghost use Rattle.ms_logic.specs.declared.mode.Order.TheVariants.{One, Two};
-ghost use Rattle.std.specs.Prelude.{[], ◌∷◌, ◌≡◌};
+ghost use Rattle.std.specs.Prelude.{[], ◌∷◌};
 
 /// Where variables stand. The numbers x, y and z are the variables 0, 1 and 2.
 pub fn worked_scopes()
@@ -32,19 +31,4 @@ pub fn worked_scopes()
     ensures import_out_of_scope { ¬ Stands number_import x_and_y (imported 0 (2 ∷ [])) }
     ensures import_of_other_order { ¬ Stands number_import (variable 1 Two ∷ []) (imported 0 (1 ∷ [])) }
     ensures no_import { ¬ Stands number_import x_and_y (imported 1 (0 ∷ [])) }
-{}
-
-/// How many subformulas there are.
-pub fn worked_subformulas()
-    ensures relation { subformulas (basic (Less 0 1)) ≡ 1 }
-    // ~~false
-    ensures negations { subformulas (negation (negation falsity)) ≡ 3 }
-    // x < z & z < y: the conjunction and its operands
-    ensures conjunction { subformulas (between 0 2 1) ≡ 3 }
-    // ex1 z: x < z & z < y, without a restriction and with ~true
-    ensures bound { subformulas (exists 2 unrestricted (between 0 2 1)) ≡ 4 }
-    ensures restricted { subformulas (exists 2 (restricted (negation truth)) (between 0 2 1)) ≡ 6 }
-
-    // true, and true & false
-    ensures roots { subformulas_of_roots two_roots ≡ 4 }
 {}

@@ -1,5 +1,5 @@
 -- What holds in a graph holds when it has more nodes.
-use Rattle.std.proofs.Common.{◌≡◌, ℕ, ◌+◌, List, [], ◌∷◌, ◌++◌, length, map, slice_get, Contains, Option, Some, None, sym, ◌∙◌, ap, subst, inl, inr, ⊎_elim, arith}
+use Rattle.std.proofs.Common.{◌≡◌, ℕ, List, [], ◌∷◌, ◌++◌, length, map, slice_get, Contains, Option, Some, None, sym, ◌∙◌, ap, subst, inl, inr, ⊎_elim, arith}
 use Rattle.std.proofs.lemmas.Bool.{cases_lt}
 use Rattle.std.proofs.lemmas.List.{map-append}
 use Rattle.std.proofs.lemmas.List.Elements.{All-weaker, Contains-append_left, Contains-append_right}
@@ -96,19 +96,17 @@ used_right : (entries : List Entry) (ps qs : List Child) (i : ℕ) → IsUsed en
 used_right entries ps qs i used =
     ⊎_elim (λ top. inl (subst (λ list. Contains list i) (sym (map-append (λ (c : Child). c.node) ps qs)) (Contains-append_right (map (λ (c : Child). c.node) ps) (map (λ (c : Child). c.node) qs) i top))) (λ below. inr below) used
 
-pub Grown-none : (entries : List Entry) → AreNodes entries → Grown entries entries 0 []
+pub Grown-none : (entries : List Entry) → AreNodes entries → Grown entries entries []
 Grown-none entries nodes = record {
   kept = λ i entry there. there;
   nodes = nodes;
-  small = omega arith;
   used = λ i from below. absurd (omega (arith, from, below));
 }
 
-pub Grown-both : (old mid new : List Entry) (a b : ℕ) (ps qs : List Child) → Grown old mid a ps → Grown mid new b qs → Grown old new (a + b) (ps ++ qs)
-Grown-both old mid new a b ps qs first second = record {
+pub Grown-both : (old mid new : List Entry) (ps qs : List Child) → Grown old mid ps → Grown mid new qs → Grown old new (ps ++ qs)
+Grown-both old mid new ps qs first second = record {
   kept = λ i entry there. second.kept i entry (first.kept i entry there);
   nodes = second.nodes;
-  small = let one = first.small in let two = second.small in omega arith;
   used = λ i from below.
       ⊎_elim (λ within. used_left new ps qs i (IsUsed-kept mid new second.kept ps i (first.used i from within)))
       (λ past. used_right new ps qs i (second.used i past below)) (cases_lt i (length mid));

@@ -1,5 +1,5 @@
 -- Formulas of a list, one after the other.
-use Rattle.std.proofs.Common.{◌≡◌, ℕ, zero, suc, ◌+◌, ◌<◌, ◌≤◌, List, [], ◌∷◌, ◌++◌, length, take, get_or, sym, ◌∙◌, ap, subst, arith}
+use Rattle.std.proofs.Common.{◌≡◌, ℕ, zero, suc, ◌+◌, ◌<◌, List, [], ◌∷◌, ◌++◌, length, take, get_or, sym, ◌∙◌, ap, subst, arith}
 use Rattle.std.proofs.lemmas.List.{take_more}
 use Rattle.ms_logic.specs.declared.core_formula.Core.{Core}
 use Rattle.ms_logic.specs.declared.mode.Order.{Order}
@@ -7,8 +7,7 @@ use Rattle.ms_logic.specs.CoreForm.{core_form_of}
 use Rattle.ms_dag.specs.declared.node.Child.{Child}
 use Rattle.ms_dag.specs.declared.node.Entry.{Entry}
 use Rattle.ms_dag.specs.Scope.{IsInScope, AreInScope, forms_of}
-use Rattle.ms_core.specs.Subformulas.{subformulas, subformulas_of_each}
-use Rattle.ms_dag.specs.Shared.{IsShared, IsSharedNow, AreShared, AreSharedNow, Grown}
+use Rattle.ms_dag.specs.Shared.{IsShared, IsSharedNow, AreShared, AreSharedNow}
 use Rattle.ms_dag.proofs.Growth.{AreShared-kept, Grown-both}
 
 pub AreShared-push : (orders : List Order) (entries : List Entry) (xs : List Core) (x : Core) (parts : List Child) (part : Child) → AreShared orders entries (forms_of xs) parts → IsShared orders entries (core_form_of x) part →
@@ -17,16 +16,6 @@ AreShared-push orders entries [] x [] part are is = (is, tt)
 AreShared-push orders entries [] x (p ∷ ps) part are is = absurd are
 AreShared-push orders entries (y ∷ ys) x [] part are is = absurd are
 AreShared-push orders entries (y ∷ ys) x (p ∷ ps) part are is = (are.0, AreShared-push orders entries ys x ps part are.1 is)
-
-size_push : (xs : List Core) (x : Core) → subformulas_of_each (forms_of (xs ++ x ∷ [])) ≡ subformulas_of_each (forms_of xs) + subformulas (core_form_of x)
-size_push [] x = omega arith
-size_push (y ∷ ys) x = let rest = size_push ys x in omega arith
-
-size_take : (xs : List Core) (n : ℕ) → subformulas_of_each (forms_of (take n xs)) ≤ subformulas_of_each (forms_of xs)
-size_take [] zero = omega arith
-size_take [] (suc n) = omega arith
-size_take (x ∷ xs) zero = omega arith
-size_take (x ∷ xs) (suc n) = let rest = size_take xs n in omega arith
 
 -- each is in scope where all are
 pub operand_scoped : (orders : List Order) (scope : List ℕ) (xs : List Core) (k : ℕ) (d : Core) → k < length xs → AreInScope orders scope (forms_of xs) → IsInScope orders scope (core_form_of (get_or xs k d))
@@ -38,19 +27,9 @@ module _ (orders : List Order) (old mid : List Entry) (xs : List Core) (k : ℕ)
   taken : take k xs ++ x ∷ [] ≡ take (k + 1) xs
   taken = ap (λ y. take k xs ++ y ∷ []) is ∙ sym (take_more xs k x below)
 
-  -- there is room for it
-  pub operand_room : length old + subformulas_of_each (forms_of xs) ≤ 4294967295 → length mid + subformulas (core_form_of x) ≤ 4294967295
-  operand_room room =
-      let small = now.grown.small in
-      let pushed = size_push (take k xs) x in
-      let whole = ap (λ list. subformulas_of_each (forms_of list)) taken in
-      let part = size_take xs (k + 1) in
-      omega (arith, room, small, pushed, whole, part)
-
   pub step_operand : (new : List Entry) (part : Child) → IsSharedNow orders mid new (core_form_of x) part → AreSharedNow orders old new (forms_of (take (k + 1) xs)) (parts ++ part ∷ [])
   step_operand new part next =
       subst (λ list. AreSharedNow orders old new (forms_of list) (parts ++ part ∷ [])) taken (record {
-        grown = subst (λ n. Grown old new n (parts ++ part ∷ [])) (sym (size_push (take k xs) x))
-            (Grown-both old mid new (subformulas_of_each (forms_of (take k xs))) (subformulas (core_form_of x)) parts (part ∷ []) now.grown next.grown);
+        grown = Grown-both old mid new parts (part ∷ []) now.grown next.grown;
         shared = AreShared-push orders new (take k xs) x parts part (AreShared-kept mid new next.grown.kept orders (forms_of (take k xs)) parts now.shared) next.shared;
       })

@@ -1,5 +1,5 @@
 -- A node that has got a number is one of the graph.
-use Rattle.std.proofs.Common.{◌≡◌, ℕ, ◌+◌, ◌<◌, ◌≤◌, List, [], ◌∷◌, ◌++◌, length, map, get_or, slice_get, All, Contains, Some, refl, sym, ◌∙◌, ap, subst, inl, inr, ⊎_elim, arith}
+use Rattle.std.proofs.Common.{◌≡◌, ℕ, ◌<◌, ◌≤◌, List, [], ◌∷◌, ◌++◌, length, map, get_or, slice_get, All, Contains, Some, refl, sym, ◌∙◌, ap, subst, inl, inr, ⊎_elim, arith}
 use Rattle.std.proofs.lemmas.Bool.{cases_lt}
 use Rattle.std.proofs.lemmas.List.{length-append}
 use Rattle.std.proofs.lemmas.List.Elements.{All-nil, All-cons, All-head, All-tail, All-append}
@@ -12,8 +12,7 @@ use Rattle.ms_logic.specs.CoreForm.{CoreForm, CoreForms, no_forms, more_forms}
 use Rattle.ms_dag.specs.declared.node.Child.{Child}
 use Rattle.ms_dag.specs.declared.node.DagNode.{DagNode}
 use Rattle.ms_dag.specs.declared.node.Entry.{Entry}
-use Rattle.ms_diagram.specs.Numbering.{Numbers}
-use Rattle.ms_diagram.proofs.NumberingLemmas.{IsNumbering-numbers}
+use Rattle.ms_diagram.specs.Numbering.{HasNoRepeats, Numbers}
 use Rattle.ms_dag.specs.Dag.{children_of, orders_inside, HasOwnOrders, places_in_maps, places_of, IsChild, IsNode, AreNodes}
 use Rattle.ms_dag.specs.Maps.{IsPlaced, AreTheSameIn}
 use Rattle.ms_dag.specs.Places.{AreAt, AreBelow}
@@ -68,8 +67,17 @@ module _ (orders : List Order) (entries : List Entry) (among : List ℕ) (inner 
   children_are (p ∷ ps) (c ∷ cs) same known =
       All-cons (IsChild entries i inner) c cs (child_is p c same.0 (All-head (IsKnown orders entries) p ps known)) (children_are ps cs same.1 (All-tail (IsKnown orders entries) p ps known))
 
+-- nodes of which no two are equal stay so when one is numbered
+distinct_made : (old new : List Entry) (entry : Entry) → HasNoRepeats old → Numbers old new entry → HasNoRepeats new
+distinct_made old new entry distinct (inl same) = subst (λ list. HasNoRepeats list) (sym same) distinct
+distinct_made old new entry distinct (inr added) = subst (λ list. HasNoRepeats list) (sym added.1) (λ one two item first second.
+    ⊎_elim
+    (λ there. ⊎_elim (λ here. distinct one two item there here) (λ last. absurd (added.0 one (there ∙ ap Some (sym last.1)))) (slice_get-pushed old entry two item second))
+    (λ last. ⊎_elim (λ here. absurd (added.0 two (here ∙ ap Some (sym last.1)))) (λ also. last.0 ∙ sym also.0) (slice_get-pushed old entry two item second))
+    (slice_get-pushed old entry one item first))
+
 -- a node that was made, and is one above what was there
-module _ (orders : List Order) (mid new : List Entry) (node : DagNode) (names : List ℕ) (child : Child) (made : IsMade orders mid new node names child) (nodes : AreNodes mid) (room : length mid < 4294967295)
+module _ (orders : List Order) (mid new : List Entry) (node : DagNode) (names : List ℕ) (child : Child) (made : IsMade orders mid new node names child) (nodes : AreNodes mid)
     (is_node : IsNode mid (length mid) (record { node = node; orders = made.own })) where
   abbrev entry : Entry
   entry = record { node = node; orders = made.own }
@@ -88,7 +96,7 @@ module _ (orders : List Order) (mid new : List Entry) (node : DagNode) (names : 
   pub AreNodes-made : AreNodes new
   AreNodes-made = record {
     nodes = each_node made.numbers;
-    distinct = (IsNumbering-numbers mid new entry (record { no_repeats = nodes.distinct; small = omega (arith, room) }) room made.numbers).no_repeats;
+    distinct = distinct_made mid new entry nodes.distinct made.numbers;
   }
 
   pub made_is_node : IsNode new child.node entry
@@ -97,10 +105,6 @@ module _ (orders : List Order) (mid new : List Entry) (node : DagNode) (names : 
   pub node_at-made : node_at new child.node ≡ Some node
   node_at-made = ap (option_map (λ (e : Entry). e.node)) made.number
 
-  grows_by_one : Numbers mid new entry → length new ≤ length mid + 1
-  grows_by_one (inl same) = let long = ap length same in omega arith
-  grows_by_one (inr added) = let long = ap length added.1 ∙ length-append mid (entry ∷ []) in omega arith
-
   used_last : Numbers mid new entry → (i : ℕ) → length mid ≤ i → i < length new → i ≡ child.node
   used_last (inl same) i from below = let long = ap length same in absurd (omega (arith, from, below))
   used_last (inr added) i from below =
@@ -108,11 +112,10 @@ module _ (orders : List Order) (mid new : List Entry) (node : DagNode) (names : 
       let held : slice_get (mid ++ entry ∷ []) child.node ≡ Some entry = ap (λ list. slice_get list child.node) (sym added.1) ∙ made.number in
       ⊎_elim (λ there. absurd (added.0 child.node there)) (λ last. let at = last.0 in omega arith) (slice_get-pushed mid entry child.node entry held)
 
-  pub Grown-made : (old : List Entry) (count : ℕ) (parts : List Child) → map (λ (c : Child). c.node) parts ≡ map (λ (c : Child). c.node) (children_of node) → Grown old mid count parts → Grown old new (count + 1) (child ∷ [])
-  Grown-made old count parts same grown = record {
+  pub Grown-made : (old : List Entry) (parts : List Child) → map (λ (c : Child). c.node) parts ≡ map (λ (c : Child). c.node) (children_of node) → Grown old mid parts → Grown old new (child ∷ [])
+  Grown-made old parts same grown = record {
     kept = λ i e held. keeps i e (grown.kept i e held);
     nodes = AreNodes-made;
-    small = let one = grown.small in let more = grows_by_one made.numbers in omega arith;
     used = λ i from below.
         ⊎_elim (λ within. ⊎_elim
         (λ top. inr (child.node, entry, made.number, subst (λ list. Contains list i) same top))

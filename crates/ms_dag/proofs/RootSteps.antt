@@ -1,9 +1,8 @@
 -- Roots, one after the other, and the graph of a source.
-use Rattle.std.proofs.Common.{◌≡◌, ℕ, zero, suc, ◌+◌, ◌<◌, ◌≤◌, List, [], ◌∷◌, ◌++◌, length, take, get_or, All, sym, ◌∙◌, ap, subst, arith}
+use Rattle.std.proofs.Common.{◌≡◌, ℕ, ◌+◌, ◌<◌, ◌≤◌, List, [], ◌∷◌, ◌++◌, length, take, get_or, All, sym, ◌∙◌, ap, subst, arith}
 use Rattle.std.proofs.lemmas.List.{take_more, map-append, length-map}
 use Rattle.std.proofs.lemmas.List.Elements.{All-nil, All-cons}
 use Rattle.std.proofs.lemmas.Option.{slice_get_within}
-use Rattle.std.proofs.lemmas.Slice.Zip.{AllZip-long}
 use Rattle.ms_logic.specs.declared.core_formula.Root.{Root}
 use Rattle.ms_logic.specs.declared.mode.Order.{Order}
 use Rattle.ms_logic.specs.CoreForm.{core_form_of}
@@ -11,7 +10,6 @@ use Rattle.ms_dag.specs.declared.node.Child.{Child}
 use Rattle.ms_dag.specs.declared.node.Entry.{Entry}
 use Rattle.ms_dag.specs.declared.dag.SharedRoot.{SharedRoot}
 use Rattle.ms_dag.specs.Dag.{AreNodes, IsDag}
-use Rattle.ms_core.specs.Subformulas.{subformulas, subformulas_of_roots}
 use Rattle.ms_dag.specs.Share.{IsRootOf, AreRootsOf, children_of_roots}
 use Rattle.ms_dag.specs.Shared.{IsRootNow, AreRootsNow}
 use Rattle.ms_dag.specs.Shared.{Grown}
@@ -32,16 +30,6 @@ AreRootsOf-kept orders old new keeps [] (s ∷ ss) are = absurd are
 AreRootsOf-kept orders old new keeps (r ∷ rs) [] are = absurd are
 AreRootsOf-kept orders old new keeps (r ∷ rs) (s ∷ ss) are = (IsRootOf-kept orders old new keeps r s are.0, AreRootsOf-kept orders old new keeps rs ss are.1)
 
-size_push : (roots : List Root) (root : Root) → subformulas_of_roots (roots ++ root ∷ []) ≡ subformulas_of_roots roots + subformulas (core_form_of root.core)
-size_push [] root = omega arith
-size_push (r ∷ rs) root = let rest = size_push rs root in omega arith
-
-size_take : (roots : List Root) (n : ℕ) → subformulas_of_roots (take n roots) ≤ subformulas_of_roots roots
-size_take [] zero = omega arith
-size_take [] (suc n) = omega arith
-size_take (r ∷ rs) zero = omega arith
-size_take (r ∷ rs) (suc n) = let rest = size_take rs n in omega arith
-
 roots_push : (orders : List Order) (entries : List Entry) (roots : List Root) (shared : List SharedRoot) (root : Root) (made : SharedRoot) → AreRootsOf orders entries roots shared → IsRootOf orders entries root made →
     AreRootsOf orders entries (roots ++ root ∷ []) (shared ++ made ∷ [])
 roots_push orders entries [] [] root made are is = (is, tt)
@@ -60,21 +48,12 @@ module _ (orders : List Order) (mid : List Entry) (roots : List Root) (k : ℕ) 
   taken : take k roots ++ root ∷ [] ≡ take (k + 1) roots
   taken = ap (λ r. take k roots ++ r ∷ []) is ∙ sym (take_more roots k root below)
 
-  pub root_room : subformulas_of_roots roots ≤ 4294967295 → length mid + subformulas (core_form_of root.core) ≤ 4294967295
-  root_room room =
-      let small = now.grown.small in
-      let pushed = size_push (take k roots) root in
-      let whole = ap subformulas_of_roots taken in
-      let part = size_take roots (k + 1) in
-      omega (arith, room, small, pushed, whole, part)
-
   pub step_root : (new : List Entry) (made : SharedRoot) → IsRootNow orders mid new root made → AreRootsNow orders new (take (k + 1) roots) (shared ++ made ∷ [])
   step_root new made next =
       subst (λ list. AreRootsNow orders new list (shared ++ made ∷ [])) taken (record {
         grown =
-            subst (λ tops. Grown [] new (subformulas_of_roots (take k roots ++ root ∷ [])) tops) (sym (map-append (λ (s : SharedRoot). s.child) shared (made ∷ [])))
-            (subst (λ n. Grown [] new n (children_of_roots shared ++ made.child ∷ [])) (sym (size_push (take k roots) root))
-            (Grown-both [] mid new (subformulas_of_roots (take k roots)) (subformulas (core_form_of root.core)) (children_of_roots shared) (made.child ∷ []) now.grown next.grown));
+            subst (λ tops. Grown [] new tops) (sym (map-append (λ (s : SharedRoot). s.child) shared (made ∷ [])))
+            (Grown-both [] mid new (children_of_roots shared) (made.child ∷ []) now.grown next.grown);
         roots_of = roots_push orders new (take k roots) shared root made (AreRootsOf-kept orders mid new next.grown.kept (take k roots) shared now.roots_of) next.root_of;
       })
 
@@ -86,14 +65,10 @@ children_within orders entries (r ∷ rs) (s ∷ ss) are =
     All-cons (λ (c : Child). c.node < length entries) s.child (children_of_roots ss) (slice_get_within entries s.child.node are.0.ordered.0 are.0.ordered.1) (children_within orders entries rs ss are.1)
 
 -- the graph of all roots
-pub graph_of : (orders : List Order) (entries : List Entry) (roots : List Root) (shared : List SharedRoot) → AreRootsNow orders entries roots shared → subformulas_of_roots roots + length roots ≤ 4294967295 → IsDag entries (children_of_roots shared)
+pub graph_of : (orders : List Order) (entries : List Entry) (roots : List Root) (shared : List SharedRoot) → AreRootsNow orders entries roots shared → length entries + length shared ≤ 4294967295 → IsDag entries (children_of_roots shared)
 graph_of orders entries roots shared now few = record {
   nodes = now.grown.nodes;
   within = children_within orders entries roots shared now.roots_of;
   used = λ i below. now.grown.used i (omega arith) below;
-  small =
-      let grown = now.grown.small in
-      let same = AllZip-long (IsRootOf orders entries) roots shared now.roots_of in
-      let long = length-map shared (λ (s : SharedRoot). s.child) in
-      omega (arith, few, grown, same, long);
+  small = let long = length-map shared (λ (s : SharedRoot). s.child) in omega (arith, few, long);
 }

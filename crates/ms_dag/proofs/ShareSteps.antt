@@ -1,5 +1,5 @@
 -- Each form of a core formula: what is known of its parts when they stand in the graph, and that it stands there in the end.
-use Rattle.std.proofs.Common.{◌≡◌, ℕ, ◌+◌, ◌<◌, ◌≤◌, List, [], ◌∷◌, length, All, Contains, Some, None, ◌∙◌, ap, arith}
+use Rattle.std.proofs.Common.{◌≡◌, ℕ, ◌+◌, ◌<◌, List, [], ◌∷◌, length, All, Contains, Some, None, ◌∙◌, ap}
 use Rattle.std.proofs.lemmas.List.Elements.{All-weaker, All-map}
 use Rattle.std.proofs.lemmas.Option.{slice_get_within}
 use Rattle.ms_logic.specs.declared.core_formula.Basic.{Basic as Relation}
@@ -18,7 +18,6 @@ use Rattle.ms_dag.specs.Dag.{places_in_maps}
 use Rattle.ms_dag.specs.Laws.{HasOrder}
 use Rattle.ms_dag.specs.Places.{AreBelow}
 use Rattle.ms_dag.specs.Scope.{IsInScope, forms_of}
-use Rattle.ms_core.specs.Subformulas.{subformulas, subformulas_of_each}
 use Rattle.ms_dag.specs.Shared.{IsShared, IsSharedNow, AreShared, AreSharedNow, Grown, IsAbove}
 use Rattle.ms_dag.specs.Unfolds.{names_of_basic}
 use Rattle.ms_dag.proofs.Growth.{IsShared-kept, Grown-both}
@@ -96,39 +95,35 @@ both_greatest orders old mid new scope q o x d f first second scoped one two =
 
 -- that each form stands in the graph
 
-module _ (orders : List Order) (old mid new : List Entry) (f : CoreForm) (part placed child : Child) (now : IsSharedNow orders old mid f part) (room : length old + (subformulas f + 1) ≤ 4294967295) where
+module _ (orders : List Order) (old mid new : List Entry) (f : CoreForm) (part placed child : Child) (now : IsSharedNow orders old mid f part) where
   pub step_negation : IsAbove orders mid new [] (part ∷ []) (Not placed) child → IsSharedNow orders old new (negation f) child
-  step_negation above = let small = now.grown.small in shared_negation orders old mid new f part placed child (omega arith) now.shared now.grown above
+  step_negation above = shared_negation orders old mid new f part placed child now.shared now.grown above
 
   pub step_restrict : IsAbove orders mid new [] (part ∷ []) (Restrict placed) child → IsSharedNow orders old new (restrict f) child
-  step_restrict above = let small = now.grown.small in shared_restrict orders old mid new f part placed child (omega arith) now.shared now.grown above
+  step_restrict above = shared_restrict orders old mid new f part placed child now.shared now.grown above
 
   pub step_unrestricted : (q : Quant) (o : Order) (x : ℕ) → HasOrder orders (variable x o) → IsAbove orders mid new (x ∷ []) (part ∷ []) (Bind q o (length child.map) None placed) child → IsSharedNow orders old new (quantified q o x unrestricted f) child
-  step_unrestricted q o x bound above = let small = now.grown.small in shared_unrestricted orders old mid new q o x child (omega arith) bound f part placed now.shared now.grown above
+  step_unrestricted q o x bound above = shared_unrestricted orders old mid new q o x child bound f part placed now.shared now.grown above
 
-module _ (orders : List Order) (old mid new : List Entry) (fs : CoreForms) (parts placed : List Child) (child : Child) (now : AreSharedNow orders old mid fs parts) (room : length old + (subformulas_of_each fs + 1) ≤ 4294967295) where
+module _ (orders : List Order) (old mid new : List Entry) (fs : CoreForms) (parts placed : List Child) (child : Child) (now : AreSharedNow orders old mid fs parts) where
   pub step_conjunction : IsAbove orders mid new [] parts (And placed) child → IsSharedNow orders old new (conjunction fs) child
-  step_conjunction above = let small = now.grown.small in shared_conjunction orders old mid new fs parts placed child (omega arith) now.shared now.grown above
+  step_conjunction above = shared_conjunction orders old mid new fs parts placed child now.shared now.grown above
 
   pub step_disjunction : IsAbove orders mid new [] parts (Or placed) child → IsSharedNow orders old new (disjunction fs) child
-  step_disjunction above = let small = now.grown.small in shared_disjunction orders old mid new fs parts placed child (omega arith) now.shared now.grown above
+  step_disjunction above = shared_disjunction orders old mid new fs parts placed child now.shared now.grown above
 
-module _ (orders : List Order) (old between mid new : List Entry) (f g : CoreForm) (left right one two child : Child) (first : IsSharedNow orders old between f left) (second : IsSharedNow orders between mid g right)
-    (room : length old + (subformulas f + subformulas g + 1) ≤ 4294967295) where
+module _ (orders : List Order) (old between mid new : List Entry) (f g : CoreForm) (left right one two child : Child) (first : IsSharedNow orders old between f left) (second : IsSharedNow orders between mid g right) where
   kept_first : IsShared orders mid f left
   kept_first = IsShared-kept between mid second.grown.kept orders f left first.shared
 
-  both_grown : Grown old mid (subformulas f + subformulas g) (left ∷ right ∷ [])
-  both_grown = Grown-both old between mid (subformulas f) (subformulas g) (left ∷ []) (right ∷ []) first.grown second.grown
-
-  few : length mid < 4294967295
-  few = let small = both_grown.small in omega arith
+  both_grown : Grown old mid (left ∷ right ∷ [])
+  both_grown = Grown-both old between mid (left ∷ []) (right ∷ []) first.grown second.grown
 
   pub step_implication : IsAbove orders mid new [] (left ∷ right ∷ []) (Implies one two) child → IsSharedNow orders old new (implication f g) child
-  step_implication above = shared_implication orders old mid new f g left right one two child few kept_first second.shared both_grown above
+  step_implication above = shared_implication orders old mid new f g left right one two child kept_first second.shared both_grown above
 
   pub step_equivalence : IsAbove orders mid new [] (left ∷ right ∷ []) (Iff one two) child → IsSharedNow orders old new (equivalence f g) child
-  step_equivalence above = shared_equivalence orders old mid new f g left right one two child few kept_first second.shared both_grown above
+  step_equivalence above = shared_equivalence orders old mid new f g left right one two child kept_first second.shared both_grown above
 
   pub step_restricted : (q : Quant) (o : Order) (x : ℕ) → HasOrder orders (variable x o) → IsAbove orders mid new (x ∷ []) (left ∷ right ∷ []) (Bind q o (length child.map) (Some one) two) child → IsSharedNow orders old new (quantified q o x (restricted f) g) child
-  step_restricted q o x bound above = shared_restricted orders old mid new q o x child few bound f g left right one two kept_first second.shared both_grown above
+  step_restricted q o x bound above = shared_restricted orders old mid new q o x child bound f g left right one two kept_first second.shared both_grown above

@@ -17,7 +17,6 @@ use Rattle.ms_dag.specs.Dag.{children_of, orders_inside, HasOwnOrders, places_in
 use Rattle.ms_dag.specs.Laws.{HasOrder}
 use Rattle.ms_dag.specs.Places.{AreAt, AreBelow, AreAmong}
 use Rattle.ms_dag.specs.Scope.{IsInScope, AreInScope}
-use Rattle.ms_core.specs.Subformulas.{subformulas, subformulas_of_each}
 use Rattle.ms_dag.specs.Shared.{IsShared, IsSharedNow, AreShared, Grown, IsAbove}
 use Rattle.ms_dag.specs.Unfolds.{node_at, Unfolds, UnfoldEach}
 use Rattle.ms_dag.proofs.Growth.{Keeps-numbers}
@@ -62,23 +61,23 @@ parts_scoped orders entries (more_forms f fs) (p ∷ ps) are scope scoped =
 
 -- a node above shared parts
 module _ (orders : List Order) (mid new : List Entry) (bound : List ℕ) (parts : List Child) (node : DagNode) (child : Child) (above : IsAbove orders mid new bound parts node child) (nodes : AreNodes mid)
-    (room : length mid < 4294967295) (fs : CoreForms) (are : AreShared orders mid fs parts) (inside : AreAt orders (child.map ++ bound) (orders_inside node above.made.own)) (own : HasOwnOrders node above.made.own)
+    (fs : CoreForms) (are : AreShared orders mid fs parts) (inside : AreAt orders (child.map ++ bound) (orders_inside node above.made.own)) (own : HasOwnOrders node above.made.own)
     (places : places_of node ≡ places_in_maps (children_of node)) where
   is_node : IsNode mid (length mid) (record { node = node; orders = above.made.own })
   is_node = above_is_node orders mid new bound parts node child above (AreKnown-shared orders mid fs parts are) inside own places
 
   pub each_part : UnfoldEach new fs (child.map ++ bound) child.node (children_of node)
   each_part =
-      let here = made_is_node orders mid new node child.map child above.made nodes room is_node in
+      let here = made_is_node orders mid new node child.map child above.made nodes is_node in
       read_each orders mid new fs (child.map ++ bound) (orders_inside node above.made.own) parts (children_of node) child.node (Keeps-numbers mid new _ above.made.numbers) are above.children
       (sym (AreAt-length orders (child.map ++ bound) (orders_inside node above.made.own) inside)) here.children
 
   pub at_number : node_at new child.node ≡ Some node
-  at_number = node_at-made orders mid new node child.map child above.made nodes room is_node
+  at_number = node_at-made orders mid new node child.map child above.made nodes is_node
 
-  pub grown_above : (old : List Entry) (count : ℕ) → Grown old mid count parts → Grown old new (count + 1) (child ∷ [])
-  grown_above old count grown =
-      Grown-made orders mid new node child.map child above.made nodes room is_node old count parts (same_nodes (child.map ++ bound) parts (children_of node) above.children) grown
+  pub grown_above : (old : List Entry) → Grown old mid parts → Grown old new (child ∷ [])
+  grown_above old grown =
+      Grown-made orders mid new node child.map child above.made nodes is_node old parts (same_nodes (child.map ++ bound) parts (children_of node) above.children) grown
 
   -- the variables are in scope where those of the parts are
   pub scoped_above : (scope : List ℕ) → AreInScope orders scope fs → AreAmong scope child.map
@@ -110,8 +109,8 @@ module _ (scope names : List ℕ) (x : ℕ) where
       (Contains-cases x scope y (All-contains (Contains (x ∷ scope)) names y among there)))
 
 -- connectives
-module _ (orders : List Order) (old mid new : List Entry) (parts : List Child) (node : DagNode) (child : Child) (above : IsAbove orders mid new [] parts node child) (room : length mid < 4294967295) (fs : CoreForms)
-    (are : AreShared orders mid fs parts) (grown : Grown old mid (subformulas_of_each fs) parts) (no_binder : orders_inside node above.made.own ≡ above.made.own) (own : HasOwnOrders node above.made.own)
+module _ (orders : List Order) (old mid new : List Entry) (parts : List Child) (node : DagNode) (child : Child) (above : IsAbove orders mid new [] parts node child) (fs : CoreForms)
+    (are : AreShared orders mid fs parts) (grown : Grown old mid parts) (no_binder : orders_inside node above.made.own ≡ above.made.own) (own : HasOwnOrders node above.made.own)
     (places : places_of node ≡ places_in_maps (children_of node)) where
   own_inside : AreAt orders (child.map ++ []) (orders_inside node above.made.own)
   own_inside = subst (λ os. AreAt orders (child.map ++ []) os) (sym no_binder) (subst (λ list. AreAt orders list above.made.own) (sym (append-nil child.map)) above.made.ordered)
@@ -119,91 +118,87 @@ module _ (orders : List Order) (old mid new : List Entry) (parts : List Child) (
   each_own : UnfoldEach new fs child.map child.node (children_of node)
   each_own =
       subst (λ list. UnfoldEach new fs list child.node (children_of node)) (append-nil child.map)
-      (each_part orders mid new [] parts node child above grown.nodes room fs are own_inside own places)
+      (each_part orders mid new [] parts node child above grown.nodes fs are own_inside own places)
 
   at_own : node_at new child.node ≡ Some node
-  at_own = at_number orders mid new [] parts node child above grown.nodes room fs are own_inside own places
+  at_own = at_number orders mid new [] parts node child above grown.nodes fs are own_inside own places
 
-  connected : (f : CoreForm) → subformulas f ≡ subformulas_of_each fs + 1 → Unfolds new f child.map child.node → ((scope : List ℕ) → IsInScope orders scope f → AreInScope orders scope fs) → IsSharedNow orders old new f child
-  connected f size unfolds scoped = record {
-    grown = subst (λ n. Grown old new n (child ∷ [])) (sym size) (grown_above orders mid new [] parts node child above grown.nodes room fs are own_inside own places old (subformulas_of_each fs) grown);
-    shared = shared_above orders mid new [] parts node child above grown.nodes room fs are own_inside own places f unfolds
-        (λ scope in_scope. scoped_above orders mid new [] parts node child above grown.nodes room fs are own_inside own places scope (scoped scope in_scope));
+  connected : (f : CoreForm) → Unfolds new f child.map child.node → ((scope : List ℕ) → IsInScope orders scope f → AreInScope orders scope fs) → IsSharedNow orders old new f child
+  connected f unfolds scoped = record {
+    grown = grown_above orders mid new [] parts node child above grown.nodes fs are own_inside own places old grown;
+    shared = shared_above orders mid new [] parts node child above grown.nodes fs are own_inside own places f unfolds
+        (λ scope in_scope. scoped_above orders mid new [] parts node child above grown.nodes fs are own_inside own places scope (scoped scope in_scope));
   }
 
-module _ (orders : List Order) (old mid new : List Entry) (f : CoreForm) (part placed child : Child) (room : length mid < 4294967295) (shared : IsShared orders mid f part) (grown : Grown old mid (subformulas f) (part ∷ [])) where
+module _ (orders : List Order) (old mid new : List Entry) (f : CoreForm) (part placed child : Child) (shared : IsShared orders mid f part) (grown : Grown old mid (part ∷ [])) where
   pub shared_negation : IsAbove orders mid new [] (part ∷ []) (Not placed) child → IsSharedNow orders old new (negation f) child
   shared_negation above =
       let fs = more_forms f no_forms in
-      let total : Grown old mid (subformulas_of_each fs) (part ∷ []) = subst (λ n. Grown old mid n (part ∷ [])) (omega arith) grown in
-      let each = each_own orders old mid new (part ∷ []) (Not placed) child above room fs (shared, tt) total refl tt refl in
-      let at = at_own orders old mid new (part ∷ []) (Not placed) child above room fs (shared, tt) total refl tt refl in
-      connected orders old mid new (part ∷ []) (Not placed) child above room fs (shared, tt) total refl tt refl (negation f) (omega arith) (placed, at, each.0) (λ scope scoped. (scoped, tt))
+      let each = each_own orders old mid new (part ∷ []) (Not placed) child above fs (shared, tt) grown refl tt refl in
+      let at = at_own orders old mid new (part ∷ []) (Not placed) child above fs (shared, tt) grown refl tt refl in
+      connected orders old mid new (part ∷ []) (Not placed) child above fs (shared, tt) grown refl tt refl (negation f) (placed, at, each.0) (λ scope scoped. (scoped, tt))
 
   pub shared_restrict : IsAbove orders mid new [] (part ∷ []) (Restrict placed) child → IsSharedNow orders old new (restrict f) child
   shared_restrict above =
       let fs = more_forms f no_forms in
-      let total : Grown old mid (subformulas_of_each fs) (part ∷ []) = subst (λ n. Grown old mid n (part ∷ [])) (omega arith) grown in
-      let each = each_own orders old mid new (part ∷ []) (Restrict placed) child above room fs (shared, tt) total refl tt refl in
-      let at = at_own orders old mid new (part ∷ []) (Restrict placed) child above room fs (shared, tt) total refl tt refl in
-      connected orders old mid new (part ∷ []) (Restrict placed) child above room fs (shared, tt) total refl tt refl (restrict f) (omega arith) (placed, at, each.0) (λ scope scoped. (scoped, tt))
+      let each = each_own orders old mid new (part ∷ []) (Restrict placed) child above fs (shared, tt) grown refl tt refl in
+      let at = at_own orders old mid new (part ∷ []) (Restrict placed) child above fs (shared, tt) grown refl tt refl in
+      connected orders old mid new (part ∷ []) (Restrict placed) child above fs (shared, tt) grown refl tt refl (restrict f) (placed, at, each.0) (λ scope scoped. (scoped, tt))
 
-module _ (orders : List Order) (old mid new : List Entry) (fs : CoreForms) (parts placed : List Child) (child : Child) (room : length mid < 4294967295) (are : AreShared orders mid fs parts) (grown : Grown old mid (subformulas_of_each fs) parts) where
+module _ (orders : List Order) (old mid new : List Entry) (fs : CoreForms) (parts placed : List Child) (child : Child) (are : AreShared orders mid fs parts) (grown : Grown old mid parts) where
   pub shared_conjunction : IsAbove orders mid new [] parts (And placed) child → IsSharedNow orders old new (conjunction fs) child
   shared_conjunction above =
-      let each = each_own orders old mid new parts (And placed) child above room fs are grown refl tt refl in
-      let at = at_own orders old mid new parts (And placed) child above room fs are grown refl tt refl in
-      connected orders old mid new parts (And placed) child above room fs are grown refl tt refl (conjunction fs) refl (placed, at, each) (λ scope scoped. scoped)
+      let each = each_own orders old mid new parts (And placed) child above fs are grown refl tt refl in
+      let at = at_own orders old mid new parts (And placed) child above fs are grown refl tt refl in
+      connected orders old mid new parts (And placed) child above fs are grown refl tt refl (conjunction fs) (placed, at, each) (λ scope scoped. scoped)
 
   pub shared_disjunction : IsAbove orders mid new [] parts (Or placed) child → IsSharedNow orders old new (disjunction fs) child
   shared_disjunction above =
-      let each = each_own orders old mid new parts (Or placed) child above room fs are grown refl tt refl in
-      let at = at_own orders old mid new parts (Or placed) child above room fs are grown refl tt refl in
-      connected orders old mid new parts (Or placed) child above room fs are grown refl tt refl (disjunction fs) refl (placed, at, each) (λ scope scoped. scoped)
+      let each = each_own orders old mid new parts (Or placed) child above fs are grown refl tt refl in
+      let at = at_own orders old mid new parts (Or placed) child above fs are grown refl tt refl in
+      connected orders old mid new parts (Or placed) child above fs are grown refl tt refl (disjunction fs) (placed, at, each) (λ scope scoped. scoped)
 
-module _ (orders : List Order) (old mid new : List Entry) (f g : CoreForm) (left right one two child : Child) (room : length mid < 4294967295) (first : IsShared orders mid f left) (second : IsShared orders mid g right)
-    (grown : Grown old mid (subformulas f + subformulas g) (left ∷ right ∷ [])) where
+module _ (orders : List Order) (old mid new : List Entry) (f g : CoreForm) (left right one two child : Child) (first : IsShared orders mid f left) (second : IsShared orders mid g right)
+    (grown : Grown old mid (left ∷ right ∷ [])) where
   pub shared_implication : IsAbove orders mid new [] (left ∷ right ∷ []) (Implies one two) child → IsSharedNow orders old new (implication f g) child
   shared_implication above =
       let fs = more_forms f (more_forms g no_forms) in
       let parts : List Child = left ∷ right ∷ [] in
-      let total : Grown old mid (subformulas_of_each fs) parts = subst (λ n. Grown old mid n parts) (omega arith) grown in
-      let each = each_own orders old mid new parts (Implies one two) child above room fs (first, (second, tt)) total refl tt refl in
-      let at = at_own orders old mid new parts (Implies one two) child above room fs (first, (second, tt)) total refl tt refl in
-      connected orders old mid new parts (Implies one two) child above room fs (first, (second, tt)) total refl tt refl (implication f g) (omega arith) (one, two, at, each.0, each.1.0) (λ scope scoped. (scoped.0, (scoped.1, tt)))
+      let each = each_own orders old mid new parts (Implies one two) child above fs (first, (second, tt)) grown refl tt refl in
+      let at = at_own orders old mid new parts (Implies one two) child above fs (first, (second, tt)) grown refl tt refl in
+      connected orders old mid new parts (Implies one two) child above fs (first, (second, tt)) grown refl tt refl (implication f g) (one, two, at, each.0, each.1.0) (λ scope scoped. (scoped.0, (scoped.1, tt)))
 
   pub shared_equivalence : IsAbove orders mid new [] (left ∷ right ∷ []) (Iff one two) child → IsSharedNow orders old new (equivalence f g) child
   shared_equivalence above =
       let fs = more_forms f (more_forms g no_forms) in
       let parts : List Child = left ∷ right ∷ [] in
-      let total : Grown old mid (subformulas_of_each fs) parts = subst (λ n. Grown old mid n parts) (omega arith) grown in
-      let each = each_own orders old mid new parts (Iff one two) child above room fs (first, (second, tt)) total refl tt refl in
-      let at = at_own orders old mid new parts (Iff one two) child above room fs (first, (second, tt)) total refl tt refl in
-      connected orders old mid new parts (Iff one two) child above room fs (first, (second, tt)) total refl tt refl (equivalence f g) (omega arith) (one, two, at, each.0, each.1.0) (λ scope scoped. (scoped.0, (scoped.1, tt)))
+      let each = each_own orders old mid new parts (Iff one two) child above fs (first, (second, tt)) grown refl tt refl in
+      let at = at_own orders old mid new parts (Iff one two) child above fs (first, (second, tt)) grown refl tt refl in
+      connected orders old mid new parts (Iff one two) child above fs (first, (second, tt)) grown refl tt refl (equivalence f g) (one, two, at, each.0, each.1.0) (λ scope scoped. (scoped.0, (scoped.1, tt)))
 
 -- quantifiers
-module _ (orders : List Order) (old mid new : List Entry) (q : Quant) (o : Order) (x : ℕ) (child : Child) (room : length mid < 4294967295) (bound : HasOrder orders (variable x o)) where
+module _ (orders : List Order) (old mid new : List Entry) (q : Quant) (o : Order) (x : ℕ) (child : Child) (bound : HasOrder orders (variable x o)) where
   binder_inside : (own : List Order) → AreAt orders child.map own → AreAt orders (child.map ++ x ∷ []) (own ++ o ∷ [])
   binder_inside own ordered = AreAt-push orders child.map own x o ordered bound
 
-  pub shared_unrestricted : (f : CoreForm) (part placed : Child) → IsShared orders mid f part → Grown old mid (subformulas f) (part ∷ []) → IsAbove orders mid new (x ∷ []) (part ∷ []) (Bind q o (length child.map) None placed) child →
+  pub shared_unrestricted : (f : CoreForm) (part placed : Child) → IsShared orders mid f part → Grown old mid (part ∷ []) → IsAbove orders mid new (x ∷ []) (part ∷ []) (Bind q o (length child.map) None placed) child →
       IsSharedNow orders old new (quantified q o x unrestricted f) child
   shared_unrestricted f part placed shared grown above =
       let node = Bind q o (length child.map) None placed in
       let fs = more_forms f no_forms in
       let inside = binder_inside above.made.own above.made.ordered in
       let own : length child.map ≡ length above.made.own = AreAt-length orders child.map above.made.own above.made.ordered in
-      let each = each_part orders mid new (x ∷ []) (part ∷ []) node child above grown.nodes room fs (shared, tt) inside own refl in
-      let at = at_number orders mid new (x ∷ []) (part ∷ []) node child above grown.nodes room fs (shared, tt) inside own refl in
+      let each = each_part orders mid new (x ∷ []) (part ∷ []) node child above grown.nodes fs (shared, tt) inside own refl in
+      let at = at_number orders mid new (x ∷ []) (part ∷ []) node child above grown.nodes fs (shared, tt) inside own refl in
       let greatest = last_is_greatest child.map x above.rising in
       record {
-        grown = subst (λ n. Grown old new n (child ∷ [])) (omega arith) (grown_above orders mid new (x ∷ []) (part ∷ []) node child above grown.nodes room fs (shared, tt) inside own refl old (subformulas f) grown);
-        shared = shared_above orders mid new (x ∷ []) (part ∷ []) node child above grown.nodes room fs (shared, tt) inside own refl (quantified q o x unrestricted f)
+        grown = grown_above orders mid new (x ∷ []) (part ∷ []) node child above grown.nodes fs (shared, tt) inside own refl old grown;
+        shared = shared_above orders mid new (x ∷ []) (part ∷ []) node child above grown.nodes fs (shared, tt) inside own refl (quantified q o x unrestricted f)
             (None, placed, at, greatest, tt, each.0)
-            (λ scope scoped. among_others scope child.map x (scoped_above orders mid new (x ∷ []) (part ∷ []) node child above grown.nodes room fs (shared, tt) inside own refl (x ∷ scope) (scoped.3, tt)) greatest);
+            (λ scope scoped. among_others scope child.map x (scoped_above orders mid new (x ∷ []) (part ∷ []) node child above grown.nodes fs (shared, tt) inside own refl (x ∷ scope) (scoped.3, tt)) greatest);
       }
 
-  pub shared_restricted : (d f : CoreForm) (first second one two : Child) → IsShared orders mid d first → IsShared orders mid f second → Grown old mid (subformulas d + subformulas f) (first ∷ second ∷ []) →
+  pub shared_restricted : (d f : CoreForm) (first second one two : Child) → IsShared orders mid d first → IsShared orders mid f second → Grown old mid (first ∷ second ∷ []) →
       IsAbove orders mid new (x ∷ []) (first ∷ second ∷ []) (Bind q o (length child.map) (Some one) two) child → IsSharedNow orders old new (quantified q o x (restricted d) f) child
   shared_restricted d f first second one two shared_d shared_f grown above =
       let node = Bind q o (length child.map) (Some one) two in
@@ -212,12 +207,12 @@ module _ (orders : List Order) (old mid new : List Entry) (q : Quant) (o : Order
       let are : AreShared orders mid fs parts = (shared_d, (shared_f, tt)) in
       let inside = binder_inside above.made.own above.made.ordered in
       let own : length child.map ≡ length above.made.own = AreAt-length orders child.map above.made.own above.made.ordered in
-      let each = each_part orders mid new (x ∷ []) parts node child above grown.nodes room fs are inside own refl in
-      let at = at_number orders mid new (x ∷ []) parts node child above grown.nodes room fs are inside own refl in
+      let each = each_part orders mid new (x ∷ []) parts node child above grown.nodes fs are inside own refl in
+      let at = at_number orders mid new (x ∷ []) parts node child above grown.nodes fs are inside own refl in
       let greatest = last_is_greatest child.map x above.rising in
       record {
-        grown = grown_above orders mid new (x ∷ []) parts node child above grown.nodes room fs are inside own refl old (subformulas d + subformulas f) grown;
-        shared = shared_above orders mid new (x ∷ []) parts node child above grown.nodes room fs are inside own refl (quantified q o x (restricted d) f)
+        grown = grown_above orders mid new (x ∷ []) parts node child above grown.nodes fs are inside own refl old grown;
+        shared = shared_above orders mid new (x ∷ []) parts node child above grown.nodes fs are inside own refl (quantified q o x (restricted d) f)
             (Some one, two, at, greatest, each.0, each.1.0)
-            (λ scope scoped. among_others scope child.map x (scoped_above orders mid new (x ∷ []) parts node child above grown.nodes room fs are inside own refl (x ∷ scope) (scoped.2, (scoped.3, tt))) greatest);
+            (λ scope scoped. among_others scope child.map x (scoped_above orders mid new (x ∷ []) parts node child above grown.nodes fs are inside own refl (x ∷ scope) (scoped.2, (scoped.3, tt))) greatest);
       }

@@ -1,5 +1,5 @@
 -- Constants, basic relations and imports stand in the graph when their nodes have numbers.
-use Rattle.std.proofs.Common.{◌≡◌, ℕ, ◌<◌, List, [], ◌∷◌, length, map, get_or, slice_get, slice_index, All, Contains, Some, refl, sym, ◌∙◌, ap, subst, arith}
+use Rattle.std.proofs.Common.{◌≡◌, ℕ, ◌<◌, List, [], length, map, get_or, slice_get, slice_index, All, Contains, Some, refl, sym, ◌∙◌, ap, subst, arith}
 use Rattle.std.proofs.lemmas.List.Elements.{All-nil, All-contains, All-weaker, All-map}
 use Rattle.std.proofs.lemmas.Option.{slice_get-get_or}
 use Rattle.std.specs.List.Sorted.{IsStrictlyIncreasing}
@@ -19,8 +19,7 @@ use Rattle.ms_dag.specs.Laws.{HasOrder}
 use Rattle.ms_dag.specs.Places.{AreAt, AreBelow, AreAmong}
 use Rattle.ms_dag.specs.Relations.{IsBasicNode, IsImportNode}
 use Rattle.ms_dag.specs.Scope.{IsInScope}
-use Rattle.ms_core.specs.Subformulas.{subformulas}
-use Rattle.ms_dag.specs.Shared.{IsSharedNow, Grown, IsMade}
+use Rattle.ms_dag.specs.Shared.{IsSharedNow, IsMade}
 use Rattle.ms_dag.specs.Unfolds.{node_at, renamed, names_of_basic, Unfolds}
 use Rattle.ms_dag.proofs.Growth.{Grown-none}
 use Rattle.ms_dag.proofs.MadeNodes.{node_at-made, Grown-made}
@@ -55,15 +54,14 @@ variables-renamed name (Max x s) = refl
 variables-renamed name (Bits s n) = refl
 
 -- a node with no children
-module _ (orders : List Order) (old new : List Entry) (node : DagNode) (child : Child) (made : IsMade orders old new node child.map child) (nodes : AreNodes old) (room : length old < 4294967295)
+module _ (orders : List Order) (old new : List Entry) (node : DagNode) (child : Child) (made : IsMade orders old new node child.map child) (nodes : AreNodes old)
     (none : children_of node ≡ []) (is_node : IsNode old (length old) (record { node = node; orders = made.own })) where
   at_leaf : node_at new child.node ≡ Some node
-  at_leaf = node_at-made orders old new node child.map child made nodes room is_node
+  at_leaf = node_at-made orders old new node child.map child made nodes is_node
 
-  shared_leaf : (f : CoreForm) → subformulas f ≡ 1 → Unfolds new f child.map child.node → IsStrictlyIncreasing child.map → ((scope : List ℕ) → IsInScope orders scope f → AreAmong scope child.map) → IsSharedNow orders old new f child
-  shared_leaf f size unfolds rising scoped = record {
-    grown = subst (λ n. Grown old new n (child ∷ [])) (omega (arith, size))
-        (Grown-made orders old new node child.map child made nodes room is_node old 0 [] (ap (map (λ (c : Child). c.node)) (sym none)) (Grown-none old nodes));
+  shared_leaf : (f : CoreForm) → Unfolds new f child.map child.node → IsStrictlyIncreasing child.map → ((scope : List ℕ) → IsInScope orders scope f → AreAmong scope child.map) → IsSharedNow orders old new f child
+  shared_leaf f unfolds rising scoped = record {
+    grown = Grown-made orders old new node child.map child made nodes is_node old [] (ap (map (λ (c : Child). c.node)) (sym none)) (Grown-none old nodes);
     shared = record {
       unfolds = unfolds;
       rising = rising;
@@ -73,7 +71,7 @@ module _ (orders : List Order) (old new : List Entry) (node : DagNode) (child : 
   }
 
 -- a constant
-module _ (orders : List Order) (old new : List Entry) (child : Child) (nodes : AreNodes old) (room : length old < 4294967295) where
+module _ (orders : List Order) (old new : List Entry) (child : Child) (nodes : AreNodes old) where
   no_own : (own : List Order) → AreAt orders [] own → (j : ℕ) → j < length own → ⊥
   no_own own ordered j below = let long = AreAt-length orders [] own ordered in omega (arith, long, below)
 
@@ -89,7 +87,7 @@ module _ (orders : List Order) (old new : List Entry) (child : Child) (nodes : A
         own = tt;
         free = λ j below. absurd (no_own made.own ordered j below);
       } in
-      shared_leaf orders old new True child made nodes room refl is_node truth refl (at_leaf orders old new True child made nodes room refl is_node) (none_rise child.map given.map)
+      shared_leaf orders old new True child made nodes refl is_node truth (at_leaf orders old new True child made nodes refl is_node) (none_rise child.map given.map)
       (λ scope scoped. subst (λ list. AreAmong scope list) (sym given.map) (All-nil (Contains scope)))
 
   pub shared_falsity : IsMade orders old new False [] child → IsSharedNow orders old new falsity child
@@ -101,7 +99,7 @@ module _ (orders : List Order) (old new : List Entry) (child : Child) (nodes : A
         own = tt;
         free = λ j below. absurd (no_own made.own ordered j below);
       } in
-      shared_leaf orders old new False child made nodes room refl is_node falsity refl (at_leaf orders old new False child made nodes room refl is_node) (none_rise child.map given.map)
+      shared_leaf orders old new False child made nodes refl is_node falsity (at_leaf orders old new False child made nodes refl is_node) (none_rise child.map given.map)
       (λ scope scoped. subst (λ list. AreAmong scope list) (sym given.map) (All-nil (Contains scope)))
 
   -- an import
@@ -116,8 +114,8 @@ module _ (orders : List Order) (old new : List Entry) (child : Child) (nodes : A
         own = subst (λ n. AreBelow n is.own) long within;
         free = leaf_free orders child.map made.own made.ordered is.own xs is.rising is.places back;
       } in
-      shared_leaf orders old new (Import i is.own) child made nodes room refl is_node (imported i xs) refl
-      (is.own, at_leaf orders old new (Import i is.own) child made nodes room refl is_node, within, sym (AreAt-picked child.map is.own xs is.places)) is.rising
+      shared_leaf orders old new (Import i is.own) child made nodes refl is_node (imported i xs)
+      (is.own, at_leaf orders old new (Import i is.own) child made nodes refl is_node, within, sym (AreAt-picked child.map is.own xs is.places)) is.rising
       (λ scope scoped. scoped_leaf scope xs child.map back scoped.0)
 
   -- a basic relation, whose variables have their orders
@@ -144,7 +142,7 @@ module _ (orders : List Order) (old new : List Entry) (child : Child) (nodes : A
         own = basic_orders b is.own made.own made.ordered within is.placed.renamed_is held;
         free = leaf_free orders child.map made.own made.ordered (names_of_basic is.own) (names_of_basic b) is.rising places back;
       } in
-      shared_leaf orders old new (Basic is.own) child made nodes room refl is_node (basic b) refl
-      (is.own, at_leaf orders old new (Basic is.own) child made nodes room refl is_node, within, is.placed.renamed_is) is.rising
+      shared_leaf orders old new (Basic is.own) child made nodes refl is_node (basic b)
+      (is.own, at_leaf orders old new (Basic is.own) child made nodes refl is_node, within, is.placed.renamed_is) is.rising
       (λ scope scoped. scoped_leaf scope (names_of_basic b) child.map back
       (All-map (Contains scope) (λ (v : Variable). v.name) (variables_of_basic b) (All-weaker (λ (v : Variable). Contains scope v.name × HasOrder orders v) (λ (v : Variable). Contains scope v.name) (λ v both. both.0) (variables_of_basic b) scoped)))

@@ -1,5 +1,5 @@
 -- What lowering promises of its answer.
-use Rattle.std.specs.Prelude.{◌≡◌, ◌+◌, ◌≤◌, List, length, map}
+use Rattle.std.specs.Prelude.{◌≡◌, List, map}
 use Rattle.std.specs.List.Sorted.{IsStrictlyIncreasing}
 use Rattle.ms_logic.specs.declared.core_formula.Lowered.{Lowered}
 use Rattle.ms_logic.specs.declared.core_formula.Root as code
@@ -9,7 +9,6 @@ use Rattle.ms_logic.specs.CoreForm.{core_form_of}
 use Rattle.ms_logic.specs.Truth.{Import}
 use Rattle.ms_rules.specs.Numbers.{Each}
 use Rattle.ms_dag.specs.Laws.{HasOrder, HaveTheirOrders}
-use Rattle.ms_core.specs.Subformulas.{subformulas_of_roots}
 use Rattle.ms_core.specs.Stands.{Stands}
 
 -- a root over a rising list of variables, each of which has its order among these: the variables of its formula stand in their scopes, and
@@ -24,4 +23,3 @@ pub record IsLoweredRoot (imports : List Import) (orders : List Order) (root : c
 
 pub record IsLowered (imports : List Import) (lowered : Lowered) : Type 0 where
   pub roots : Each (IsLoweredRoot imports lowered.orders) lowered.roots
-  pub small : subformulas_of_roots lowered.roots + length lowered.roots ≤ 4294967295

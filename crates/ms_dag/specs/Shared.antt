@@ -1,9 +1,9 @@
 -- Formulas that stand in a graph, while it grows.
-use Rattle.std.specs.Prelude.{◌≡◌, ℕ, ◌+◌, ◌<◌, ◌≤◌, List, [], ◌∷◌, ◌++◌, length, slice_get, Some}
+use Rattle.std.specs.Prelude.{◌≡◌, ℕ, ◌<◌, ◌≤◌, List, [], ◌∷◌, ◌++◌, length, slice_get, Some}
 use Rattle.std.specs.List.Sorted.{IsStrictlyIncreasing}
 use Rattle.ms_logic.specs.declared.core_formula.Root.{Root}
 use Rattle.ms_logic.specs.declared.mode.Order.{Order}
-use Rattle.ms_logic.specs.CoreForm.{CoreForm, CoreForms, no_forms, more_forms, core_form_of}
+use Rattle.ms_logic.specs.CoreForm.{CoreForm, CoreForms, no_forms, more_forms}
 use Rattle.ms_dag.specs.declared.dag.SharedRoot.{SharedRoot}
 use Rattle.ms_dag.specs.declared.node.Child.{Child}
 use Rattle.ms_dag.specs.declared.node.DagNode.{DagNode}
@@ -14,7 +14,6 @@ use Rattle.ms_dag.specs.Maps.{AreTheSameIn}
 use Rattle.ms_dag.specs.Places.{AreAt, AreAmong}
 use Rattle.ms_dag.specs.Scope.{IsInScope}
 use Rattle.ms_dag.specs.Share.{IsRootOf, AreRootsOf, children_of_roots}
-use Rattle.ms_core.specs.Subformulas.{subformulas, subformulas_of_each, subformulas_of_roots}
 use Rattle.ms_dag.specs.Unfolds.{Unfolds}
 
 -- the child is the formula, where its variables have their numbers in the source
@@ -30,21 +29,20 @@ AreShared orders entries no_forms (child ∷ children) = ⊥
 AreShared orders entries (more_forms f fs) [] = ⊥
 AreShared orders entries (more_forms f fs) (child ∷ children) = IsShared orders entries f child × AreShared orders entries fs children
 
--- the graph grew by so many nodes at most, each of which is used below these
-pub record Grown (old new : List Entry) (count : ℕ) (tops : List Child) : Type 0 where
+-- the graph grew by nodes each of which is used below these
+pub record Grown (old new : List Entry) (tops : List Child) : Type 0 where
   pub kept : (i : ℕ) (entry : Entry) → slice_get old i ≡ Some entry → slice_get new i ≡ Some entry
   pub nodes : AreNodes new
-  pub small : length new ≤ length old + count
   pub used : (i : ℕ) → length old ≤ i → i < length new → IsUsed new tops i
 
--- the formula stands in the graph, which grew by its subformulas at most
+-- the formula stands in the graph, which grew by nodes below it
 pub record IsSharedNow (orders : List Order) (old new : List Entry) (f : CoreForm) (child : Child) : Type 0 where
-  pub grown : Grown old new (subformulas f) (child ∷ [])
+  pub grown : Grown old new (child ∷ [])
   pub shared : IsShared orders new f child
 
 -- the same for each of these formulas
 pub record AreSharedNow (orders : List Order) (old new : List Entry) (fs : CoreForms) (children : List Child) : Type 0 where
-  pub grown : Grown old new (subformulas_of_each fs) children
+  pub grown : Grown old new children
   pub shared : AreShared orders new fs children
 
 -- the child is the node with these variables, which has got a number
@@ -65,10 +63,10 @@ pub record IsAbove (orders : List Order) (old new : List Entry) (bound : List �
 
 -- a root that was shared, while the graph grows
 pub record IsRootNow (orders : List Order) (old new : List Entry) (root : Root) (shared : SharedRoot) : Type 0 where
-  pub grown : Grown old new (subformulas (core_form_of root.core)) (shared.child ∷ [])
+  pub grown : Grown old new (shared.child ∷ [])
   pub root_of : IsRootOf orders new root shared
 
 -- the roots that were shared
 pub record AreRootsNow (orders : List Order) (entries : List Entry) (roots : List Root) (shared : List SharedRoot) : Type 0 where
-  pub grown : Grown [] entries (subformulas_of_roots roots) (children_of_roots shared)
+  pub grown : Grown [] entries (children_of_roots shared)
   pub roots_of : AreRootsOf orders entries roots shared

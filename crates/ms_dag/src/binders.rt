@@ -6,7 +6,7 @@ ghost use Rattle.ms_dag.specs.Shared.{IsAbove};
 ghost use Rattle.ms_dag.specs.declared.node.Child.{Child};
 ghost use Rattle.ms_dag.specs.declared.node.DagNode.TheVariants.{Bind};
 ghost use Rattle.std.specs.List.Sorted.{IsStrictlyIncreasing};
-ghost use Rattle.std.specs.Prelude.{◌≡◌, ◌<◌, ◌≤◌, ◌+◌, [], ◌∷◌, ◌++◌, ℕ, length, true, false, List as Sequence, IfOk, OnOk};
+ghost use Rattle.std.specs.Prelude.{◌≡◌, ◌≤◌, ◌+◌, [], ◌∷◌, ◌++◌, ℕ, length, true, false, List as Sequence, IfOk, OnOk};
 
 use crate::connectives::number_node;
 use crate::maps::placed;
@@ -64,7 +64,6 @@ pub(crate) fn above_body(
     body: Child,
 ) -> Result<Child, NoMemory>
     requires keyed { IsKeyed nodes.old }
-    requires room { length nodes.old.entries < 4294967295 }
     requires known { AreBelow (length orders.now) (places_in_maps (body ∷ [])) }
     requires greatest { AreBelow (binder.variable + 1) (places_in_maps (body ∷ [])) }
     ensures keyed { OnOk result (IsKeyed nodes.new) }
@@ -90,7 +89,6 @@ pub(crate) fn above_restricted(
     body: Child,
 ) -> Result<Child, NoMemory>
     requires keyed { IsKeyed nodes.old }
-    requires room { length nodes.old.entries < 4294967295 }
     requires known { AreBelow (length orders.now) (places_in_maps (domain ∷ body ∷ [])) }
     requires greatest { AreBelow (binder.variable + 1) (places_in_maps (domain ∷ body ∷ [])) }
     ensures keyed { OnOk result (IsKeyed nodes.new) }

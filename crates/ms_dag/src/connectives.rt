@@ -4,7 +4,7 @@ ghost use Rattle.ms_dag.specs.Keys.{IsKeyed};
 ghost use Rattle.ms_dag.specs.Places.{AreAt, AreBelow};
 ghost use Rattle.ms_dag.specs.Shared.{IsAbove, IsMade};
 ghost use Rattle.ms_dag.specs.declared.node.Child.{Child};
-ghost use Rattle.std.specs.Prelude.{◌≡◌, ◌<◌, [], ◌∷◌, length, List as Sequence, IfOk, OnOk};
+ghost use Rattle.std.specs.Prelude.{◌≡◌, [], ◌∷◌, length, List as Sequence, IfOk, OnOk};
 
 use crate::maps::{placed, placed_each};
 use crate::node::{Child, DagNode, Entry};
@@ -52,7 +52,6 @@ pub(crate) fn number_node(
     names: List<u32>,
 ) -> Result<Child, NoMemory>
     requires keyed { IsKeyed nodes.old }
-    requires room { length nodes.old.entries < 4294967295 }
     requires known { AreBelow (length orders.now) names }
     ensures keyed { OnOk result (IsKeyed nodes.new) }
     ensures made { IfOk result (λ child. IsMade orders.now nodes.old.entries nodes.new.entries node names child) }
@@ -100,7 +99,6 @@ pub(crate) fn above_one(
     part: Child,
 ) -> Result<Child, NoMemory>
     requires keyed { IsKeyed nodes.old }
-    requires room { length nodes.old.entries < 4294967295 }
     requires known { AreBelow (length orders.now) (places_in_maps (part ∷ [])) }
     ensures keyed { OnOk result (IsKeyed nodes.new) }
     ensures above { IfOk result (λ child. (placed : Child)
@@ -121,7 +119,6 @@ pub(crate) fn above_two(
     right: Child,
 ) -> Result<Child, NoMemory>
     requires keyed { IsKeyed nodes.old }
-    requires room { length nodes.old.entries < 4294967295 }
     requires known { AreBelow (length orders.now) (places_in_maps (left ∷ right ∷ [])) }
     ensures keyed { OnOk result (IsKeyed nodes.new) }
     ensures above { IfOk result (λ child. (first : Child) × (second : Child)
@@ -142,7 +139,6 @@ pub(crate) fn above_each(
     parts: &[Child],
 ) -> Result<Child, NoMemory>
     requires keyed { IsKeyed nodes.old }
-    requires room { length nodes.old.entries < 4294967295 }
     requires known { AreBelow (length orders.now) (places_in_maps parts.now) }
     ensures keyed { OnOk result (IsKeyed nodes.new) }
     ensures above { IfOk result (λ child. (placed : Sequence Child)

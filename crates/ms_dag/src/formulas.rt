@@ -1,10 +1,9 @@
 ghost use Rattle.ms_dag.specs.Dag.{AreNodes};
 ghost use Rattle.ms_dag.specs.Keys.{IsKeyed};
 ghost use Rattle.ms_dag.specs.Scope.{IsInScope, AreInScope, forms_of};
-ghost use Rattle.ms_core.specs.Subformulas.{subformulas, subformulas_of_each};
 ghost use Rattle.ms_dag.specs.Shared.{AreSharedNow, IsSharedNow};
 ghost use Rattle.ms_logic.specs.CoreForm.{core_form_of};
-ghost use Rattle.std.specs.Prelude.{◌+◌, ◌≤◌, ℕ, List as Sequence, length, IfOk, OnOk};
+ghost use Rattle.std.specs.Prelude.{ℕ, List as Sequence, IfOk, OnOk};
 
 use crate::binders::{Binder, above_body, above_restricted};
 use crate::connectives::{Binary, Nary, Unary, above_each, above_one, above_two, number_node};
@@ -28,7 +27,6 @@ pub(crate) fn share_core(
     requires keyed { IsKeyed nodes.old }
     requires nodes { AreNodes nodes.old.entries }
     requires scoped { (scope : Sequence ℕ) × IsInScope orders.now scope (core_form_of core.now) }
-    requires room { length nodes.old.entries + subformulas (core_form_of core.now) ≤ 4294967295 }
     ensures keyed { OnOk result (IsKeyed nodes.new) }
     ensures shared { IfOk result (λ child. IsSharedNow orders.now nodes.old.entries nodes.new.entries (core_form_of core.now) child) }
 {
@@ -101,7 +99,6 @@ fn share_each(
     requires keyed { IsKeyed nodes.old }
     requires nodes { AreNodes nodes.old.entries }
     requires scoped { (scope : Sequence ℕ) × AreInScope orders.now scope (forms_of operands.now) }
-    requires room { length nodes.old.entries + subformulas_of_each (forms_of operands.now) ≤ 4294967295 }
     ensures keyed { OnOk result (IsKeyed nodes.new) }
     ensures shared { IfOk result (λ parts. AreSharedNow orders.now nodes.old.entries nodes.new.entries (forms_of operands.now) parts) }
 {

@@ -1,7 +1,7 @@
 ghost use Rattle.ms_dag.specs.Keys.{IsKeyed, keys_of};
 ghost use Rattle.ms_dag.specs.Words.{words_of_entry};
 ghost use Rattle.ms_diagram.specs.Numbering.{Numbers};
-ghost use Rattle.std.specs.Prelude.{◌≡◌, ◌<◌, ◌==◌, ◌∷◌, ◌++◌, [], if◌then◌else◌, length, slice_get, IfOk, OnOk, Ok};
+ghost use Rattle.std.specs.Prelude.{◌≡◌, ◌==◌, ◌∷◌, ◌++◌, [], if◌then◌else◌, length, slice_get, IfOk, OnOk, Ok};
 
 use crate::node::Entry;
 use crate::words::words_of;
@@ -47,9 +47,8 @@ impl Nodes {
         }
     }
 
-    // The number of the words of a node.
+    // The number of the words of a node. Where numbers run out, memory has long run out.
     fn number_of_words(&mut self, entry: &Entry) -> Result<u32, NoMemory>
-        requires { length (keys_of self.old) < 4294967295 }
         ensures entries { self.new.entries ≡ self.old.entries }
         ensures numbers { OnOk result (Numbers (keys_of self.old) (keys_of self.new) (words_of_entry entry.now)) }
         ensures number { IfOk result (λ number. slice_get (keys_of self.new) number ≡ Some (words_of_entry entry.now)) }
@@ -58,13 +57,15 @@ impl Nodes {
         let Ok((number, _)) = self.keys.insert_full(words.into_vec()) else {
             return Err(NoMemory);
         };
-        Ok(number as u32)
+        let Ok(number) = u32::try_from(number) else {
+            return Err(NoMemory);
+        };
+        Ok(number)
     }
 
     /// The number of the node, which gets the next one where there is none like it.
     pub(crate) fn number(&mut self, entry: Entry) -> Result<u32, NoMemory>
         requires keyed { IsKeyed self.old }
-        requires room { length self.old.entries < 4294967295 }
         ensures keyed { OnOk result (IsKeyed self.new) }
         ensures numbers { OnOk result (Numbers self.old.entries self.new.entries entry) }
         ensures number { IfOk result (λ number. slice_get self.new.entries number ≡ Some entry) }

@@ -3,7 +3,7 @@ ghost use Rattle.ms_dag.specs.Places.{AreBelow, AreAmong};
 ghost use Rattle.ms_dag.specs.Relations.{IsBasicNode, IsImportNode, IsPlacedBasic};
 ghost use Rattle.ms_dag.specs.Unfolds.{names_of_basic};
 ghost use Rattle.std.specs.List.Sorted.{IsStrictlyIncreasing};
-ghost use Rattle.std.specs.Prelude.{◌≡◌, ◌<◌, length, IfOk, OnOk};
+ghost use Rattle.std.specs.Prelude.{◌≡◌, length, IfOk, OnOk};
 
 use crate::connectives::number_node;
 use crate::node::{Child, DagNode};
@@ -75,7 +75,6 @@ pub(crate) fn share_basic(
     basic: &Basic,
 ) -> Result<Child, NoMemory>
     requires keyed { IsKeyed nodes.old }
-    requires room { length nodes.old.entries < 4294967295 }
     requires known { AreBelow (length orders.now) (names_of_basic basic.now) }
     ensures keyed { OnOk result (IsKeyed nodes.new) }
     ensures made { IfOk result (λ child. IsBasicNode orders.now nodes.old.entries nodes.new.entries basic.now child) }
@@ -93,7 +92,6 @@ pub(crate) fn share_import(
     variables: &[u32],
 ) -> Result<Child, NoMemory>
     requires keyed { IsKeyed nodes.old }
-    requires room { length nodes.old.entries < 4294967295 }
     requires known { AreBelow (length orders.now) variables.now }
     ensures keyed { OnOk result (IsKeyed nodes.new) }
     ensures made { IfOk result (λ child. IsImportNode orders.now nodes.old.entries nodes.new.entries import variables.now child) }

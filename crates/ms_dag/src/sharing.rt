@@ -2,12 +2,10 @@ ghost use Rattle.ms_dag.specs.Dag.{AreNodes};
 ghost use Rattle.ms_dag.specs.Keys.{IsKeyed};
 ghost use Rattle.ms_dag.specs.Lowered.{IsLowered};
 ghost use Rattle.ms_dag.specs.Scope.{IsRootInScope};
-ghost use Rattle.ms_core.specs.Subformulas.{subformulas, subformulas_of_roots};
 ghost use Rattle.ms_dag.specs.Share.{IsDagOf};
 ghost use Rattle.ms_dag.specs.Shared.{AreRootsNow, IsRootNow};
-ghost use Rattle.ms_logic.specs.CoreForm.{core_form_of};
 ghost use Rattle.ms_logic.specs.Truth.{Import};
-ghost use Rattle.std.specs.Prelude.{◌≡◌, ◌+◌, ◌≤◌, [], All, length, List as Sequence, IfOk, OnOk};
+ghost use Rattle.std.specs.Prelude.{◌≡◌, ◌↔◌, ◌+◌, ◌≤◌, [], All, List as Sequence, IfOk, IsTrue, OnOk};
 
 use crate::dag::{Dag, SharedRoot};
 use crate::formulas::{LEVELS, share_core};
@@ -32,7 +30,6 @@ fn share_root(nodes: &mut Nodes, orders: &[Order], root: &Root) -> Result<Shared
     requires keyed { IsKeyed nodes.old }
     requires nodes { AreNodes nodes.old.entries }
     requires scoped { IsRootInScope orders.now root.now }
-    requires room { length nodes.old.entries + subformulas (core_form_of root.now.core) ≤ 4294967295 }
     ensures keyed { OnOk result (IsKeyed nodes.new) }
     ensures shared { IfOk result (λ made. IsRootNow orders.now nodes.old.entries nodes.new.entries root.now made) }
 {
@@ -50,7 +47,6 @@ fn share_roots(
     requires keyed { IsKeyed nodes.old }
     requires empty { nodes.old.entries ≡ [] }
     requires scoped { All (IsRootInScope orders.now) roots.now }
-    requires room { subformulas_of_roots roots.now ≤ 4294967295 }
     ensures { IfOk result (λ made. AreRootsNow orders.now nodes.new.entries roots.now made) }
 {
     let mut made = List::new(nodes.alloc);
@@ -58,6 +54,13 @@ fn share_roots(
         push(&mut made, share_root(nodes, orders, root)?)?;
     }
     Ok(made)
+}
+
+// Whether so many nodes and roots have numbers of 32 bits. Before there are more, memory has long run out.
+fn can_be_numbered(nodes: usize, roots: usize) -> bool
+    ensures { IsTrue result ↔ (nodes + roots ≤ 4294967295) }
+{
+    nodes.saturating_add(roots) <= u32::MAX as usize
 }
 
 /// The graph of a source, in which each formula stands once.
@@ -69,8 +72,12 @@ pub fn share(alloc: Global, lowered: &Lowered) -> Result<Dag, NoMemory>
     let orders = lowered.orders.slice();
     let roots = share_roots(&mut nodes, orders, lowered.roots.slice())?;
     let orders = copied(alloc, orders)?;
+    let entries = nodes.into_entries();
+    if !can_be_numbered(entries.len(), roots.len()) {
+        return Err(NoMemory);
+    }
     Ok(Dag {
-        entries: nodes.into_entries(),
+        entries,
         roots,
         orders,
     })

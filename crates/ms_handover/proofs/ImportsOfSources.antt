@@ -1,19 +1,15 @@
 -- The core formulas of a source without exports have imports of its table alone.
-use Rattle.std.proofs.Common.{◌≡◌, ℕ, ◌++◌, length, sym, ap, subst, ◌∙◌, arith}
-use Rattle.std.proofs.lemmas.Option.{slice_get_within}
+use Rattle.std.proofs.Common.{ℕ, ◌++◌, length}
 use Rattle.ms_logic.specs.declared.checked.Checked.{Checked}
-use Rattle.ms_logic.specs.CoreForm.{CoreForm, core_form_of, truth, falsity, basic, negation, conjunction, disjunction, implication, equivalence, restrict, imported, quantified, CoreForms, no_forms, more_forms, CoreRestriction, unrestricted, restricted}
+use Rattle.ms_logic.specs.CoreForm.{CoreForm, truth, falsity, basic, negation, conjunction, disjunction, implication, equivalence, restrict, imported, quantified, CoreForms, no_forms, more_forms, CoreRestriction, unrestricted, restricted}
 use Rattle.ms_logic.specs.Roots.{first_free, main_root}
 use Rattle.ms_logic.specs.Spread.{callees_of, own_names, restrictions_of, spread_each}
 use Rattle.ms_logic.specs.Verdict.{variables_of}
 use Rattle.ms_logic.specs.View.{problem_of}
-use Rattle.ms_lower.specs.Lowered.{IsRootFor}
 use Rattle.ms_lower.specs.Measure.{Answers}
-use Rattle.ms_lower.specs.NumberLaws.{numbering_in}
 use Rattle.ms_lower.specs.Numbering.{Numbering, renumbered, renumbered_each, renumbered_in}
 use Rattle.ms_rules.specs.Numbers.{IsWellNumbered, globals_seen, tables_of}
 use Rattle.ms_dag.specs.Imports.{EachImportsBelow, ImportsBelow, RestrictionImportsBelow}
-use Rattle.ms_handover.specs.Laws.{SourcesWithoutExportsImportFromTheTable}
 use Rattle.ms_handover.proofs.ImportsOfFormulas.{conjunction_below, each_below, given_below, globals_below, joined_below}
 use Rattle.ms_handover.proofs.Unexported.{forms_numbered}
 
@@ -55,14 +51,3 @@ module _ (checked : Checked) (answers : Answers) (well : IsWellNumbered checked)
       conjunction_below (length checked.imports) (restrictions ++ formulas)
       (joined_below (length checked.imports) restrictions formulas (globals_below tables c bodies bound problem.globals (globals_seen checked) own_names free well.globals)
       (each_below tables c bodies bound problem.formulas (globals_seen checked) own_names free (forms_numbered tables bound (globals_seen checked) checked.formulas well.formulas)))
-
-pub roots_import : SourcesWithoutExportsImportFromTheTable
-roots_import checked answers lowered well unexported has k root is =
-    let within = slice_get_within lowered.roots k root is in
-    let count = has.count in
-    let main : k ≡ 0 = omega (arith, within, count, unexported) in
-    let r = subst (λ j. IsRootFor checked (problem_of checked answers) j root) main (has.each k root is) in
-    let n = numbering_in (length checked.globals) (problem_of checked answers).given.imports r.own in
-    let formula : renumbered n r.own.formula ≡ core_form_of root.core = sym (ap (λ s. s.formula) r.numbers) ∙ r.formula in
-    let own = subst (λ s. ImportsBelow (length checked.imports) s.formula) (sym r.is_root) (main_below checked answers well) in
-    subst (ImportsBelow (length checked.imports)) formula (renumbered_below n (length checked.imports) r.own.formula own)

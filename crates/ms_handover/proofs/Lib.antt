@@ -1,7 +1,4 @@
 pub mod Exported
-pub mod FewOfFormulas
-pub mod FewOfSources
-pub mod FewOfTerms
 pub mod ImportsOfExports
 pub mod ImportsOfFormulas
 pub mod ImportsOfSources

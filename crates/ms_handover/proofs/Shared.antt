@@ -1,7 +1,6 @@
--- What lowering gives for a source without exports is what sharing asks.
+-- What lowering gives for the main root of a source is what sharing asks.
 use Rattle.std.proofs.Common.{◌≡◌, ℕ, zero, suc, ◌+◌, ◌<◌, ◌≤◌, ⊎_elim, min, List, [], ◌∷◌, length, map, slice_get, All, Some, refl, sym, ap, subst, ◌∙◌, arith}
 use Rattle.std.proofs.lemmas.List.Elements.{All-cons, All-nil}
-use Rattle.std.proofs.lemmas.Option.{slice_get_within}
 use Rattle.std.specs.List.{slice_index}
 use Rattle.std.specs.List.Sorted.{IsStrictlyIncreasing}
 use Rattle.ms_logic.specs.declared.checked.Checked.{Checked}
@@ -28,8 +27,6 @@ use Rattle.ms_core.specs.Stands.{EachStands, RestrictionStands, Stands}
 use Rattle.ms_rules.specs.Numbers.{Among, Each}
 use Rattle.ms_dag.specs.Laws.{EachHasItsOrders, HasOrder, HaveTheirOrders, RestrictionHasItsOrders}
 use Rattle.ms_dag.specs.Lowered.{IsLoweredRoot}
-use Rattle.ms_handover.specs.Laws.{SourcesWithoutExportsAreShared}
-use Rattle.ms_handover.proofs.FewOfSources.{roots_few}
 
 -- what holds of all in a scope holds of what is among them
 among_has : (P : Variable → Type 0) (scope : List Variable) (v : Variable) → Each P scope → Among scope v → P v
@@ -122,14 +119,3 @@ module _ (checked : Checked) (answers : Answers) (lists : ListsVariables checked
         stands = stands;
         orders_of_all = all_ordered imports orders r.made.variables (core_form_of root.core) listed stands bound;
       }
-
-pub sources_shared : SourcesWithoutExportsAreShared
-sources_shared checked answers lowered lists unexported measured has orders bound = record {
-  roots = each_by (IsLoweredRoot (problem_of checked answers).given.imports lowered.orders) lowered.roots (λ k root is.
-      let within = slice_get_within lowered.roots k root is in
-      let count = has.count in
-      let main : k ≡ 0 = omega (arith, within, count, unexported) in
-      root_lowered checked answers lists lowered.orders orders.of_globals root
-      (subst (λ j. IsRootFor checked (problem_of checked answers) j root) main (has.each k root is)) (bound k root is));
-  small = roots_few checked answers lowered.roots lowered.size lowered.depth has unexported measured;
-}

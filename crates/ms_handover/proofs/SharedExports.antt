@@ -1,4 +1,4 @@
--- What lowering gives for a source is what sharing asks, where its core formulas have few subformulas.
+-- What lowering gives for a source is what sharing asks.
 use Rattle.std.proofs.Common.{◌≡◌, ℕ, zero, suc, ◌+◌, ◌<◌, ◌≤◌, inl, inr, ⊎_elim, All, min, List, [], ◌∷◌, length, map, slice_get, Some, refl, sym, ap, subst, ◌∙◌, arith}
 use Rattle.std.proofs.lemmas.Bool.{cases_lt}
 use Rattle.std.proofs.lemmas.List.Elements.{All-cons, All-contains, All-nil}
@@ -32,7 +32,7 @@ use Rattle.ms_rules.specs.Numbers.{AreNumbered, Each, IsNew, IsNumbered, IsWellN
 use Rattle.ms_rules.proofs.Fitting.{each-append}
 use Rattle.ms_spread.proofs.Seen.{IsWithin, ReadSeen, free_seen}
 use Rattle.ms_spread.proofs.SeenPredicates.{all_seen}
-use Rattle.ms_handover.specs.Laws.{SourcesOfFewSubformulasAreShared}
+use Rattle.ms_handover.specs.Laws.{SourcesAreShared}
 use Rattle.ms_handover.proofs.Exported.{listed_below}
 use Rattle.ms_handover.proofs.Shared.{all_ordered, each_by, renumbered_rise, root_lowered}
 use Rattle.ms_handover.proofs.Unexported.{forms_numbered}
@@ -206,11 +206,10 @@ exports_listed checked answers well lists roots orders has i root held r =
     let enough = has.enough in
     export_listed checked answers well lists (above_roots roots) orders has i root r (omega (arith, above, enough))
 
-pub sources_of_few_shared : SourcesOfFewSubformulasAreShared
-sources_of_few_shared checked answers lowered well lists has orders bound few = record {
+pub sources_are_shared : SourcesAreShared
+sources_are_shared checked answers lowered well lists has orders bound = record {
   roots = each_by (IsLoweredRoot (problem_of checked answers).given.imports lowered.orders) lowered.roots (λ k root is.
       let above = above_at lowered.roots k root is in
       let enough = orders.enough in
       each_lowered checked answers well lists (above_roots lowered.roots) lowered.orders orders k root (has.each k root is) (bound k root is) (omega (arith, above, enough)));
-  small = few;
 }

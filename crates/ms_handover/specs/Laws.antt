@@ -1,12 +1,11 @@
 -- What lowering asks of a source, and what sharing and building ask of its core formulas.
-use Rattle.std.specs.Prelude.{◌≡◌, ◌+◌, ◌≤◌, length}
+use Rattle.std.specs.Prelude.{◌≡◌, length}
 use Rattle.ms_logic.specs.declared.checked.Checked.{Checked}
 use Rattle.ms_logic.specs.declared.core_formula.Lowered.{Lowered}
 use Rattle.ms_logic.specs.View.{problem_of}
-use Rattle.ms_core.specs.Subformulas.{subformulas_of_roots}
 use Rattle.ms_checked.specs.Exports.{ListsFreeVariables}
 use Rattle.ms_lower.specs.Lowered.{HasRoots, ListsVariables}
-use Rattle.ms_lower.specs.Measure.{Answers, IsMeasure}
+use Rattle.ms_lower.specs.Measure.{Answers}
 use Rattle.ms_lower.specs.Orders.{HasOrders, RootsHaveOrders, above_roots}
 use Rattle.ms_rules.specs.Numbers.{IsWellNumbered}
 use Rattle.ms_dag.specs.Imports.{RootsImportBelow}
@@ -23,31 +22,16 @@ SourcesListVariables =
     (checked : Checked) (answers : Answers) → length answers ≡ length checked.imports → IsWellNumbered checked → ListsFreeVariables checked
     → ListsVariables checked (problem_of checked answers)
 
--- what lowering gives for a source without exports is what sharing asks
-abbrev pub SourcesWithoutExportsAreShared : Type 0
-SourcesWithoutExportsAreShared =
-    (checked : Checked) (answers : Answers) (lowered : Lowered) → ListsVariables checked (problem_of checked answers) → length checked.exports ≡ 0
-    → IsMeasure (problem_of checked answers) lowered.size lowered.depth → HasRoots checked answers lowered.roots
-    → HasOrders checked.globals (above_roots lowered.roots) lowered.orders → RootsHaveOrders lowered.roots lowered.orders
-    → IsLowered (problem_of checked answers).given.imports lowered
-
--- so is what lowering gives for any source, where its core formulas have few subformulas
-abbrev pub SourcesOfFewSubformulasAreShared : Type 0
-SourcesOfFewSubformulasAreShared =
+-- what lowering gives for such a source is what sharing asks
+abbrev pub SourcesAreShared : Type 0
+SourcesAreShared =
     (checked : Checked) (answers : Answers) (lowered : Lowered) → IsWellNumbered checked → ListsVariables checked (problem_of checked answers)
     → HasRoots checked answers lowered.roots
     → HasOrders checked.globals (above_roots lowered.roots) lowered.orders → RootsHaveOrders lowered.roots lowered.orders
-    → subformulas_of_roots lowered.roots + length lowered.roots ≤ 4294967295
     → IsLowered (problem_of checked answers).given.imports lowered
 
 -- the core formulas of a source have imports of its table alone
 abbrev pub SourcesImportFromTheTable : Type 0
 SourcesImportFromTheTable =
     (checked : Checked) (answers : Answers) (lowered : Lowered) → IsWellNumbered checked → HasRoots checked answers lowered.roots
-    → RootsImportBelow (length checked.imports) lowered.roots
-
--- the core formulas of a source without exports have imports of its table alone
-abbrev pub SourcesWithoutExportsImportFromTheTable : Type 0
-SourcesWithoutExportsImportFromTheTable =
-    (checked : Checked) (answers : Answers) (lowered : Lowered) → IsWellNumbered checked → length checked.exports ≡ 0 → HasRoots checked answers lowered.roots
     → RootsImportBelow (length checked.imports) lowered.roots

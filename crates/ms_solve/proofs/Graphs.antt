@@ -1,13 +1,12 @@
 -- What lowering gives for a source, and its graph.
-use Rattle.std.proofs.Common.{◌≡◌, ◌+◌, ◌≤◌, List, length, map, arith}
+use Rattle.std.proofs.Common.{◌≡◌, List, length, map, arith}
 use Rattle.std.proofs.lemmas.List.{length-map}
 use Rattle.ms_checked.specs.Exports.{ListsFreeVariables}
-use Rattle.ms_core.specs.Subformulas.{subformulas_of_roots}
 use Rattle.ms_dag.specs.declared.dag.Dag.{Dag}
 use Rattle.ms_dag.specs.Lowered.{IsLowered}
 use Rattle.ms_dag.specs.Share.{IsDagOf}
 use Rattle.ms_handover.proofs.Exported.{sources_list_variables}
-use Rattle.ms_handover.proofs.SharedExports.{sources_of_few_shared}
+use Rattle.ms_handover.proofs.SharedExports.{sources_are_shared}
 use Rattle.ms_logic.specs.declared.assignment.Value.{Value}
 use Rattle.ms_logic.specs.declared.checked.Checked.{Checked}
 use Rattle.ms_logic.specs.declared.checked.ImportUse.{ImportUse}
@@ -38,16 +37,15 @@ module _ (checked : Checked) (well : IsWellNumbered checked) (exports : ListsFre
   lists : ListsVariables checked (problem_of checked answers)
   lists = sources_list_variables checked answers long well exports
 
-  pub has_roots : HasRoots checked answers lowered.roots
+  has_roots : HasRoots checked answers lowered.roots
   has_roots = roots answers long lists
 
-  module _ (few : subformulas_of_roots lowered.roots + length lowered.roots ≤ 4294967295) where
-    -- it is as sharing asks
-    pub lowered_here : IsLowered (problem_of checked answers).given.imports lowered
-    lowered_here = sources_of_few_shared checked answers lowered well lists has_roots orders (bound answers long lists) few
+  -- it is as sharing asks
+  pub lowered_here : IsLowered (problem_of checked answers).given.imports lowered
+  lowered_here = sources_are_shared checked answers lowered well lists has_roots orders (bound answers long lists)
 
-    pub graph_here : (dag : Dag) → IsDagOf lowered dag → IsGraphOf checked answers dag
-    graph_here dag is = record { lowered = lowered; lists = lists; measure = measure answers; roots = has_roots; orders = orders; is_lowered = lowered_here; is_dag = is }
+  pub graph_here : (dag : Dag) → IsDagOf lowered dag → IsGraphOf checked answers dag
+  graph_here dag is = record { lowered = lowered; lists = lists; measure = measure answers; roots = has_roots; orders = orders; is_lowered = lowered_here; is_dag = is }
 
 pub graph_within : (checked : Checked) (answers : Answers) (dag : Dag) → IsGraphOf checked answers dag → IsWithinLimits (problem_of checked answers)
 graph_within checked answers dag graph =

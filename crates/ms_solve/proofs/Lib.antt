@@ -9,7 +9,6 @@ pub mod Graphs
 pub mod ImportAnswers
 pub mod ImportOrders
 pub mod MovedWords
-pub mod PartsLemmas
 pub mod RootNames
 pub mod RootValues
 pub mod SignOver

@@ -1,5 +1,6 @@
 -- What the graph of a source gives where it is built for lent automata.
 use Rattle.std.proofs.Common.{◌≡◌, ◌⊎◌, inl, inr, ℕ, suc, Bool, true, false, ◌<◌, ◌≤◌, List, [], ◌∷◌, length, map, refl, sym, ap, subst, ◌∙◌, arith}
+use Rattle.std.proofs.lemmas.List.{length-map}
 use Rattle.ms_build.specs.declared.built.Built.{Built}
 use Rattle.ms_build.specs.Built.{AreImportsOf, IsBuiltOver, IsLimit, IsStepRefused, answer_for}
 use Rattle.ms_build.specs.declared.plan.Plan.{Plan}
@@ -7,6 +8,7 @@ use Rattle.ms_build.specs.Roots.{AreRootsRead, IsRootAt}
 use Rattle.ms_build.proofs.RootLemmas.{roots_read}
 use Rattle.ms_checked.specs.Exports.{ListsFreeVariables}
 use Rattle.ms_dag.specs.declared.dag.Dag.{Dag}
+use Rattle.ms_dag.specs.declared.dag.SharedRoot.{SharedRoot}
 use Rattle.ms_dag.specs.Dag.{AreNodes}
 use Rattle.ms_dag.proofs.ImportLemmas.{nodes_import_as_roots_do}
 use Rattle.ms_dfa.specs.declared.plain.Plain.{Plain}
@@ -78,9 +80,10 @@ module _ (checked : Checked) (well : IsWellNumbered checked) (exports : ListsFre
 
   pub few_exports : length checked.exports < 4294967295
   few_exports =
-      let few = graph.is_lowered.small in
-      let count = graph.roots.count in
-      omega (arith, few, count)
+      let small = graph.is_dag.graph.small in
+      let count = count_of_roots checked answers long well exports dag graph in
+      let roots = length-map dag.roots (λ (root : SharedRoot). root.child) in
+      omega (arith, small, count, roots)
 
   pub nodes_lent : AreImportsOf contents checked.mode dag.entries
   nodes_lent =

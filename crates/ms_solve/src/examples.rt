@@ -2,16 +2,15 @@
 
 ghost use Rattle.std.specs.Prelude.{[], ◌∷◌, codes};
 ghost use Rattle.ms_dfa.specs.declared.plain.FileSign.TheVariants.{Minus, Plus, Zero};
-ghost use Rattle.ms_edge.specs.declared.refusal.Refusal.TheVariants.{CoreSize, Depth};
 ghost use Rattle.ms_logic.specs.BudgetExamples.{encodings_content};
 ghost use Rattle.ms_logic.specs.Examples.{nothing_given, set_P, set_P_and_Q, set_Q, subset, undecided};
 ghost use Rattle.ms_logic.specs.Tree.{negation};
 ghost use Rattle.ms_logic.specs.Truth.{answer_no, answer_yes};
 ghost use Rattle.ms_logic.specs.View.{problem_of};
 ghost use Rattle.ms_logic.specs.declared.mode.Mode.TheVariants.{M2lStr, Ws1s};
-ghost use Rattle.ms_solve.specs.Examples.{P_and_Q, import_of_sets, nowhere, sets_checked, subset_file, subset_file_with};
+ghost use Rattle.ms_solve.specs.Examples.{P_and_Q, import_of_sets, sets_checked, subset_file, subset_file_with};
 ghost use Rattle.ms_solve.specs.Imported.{IsAnswerOf, IsLentFor};
-ghost use Rattle.ms_solve.specs.Limits.{HasFewParts, HasTooManyParts, IsWithinLimits};
+ghost use Rattle.ms_solve.specs.Limits.{IsWithinLimits};
 ghost use Rattle.ms_solve.specs.Values.{GivesValue, IsFileOf, content_over, form_meaning};
 
 /// Files that give the value of a formula over P and Q, and files that do not.
@@ -45,7 +44,4 @@ pub fn worked_imports()
 /// The source `var2 P, Q;` is within the limits.
 pub fn worked_limits()
     ensures within { IsWithinLimits (problem_of sets_checked []) }
-    ensures few_parts { HasFewParts sets_checked [] }
-    ensures not_many { ¬ HasTooManyParts sets_checked [] CoreSize }
-    ensures other_refusal { ¬ HasTooManyParts sets_checked [] (Depth nowhere) }
 {}

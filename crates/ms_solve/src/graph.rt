@@ -7,7 +7,6 @@ ghost use Rattle.ms_rules.specs.Numbers.{IsWellNumbered};
 ghost use Rattle.ms_solve.specs.Graph.{IsGraphOf};
 ghost use Rattle.ms_solve.specs.Limits.{IsTooLarge};
 
-use crate::count::can_be_numbered;
 use ms_dag::{Dag, share};
 use ms_edge::Refusal;
 use ms_logic::Checked;
@@ -33,9 +32,6 @@ pub fn graph_of(alloc: Global, checked: &Checked) -> Result<Graph, Refusal>
         (refusal ≡ Refusal.Memory) ⊎ IsTooLarge checked.now answers refusal) }
 {
     let lowered = lower(alloc, checked)?;
-    if !can_be_numbered(lowered.roots.slice()) {
-        return Err(Refusal::CoreSize);
-    }
     match share(alloc, &lowered) {
         Ok(dag) => Ok(Graph {
             dag,

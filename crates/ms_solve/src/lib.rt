@@ -1,7 +1,6 @@
 //! The automata of a checked source: of its main value, and of the formulas that it exports.
 #![tactic(auto)]
 
-mod count;
 mod examples;
 mod graph;
 mod roots;

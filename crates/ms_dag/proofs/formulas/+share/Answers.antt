@@ -1,15 +1,14 @@
-use Rattle.std.proofs.Common.{◌≡◌, ◌+◌, length, take, get_or, Some, None, rules, sym, ap, subst, ◌∙◌, arith}
+use Rattle.std.proofs.Common.{◌≡◌, ◌+◌, length, take, get_or, Some, None, rules, sym, ap, subst, ◌∙◌}
 use Rattle.ms_logic.specs.declared.core_formula.Core.TheVariants as code
 use Rattle.ms_logic.specs.CoreForm.{core_form_of}
 use Rattle.ms_dag.specs.Dag.{places_in_maps}
 use Rattle.ms_dag.specs.Places.{AreBelow}
 use Rattle.ms_dag.specs.Scope.{IsInScope, forms_of}
-use Rattle.ms_core.specs.Subformulas.{subformulas}
 use Rattle.ms_dag.specs.declared.node.DagNode.TheVariants.{True, False}
 use Rattle.ms_dag.specs.Shared.{IsMade, IsSharedNow, AreSharedNow}
 use denote.Param.Weighed.{at_most}
 use Rattle.ms_logic.proofs.core_formula.Core.TheLaws.{the_size}
-use Rattle.ms_dag.proofs.ListSteps.{operand_scoped, operand_room, step_operand}
+use Rattle.ms_dag.proofs.ListSteps.{operand_scoped, step_operand}
 use Rattle.ms_dag.proofs.Results.{if_ok}
 use Rattle.ms_dag.proofs.ShareSteps.{form-Basic, form-Not, form-Restrict, form-And, form-Or, form-Implies, form-Iff, form-Import, form-Bind-none, form-Bind-some, one_below, two_below, each_below, basic_below, basic_ordered, body_greatest, both_greatest, step_negation, step_restrict, step_unrestricted, step_conjunction, step_disjunction, step_implication, step_equivalence, step_restricted}
 use Rattle.ms_dag.proofs.SharedRelations.{shared_truth, shared_falsity, shared_import, shared_basic}
@@ -30,24 +29,10 @@ pub share_core-above_one-requires-in-Restrict-clause-known : goal.share_core-abo
 share_core-above_one-requires-in-Restrict-clause-known n c =
     one_below c.args.orders.now c.args.nodes.now.entries c.share_core-in-Restrict.new.nodes.entries _ c.in_ok-part-in-Restrict.part c.in_ok-part-in-Restrict.ensures.shared
 
-pub share_core-above_each-requires-clause-room : goal.share_core-above_each-requires-clause-room
-share_core-above_each-requires-clause-room n c =
-    let form = form-And c.args.core.now c.slice.result.now (c.in-And.is ∙ ap code.And (sym c.slice.ensures)) in
-    let size = ap subformulas form in
-    let small = c.in_ok-parts-in-And.ensures.shared.grown.small in
-    omega (arith, c.requires.room, size, small)
-
 pub share_core-above_each-requires-clause-known : goal.share_core-above_each-requires-clause-known
 share_core-above_each-requires-clause-known n c =
     subst (λ list. AreBelow (length c.args.orders.now) (places_in_maps list)) (sym c.slice-in-And.ensures)
     (each_below c.args.orders.now c.args.nodes.now.entries c.share_each.new.nodes.entries _ c.in_ok-parts-in-And.parts c.in_ok-parts-in-And.ensures.shared)
-
-pub share_core-above_each-requires-in-Or-clause-room : goal.share_core-above_each-requires-in-Or-clause-room
-share_core-above_each-requires-in-Or-clause-room n c =
-    let form = form-Or c.args.core.now c.slice-in-Or.result.now (c.in-Or.is ∙ ap code.Or (sym c.slice-in-Or.ensures)) in
-    let size = ap subformulas form in
-    let small = c.in_ok-parts-in-Or.ensures.shared.grown.small in
-    omega (arith, c.requires.room, size, small)
 
 pub share_core-above_each-requires-in-Or-clause-known : goal.share_core-above_each-requires-in-Or-clause-known
 share_core-above_each-requires-in-Or-clause-known n c =
@@ -100,82 +85,75 @@ share_core-above_restricted-requires-clause-greatest n c =
 pub share_core-returns-in-True-clause-shared : goal.share_core-returns-in-True-clause-shared
 share_core-returns-in-True-clause-shared n c =
     let form = ap core_form_of c.in-True.is ∙ core_form_of-True in
-    let size = ap subformulas form in
     let new = c.number_node.new.nodes.entries in
     if_ok c.number_node.result _ _
     (λ child made.
     subst (λ f. IsSharedNow c.args.orders.now c.args.nodes.now.entries new f child) (sym form)
-    (shared_truth c.args.orders.now c.args.nodes.now.entries new child c.requires.nodes (omega (arith, c.requires.room, size)) (subst (λ names. IsMade c.args.orders.now c.args.nodes.now.entries new True names child) c.new.ensures made)))
+    (shared_truth c.args.orders.now c.args.nodes.now.entries new child c.requires.nodes (subst (λ names. IsMade c.args.orders.now c.args.nodes.now.entries new True names child) c.new.ensures made)))
     c.number_node.ensures.made
 
 pub share_core-returns-in-False-clause-shared : goal.share_core-returns-in-False-clause-shared
 share_core-returns-in-False-clause-shared n c =
     let form = ap core_form_of c.in-False.is ∙ core_form_of-False in
-    let size = ap subformulas form in
     let new = c.number_node-in-False.new.nodes.entries in
     if_ok c.number_node-in-False.result _ _
     (λ child made.
     subst (λ f. IsSharedNow c.args.orders.now c.args.nodes.now.entries new f child) (sym form)
-    (shared_falsity c.args.orders.now c.args.nodes.now.entries new child c.requires.nodes (omega (arith, c.requires.room, size)) (subst (λ names. IsMade c.args.orders.now c.args.nodes.now.entries new False names child) c.new-in-False.ensures made)))
+    (shared_falsity c.args.orders.now c.args.nodes.now.entries new child c.requires.nodes (subst (λ names. IsMade c.args.orders.now c.args.nodes.now.entries new False names child) c.new-in-False.ensures made)))
     c.number_node-in-False.ensures.made
 
 pub share_core-returns-in-Basic-clause-shared : goal.share_core-returns-in-Basic-clause-shared
 share_core-returns-in-Basic-clause-shared n c =
     let b = c.in-Basic.basic in
     let form = form-Basic c.args.core.now b c.in-Basic.is in
-    let size = ap subformulas form in
     let new = c.share_basic.new.nodes.entries in
     let scope = c.requires.scoped.0 in
     let scoped = subst (λ f. IsInScope c.args.orders.now scope f) form c.requires.scoped.1 in
     if_ok c.share_basic.result _ _
     (λ child made.
     subst (λ f. IsSharedNow c.args.orders.now c.args.nodes.now.entries new f child) (sym form)
-    (shared_basic c.args.orders.now c.args.nodes.now.entries new child c.requires.nodes (omega (arith, c.requires.room, size)) b (basic_ordered c.args.orders.now scope b scoped) made))
+    (shared_basic c.args.orders.now c.args.nodes.now.entries new child c.requires.nodes b (basic_ordered c.args.orders.now scope b scoped) made))
     c.share_basic.ensures.made
 
 pub share_core-returns-in-Import-clause-shared : goal.share_core-returns-in-Import-clause-shared
 share_core-returns-in-Import-clause-shared n c =
     let i = c.in-Import.import in
     let form = form-Import c.args.core.now i c.slice-in-Import.result.now (c.in-Import.is ∙ ap (code.Import i) (sym c.slice-in-Import.ensures)) in
-    let size = ap subformulas form in
     let new = c.share_import.new.nodes.entries in
     if_ok c.share_import.result _ _
     (λ child made.
     subst (λ f. IsSharedNow c.args.orders.now c.args.nodes.now.entries new f child) (sym form)
-    (shared_import c.args.orders.now c.args.nodes.now.entries new child c.requires.nodes (omega (arith, c.requires.room, size)) i c.slice-in-Import.result.now made))
+    (shared_import c.args.orders.now c.args.nodes.now.entries new child c.requires.nodes i c.slice-in-Import.result.now made))
     c.share_import.ensures.made
 
 pub share_core-returns-in_ok-part-in-Not-clause-shared : goal.share_core-returns-in_ok-part-in-Not-clause-shared
 share_core-returns-in_ok-part-in-Not-clause-shared n c =
     let body = c.get.result.now in
     let form = form-Not c.args.core.now body (c.in-Not.is ∙ ap code.Not (sym c.get.ensures)) in
-    let size = ap subformulas form in
     let mid = c.share_core.new.nodes.entries in
     let new = c.above_one.new.nodes.entries in
     if_ok c.above_one.result _ _
     (λ child above.
     subst (λ f. IsSharedNow c.args.orders.now c.args.nodes.now.entries new f child) (sym form)
-    (step_negation c.args.orders.now c.args.nodes.now.entries mid new (core_form_of body) c.in_ok-part-in-Not.part above.0 child c.in_ok-part-in-Not.ensures.shared (omega (arith, c.requires.room, size)) above.1))
+    (step_negation c.args.orders.now c.args.nodes.now.entries mid new (core_form_of body) c.in_ok-part-in-Not.part above.0 child c.in_ok-part-in-Not.ensures.shared above.1))
     c.above_one.ensures.above
 
 pub share_core-returns-in_ok-part-in-Restrict-clause-shared : goal.share_core-returns-in_ok-part-in-Restrict-clause-shared
 share_core-returns-in_ok-part-in-Restrict-clause-shared n c =
     let body = c.get-in-Restrict.result.now in
     let form = form-Restrict c.args.core.now body (c.in-Restrict.is ∙ ap code.Restrict (sym c.get-in-Restrict.ensures)) in
-    let size = ap subformulas form in
     let mid = c.share_core-in-Restrict.new.nodes.entries in
     let new = c.above_one-in-Restrict.new.nodes.entries in
     if_ok c.above_one-in-Restrict.result _ _
     (λ child above.
     subst (λ f. IsSharedNow c.args.orders.now c.args.nodes.now.entries new f child) (sym form)
-    (step_restrict c.args.orders.now c.args.nodes.now.entries mid new (core_form_of body) c.in_ok-part-in-Restrict.part above.0 child c.in_ok-part-in-Restrict.ensures.shared (omega (arith, c.requires.room, size)) above.1))
+    (step_restrict c.args.orders.now c.args.nodes.now.entries mid new (core_form_of body) c.in_ok-part-in-Restrict.part above.0 child c.in_ok-part-in-Restrict.ensures.shared above.1))
     c.above_one-in-Restrict.ensures.above
 
 pub share_core-returns-in_ok-parts-in-And-clause-shared : goal.share_core-returns-in_ok-parts-in-And-clause-shared
 share_core-returns-in_ok-parts-in-And-clause-shared n c =
     let operands = c.slice.result.now in
     let form = form-And c.args.core.now operands (c.in-And.is ∙ ap code.And (sym c.slice.ensures)) in
-    let size = ap subformulas form in
     let mid = c.share_each.new.nodes.entries in
     let new = c.above_each.new.nodes.entries in
     let parts = c.slice-in-And.result.now in
@@ -183,14 +161,13 @@ share_core-returns-in_ok-parts-in-And-clause-shared n c =
     if_ok c.above_each.result _ _
     (λ child above.
     subst (λ f. IsSharedNow c.args.orders.now c.args.nodes.now.entries new f child) (sym form)
-    (step_conjunction c.args.orders.now c.args.nodes.now.entries mid new (forms_of operands) parts above.0 child now (omega (arith, c.requires.room, size)) above.1))
+    (step_conjunction c.args.orders.now c.args.nodes.now.entries mid new (forms_of operands) parts above.0 child now above.1))
     c.above_each.ensures.above
 
 pub share_core-returns-in_ok-parts-in-Or-clause-shared : goal.share_core-returns-in_ok-parts-in-Or-clause-shared
 share_core-returns-in_ok-parts-in-Or-clause-shared n c =
     let operands = c.slice-in-Or.result.now in
     let form = form-Or c.args.core.now operands (c.in-Or.is ∙ ap code.Or (sym c.slice-in-Or.ensures)) in
-    let size = ap subformulas form in
     let mid = c.share_each-in-Or.new.nodes.entries in
     let new = c.above_each-in-Or.new.nodes.entries in
     let parts = c.slice-in-Or-2.result.now in
@@ -198,7 +175,7 @@ share_core-returns-in_ok-parts-in-Or-clause-shared n c =
     if_ok c.above_each-in-Or.result _ _
     (λ child above.
     subst (λ f. IsSharedNow c.args.orders.now c.args.nodes.now.entries new f child) (sym form)
-    (step_disjunction c.args.orders.now c.args.nodes.now.entries mid new (forms_of operands) parts above.0 child now (omega (arith, c.requires.room, size)) above.1))
+    (step_disjunction c.args.orders.now c.args.nodes.now.entries mid new (forms_of operands) parts above.0 child now above.1))
     c.above_each-in-Or.ensures.above
 
 pub share_core-returns-in_ok-right-in-Implies-clause-shared : goal.share_core-returns-in_ok-right-in-Implies-clause-shared
@@ -206,7 +183,6 @@ share_core-returns-in_ok-right-in-Implies-clause-shared n c =
     let left = c.get-in-Implies.result.now in
     let right = c.get-in-Implies-2.result.now in
     let form = form-Implies c.args.core.now left right (c.in-Implies.is ∙ ap (λ l. code.Implies l c.in-Implies.right) (sym c.get-in-Implies.ensures) ∙ ap (code.Implies left) (sym c.get-in-Implies-2.ensures)) in
-    let size = ap subformulas form in
     let between = c.share_core-in-Implies.new.nodes.entries in
     let mid = c.share_core-in-Implies-2.new.nodes.entries in
     let new = c.above_two.new.nodes.entries in
@@ -214,7 +190,7 @@ share_core-returns-in_ok-right-in-Implies-clause-shared n c =
     (λ child above.
     subst (λ f. IsSharedNow c.args.orders.now c.args.nodes.now.entries new f child) (sym form)
     (step_implication c.args.orders.now c.args.nodes.now.entries between mid new (core_form_of left) (core_form_of right) c.in_ok-left-in-Implies.left c.in_ok-right-in-Implies.right above.0 above.1 child
-    c.in_ok-left-in-Implies.ensures.shared c.in_ok-right-in-Implies.ensures.shared (omega (arith, c.requires.room, size)) above.2))
+    c.in_ok-left-in-Implies.ensures.shared c.in_ok-right-in-Implies.ensures.shared above.2))
     c.above_two.ensures.above
 
 pub share_core-returns-in_ok-right-in-Iff-clause-shared : goal.share_core-returns-in_ok-right-in-Iff-clause-shared
@@ -222,7 +198,6 @@ share_core-returns-in_ok-right-in-Iff-clause-shared n c =
     let left = c.get-in-Iff.result.now in
     let right = c.get-in-Iff-2.result.now in
     let form = form-Iff c.args.core.now left right (c.in-Iff.is ∙ ap (λ l. code.Iff l c.in-Iff.right) (sym c.get-in-Iff.ensures) ∙ ap (code.Iff left) (sym c.get-in-Iff-2.ensures)) in
-    let size = ap subformulas form in
     let between = c.share_core-in-Iff.new.nodes.entries in
     let mid = c.share_core-in-Iff-2.new.nodes.entries in
     let new = c.above_two-in-Iff.new.nodes.entries in
@@ -230,7 +205,7 @@ share_core-returns-in_ok-right-in-Iff-clause-shared n c =
     (λ child above.
     subst (λ f. IsSharedNow c.args.orders.now c.args.nodes.now.entries new f child) (sym form)
     (step_equivalence c.args.orders.now c.args.nodes.now.entries between mid new (core_form_of left) (core_form_of right) c.in_ok-left-in-Iff.left c.in_ok-right-in-Iff.right above.0 above.1 child
-    c.in_ok-left-in-Iff.ensures.shared c.in_ok-right-in-Iff.ensures.shared (omega (arith, c.requires.room, size)) above.2))
+    c.in_ok-left-in-Iff.ensures.shared c.in_ok-right-in-Iff.ensures.shared above.2))
     c.above_two-in-Iff.ensures.above
 
 pub share_core-returns-in_ok-body-in-None-clause-shared : goal.share_core-returns-in_ok-body-in-None-clause-shared
@@ -241,13 +216,12 @@ share_core-returns-in_ok-body-in-None-clause-shared n c =
     (arm.is ∙ ap (λ d. code.Bind arm.quant arm.order arm.variable d arm.body) c.in-None.is ∙ ap (code.Bind arm.quant arm.order arm.variable None) (sym c.get-in-None.ensures)) in
     let scope = c.requires.scoped.0 in
     let scoped = subst (λ f. IsInScope c.args.orders.now scope f) form c.requires.scoped.1 in
-    let size = ap subformulas form in
     let mid = c.share_core-in-None.new.nodes.entries in
     let new = c.above_body.new.nodes.entries in
     if_ok c.above_body.result _ _
     (λ child above.
     subst (λ f. IsSharedNow c.args.orders.now c.args.nodes.now.entries new f child) (sym form)
-    (step_unrestricted c.args.orders.now c.args.nodes.now.entries mid new (core_form_of inner) c.in_ok-body-in-None.body above.0 child c.in_ok-body-in-None.ensures.shared (omega (arith, c.requires.room, size)) arm.quant arm.order arm.variable scoped.1 above.1))
+    (step_unrestricted c.args.orders.now c.args.nodes.now.entries mid new (core_form_of inner) c.in_ok-body-in-None.body above.0 child c.in_ok-body-in-None.ensures.shared arm.quant arm.order arm.variable scoped.1 above.1))
     c.above_body.ensures.above
 
 pub share_core-returns-in_ok-body-in-Some-clause-shared : goal.share_core-returns-in_ok-body-in-Some-clause-shared
@@ -261,7 +235,6 @@ share_core-returns-in_ok-body-in-Some-clause-shared n c =
     ∙ ap (code.Bind arm.quant arm.order arm.variable (Some outer)) (sym c.get-in-Some-2.ensures)) in
     let scope = c.requires.scoped.0 in
     let scoped = subst (λ f. IsInScope c.args.orders.now scope f) form c.requires.scoped.1 in
-    let size = ap subformulas form in
     let between = c.share_core-in-Some.new.nodes.entries in
     let mid = c.share_core-in-Some-2.new.nodes.entries in
     let new = c.above_restricted.new.nodes.entries in
@@ -269,7 +242,7 @@ share_core-returns-in_ok-body-in-Some-clause-shared n c =
     (λ child above.
     subst (λ f. IsSharedNow c.args.orders.now c.args.nodes.now.entries new f child) (sym form)
     (step_restricted c.args.orders.now c.args.nodes.now.entries between mid new (core_form_of outer) (core_form_of inner) c.in_ok-domain-in-Some.domain c.in_ok-body-in-Some.body above.0 above.1 child
-    c.in_ok-domain-in-Some.ensures.shared c.in_ok-body-in-Some.ensures.shared (omega (arith, c.requires.room, size)) arm.quant arm.order arm.variable scoped.1 above.2))
+    c.in_ok-domain-in-Some.ensures.shared c.in_ok-body-in-Some.ensures.shared arm.quant arm.order arm.variable scoped.1 above.2))
     c.above_restricted.ensures.above
 
 pub share_each-share_core-requires : goal.share_each-share_core-requires
@@ -284,10 +257,9 @@ share_each-share_core-requires n c =
     let scope = c.requires.scoped.0 in
     let is : core ≡ get_or all k core = c.operand-item.is in
     let scoped = subst (λ one. IsInScope orders scope (core_form_of one)) (sym is) (operand_scoped orders scope all k core c.loop-operand-test.true c.requires.scoped.1) in
-    let room = operand_room orders old mid all k core c.loop-operand.parts c.loop-operand-test.true is now c.requires.room in
     let deeper = at_most the_size all k core c.loop-operand-test.true in
     let same = ap the_size is in
-    (search (rules, deeper, same, c.decreases), (c.loop-operand.invariant.0, (now.grown.nodes, ((scope, scoped), room))))
+    (search (rules, deeper, same, c.decreases), (c.loop-operand.invariant.0, (now.grown.nodes, (scope, scoped))))
 
 pub share_each-loop-operand-preserved : goal.share_each-loop-operand-preserved
 share_each-loop-operand-preserved n c =

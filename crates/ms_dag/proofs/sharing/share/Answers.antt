@@ -1,4 +1,4 @@
-use Rattle.std.proofs.Common.{List, sym, subst, ◌∙◌, All}
+use Rattle.std.proofs.Common.{List, sym, subst, ◌∙◌, All, arith}
 use Rattle.ms_logic.specs.declared.core_formula.Root.{Root}
 use Rattle.ms_logic.specs.declared.mode.Order.{Order}
 use Rattle.ms_dag.specs.declared.node.Entry.{Entry}
@@ -12,13 +12,14 @@ pub returns : goal.returns
 returns c =
     let lowered = c.args.lowered.now in
     let roots = c.in_ok-roots.roots in
-    let entries = c.into_entries.result in
+    let entries = c.into_entries-entries.result in
     let P : List Order → Type 0 = λ orders. AreRootsNow orders c.share_roots.new.nodes.entries c.slice.result.now roots in
     let Q : List Root → Type 0 = λ list. AreRootsNow lowered.orders c.share_roots.new.nodes.entries list roots in
     let R : List Entry → Type 0 = λ list. AreRootsNow lowered.orders list lowered.roots roots in
-    let now : AreRootsNow lowered.orders entries lowered.roots roots = subst R (sym c.into_entries.ensures) (subst Q c.slice.ensures (subst P c.slice-orders.ensures c.in_ok-roots.ensures)) in
+    let now : AreRootsNow lowered.orders entries lowered.roots roots = subst R (sym c.into_entries-entries.ensures) (subst Q c.slice.ensures (subst P c.slice-orders.ensures c.in_ok-roots.ensures)) in
+    let fits = c.can_be_numbered.ensures.0 c.if-not-can_be_numbered.false in
     record {
-      graph = graph_of lowered.orders entries lowered.roots roots now c.requires.1.small;
+      graph = graph_of lowered.orders entries lowered.roots roots now (omega (arith, fits, c.len.ensures, c.len-2.ensures));
       roots = now.roots_of;
       orders_are = c.in_ok-orders.ensures ∙ c.slice-orders.ensures;
     }

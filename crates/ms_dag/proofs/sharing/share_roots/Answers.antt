@@ -1,11 +1,7 @@
 use Rattle.std.proofs.Common.{◌+◌, take, sym, subst}
 use Rattle.ms_dag.specs.Shared.{AreRootsNow}
-use Rattle.ms_dag.proofs.RootSteps.{root_room, step_root}
+use Rattle.ms_dag.proofs.RootSteps.{step_root}
 use Rattle.ms_dag.proofs.sharing.share_roots.Goals as goal
-
-pub share_root-requires-clause-room : goal.share_root-requires-clause-room
-share_root-requires-clause-room c =
-    root_room c.args.orders.now c.loop-root.nodes.entries c.args.roots.now c.loop-root.root-index c.root-item.result c.loop-root.made c.loop-root-test.true c.root-item.is c.loop-root.invariant.1 c.requires.room
 
 pub loop-root-preserved : goal.loop-root-preserved
 loop-root-preserved c =

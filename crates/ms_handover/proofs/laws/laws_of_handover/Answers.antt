@@ -1,7 +1,6 @@
 use Rattle.ms_handover.proofs.Exported.{sources_list_variables}
 use Rattle.ms_handover.proofs.ImportsOfExports.{all_roots_import}
-use Rattle.ms_handover.proofs.Shared.{sources_shared}
-use Rattle.ms_handover.proofs.SharedExports.{sources_of_few_shared}
+use Rattle.ms_handover.proofs.SharedExports.{sources_are_shared}
 use Rattle.ms_handover.proofs.Unexported.{lists_variables}
 use Rattle.ms_handover.proofs.laws.laws_of_handover.Goals as goal
 
@@ -12,10 +11,7 @@ pub returns-clause-lists_without_exports : goal.returns-clause-lists_without_exp
 returns-clause-lists_without_exports c = lists_variables
 
 pub returns-clause-shared : goal.returns-clause-shared
-returns-clause-shared c = sources_of_few_shared
-
-pub returns-clause-shared_without_exports : goal.returns-clause-shared_without_exports
-returns-clause-shared_without_exports c = sources_shared
+returns-clause-shared c = sources_are_shared
 
 pub returns-clause-imports : goal.returns-clause-imports
 returns-clause-imports c = all_roots_import

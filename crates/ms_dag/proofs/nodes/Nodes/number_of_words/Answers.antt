@@ -1,4 +1,4 @@
-use Rattle.std.proofs.Common.{◌≡◌, nat_eq, Some, sym, ap, ◌∙◌}
+use Rattle.std.proofs.Common.{◌≡◌, nat_eq, slice_get, Some, sym, ap, ◌∙◌}
 use Rattle.std.specs.Cmp.Lexicographic.{pointwise}
 use Rattle.std.specs.Option.{option_map}
 use Rattle.std.proofs.lemmas.Option.{slice_get-map}
@@ -19,5 +19,7 @@ pub returns-clause-number : goal.returns-clause-number
 returns-clause-number c =
     let key = c.into_vec.result in
     let stored = c.in-Ok.ensures.stored in
-    slice_get-map (λ k. k.items) c.insert_full.new.self.keys c.in-Ok.number ∙ ap (option_map (λ k. k.items)) stored.1
+    let same : c.in-Ok-try_from.number ≡ c.in-Ok.number = c.in-Ok-try_from.ensures.1 in
+    ap (slice_get _) same
+    ∙ slice_get-map (λ k. k.items) c.insert_full.new.self.keys c.in-Ok.number ∙ ap (option_map (λ k. k.items)) stored.1
     ∙ ap Some (sym (same_set key.items stored.0.items stored.2) ∙ c.into_vec.ensures ∙ c.in_ok-words.ensures)
