@@ -53,7 +53,7 @@ fn tell(rt: &HostRuntime, checked: &Checked) -> Result<()> {
     let answer = lower(rt.alloc(), checked);
     match &answer {
         Ok(lowered) => println!(rt;
-            "size {}, depth {}, roots {}, variables {}",
+            "size {}, depth {}, roots {}, globals {}",
             lowered.size,
             lowered.depth,
             lowered.roots.len(),

@@ -6,7 +6,7 @@ use Rattle.ms_dfa.specs.declared.plain.Plain.{Plain}
 use Rattle.ms_edge.specs.Files.{Seen}
 use Rattle.ms_edge.specs.declared.refusal.Refusal.{Refusal}
 use Rattle.ms_edge.specs.declared.refusal.Refusal.TheVariants.{Memory}
-use Rattle.ms_handover.proofs.SharedExports.{each_all}
+use Rattle.ms_handover.proofs.SharedRoots.{each_all}
 use Rattle.ms_imports.specs.Adopted.{AreAdopted}
 use Rattle.ms_imports.specs.Imports.{answers_by}
 use Rattle.ms_logic.specs.declared.checked.Checked.{Checked}

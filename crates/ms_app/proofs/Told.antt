@@ -9,7 +9,7 @@ use Rattle.ms_edge.specs.declared.at.At.{At}
 use Rattle.ms_edge.specs.declared.refusal.Refusal.{Refusal}
 use Rattle.ms_edge.specs.declared.refusal.Refusal.TheVariants.{Memory}
 use Rattle.ms_edge.specs.declared.refusal.Refusal.TheVariants as refusals
-use Rattle.ms_handover.proofs.SharedExports.{each_all}
+use Rattle.ms_handover.proofs.SharedRoots.{each_all}
 use Rattle.ms_imports.specs.Imports.{IsNoAutomaton, IsUnimported, IsUnread, answers_by}
 use Rattle.ms_logic.specs.Size.{Extents, extents_of}
 use Rattle.ms_logic.specs.View.{predicate_of}

@@ -9,7 +9,7 @@ use Rattle.ms_dfafile.specs.File.{IsSpelled}
 use Rattle.ms_logic.specs.declared.checked.ExportUse.{ExportUse}
 use Rattle.ms_logic.specs.Verdict.{Problem}
 use Rattle.ms_rules.specs.Numbers.{Each}
-use Rattle.ms_handover.proofs.SharedExports.{each_all}
+use Rattle.ms_handover.proofs.SharedRoots.{each_all}
 use Rattle.ms_checked.specs.Spellings.{IsName}
 use Rattle.ms_solve.specs.Solution.{AreExportFiles, IsSmall}
 use Rattle.ms_solve.specs.Values.{IsMainFile}

@@ -1,13 +1,16 @@
 -- The automaton of a root, and its variables.
-use Rattle.std.proofs.Common.{◌≡◌, ℕ, zero, suc, ◌+◌, ◌<◌, inl, inr, Result, Ok, Err, IfOk, Option, None, List, [], ◌∷◌, ◌++◌, Contains, length, map, take, slice_get, slice_index, slice_index_or, Some, refl, sym, ap, subst, ◌∙◌, arith}
+use Rattle.std.proofs.Common.{◌≡◌, ℕ, zero, suc, ◌+◌, ◌<◌, inl, inr, Result, Ok, Err, IfOk, Option, None, List, [], ◌∷◌, ◌++◌, Contains, length, map, take, slice_get, slice_index, Some, refl, sym, ap, ap₂, subst, ◌∙◌, arith}
 use Rattle.std.specs.List.Sorted.{IsStrictlyIncreasing}
-use Rattle.std.proofs.lemmas.Option.{none-some, same_Some, slice_get_within, slice_get-map, slice_get-get_or, get_or_from_slice_get}
-use Rattle.std.specs.List.{AllZip}
+use Rattle.std.proofs.lemmas.Option.{none-some, same_Some, slice_get_within, slice_get-map, slice_get-get_or}
+use Rattle.std.specs.List.{AllZip, range_with_len, sum}
 use Rattle.std.specs.Option.{option_map}
 use Rattle.ms_dag.specs.declared.dag.SharedRoot.{SharedRoot}
 use Rattle.std.proofs.lemmas.List.Elements.{All-contains}
 use Rattle.ms_dag.specs.declared.dag.Dag.{Dag}
-use Rattle.ms_dag.specs.Laws.{HasOrder}
+use Rattle.ms_core.specs.Calls.{Calls}
+use Rattle.ms_core.specs.Orders.{order_at}
+use Rattle.ms_dag.specs.declared.node.Entry.{Entry}
+use Rattle.ms_dag.specs.Places.{AreAt}
 use Rattle.ms_dag.specs.Lowered.{IsLowered, IsLoweredRoot}
 use Rattle.ms_logic.specs.Truth.{Import}
 use Rattle.ms_rules.specs.Numbers.{Each}
@@ -28,16 +31,18 @@ use Rattle.ms_logic.specs.Content.{Content}
 use Rattle.ms_logic.specs.Roots.{AreRising}
 use Rattle.ms_dfa.specs.declared.track.Track.{Track}
 use Rattle.ms_dfa.specs.Automaton.{variable_of, variables_of}
-use Rattle.std.proofs.lemmas.List.{map_push, take_more}
+use Rattle.std.proofs.lemmas.List.{length-map, map_push, take_more}
+use Rattle.std.proofs.lemmas.List.FromFn.{get_or-map-range_with_len, length-range_with_len}
+use Rattle.std.proofs.lemmas.List.Sums.{sum_by-cons}
 use Rattle.ms_theory.specs.Values.{Meaning}
-use Rattle.ms_build.specs.Built.{HasOnly, IsOver, IsPart, child_meaning, entries_of, imports_for}
-use Rattle.ms_build.specs.Roots.{AreRootVariables, AreRootsRead, IsRootAt, named}
+use Rattle.ms_build.specs.Built.{HasOnly, IsOver, IsPart, IsReadAt, child_meaning, entries_of, imports_for}
+use Rattle.ms_build.specs.Roots.{AreRootVariables, AreRootsRead, IsReadInSource, IsRootAt, named}
 use Rattle.ms_build.proofs.ChildLemmas.{same_variable}
 use Rattle.ms_build.proofs.PlaceLemmas.{contains_place, own-among}
 
 -- a variable with its order
 abbrev pub variable_at : List Order → ℕ → Variable
-variable_at orders x = record { name = x; order = slice_index_or orders x Zero }
+variable_at orders x = record { name = x; order = order_at orders x }
 
 -- variables by rising numbers rise
 pub named-rising : (orders : List Order) (variables : List ℕ) → IsStrictlyIncreasing variables → AreRising (named orders variables)
@@ -54,12 +59,12 @@ named-among orders [] place x held = absurd (none-some x held)
 named-among orders (y ∷ variables) zero x held = inl (ap (variable_at orders) (same_Some y x held))
 named-among orders (y ∷ variables) (suc place) x held = inr (named-among orders variables place x held)
 
--- the order of a variable that was looked up
-pub variable_held : (orders : List Order) (x : ℕ) (o : Order) → slice_get orders x ≡ Some o → record { name = x; order = o } ≡ variable_at orders x
-variable_held orders x o held = ap (λ (order : Order). record { name = x; order = order }) (sym (get_or_from_slice_get orders x o Zero held))
+-- a variable that has this order
+pub variable_held : (orders : List Order) (x : ℕ) (o : Order) → order_at orders x ≡ o → record { name = x; order = o } ≡ variable_at orders x
+variable_held orders x o held = ap (λ (order : Order). record { name = x; order = order }) (sym held)
 
 -- one track more
-pub named-more : (orders : List Order) (variables : List ℕ) (made : List Track) (i x : ℕ) (order : Order) → i < length variables → x ≡ slice_index variables i → slice_get orders x ≡ Some order
+pub named-more : (orders : List Order) (variables : List ℕ) (made : List Track) (i x : ℕ) (order : Order) → i < length variables → x ≡ slice_index variables i → order_at orders x ≡ order
     → variables_of made ≡ named orders (take i variables) → variables_of (made ++ record { variable = x; order = order } ∷ []) ≡ named orders (take (i + 1) variables)
 named-more orders variables made i x order less is held were =
     map_push variable_of made (record { variable = x; order = order })
@@ -68,13 +73,49 @@ named-more orders variables made i x order less is held were =
     ∙ sym (map_push (variable_at orders) (take i variables) (slice_index variables i))
     ∙ ap (named orders) (sym (take_more variables i 0 less))
 
+-- a formula that is read at variables of the source is read at the first ones of them, by their places
+module _ (orders : List Order) where
+  -- the orders of the first variables, so many
+  abbrev first_orders : ℕ → List Order
+  first_orders count = map (order_at orders) (range_with_len 0 count)
+
+  -- there are as many, and each is that of its number
+  first_length : (count : ℕ) → length (first_orders count) ≡ count
+  first_length count = length-map (range_with_len 0 count) (order_at orders) ∙ length-range_with_len 0 count
+
+  first_at : (count x : ℕ) → x < count → slice_get (first_orders count) x ≡ Some (order_at orders x)
+  first_at count x less =
+      let long = first_length count in
+      slice_get-get_or (first_orders count) x Zero (omega (arith, less, long)) ∙ ap Some (get_or-map-range_with_len (order_at orders) 0 count x x Zero less (omega arith))
+
+  first_order : (count x : ℕ) (o : Order) → slice_get (first_orders count) x ≡ Some o → order_at orders x ≡ o
+  first_order count x o held =
+      let less = slice_get_within (first_orders count) x o held in
+      let long = first_length count in
+      same_Some (order_at orders x) o (sym (first_at count x (omega (arith, less, long))) ∙ held)
+
+  -- numbers below the count lead to their orders
+  at_first : (count : ℕ) (names : List ℕ) → sum names < count → AreAt (first_orders count) names (map (order_at orders) names)
+  at_first count [] less = refl
+  at_first count (x ∷ names) less =
+      let total : sum (x ∷ names) ≡ x + sum names = sum_by-cons (λ n. n) x names in
+      ap₂ (λ o os. o ∷ os) (first_at count x (omega (arith, less, total))) (at_first count names (omega (arith, less, total)))
+
+  -- the orders of the first variables, with all that a list names
+  abbrev pub orders_for : List ℕ → List Order
+  orders_for names = first_orders (suc (sum names))
+
+  pub read_at_first : (entries : List Entry) (child : Child) → IsReadInSource entries orders child → IsReadAt entries (orders_for child.map) child
+  read_at_first entries child read =
+      (read.0, read.1, subst (AreAt (orders_for child.map) child.map) read.2 (at_first (suc (sum child.map)) child.map (omega arith)))
+
 -- the formula's own variables are among those of the root
-pub root-among : (mode : Mode) (orders : List Order) (child : Child) (variables : List ℕ) → AreRootVariables orders child variables → (meaning : Meaning) (content : Content Sign)
-    → IsPart mode orders child.map meaning content → HasOnly child.map content → (v : Variable) → IsAmong content.variables v → IsAmong (named orders variables) v
+pub root-among : (mode : Mode) (orders : List Order) (child : Child) (variables : List ℕ) → AreRootVariables child variables → (meaning : Meaning) (content : Content Sign)
+    → IsPart mode (orders_for orders child.map) child.map meaning content → HasOnly child.map content → (v : Variable) → IsAmong content.variables v → IsAmong (named orders variables) v
 root-among mode orders child variables are meaning content part own v there =
     let at = contains_place variables v.name (are.among v.name (own v there)) in
-    let known = slice_get-get_or orders v.name Zero (are.known at.0 v.name at.1) in
-    let same : variable_at orders v.name ≡ v = same_variable (variable_at orders v.name) v refl (same_Some (slice_index_or orders v.name Zero) v.order (sym known ∙ own-among orders v (part.among v there))) in
+    let order = first_order orders (suc (sum child.map)) v.name v.order (own-among (orders_for orders child.map) v (part.among v there)) in
+    let same : variable_at orders v.name ≡ v = same_variable (variable_at orders v.name) v refl order in
     subst (IsAmong (named orders variables)) same (named-among orders variables at.0 v.name at.1)
 
 -- a root by its child and its variables
@@ -106,18 +147,13 @@ zipped R (x ∷ xs) (z ∷ ys) all zero y held = (x, refl, subst (R x) (same_Som
 zipped R (x ∷ xs) (z ∷ ys) all (suc place) y held = zipped R xs ys all.1 place y held
 
 -- the roots of a source are read at its variables
-pub roots_read : (imports : List Import) (lowered : Lowered) (dag : Dag) → IsLowered imports lowered → IsDagOf lowered dag → AreRootsRead dag
-roots_read imports lowered dag is of r root held =
-    let both = zipped (IsRootOf dag.orders dag.entries) lowered.roots dag.roots (subst (λ orders. AreRootsOf orders dag.entries lowered.roots dag.roots) (sym of.orders_are) of.roots) r root held in
-    let lowered_root = each_at (IsLoweredRoot imports lowered.orders) lowered.roots is.roots r both.0 both.1 in
-    let listed = subst (λ (orders : List Order). Each (HasOrder orders) lowered_root.own) (sym of.orders_are) lowered_root.listed in (
+pub roots_read : (imports : List Import) (calls : Calls) (lowered : Lowered) (dag : Dag) → IsLowered imports calls lowered → IsDagOf calls lowered dag → AreRootsRead dag
+roots_read imports calls lowered dag is of r root held =
+    let both = zipped (IsRootOf calls dag.orders dag.entries) lowered.roots dag.roots (subst (λ orders. AreRootsOf calls orders dag.entries lowered.roots dag.roots) (sym of.orders_are) of.roots) r root held in
+    let lowered_root = each_at (IsLoweredRoot imports calls lowered.orders) lowered.roots is.roots r both.0 both.1 in (
       both.2.ordered,
       record {
         rising = subst IsStrictlyIncreasing (sym both.2.variables) lowered_root.rising;
-        known = λ place x there.
-            let named = ap (λ (list : List ℕ). slice_get list place) (lowered_root.variables ∙ sym both.2.variables) ∙ there in
-            let own = of_map lowered_root.own place x named in
-            slice_get_within dag.orders x own.0.order (ap (slice_get dag.orders) (sym own.2) ∙ each_at (HasOrder dag.orders) lowered_root.own listed place own.0 own.1);
         among = λ j is_in. subst (λ (list : List ℕ). Contains list j) (sym both.2.variables) (All-contains (Contains both.0.variables) root.child.map j both.2.among is_in);
       },
     )
@@ -126,8 +162,3 @@ roots_read imports lowered dag is of r root held =
     each_at P [] each place x held = absurd (none-some x held)
     each_at P (y ∷ xs) each zero x held = subst P (same_Some y x held) each.0
     each_at P (y ∷ xs) each (suc place) x held = each_at P xs each.1 place x held
-
-    of_map : (own : List Variable) (place x : ℕ) → slice_get (map (λ (v : Variable). v.name) own) place ≡ Some x → (v : Variable) × (slice_get own place ≡ Some v) × (v.name ≡ x)
-    of_map [] place x held = absurd (none-some x held)
-    of_map (v ∷ own) zero x held = (v, refl, same_Some v.name x held)
-    of_map (v ∷ own) (suc place) x held = of_map own place x held

@@ -6,6 +6,7 @@ use Rattle.ms_logic.specs.declared.sign.Sign.{Sign}
 use Rattle.ms_logic.specs.Assignment.{Env}
 use Rattle.ms_logic.specs.CoreForm.{CoreForm}
 use Rattle.ms_logic.specs.Truth.{Import}
+use Rattle.ms_core.specs.Calls.{Calls}
 use Rattle.ms_dag.specs.declared.dag.Dag.{Dag}
 use Rattle.ms_dag.specs.declared.node.Child.{Child}
 use Rattle.ms_dag.specs.declared.node.Entry.{Entry}
@@ -23,6 +24,6 @@ ChildHasValueOfFormula =
     (imports : List Import) (entries : List Entry) (orders : List Order) (f : CoreForm) (child : Child) (e : Env) (sign : Sign)
     → HaveTheirOrders imports orders f → Unfolds entries f child.map child.node → child_meaning imports entries child e sign ↔ core_meaning imports f e sign
 
--- the roots of a source in its graph are read at the variables of the source
+-- the roots of a source in its graph are read at the variables of the source, whatever its calls stand for
 abbrev pub RootsAreRead : Type 0
-RootsAreRead = (imports : List Import) (lowered : Lowered) (dag : Dag) → IsLowered imports lowered → IsDagOf lowered dag → AreRootsRead dag
+RootsAreRead = (imports : List Import) (calls : Calls) (lowered : Lowered) (dag : Dag) → IsLowered imports calls lowered → IsDagOf calls lowered dag → AreRootsRead dag

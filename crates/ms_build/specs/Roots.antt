@@ -1,25 +1,30 @@
 -- The automata of roots.
-use Rattle.std.specs.Prelude.{◌≡◌, ◌<◌, ℕ, List, length, map, slice_get, slice_index_or, Contains, Some}
+use Rattle.std.specs.Prelude.{◌≡◌, ℕ, List, map, slice_get, Contains, Some}
 use Rattle.std.specs.List.Sorted.{IsStrictlyIncreasing}
 use Rattle.ms_logic.specs.declared.mode.Order.{Order}
-use Rattle.ms_logic.specs.declared.mode.Order.TheVariants.{Zero}
 use Rattle.ms_logic.specs.declared.sign.Sign.{Sign}
 use Rattle.ms_logic.specs.Assignment.{Variable}
 use Rattle.ms_logic.specs.Content.{Content}
+use Rattle.ms_core.specs.Orders.{order_at}
 use Rattle.ms_dag.specs.declared.node.Child.{Child}
+use Rattle.ms_dag.specs.declared.node.Entry.{Entry}
 use Rattle.ms_dag.specs.declared.dag.Dag.{Dag}
 use Rattle.ms_dag.specs.declared.dag.SharedRoot.{SharedRoot}
+use Rattle.ms_dag.specs.Laws.{HaveOrders}
 use Rattle.ms_build.specs.declared.plan.Plan.{Plan}
-use Rattle.ms_build.specs.Built.{IsLeastOf, IsOver, IsReadAt, child_meaning, entries_of, imports_for}
+use Rattle.ms_build.specs.Built.{IsLeastOf, IsOver, child_meaning, entries_of, imports_for}
 
 -- variables by their numbers, each with its order
 abbrev pub named : List Order → List ℕ → List Variable
-named orders names = map (λ x. record { name = x; order = slice_index_or orders x Zero }) names
+named orders names = map (λ x. record { name = x; order = order_at orders x }) names
 
--- the variables of a root rise, have orders, and are all that its formula has at least
-pub record AreRootVariables (orders : List Order) (child : Child) (variables : List ℕ) : Type 0 where
+-- the map of a root's formula gives variables of its own orders, where the globals of the source have these
+abbrev pub IsReadInSource : List Entry → List Order → Child → Type 0
+IsReadInSource entries orders child = (entry : Entry) × (slice_get entries child.node ≡ Some entry) × HaveOrders orders child.map entry.orders
+
+-- the variables of a root rise, and are all that its formula has at least
+pub record AreRootVariables (child : Child) (variables : List ℕ) : Type 0 where
   pub rising : IsStrictlyIncreasing variables
-  pub known : (place x : ℕ) → slice_get variables place ≡ Some x → x < length orders
   pub among : (j : ℕ) → Contains child.map j → Contains variables j
 
 -- an automaton of a root's formula over the root's variables
@@ -31,7 +36,7 @@ IsOverRoot plan child variables content =
 abbrev pub AreRootsRead : Dag → Type 0
 AreRootsRead dag =
     (r : ℕ) (root : SharedRoot) → slice_get dag.roots r ≡ Some root
-    → IsReadAt dag.entries dag.orders root.child × AreRootVariables dag.orders root.child root.variables
+    → IsReadInSource dag.entries dag.orders root.child × AreRootVariables root.child root.variables
 
 -- the automaton of a root by its number
 abbrev pub IsRootAt : Plan → ℕ → Content Sign → Type 0

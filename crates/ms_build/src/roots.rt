@@ -1,7 +1,7 @@
-ghost use Rattle.std.specs.Prelude.{◌≡◌, ◌<◌, ℕ, length, slice_get, IfOk, Some};
+ghost use Rattle.std.specs.Prelude.{◌≡◌, length, IfOk};
 ghost use Rattle.ms_dfa.specs.Automaton.{variables_of};
-ghost use Rattle.ms_build.specs.Built.{AreBuiltFor, IsLimit, IsReadAt, IsThere, entries_of};
-ghost use Rattle.ms_build.specs.Roots.{AreRootVariables, IsOverRoot, named};
+ghost use Rattle.ms_build.specs.Built.{AreBuiltFor, IsLimit, IsThere, entries_of};
+ghost use Rattle.ms_build.specs.Roots.{AreRootVariables, IsOverRoot, IsReadInSource, named};
 
 use crate::children::brought;
 use crate::plan::Plan;
@@ -12,7 +12,6 @@ use ms_edge::{List, NoMemory, StepFault, push};
 
 /// The tracks of variables of the source, each with its order.
 fn root_tracks(plan: &Plan, variables: &[u32]) -> Result<List<Track>, NoMemory>
-    requires { (place x : ℕ) → slice_get variables.now place ≡ Some x → x < length plan.now.dag.now.orders }
     ensures { IfOk result (λ made. variables_of made ≡ named plan.now.dag.now.orders variables.now) }
 {
     let mut made = List::new(plan.alloc);
@@ -36,8 +35,8 @@ pub(crate) fn over_variables(
     requires limit { IsLimit plan.now.limit }
     requires built { AreBuiltFor plan.now built.now }
     requires there { IsThere plan.now (length built.now) child.now.node }
-    requires read { IsReadAt (entries_of plan.now) plan.now.dag.now.orders child.now }
-    requires variables { AreRootVariables plan.now.dag.now.orders child.now variables.now }
+    requires read { IsReadInSource (entries_of plan.now) plan.now.dag.now.orders child.now }
+    requires variables { AreRootVariables child.now variables.now }
     ensures { IfOk result (IsOverRoot plan.now child.now variables.now) }
 {
     let part = brought(plan, built, child)?;

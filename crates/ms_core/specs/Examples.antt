@@ -1,11 +1,12 @@
 -- Core formulas for worked examples.
-use Rattle.std.specs.Prelude.{ℕ, List, [], ◌∷◌}
+use Rattle.std.specs.Prelude.{ℕ, zero, suc, List, [], ◌∷◌}
 use Rattle.ms_logic.specs.declared.core_formula.Basic.TheVariants.{Less}
 use Rattle.ms_logic.specs.declared.mode.Order.TheVariants.{One}
 use Rattle.ms_logic.specs.declared.mode.Quant.TheVariants.{Ex}
 use Rattle.ms_logic.specs.Assignment.{Variable}
-use Rattle.ms_logic.specs.CoreForm.{CoreForm, basic, conjunction, core_forms, quantified, CoreRestriction}
+use Rattle.ms_logic.specs.CoreForm.{CoreForm, truth, basic, conjunction, core_forms, imported, quantified, CoreRestriction}
 use Rattle.ms_logic.specs.Steps.{variable}
+use Rattle.ms_core.specs.Calls.{Calls}
 use Rattle.ms_logic.specs.Truth.{Import, answer_undefined}
 
 -- the numbers x and y
@@ -23,3 +24,9 @@ exists x d f = quantified Ex One x d f
 -- an import over one number
 abbrev pub number_import : List Import
 number_import = record { variables = variable 0 One ∷ []; answer = λ universe values. answer_undefined } ∷ []
+
+-- the import 0 stands for itself, and each other one says that its variable is less than itself
+abbrev pub below_itself : Calls
+below_itself zero xs = imported 0 xs
+below_itself (suc i) [] = truth
+below_itself (suc i) (x ∷ xs) = basic (Less x x)

@@ -1,2 +1,4 @@
+pub mod Calls
 pub mod Examples
+pub mod Orders
 pub mod Stands

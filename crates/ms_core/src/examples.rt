@@ -1,13 +1,15 @@
 //! The definitions at small core formulas, worked out by hand. Each function has an empty body, and its contract
 //! is the table of its examples.
 
-ghost use Rattle.ms_core.specs.Examples.{between, exists, number_import, x_and_y};
+ghost use Rattle.ms_core.specs.Examples.{below_itself, between, exists, number_import, x_and_y};
+ghost use Rattle.ms_core.specs.Calls.{filled};
+ghost use Rattle.ms_core.specs.Orders.{order_at};
 ghost use Rattle.ms_core.specs.Stands.{Stands};
 ghost use Rattle.ms_logic.specs.CoreForm.{basic, conjunction, core_forms, imported, restricted, truth, unrestricted};
 ghost use Rattle.ms_logic.specs.Steps.{variable};
 ghost use Rattle.ms_logic.specs.declared.core_formula.Basic.TheVariants.{Less, Member};
-ghost use Rattle.ms_logic.specs.declared.mode.Order.TheVariants.{One, Two};
-ghost use Rattle.std.specs.Prelude.{[], ◌∷◌};
+ghost use Rattle.ms_logic.specs.declared.mode.Order.TheVariants.{One, Two, Zero};
+ghost use Rattle.std.specs.Prelude.{[], ◌∷◌, ◌≡◌};
 
 /// Where variables stand. The numbers x, y and z are the variables 0, 1 and 2.
 pub fn worked_scopes()
@@ -31,4 +33,22 @@ pub fn worked_scopes()
     ensures import_out_of_scope { ¬ Stands number_import x_and_y (imported 0 (2 ∷ [])) }
     ensures import_of_other_order { ¬ Stands number_import (variable 1 Two ∷ []) (imported 0 (1 ∷ [])) }
     ensures no_import { ¬ Stands number_import x_and_y (imported 1 (0 ∷ [])) }
+{}
+
+/// The orders of numbers, behind a truth value and a set as globals.
+pub fn worked_orders()
+    ensures globals { order_at (Zero ∷ Two ∷ []) 1 ≡ Two }
+    ensures first { order_at (Zero ∷ Two ∷ []) 2 ≡ Zero }
+    ensures second { order_at (Zero ∷ Two ∷ []) 3 ≡ One }
+    ensures third { order_at (Zero ∷ Two ∷ []) 4 ≡ Two }
+    ensures next { order_at (Zero ∷ Two ∷ []) 5 ≡ Zero }
+{}
+
+/// What stands for imports. The import 0 is one of the source, and 1 stands for a relation of its variable.
+pub fn worked_calls()
+    ensures import { filled below_itself (imported 0 (4 ∷ [])) ≡ imported 0 (4 ∷ []) }
+    ensures call { filled below_itself (imported 1 (4 ∷ [])) ≡ basic (Less 4 4) }
+    // ex1 z where 1(z): z < 3 & z < y
+    ensures below { filled below_itself (exists 2 (restricted (imported 1 (2 ∷ []))) (between 2 3 1)) ≡ exists 2 (restricted (basic (Less 2 2))) (between 2 3 1) }
+    ensures other_variable { ¬ filled below_itself (imported 1 (4 ∷ [])) ≡ basic (Less 3 3) }
 {}

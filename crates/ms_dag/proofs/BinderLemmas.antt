@@ -65,11 +65,6 @@ module _ (names : List ℕ) (x : ℕ) (all : List ℕ) (ends : EndsIn names x al
     pub bound_back : AreAmong (places_in_maps parts) ends.own
     bound_back = All-by (Contains (places_in_maps parts)) ends.own (λ y there. union.back y (All-contains (Contains names) ends.own y ends.back there))
 
-    pub bound_below : (count : ℕ) → AreBelow count (places_in_maps parts) → AreBelow count ends.own
-    bound_below count known =
-        All-by (λ y. y < count) ends.own
-        (λ y there. All-contains (λ z. z < count) (places_in_maps parts) y known (All-contains (Contains (places_in_maps parts)) ends.own y bound_back there))
-
     pub above_bound : (orders : List Order) (old new : List Entry) (node : DagNode) (child : Child) → AreTheSameIn all parts (children_of node) → IsMade orders old new node ends.own child →
         IsAbove orders old new (x ∷ []) parts node child
     above_bound orders old new node child same made =

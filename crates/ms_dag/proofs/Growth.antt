@@ -96,8 +96,8 @@ used_right : (entries : List Entry) (ps qs : List Child) (i : ℕ) → IsUsed en
 used_right entries ps qs i used =
     ⊎_elim (λ top. inl (subst (λ list. Contains list i) (sym (map-append (λ (c : Child). c.node) ps qs)) (Contains-append_right (map (λ (c : Child). c.node) ps) (map (λ (c : Child). c.node) qs) i top))) (λ below. inr below) used
 
-pub Grown-none : (entries : List Entry) → AreNodes entries → Grown entries entries []
-Grown-none entries nodes = record {
+pub Grown-none : (entries : List Entry) (tops : List Child) → AreNodes entries → Grown entries entries tops
+Grown-none entries tops nodes = record {
   kept = λ i entry there. there;
   nodes = nodes;
   used = λ i from below. absurd (omega (arith, from, below));

@@ -6,6 +6,7 @@ use Rattle.std.proofs.lemmas.Option.{same_Some, slice_get_within}
 use Rattle.ms_logic.specs.declared.core_formula.Root as code
 use Rattle.ms_logic.specs.declared.mode.Order.{Order}
 use Rattle.ms_logic.specs.CoreForm.{CoreForm, core_form_of, truth, falsity, basic, negation, conjunction, disjunction, implication, equivalence, restrict, imported, quantified, CoreForms, no_forms, more_forms, CoreRestriction, unrestricted, restricted}
+use Rattle.ms_core.specs.Calls.{Calls, filled}
 use Rattle.ms_dag.specs.declared.dag.SharedRoot.{SharedRoot}
 use Rattle.ms_dag.specs.declared.node.Child.{Child}
 use Rattle.ms_dag.specs.declared.node.DagNode.{DagNode}
@@ -92,13 +93,13 @@ module _ (entries : List Entry) (count : ℕ) where
   import_below (quantified q o x d f) names place i xs unfolds below is = let both : Some (Bind q o (length names) unfolds.0 unfolds.1) ≡ Some (Import i xs) = sym unfolds.2 ∙ is in let never : ⊥ = cc in absurd never
 
   -- the nodes of the roots reads to their formulas
-  roots_below : (orders : List Order) (roots : List code.Root) (shared : List SharedRoot) → AreRootsOf orders entries roots shared → RootsImportBelow count roots → AreBelow (children_of_roots shared)
-  roots_below orders [] [] are below = none_below
-  roots_below orders [] (s ∷ ss) are below = absurd are
-  roots_below orders (r ∷ rs) [] are below = absurd are
-  roots_below orders (r ∷ rs) (s ∷ ss) are below =
-      All-cons (λ (c : Child). IsBelow c.node) s.child (children_of_roots ss) (core_form_of r.core, s.child.map, are.0.unfolds, below 0 r refl)
-      (roots_below orders rs ss are.1 (λ k root is. below (suc k) root is))
+  roots_below : (calls : Calls) (orders : List Order) (roots : List code.Root) (shared : List SharedRoot) → AreRootsOf calls orders entries roots shared → RootsImportBelow calls count roots → AreBelow (children_of_roots shared)
+  roots_below calls orders [] [] are below = none_below
+  roots_below calls orders [] (s ∷ ss) are below = absurd are
+  roots_below calls orders (r ∷ rs) [] are below = absurd are
+  roots_below calls orders (r ∷ rs) (s ∷ ss) are below =
+      All-cons (λ (c : Child). IsBelow c.node) s.child (children_of_roots ss) (filled calls (core_form_of r.core), s.child.map, are.0.unfolds, below 0 r refl)
+      (roots_below calls orders rs ss are.1 (λ k root is. below (suc k) root is))
 
   module _ (roots : List Child) (graph : IsDag entries roots) (at_roots : AreBelow roots) where
     -- each node does, since it is that of a root or a child of a node with a greater number
@@ -125,8 +126,8 @@ module _ (entries : List Entry) (count : ℕ) where
             (λ place d within. ((graph.nodes.nodes k entry held).children place d within).part.smaller)) there
 
 pub nodes_import_as_roots_do : NodesImportAsRootsDo
-nodes_import_as_roots_do lowered dag count is roots place entry i xs held import =
+nodes_import_as_roots_do calls lowered dag count is roots place entry i xs held import =
     let shared = children_of_roots dag.roots in
-    let found = all_below dag.entries count shared is.graph (roots_below dag.entries count lowered.orders lowered.roots dag.roots is.roots roots) (length dag.entries) place
+    let found = all_below dag.entries count shared is.graph (roots_below dag.entries count calls lowered.orders lowered.roots dag.roots is.roots roots) (length dag.entries) place
     (slice_get_within dag.entries place entry held) (omega arith) in
     import_below dag.entries count found.0 found.1 place i xs found.2 found.3 (ap (option_map (λ e. e.node)) held ∙ ap Some import)

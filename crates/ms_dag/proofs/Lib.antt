@@ -5,6 +5,7 @@ pub mod KeyLemmas
 pub mod ListSteps
 pub mod MadeNodes
 pub mod Members
+pub mod MemoLemmas
 pub mod NodeValues
 pub mod NodesByChildren
 pub mod PlaceLemmas

@@ -14,17 +14,18 @@ use Rattle.ms_dag.specs.declared.node.DagNode.{DagNode}
 use Rattle.ms_dag.specs.declared.node.Entry.{Entry}
 use Rattle.ms_diagram.specs.Numbering.{HasNoRepeats, Numbers}
 use Rattle.ms_dag.specs.Dag.{children_of, orders_inside, HasOwnOrders, places_in_maps, places_of, IsChild, IsNode, AreNodes}
+use Rattle.ms_dag.specs.Laws.{HaveOrders}
 use Rattle.ms_dag.specs.Maps.{IsPlaced, AreTheSameIn}
-use Rattle.ms_dag.specs.Places.{AreAt, AreBelow}
+use Rattle.ms_dag.specs.Places.{AreBelow}
 use Rattle.ms_dag.specs.Shared.{IsShared, AreShared, Grown, IsMade, IsAbove}
 use Rattle.ms_dag.specs.Unfolds.{node_at, IsPartOf, ReadAs, Unfolds, UnfoldEach}
 use Rattle.ms_dag.proofs.Growth.{Keeps, Keeps-numbers, Unfolds-kept, IsNode-kept}
-use Rattle.ms_dag.proofs.PlaceLemmas.{AreAt-length, AreAt-within, AreAt-picked, AreAt-inner, places_rise, placed_place}
+use Rattle.ms_dag.proofs.PlaceLemmas.{AreAt-within, AreAt-picked, AreAt-inner, HaveOrders-length, places_rise, placed_place}
 
 -- what is known of a part: its variables rise, and have the orders of its node's own
 pub record IsKnown (orders : List Order) (entries : List Entry) (part : Child) : Type 0 where
   pub rising : IsStrictlyIncreasing part.map
-  pub ordered : (entry : Entry) × (slice_get entries part.node ≡ Some entry) × AreAt orders part.map entry.orders
+  pub ordered : (entry : Entry) × (slice_get entries part.node ≡ Some entry) × HaveOrders orders part.map entry.orders
 
 pub IsKnown-shared : (orders : List Order) (entries : List Entry) (f : CoreForm) (part : Child) → IsShared orders entries f part → IsKnown orders entries part
 IsKnown-shared orders entries f part is = record { rising = is.rising; ordered = is.ordered }
@@ -43,14 +44,14 @@ same_nodes among [] (c ∷ cs) same = absurd same
 same_nodes among (p ∷ ps) [] same = absurd same
 same_nodes among (p ∷ ps) (c ∷ cs) same = let first = same.0.node in let others = same_nodes among ps cs same.1 in cc
 
-module _ (orders : List Order) (entries : List Entry) (among : List ℕ) (inner : List Order) (rising : IsStrictlyIncreasing among) (outer : AreAt orders among inner) (i : ℕ) (above : length entries ≤ i) where
+module _ (orders : List Order) (entries : List Entry) (among : List ℕ) (inner : List Order) (rising : IsStrictlyIncreasing among) (outer : HaveOrders orders among inner) (i : ℕ) (above : length entries ≤ i) where
   -- a placed part is a child
   child_is : (part placed : Child) → IsPlaced among part placed → IsKnown orders entries part → IsChild entries i inner placed
   child_is part placed same known =
       let node : placed.node ≡ part.node = same.node in
       let held : slice_get entries placed.node ≡ Some known.ordered.0 = ap (slice_get entries) node ∙ known.ordered.1 in
       let below = slice_get_within entries placed.node known.ordered.0 held in
-      let long = AreAt-length orders among inner outer in
+      let long = HaveOrders-length orders among inner outer in
       record {
         part = record {
           smaller = omega arith;
@@ -125,11 +126,11 @@ module _ (orders : List Order) (mid new : List Entry) (node : DagNode) (names : 
 
 -- the same for a node above some parts
 module _ (orders : List Order) (mid new : List Entry) (bound : List ℕ) (parts : List Child) (node : DagNode) (child : Child) (above : IsAbove orders mid new bound parts node child)
-    (known : All (IsKnown orders mid) parts) (inside : AreAt orders (child.map ++ bound) (orders_inside node above.made.own)) (own : HasOwnOrders node above.made.own)
+    (known : All (IsKnown orders mid) parts) (inside : HaveOrders orders (child.map ++ bound) (orders_inside node above.made.own)) (own : HasOwnOrders node above.made.own)
     (places : places_of node ≡ places_in_maps (children_of node)) where
   free_above : (j : ℕ) → j < length above.made.own → Contains (places_of node) j
   free_above j below =
-      let long = AreAt-length orders child.map above.made.own above.made.ordered in
+      let long = HaveOrders-length orders child.map above.made.own above.made.ordered in
       let within : j < length child.map = omega arith in
       let name = get_or child.map j 0 in
       let held : slice_get (child.map ++ bound) j ≡ Some name = slice_get-append_left child.map bound j within ∙ slice_get-get_or child.map j 0 within in

@@ -130,7 +130,7 @@ moved_value o v e f same is_value = let P : Universe → Type 0 = λ u. IsValueO
 bound_read : (orders : List Order) (names : List ℕ) (o : Order) (x : ℕ) (v : Value) (e c : Env) → ReadsAs orders names e c → AreBelow x names → HasOrder orders (variable x o) →
     IsValueOf o e.universe v → ReadsAs orders (names ++ x ∷ []) (assign (length names) v e) (assign x v c)
 bound_read orders names o x v e c reads greater bound is_value =
-    ReadsAs-bound orders names x v e c reads greater (bound ∙ ap Some (sym (order_of_value_of o e.universe v is_value)))
+    ReadsAs-bound orders names x v e c reads greater (bound ∙ sym (order_of_value_of o e.universe v is_value))
 
 -- a node, at a bound on the numbers below which its children are
 at_node : (imports : List Imported) (entries : List Entry) (n i : ℕ) (o : Option DagNode) (e : Env) (Y N : Type 0) → i < n → node_at entries i ≡ o →

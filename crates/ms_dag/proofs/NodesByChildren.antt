@@ -11,6 +11,7 @@ use Rattle.std.proofs.lemmas.List.Elements.{All-head, All-tail}
 use Rattle.ms_logic.specs.declared.mode.Quant.TheVariants.{Ex, All as Every}
 use Rattle.ms_logic.specs.Assignment.{Env, assign}
 use Rattle.ms_logic.specs.Truth.{Import as Imported}
+use Rattle.ms_core.specs.Calls.{Calls, filled}
 use Rattle.ms_dag.specs.declared.node.Child.{Child}
 use Rattle.ms_dag.specs.declared.node.DagNode.{DagNode}
 use Rattle.ms_dag.specs.declared.node.DagNode.TheVariants.{True, False, Basic, Not, And, Or, Implies, Iff, Restrict, Import, Bind}
@@ -84,8 +85,8 @@ node_has_value_by_children imports entries i e first =
     ((same.yes_to, same.yes_from), (same.no_to, same.no_from))
 
 -- a root of the graph has the value of its formula, where its variables have the values that their numbers have
-pub root_has_value_of_formula : (imports : List Imported) (orders : List Order) (entries : List Entry) (root : Root) (shared : SharedRoot) (c : Env) → IsRootOf orders entries root shared → HaveTheirOrders imports orders (core_form_of root.core) →
-    (NodeYes imports entries shared.child.node (read_through shared.child.map c) ↔ CoreYes imports (core_form_of root.core) c)
-    × (NodeNo imports entries shared.child.node (read_through shared.child.map c) ↔ CoreNo imports (core_form_of root.core) c)
-root_has_value_of_formula imports orders entries root shared c is ordered =
-    node_has_value_of_formula imports entries orders (core_form_of root.core) shared.child.map shared.child.node (read_through shared.child.map c) c ordered is.unfolds (ReadsAs-read_through orders shared.child.map c)
+pub root_has_value_of_formula : (imports : List Imported) (calls : Calls) (orders : List Order) (entries : List Entry) (root : Root) (shared : SharedRoot) (c : Env) → IsRootOf calls orders entries root shared → HaveTheirOrders imports orders (filled calls (core_form_of root.core)) →
+    (NodeYes imports entries shared.child.node (read_through shared.child.map c) ↔ CoreYes imports (filled calls (core_form_of root.core)) c)
+    × (NodeNo imports entries shared.child.node (read_through shared.child.map c) ↔ CoreNo imports (filled calls (core_form_of root.core)) c)
+root_has_value_of_formula imports calls orders entries root shared c is ordered =
+    node_has_value_of_formula imports entries orders (filled calls (core_form_of root.core)) shared.child.map shared.child.node (read_through shared.child.map c) c ordered is.unfolds (ReadsAs-read_through orders shared.child.map c)

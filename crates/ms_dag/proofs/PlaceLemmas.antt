@@ -1,13 +1,17 @@
 -- Items at places.
-use Rattle.std.proofs.Common.{◌≡◌, ℕ, zero, suc, ◌+◌, ◌<◌, List, [], ◌∷◌, length, map, get_or, slice_get, slice_index, Contains, Some, refl, sym, ◌∙◌, ap, ⊎_elim, arith}
+use Rattle.std.proofs.Common.{◌≡◌, ℕ, zero, suc, ◌+◌, ◌<◌, List, [], ◌∷◌, ◌++◌, length, map, get_or, slice_get, slice_index, Contains, Some, refl, sym, ◌∙◌, ap, subst, ⊎_elim, arith}
 use Rattle.std.proofs.lemmas.Bool.{cases_lt}
-use Rattle.std.proofs.lemmas.List.{length-map, get_or_default}
+use Rattle.std.proofs.lemmas.List.{length-map, map-append, get_or_default}
 use Rattle.std.proofs.lemmas.List.Elements.{Contains-append_cases, Contains-append_left, Contains-append_right}
 use Rattle.std.proofs.lemmas.List.Kept.{AllPairs-from_increasing}
-use Rattle.std.proofs.lemmas.Option.{slice_get_within, slice_get-get_or, same_Some}
+use Rattle.std.proofs.lemmas.Option.{slice_get_within, slice_get-get_or, slice_get-map, same_Some}
 use Rattle.std.specs.List.Sorted.{IsStrictlyIncreasing}
+use Rattle.std.specs.Option.{option_map}
+use Rattle.ms_logic.specs.declared.mode.Order.{Order}
+use Rattle.ms_core.specs.Orders.{order_at}
 use Rattle.ms_dag.specs.declared.node.Child.{Child}
 use Rattle.ms_dag.specs.Dag.{places_in_maps}
+use Rattle.ms_dag.specs.Laws.{HaveOrders}
 use Rattle.ms_dag.specs.Maps.{AreTheSameIn}
 use Rattle.ms_dag.specs.Places.{AreAt, AreBelow, picked}
 use Rattle.ms_dag.proofs.RisingLemmas.{rising_not_down}
@@ -47,25 +51,34 @@ AreAt-picked names (p ∷ places) (g ∷ given) at =
     let others = AreAt-picked names places given (AreAt-tail names p places g given at) in cc
 
 -- what stands at places of places
-module _ {X : Type 0} (orders : List X) (among : List ℕ) (inner : List X) (outer : AreAt orders among inner) where
-  pub one_place : (p x : ℕ) (g : X) → slice_get among p ≡ Some x → slice_get orders x ≡ Some g → slice_get inner p ≡ Some g
-  one_place p x g at held =
-      let below = slice_get_within among p x at in
-      let index = slice_index-is among p x at in
-      let long = AreAt-length orders among inner outer in
-      let there : slice_get orders (get_or among p 0) ≡ Some (get_or inner p g) = AreAt-at orders among inner outer p g below in
-      let same : get_or inner p g ≡ g = same_Some _ _ (sym there ∙ ap (slice_get orders) index ∙ held) in
-      slice_get-get_or inner p g (omega arith) ∙ ap Some same
+module _ {X : Type 0} (f : ℕ → X) (among : List ℕ) where
+  one_place : (p x : ℕ) → slice_get among p ≡ Some x → slice_get (map f among) p ≡ Some (f x)
+  one_place p x at = slice_get-map f among p ∙ ap (option_map f) at
 
-  pub AreAt-inner : (places names : List ℕ) (given : List X) → AreAt among places names → AreAt orders names given → AreAt inner places given
-  AreAt-inner [] [] [] at held = refl
-  AreAt-inner [] [] (g ∷ given) at held = absurd (let never : ⊥ = cc in never)
-  AreAt-inner [] (x ∷ names) given at held = absurd (let never : ⊥ = cc in never)
-  AreAt-inner (p ∷ places) [] given at held = absurd (let never : ⊥ = cc in never)
-  AreAt-inner (p ∷ places) (x ∷ names) [] at held = absurd (let never : ⊥ = cc in never)
-  AreAt-inner (p ∷ places) (x ∷ names) (g ∷ given) at held =
-      let first = one_place p x g (AreAt-head among p places x names at) (AreAt-head orders x names g given held) in
-      let others = AreAt-inner places names given (AreAt-tail among p places x names at) (AreAt-tail orders x names g given held) in cc
+  AreAt-mapped : (places names : List ℕ) → AreAt among places names → AreAt (map f among) places (map f names)
+  AreAt-mapped [] [] at = refl
+  AreAt-mapped [] (x ∷ names) at = absurd (let never : ⊥ = cc in never)
+  AreAt-mapped (p ∷ places) [] at = absurd (let never : ⊥ = cc in never)
+  AreAt-mapped (p ∷ places) (x ∷ names) at =
+      let first = one_place p x (AreAt-head among p places x names at) in
+      let others = AreAt-mapped places names (AreAt-tail among p places x names at) in cc
+
+-- the orders of names
+module _ (orders : List Order) where
+  pub HaveOrders-length : (names : List ℕ) (own : List Order) → HaveOrders orders names own → length names ≡ length own
+  HaveOrders-length names own have = sym (length-map names (order_at orders)) ∙ ap length have
+
+  pub HaveOrders-push : (names : List ℕ) (own : List Order) (x : ℕ) (o : Order) → HaveOrders orders names own → order_at orders x ≡ o → HaveOrders orders (names ++ x ∷ []) (own ++ o ∷ [])
+  HaveOrders-push names own x o have next =
+      map-append (order_at orders) names (x ∷ []) ∙ ap (λ front. front ++ order_at orders x ∷ []) have ∙ ap (λ last. own ++ last ∷ []) next
+
+  module _ (among : List ℕ) (inner : List Order) (outer : HaveOrders orders among inner) where
+    pub own_order : (p x : ℕ) (o : Order) → slice_get among p ≡ Some x → order_at orders x ≡ o → slice_get inner p ≡ Some o
+    own_order p x o at held = ap (λ list. slice_get list p) (sym outer) ∙ one_place (order_at orders) among p x at ∙ ap Some held
+
+    pub AreAt-inner : (places names : List ℕ) (given : List Order) → AreAt among places names → HaveOrders orders names given → AreAt inner places given
+    AreAt-inner places names given at have =
+        subst (λ list. AreAt list places given) outer (subst (λ list. AreAt (map (order_at orders) among) places list) have (AreAt-mapped (order_at orders) among places names at))
 
 module _ (among : List ℕ) (rising : IsStrictlyIncreasing among) where
   -- places of rising numbers rise

@@ -1,10 +1,9 @@
 -- Rising lists, and places in lists.
-use Rattle.std.proofs.Common.{◌≡◌, ℕ, zero, suc, ◌<◌, ◌≤◌, List, [], ◌∷◌, ◌++◌, length, map, get_or, slice_get, Contains, Some, sym, ◌∙◌, ap, ⊎_elim, arith}
+use Rattle.std.proofs.Common.{◌≡◌, ℕ, zero, suc, ◌<◌, ◌≤◌, List, length, get_or, Contains, ◌∙◌, ap, ⊎_elim, arith}
 use Rattle.std.proofs.lemmas.Bool.{cases_eq, cases_lt}
-use Rattle.std.proofs.lemmas.List.{map-append, get_or_default}
+use Rattle.std.proofs.lemmas.List.{get_or_default}
 use Rattle.std.proofs.lemmas.List.Kept.{AllPairs-from_increasing}
 use Rattle.std.specs.List.Sorted.{IsStrictlyIncreasing}
-use Rattle.ms_dag.specs.Places.{AreAt}
 
 -- a number of a rising list is at least its place
 pub rising_at_least : (xs : List ℕ) (i : ℕ) → IsStrictlyIncreasing xs → i < length xs → i ≤ get_or xs i 0
@@ -24,9 +23,3 @@ pub not_between : (xs : List ℕ) (n i : ℕ) → ((k : ℕ) → k < i → get_o
 not_between xs n i before after there =
     let at : get_or xs there.0 0 ≡ n = get_or_default xs there.0 0 n there.1 ∙ there.2 in
     ⊎_elim (λ (below : there.0 < i). let less = before there.0 below in omega arith) (λ (above : i ≤ there.0). let more = after there.0 above there.1 in omega arith) (cases_lt there.0 i)
-
-pub AreAt-push : {X : Type 0} (items : List X) (places : List ℕ) (given : List X) (place : ℕ) (item : X) → AreAt items places given → slice_get items place ≡ Some item →
-    AreAt items (places ++ place ∷ []) (given ++ item ∷ [])
-AreAt-push items places given place item at next =
-    map-append (slice_get items) places (place ∷ []) ∙ ap (λ front. front ++ slice_get items place ∷ []) at ∙ ap (λ o. map Some given ++ o ∷ []) next
-    ∙ sym (map-append Some given (item ∷ []))

@@ -1,16 +1,16 @@
 -- Each form of a core formula: what is known of its parts when they stand in the graph, and that it stands there in the end.
-use Rattle.std.proofs.Common.{◌≡◌, ℕ, ◌+◌, ◌<◌, List, [], ◌∷◌, length, All, Contains, Some, None, ◌∙◌, ap}
-use Rattle.std.proofs.lemmas.List.Elements.{All-weaker, All-map}
-use Rattle.std.proofs.lemmas.Option.{slice_get_within}
+use Rattle.std.proofs.Common.{◌≡◌, ℕ, ◌+◌, List, [], ◌∷◌, length, All, Contains, Some, None, ◌∙◌, ap}
+use Rattle.std.proofs.lemmas.List.Elements.{All-weaker}
 use Rattle.ms_logic.specs.declared.core_formula.Basic.{Basic as Relation}
 use Rattle.ms_logic.specs.declared.core_formula.Core.{Core}
 use Rattle.ms_logic.specs.declared.core_formula.Core.TheVariants as code
 use Rattle.ms_logic.specs.declared.mode.Order.{Order}
 use Rattle.ms_logic.specs.declared.mode.Quant.{Quant}
 use Rattle.ms_logic.specs.Assignment.{Variable}
-use Rattle.ms_logic.specs.CoreForm.{CoreForm, basic, negation, conjunction, disjunction, implication, equivalence, restrict, imported, quantified, CoreForms, no_forms, more_forms, unrestricted, restricted, core_form_of}
+use Rattle.ms_logic.specs.CoreForm.{CoreForm, basic, negation, conjunction, disjunction, implication, equivalence, restrict, quantified, CoreForms, no_forms, more_forms, unrestricted, restricted, core_form_of}
 use Rattle.ms_logic.specs.Steps.{variable, variables_of_basic}
-use Rattle.ms_logic.proofs.Views.{core_form_of-Basic, core_form_of-Not, core_form_of-And, core_form_of-Or, core_form_of-Implies, core_form_of-Iff, core_form_of-Restrict, core_form_of-Import, core_form_of-Bind-none, core_form_of-Bind-some}
+use Rattle.ms_logic.proofs.Views.{core_form_of-Basic, core_form_of-Not, core_form_of-And, core_form_of-Or, core_form_of-Implies, core_form_of-Iff, core_form_of-Restrict, core_form_of-Bind-none, core_form_of-Bind-some}
+use Rattle.ms_core.specs.Calls.{Calls, filled, filled_each}
 use Rattle.ms_dag.specs.declared.node.Child.{Child}
 use Rattle.ms_dag.specs.declared.node.DagNode.TheVariants.{Not, And, Or, Implies, Iff, Restrict, Bind}
 use Rattle.ms_dag.specs.declared.node.Entry.{Entry}
@@ -19,68 +19,49 @@ use Rattle.ms_dag.specs.Laws.{HasOrder}
 use Rattle.ms_dag.specs.Places.{AreBelow}
 use Rattle.ms_dag.specs.Scope.{IsInScope, forms_of}
 use Rattle.ms_dag.specs.Shared.{IsShared, IsSharedNow, AreShared, AreSharedNow, Grown, IsAbove}
-use Rattle.ms_dag.specs.Unfolds.{names_of_basic}
 use Rattle.ms_dag.proofs.Growth.{IsShared-kept, Grown-both}
-use Rattle.ms_dag.proofs.SharedFormulas.{parts_below, parts_scoped, none_greater, shared_negation, shared_restrict, shared_conjunction, shared_disjunction, shared_implication, shared_equivalence, shared_unrestricted, shared_restricted}
+use Rattle.ms_dag.proofs.SharedFormulas.{parts_scoped, none_greater, shared_negation, shared_restrict, shared_conjunction, shared_disjunction, shared_implication, shared_equivalence, shared_unrestricted, shared_restricted}
 
--- the formulas by their forms
+-- the formulas by their forms, with what imports stand for in their places
 
-pub form-Basic : (core : Core) (b : Relation) → core ≡ code.Basic b → core_form_of core ≡ basic b
-form-Basic core b is = ap core_form_of is ∙ core_form_of-Basic b
+pub form-Basic : (calls : Calls) (core : Core) (b : Relation) → core ≡ code.Basic b → filled calls (core_form_of core) ≡ basic b
+form-Basic calls core b is = ap (filled calls) (ap core_form_of is ∙ core_form_of-Basic b)
 
-pub form-Not : (core f : Core) → core ≡ code.Not f → core_form_of core ≡ negation (core_form_of f)
-form-Not core f is = ap core_form_of is ∙ core_form_of-Not f
+pub form-Not : (calls : Calls) (core f : Core) → core ≡ code.Not f → filled calls (core_form_of core) ≡ negation (filled calls (core_form_of f))
+form-Not calls core f is = ap (filled calls) (ap core_form_of is ∙ core_form_of-Not f)
 
-pub form-Restrict : (core f : Core) → core ≡ code.Restrict f → core_form_of core ≡ restrict (core_form_of f)
-form-Restrict core f is = ap core_form_of is ∙ core_form_of-Restrict f
+pub form-Restrict : (calls : Calls) (core f : Core) → core ≡ code.Restrict f → filled calls (core_form_of core) ≡ restrict (filled calls (core_form_of f))
+form-Restrict calls core f is = ap (filled calls) (ap core_form_of is ∙ core_form_of-Restrict f)
 
-pub form-And : (core : Core) (fs : List Core) → core ≡ code.And fs → core_form_of core ≡ conjunction (forms_of fs)
-form-And core fs is = ap core_form_of is ∙ core_form_of-And fs
+pub form-And : (calls : Calls) (core : Core) (fs : List Core) → core ≡ code.And fs → filled calls (core_form_of core) ≡ conjunction (filled_each calls (forms_of fs))
+form-And calls core fs is = ap (filled calls) (ap core_form_of is ∙ core_form_of-And fs)
 
-pub form-Or : (core : Core) (fs : List Core) → core ≡ code.Or fs → core_form_of core ≡ disjunction (forms_of fs)
-form-Or core fs is = ap core_form_of is ∙ core_form_of-Or fs
+pub form-Or : (calls : Calls) (core : Core) (fs : List Core) → core ≡ code.Or fs → filled calls (core_form_of core) ≡ disjunction (filled_each calls (forms_of fs))
+form-Or calls core fs is = ap (filled calls) (ap core_form_of is ∙ core_form_of-Or fs)
 
-pub form-Implies : (core f g : Core) → core ≡ code.Implies f g → core_form_of core ≡ implication (core_form_of f) (core_form_of g)
-form-Implies core f g is = ap core_form_of is ∙ core_form_of-Implies f g
+pub form-Implies : (calls : Calls) (core f g : Core) → core ≡ code.Implies f g → filled calls (core_form_of core) ≡ implication (filled calls (core_form_of f)) (filled calls (core_form_of g))
+form-Implies calls core f g is = ap (filled calls) (ap core_form_of is ∙ core_form_of-Implies f g)
 
-pub form-Iff : (core f g : Core) → core ≡ code.Iff f g → core_form_of core ≡ equivalence (core_form_of f) (core_form_of g)
-form-Iff core f g is = ap core_form_of is ∙ core_form_of-Iff f g
+pub form-Iff : (calls : Calls) (core f g : Core) → core ≡ code.Iff f g → filled calls (core_form_of core) ≡ equivalence (filled calls (core_form_of f)) (filled calls (core_form_of g))
+form-Iff calls core f g is = ap (filled calls) (ap core_form_of is ∙ core_form_of-Iff f g)
 
-pub form-Import : (core : Core) (i : ℕ) (xs : List ℕ) → core ≡ code.Import i xs → core_form_of core ≡ imported i xs
-form-Import core i xs is = ap core_form_of is ∙ core_form_of-Import i xs
+pub form-Bind-none : (calls : Calls) (core : Core) (q : Quant) (o : Order) (x : ℕ) (f : Core) → core ≡ code.Bind q o x None f → filled calls (core_form_of core) ≡ quantified q o x unrestricted (filled calls (core_form_of f))
+form-Bind-none calls core q o x f is = ap (filled calls) (ap core_form_of is ∙ core_form_of-Bind-none q o x f)
 
-pub form-Bind-none : (core : Core) (q : Quant) (o : Order) (x : ℕ) (f : Core) → core ≡ code.Bind q o x None f → core_form_of core ≡ quantified q o x unrestricted (core_form_of f)
-form-Bind-none core q o x f is = ap core_form_of is ∙ core_form_of-Bind-none q o x f
+pub form-Bind-some : (calls : Calls) (core : Core) (q : Quant) (o : Order) (x : ℕ) (d f : Core) → core ≡ code.Bind q o x (Some d) f → filled calls (core_form_of core) ≡ quantified q o x (restricted (filled calls (core_form_of d))) (filled calls (core_form_of f))
+form-Bind-some calls core q o x d f is = ap (filled calls) (ap core_form_of is ∙ core_form_of-Bind-some q o x d f)
 
-pub form-Bind-some : (core : Core) (q : Quant) (o : Order) (x : ℕ) (d f : Core) → core ≡ code.Bind q o x (Some d) f → core_form_of core ≡ quantified q o x (restricted (core_form_of d)) (core_form_of f)
-form-Bind-some core q o x d f is = ap core_form_of is ∙ core_form_of-Bind-some q o x d f
-
--- the variables of shared parts have orders
-
-pub one_below : (orders : List Order) (old new : List Entry) (f : CoreForm) (part : Child) → IsSharedNow orders old new f part → AreBelow (length orders) (places_in_maps (part ∷ []))
-one_below orders old new f part now = parts_below orders new (more_forms f no_forms) (part ∷ []) (now.shared, tt)
+-- shared parts
 
 pub both_shared : (orders : List Order) (old mid new : List Entry) (f g : CoreForm) (left right : Child) → IsSharedNow orders old mid f left → IsSharedNow orders mid new g right →
     AreShared orders new (more_forms f (more_forms g no_forms)) (left ∷ right ∷ [])
 both_shared orders old mid new f g left right first second = (IsShared-kept mid new second.grown.kept orders f left first.shared, (second.shared, tt))
 
-pub two_below : (orders : List Order) (old mid new : List Entry) (f g : CoreForm) (left right : Child) → IsSharedNow orders old mid f left → IsSharedNow orders mid new g right →
-    AreBelow (length orders) (places_in_maps (left ∷ right ∷ []))
-two_below orders old mid new f g left right first second = parts_below orders new (more_forms f (more_forms g no_forms)) (left ∷ right ∷ []) (both_shared orders old mid new f g left right first second)
-
-pub each_below : (orders : List Order) (old new : List Entry) (fs : CoreForms) (parts : List Child) → AreSharedNow orders old new fs parts → AreBelow (length orders) (places_in_maps parts)
-each_below orders old new fs parts now = parts_below orders new fs parts now.shared
-
-pub basic_below : (orders : List Order) (scope : List ℕ) (b : Relation) → IsInScope orders scope (basic b) → AreBelow (length orders) (names_of_basic b)
-basic_below orders scope b scoped =
-    All-map (λ x. x < length orders) (λ (v : Variable). v.name) (variables_of_basic b)
-    (All-weaker (λ (v : Variable). Contains scope v.name × HasOrder orders v) (λ (v : Variable). v.name < length orders) (λ v both. slice_get_within orders v.name v.order both.1) (variables_of_basic b) scoped)
-
 pub basic_ordered : (orders : List Order) (scope : List ℕ) (b : Relation) → IsInScope orders scope (basic b) → All (HasOrder orders) (variables_of_basic b)
 basic_ordered orders scope b scoped =
     All-weaker (λ (v : Variable). Contains scope v.name × HasOrder orders v) (HasOrder orders) (λ v both. both.1) (variables_of_basic b) scoped
 
--- and none is greater than what is bound
+-- none of their variables is greater than what is bound
 
 pub body_greatest : (orders : List Order) (old new : List Entry) (scope : List ℕ) (q : Quant) (o : Order) (x : ℕ) (f : CoreForm) (part : Child) → IsInScope orders scope (quantified q o x unrestricted f) → IsSharedNow orders old new f part →
     AreBelow (x + 1) (places_in_maps (part ∷ []))

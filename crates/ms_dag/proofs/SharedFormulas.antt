@@ -14,16 +14,15 @@ use Rattle.ms_dag.specs.declared.node.DagNode.{DagNode}
 use Rattle.ms_dag.specs.declared.node.DagNode.TheVariants.{Not, And, Or, Implies, Iff, Restrict, Bind}
 use Rattle.ms_dag.specs.declared.node.Entry.{Entry}
 use Rattle.ms_dag.specs.Dag.{children_of, orders_inside, HasOwnOrders, places_in_maps, places_of, IsNode, AreNodes}
-use Rattle.ms_dag.specs.Laws.{HasOrder}
-use Rattle.ms_dag.specs.Places.{AreAt, AreBelow, AreAmong}
+use Rattle.ms_dag.specs.Laws.{HasOrder, HaveOrders}
+use Rattle.ms_dag.specs.Places.{AreBelow, AreAmong}
 use Rattle.ms_dag.specs.Scope.{IsInScope, AreInScope}
 use Rattle.ms_dag.specs.Shared.{IsShared, IsSharedNow, AreShared, Grown, IsAbove}
 use Rattle.ms_dag.specs.Unfolds.{node_at, Unfolds, UnfoldEach}
 use Rattle.ms_dag.proofs.Growth.{Keeps-numbers}
 use Rattle.ms_dag.proofs.MadeNodes.{AreKnown-shared, same_nodes, made_is_node, node_at-made, Grown-made, above_is_node, read_each}
 use Rattle.ms_dag.proofs.Members.{All-by}
-use Rattle.ms_dag.proofs.PlaceLemmas.{AreAt-length, AreAt-within}
-use Rattle.ms_dag.proofs.RisingLemmas.{AreAt-push}
+use Rattle.ms_dag.proofs.PlaceLemmas.{HaveOrders-length, HaveOrders-push}
 
 rising_front : (xs ys : List ℕ) → IsStrictlyIncreasing (xs ++ ys) → IsStrictlyIncreasing xs
 rising_front xs ys rising k within =
@@ -43,15 +42,7 @@ last_is_greatest xs x rising k d below =
     let less : get_or (xs ++ x ∷ []) k 0 < get_or (xs ++ x ∷ []) (length xs) 0 = AllPairs-from_increasing (xs ++ x ∷ []) rising k (length xs) 0 below (omega arith) in
     omega arith
 
--- the variables of shared parts have orders
-pub parts_below : (orders : List Order) (entries : List Entry) (fs : CoreForms) (parts : List Child) → AreShared orders entries fs parts → AreBelow (length orders) (places_in_maps parts)
-parts_below orders entries no_forms [] are = All-nil (λ x. x < length orders)
-parts_below orders entries no_forms (p ∷ ps) are = absurd are
-parts_below orders entries (more_forms f fs) [] are = absurd are
-parts_below orders entries (more_forms f fs) (p ∷ ps) are =
-    All-append (λ x. x < length orders) p.map (places_in_maps ps) (AreAt-within orders p.map are.0.ordered.0.orders are.0.ordered.2) (parts_below orders entries fs ps are.1)
-
--- and are in scope where the formulas are
+-- the variables of shared parts are in scope where the formulas are
 pub parts_scoped : (orders : List Order) (entries : List Entry) (fs : CoreForms) (parts : List Child) → AreShared orders entries fs parts → (scope : List ℕ) → AreInScope orders scope fs → AreAmong scope (places_in_maps parts)
 parts_scoped orders entries no_forms [] are scope scoped = All-nil (Contains scope)
 parts_scoped orders entries no_forms (p ∷ ps) are scope scoped = absurd are
@@ -61,7 +52,7 @@ parts_scoped orders entries (more_forms f fs) (p ∷ ps) are scope scoped =
 
 -- a node above shared parts
 module _ (orders : List Order) (mid new : List Entry) (bound : List ℕ) (parts : List Child) (node : DagNode) (child : Child) (above : IsAbove orders mid new bound parts node child) (nodes : AreNodes mid)
-    (fs : CoreForms) (are : AreShared orders mid fs parts) (inside : AreAt orders (child.map ++ bound) (orders_inside node above.made.own)) (own : HasOwnOrders node above.made.own)
+    (fs : CoreForms) (are : AreShared orders mid fs parts) (inside : HaveOrders orders (child.map ++ bound) (orders_inside node above.made.own)) (own : HasOwnOrders node above.made.own)
     (places : places_of node ≡ places_in_maps (children_of node)) where
   is_node : IsNode mid (length mid) (record { node = node; orders = above.made.own })
   is_node = above_is_node orders mid new bound parts node child above (AreKnown-shared orders mid fs parts are) inside own places
@@ -70,7 +61,7 @@ module _ (orders : List Order) (mid new : List Entry) (bound : List ℕ) (parts 
   each_part =
       let here = made_is_node orders mid new node child.map child above.made nodes is_node in
       read_each orders mid new fs (child.map ++ bound) (orders_inside node above.made.own) parts (children_of node) child.node (Keeps-numbers mid new _ above.made.numbers) are above.children
-      (sym (AreAt-length orders (child.map ++ bound) (orders_inside node above.made.own) inside)) here.children
+      (sym (HaveOrders-length orders (child.map ++ bound) (orders_inside node above.made.own) inside)) here.children
 
   pub at_number : node_at new child.node ≡ Some node
   at_number = node_at-made orders mid new node child.map child above.made nodes is_node
@@ -112,8 +103,8 @@ module _ (scope names : List ℕ) (x : ℕ) where
 module _ (orders : List Order) (old mid new : List Entry) (parts : List Child) (node : DagNode) (child : Child) (above : IsAbove orders mid new [] parts node child) (fs : CoreForms)
     (are : AreShared orders mid fs parts) (grown : Grown old mid parts) (no_binder : orders_inside node above.made.own ≡ above.made.own) (own : HasOwnOrders node above.made.own)
     (places : places_of node ≡ places_in_maps (children_of node)) where
-  own_inside : AreAt orders (child.map ++ []) (orders_inside node above.made.own)
-  own_inside = subst (λ os. AreAt orders (child.map ++ []) os) (sym no_binder) (subst (λ list. AreAt orders list above.made.own) (sym (append-nil child.map)) above.made.ordered)
+  own_inside : HaveOrders orders (child.map ++ []) (orders_inside node above.made.own)
+  own_inside = subst (λ os. HaveOrders orders (child.map ++ []) os) (sym no_binder) (subst (λ list. HaveOrders orders list above.made.own) (sym (append-nil child.map)) above.made.ordered)
 
   each_own : UnfoldEach new fs child.map child.node (children_of node)
   each_own =
@@ -178,8 +169,8 @@ module _ (orders : List Order) (old mid new : List Entry) (f g : CoreForm) (left
 
 -- quantifiers
 module _ (orders : List Order) (old mid new : List Entry) (q : Quant) (o : Order) (x : ℕ) (child : Child) (bound : HasOrder orders (variable x o)) where
-  binder_inside : (own : List Order) → AreAt orders child.map own → AreAt orders (child.map ++ x ∷ []) (own ++ o ∷ [])
-  binder_inside own ordered = AreAt-push orders child.map own x o ordered bound
+  binder_inside : (own : List Order) → HaveOrders orders child.map own → HaveOrders orders (child.map ++ x ∷ []) (own ++ o ∷ [])
+  binder_inside own ordered = HaveOrders-push orders child.map own x o ordered bound
 
   pub shared_unrestricted : (f : CoreForm) (part placed : Child) → IsShared orders mid f part → Grown old mid (part ∷ []) → IsAbove orders mid new (x ∷ []) (part ∷ []) (Bind q o (length child.map) None placed) child →
       IsSharedNow orders old new (quantified q o x unrestricted f) child
@@ -187,7 +178,7 @@ module _ (orders : List Order) (old mid new : List Entry) (q : Quant) (o : Order
       let node = Bind q o (length child.map) None placed in
       let fs = more_forms f no_forms in
       let inside = binder_inside above.made.own above.made.ordered in
-      let own : length child.map ≡ length above.made.own = AreAt-length orders child.map above.made.own above.made.ordered in
+      let own : length child.map ≡ length above.made.own = HaveOrders-length orders child.map above.made.own above.made.ordered in
       let each = each_part orders mid new (x ∷ []) (part ∷ []) node child above grown.nodes fs (shared, tt) inside own refl in
       let at = at_number orders mid new (x ∷ []) (part ∷ []) node child above grown.nodes fs (shared, tt) inside own refl in
       let greatest = last_is_greatest child.map x above.rising in
@@ -206,7 +197,7 @@ module _ (orders : List Order) (old mid new : List Entry) (q : Quant) (o : Order
       let parts : List Child = first ∷ second ∷ [] in
       let are : AreShared orders mid fs parts = (shared_d, (shared_f, tt)) in
       let inside = binder_inside above.made.own above.made.ordered in
-      let own : length child.map ≡ length above.made.own = AreAt-length orders child.map above.made.own above.made.ordered in
+      let own : length child.map ≡ length above.made.own = HaveOrders-length orders child.map above.made.own above.made.ordered in
       let each = each_part orders mid new (x ∷ []) parts node child above grown.nodes fs are inside own refl in
       let at = at_number orders mid new (x ∷ []) parts node child above grown.nodes fs are inside own refl in
       let greatest = last_is_greatest child.map x above.rising in

@@ -15,7 +15,7 @@ use Rattle.ms_dag.specs.declared.node.DagNode.{DagNode}
 use Rattle.ms_dag.specs.declared.node.DagNode.TheVariants.{True, False, Basic, Import}
 use Rattle.ms_dag.specs.declared.node.Entry.{Entry}
 use Rattle.ms_dag.specs.Dag.{children_of, IsChild, IsNode, AreNodes}
-use Rattle.ms_dag.specs.Laws.{HasOrder}
+use Rattle.ms_dag.specs.Laws.{HasOrder, HaveOrders}
 use Rattle.ms_dag.specs.Places.{AreAt, AreBelow, AreAmong}
 use Rattle.ms_dag.specs.Relations.{IsBasicNode, IsImportNode}
 use Rattle.ms_dag.specs.Scope.{IsInScope}
@@ -24,12 +24,12 @@ use Rattle.ms_dag.specs.Unfolds.{node_at, renamed, names_of_basic, Unfolds}
 use Rattle.ms_dag.proofs.Growth.{Grown-none}
 use Rattle.ms_dag.proofs.MadeNodes.{node_at-made, Grown-made}
 use Rattle.ms_dag.proofs.Members.{All-by}
-use Rattle.ms_dag.proofs.PlaceLemmas.{AreAt-length, AreAt-within, AreAt-picked, one_place, place_there}
+use Rattle.ms_dag.proofs.PlaceLemmas.{AreAt-within, AreAt-picked, HaveOrders-length, own_order, place_there}
 
 -- each own variable is at the place of one of these
-leaf_free : (orders : List Order) (map : List ℕ) (own : List Order) → AreAt orders map own → (places names : List ℕ) → IsStrictlyIncreasing map → AreAt map places names → AreAmong names map → (j : ℕ) → j < length own → Contains places j
+leaf_free : (orders : List Order) (map : List ℕ) (own : List Order) → HaveOrders orders map own → (places names : List ℕ) → IsStrictlyIncreasing map → AreAt map places names → AreAmong names map → (j : ℕ) → j < length own → Contains places j
 leaf_free orders map own ordered places names rising at back j below =
-    let long = AreAt-length orders map own ordered in
+    let long = HaveOrders-length orders map own ordered in
     let within : j < length map = omega arith in
     place_there map rising places names j (get_or map j 0) at (slice_get-get_or map j 0 within) (back j 0 within)
 
@@ -61,7 +61,7 @@ module _ (orders : List Order) (old new : List Entry) (node : DagNode) (child : 
 
   shared_leaf : (f : CoreForm) → Unfolds new f child.map child.node → IsStrictlyIncreasing child.map → ((scope : List ℕ) → IsInScope orders scope f → AreAmong scope child.map) → IsSharedNow orders old new f child
   shared_leaf f unfolds rising scoped = record {
-    grown = Grown-made orders old new node child.map child made nodes is_node old [] (ap (map (λ (c : Child). c.node)) (sym none)) (Grown-none old nodes);
+    grown = Grown-made orders old new node child.map child made nodes is_node old [] (ap (map (λ (c : Child). c.node)) (sym none)) (Grown-none old [] nodes);
     shared = record {
       unfolds = unfolds;
       rising = rising;
@@ -72,8 +72,8 @@ module _ (orders : List Order) (old new : List Entry) (node : DagNode) (child : 
 
 -- a constant
 module _ (orders : List Order) (old new : List Entry) (child : Child) (nodes : AreNodes old) where
-  no_own : (own : List Order) → AreAt orders [] own → (j : ℕ) → j < length own → ⊥
-  no_own own ordered j below = let long = AreAt-length orders [] own ordered in omega (arith, long, below)
+  no_own : (own : List Order) → HaveOrders orders [] own → (j : ℕ) → j < length own → ⊥
+  no_own own ordered j below = let long = HaveOrders-length orders [] own ordered in omega (arith, long, below)
 
   none_rise : (xs : List ℕ) → xs ≡ [] → IsStrictlyIncreasing xs
   none_rise xs none k below = let long = ap length none in absurd (omega (arith, long, below))
@@ -81,7 +81,7 @@ module _ (orders : List Order) (old new : List Entry) (child : Child) (nodes : A
   pub shared_truth : IsMade orders old new True [] child → IsSharedNow orders old new truth child
   shared_truth given =
       let made : IsMade orders old new True child.map child = subst (λ list. IsMade orders old new True list child) (sym given.map) given in
-      let ordered : AreAt orders [] made.own = subst (λ list. AreAt orders list made.own) given.map made.ordered in
+      let ordered : HaveOrders orders [] made.own = subst (λ list. HaveOrders orders list made.own) given.map made.ordered in
       let is_node : IsNode old (length old) (record { node = True; orders = made.own }) = record {
         children = All-nil (IsChild old (length old) made.own);
         own = tt;
@@ -93,7 +93,7 @@ module _ (orders : List Order) (old new : List Entry) (child : Child) (nodes : A
   pub shared_falsity : IsMade orders old new False [] child → IsSharedNow orders old new falsity child
   shared_falsity given =
       let made : IsMade orders old new False child.map child = subst (λ list. IsMade orders old new False list child) (sym given.map) given in
-      let ordered : AreAt orders [] made.own = subst (λ list. AreAt orders list made.own) given.map made.ordered in
+      let ordered : HaveOrders orders [] made.own = subst (λ list. HaveOrders orders list made.own) given.map made.ordered in
       let is_node : IsNode old (length old) (record { node = False; orders = made.own }) = record {
         children = All-nil (IsChild old (length old) made.own);
         own = tt;
@@ -106,7 +106,7 @@ module _ (orders : List Order) (old new : List Entry) (child : Child) (nodes : A
   pub shared_import : (i : ℕ) (xs : List ℕ) → IsImportNode orders old new i xs child → IsSharedNow orders old new (imported i xs) child
   shared_import i xs is =
       let made = is.made in
-      let long = AreAt-length orders child.map made.own made.ordered in
+      let long = HaveOrders-length orders child.map made.own made.ordered in
       let within : AreBelow (length child.map) is.own = AreAt-within child.map is.own xs is.places in
       let back : AreAmong xs child.map = All-by (Contains xs) child.map is.variables.back in
       let is_node : IsNode old (length old) (record { node = Import i is.own; orders = made.own }) = record {
@@ -116,10 +116,10 @@ module _ (orders : List Order) (old new : List Entry) (child : Child) (nodes : A
       } in
       shared_leaf orders old new (Import i is.own) child made nodes refl is_node (imported i xs)
       (is.own, at_leaf orders old new (Import i is.own) child made nodes refl is_node, within, sym (AreAt-picked child.map is.own xs is.places)) is.rising
-      (λ scope scoped. scoped_leaf scope xs child.map back scoped.0)
+      (λ scope scoped. scoped_leaf scope xs child.map back scoped)
 
   -- a basic relation, whose variables have their orders
-  basic_orders : (b own : Relation) (given : List Order) → AreAt orders child.map given → AreBelow (length child.map) (names_of_basic own) → b ≡ renamed (slice_index child.map) own → All (HasOrder orders) (variables_of_basic b) →
+  basic_orders : (b own : Relation) (given : List Order) → HaveOrders orders child.map given → AreBelow (length child.map) (names_of_basic own) → b ≡ renamed (slice_index child.map) own → All (HasOrder orders) (variables_of_basic b) →
       All (λ (v : Variable). slice_get given v.name ≡ Some v.order) (variables_of_basic own)
   basic_orders b own given ordered within is all =
       All-by (λ (v : Variable). slice_get given v.name ≡ Some v.order) (variables_of_basic own)
@@ -129,7 +129,7 @@ module _ (orders : List Order) (old new : List Entry) (child : Child) (nodes : A
       let named : All (HasOrder orders) (map (λ (w : Variable). variable (slice_index child.map w.name) w.order) (variables_of_basic own)) = subst P (ap variables_of_basic is ∙ variables-renamed (slice_index child.map) own) all in
       let held : HasOrder orders (variable (slice_index child.map v.name) v.order) =
       All-contains (HasOrder orders) _ _ named (Contains-mapped (λ (w : Variable). variable (slice_index child.map w.name) w.order) (variables_of_basic own) v there) in
-      one_place orders child.map given ordered v.name (slice_index child.map v.name) v.order (slice_get-get_or child.map v.name 0 below) held)
+      own_order orders child.map given ordered v.name (slice_index child.map v.name) v.order (slice_get-get_or child.map v.name 0 below) held)
 
   pub shared_basic : (b : Relation) → All (HasOrder orders) (variables_of_basic b) → IsBasicNode orders old new b child → IsSharedNow orders old new (basic b) child
   shared_basic b held is =

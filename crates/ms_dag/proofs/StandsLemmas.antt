@@ -1,7 +1,6 @@
 -- A formula whose variables stand in their scopes, with their orders, is in scope.
 use Rattle.std.proofs.Common.{◌≡◌, ℕ, ◌<◌, List, [], ◌∷◌, length, map, slice_get, All, Contains, subst, ⊎_elim, arith}
 use Rattle.std.proofs.lemmas.List.Elements.{All-nil, All-cons, All-head, All-tail}
-use Rattle.std.proofs.lemmas.Option.{slice_get_within}
 use Rattle.ms_diagram.proofs.ListLemmas.{Contains-first, Contains-rest}
 use Rattle.ms_logic.specs.declared.core_formula.Root as code
 use Rattle.ms_logic.specs.declared.mode.Order.{Order}
@@ -11,11 +10,12 @@ use Rattle.ms_logic.specs.Spread.{variables_of_import}
 use Rattle.ms_logic.specs.Steps.{variable, variables_of_basic, variables_at}
 use Rattle.ms_logic.specs.Truth.{Import}
 use Rattle.ms_rules.specs.Numbers.{Among, Each}
+use Rattle.ms_core.specs.Calls.{Calls, filled}
+use Rattle.ms_core.specs.Stands.{Stands, EachStands, RestrictionStands}
 use Rattle.ms_dag.specs.Laws.{HasOrder, HaveTheirOrders, EachHasItsOrders, RestrictionHasItsOrders}
 use Rattle.ms_dag.specs.Lowered.{IsLoweredRoot}
 use Rattle.ms_dag.specs.Places.{AreBelow}
 use Rattle.ms_dag.specs.Scope.{IsInScope, AreInScope, IsRestrictionInScope, IsRootInScope}
-use Rattle.ms_core.specs.Stands.{Stands, EachStands, RestrictionStands}
 
 abbrev names : List Variable → List ℕ
 names vs = map (λ v. v.name) vs
@@ -31,16 +31,11 @@ basic_in orders scope [] stand ordered = All-nil (λ (v : Variable). Contains (n
 basic_in orders scope (v ∷ vs) stand ordered =
     All-cons (λ (w : Variable). Contains (names scope) w.name × HasOrder orders w) v vs (name_among scope v stand.0, All-head (HasOrder orders) v vs ordered) (basic_in orders scope vs stand.1 (All-tail (HasOrder orders) v vs ordered))
 
-import_in : (orders : List Order) (scope : List Variable) (xs : List ℕ) (vs : List Variable) → length xs ≡ length vs → Each (Among scope) (variables_at xs vs) → All (HasOrder orders) (variables_at xs vs) →
-    All (Contains (names scope)) xs × AreBelow (length orders) xs
-import_in orders scope [] vs long stand ordered = (All-nil (Contains (names scope)), All-nil (λ x. x < length orders))
-import_in orders scope (x ∷ xs) [] long stand ordered = absurd (omega (arith, long))
-import_in orders scope (x ∷ xs) (v ∷ vs) long stand ordered =
-    let rest = import_in orders scope xs vs (omega (arith, long)) stand.1 (All-tail (HasOrder orders) (variable x v.order) (variables_at xs vs) ordered) in (
-      All-cons (Contains (names scope)) x xs (name_among scope (variable x v.order) stand.0) rest.0,
-      All-cons (λ y. y < length orders) x xs
-          (slice_get_within orders x v.order (All-head (HasOrder orders) (variable x v.order) (variables_at xs vs) ordered)) rest.1,
-    )
+import_in : (scope : List Variable) (xs : List ℕ) (vs : List Variable) → length xs ≡ length vs → Each (Among scope) (variables_at xs vs) → All (Contains (names scope)) xs
+import_in scope [] vs long stand = All-nil (Contains (names scope))
+import_in scope (x ∷ xs) [] long stand = absurd (omega (arith, long))
+import_in scope (x ∷ xs) (v ∷ vs) long stand =
+    All-cons (Contains (names scope)) x xs (name_among scope (variable x v.order) stand.0) (import_in scope xs vs (omega (arith, long)) stand.1)
 
 below_in : (scope : List Variable) (x : ℕ) → Each (λ (v : Variable). v.name < x) scope → AreBelow x (names scope)
 below_in [] x each = All-nil (λ y. y < x)
@@ -58,7 +53,7 @@ module _ (imports : List Import) (orders : List Order) where
     stands_in_scope (implication f g) scope stands ordered = (stands_in_scope f scope stands.0 ordered.0, stands_in_scope g scope stands.1 ordered.1)
     stands_in_scope (equivalence f g) scope stands ordered = (stands_in_scope f scope stands.0 ordered.0, stands_in_scope g scope stands.1 ordered.1)
     stands_in_scope (restrict f) scope stands ordered = stands_in_scope f scope stands ordered
-    stands_in_scope (imported i xs) scope stands ordered = import_in orders scope xs (variables_of_import (slice_get imports i)) stands.0 stands.1 ordered
+    stands_in_scope (imported i xs) scope stands ordered = import_in scope xs (variables_of_import (slice_get imports i)) stands.0 stands.1
     stands_in_scope (quantified q o x d f) scope stands ordered =
         (below_in scope x stands.0, ordered.0, restriction_in_scope d (variable x o ∷ scope) stands.1 ordered.1, stands_in_scope f (variable x o ∷ scope) stands.2 ordered.2)
 
@@ -70,12 +65,13 @@ module _ (imports : List Import) (orders : List Order) where
     restriction_in_scope unrestricted scope stands ordered = tt
     restriction_in_scope (restricted d) scope stands ordered = stands_in_scope d scope stands ordered
 
-  root_in_scope : (root : code.Root) → IsLoweredRoot imports orders root → IsRootInScope orders root
-  root_in_scope root is = record {
-    rising = is.rising;
-    formula = subst (λ list. IsInScope orders list (core_form_of root.core)) is.variables (stands_in_scope (core_form_of root.core) is.own is.stands is.orders_of_all);
-  }
+  module _ (calls : Calls) where
+    root_in_scope : (root : code.Root) → IsLoweredRoot imports calls orders root → IsRootInScope calls orders root
+    root_in_scope root is = record {
+      rising = is.rising;
+      formula = subst (λ list. IsInScope orders list (filled calls (core_form_of root.core))) is.variables (stands_in_scope (filled calls (core_form_of root.core)) is.own is.stands is.orders_of_all);
+    }
 
-  pub roots_in_scope : (roots : List code.Root) → Each (IsLoweredRoot imports orders) roots → All (IsRootInScope orders) roots
-  roots_in_scope [] each = All-nil (IsRootInScope orders)
-  roots_in_scope (root ∷ roots) each = All-cons (IsRootInScope orders) root roots (root_in_scope root each.0) (roots_in_scope roots each.1)
+    pub roots_in_scope : (roots : List code.Root) → Each (IsLoweredRoot imports calls orders) roots → All (IsRootInScope calls orders) roots
+    roots_in_scope [] each = All-nil (IsRootInScope calls orders)
+    roots_in_scope (root ∷ roots) each = All-cons (IsRootInScope calls orders) root roots (root_in_scope root each.0) (roots_in_scope roots each.1)

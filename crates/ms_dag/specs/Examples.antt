@@ -5,7 +5,9 @@ use Rattle.ms_logic.specs.declared.mode.Order.TheVariants.{One}
 use Rattle.ms_logic.specs.declared.mode.Quant.TheVariants.{Ex}
 use Rattle.ms_logic.specs.declared.assignment.Value.TheVariants as value
 use Rattle.ms_logic.specs.Assignment.{Env, assign}
+use Rattle.ms_logic.specs.CoreForm.{truth, basic}
 use Rattle.ms_logic.specs.Examples.{naturals}
+use Rattle.ms_core.specs.Calls.{Calls}
 use Rattle.ms_dag.specs.declared.node.Child.{Child}
 use Rattle.ms_dag.specs.declared.node.DagNode.TheVariants.{Basic, And, Restrict, Bind}
 use Rattle.ms_dag.specs.declared.node.Entry.{Entry}
@@ -41,3 +43,9 @@ bound_chain = before ∷ greater_exists ∷ []
 -- the numbers 0, 1 and 2 at these values
 abbrev pub at_values : ℕ → ℕ → ℕ → Env
 at_values x y z = assign 0 (value.Number x) (assign 1 (value.Number y) (assign 2 (value.Number z) naturals))
+
+-- each import stands for x < y at x and y
+abbrev pub calls_before : Calls
+calls_before i [] = truth
+calls_before i (x ∷ []) = truth
+calls_before i (x ∷ y ∷ ys) = basic (Less x y)

@@ -3,6 +3,7 @@ use Rattle.std.specs.Prelude.{◌≡◌, ℕ, ◌<◌, List, slice_get, Some}
 use Rattle.ms_logic.specs.declared.core_formula.Lowered.{Lowered}
 use Rattle.ms_logic.specs.declared.core_formula.Root as code
 use Rattle.ms_logic.specs.CoreForm.{CoreForm, core_form_of, truth, falsity, basic, negation, conjunction, disjunction, implication, equivalence, restrict, imported, quantified, CoreForms, no_forms, more_forms, CoreRestriction, unrestricted, restricted}
+use Rattle.ms_core.specs.Calls.{Calls, filled}
 use Rattle.ms_dag.specs.declared.dag.Dag.{Dag}
 use Rattle.ms_dag.specs.declared.node.DagNode.TheVariants.{Import}
 use Rattle.ms_dag.specs.declared.node.Entry.{Entry}
@@ -30,13 +31,13 @@ abbrev mutual
   RestrictionImportsBelow count unrestricted = Unit {0}
   RestrictionImportsBelow count (restricted d) = ImportsBelow count d
 
-abbrev pub RootsImportBelow : ℕ → List code.Root → Type 0
-RootsImportBelow count roots = (k : ℕ) (root : code.Root) → slice_get roots k ≡ Some root → ImportsBelow count (core_form_of root.core)
+abbrev pub RootsImportBelow : Calls → ℕ → List code.Root → Type 0
+RootsImportBelow calls count roots = (k : ℕ) (root : code.Root) → slice_get roots k ≡ Some root → ImportsBelow count (filled calls (core_form_of root.core))
 
 abbrev pub NodesImportBelow : ℕ → List Entry → Type 0
 NodesImportBelow count entries = (place : ℕ) (entry : Entry) (i : ℕ) (xs : List ℕ) → slice_get entries place ≡ Some entry → entry.node ≡ Import i xs → i < count
 
--- where the core formulas of a source have such imports alone, so have the nodes of its graph
+-- where the core formulas of a source have such imports alone, with what theirs stand for in their places, so have the nodes of its graph
 abbrev pub NodesImportAsRootsDo : Type 0
 NodesImportAsRootsDo =
-    (lowered : Lowered) (dag : Dag) (count : ℕ) → IsDagOf lowered dag → RootsImportBelow count lowered.roots → NodesImportBelow count dag.entries
+    (calls : Calls) (lowered : Lowered) (dag : Dag) (count : ℕ) → IsDagOf calls lowered dag → RootsImportBelow calls count lowered.roots → NodesImportBelow count dag.entries

@@ -1,11 +1,12 @@
 -- What the value of a node is.
-use Rattle.std.specs.Prelude.{◌≡◌, ◌↔◌, ℕ, ◌<◌, List, slice_get, All, Some}
+use Rattle.std.specs.Prelude.{◌≡◌, ◌↔◌, ℕ, ◌<◌, List, map, slice_get, All, Some}
 use Rattle.ms_logic.specs.declared.mode.Order.{Order}
 use Rattle.ms_logic.specs.Assignment.{Env, Variable}
 use Rattle.ms_logic.specs.CoreForm.{CoreForm, truth, falsity, basic, negation, conjunction, disjunction, implication, equivalence, restrict, imported, quantified, CoreForms, no_forms, more_forms, CoreRestriction, unrestricted, restricted, CoreYes, CoreNo}
 use Rattle.ms_logic.specs.Spread.{variables_of_import}
 use Rattle.ms_logic.specs.Steps.{variable, variables_of_basic, variables_at}
 use Rattle.ms_logic.specs.Truth.{Import}
+use Rattle.ms_core.specs.Orders.{order_at}
 use Rattle.ms_dag.specs.declared.node.DagNode.{DagNode}
 use Rattle.ms_dag.specs.declared.node.Entry.{Entry}
 use Rattle.ms_dag.specs.Dag.{children_of}
@@ -16,11 +17,15 @@ use Rattle.ms_dag.specs.Values.{YesAt, NoAt, NodeYes, NodeNo, ReadsAs}
 abbrev pub ChildrenComeFirst : List Entry → Type 0
 ChildrenComeFirst entries = (i : ℕ) (node : DagNode) → node_at entries i ≡ Some node → All (λ c. c.node < i) (children_of node)
 
--- a variable stands with its order among these
+-- a variable has its order, where the globals have these
 abbrev pub HasOrder : List Order → Variable → Type 0
-HasOrder orders v = slice_get orders v.name ≡ Some v.order
+HasOrder orders v = order_at orders v.name ≡ v.order
 
--- each variable stands, and is bound, with its order among these; an import has the orders of its variables
+-- the orders of the variables with these numbers
+abbrev pub HaveOrders : List Order → List ℕ → List Order → Type 0
+HaveOrders orders names own = map (order_at orders) names ≡ own
+
+-- each variable stands, and is bound, with its order; an import has the orders of its variables
 abbrev mutual
   pub HaveTheirOrders : List Import → List Order → CoreForm → Type 0
   HaveTheirOrders imports orders truth = Unit {0}

@@ -7,6 +7,7 @@ pub mod Keys
 pub mod Laws
 pub mod Lowered
 pub mod Maps
+pub mod Memo
 pub mod Places
 pub mod Relations
 pub mod Scope

@@ -4,14 +4,16 @@ use Rattle.std.specs.List.Sorted.{IsStrictlyIncreasing}
 use Rattle.ms_logic.specs.declared.core_formula.Root.{Root}
 use Rattle.ms_logic.specs.declared.mode.Order.{Order}
 use Rattle.ms_logic.specs.CoreForm.{CoreForm, CoreForms, no_forms, more_forms}
+use Rattle.ms_core.specs.Calls.{Calls}
 use Rattle.ms_dag.specs.declared.dag.SharedRoot.{SharedRoot}
 use Rattle.ms_dag.specs.declared.node.Child.{Child}
 use Rattle.ms_dag.specs.declared.node.DagNode.{DagNode}
 use Rattle.ms_dag.specs.declared.node.Entry.{Entry}
 use Rattle.ms_diagram.specs.Numbering.{Numbers}
 use Rattle.ms_dag.specs.Dag.{AreNodes, IsUsed, children_of, places_in_maps}
+use Rattle.ms_dag.specs.Laws.{HaveOrders}
 use Rattle.ms_dag.specs.Maps.{AreTheSameIn}
-use Rattle.ms_dag.specs.Places.{AreAt, AreAmong}
+use Rattle.ms_dag.specs.Places.{AreAmong}
 use Rattle.ms_dag.specs.Scope.{IsInScope}
 use Rattle.ms_dag.specs.Share.{IsRootOf, AreRootsOf, children_of_roots}
 use Rattle.ms_dag.specs.Unfolds.{Unfolds}
@@ -20,7 +22,7 @@ use Rattle.ms_dag.specs.Unfolds.{Unfolds}
 pub record IsShared (orders : List Order) (entries : List Entry) (f : CoreForm) (child : Child) : Type 0 where
   pub unfolds : Unfolds entries f child.map child.node
   pub rising : IsStrictlyIncreasing child.map
-  pub ordered : (entry : Entry) × (slice_get entries child.node ≡ Some entry) × AreAt orders child.map entry.orders
+  pub ordered : (entry : Entry) × (slice_get entries child.node ≡ Some entry) × HaveOrders orders child.map entry.orders
   pub scoped : (scope : List ℕ) → IsInScope orders scope f → AreAmong scope child.map
 
 abbrev pub AreShared : List Order → List Entry → CoreForms → List Child → Type 0
@@ -49,7 +51,7 @@ pub record AreSharedNow (orders : List Order) (old new : List Entry) (fs : CoreF
 pub record IsMade (orders : List Order) (old new : List Entry) (node : DagNode) (names : List ℕ) (child : Child) : Type 0 where
   pub map : child.map ≡ names
   pub own : List Order
-  pub ordered : AreAt orders names own
+  pub ordered : HaveOrders orders names own
   pub numbers : Numbers old new (record { node = node; orders = own })
   pub number : slice_get new child.node ≡ Some (record { node = node; orders = own })
 
@@ -62,11 +64,11 @@ pub record IsAbove (orders : List Order) (old new : List Entry) (bound : List �
   pub made : IsMade orders old new node child.map child
 
 -- a root that was shared, while the graph grows
-pub record IsRootNow (orders : List Order) (old new : List Entry) (root : Root) (shared : SharedRoot) : Type 0 where
+pub record IsRootNow (calls : Calls) (orders : List Order) (old new : List Entry) (root : Root) (shared : SharedRoot) : Type 0 where
   pub grown : Grown old new (shared.child ∷ [])
-  pub root_of : IsRootOf orders new root shared
+  pub root_of : IsRootOf calls orders new root shared
 
 -- the roots that were shared
-pub record AreRootsNow (orders : List Order) (entries : List Entry) (roots : List Root) (shared : List SharedRoot) : Type 0 where
+pub record AreRootsNow (calls : Calls) (orders : List Order) (entries : List Entry) (roots : List Root) (shared : List SharedRoot) : Type 0 where
   pub grown : Grown [] entries (children_of_roots shared)
-  pub roots_of : AreRootsOf orders entries roots shared
+  pub roots_of : AreRootsOf calls orders entries roots shared

@@ -7,6 +7,7 @@ use Rattle.ms_logic.specs.Assignment.{Env, assign, value_at}
 use Rattle.ms_logic.specs.CoreForm.{Holds, answer_over}
 use Rattle.ms_logic.specs.Truth.{answer_yes, answer_no, InRange, SomeInRange, NoneInRange, IsEmptyRange}
 use Rattle.ms_logic.specs.Truth.{Import as Imported}
+use Rattle.ms_core.specs.Orders.{order_at}
 use Rattle.ms_dag.specs.declared.node.Child.{Child}
 use Rattle.ms_dag.specs.declared.node.DagNode.{DagNode}
 use Rattle.ms_dag.specs.declared.node.DagNode.TheVariants.{True, False, Basic, Not, And, Or, Implies, Iff, Restrict, Import, Bind}
@@ -104,7 +105,7 @@ NodeYes imports entries i e = YesBelow imports entries (suc i) i e
 abbrev pub NodeNo : List Imported → List Entry → ℕ → Env → Type 0
 NodeNo imports entries i e = NoBelow imports entries (suc i) i e
 
--- each variable of e has the value that c has for its name, where the names have these orders
+-- each variable of e has the value that c has for its name, where the globals have these orders
 pub record ReadsAs (orders : List Order) (names : List ℕ) (e c : Env) : Type 0 where
   pub universe : e.universe ≡ c.universe
-  pub values : (j : ℕ) (o : Order) → j < length names → slice_get orders (slice_index names j) ≡ Some o → value_at o j e ≡ value_at o (slice_index names j) c
+  pub values : (j : ℕ) (o : Order) → j < length names → order_at orders (slice_index names j) ≡ o → value_at o j e ≡ value_at o (slice_index names j) c

@@ -64,7 +64,6 @@ pub(crate) fn above_body(
     body: Child,
 ) -> Result<Child, NoMemory>
     requires keyed { IsKeyed nodes.old }
-    requires known { AreBelow (length orders.now) (places_in_maps (body ∷ [])) }
     requires greatest { AreBelow (binder.variable + 1) (places_in_maps (body ∷ [])) }
     ensures keyed { OnOk result (IsKeyed nodes.new) }
     ensures above { IfOk result (λ child. (placed : Child)
@@ -89,7 +88,6 @@ pub(crate) fn above_restricted(
     body: Child,
 ) -> Result<Child, NoMemory>
     requires keyed { IsKeyed nodes.old }
-    requires known { AreBelow (length orders.now) (places_in_maps (domain ∷ body ∷ [])) }
     requires greatest { AreBelow (binder.variable + 1) (places_in_maps (domain ∷ body ∷ [])) }
     ensures keyed { OnOk result (IsKeyed nodes.new) }
     ensures above { IfOk result (λ child. (first : Child) × (second : Child)

@@ -1,15 +1,15 @@
 ghost use Rattle.ms_dag.specs.Connectives.{node_of_one, node_of_two, node_of_each};
-ghost use Rattle.ms_dag.specs.Dag.{places_in_maps};
 ghost use Rattle.ms_dag.specs.Keys.{IsKeyed};
-ghost use Rattle.ms_dag.specs.Places.{AreAt, AreBelow};
+ghost use Rattle.ms_dag.specs.Laws.{HaveOrders};
 ghost use Rattle.ms_dag.specs.Shared.{IsAbove, IsMade};
 ghost use Rattle.ms_dag.specs.declared.node.Child.{Child};
-ghost use Rattle.std.specs.Prelude.{◌≡◌, [], ◌∷◌, length, List as Sequence, IfOk, OnOk};
+ghost use Rattle.std.specs.Prelude.{◌≡◌, [], ◌∷◌, List as Sequence, IfOk, OnOk};
 
 use crate::maps::{placed, placed_each};
 use crate::node::{Child, DagNode, Entry};
 use crate::nodes::Nodes;
 use crate::rising::union_of;
+use ms_core::order_at;
 use ms_edge::{List, NoMemory, push};
 use ms_logic::Order;
 use std::alloc::Global;
@@ -34,12 +34,11 @@ pub(crate) enum Nary {
 
 // The orders of these variables.
 fn orders_at(alloc: Global, orders: &[Order], names: &[u32]) -> Result<List<Order>, NoMemory>
-    requires { AreBelow (length orders.now) names.now }
-    ensures { IfOk result (λ made. AreAt orders.now names.now made) }
+    ensures { IfOk result (λ made. HaveOrders orders.now names.now made) }
 {
     let mut made = List::new(alloc);
     for name in names {
-        push(&mut made, orders[*name as usize])?;
+        push(&mut made, order_at(orders, *name))?;
     }
     Ok(made)
 }
@@ -52,7 +51,6 @@ pub(crate) fn number_node(
     names: List<u32>,
 ) -> Result<Child, NoMemory>
     requires keyed { IsKeyed nodes.old }
-    requires known { AreBelow (length orders.now) names }
     ensures keyed { OnOk result (IsKeyed nodes.new) }
     ensures made { IfOk result (λ child. IsMade orders.now nodes.old.entries nodes.new.entries node names child) }
 {
@@ -99,7 +97,6 @@ pub(crate) fn above_one(
     part: Child,
 ) -> Result<Child, NoMemory>
     requires keyed { IsKeyed nodes.old }
-    requires known { AreBelow (length orders.now) (places_in_maps (part ∷ [])) }
     ensures keyed { OnOk result (IsKeyed nodes.new) }
     ensures above { IfOk result (λ child. (placed : Child)
         × IsAbove orders.now nodes.old.entries nodes.new.entries [] (part ∷ []) (node_of_one unary placed) child) }
@@ -119,7 +116,6 @@ pub(crate) fn above_two(
     right: Child,
 ) -> Result<Child, NoMemory>
     requires keyed { IsKeyed nodes.old }
-    requires known { AreBelow (length orders.now) (places_in_maps (left ∷ right ∷ [])) }
     ensures keyed { OnOk result (IsKeyed nodes.new) }
     ensures above { IfOk result (λ child. (first : Child) × (second : Child)
         × IsAbove orders.now nodes.old.entries nodes.new.entries [] (left ∷ right ∷ []) (node_of_two binary first second) child) }
@@ -139,7 +135,6 @@ pub(crate) fn above_each(
     parts: &[Child],
 ) -> Result<Child, NoMemory>
     requires keyed { IsKeyed nodes.old }
-    requires known { AreBelow (length orders.now) (places_in_maps parts.now) }
     ensures keyed { OnOk result (IsKeyed nodes.new) }
     ensures above { IfOk result (λ child. (placed : Sequence Child)
         × IsAbove orders.now nodes.old.entries nodes.new.entries [] parts.now (node_of_each nary placed) child) }

@@ -1,9 +1,11 @@
+ghost use Rattle.ms_core.specs.Orders.{order_at};
 ghost use Rattle.ms_dag.specs.Dag.{own_orders};
 ghost use Rattle.ms_dag.specs.Share.{children_of_roots, variables_of_roots};
 ghost use Rattle.ms_dag.specs.Unfolds.{node_at};
 ghost use Rattle.std.specs.Prelude.{◌≡◌, ◌<◌, ◌≤◌, length, slice_get};
 
 use crate::node::{Child, DagNode, Entry};
+use ms_core::order_at;
 use ms_edge::List;
 use ms_logic::Order;
 
@@ -21,7 +23,7 @@ pub struct SharedRoot {
 pub struct Dag {
     pub(crate) entries: List<Entry>,
     pub(crate) roots: List<SharedRoot>,
-    /// The order of each variable of the source, by its number.
+    /// The orders of the globals of the source.
     pub(crate) orders: List<Order>,
 }
 
@@ -91,9 +93,8 @@ impl Dag {
 
     /// The order of a variable of the source.
     pub fn order(&self, variable: u32) -> Order
-        requires { variable < length self.now.orders }
-        ensures { slice_get self.now.orders variable ≡ Some result }
+        ensures { result ≡ order_at self.now.orders variable }
     {
-        *self.orders.get(variable as usize)
+        order_at(self.orders.slice(), variable)
     }
 }

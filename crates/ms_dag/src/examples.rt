@@ -1,11 +1,12 @@
 //! The definitions at small graphs, worked out by hand. Each function has an empty body, and its contract
 //! is the table of its examples.
 
+ghost use Rattle.ms_core.specs.Calls.{filled};
 ghost use Rattle.ms_dag.specs.Dag.{IsDag};
-ghost use Rattle.ms_dag.specs.Examples.{child, chain, restricted_chain, bound_chain, before, at_values};
+ghost use Rattle.ms_dag.specs.Examples.{child, chain, restricted_chain, bound_chain, before, at_values, calls_before};
 ghost use Rattle.ms_dag.specs.Unfolds.{Unfolds};
 ghost use Rattle.ms_dag.specs.Values.{NodeYes, NodeNo};
-ghost use Rattle.ms_logic.specs.CoreForm.{basic, conjunction, core_forms, quantified, unrestricted};
+ghost use Rattle.ms_logic.specs.CoreForm.{basic, conjunction, core_forms, imported, quantified, unrestricted};
 ghost use Rattle.ms_logic.specs.declared.core_formula.Basic.TheVariants.{Less};
 ghost use Rattle.ms_logic.specs.declared.mode.Order.TheVariants.{One};
 ghost use Rattle.ms_logic.specs.declared.mode.Quant.TheVariants.{Ex};
@@ -25,6 +26,10 @@ pub fn worked_unfoldings()
     // ex1 z: x < z, whose bound variable comes behind the others
     ensures bound { Unfolds bound_chain (quantified Ex One 4 unrestricted (basic (Less 2 4))) (2 ∷ []) 1 }
     ensures bound_below { ¬ Unfolds bound_chain (quantified Ex One 1 unrestricted (basic (Less 2 1))) (2 ∷ []) 1 }
+
+    // an import that stands for x < y has its node
+    ensures call { Unfolds chain (filled calls_before (imported 0 (3 ∷ 7 ∷ []))) (3 ∷ 7 ∷ []) 0 }
+    ensures call_turned { ¬ Unfolds chain (filled calls_before (imported 0 (7 ∷ 3 ∷ []))) (3 ∷ 7 ∷ []) 0 }
 {}
 
 /// Values of nodes.

@@ -2,12 +2,14 @@
 #![tactic(auto)]
 
 mod binders;
+mod bodies;
 mod connectives;
 mod dag;
 mod examples;
 mod formulas;
 mod laws;
 mod maps;
+mod memo;
 mod node;
 mod nodes;
 mod relations;
@@ -15,6 +17,7 @@ mod rising;
 mod sharing;
 mod words;
 
+pub use bodies::Bodies;
 pub use dag::{Dag, SharedRoot};
 pub use examples::{worked_graphs, worked_unfoldings, worked_values};
 pub use laws::laws_of_sharing;

@@ -1,9 +1,9 @@
 ghost use Rattle.ms_dag.specs.Keys.{IsKeyed};
-ghost use Rattle.ms_dag.specs.Places.{AreBelow, AreAmong};
+ghost use Rattle.ms_dag.specs.Places.{AreAmong};
 ghost use Rattle.ms_dag.specs.Relations.{IsBasicNode, IsImportNode, IsPlacedBasic};
 ghost use Rattle.ms_dag.specs.Unfolds.{names_of_basic};
 ghost use Rattle.std.specs.List.Sorted.{IsStrictlyIncreasing};
-ghost use Rattle.std.specs.Prelude.{◌≡◌, length, IfOk, OnOk};
+ghost use Rattle.std.specs.Prelude.{◌≡◌, IfOk, OnOk};
 
 use crate::connectives::number_node;
 use crate::node::{Child, DagNode};
@@ -13,7 +13,8 @@ use ms_edge::{List, NoMemory};
 use ms_logic::{Basic, Order};
 use std::alloc::Global;
 
-fn copied(alloc: Global, names: &[u32]) -> Result<Vec<u32>, NoMemory>
+/// An equal list of its own.
+pub(crate) fn copied(alloc: Global, names: &[u32]) -> Result<Vec<u32>, NoMemory>
     ensures { IfOk result (λ made. made.items ≡ names.now) }
 {
     match Vec::from_slice(alloc, names) {
@@ -75,7 +76,6 @@ pub(crate) fn share_basic(
     basic: &Basic,
 ) -> Result<Child, NoMemory>
     requires keyed { IsKeyed nodes.old }
-    requires known { AreBelow (length orders.now) (names_of_basic basic.now) }
     ensures keyed { OnOk result (IsKeyed nodes.new) }
     ensures made { IfOk result (λ child. IsBasicNode orders.now nodes.old.entries nodes.new.entries basic.now child) }
 {
@@ -92,7 +92,6 @@ pub(crate) fn share_import(
     variables: &[u32],
 ) -> Result<Child, NoMemory>
     requires keyed { IsKeyed nodes.old }
-    requires known { AreBelow (length orders.now) variables.now }
     ensures keyed { OnOk result (IsKeyed nodes.new) }
     ensures made { IfOk result (λ child. IsImportNode orders.now nodes.old.entries nodes.new.entries import variables.now child) }
 {

@@ -43,7 +43,8 @@ pub(crate) fn rising(mut numbers: Vec<u32>) -> List<u32>
     List::from(numbers)
 }
 
-fn add_all(numbers: &mut Vec<u32>, more: &[u32]) -> Result<(), NoMemory>
+/// Puts more numbers behind the others.
+pub(crate) fn add_all(numbers: &mut Vec<u32>, more: &[u32]) -> Result<(), NoMemory>
     ensures { OnOk result (numbers.new.items ≡ numbers.old.items ++ more.now) }
 {
     match numbers.extend_from_slice(more) {

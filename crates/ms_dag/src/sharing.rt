@@ -1,17 +1,20 @@
 ghost use Rattle.ms_dag.specs.Dag.{AreNodes};
 ghost use Rattle.ms_dag.specs.Keys.{IsKeyed};
 ghost use Rattle.ms_dag.specs.Lowered.{IsLowered};
+ghost use Rattle.ms_dag.specs.Memo.{AreCalled};
 ghost use Rattle.ms_dag.specs.Scope.{IsRootInScope};
 ghost use Rattle.ms_dag.specs.Share.{IsDagOf};
 ghost use Rattle.ms_dag.specs.Shared.{AreRootsNow, IsRootNow};
 ghost use Rattle.ms_logic.specs.Truth.{Import};
 ghost use Rattle.std.specs.Prelude.{◌≡◌, ◌↔◌, ◌+◌, ◌≤◌, [], All, List as Sequence, IfOk, IsTrue, OnOk};
 
+use crate::bodies::Bodies;
 use crate::dag::{Dag, SharedRoot};
-use crate::formulas::{LEVELS, share_core};
+use crate::formulas::{LEVELS, Source, share_core};
+use crate::memo::Called;
 use crate::nodes::Nodes;
 use ms_edge::{List, NoMemory, push};
-use ms_logic::{Lowered, Order, Root};
+use ms_logic::{Lowered, Root};
 use std::alloc::Global;
 
 // An equal list of its own.
@@ -26,32 +29,43 @@ fn copied<T: Copy + Drop>(alloc: Global, items: &[T]) -> Result<List<T>, NoMemor
 }
 
 // The node of a root's formula.
-fn share_root(nodes: &mut Nodes, orders: &[Order], root: &Root) -> Result<SharedRoot, NoMemory>
+fn share_root<B: Bodies>(
+    nodes: &mut Nodes,
+    called: &mut Called,
+    source: &Source<B>,
+    root: &Root,
+) -> Result<SharedRoot, NoMemory>
+    requires ready { B.IsReady source.now.bodies.now }
     requires keyed { IsKeyed nodes.old }
     requires nodes { AreNodes nodes.old.entries }
-    requires scoped { IsRootInScope orders.now root.now }
+    requires called { AreCalled (B.calls source.now.bodies.now) source.now.orders.now nodes.old.entries called.old }
+    requires scoped { IsRootInScope (B.calls source.now.bodies.now) source.now.orders.now root.now }
     ensures keyed { OnOk result (IsKeyed nodes.new) }
-    ensures shared { IfOk result (λ made. IsRootNow orders.now nodes.old.entries nodes.new.entries root.now made) }
+    ensures called { OnOk result (AreCalled (B.calls source.now.bodies.now) source.now.orders.now nodes.new.entries called.new) }
+    ensures shared { IfOk result (λ made. IsRootNow (B.calls source.now.bodies.now) source.now.orders.now nodes.old.entries nodes.new.entries root.now made) }
 {
-    let child = share_core(nodes, orders, &root.core, LEVELS)?;
+    let child = share_core(nodes, called, source, &root.core, LEVELS)?;
     let variables = copied(nodes.alloc, root.variables.slice())?;
     Ok(SharedRoot { child, variables })
 }
 
 // The same for each root.
-fn share_roots(
+fn share_roots<B: Bodies>(
     nodes: &mut Nodes,
-    orders: &[Order],
+    called: &mut Called,
+    source: &Source<B>,
     roots: &[Root],
 ) -> Result<List<SharedRoot>, NoMemory>
+    requires ready { B.IsReady source.now.bodies.now }
     requires keyed { IsKeyed nodes.old }
     requires empty { nodes.old.entries ≡ [] }
-    requires scoped { All (IsRootInScope orders.now) roots.now }
-    ensures { IfOk result (λ made. AreRootsNow orders.now nodes.new.entries roots.now made) }
+    requires called { AreCalled (B.calls source.now.bodies.now) source.now.orders.now nodes.old.entries called.old }
+    requires scoped { All (IsRootInScope (B.calls source.now.bodies.now) source.now.orders.now) roots.now }
+    ensures { IfOk result (λ made. AreRootsNow (B.calls source.now.bodies.now) source.now.orders.now nodes.new.entries roots.now made) }
 {
     let mut made = List::new(nodes.alloc);
     for root in roots {
-        push(&mut made, share_root(nodes, orders, root)?)?;
+        push(&mut made, share_root(nodes, called, source, root)?)?;
     }
     Ok(made)
 }
@@ -63,14 +77,17 @@ fn can_be_numbered(nodes: usize, roots: usize) -> bool
     nodes.saturating_add(roots) <= u32::MAX as usize
 }
 
-/// The graph of a source, in which each formula stands once.
-pub fn share(alloc: Global, lowered: &Lowered) -> Result<Dag, NoMemory>
-    requires { (imports : Sequence Import) × IsLowered imports lowered.now }
-    ensures { IfOk result (λ dag. IsDagOf lowered.now dag) }
+/// The graph of a source with what its imports stand for in their places, in which each formula stands once.
+pub fn share<B: Bodies>(alloc: Global, lowered: &Lowered, bodies: &B) -> Result<Dag, NoMemory>
+    requires ready { B.IsReady bodies.now }
+    requires lowered { (imports : Sequence Import) × IsLowered imports (B.calls bodies.now) lowered.now }
+    ensures { IfOk result (λ dag. IsDagOf (B.calls bodies.now) lowered.now dag) }
 {
     let mut nodes = Nodes::new(alloc);
+    let mut called = Called::new(alloc);
     let orders = lowered.orders.slice();
-    let roots = share_roots(&mut nodes, orders, lowered.roots.slice())?;
+    let source = Source { orders, bodies };
+    let roots = share_roots(&mut nodes, &mut called, &source, lowered.roots.slice())?;
     let orders = copied(alloc, orders)?;
     let entries = nodes.into_entries();
     if !can_be_numbered(entries.len(), roots.len()) {

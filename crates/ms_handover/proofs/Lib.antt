@@ -1,8 +1,10 @@
+pub mod CallLemmas
 pub mod Exported
+pub mod FilledRoots
 pub mod ImportsOfExports
 pub mod ImportsOfFormulas
 pub mod ImportsOfSources
 pub mod ImportsOfTerms
 pub mod Shared
-pub mod SharedExports
+pub mod SharedRoots
 pub mod Unexported

@@ -1,32 +1,20 @@
--- What lowering gives for the main root of a source is what sharing asks.
-use Rattle.std.proofs.Common.{◌≡◌, ℕ, zero, suc, ◌+◌, ◌<◌, ◌≤◌, ⊎_elim, min, List, [], ◌∷◌, length, map, slice_get, All, Some, refl, sym, ap, subst, ◌∙◌, arith}
+-- Formulas whose variables stand in their scopes, and numbers that rise.
+use Rattle.std.proofs.Common.{◌≡◌, ℕ, zero, suc, ◌+◌, ◌<◌, ⊎_elim, List, [], ◌∷◌, map, slice_get, All, Some, refl, subst, arith}
 use Rattle.std.proofs.lemmas.List.Elements.{All-cons, All-nil}
 use Rattle.std.specs.List.{slice_index}
 use Rattle.std.specs.List.Sorted.{IsStrictlyIncreasing}
-use Rattle.ms_logic.specs.declared.checked.Checked.{Checked}
-use Rattle.ms_logic.specs.declared.checked.Global.{Global}
-use Rattle.ms_logic.specs.declared.core_formula.Root as code
 use Rattle.ms_logic.specs.declared.mode.Order.{Order}
 use Rattle.ms_logic.specs.Assignment.{Variable}
-use Rattle.ms_logic.specs.CoreForm.{CoreForm, core_form_of, truth, falsity, basic, negation, conjunction, disjunction, implication, equivalence, restrict, imported, quantified, CoreForms, no_forms, more_forms, CoreRestriction, unrestricted, restricted}
-use Rattle.ms_logic.specs.Roots.{AreRising, first_free}
+use Rattle.ms_logic.specs.CoreForm.{CoreForm, truth, falsity, basic, negation, conjunction, disjunction, implication, equivalence, restrict, imported, quantified, CoreForms, no_forms, more_forms, CoreRestriction, unrestricted, restricted}
+use Rattle.ms_logic.specs.Roots.{AreRising}
 use Rattle.ms_logic.specs.Spread.{variables_of_import}
 use Rattle.ms_logic.specs.Steps.{variables_at, variables_of_basic}
 use Rattle.ms_logic.specs.Truth.{Import}
-use Rattle.ms_logic.specs.Verdict.{variables_of}
-use Rattle.ms_logic.specs.View.{globals_from, problem_of}
-use Rattle.ms_lower.specs.Lowered.{IsRootFor, ListsVariables}
-use Rattle.ms_lower.specs.Measure.{Answers}
-use Rattle.ms_lower.specs.NumberLaws.{numbering_in}
-use Rattle.ms_lower.specs.Numbering.{Numbering, number_at, renumbered_variable}
+use Rattle.ms_lower.specs.Numbering.{Numbering, renumbered_variable}
 use Rattle.ms_lower.specs.Orders.{BoundHaveOrders, EachHasOrders, RestrictionHasOrders}
-use Rattle.ms_lower.proofs.MainRoot.{first_free_globals, global-number}
-use Rattle.ms_lower.proofs.RootScopes.{root_scopes}
-use Rattle.ms_lower.proofs.SameNumbers.{numbers_rise}
 use Rattle.ms_core.specs.Stands.{EachStands, RestrictionStands, Stands}
 use Rattle.ms_rules.specs.Numbers.{Among, Each}
 use Rattle.ms_dag.specs.Laws.{EachHasItsOrders, HasOrder, HaveTheirOrders, RestrictionHasItsOrders}
-use Rattle.ms_dag.specs.Lowered.{IsLoweredRoot}
 
 -- what holds of all in a scope holds of what is among them
 among_has : (P : Variable → Type 0) (scope : List Variable) (v : Variable) → Each P scope → Among scope v → P v
@@ -81,41 +69,3 @@ module _ (n : Numbering) (rises : (p o : Order) (x y : ℕ) → x < y → n.numb
   renumbered_rise (v ∷ w ∷ ws) rising (suc k) below =
       let next : suc (k + 1) ≡ suc k + 1 = omega arith in
       subst (λ j. slice_index (new_names (v ∷ w ∷ ws)) (suc k) < slice_index (new_names (v ∷ w ∷ ws)) j) next (renumbered_rise (w ∷ ws) rising.1 k (omega arith))
-
--- globals keep their numbers, and have their orders there
-globals_listed : (n : Numbering) (kept globals : ℕ) (orders : List Order) → ((o : Order) (x : ℕ) → n.number o x ≡ number_at kept globals o x) → (k : ℕ) (gs : List Global)
-    → ((x : ℕ) (g : Global) → slice_get gs x ≡ Some g → slice_get orders (k + x) ≡ Some g.order) → k + length gs ≤ kept
-    → Each (HasOrder orders) (map (renumbered_variable n) (variables_of (globals_from k gs)))
-globals_listed n kept globals orders numbers k [] has within = tt
-globals_listed n kept globals orders numbers k (g ∷ gs) has within =
-    let there : n.number g.order k ≡ k + 0 = numbers g.order k ∙ (global-number kept globals g.order k (omega arith) ∙ omega arith) in (
-      ap (slice_get orders) there ∙ has 0 g refl,
-      globals_listed n kept globals orders numbers (k + 1) gs (λ x h is. subst (λ y. slice_get orders y ≡ Some h.order) (omega arith) (has (suc x) h is)) (omega arith),
-    )
-
-module _ (checked : Checked) (answers : Answers) (lists : ListsVariables checked (problem_of checked answers)) (orders : List Order) (of_globals : (x : ℕ) (g : Global) → slice_get checked.globals x ≡ Some g → slice_get orders x ≡ Some g.order) where
-  pub root_lowered : (root : code.Root) → IsRootFor checked (problem_of checked answers) 0 root → BoundHaveOrders orders (core_form_of root.core) → IsLoweredRoot (problem_of checked answers).given.imports orders root
-  root_lowered root r bound =
-      let imports = (problem_of checked answers).given.imports in
-      let globals = length checked.globals in
-      let known = root_scopes checked answers 0 r.own r.is_root lists in
-      let n = numbering_in globals imports r.own in
-      let kept = min globals (first_free r.own.variables) in
-      let own_variables : r.own.variables ≡ variables_of (globals_from 0 checked.globals) = ap (λ s. s.variables) r.is_root in
-      let enough : 0 + globals ≤ kept = let free = ap first_free own_variables ∙ first_free_globals checked.globals in omega (arith, free) in
-      let listed : Each (HasOrder orders) r.made.variables =
-      subst (λ s. Each (HasOrder orders) s.variables) (sym r.numbers)
-      (subst (λ vs. Each (HasOrder orders) (map (renumbered_variable n) vs)) (sym own_variables)
-      (globals_listed n kept globals orders (λ o x. refl) 0 checked.globals
-      (λ x g is. let behind_none : x ≡ 0 + x = omega arith in subst (λ y. slice_get orders y ≡ Some g.order) behind_none (of_globals x g is)) enough)) in
-      let stands = subst (Stands imports r.made.variables) r.formula r.stands in
-      record {
-        rising =
-            subst (λ (list : List ℕ). IsStrictlyIncreasing list) r.variables
-            (subst (λ s. IsStrictlyIncreasing (map (λ v. v.name) s.variables)) (sym r.numbers) (renumbered_rise n (λ p o x y below. numbers_rise kept globals p o x y (omega arith) below) r.own.variables known.0));
-        own = r.made.variables;
-        variables = r.variables;
-        listed = listed;
-        stands = stands;
-        orders_of_all = all_ordered imports orders r.made.variables (core_form_of root.core) listed stands bound;
-      }

@@ -1,1 +1,2 @@
+pub mod CallsOfSources
 pub mod Laws

@@ -13,7 +13,7 @@ use Rattle.ms_logic.specs.Truth.{Import}
 use Rattle.ms_rules.specs.Numbers.{Among, Each}
 use Rattle.ms_lower.specs.NumberLaws.{numbering_in}
 use Rattle.ms_lower.specs.Numbering.{Numbering, number_at, rank, renumbered, renumbered_each, renumbered_in, renumbered_variable, with_new_numbers}
-use Rattle.ms_lower.specs.Orders.{order_of_rank}
+use Rattle.ms_core.specs.Orders.{order_of_rank}
 use Rattle.ms_core.specs.Stands.{EachStands, RestrictionStands, Stands}
 use Rattle.ms_lower.proofs.SameNumbers.{Rises, basic_variables, import_length, import_variables, numbers_rise}
 

@@ -11,8 +11,8 @@ pub mod KeptScopes
 pub mod Lowering
 pub mod MainRoot
 pub mod Measures
+pub mod NamedParams
 pub mod Operands
-pub mod OrderLists
 pub mod Parts
 pub mod Positive
 pub mod RootScopes
@@ -21,6 +21,7 @@ pub mod Scopes
 pub mod SeenVariables
 pub mod SourceRoots
 pub mod SourceScopes
+pub mod SourceTables
 pub mod TermScopes
 pub mod Trees
 pub mod ValueLists

@@ -18,7 +18,7 @@ use Rattle.ms_logic.specs.declared.term.Term2.{Term2}
 use Rattle.ms_logic.specs.CoreForm as core
 use Rattle.ms_logic.specs.CoreForm.{CoreForm, CoreRestriction, core_form_of, core_forms, conjunction, disjunction, quantified}
 use Rattle.ms_logic.specs.Spread.{Callees, Names, TermSpread, conjunction_of, default_names, named, numbers_and_sets, numbers_relate, sets_relate, restrictions_of, spread_each, spread_number, spread_restriction, spread_set, spread_under, truth_value, truth_values, variable_of_form}
-use Rattle.ms_logic.specs.Tree.{Predicate}
+use Rattle.ms_logic.specs.Tree.{Declaration, Form, Predicate}
 use Rattle.ms_logic.specs.View.{argument_of, arguments, binding_of, formula_of, forms, restriction, set_term_of, term_of}
 use Rattle.ms_logic.proofs.Views.{argument_of-Zero, formula_of-And, formula_of-Or, formula_of-Compare, formula_of-CompareSets, formula_of-Let, formula_of-Call}
 use Rattle.ms_lower.specs.declared.defined.Defined.{Defined}
@@ -128,17 +128,17 @@ module _ (n : Numbering) (c : Callees) (names : Names) (free : ℕ) (source : Fo
       ∙ ap (λ g. renumbered n (spread_under c g names free)) (sym (ap formula_of is ∙ formula_of-Call p given)))))
 
 -- the restrictions and the body of a predicate
-pub called_lowered : (n m : Numbering) (c before own : Callees) (number : ℕ) (q : Predicate) (names : Names) (free : ℕ) (cores made : List Core) (body : Core) → IsCallee c before number q → own ≡ before → m ≡ n →
-    map core_form_of cores ≡ map (renumbered m) (restrictions_of own q.parameters names free) → core_form_of body ≡ renumbered m (spread_under own q.body names free) → made ≡ cores ++ body ∷ [] →
-    conjunction_of (map core_form_of made) ≡ renumbered n (c.body number names free)
-called_lowered n m c before own number q names free cores made body callee same numbers cores_are body_is made_is =
+pub body_lowered : (n m : Numbering) (own before : Callees) (ds : List Declaration) (f : Form) (names inner : Names) (free : ℕ) (cores made : List Core) (body : Core) → own ≡ before → m ≡ n → inner ≡ names →
+    map core_form_of cores ≡ map (renumbered m) (restrictions_of own ds inner free) → core_form_of body ≡ renumbered m (spread_under own f inner free) → made ≡ cores ++ body ∷ [] →
+    conjunction_of (map core_form_of made) ≡ renumbered n (conjunction_of (restrictions_of before ds names free ++ spread_under before f names free ∷ []))
+body_lowered n m own before ds f names inner free cores made body same numbers inner_is cores_are body_is made_is =
     ap (λ l. conjunction_of (map core_form_of l)) made_is
-    ∙ (ap conjunction_of (map-append core_form_of cores (body ∷ []) ∙ (ap (λ l. l ++ core_form_of body ∷ []) cores_are ∙ ap (λ b. map (renumbered m) (restrictions_of own q.parameters names free) ++ b ∷ []) body_is))
-    ∙ (ap conjunction_of (sym (map-append (renumbered m) (restrictions_of own q.parameters names free) (spread_under own q.body names free ∷ [])))
-    ∙ (sym (conjunction_renumbered m (restrictions_of own q.parameters names free ++ spread_under own q.body names free ∷ []))
-    ∙ (ap (λ k. renumbered k (conjunction_of (restrictions_of own q.parameters names free ++ spread_under own q.body names free ∷ []))) numbers
-    ∙ (ap (λ k. renumbered n (conjunction_of (restrictions_of k q.parameters names free ++ spread_under k q.body names free ∷ []))) same
-    ∙ ap (λ b. renumbered n (b names free)) (sym callee.body))))))
+    ∙ (ap conjunction_of (map-append core_form_of cores (body ∷ []) ∙ (ap (λ l. l ++ core_form_of body ∷ []) cores_are ∙ ap (λ b. map (renumbered m) (restrictions_of own ds inner free) ++ b ∷ []) body_is))
+    ∙ (ap conjunction_of (sym (map-append (renumbered m) (restrictions_of own ds inner free) (spread_under own f inner free ∷ [])))
+    ∙ (sym (conjunction_renumbered m (restrictions_of own ds inner free ++ spread_under own f inner free ∷ []))
+    ∙ (ap (λ k. renumbered k (conjunction_of (restrictions_of own ds inner free ++ spread_under own f inner free ∷ []))) numbers
+    ∙ (ap (λ k. renumbered n (conjunction_of (restrictions_of k ds inner free ++ spread_under k f inner free ∷ []))) same
+    ∙ ap (λ ns. renumbered n (conjunction_of (restrictions_of before ds ns free ++ spread_under before f ns free ∷ []))) inner_is)))))
 
 -- a truth value that is a variable
 pub truth_lowered : (n : Numbering) (c : Callees) (value : Arg) (f : Formula) (names : Names) (free x : ℕ) (made : Defined) → value ≡ arg.Zero f → Some x ≡ variable_of_form (formula_of f) →
@@ -148,9 +148,9 @@ truth_lowered n c value f names free x made is variable given =
     (made, refl, subst (λ o. IsGiven n Zero (truth_value (option_map (names Zero) o) (spread_under c (formula_of f) names)) free made) variable given)
 
 -- a default restriction at a variable
-pub default_lowered : (n m : Numbering) (c before own : Callees) (number : ℕ) (q : Predicate) (x : ℕ) (names inner : Names) (free : ℕ) (core : CoreForm) → IsCallee c before number q → own ≡ before → m ≡ n →
+pub default_lowered : (imports : ℕ) (n m : Numbering) (c before own : Callees) (number : ℕ) (q : Predicate) (x : ℕ) (names inner : Names) (free : ℕ) (core : CoreForm) → IsCallee imports c before number q → own ≡ before → m ≡ n →
     inner ≡ default_names q.parameters x names → core ≡ renumbered m (spread_under own q.body inner free) → core ≡ renumbered n (c.default number x names free)
-default_lowered n m c before own number q x names inner free core callee same numbers inner_is core_is =
+default_lowered imports n m c before own number q x names inner free core callee same numbers inner_is core_is =
     core_is
     ∙ (ap (λ k. renumbered k (spread_under own q.body inner free)) numbers
     ∙ (ap (λ k. renumbered n (spread_under k q.body inner free)) same

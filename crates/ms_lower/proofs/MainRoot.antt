@@ -1,5 +1,5 @@
 -- The main root.
-use Rattle.std.proofs.Common.{◌≡◌, ℕ, zero, suc, ◌+◌, ◌*◌, ◌-◌, ◌<◌, ◌≤◌, cond, max, min, slice_get, List, [], ◌∷◌, ◌++◌, length, map, take, get_or, Some, None, refl, sym, ap, ◌∙◌, arith, append-nil}
+use Rattle.std.proofs.Common.{◌≡◌, ℕ, zero, suc, ◌+◌, ◌*◌, ◌-◌, ◌<◌, ◌≤◌, cond, max, min, List, [], ◌∷◌, ◌++◌, length, map, take, get_or, Some, None, refl, sym, ap, ◌∙◌, arith, append-nil}
 use Rattle.std.proofs.lemmas.Bool.{lt-ltb}
 use Rattle.std.proofs.lemmas.List.{map-append, take_more}
 use Rattle.std.proofs.lemmas.List.FromFn.{map-range_with_len_more}
@@ -20,7 +20,7 @@ use Rattle.ms_logic.specs.View.{formula_of, forms, globals_from, restriction}
 use Rattle.ms_lower.specs.declared.tables.Tables.{Tables}
 use Rattle.ms_lower.specs.Callees.{callees_in}
 use Rattle.ms_lower.specs.NumberedRoots.{NumberedRoot, main_over, numbering_over, renumbered_root, root_of}
-use Rattle.ms_lower.specs.Numbering.{Numbering, number_at, numbering_of, rank, renumbered, variables_of_use}
+use Rattle.ms_lower.specs.Numbering.{Numbering, number_at, numbering_of, rank, renumbered, variables_at}
 use Rattle.ms_lower.proofs.Lowering.{conjunction_renumbered}
 use Rattle.ms_lower.proofs.Operands.{restrictions-append, spread_each-append}
 use Rattle.ms_lower.proofs.Parts.{map-more}
@@ -118,7 +118,7 @@ main_made tables gs fs front later all core numbers count kept front_is later_is
     let vs : List Variable = map (λ d. d.variable) (globals_from 0 gs) in
     let free : tables.globals ≡ first_free vs = sym count ∙ sym (first_free_globals gs) in
     let own : min tables.globals (first_free vs) ≡ tables.globals = omega (arith, free) in
-    let n : numbering_of tables ≡ numbering_over tables vs = ap (λ k. let m : Numbering = record { number = number_at k tables.globals; imported = λ i. variables_of_use (slice_get tables.imports.now i) } in m) (kept ∙ sym own) in
+    let n : numbering_of tables ≡ numbering_over tables vs = ap (λ k. let m : Numbering = record { number = number_at k tables.globals; imported = variables_at tables } in m) (kept ∙ sym own) in
     ap (λ l. let r : NumberedRoot = record { variables = l; formula = core_form_of core } in r)
     (numbers_are ∙ (ap (range_with_len 0) (sym count) ∙ (globals_kept tables.globals 0 gs (omega (arith, count)) ∙ ap (λ k. map (λ v. number_at k tables.globals v.order v.name) vs) (sym own))))
     ∙ ap (λ g. let r : NumberedRoot = record { variables = map (λ v. (numbering_over tables vs).number v.order v.name) vs; formula = g } in r)

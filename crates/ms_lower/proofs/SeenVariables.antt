@@ -1,5 +1,5 @@
 -- Variables that are seen, and roots over them.
-use Rattle.std.proofs.Common.{◌≡◌, ℕ, ◌+◌, ◌-◌, ◌<◌, ◌≤◌, ◌==◌, cond, max, min, slice_get, List, [], ◌∷◌, ◌++◌, length, map, take, get_or, refl, sym, ap, ◌∙◌, arith, append-nil, append_assoc}
+use Rattle.std.proofs.Common.{◌≡◌, ℕ, ◌+◌, ◌-◌, ◌<◌, ◌≤◌, ◌==◌, cond, max, min, List, [], ◌∷◌, ◌++◌, length, map, take, get_or, refl, sym, ap, ap₂, ◌∙◌, arith, append-nil, append_assoc}
 use Rattle.std.proofs.lemmas.Bool.{eq-eqb, ne_eqb}
 use Rattle.std.proofs.lemmas.List.{map-append, take_more}
 use Rattle.ms_logic.specs.declared.checked.ExportUse.{ExportUse}
@@ -15,7 +15,8 @@ use Rattle.ms_logic.specs.View.{formula_of, forms}
 use Rattle.ms_lower.specs.declared.scope.Named.{Named}
 use Rattle.ms_lower.specs.declared.tables.Tables.{Tables}
 use Rattle.ms_lower.specs.NumberedRoots.{NumberedRoot, above_all, numbering_over, order_seen, renumbered_root, root_of, root_over, roots_among, roots_in, seen_over, with_orders}
-use Rattle.ms_lower.specs.Numbering.{Numbering, number_at, numbering_of, renumbered, variables_of_use}
+use Rattle.ms_lower.proofs.Callees.{variables_same}
+use Rattle.ms_lower.specs.Numbering.{Numbering, number_at, numbering_of, renumbered, variables_at}
 use Rattle.ms_lower.specs.Callees.{callees_in, spread_in}
 use Rattle.ms_lower.specs.Scope.{names_in}
 use Rattle.ms_lower.proofs.Parts.{map-more}
@@ -71,15 +72,14 @@ roots-more tables exports seen fs i f before one made below is before_is one_is 
     ∙ ap (λ l. map (renumbered_root tables) (roots_among tables exports seen (forms l))) (sym (map-more formula_of fs i f below is)))))))
 
 -- a root with its numbers and its core formula
-pub root_made : (tables own : Tables) (f : Form) (vs : List Variable) (numbers : List ℕ) (core : Core) (scope : List Named) (free : ℕ) → own.globals ≡ tables.globals → own.imports.now ≡ tables.imports.now → callees_in own ≡ callees_in tables →
+pub root_made : (tables own : Tables) (f : Form) (vs : List Variable) (numbers : List ℕ) (core : Core) (scope : List Named) (free : ℕ) → own.globals ≡ tables.globals → own.predicates.now ≡ tables.predicates.now → own.imports.now ≡ tables.imports.now → callees_in own ≡ callees_in tables →
     own.kept ≡ min tables.globals free → numbers ≡ map (λ v. number_at own.kept own.globals v.order v.name) vs →
     core_form_of core ≡ spread_in own f (names_in scope) free → scope ≡ [] → free ≡ first_free vs →
     (let root : code.Root = record { variables = numbers; core = core } in root_of root) ≡ renumbered_root tables (root_over tables f vs)
-root_made tables own f vs numbers core scope free globals imports callees kept numbers_are core_is empty free_is =
+root_made tables own f vs numbers core scope free globals predicates imports callees kept numbers_are core_is empty free_is =
     let n : numbering_of own ≡ numbering_over tables vs =
-    ap (λ k. let n : Numbering = record { number = number_at k own.globals; imported = λ i. variables_of_use (slice_get own.imports.now i) } in n) (kept ∙ ap (min tables.globals) free_is)
-    ∙ (ap (λ g. let n : Numbering = record { number = number_at (min tables.globals (first_free vs)) g; imported = λ i. variables_of_use (slice_get own.imports.now i) } in n) globals
-    ∙ ap (λ is. let n : Numbering = record { number = number_at (min tables.globals (first_free vs)) tables.globals; imported = λ i. variables_of_use (slice_get is i) } in n) imports) in
+    ap₂ (λ k g. let n : Numbering = record { number = number_at k g; imported = variables_at own } in n) (kept ∙ ap (min tables.globals) free_is) globals
+    ∙ ap (λ f. let n : Numbering = record { number = number_at (min tables.globals (first_free vs)) tables.globals; imported = f } in n) (variables_same tables own predicates imports) in
     ap (λ l. let r : NumberedRoot = record { variables = l; formula = core_form_of core } in r) (numbers_are ∙ ap (λ m. map (λ v. m.number v.order v.name) vs) n)
     ∙ ap (λ g. let r : NumberedRoot = record { variables = map (λ v. (numbering_over tables vs).number v.order v.name) vs; formula = g } in r)
     (core_is

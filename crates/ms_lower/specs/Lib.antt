@@ -1,4 +1,6 @@
+pub mod Bodies
 pub mod Callees
+pub mod Calling
 pub mod Counted
 pub mod Defined
 pub mod Extents

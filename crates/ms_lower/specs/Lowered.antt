@@ -1,5 +1,5 @@
 -- A source as core formulas.
-use Rattle.std.specs.Prelude.{◌≡◌, ℕ, ◌+◌, List, [], ◌∷◌, length, map, min, slice_get, Some}
+use Rattle.std.specs.Prelude.{◌≡◌, ℕ, zero, suc, ◌+◌, List, [], ◌∷◌, ◌++◌, length, map, min, slice_get, Contains, Some}
 use Rattle.ms_logic.specs.declared.checked.Checked.{Checked}
 use Rattle.ms_logic.specs.declared.checked.ExportUse.{ExportUse}
 use Rattle.ms_logic.specs.declared.core_formula.Root as code
@@ -8,7 +8,10 @@ use Rattle.ms_logic.specs.CoreForm.{core_form_of}
 use Rattle.ms_logic.specs.FreeVariables.{FreeInForms, FreeInRestrictions, IsListed, Reads, reads_of_imports, reads_with_predicates}
 use Rattle.ms_logic.specs.SameUpToBound.{SameRoot}
 use Rattle.ms_lower.specs.NumberLaws.{numbering_in}
+use Rattle.ms_core.specs.Calls.{filled}
 use Rattle.ms_core.specs.Stands.{Stands}
+use Rattle.ms_logic.specs.Spread.{Callees, conjunction_of, own_names, restrictions_of, spread_each, spread_under}
+use Rattle.ms_lower.specs.Calling.{calling, calling_numbers, calls_of}
 use Rattle.ms_logic.specs.Roots.{AreFreeVariables, first_free, IsRoot, Root, exports_among}
 use Rattle.ms_logic.specs.Tree.{Form, truth, falsity, truth_variable, negation, conjunction, disjunction, implication, equivalence, comparison, set_comparison, membership, emptiness, quantified, where_let, call, restrict, imported, exported, default_at, Forms, no_forms, more_forms}
 use Rattle.ms_logic.specs.Truth.{Given}
@@ -16,8 +19,8 @@ use Rattle.ms_logic.specs.Verdict.{Problem, variables_of}
 use Rattle.ms_logic.specs.View.{problem_of}
 use Rattle.ms_rules.specs.Numbers.{CountUp}
 use Rattle.ms_lower.specs.Measure.{Answers}
-use Rattle.ms_lower.specs.NumberedRoots.{NumberedRoot, globals_over, variables_of_export, with_orders}
-use Rattle.ms_lower.specs.Numbering.{Numbering, number_at, renumbered, variables_of_use, with_new_numbers}
+use Rattle.ms_lower.specs.NumberedRoots.{globals_over, variables_of_export, with_orders}
+use Rattle.ms_lower.specs.Numbering.{number_at, renumbered, with_new_numbers}
 
 -- what predicates and imports read
 abbrev pub reads_of : Given → Reads
@@ -60,28 +63,46 @@ pub record ListsVariables (checked : Checked) (problem : Problem) : Type 0 where
   pub numbers : CountUp 0 (map (λ e. e.number) (exports_among problem.formulas)) (length checked.exports)
   pub fit : ExportsFitEach problem.given checked.exports (globals_over 0 [] checked.globals) problem.formulas
 
--- the numbers of the answer for a root over some variables
-abbrev pub numbering_for : Checked → List Variable → Numbering
-numbering_for checked vs = record {
-  number = number_at (min (length checked.globals) (first_free vs)) (length checked.globals);
-  imported = λ i. variables_of_use (slice_get checked.imports i);
+-- the roots of a source over what its calls stand for
+abbrev pub main_root_over : Callees → Problem → Root
+main_root_over c problem = record {
+  variables = variables_of problem.globals;
+  formula =
+      conjunction_of
+      (restrictions_of c problem.globals own_names (first_free (variables_of problem.globals))
+      ++ spread_each c problem.formulas own_names (first_free (variables_of problem.globals)));
 }
 
--- a root of the spread with the numbers of the answer
-abbrev pub with_numbers : Checked → Root → NumberedRoot
-with_numbers checked r = record {
-  variables = map (λ v. (numbering_for checked r.variables).number v.order v.name) r.variables;
-  formula = renumbered (numbering_for checked r.variables) r.formula;
-}
+abbrev pub export_root_over : Callees → List Variable → Form → Root
+export_root_over c variables f = record { variables = variables; formula = spread_under c f own_names (first_free variables) }
 
--- A root of the answer with the orders of its variables is the root of the source with its number, up to the numbers of bound
--- variables. Its variables stand in their scopes, where a bound variable has a greater number than those in scope.
+abbrev pub IsRootOver : Callees → Problem → ℕ → Root → Type 0
+IsRootOver c problem zero root = root ≡ main_root_over c problem
+IsRootOver c problem (suc i) root =
+    (f : Form) × (variables : List Variable)
+    × Contains (exports_among problem.formulas) (record { number = i; formula = f })
+    × AreFreeVariables problem.given f variables
+    × (root ≡ export_root_over c variables f)
+
+-- A root of the answer is the root of the source with its number in which calls stand as imports, with the numbers of the answer.
+pub record IsCallingRootFor (checked : Checked) (problem : Problem) (k : ℕ) (root : code.Root) : Type 0 where
+  pub own : Root
+  pub is_root : IsRootOver (calling problem.given) problem k own
+  pub variables : map (λ v. number_at (min (length checked.globals) (first_free own.variables)) (length checked.globals) v.order v.name) own.variables ≡ root.variables
+  pub formula : renumbered (calling_numbers (min (length checked.globals) (first_free own.variables)) (length checked.globals) problem.given) own.formula ≡ core_form_of root.core
+
+pub record HasCallingRoots (checked : Checked) (answers : Answers) (roots : List code.Root) : Type 0 where
+  pub count : length roots ≡ 1 + length checked.exports
+  pub each : (k : ℕ) (root : code.Root) → slice_get roots k ≡ Some root → IsCallingRootFor checked (problem_of checked answers) k root
+
+-- A root of the answer with the orders of its variables, and with what its calls stand for in their places, is the root of the source
+-- with its number, up to the numbers of bound variables. Its variables stand in their scopes, where a bound variable has a greater number than those in scope.
 pub record IsRootFor (checked : Checked) (problem : Problem) (k : ℕ) (root : code.Root) : Type 0 where
   pub own : Root
   pub is_root : IsRoot problem k own
   pub made : Root
   pub variables : map (λ v. v.name) made.variables ≡ root.variables
-  pub formula : made.formula ≡ core_form_of root.core
+  pub formula : made.formula ≡ filled (calls_of (length checked.globals) problem.given) (core_form_of root.core)
   pub same : SameRoot problem.given.imports (length checked.globals) own made
   pub stands : Stands problem.given.imports made.variables made.formula
   pub numbers : made ≡ with_new_numbers (numbering_in (length checked.globals) problem.given.imports own) own

@@ -6,7 +6,7 @@ use Rattle.ms_logic.specs.SameUpToBound.{SameRoot}
 use Rattle.ms_logic.specs.Spread.{variables_of_import}
 use Rattle.ms_logic.specs.Truth.{Import}
 use Rattle.ms_lower.specs.Numbering.{Numbering, number_at, with_new_numbers}
-use Rattle.ms_lower.specs.Orders.{order_of_rank}
+use Rattle.ms_core.specs.Orders.{order_of_rank}
 use Rattle.ms_core.specs.Stands.{Stands}
 
 -- the numbers of the answer for a root, in a source with so many globals and these imports

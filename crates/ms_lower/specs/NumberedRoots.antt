@@ -15,7 +15,7 @@ use Rattle.ms_logic.specs.View.{formula_of, forms, globals_from}
 use Rattle.ms_lower.specs.declared.scope.Named.{Named}
 use Rattle.ms_lower.specs.declared.tables.Tables.{Tables}
 use Rattle.ms_lower.specs.Callees.{callees_in}
-use Rattle.ms_lower.specs.Numbering.{Numbering, number_at, renumbered, variables_of_use}
+use Rattle.ms_lower.specs.Numbering.{Numbering, number_at, renumbered, variables_at}
 
 -- a root of the answer: the numbers of its variables, and its formula
 pub record NumberedRoot : Type 0 where
@@ -30,7 +30,7 @@ root_of root = record { variables = root.variables; formula = core_form_of root.
 abbrev pub numbering_over : Tables → List Variable → Numbering
 numbering_over tables vs = record {
   number = number_at (min tables.globals (first_free vs)) tables.globals;
-  imported = λ i. variables_of_use (slice_get tables.imports.now i);
+  imported = variables_at tables;
 }
 
 -- a root of the spread with the numbers of the answer

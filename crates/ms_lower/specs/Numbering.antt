@@ -1,7 +1,8 @@
 -- The numbers of variables in the answer. In the spread of a formula the number of a bound variable tells only how many binders
 -- are around it, so variables of different orders may have one number. In the answer a number has one order.
-use Rattle.std.specs.Prelude.{ℕ, ◌+◌, ◌-◌, ◌*◌, nat_lt, if◌then◌else◌, List, [], map, slice_get, Option, Some, None}
+use Rattle.std.specs.Prelude.{ℕ, ◌+◌, ◌-◌, ◌*◌, nat_lt, if◌then◌else◌, List, [], ◌∷◌, ◌++◌, length, map, slice_get, Option, Some, None}
 use Rattle.std.specs.List.{zip}
+use Rattle.std.specs.Option.{option_map}
 use Rattle.ms_logic.specs.declared.checked.ImportUse.{ImportUse}
 use Rattle.ms_logic.specs.declared.checked.MapPair.{MapPair}
 use Rattle.ms_logic.specs.declared.core_formula.Basic.{Basic}
@@ -11,6 +12,8 @@ use Rattle.ms_logic.specs.declared.mode.Order.TheVariants.{Zero, One, Two}
 use Rattle.ms_logic.specs.Assignment.{Variable}
 use Rattle.ms_logic.specs.CoreForm.{CoreForm, truth, falsity, basic, negation, conjunction, disjunction, implication, equivalence, restrict, imported, quantified, CoreForms, no_forms, more_forms, CoreRestriction, unrestricted, restricted}
 use Rattle.ms_logic.specs.Roots.{Root}
+use Rattle.ms_logic.specs.Tree.{Predicate}
+use Rattle.ms_logic.specs.View.{predicate_of}
 use Rattle.ms_lower.specs.declared.tables.Tables.{Tables}
 
 abbrev pub rank : Order → ℕ
@@ -83,9 +86,18 @@ abbrev pub variables_of_use : Option ImportUse → List Variable
 variables_of_use None = []
 variables_of_use (Some used) = map variable_of_pair used.pairs
 
--- the numbers of the answer, for a source with these imports
+-- what is named at a call of a predicate: the variables of its parameters, and the first number that is free
+abbrev pub variables_of_call : Option Predicate → List Variable
+variables_of_call None = []
+variables_of_call (Some predicate) = map (λ d. d.variable) predicate.parameters ++ (record { name = 0; order = Zero }) ∷ []
+
+-- the variables of an import of the source, or of a call, which stands as an import behind those
+abbrev pub variables_at : Tables → ℕ → List Variable
+variables_at tables i =
+    if nat_lt i (length tables.imports.now)
+    then variables_of_use (slice_get tables.imports.now i)
+    else variables_of_call (option_map predicate_of (slice_get tables.predicates.now (i - length tables.imports.now)))
+
+-- the numbers of the answer, for a source with these imports and predicates
 abbrev pub numbering_of : Tables → Numbering
-numbering_of tables = record {
-  number = number_at tables.kept tables.globals;
-  imported = λ i. variables_of_use (slice_get tables.imports.now i);
-}
+numbering_of tables = record { number = number_at tables.kept tables.globals; imported = variables_at tables }

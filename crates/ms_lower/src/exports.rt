@@ -69,11 +69,8 @@ fn export_root(
         return Err(NoMemory);
     };
     let own = Tables {
-        alloc: tables.alloc,
         kept: tables.globals.min(first),
-        globals: tables.globals,
-        predicates: tables.predicates,
-        imports: tables.imports,
+        ..*tables
     };
     let numbers = numbers_of(&own, seen, variables)?;
     let mut scope = Scope::new(tables.alloc);

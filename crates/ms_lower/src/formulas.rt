@@ -1,6 +1,6 @@
 ghost use Rattle.ms_logic.specs.CoreForm.{core_form_of, core_restriction};
-ghost use Rattle.ms_logic.specs.Spread.{numbers_and_sets, restrictions_of, spread_each, spread_restriction, truth_values};
-ghost use Rattle.ms_logic.specs.View.{argument_of, declaration_of, formula_of, forms, restriction};
+ghost use Rattle.ms_logic.specs.Spread.{numbers_and_sets, spread_each, spread_restriction, truth_values};
+ghost use Rattle.ms_logic.specs.View.{argument_of, formula_of, forms, restriction};
 ghost use Rattle.ms_logic.specs.View.{arguments as arguments_of};
 ghost use Rattle.ms_lower.specs.Callees.{callees_in, spread_in};
 ghost use Rattle.ms_lower.specs.Given.{Enters, Inner, IsTruth, below_all, values_of, variables_of};
@@ -11,6 +11,7 @@ ghost use Rattle.std.specs.Prelude.{◌≡◌, length, map, take, IfOk, OnOk};
 
 use crate::arguments::Arguments;
 use crate::atoms::of_one;
+use crate::calls::call;
 use crate::cores::{Bound, implies, not, quantify, relation, with_room};
 use crate::defined::{Defined, fresh};
 use crate::given::{Entered, enter_all, number_arguments, over_all, with_value};
@@ -23,7 +24,7 @@ use crate::tables::{Tables, number};
 use crate::terms::define_set;
 use crate::truths::{default_names, enter_named, known_truth, truth_variable};
 use ms_edge::{Boxed, List, NoMemory, push};
-use ms_logic::{Arg, Basic, Core, Formula, Order, Param};
+use ms_logic::{Arg, Basic, Core, Formula, Order};
 use std::alloc::Global;
 
 /// How many levels a source that is not too deep has at most.
@@ -119,7 +120,7 @@ pub fn formula(
             let arguments = Arguments::Call(tables.params(*predicate), arguments.slice());
             let outer = scope.len();
             let values = enter_arguments(tables, scope, &arguments, free, depth)?;
-            let body = called(tables, scope, *predicate, values.next, depth)?;
+            let body = call(tables, scope, *predicate, values.next)?;
             scope.leave(outer);
             over_values(alloc, values, body)
         }
@@ -171,59 +172,6 @@ fn domain_of(
         None => Ok(None),
         Some(source) => Ok(Some(formula(tables, scope, source.get(), free, depth)?)),
     }
-}
-
-// `restrict` of each restriction of the parameters.
-#[cycle(formulas)]
-fn restrictions(
-    tables: &Tables,
-    scope: &mut Scope,
-    params: &[Param],
-    free: u64,
-    depth: u32,
-) -> Result<List<Core>, NoMemory>
-    ensures cores { IfOk result (λ cores. map core_form_of cores ≡ map (renumbered (numbering_of tables.now))
-        (restrictions_of (callees_in tables.now) (map declaration_of params.now) (names_in scope.old) free)) }
-    ensures scope { OnOk result (scope.new ≡ scope.old) }
-{
-    let mut cores = List::new(tables.alloc);
-    for param in params {
-        match &param.domain {
-            None => {}
-            Some(domain) => {
-                let core = formula(tables, scope, domain, free, depth)?;
-                push(&mut cores, restricted(tables.alloc, core)?.into_inner())?;
-            }
-        }
-    }
-    Ok(cores)
-}
-
-// The restrictions and the body of a predicate.
-#[cycle(formulas)]
-fn called(
-    tables: &Tables,
-    scope: &mut Scope,
-    predicate: u32,
-    free: u64,
-    depth: u32,
-) -> Result<Boxed<Core>, NoMemory>
-    ensures core { IfOk result (λ core. core_form_of core ≡ renumbered (numbering_of tables.now)
-        ((callees_in tables.now).body predicate (names_in scope.old) free)) }
-    ensures scope { OnOk result (scope.new ≡ scope.old) }
-{
-    let known = match tables.predicate(predicate) {
-        None => return restricted(tables.alloc, constant(tables.alloc, false)?),
-        Some(known) => known,
-    };
-    let before = tables.before(predicate);
-    let mut cores = restrictions(&before, scope, known.params.slice(), free, depth)?;
-    let body = formula(&before, scope, &known.body, free, depth)?;
-    if cores.is_empty() {
-        return Ok(body);
-    }
-    push(&mut cores, body.into_inner())?;
-    conjunction(tables.alloc, cores)
 }
 
 // A default restriction at a variable.

@@ -4,7 +4,9 @@
 mod all_roots;
 mod arguments;
 mod atoms;
+mod bodies;
 mod called;
+mod calls;
 mod cores;
 mod counted;
 mod defined;
@@ -27,5 +29,7 @@ mod term_extents;
 mod terms;
 mod truths;
 
+pub use bodies::lower_call;
 pub use laws::laws_of_numbers;
 pub use source::lower;
+pub use tables::Tables;

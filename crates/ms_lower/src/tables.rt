@@ -1,18 +1,19 @@
-ghost use Rattle.ms_lower.specs.Callees.{callees_in};
+ghost use Rattle.ms_lower.specs.Callees.{IsTablesOf, callable, callees_in};
 ghost use Rattle.ms_lower.specs.Numbering.{number_at, rank};
-ghost use Rattle.std.specs.Prelude.{◌≡◌, ◌<◌, ◌^◌, map, slice_get, take, IfOk, MatchOption, None, Some, OnOk};
+ghost use Rattle.std.specs.Prelude.{◌≡◌, ◌<◌, ◌^◌, map, min, slice_get, IfNone, IfOk, IfSome, None, Some, OnOk};
 
 use ms_edge::NoMemory;
-use ms_logic::{ImportUse, Order, Param, Predicate};
+use ms_logic::{Checked, ImportUse, Order, Param, Predicate};
 use std::alloc::Global;
 
 /// The number of globals of a source, how many numbers are kept, and its predicates and imports by their numbers. Of the
-/// predicates those stand there that may be called.
+/// predicates the first so many may be called.
 #[derive(Clone, Copy)]
 pub struct Tables<'a> {
     pub alloc: Global,
     pub kept: u32,
     pub globals: u32,
+    pub callable: u32,
     pub predicates: &'a [Predicate],
     pub imports: &'a [ImportUse],
 }
@@ -43,30 +44,53 @@ pub fn number(tables: &Tables, order: Order, name: u64) -> Result<u32, NoMemory>
     u32::try_from(number).map_err(|_| NoMemory)
 }
 
+fn count(items: usize) -> Result<u32, NoMemory>
+    ensures { IfOk result (λ count. count ≡ items) }
+{
+    u32::try_from(items).map_err(|_| NoMemory)
+}
+
 impl<'a> Tables<'a> {
-    /// The tables with the predicates before one alone.
+    /// The tables of a source, all of whose predicates may be called.
+    pub fn of(alloc: Global, checked: &'a Checked) -> Result<Tables<'a>, NoMemory>
+        ensures { IfOk result (IsTablesOf checked.now) }
+    {
+        let globals = count(checked.globals.len())?;
+        Ok(Tables {
+            alloc,
+            kept: globals,
+            globals,
+            callable: count(checked.predicates.len())?,
+            predicates: checked.predicates.slice(),
+            imports: checked.imports.slice(),
+        })
+    }
+
+    /// The tables in which the predicates before one alone may be called.
     pub fn before(&self, predicate: u32) -> Tables<'a>
         ensures kept { result.kept ≡ self.now.kept }
         ensures globals { result.globals ≡ self.now.globals }
-        ensures predicates { result.predicates.now ≡ take predicate self.now.predicates.now }
+        ensures callable { result.callable ≡ min self.now.callable predicate }
+        ensures predicates { result.predicates.now ≡ self.now.predicates.now }
         ensures imports { result.imports.now ≡ self.now.imports.now }
     {
-        let end = self.predicates.len().min(predicate as usize);
         Tables {
-            alloc: self.alloc,
-            kept: self.kept,
-            globals: self.globals,
-            predicates: &self.predicates[..end],
-            imports: self.imports,
+            callable: self.callable.min(predicate),
+            ..*self
         }
     }
 
-    /// The predicate with a number, if there is one.
+    /// The predicate with a number, if there is one that may be called.
     pub fn predicate(&self, number: u32) -> Option<&'a Predicate>
-        ensures { MatchOption result (slice_get self.now.predicates.now number ≡ None)
-            (λ known. slice_get self.now.predicates.now number ≡ Some known.now) }
+        ensures none { IfNone result (slice_get (callable self.now) number ≡ None) }
+        ensures some { IfSome result (λ known. (slice_get (callable self.now) number ≡ Some known.now)
+            × (slice_get self.now.predicates.now number ≡ Some known.now)) }
     {
-        self.predicates.get(number as usize)
+        if number < self.callable {
+            self.predicates.get(number as usize)
+        } else {
+            None
+        }
     }
 
     /// The parameters of a predicate, of which there are none where no predicate has the number.

@@ -4,7 +4,7 @@ use Rattle.std.proofs.lemmas.List.Elements.{All-contains}
 use Rattle.ms_build.proofs.WholeLemmas.{rising_equal}
 use Rattle.ms_checked.specs.Exports.{ExportListsFree, ListsFree, ListsFreeVariables}
 use Rattle.ms_explore.specs.Tracks.{IsAmong}
-use Rattle.ms_handover.proofs.SharedExports.{each_all}
+use Rattle.ms_handover.proofs.SharedRoots.{each_all}
 use Rattle.ms_handover.proofs.Unexported.{forms_numbered}
 use Rattle.ms_logic.specs.declared.checked.Checked.{Checked}
 use Rattle.ms_logic.specs.declared.checked.ExportUse.{ExportUse}

@@ -4,6 +4,7 @@ use Rattle.std.specs.List.{zip}
 use Rattle.std.proofs.lemmas.Option.{none-some, same_Some}
 use Rattle.ms_build.specs.Built.{AreImportsOf, import_of as automaton_of, imports_of}
 use Rattle.ms_canonical.proofs.OrdersLemmas.{orders-by_place}
+use Rattle.ms_core.specs.Calls.{Calls}
 use Rattle.ms_dag.specs.declared.dag.Dag.{Dag}
 use Rattle.ms_dag.specs.declared.node.DagNode.TheVariants.{Import}
 use Rattle.ms_dag.specs.declared.node.Entry.{Entry}
@@ -122,13 +123,13 @@ given_at (first ∷ uses) (answer ∷ answers) zero used long held = pair_orders
 given_at (first ∷ uses) (answer ∷ answers) (suc i) used long held = given_at uses answers i used (omega (arith, long)) held
 
 -- the nodes of the graph have automata for what they import
-pub lent_to_nodes : (checked : Checked) (answers : Answers) (contents : List (Content Sign)) (lowered : Lowered) (dag : Dag) → length answers ≡ length checked.imports
-    → AreLentFor checked.mode checked.imports contents → IsLowered (problem_of checked answers).given.imports lowered → IsDagOf lowered dag
+pub lent_to_nodes : (checked : Checked) (answers : Answers) (contents : List (Content Sign)) (calls : Calls) (lowered : Lowered) (dag : Dag) → length answers ≡ length checked.imports
+    → AreLentFor checked.mode checked.imports contents → IsLowered (problem_of checked answers).given.imports calls lowered → IsDagOf calls lowered dag
     → ((place : ℕ) (entry : Entry) (i : ℕ) (xs : List ℕ) → slice_get dag.entries place ≡ Some entry → entry.node ≡ Import i xs → i < length checked.imports)
     → AreImportsOf contents checked.mode dag.entries
-lent_to_nodes checked answers contents lowered dag long lent is_lowered is below place entry i xs held import =
+lent_to_nodes checked answers contents calls lowered dag long lent is_lowered is below place entry i xs held import =
     let found = lent_at checked.mode checked.imports contents lent i (below place entry i xs held import) in
-    let at = imports_have_orders (problem_of checked answers).given.imports lowered dag is_lowered is place entry i xs held import in
+    let at = imports_have_orders (problem_of checked answers).given.imports calls lowered dag is_lowered is place entry i xs held import in
     (found.1, found.3, found.4.mode_is, (orders_of_pairs found.0, found.4.variables, subst (AreAt entry.orders xs) (given_at checked.imports answers i found.0 long found.2) at))
 
 -- a formula's variables have their orders whichever of two lists of imports is read, if these have the same orders

@@ -2,8 +2,7 @@
 use Rattle.std.proofs.Common.{◌≡◌, ℕ, zero, suc, ◌+◌, ◌<◌, ◌≤◌, ⊎_elim, List, [], ◌∷◌, ◌++◌, length, map, slice_get, slice_index, All, Contains, Option, Some, None, refl, sym, ap, ap₂, subst, ◌∙◌, arith}
 use Rattle.std.specs.Option.{option_map}
 use Rattle.std.proofs.lemmas.List.Elements.{All-cons, All-nil, All-head, All-tail, All-map, All-contains}
-use Rattle.std.proofs.lemmas.List.{map-append}
-use Rattle.std.proofs.lemmas.Option.{same_Some, slice_get_within, slice_get-get_or, get_or_from_slice_get}
+use Rattle.std.proofs.lemmas.Option.{same_Some, slice_get_within, slice_get-get_or, slice_get-map}
 use Rattle.ms_logic.specs.declared.core_formula.Lowered.{Lowered}
 use Rattle.ms_logic.specs.declared.core_formula.Root as code
 use Rattle.ms_logic.specs.declared.mode.Order.{Order}
@@ -12,6 +11,8 @@ use Rattle.ms_logic.specs.CoreForm.{CoreForm, core_form_of, truth, falsity, basi
 use Rattle.ms_logic.specs.Spread.{variables_of_import}
 use Rattle.ms_logic.specs.Steps.{variables_at}
 use Rattle.ms_logic.specs.Truth.{Import as Imported}
+use Rattle.ms_core.specs.Calls.{Calls, filled}
+use Rattle.ms_core.specs.Orders.{order_at}
 use Rattle.ms_core.specs.Stands.{Stands, EachStands, RestrictionStands}
 use Rattle.ms_rules.specs.Numbers.{Each}
 use Rattle.ms_dag.specs.declared.dag.Dag.{Dag}
@@ -21,29 +22,29 @@ use Rattle.ms_dag.specs.declared.node.DagNode.{DagNode}
 use Rattle.ms_dag.specs.declared.node.DagNode.TheVariants.{True, False, Basic, Not, And, Or, Implies, Iff, Restrict, Import, Bind}
 use Rattle.ms_dag.specs.declared.node.Entry.{Entry}
 use Rattle.ms_dag.specs.Dag.{IsChild, IsDag, IsNode, children_of, children_of_binder, orders_inside}
-use Rattle.ms_dag.specs.Laws.{HasOrder, HaveTheirOrders, EachHasItsOrders, RestrictionHasItsOrders}
+use Rattle.ms_dag.specs.Laws.{HasOrder, HaveOrders, HaveTheirOrders, EachHasItsOrders, RestrictionHasItsOrders}
 use Rattle.ms_dag.specs.Lowered.{IsLowered, IsLoweredRoot}
 use Rattle.ms_dag.specs.Places.{AreAt, AreBelow, picked}
 use Rattle.ms_dag.specs.Share.{AreRootsOf, IsDagOf, children_of_roots}
 use Rattle.ms_dag.specs.Unfolds.{ReadAs, UnfoldEach, Unfolds, UnfoldsIn, node_at}
-use Rattle.ms_dag.proofs.PlaceLemmas.{AreAt-head, AreAt-tail, AreAt-at, AreAt-inner, AreAt-length}
+use Rattle.ms_dag.proofs.PlaceLemmas.{AreAt-head, AreAt-tail, AreAt-inner, HaveOrders-length, HaveOrders-push}
 
--- what stands at the names at places
-outer_place : {X : Type 0} (orders : List X) (names : List ℕ) (inner : List X) → AreAt orders names inner → (p : ℕ) (g : X) → slice_get inner p ≡ Some g → slice_get orders (slice_index names p) ≡ Some g
-outer_place orders names inner at p g held =
-    let within = slice_get_within inner p g held in
-    let long = AreAt-length orders names inner at in
-    let there = AreAt-at orders names inner at p g (omega (arith, within, long)) in
-    there ∙ ap Some (get_or_from_slice_get inner p g g held)
+-- the order of the name at a place
+outer_place : (orders : List Order) (names : List ℕ) (inner : List Order) → HaveOrders orders names inner → (p : ℕ) (o : Order) → slice_get inner p ≡ Some o → order_at orders (slice_index names p) ≡ o
+outer_place orders names inner at p o held =
+    let within = slice_get_within inner p o held in
+    let long = HaveOrders-length orders names inner at in
+    let named = slice_get-get_or names p 0 (omega (arith, within, long)) in
+    same_Some _ _ (sym (slice_get-map (order_at orders) names p ∙ ap (option_map (order_at orders)) named) ∙ (ap (λ list. slice_get list p) at ∙ held))
 
-AreAt-outer : {X : Type 0} (orders : List X) (names : List ℕ) (inner : List X) → AreAt orders names inner → (places : List ℕ) (given : List X) → AreAt inner places given → AreAt orders (picked names places) given
-AreAt-outer orders names inner at [] [] held = refl
-AreAt-outer orders names inner at [] (g ∷ given) held = absurd (let never : ⊥ = cc in never)
-AreAt-outer orders names inner at (p ∷ places) [] held = absurd (let never : ⊥ = cc in never)
-AreAt-outer orders names inner at (p ∷ places) (g ∷ given) held =
-    let first = outer_place orders names inner at p g (AreAt-head inner p places g given held) in
-    let others = AreAt-outer orders names inner at places given (AreAt-tail inner p places g given held) in
-    ap₂ (λ x xs. x ∷ xs) first others
+-- those of the names at places
+picked_orders : (orders : List Order) (names : List ℕ) (inner : List Order) → HaveOrders orders names inner → (places : List ℕ) (given : List Order) → AreAt inner places given → HaveOrders orders (picked names places) given
+picked_orders orders names inner at [] [] held = refl
+picked_orders orders names inner at [] (g ∷ given) held = absurd (let never : ⊥ = cc in never)
+picked_orders orders names inner at (p ∷ places) [] held = absurd (let never : ⊥ = cc in never)
+picked_orders orders names inner at (p ∷ places) (g ∷ given) held =
+    ap₂ (λ o os. o ∷ os) (outer_place orders names inner at p g (AreAt-head inner p places g given held))
+    (picked_orders orders names inner at places given (AreAt-tail inner p places g given held))
 
 -- places stand where their names are picked
 AreAt-own : (names places : List ℕ) → AreBelow (length names) places → AreAt names places (picked names places)
@@ -52,18 +53,13 @@ AreAt-own names (p ∷ places) below =
     ap₂ (λ x xs. x ∷ xs) (slice_get-get_or names p 0 (All-head (λ j. j < length names) p places below))
     (AreAt-own names places (All-tail (λ j. j < length names) p places below))
 
--- one more at the end
-AreAt-more : {X : Type 0} (orders : List X) (names : List ℕ) (inner : List X) (x : ℕ) (o : X) → AreAt orders names inner → slice_get orders x ≡ Some o → AreAt orders (names ++ x ∷ []) (inner ++ o ∷ [])
-AreAt-more orders names inner x o at held =
-    map-append (slice_get orders) names (x ∷ []) ∙ ap₂ (λ xs ys. xs ++ ys) at (ap (λ y. y ∷ []) held) ∙ sym (map-append Some inner (o ∷ []))
-
 -- variables with their orders, side by side with these
-orders_at : (orders : List Order) (xs : List ℕ) (vs : List Variable) → length xs ≡ length vs → All (HasOrder orders) (variables_at xs vs) → AreAt orders xs (map (λ v. v.order) vs)
+orders_at : (orders : List Order) (xs : List ℕ) (vs : List Variable) → length xs ≡ length vs → All (HasOrder orders) (variables_at xs vs) → HaveOrders orders xs (map (λ v. v.order) vs)
 orders_at orders [] [] long have = refl
 orders_at orders [] (v ∷ vs) long have = absurd (omega (arith, long))
 orders_at orders (x ∷ xs) [] long have = absurd (omega (arith, long))
 orders_at orders (x ∷ xs) (v ∷ vs) long have =
-    ap₂ (λ y ys. y ∷ ys) (All-head (HasOrder orders) (record { name = x; order = v.order }) (variables_at xs vs) have)
+    ap₂ (λ o os. o ∷ os) (All-head (HasOrder orders) (record { name = x; order = v.order }) (variables_at xs vs) have)
     (orders_at orders xs vs (omega (arith, long)) (All-tail (HasOrder orders) (record { name = x; order = v.order }) (variables_at xs vs) have))
 
 module _ (imports : List Imported) (orders : List Order) (entries : List Entry) (nodes : (i : ℕ) (entry : Entry) → slice_get entries i ≡ Some entry → IsNode entries i entry) where
@@ -74,7 +70,7 @@ module _ (imports : List Imported) (orders : List Order) (entries : List Entry) 
     pub formula : CoreForm
     pub names : List ℕ
     pub scope : List Variable
-    pub at : AreAt orders names entry.orders
+    pub at : HaveOrders orders names entry.orders
     pub unfolds : Unfolds entries formula names i
     pub stands : Stands imports scope formula
     pub have : HaveTheirOrders imports orders formula
@@ -88,7 +84,7 @@ module _ (imports : List Imported) (orders : List Order) (entries : List Entry) 
   more_fit : (child : Child) (children : List Child) → IsFit child.node → AreFit children → AreFit (child ∷ children)
   more_fit child children first others = All-cons (λ (c : Child). IsFit c.node) child children first others
 
-  module _ (i : ℕ) (inside : List Order) (names : List ℕ) (at : AreAt orders names inside) where
+  module _ (i : ℕ) (inside : List Order) (names : List ℕ) (at : HaveOrders orders names inside) where
     one_fit : (child : Child) → IsChild entries i inside child → (f : CoreForm) (scope : List Variable) → ReadAs (λ given j. Unfolds entries f given j) names i child → Stands imports scope f
         → HaveTheirOrders imports orders f → IsFit child.node
     one_fit child is f scope reads stands have = record {
@@ -97,7 +93,7 @@ module _ (imports : List Imported) (orders : List Order) (entries : List Entry) 
       formula = f;
       names = picked names child.map;
       scope = scope;
-      at = AreAt-outer orders names inside at child.map (is.ordered.0).orders is.ordered.2;
+      at = picked_orders orders names inside at child.map (is.ordered.0).orders is.ordered.2;
       unfolds = reads.1;
       stands = stands;
       have = have;
@@ -164,7 +160,7 @@ module _ (imports : List Imported) (orders : List Order) (entries : List Entry) 
     children_fit (quantified q o x d f) unfolds stands have =
         by_node (Bind q o (length fit.names) unfolds.0 unfolds.1) unfolds.2
         (λ are.
-        binder_fit i (fit.entry.orders ++ o ∷ []) (fit.names ++ x ∷ []) (AreAt-more orders fit.names fit.entry.orders x o fit.at have.0) d f (record { name = x; order = o } ∷ fit.scope) unfolds.0 unfolds.1 are
+        binder_fit i (fit.entry.orders ++ o ∷ []) (fit.names ++ x ∷ []) (HaveOrders-push orders fit.names fit.entry.orders x o fit.at have.0) d f (record { name = x; order = o } ∷ fit.scope) unfolds.0 unfolds.1 are
         unfolds.4 unfolds.5 stands.1 stands.2 have.1 have.2)
 
     -- and a node that is an import has the import's orders
@@ -187,7 +183,7 @@ module _ (imports : List Imported) (orders : List Order) (entries : List Entry) 
           let number : m ≡ n = cc in
           let places : unfolds.0 ≡ xs = cc in
           let given = map (λ v. v.order) (variables_of_import (slice_get imports m)) in
-          let outer : AreAt orders zs given = orders_at orders zs (variables_of_import (slice_get imports m)) stands.0 have in
+          let outer : HaveOrders orders zs given = orders_at orders zs (variables_of_import (slice_get imports m)) stands.0 have in
           let own : AreAt fit.names unfolds.0 zs = subst (AreAt fit.names unfolds.0) (sym unfolds.3) (AreAt-own fit.names unfolds.0 unfolds.2) in
           let here : AreAt fit.entry.orders unfolds.0 given = AreAt-inner orders fit.names fit.entry.orders fit.at unfolds.0 zs given own outer in
           subst (λ k. AreAt fit.entry.orders xs (map (λ v. v.order) (variables_of_import (slice_get imports k)))) number (subst (λ ys. AreAt fit.entry.orders ys given) places here)
@@ -195,24 +191,24 @@ module _ (imports : List Imported) (orders : List Order) (entries : List Entry) 
           let both : Some (Bind q o (length fit.names) unfolds.0 unfolds.1) ≡ Some (Import n xs) = sym unfolds.2 ∙ import in let never : ⊥ = cc in absurd never
 
 -- the nodes of roots are fit
-roots_fit : (imports : List Imported) (orders : List Order) (entries : List Entry) (nodes : (i : ℕ) (entry : Entry) → slice_get entries i ≡ Some entry → IsNode entries i entry)
-    (roots : List code.Root) (shared : List SharedRoot) → AreRootsOf orders entries roots shared → Each (IsLoweredRoot imports orders) roots
+roots_fit : (imports : List Imported) (calls : Calls) (orders : List Order) (entries : List Entry) (nodes : (i : ℕ) (entry : Entry) → slice_get entries i ≡ Some entry → IsNode entries i entry)
+    (roots : List code.Root) (shared : List SharedRoot) → AreRootsOf calls orders entries roots shared → Each (IsLoweredRoot imports calls orders) roots
     → AreFit imports orders entries nodes (children_of_roots shared)
-roots_fit imports orders entries nodes [] [] are each = none_fit imports orders entries nodes
-roots_fit imports orders entries nodes [] (s ∷ ss) are each = absurd are
-roots_fit imports orders entries nodes (r ∷ rs) [] are each = absurd are
-roots_fit imports orders entries nodes (r ∷ rs) (s ∷ ss) are each =
+roots_fit imports calls orders entries nodes [] [] are each = none_fit imports orders entries nodes
+roots_fit imports calls orders entries nodes [] (s ∷ ss) are each = absurd are
+roots_fit imports calls orders entries nodes (r ∷ rs) [] are each = absurd are
+roots_fit imports calls orders entries nodes (r ∷ rs) (s ∷ ss) are each =
     more_fit imports orders entries nodes s.child (children_of_roots ss) (record {
       entry = (are.0).ordered.0;
       held = (are.0).ordered.1;
-      formula = core_form_of r.core;
+      formula = filled calls (core_form_of r.core);
       names = s.child.map;
       scope = (each.0).own;
       at = (are.0).ordered.2;
       unfolds = (are.0).unfolds;
       stands = (each.0).stands;
       have = (each.0).orders_of_all;
-    }) (roots_fit imports orders entries nodes rs ss are.1 each.1)
+    }) (roots_fit imports calls orders entries nodes rs ss are.1 each.1)
 
 module _ (imports : List Imported) (orders : List Order) (entries : List Entry) (roots : List Child) (graph : IsDag entries roots) (at_roots : AreFit imports orders entries graph.nodes.nodes roots) where
   -- each node is, since it is that of a root or a child of a node with a greater number
@@ -241,12 +237,12 @@ module _ (imports : List Imported) (orders : List Order) (entries : List Entry) 
           (λ place d within. ((graph.nodes.nodes k entry held).children place d within).part.smaller)) there
 
 -- each node that is an import gives it variables of its orders
-pub imports_have_orders : (imports : List Imported) (lowered : Lowered) (dag : Dag) → IsLowered imports lowered → IsDagOf lowered dag → (place : ℕ) (entry : Entry) (i : ℕ) (xs : List ℕ)
+pub imports_have_orders : (imports : List Imported) (calls : Calls) (lowered : Lowered) (dag : Dag) → IsLowered imports calls lowered → IsDagOf calls lowered dag → (place : ℕ) (entry : Entry) (i : ℕ) (xs : List ℕ)
     → slice_get dag.entries place ≡ Some entry → entry.node ≡ Import i xs → AreAt entry.orders xs (map (λ v. v.order) (variables_of_import (slice_get imports i)))
-imports_have_orders imports lowered dag is_lowered is place entry i xs held import =
+imports_have_orders imports calls lowered dag is_lowered is place entry i xs held import =
     let shared = children_of_roots dag.roots in
     let nodes = is.graph.nodes.nodes in
-    let fit = all_fit imports lowered.orders dag.entries shared is.graph (roots_fit imports lowered.orders dag.entries nodes lowered.roots dag.roots is.roots is_lowered.roots) (length dag.entries) place
+    let fit = all_fit imports lowered.orders dag.entries shared is.graph (roots_fit imports calls lowered.orders dag.entries nodes lowered.roots dag.roots is.roots is_lowered.roots) (length dag.entries) place
     (slice_get_within dag.entries place entry held) (omega arith) in
     let same : fit.entry ≡ entry = same_Some fit.entry entry (sym fit.held ∙ held) in
     subst (λ (e : Entry). AreAt e.orders xs (map (λ v. v.order) (variables_of_import (slice_get imports i)))) same

@@ -17,7 +17,7 @@ use Rattle.ms_logic.specs.Roots.{Root}
 use Rattle.ms_lower.specs.Measure.{Answers}
 use Rattle.ms_rules.specs.Numbers.{IsWellNumbered}
 use Rattle.ms_solve.specs.Copies.{HaveRoots}
-use Rattle.ms_solve.specs.Graph.{IsGraphOf}
+use Rattle.ms_solve.specs.Graph.{IsGraphOf, calls_in}
 use Rattle.ms_solve.proofs.ExportNames.{entry_lists, entry_named}
 use Rattle.ms_solve.proofs.MovedWords.{HaveSameOrders}
 use Rattle.ms_solve.proofs.RootValues.{answer_orders, root_beside, roots_counted}
@@ -39,14 +39,14 @@ module _ (checked : Checked) (answers : Answers) (long : length answers ≡ leng
   Named k used = (root : SharedRoot) × (slice_get dag.roots k ≡ Some root) × (length used.names ≡ length root.variables)
 
   pub count_of_roots : length dag.roots ≡ 1 + length checked.exports
-  count_of_roots = sym (roots_counted graph.lowered.orders dag.entries graph.lowered.roots dag.roots graph.is_dag.roots) ∙ graph.roots.count
+  count_of_roots = sym (roots_counted (calls_in checked answers) graph.lowered.orders dag.entries graph.lowered.roots dag.roots graph.is_dag.roots) ∙ graph.roots.count
 
   root_named : (i : ℕ) (used : ExportUse) → slice_get checked.exports i ≡ Some used → Named (suc i) used
   root_named i used held =
       let within = slice_get_within checked.exports i used held in
       let count = count_of_roots in
       let found = item_at dag.roots (suc i) (omega (arith, within, count)) in
-      let beside = root_beside graph.lowered.orders dag.entries graph.lowered.roots dag.roots graph.is_dag.roots (suc i) found.0 found.1 in
+      let beside = root_beside (calls_in checked answers) graph.lowered.orders dag.entries graph.lowered.roots dag.roots graph.is_dag.roots (suc i) found.0 found.1 in
       let r = graph.roots.each (suc i) beside.0 beside.1 in
       let own_listed = ap (λ (root : Root). root.variables) r.is_root.4 in
       let names = entry_named checked answers well exports long i r.is_root.0 r.is_root.2 used held in

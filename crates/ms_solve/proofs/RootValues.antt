@@ -1,20 +1,19 @@
 -- The automata of the roots of a source have the values that these stand for.
-use Rattle.std.proofs.Common.{◌≡◌, ℕ, zero, suc, ◌+◌, ⊎_elim, List, [], ◌∷◌, length, map, slice_get, Some, refl, sym, ap, ap₂, subst, ◌∙◌, arith}
+use Rattle.std.proofs.Common.{◌≡◌, ℕ, zero, suc, ⊎_elim, List, [], ◌∷◌, length, map, slice_get, Some, refl, sym, ap, ap₂, subst, ◌∙◌}
 use Rattle.std.proofs.lemmas.Option.{none-some, same_Some}
 use Rattle.ms_build.specs.Built.{IsLeastOf, child_meaning, imports_of}
 use Rattle.ms_build.specs.Roots.{named}
 use Rattle.ms_build.proofs.LawLemmas.{child_has_value}
 use Rattle.ms_build.proofs.MeaningLemmas.{HasValues-to}
-use Rattle.ms_build.proofs.RootLemmas.{variable_held}
+use Rattle.ms_core.specs.Calls.{Calls, filled}
 use Rattle.ms_dag.specs.declared.dag.Dag.{Dag}
 use Rattle.ms_dag.specs.declared.dag.SharedRoot.{SharedRoot}
 use Rattle.ms_dag.specs.declared.node.Entry.{Entry}
 use Rattle.ms_dag.specs.Laws.{HasOrder}
 use Rattle.ms_dag.specs.Lowered.{IsLoweredRoot}
 use Rattle.ms_dag.specs.Share.{AreRootsOf, IsRootOf}
-use Rattle.ms_handover.proofs.SharedExports.{exports_listed}
+use Rattle.ms_handover.proofs.SharedRoots.{root_listed}
 use Rattle.ms_logic.specs.declared.checked.Checked.{Checked}
-use Rattle.ms_logic.specs.declared.checked.Global.{Global}
 use Rattle.ms_logic.specs.declared.core_formula.Root as code
 use Rattle.ms_logic.specs.declared.mode.Order.{Order}
 use Rattle.ms_logic.specs.declared.sign.Sign.{Sign}
@@ -27,7 +26,7 @@ use Rattle.ms_logic.specs.SameUpToBound.{AnswerToEachOther, SameRoot}
 use Rattle.ms_logic.specs.Tree.{Form}
 use Rattle.ms_logic.specs.Truth as truth
 use Rattle.ms_logic.specs.Verdict.{Problem, variables_of}
-use Rattle.ms_logic.specs.View.{globals_from, problem_of}
+use Rattle.ms_logic.specs.View.{problem_of}
 use Rattle.ms_logic.specs.Word.{Encodes}
 use Rattle.ms_canonical.proofs.OrdersLemmas.{orders_of, over-same}
 use Rattle.ms_dfa.specs.Automaton.{IsAutomaton}
@@ -41,7 +40,7 @@ use Rattle.ms_spread.proofs.Roots.{roots_keep_values}
 use Rattle.ms_spread.proofs.SameRoots.{same_main_root_keeps_value, same_roots_have_one_value}
 use Rattle.ms_theory.specs.Values.{HasValues, core_meaning, main_meaning, meaning_by}
 use Rattle.ms_solve.specs.Asked.{HasValueIn}
-use Rattle.ms_solve.specs.Graph.{IsGraphOf}
+use Rattle.ms_solve.specs.Graph.{IsGraphOf, calls_in}
 use Rattle.ms_solve.specs.Imported.{AreAnswersOf, AreLentFor}
 use Rattle.ms_solve.specs.Values.{HasMainValue, form_meaning}
 use Rattle.ms_solve.proofs.AgreeingImports.{IsIn, one_value}
@@ -50,19 +49,19 @@ use Rattle.ms_solve.proofs.MovedWords.{HaveSameOrders, moved, moved_encoding}
 use Rattle.ms_solve.proofs.SignOver.{sign-over}
 
 -- the root with a number, beside that of the graph
-pub root_beside : (orders : List Order) (entries : List Entry) (roots : List code.Root) (shared : List SharedRoot) → AreRootsOf orders entries roots shared → (k : ℕ) (s : SharedRoot) → slice_get shared k ≡ Some s
-    → (root : code.Root) × (slice_get roots k ≡ Some root) × IsRootOf orders entries root s
-root_beside orders entries [] [] are k s held = absurd (none-some s held)
-root_beside orders entries [] (other ∷ more) are k s held = absurd are
-root_beside orders entries (root ∷ roots) [] are k s held = absurd are
-root_beside orders entries (root ∷ roots) (other ∷ more) are zero s held = (root, refl, subst (IsRootOf orders entries root) (same_Some other s held) are.0)
-root_beside orders entries (root ∷ roots) (other ∷ more) are (suc k) s held = root_beside orders entries roots more are.1 k s held
+pub root_beside : (calls : Calls) (orders : List Order) (entries : List Entry) (roots : List code.Root) (shared : List SharedRoot) → AreRootsOf calls orders entries roots shared → (k : ℕ) (s : SharedRoot) → slice_get shared k ≡ Some s
+    → (root : code.Root) × (slice_get roots k ≡ Some root) × IsRootOf calls orders entries root s
+root_beside calls orders entries [] [] are k s held = absurd (none-some s held)
+root_beside calls orders entries [] (other ∷ more) are k s held = absurd are
+root_beside calls orders entries (root ∷ roots) [] are k s held = absurd are
+root_beside calls orders entries (root ∷ roots) (other ∷ more) are zero s held = (root, refl, subst (IsRootOf calls orders entries root) (same_Some other s held) are.0)
+root_beside calls orders entries (root ∷ roots) (other ∷ more) are (suc k) s held = root_beside calls orders entries roots more are.1 k s held
 
-pub roots_counted : (orders : List Order) (entries : List Entry) (roots : List code.Root) (shared : List SharedRoot) → AreRootsOf orders entries roots shared → length roots ≡ length shared
-roots_counted orders entries [] [] are = refl
-roots_counted orders entries [] (other ∷ more) are = absurd are
-roots_counted orders entries (root ∷ roots) [] are = absurd are
-roots_counted orders entries (root ∷ roots) (other ∷ more) are = ap suc (roots_counted orders entries roots more are.1)
+pub roots_counted : (calls : Calls) (orders : List Order) (entries : List Entry) (roots : List code.Root) (shared : List SharedRoot) → AreRootsOf calls orders entries roots shared → length roots ≡ length shared
+roots_counted calls orders entries [] [] are = refl
+roots_counted calls orders entries [] (other ∷ more) are = absurd are
+roots_counted calls orders entries (root ∷ roots) [] are = absurd are
+roots_counted calls orders entries (root ∷ roots) (other ∷ more) are = ap suc (roots_counted calls orders entries roots more are.1)
 
 each_at : {X : Type 0} (P : X → Type 0) (items : List X) → Each P items → (k : ℕ) (x : X) → slice_get items k ≡ Some x → P x
 each_at P [] each k x held = absurd (none-some x held)
@@ -72,16 +71,7 @@ each_at P (y ∷ items) each (suc k) x held = each_at P items each.1 k x held
 -- variables by their numbers, with their orders
 named_again : (orders : List Order) (vs : List Variable) → Each (HasOrder orders) vs → named orders (map (λ v. v.name) vs) ≡ vs
 named_again orders [] each = refl
-named_again orders (v ∷ vs) each = ap₂ (λ (u : Variable) us. u ∷ us) (sym (variable_held orders v.name v.order each.0)) (named_again orders vs each.1)
-
-globals_ordered : (orders : List Order) (k : ℕ) (gs : List Global) → ((x : ℕ) (g : Global) → slice_get gs x ≡ Some g → slice_get orders (k + x) ≡ Some g.order)
-    → Each (HasOrder orders) (variables_of (globals_from k gs))
-globals_ordered orders k [] has = tt
-globals_ordered orders k (g ∷ gs) has =
-    let here : k + 0 ≡ k = omega arith in (
-      subst (λ x. slice_get orders x ≡ Some g.order) here (has 0 g refl),
-      globals_ordered orders (k + 1) gs (λ x h is. subst (λ y. slice_get orders y ≡ Some h.order) (omega arith) (has (suc x) h is)),
-    )
+named_again orders (v ∷ vs) each = ap₂ (λ (u : Variable) us. u ∷ us) (ap (λ o. record { name = v.name; order = o }) each.0) (named_again orders vs each.1)
 
 -- each variable of an assignment has a value
 value_among : (vs : List Variable) (e : Env) → GivesEach vs e → (v : Variable) → Among vs v → HasValueIn e v
@@ -122,8 +112,8 @@ module _ (checked : Checked) (answers : Answers) (contents : List (Content Sign)
   -- the root of the graph with a number, and what it is made of
   module _ (k : ℕ) (s : SharedRoot) (held : slice_get dag.roots k ≡ Some s) (content : Content Sign)
       (least : IsLeastOf checked.mode (named dag.orders s.variables) (child_meaning (imports_of contents) dag.entries s.child) content) where
-    abbrev beside : (root : code.Root) × (slice_get graph.lowered.roots k ≡ Some root) × IsRootOf graph.lowered.orders dag.entries root s
-    beside = root_beside graph.lowered.orders dag.entries graph.lowered.roots dag.roots graph.is_dag.roots k s held
+    abbrev beside : (root : code.Root) × (slice_get graph.lowered.roots k ≡ Some root) × IsRootOf (calls_in checked answers) graph.lowered.orders dag.entries root s
+    beside = root_beside (calls_in checked answers) graph.lowered.orders dag.entries graph.lowered.roots dag.roots graph.is_dag.roots k s held
 
     abbrev root : IsRootFor checked problem k beside.0
     root = graph.roots.each k beside.0 beside.1
@@ -139,8 +129,8 @@ module _ (checked : Checked) (answers : Answers) (contents : List (Content Sign)
           (λ word e sign assigned encodes means.
           let first = problem.given.imports in
           let second = imports_of contents in
-          let f = core_form_of (beside.0).core in
-          let of_lowered = each_at (IsLoweredRoot first graph.lowered.orders) graph.lowered.roots graph.is_lowered.roots k beside.0 beside.1 in
+          let f = filled (calls_in checked answers) (core_form_of (beside.0).core) in
+          let of_lowered = each_at (IsLoweredRoot first (calls_in checked answers) graph.lowered.orders) graph.lowered.roots graph.is_lowered.roots k beside.0 beside.1 in
           let have = orders_alike graph.lowered.orders first second (variables_alike checked.mode checked.imports answers contents lent long) f of_lowered.orders_of_all in
           let core = (child_has_value second dag.entries graph.lowered.orders f s.child e sign have beside.2.unfolds).0 means in
           let made = subst (λ g. core_meaning second g e sign) (sym root.formula) core in
@@ -157,9 +147,7 @@ module _ (checked : Checked) (answers : Answers) (contents : List (Content Sign)
       let r = root 0 s held content least in
       let same = subst (λ main. SameRoot problem.given.imports (length checked.globals) main r.made) r.is_root r.same in
       let keeps = same_main_root_keeps_value checked answers r.made well same in
-      let ordered = globals_ordered graph.lowered.orders 0 checked.globals
-      (λ x g there. let behind_none : x ≡ 0 + x = omega arith in subst (λ y. slice_get graph.lowered.orders y ≡ Some g.order) behind_none (graph.orders.of_globals x g there)) in
-      let listed = subst (Each (HasOrder graph.lowered.orders)) (sym keeps.0) ordered in
+      let listed = root_listed checked graph.lowered.orders graph.orders answers well graph.lists 0 (beside 0 s held content least).0 r in
       let variables : content.variables ≡ variables_of problem.globals = over 0 s held content least listed ∙ keeps.0 in
       record {
         mode = least.mode_is;
@@ -188,7 +176,7 @@ module _ (checked : Checked) (answers : Answers) (contents : List (Content Sign)
     exported = r.is_root.2
 
     listed_here : Each (HasOrder graph.lowered.orders) r.made.variables
-    listed_here = exports_listed checked answers well graph.lists graph.lowered.roots graph.lowered.orders graph.orders i (beside (suc i) s held content least).0 (beside (suc i) s held content least).1 r
+    listed_here = root_listed checked graph.lowered.orders graph.orders answers well graph.lists (suc i) (beside (suc i) s held content least).0 r
 
     over_made : content.variables ≡ r.made.variables
     over_made = over (suc i) s held content least listed_here

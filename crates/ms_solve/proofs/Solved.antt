@@ -25,14 +25,16 @@ use Rattle.ms_logic.specs.Size.{depth_of_source, size_of_source}
 use Rattle.ms_logic.specs.View.{problem_of}
 use Rattle.ms_lower.specs.Measure.{Answers}
 use Rattle.ms_rules.specs.Numbers.{Each, IsWellNumbered}
+use Rattle.ms_handover.specs.CallsOfSources.{silent_answers}
+use Rattle.ms_handover.proofs.CallLemmas.{silent_counted}
 use Rattle.ms_solve.specs.Copies.{AreAskedCopies, HaveRoots, IsReady}
-use Rattle.ms_solve.specs.Graph.{IsGraphOf}
+use Rattle.ms_solve.specs.Graph.{IsGraphOf, calls_in}
 use Rattle.ms_solve.specs.Imported.{AreAnswersOf, AreLentFor}
 use Rattle.ms_solve.specs.Limits.{IsUnsolved, IsWithinLimits, lacks_nodes}
 use Rattle.ms_solve.specs.Solution.{HasExports, IsSmall}
 use Rattle.ms_solve.specs.Values.{HasMainValue}
 use Rattle.ms_solve.proofs.ExportFiles.{all_exports, all_small, main_root_value}
-use Rattle.ms_solve.proofs.Graphs.{graph_within, some_answers}
+use Rattle.ms_solve.proofs.Graphs.{graph_within}
 use Rattle.ms_solve.proofs.ImportAnswers.{lent_to_nodes}
 use Rattle.ms_solve.proofs.RootNames.{all_have_roots, count_of_roots}
 
@@ -64,10 +66,10 @@ step_refused count limit refusal is = absurd is
 module _ (checked : Checked) (well : IsWellNumbered checked) (exports : ListsFreeVariables checked) (contents : List (Content Sign)) (lent : AreLentFor checked.mode checked.imports contents) (dag : Dag)
     (graphs : (answers : Answers) → length answers ≡ length checked.imports → IsGraphOf checked answers dag) where
   abbrev answers : Answers
-  answers = (some_answers checked.imports).0
+  answers = silent_answers checked
 
   abbrev long : length answers ≡ length checked.imports
-  long = (some_answers checked.imports).1
+  long = silent_counted checked
 
   abbrev graph : IsGraphOf checked answers dag
   graph = graphs answers long
@@ -87,8 +89,8 @@ module _ (checked : Checked) (well : IsWellNumbered checked) (exports : ListsFre
 
   pub nodes_lent : AreImportsOf contents checked.mode dag.entries
   nodes_lent =
-      lent_to_nodes checked answers contents graph.lowered dag long lent graph.is_lowered graph.is_dag
-      (nodes_import_as_roots_do graph.lowered dag (length checked.imports) graph.is_dag (all_roots_import checked answers graph.lowered well graph.roots))
+      lent_to_nodes checked answers contents (calls_in checked answers) graph.lowered dag long lent graph.is_lowered graph.is_dag
+      (nodes_import_as_roots_do (calls_in checked answers) graph.lowered dag (length checked.imports) graph.is_dag (all_roots_import checked answers graph.lowered well graph.roots))
 
   module _ (limit : ℕ) (is_limit : IsLimit limit) (built : Built) (over : IsBuiltOver contents checked.mode dag built) (limited : built.plan.limit ≡ limit) where
     pub is_ready : IsReady limit built
@@ -98,7 +100,7 @@ module _ (checked : Checked) (well : IsWellNumbered checked) (exports : ListsFre
       built_for = over.each;
       all = over.all ∙ ap (λ (d : Dag). length d.entries) (sym over.dag_is);
       few = subst (λ (d : Dag). length d.entries ≤ 4294967295) (sym over.dag_is) few_nodes;
-      read = subst AreRootsRead (sym over.dag_is) (roots_read (problem_of checked answers).given.imports graph.lowered dag graph.is_lowered graph.is_dag);
+      read = subst AreRootsRead (sym over.dag_is) (roots_read (problem_of checked answers).given.imports (calls_in checked answers) graph.lowered dag graph.is_lowered graph.is_dag);
     }
 
     pub some_root : 0 < length built.plan.dag.now.roots
@@ -136,12 +138,11 @@ pub all_within : (checked : Checked) (dag : Dag) → ((answers : Answers) → le
     → ((answers : Answers) → size ≡ size_of_source (problem_of checked answers)) → ((answers : Answers) → depth ≡ depth_of_source (problem_of checked answers))
     → (answers : Answers) → IsWithinLimits (problem_of checked answers)
 all_within checked dag graphs size depth size_is depth_is answers =
-    let some = some_answers checked.imports in
-    let within = graph_within checked some.0 dag (graphs some.0 some.1) in
+    let within = graph_within checked (silent_answers checked) dag (graphs (silent_answers checked) (silent_counted checked)) in
     let small = within.size in
     let flat = within.depth in
     let size_here = size_is answers in
-    let size_there = size_is some.0 in
+    let size_there = size_is (silent_answers checked) in
     let depth_here = depth_is answers in
-    let depth_there = depth_is some.0 in
+    let depth_there = depth_is (silent_answers checked) in
     record { depth = omega (arith, flat, depth_here, depth_there); size = omega (arith, small, size_here, size_there) }

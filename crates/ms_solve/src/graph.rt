@@ -9,6 +9,7 @@ ghost use Rattle.ms_solve.specs.Limits.{IsTooLarge};
 
 use ms_dag::{Dag, share};
 use ms_edge::Refusal;
+use ms_handover::SourceCalls;
 use ms_logic::Checked;
 use ms_lower::lower;
 use std::alloc::Global;
@@ -32,12 +33,15 @@ pub fn graph_of(alloc: Global, checked: &Checked) -> Result<Graph, Refusal>
         (refusal ≡ Refusal.Memory) ⊎ IsTooLarge checked.now answers refusal) }
 {
     let lowered = lower(alloc, checked)?;
-    match share(alloc, &lowered) {
-        Ok(dag) => Ok(Graph {
-            dag,
-            size: lowered.size,
-            depth: lowered.depth,
-        }),
-        Err(_) => Err(Refusal::Memory),
-    }
+    let Ok(calls) = SourceCalls::of(alloc, checked) else {
+        return Err(Refusal::Memory);
+    };
+    let Ok(dag) = share(alloc, &lowered, &calls) else {
+        return Err(Refusal::Memory);
+    };
+    Ok(Graph {
+        dag,
+        size: lowered.size,
+        depth: lowered.depth,
+    })
 }

@@ -4,9 +4,15 @@ use Rattle.ms_explore.specs.Tracks.{IsAmong}
 use Rattle.ms_logic.specs.Roots.{AreRising}
 use Rattle.ms_build.specs.Built.{child_meaning, entries_of, imports_for}
 use Rattle.ms_build.specs.Roots.{named}
-use Rattle.ms_build.proofs.RootLemmas.{named-rising, root-among}
+use Rattle.ms_build.proofs.RootLemmas.{named-rising, orders_for, read_at_first, root-among}
 use Rattle.ms_build.proofs.WiderLemmas.{over_by}
 use Rattle.ms_build.proofs.roots.over_variables.Goals as goal
+
+pub brought-requires-clause-read : goal.brought-requires-clause-read
+brought-requires-clause-read c =
+    let plan = c.args.plan.now in
+    let orders = plan.dag.now.orders in
+    (orders_for orders c.args.child.now.map, read_at_first orders (entries_of plan) c.args.child.now c.requires.read)
 
 pub over_tracks-requires-clause-rising : goal.over_tracks-requires-clause-rising
 over_tracks-requires-clause-rising c =
@@ -18,14 +24,14 @@ over_tracks-requires-clause-among c v there =
     let orders = plan.dag.now.orders in
     subst (λ vs. IsAmong vs v) (sym (ap variables_of c.slice.ensures ∙ c.in-Ok.ensures))
     (root-among plan.mode orders c.args.child.now c.args.variables.now c.requires.variables (child_meaning (imports_for plan) (entries_of plan) c.args.child.now) c.in_ok-part.part
-    (c.in_ok-part.ensures.part orders c.requires.read) c.in_ok-part.ensures.only v there)
+    (c.in_ok-part.ensures.part (orders_for orders c.args.child.now.map) (read_at_first orders (entries_of plan) c.args.child.now c.requires.read)) c.in_ok-part.ensures.only v there)
 
 pub returns : goal.returns
 returns c =
     let plan = c.args.plan.now in
     let orders = plan.dag.now.orders in
     let meaning = child_meaning (imports_for plan) (entries_of plan) c.args.child.now in
-    let part = c.in_ok-part.ensures.part orders c.requires.read in
+    let part = c.in_ok-part.ensures.part (orders_for orders c.args.child.now.map) (read_at_first orders (entries_of plan) c.args.child.now c.requires.read) in
     over_by plan.mode (named orders c.args.variables.now) meaning c.in_ok-part.part (variables_of c.slice.result.now) c.over_tracks.result c.states.ensures.automaton part.mode_is part.values
     (ap variables_of c.slice.ensures ∙ c.in-Ok.ensures) (root-among plan.mode orders c.args.child.now c.args.variables.now c.requires.variables meaning c.in_ok-part.part part c.in_ok-part.ensures.only)
     c.over_tracks.ensures

@@ -3,9 +3,9 @@ use Rattle.std.proofs.lemmas.List.{length_push}
 use Rattle.ms_dag.specs.declared.node.Child.{Child}
 use Rattle.ms_dag.specs.declared.node.DagNode.TheVariants.{Bind}
 use Rattle.ms_dag.specs.Maps.{AreTheSameIn}
-use Rattle.ms_dag.specs.Places.{AreBelow, AreAmong}
+use Rattle.ms_dag.specs.Places.{AreAmong}
 use Rattle.ms_dag.specs.Shared.{IsMade}
-use Rattle.ms_dag.proofs.BinderLemmas.{bound_there, bound_below, above_bound}
+use Rattle.ms_dag.proofs.BinderLemmas.{bound_there, above_bound}
 use Rattle.ms_dag.proofs.Members.{All-map_of}
 use Rattle.ms_dag.proofs.Results.{if_ok}
 use Rattle.ms_dag.proofs.UnionLemmas.{union_below}
@@ -20,12 +20,6 @@ overflow_cast-node c =
     let whole = ap length ends.ends ∙ length_push ends.own c.args.binder.variable in
     let own = ap length (c.without_last-own.ensures ends.own c.args.binder.variable ends.ends) in
     omega (arith, c.in_ok-all.ensures.few, whole, own, c.len.ensures)
-
-pub number_node-requires-clause-known : goal.number_node-requires-clause-known
-number_node-requires-clause-known c =
-    let ends = c.in_ok-all.ensures.ends in
-    subst (λ list. AreBelow (length c.args.orders.now) list) (sym (c.without_last-own.ensures ends.own c.args.binder.variable ends.ends))
-    (bound_below c.in_ok-names.names c.args.binder.variable c.in_ok-all.all ends (c.args.body ∷ []) c.in_ok-names.ensures.same _ c.requires.known)
 
 pub placed-requires-clause-there : goal.placed-requires-clause-there
 placed-requires-clause-there c =

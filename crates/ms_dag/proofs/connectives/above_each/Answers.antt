@@ -10,15 +10,12 @@ use Rattle.ms_dag.specs.declared.connectives.Nary.{Nary}
 use Rattle.ms_dag.specs.declared.connectives.Nary.TheVariants.{And, Or}
 use Rattle.ms_dag.specs.Dag.{children_of}
 use Rattle.ms_dag.proofs.Results.{if_ok}
-use Rattle.ms_dag.proofs.UnionLemmas.{union_there, union_below, above_union}
+use Rattle.ms_dag.proofs.UnionLemmas.{union_there, above_union}
 use Rattle.ms_dag.proofs.connectives.above_each.Goals as goal
 
 pub placed_each-requires-clause-there : goal.placed_each-requires-clause-there
 placed_each-requires-clause-there c =
     subst (λ list. AreAmong list (places_in_maps c.args.parts.now)) (sym c.slice.ensures) (union_there c.args.parts.now c.in_ok-names.names c.in_ok-names.ensures.same)
-
-pub number_node-requires-clause-known : goal.number_node-requires-clause-known
-number_node-requires-clause-known c = union_below c.args.parts.now c.in_ok-names.names c.in_ok-names.ensures.same _ c.requires.known
 
 children_of_each : (names : List ℕ) (parts placed : List Child) (nary : Nary) (node : DagNode) → node ≡ node_of_each nary placed → AreTheSameIn names parts placed → AreTheSameIn names parts (children_of (node_of_each nary placed))
 children_of_each names parts placed And node is same = same

@@ -9,16 +9,13 @@ use Rattle.ms_dag.specs.declared.connectives.Unary.TheVariants.{Not, Restrict}
 use Rattle.ms_dag.specs.Dag.{children_of}
 use Rattle.ms_dag.proofs.Members.{All-map_of}
 use Rattle.ms_dag.proofs.Results.{if_ok}
-use Rattle.ms_dag.proofs.UnionLemmas.{union_there, union_below, above_union}
+use Rattle.ms_dag.proofs.UnionLemmas.{union_there, above_union}
 use Rattle.ms_dag.proofs.connectives.above_one.Goals as goal
 
 pub placed-requires-clause-there : goal.placed-requires-clause-there
 placed-requires-clause-there c =
     subst (λ list. AreAmong list c.args.part.map) (sym c.slice.ensures)
     (All-map_of (Contains c.in_ok-names.names) (c.args.part ∷ []) 0 c.args.part (omega arith) (union_there (c.args.part ∷ []) c.in_ok-names.names c.in_ok-names.ensures.same))
-
-pub number_node-requires-clause-known : goal.number_node-requires-clause-known
-number_node-requires-clause-known c = union_below (c.args.part ∷ []) c.in_ok-names.names c.in_ok-names.ensures.same _ c.requires.known
 
 children_of_one : (names : List ℕ) (part placed : Child) (unary : Unary) → AreTheSameIn names (part ∷ []) (placed ∷ []) → AreTheSameIn names (part ∷ []) (children_of (node_of_one unary placed))
 children_of_one names part placed Not same = same

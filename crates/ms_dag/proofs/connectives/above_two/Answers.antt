@@ -9,7 +9,7 @@ use Rattle.ms_dag.specs.declared.connectives.Binary.TheVariants.{Implies, Iff}
 use Rattle.ms_dag.specs.Dag.{children_of}
 use Rattle.ms_dag.proofs.Members.{All-map_of}
 use Rattle.ms_dag.proofs.Results.{if_ok}
-use Rattle.ms_dag.proofs.UnionLemmas.{union_there, union_below, above_union}
+use Rattle.ms_dag.proofs.UnionLemmas.{union_there, above_union}
 use Rattle.ms_dag.proofs.connectives.above_two.Goals as goal
 
 pub placed-requires-clause-there : goal.placed-requires-clause-there
@@ -23,9 +23,6 @@ placed-requires-2-clause-there c =
     let parts : List Child = c.args.left ∷ c.args.right ∷ [] in
     subst (λ list. AreAmong list c.args.right.map) (sym c.slice-2.ensures)
     (All-map_of (Contains c.in_ok-names.names) parts 1 c.args.right (omega arith) (union_there parts c.in_ok-names.names c.in_ok-names.ensures.same))
-
-pub number_node-requires-clause-known : goal.number_node-requires-clause-known
-number_node-requires-clause-known c = union_below (c.args.left ∷ c.args.right ∷ []) c.in_ok-names.names c.in_ok-names.ensures.same _ c.requires.known
 
 children_of_two : (names : List ℕ) (parts : List Child) (one two : Child) (binary : Binary) → AreTheSameIn names parts (one ∷ two ∷ []) → AreTheSameIn names parts (children_of (node_of_two binary one two))
 children_of_two names parts one two Implies same = same

@@ -3,22 +3,26 @@ use Rattle.std.proofs.lemmas.List.Elements.{All-nil, All-cons}
 use Rattle.std.proofs.lemmas.Option.{same_Some}
 use Rattle.std.specs.List.Sorted.{IsStrictlyIncreasing}
 use Rattle.ms_logic.specs.declared.mode.Order.TheVariants.{One}
+use Rattle.ms_logic.specs.Assignment.{Variable}
 use Rattle.ms_logic.specs.Steps.{variable}
 use Rattle.ms_dag.specs.declared.node.Child.{Child}
 use Rattle.ms_dag.specs.declared.node.Entry.{Entry}
 use Rattle.ms_dag.specs.Dag.{IsChild, IsNode, IsUsed}
 use Rattle.ms_dag.specs.Examples.{child, before, between, chain}
-use Rattle.ms_dag.specs.Laws.{HasOrder}
 use Rattle.ms_dag.proofs.examples.worked_graphs.Goals as goal
 
 two_rise : (a : ℕ) → IsStrictlyIncreasing (a ∷ (a + 1) ∷ [])
 two_rise a zero below = omega arith
 two_rise a (suc k) below = absurd (omega (arith, below))
 
+-- its order is that of a number of two
+abbrev IsOwn : Variable → Type 0
+IsOwn v = slice_get (One ∷ One ∷ []) v.name ≡ Some v.order
+
 before_is_node : IsNode chain 0 before
 before_is_node = record {
   children = All-nil (IsChild chain 0 (One ∷ One ∷ []));
-  own = All-cons (HasOrder (One ∷ One ∷ [])) (variable 0 One) (variable 1 One ∷ []) refl (All-cons (HasOrder (One ∷ One ∷ [])) (variable 1 One) [] refl (All-nil (HasOrder (One ∷ One ∷ []))));
+  own = All-cons IsOwn (variable 0 One) (variable 1 One ∷ []) refl (All-cons IsOwn (variable 1 One) [] refl (All-nil IsOwn));
   free = among;
 }
   where

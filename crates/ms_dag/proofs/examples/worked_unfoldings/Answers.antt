@@ -15,6 +15,9 @@ part count a b first second = record { smaller = omega arith; within = two_below
 pub returns-clause-relation : goal.returns-clause-relation
 returns-clause-relation c = (Less 0 1, refl, two_below 2 0 1 (omega arith) (omega arith), refl)
 
+pub returns-clause-call : goal.returns-clause-call
+returns-clause-call c = (Less 0 1, refl, two_below 2 0 1 (omega arith) (omega arith), refl)
+
 pub returns-clause-shared : goal.returns-clause-shared
 returns-clause-shared c = (
   child 0 (0 ∷ 1 ∷ []) ∷ child 0 (1 ∷ 2 ∷ []) ∷ [],

@@ -1,5 +1,4 @@
-use Rattle.std.proofs.Common.{◌<◌, length, Contains, sym, subst}
-use Rattle.std.proofs.lemmas.List.Elements.{All-contains}
+use Rattle.std.proofs.Common.{Contains, sym, subst}
 use Rattle.ms_diagram.specs.Collect.{HaveSameItems}
 use Rattle.ms_dag.specs.Places.{AreAmong}
 use Rattle.ms_dag.specs.Unfolds.{names_of_basic}
@@ -10,9 +9,3 @@ pub placed_basic-own-requires-clause-there : goal.placed_basic-own-requires-clau
 placed_basic-own-requires-clause-there c =
     let same = subst (λ list. HaveSameItems list c.rising-names.result) c.in_ok-basic_names.ensures c.rising-names.ensures.same in
     subst (λ list. AreAmong list (names_of_basic c.args.basic.now)) (sym c.slice.ensures) (All-by (Contains c.rising-names.result) (names_of_basic c.args.basic.now) same.there)
-
-pub number_node-requires-clause-known : goal.number_node-requires-clause-known
-number_node-requires-clause-known c =
-    let same = subst (λ list. HaveSameItems list c.rising-names.result) c.in_ok-basic_names.ensures c.rising-names.ensures.same in
-    All-by (λ x. x < length c.args.orders.now) c.rising-names.result
-    (λ x there. All-contains (λ y. y < length c.args.orders.now) (names_of_basic c.args.basic.now) x c.requires.known (same.back x there))

@@ -1,6 +1,7 @@
 use Rattle.ms_handover.proofs.Exported.{sources_list_variables}
 use Rattle.ms_handover.proofs.ImportsOfExports.{all_roots_import}
-use Rattle.ms_handover.proofs.SharedExports.{sources_are_shared}
+use Rattle.ms_handover.proofs.FilledRoots.{sources_have_roots}
+use Rattle.ms_handover.proofs.SharedRoots.{sources_are_shared}
 use Rattle.ms_handover.proofs.Unexported.{lists_variables}
 use Rattle.ms_handover.proofs.laws.laws_of_handover.Goals as goal
 
@@ -9,6 +10,9 @@ returns-clause-lists_variables c = sources_list_variables
 
 pub returns-clause-lists_without_exports : goal.returns-clause-lists_without_exports
 returns-clause-lists_without_exports c = lists_variables
+
+pub returns-clause-roots : goal.returns-clause-roots
+returns-clause-roots c = sources_have_roots
 
 pub returns-clause-shared : goal.returns-clause-shared
 returns-clause-shared c = sources_are_shared

@@ -10,8 +10,8 @@ pub returns : goal.returns
 returns c =
     let seen = seen_over [] c.args.seen.now in
     let T = c.args.tables.now in
-    let own : Tables = record { alloc = T.alloc; kept = c.min.result; globals = T.globals; predicates = T.predicates; imports = T.imports } in
+    let own : Tables = record { alloc = T.alloc; kept = c.min.result; globals = T.globals; callable = T.callable; predicates = T.predicates; imports = T.imports } in
     let first : c.in-Ok.first ≡ c.first_above-free.result = c.in-Ok.ensures.1 in
     root_made T own (formula_of c.args.source.now) (with_orders seen c.args.variables.now) c.in_ok-numbers.numbers c.into_inner.result c.new-scope.result c.first_above-free.result
-    refl refl refl (c.min.ensures ∙ ap (min T.globals) first)
+    refl refl refl refl (c.min.ensures ∙ ap (min T.globals) first)
     c.in_ok-numbers.ensures (ap core_form_of c.into_inner.ensures ∙ c.in_ok-core.ensures.core) c.new-scope.ensures (c.first_above-free.ensures ∙ first_free_above seen c.args.variables.now)

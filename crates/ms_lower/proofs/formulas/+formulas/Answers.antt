@@ -1,8 +1,8 @@
-use Rattle.std.proofs.Common.{◌+◌, ◌++◌, ◌∷◌, [], Some, map, refl, sym, ap, subst, ◌∙◌, arith}
+use Rattle.std.proofs.Common.{◌+◌, ◌++◌, ◌∷◌, [], Some, map, sym, ap, subst, ◌∙◌, arith}
 use Rattle.std.proofs.lemmas.Result.{IfOk-weaker}
 use Rattle.ms_logic.specs.View.{argument_of, arguments, declaration_of, formula_of, predicate_of}
 use Rattle.ms_logic.specs.CoreForm.{core_form_of, restrict}
-use Rattle.ms_logic.specs.Spread.{conjunction_of, restrictions_of, spread_under, truth_value, truth_values}
+use Rattle.ms_logic.specs.Spread.{spread_under, truth_value, truth_values}
 use Rattle.ms_logic.specs.declared.mode.Order.TheVariants.{Zero}
 use Rattle.ms_lower.specs.Callees.{callees_in, spread_in}
 use Rattle.ms_lower.specs.Given.{IsGiven, IsTruth, below_all, values_of, variables_of}
@@ -11,11 +11,10 @@ use Rattle.ms_lower.specs.Scope.{all_named, default_over, names_in}
 use Rattle.ms_lower.proofs.Callees.{before_same, callee_at, callee_nowhere, numbering_same}
 use Rattle.ms_lower.proofs.Defaults.{default_over_same}
 use Rattle.ms_lower.proofs.Entering.{truth_entered}
-use Rattle.ms_lower.proofs.Lowering.{and_lowered, or_lowered, compare_lowered, compare_sets_lowered, bind_lowered, let_lowered, call_lowered, called_lowered, default_lowered, truth_lowered}
-use Rattle.ms_lower.proofs.Operands.{each-more, restriction-more, restriction-none}
+use Rattle.ms_lower.proofs.Lowering.{and_lowered, or_lowered, compare_lowered, compare_sets_lowered, bind_lowered, let_lowered, call_lowered, default_lowered, truth_lowered}
+use Rattle.ms_lower.proofs.Operands.{each-more}
 use Rattle.ms_lower.proofs.Scopes.{names_in-append}
 use Rattle.ms_lower.proofs.formulas.+formulas.Goals as goal
-use Rattle.ms_lower.proofs.formulas.+formulas.Goals.{restrictions-in-Some+in_ok-core-in-Some+in_ok-restricted-in-Some+in_ok-push-in-Some, restrictions-in-None}
 
 pub formula-returns-in_ok-each-in-And-clause-core : goal.formula-returns-in_ok-each-in-And-clause-core
 formula-returns-in_ok-each-in-And-clause-core t c =
@@ -60,7 +59,7 @@ formula-returns-in_ok-body-in-Call-clause-core t c =
     let values = c.in_ok-values-in-Call.values in
     IfOk-weaker c.over_values-in-Call.result _ _ (λ core is. is ∙ call_lowered (numbering_of T) (callees_in T) (names_in c.args.scope.now) c.args.free c.args.source.now c.in-Call.predicate (map (λ p. p.variable) c.params.result.now) c.in-Call.arguments c.slice-in-Call.result.now
     (λ f. below_all values.numbers.given (below_all values.truths.given f)) (names_in c.enter_arguments-in-Call.new.scope) values.next _ c.in-Call.is c.params.ensures c.slice-in-Call.ensures
-    (c.in_ok-values-in-Call.ensures.values (λ inner free. (callees_in T).body c.in-Call.predicate inner free)) c.in_ok-body-in-Call.ensures.core) c.over_values-in-Call.ensures
+    (c.in_ok-values-in-Call.ensures.values (λ inner free. (callees_in T).body c.in-Call.predicate inner free)) c.in_ok-body-in-Call.ensures) c.over_values-in-Call.ensures
 
 pub each-loop-operand-preserved : goal.each-loop-operand-preserved
 each-loop-operand-preserved t c =
@@ -97,68 +96,10 @@ truth_arguments-loop-i-preserved t c =
       scope = c.in_ok-value.ensures.scope ∙ inv.scope;
     }
 
-pub restrictions-loop-param-preserved : goal.restrictions-loop-param-preserved
-restrictions-loop-param-preserved t c =
-    let T = c.args.tables.now in
-    let names = names_in c.args.scope.now in
-    let inv = c.loop-param.invariant in
-    elim c.match-param.branch [
-      | restrictions-in-None w ↦
-          record {
-            cores =
-                ap (map core_form_of) w.cores-is
-                ∙ restriction-none (numbering_of T) (callees_in T) names c.args.free c.args.params.now c.loop-param.param-index c.param-item.result c.loop-param.cores (omega arith) c.param-item.is w.in-None.is inv.cores;
-            scope = w.scope-is ∙ inv.scope;
-          }
-      | restrictions-in-Some+in_ok-core-in-Some+in_ok-restricted-in-Some+in_ok-push-in-Some w ↦
-          record {
-            cores =
-                restriction-more (numbering_of T) (callees_in T) names c.args.free c.args.params.now c.loop-param.param-index c.param-item.result c.loop-param.cores c.match-param.cores w.in_ok-restricted-in-Some.field-0 w.in-Some.domain (omega arith) c.param-item.is w.in-Some.is inv.cores
-                (w.in_ok-restricted-in-Some.ensures ∙ ap restrict (w.in_ok-core-in-Some.ensures.core ∙ ap (λ s. spread_in T (formula_of w.in-Some.domain) (names_in s) c.args.free) inv.scope))
-                (w.cores-is ∙ (w.in_ok-push-in-Some.ensures.ok ∙ ap (λ k. c.loop-param.cores ++ k ∷ []) w.into_inner.ensures));
-            scope = w.scope-is ∙ (w.in_ok-core-in-Some.ensures.scope ∙ inv.scope);
-          }
-    ]
-
-pub called-returns-in-None-clause-core : goal.called-returns-in-None-clause-core
-called-returns-in-None-clause-core t c =
-    let T = c.args.tables.now in
-    let nowhere = callee_nowhere T c.args.predicate c.in-None.ensures in
-    IfOk-weaker c.restricted.result _ _ (λ core is. is ∙ (ap restrict c.in_ok-constant-in-None.ensures ∙ ap (λ b. renumbered (numbering_of T) (b (names_in c.args.scope.now) c.args.free)) (sym nowhere.body))) c.restricted.ensures
-
--- without restrictions the body stands alone
-pub called-returns-then-is_empty-clause-core : goal.called-returns-then-is_empty-clause-core
-called-returns-then-is_empty-clause-core t c =
-    let T = c.args.tables.now in
-    let B = c.before-before.result in
-    let same = c.before-before.ensures in
-    let known = c.in-Some.known.now in
-    let names = names_in c.args.scope.now in
-    let body = c.in_ok-body.body in
-    let none = c.is_empty.ensures.0 c.if-is_empty.true in
-    ap (λ l. conjunction_of (map core_form_of (l ++ body ∷ []))) (sym none)
-    ∙ called_lowered (numbering_of T) (numbering_of B) (callees_in T) _ (callees_in B) c.args.predicate (predicate_of known) names c.args.free c.in_ok-cores.cores (c.in_ok-cores.cores ++ body ∷ []) body
-    (callee_at T c.args.predicate known c.in-Some.ensures) (before_same T B c.args.predicate same.predicates same.imports) (numbering_same T B same.kept same.globals same.imports)
-    (c.in_ok-cores.ensures.cores ∙ ap (λ ps. map (renumbered (numbering_of B)) (restrictions_of (callees_in B) (map declaration_of ps) names c.args.free)) c.slice.ensures)
-    (c.in_ok-body.ensures.core ∙ ap (λ s. spread_in B (formula_of known.body) (names_in s) c.args.free) c.in_ok-cores.ensures.scope) refl
-
-pub called-returns-clause-core : goal.called-returns-clause-core
-called-returns-clause-core t c =
-    let T = c.args.tables.now in
-    let B = c.before-before.result in
-    let same = c.before-before.ensures in
-    let known = c.in-Some.known.now in
-    let names = names_in c.args.scope.now in
-    IfOk-weaker c.conjunction.result _ _ (λ core is. is ∙ called_lowered (numbering_of T) (numbering_of B) (callees_in T) _ (callees_in B) c.args.predicate (predicate_of known) names c.args.free c.in_ok-cores.cores c.push.new.list c.in_ok-body.body
-    (callee_at T c.args.predicate known c.in-Some.ensures) (before_same T B c.args.predicate same.predicates same.imports) (numbering_same T B same.kept same.globals same.imports)
-    (c.in_ok-cores.ensures.cores ∙ ap (λ ps. map (renumbered (numbering_of B)) (restrictions_of (callees_in B) (map declaration_of ps) names c.args.free)) c.slice.ensures)
-    (c.in_ok-body.ensures.core ∙ ap (λ s. spread_in B (formula_of known.body) (names_in s) c.args.free) c.in_ok-cores.ensures.scope)
-    (c.in_ok-push.ensures.ok ∙ ap (λ k. c.in_ok-cores.cores ++ k ∷ []) c.into_inner.ensures)) c.conjunction.ensures
-
 pub default-returns-in-None-clause-core : goal.default-returns-in-None-clause-core
 default-returns-in-None-clause-core t c =
     let T = c.args.tables.now in
-    let nowhere = callee_nowhere T c.args.predicate c.in-None.ensures in
+    let nowhere = callee_nowhere T c.args.predicate c.in-None.ensures.none in
     IfOk-weaker c.restricted.result _ _ (λ core is. is ∙ (ap restrict c.in_ok-constant-in-None.ensures ∙ ap (λ b. renumbered (numbering_of T) (b c.args.variable (names_in c.args.scope.now) c.args.level.free)) (sym nowhere.default))) c.restricted.ensures
 
 pub default-returns-clause-core : goal.default-returns-clause-core
@@ -168,8 +109,8 @@ default-returns-clause-core t c =
     let same = c.before-before.ensures in
     let known = c.in-Some.known.now in
     let names = names_in c.args.scope.now in
-    default_lowered (numbering_of T) (numbering_of B) (callees_in T) _ (callees_in B) c.args.predicate (predicate_of known) c.args.variable names (names_in c.enter_named.new.scope) c.args.level.free (core_form_of c.in_ok-core.core)
-    (callee_at T c.args.predicate known c.in-Some.ensures) (before_same T B c.args.predicate same.predicates same.imports) (numbering_same T B same.kept same.globals same.imports)
+    default_lowered _ (numbering_of T) (numbering_of B) (callees_in T) _ (callees_in B) c.args.predicate (predicate_of known) c.args.variable names (names_in c.enter_named.new.scope) c.args.level.free (core_form_of c.in_ok-core.core)
+    (callee_at T c.args.predicate known c.in-Some.ensures.some.0) (before_same T B c.args.predicate same.callable same.predicates same.imports) (numbering_same T B same.kept same.globals same.predicates same.imports)
     (c.in_ok-enter_named.ensures.names
     ∙ (ap (λ l. all_named l names) c.slice-2.ensures
     ∙ (c.in_ok-named.ensures names

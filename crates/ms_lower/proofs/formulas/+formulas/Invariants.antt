@@ -1,7 +1,7 @@
 use Rattle.std.proofs.Common.{◌≡◌, ◌+◌, ◌*◌, drop, map, take}
 use Rattle.ms_logic.specs.CoreForm.{core_form_of}
-use Rattle.ms_logic.specs.Spread.{restrictions_of, spread_each, truth_values}
-use Rattle.ms_logic.specs.View.{arguments, declaration_of, formula_of, forms}
+use Rattle.ms_logic.specs.Spread.{spread_each, truth_values}
+use Rattle.ms_logic.specs.View.{arguments, formula_of, forms}
 use Rattle.ms_lower.specs.Callees.{callees_in}
 use Rattle.ms_lower.specs.Given.{EntersBefore, values_of, variables_of}
 use Rattle.ms_lower.specs.Numbering.{numbering_of, renumbered}
@@ -18,12 +18,6 @@ decreases-each l = 8 * l.depth + 1
 
 abbrev pub decreases-domain_of : goal.decreases-domain_of
 decreases-domain_of l = 8 * l.depth + 1
-
-abbrev pub decreases-restrictions : goal.decreases-restrictions
-decreases-restrictions l = 8 * l.depth + 1
-
-abbrev pub decreases-called : goal.decreases-called
-decreases-called l = 8 * l.depth + 2
 
 abbrev pub decreases-default : goal.decreases-default
 decreases-default l = 8 * l.level.depth + 1
@@ -42,14 +36,6 @@ invariant-each-loop-operand l = record {
   cores :
       map core_form_of l.cores
       ≡ map (renumbered (numbering_of l.tables)) (spread_each (callees_in l.tables) (forms (map formula_of (take l.operand-index l.operands))) (names_in l.initial.scope) l.free);
-  scope : l.scope ≡ l.initial.scope;
-}
-
-abbrev pub invariant-restrictions-loop-param : goal.invariant-restrictions-loop-param
-invariant-restrictions-loop-param l = record {
-  cores :
-      map core_form_of l.cores
-      ≡ map (renumbered (numbering_of l.tables)) (restrictions_of (callees_in l.tables) (map declaration_of (take l.param-index l.params)) (names_in l.initial.scope) l.free);
   scope : l.scope ≡ l.initial.scope;
 }
 

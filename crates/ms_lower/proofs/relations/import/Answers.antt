@@ -1,8 +1,7 @@
-use Rattle.std.proofs.Common.{slice_get, ap, ◌∙◌}
+use Rattle.std.proofs.Common.{ap, ◌∙◌}
 use Rattle.ms_logic.specs.CoreForm.{core_form_of, imported}
 use Rattle.ms_logic.proofs.Views.{core_form_of-Import}
 use Rattle.ms_lower.specs.Callees.{callees_in}
-use Rattle.ms_lower.specs.Numbering.{numbering_of, variables_of_use}
 use Rattle.ms_lower.specs.Scope.{names_in}
 use Rattle.ms_lower.proofs.Callees.{import_numbered, imported_in}
 use Rattle.ms_lower.proofs.relations.import.Goals as goal
@@ -13,4 +12,4 @@ returns c =
     let names = names_in c.args.scope.now in
     ap core_form_of c.in_ok-on_heap.ensures
     ∙ (core_form_of-Import c.args.import c.in_ok-numbers.numbers
-    ∙ ap (imported c.args.import) (c.in_ok-numbers.ensures ∙ import_numbered (numbering_of tables).number names c.pairs_of.result.now (variables_of_use (slice_get tables.imports.now c.args.import)) ((callees_in tables).imported c.args.import) c.pairs_of.ensures (imported_in tables c.args.import)))
+    ∙ ap (imported c.args.import) (c.in_ok-numbers.ensures ∙ import_numbered tables c.args.import names c.pairs_of.result.now ((callees_in tables).imported c.args.import) c.pairs_of.ensures (imported_in tables c.args.import)))

@@ -1,23 +1,42 @@
+use Rattle.std.proofs.Common.{sym, subst}
+use Rattle.ms_logic.specs.declared.checked.Checked.{Checked}
 use Rattle.ms_logic.specs.View.{problem_of}
-use Rattle.ms_solve.proofs.Graphs.{graph_here, lowered_here, some_answers}
+use Rattle.ms_dag.specs.Lowered.{IsLowered}
+use Rattle.ms_dag.specs.Share.{IsDagOf}
+use Rattle.ms_lower.specs.Callees.{IsTablesOf}
+use Rattle.ms_rules.specs.Numbers.{IsWellNumbered}
+use Rattle.ms_handover.proofs.CallLemmas.{silent_counted}
+use Rattle.ms_handover.specs.CallsOfSources.{silent_answers, source_calls}
+use Rattle.ms_solve.proofs.Graphs.{graph_here, lowered_there}
 use Rattle.ms_solve.proofs.graph.graph_of.Goals as goal
 
-pub share-requires : goal.share-requires
-share-requires c =
+pub share-requires-clause-ready : goal.share-requires-clause-ready
+share-requires-clause-ready c =
+    let calls = c.in-Ok.calls in
+    subst (λ (checked : Checked). IsTablesOf checked calls.tables × IsWellNumbered checked) (sym c.in-Ok.ensures.checked) (c.in-Ok.ensures.tables, c.requires.numbered)
+
+pub share-requires-clause-lowered : goal.share-requires-clause-lowered
+share-requires-clause-lowered c =
     let checked = c.args.checked.now in
+    let lowered = c.in_ok-lowered.lowered in
     let made = c.in_ok-lowered.ensures in
-    let some = some_answers checked.imports in (
-      (problem_of checked some.0).given.imports,
-      lowered_here checked c.requires.numbered c.requires.exports c.in_ok-lowered.lowered made.measure made.roots made.orders made.bound_orders some.0 some.1,
+    let imports = (problem_of checked (silent_answers checked)).given.imports in (
+      imports,
+      subst (λ (own : Checked). IsLowered imports (source_calls own) lowered) (sym c.in-Ok.ensures.checked)
+          (lowered_there checked c.requires.numbered c.requires.exports lowered made.measure made.roots made.orders (silent_answers checked) (silent_counted checked)),
     )
 
-pub returns-in-Ok-clause-graph : goal.returns-in-Ok-clause-graph
-returns-in-Ok-clause-graph c = λ answers long.
+pub returns-clause-graph : goal.returns-clause-graph
+returns-clause-graph c = λ answers long.
+    let checked = c.args.checked.now in
+    let lowered = c.in_ok-lowered.lowered in
     let made = c.in_ok-lowered.ensures in
-    graph_here c.args.checked.now c.requires.numbered c.requires.exports c.in_ok-lowered.lowered made.measure made.roots made.orders made.bound_orders answers long c.in-Ok.dag c.in-Ok.ensures
+    let dag = c.in-Ok-share.dag in
+    graph_here checked c.requires.numbered c.requires.exports lowered made.measure made.roots made.orders answers long dag
+    (subst (λ (own : Checked). IsDagOf (source_calls own) lowered dag) c.in-Ok.ensures.checked c.in-Ok-share.ensures)
 
-pub returns-in-Ok-clause-size : goal.returns-in-Ok-clause-size
-returns-in-Ok-clause-size c = λ answers. (c.in_ok-lowered.ensures.measure answers).size_is
+pub returns-clause-size : goal.returns-clause-size
+returns-clause-size c = λ answers. (c.in_ok-lowered.ensures.measure answers).size_is
 
-pub returns-in-Ok-clause-depth : goal.returns-in-Ok-clause-depth
-returns-in-Ok-clause-depth c = λ answers. (c.in_ok-lowered.ensures.measure answers).depth_is
+pub returns-clause-depth : goal.returns-clause-depth
+returns-clause-depth c = λ answers. (c.in_ok-lowered.ensures.measure answers).depth_is

@@ -2,8 +2,8 @@ use Rattle.std.proofs.Common.{inl, map, length, sym, ap, subst, ◌∙◌, arith
 use Rattle.std.specs.Option.{option_map}
 use Rattle.std.proofs.lemmas.Option.{slice_get-map, slice_get_within}
 use Rattle.ms_dag.specs.declared.node.Child.{Child}
-use Rattle.ms_build.specs.Built.{IsReadAt, entries_of, roots_of}
-use Rattle.ms_build.specs.Roots.{AreRootVariables, IsOverRoot}
+use Rattle.ms_build.specs.Built.{entries_of, roots_of}
+use Rattle.ms_build.specs.Roots.{AreRootVariables, IsOverRoot, IsReadInSource}
 use Rattle.ms_build.proofs.PlaceLemmas.{contains_at}
 use Rattle.ms_build.proofs.RootLemmas.{root_at, root_by}
 use Rattle.ms_build.proofs.built.Built.root.Goals as goal
@@ -12,13 +12,13 @@ pub over_variables-requires-clause-read : goal.over_variables-requires-clause-re
 over_variables-requires-clause-read c =
     let plan = c.args.self.now.plan in
     let root = root_at plan.dag.now.roots c.args.r c.root-child.result.now c.variables-variables.result.now c.root-child.ensures c.variables-variables.ensures in
-    subst (IsReadAt (entries_of plan) plan.dag.now.orders) root.2 (c.requires.read c.args.r root.0 root.1).0
+    subst (IsReadInSource (entries_of plan) plan.dag.now.orders) root.2 (c.requires.read c.args.r root.0 root.1).0
 
 pub over_variables-requires-clause-there : goal.over_variables-requires-clause-there
 over_variables-requires-clause-there c =
     let plan = c.args.self.now.plan in
     let root = root_at plan.dag.now.roots c.args.r c.root-child.result.now c.variables-variables.result.now c.root-child.ensures c.variables-variables.ensures in
-    let read = subst (IsReadAt (entries_of plan) plan.dag.now.orders) root.2 (c.requires.read c.args.r root.0 root.1).0 in
+    let read = subst (IsReadInSource (entries_of plan) plan.dag.now.orders) root.2 (c.requires.read c.args.r root.0 root.1).0 in
     let less = slice_get_within (entries_of plan) c.root-child.result.now.node read.0 read.1 in
     let all = c.requires.all in
     let same = ap length c.slice.ensures in (
@@ -31,8 +31,8 @@ pub over_variables-requires-clause-variables : goal.over_variables-requires-clau
 over_variables-requires-clause-variables c =
     let plan = c.args.self.now.plan in
     let root = root_at plan.dag.now.roots c.args.r c.root-child.result.now c.variables-variables.result.now c.root-child.ensures c.variables-variables.ensures in
-    subst (λ variables. AreRootVariables plan.dag.now.orders c.root-child.result.now variables) root.3
-    (subst (λ child. AreRootVariables plan.dag.now.orders child root.0.variables) root.2 (c.requires.read c.args.r root.0 root.1).1)
+    subst (λ variables. AreRootVariables c.root-child.result.now variables) root.3
+    (subst (λ child. AreRootVariables child root.0.variables) root.2 (c.requires.read c.args.r root.0 root.1).1)
 
 pub returns : goal.returns
 returns c =

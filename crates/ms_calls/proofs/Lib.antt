@@ -1,0 +1,10 @@
+pub mod FilledCalls
+pub mod FilledForms
+pub mod FilledPredicates
+pub mod FilledSources
+pub mod FilledTerms
+pub mod FormNames
+pub mod PredicateNames
+pub mod Renumbering
+pub mod Sources
+pub mod TermNames
