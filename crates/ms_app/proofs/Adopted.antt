@@ -1,25 +1,25 @@
 -- The automata that imports have become are lent to a source, and give the answers of its imports.
 use Rattle.std.proofs.Common.{◌≡◌, ℕ, ◌+◌, List, [], ◌∷◌, map, refl, sym, ap, subst, ◌∙◌}
-use Rattle.ms_adopt.specs.Import.{adopted_meaning, answer_of_file}
-use Rattle.ms_adopt.specs.Laws as law
-use Rattle.ms_adopt.proofs.LawLemmas.{answers_as_file}
+use Rattle.ms_dfafile_adopt.specs.Import.{adopted_meaning, answer_of_file}
+use Rattle.ms_dfafile_adopt.specs.Laws as law
+use Rattle.ms_dfafile_adopt.proofs.LawLemmas.{answers_as_file}
 use Rattle.ms_build.specs.Built.{answer_for}
 use Rattle.ms_build.proofs.WholeLemmas.{rising-by_place}
 use Rattle.ms_dfa.specs.declared.plain.Plain.{Plain}
-use Rattle.ms_imports.specs.Adopted.{AreAdopted, IsAdopted}
-use Rattle.ms_imports.specs.Imports.{answers_by}
+use Rattle.ms_dfafile_imports.specs.Adopted.{AreAdopted, IsAdopted}
+use Rattle.ms_dfafile_imports.specs.Imports.{answers_by}
 use Rattle.ms_logic.specs.declared.assignment.Value.{Value}
 use Rattle.ms_logic.specs.declared.checked.ImportUse.{ImportUse}
 use Rattle.ms_logic.specs.declared.mode.Mode.{Mode}
 use Rattle.ms_logic.specs.declared.mode.Order.{Order}
-use Rattle.ms_logic.specs.declared.sign.Sign.{Sign}
-use Rattle.ms_logic.specs.declared.sign.Sign.TheVariants.{Yes, No, Undefined, Outside}
+use Rattle.ms_logic_words.specs.declared.sign.Sign.{Sign}
+use Rattle.ms_logic_words.specs.declared.sign.Sign.TheVariants.{Yes, No, Undefined, Outside}
 use Rattle.ms_logic.specs.Assignment.{Universe, AreValuesOf, Variable, IsUniverseOf}
-use Rattle.ms_logic.specs.Content.{Content, answer_of, variables_by_place, variables_from}
-use Rattle.ms_logic.specs.Roots.{AreRising}
+use Rattle.ms_logic_words.specs.Content.{Content, answer_of, variables_by_place, variables_from}
+use Rattle.ms_logic.specs.Lists.{AreRising}
 use Rattle.ms_logic.specs.Truth.{Answer}
-use Rattle.ms_solve.specs.Imported.{AreAnswersOf, AreLentFor, IsAnswerOf, orders_of_pairs}
-use Rattle.ms_theory.specs.Values.{HasValues}
+use Rattle.ms_build_source.specs.Imported.{AreAnswersOf, AreLentFor, IsAnswerOf, orders_of_pairs}
+use Rattle.ms_dfa.specs.Values.{HasValues}
 
 pub are_lent : (mode : Mode) (uses : List ImportUse) (plains : List Plain) (contents : List (Content Sign)) → AreAdopted mode uses plains contents → AreLentFor mode uses contents
 are_lent mode [] [] [] are = tt

@@ -1,22 +1,22 @@
 -- Two automata have canonical contents that are equal exactly where their main values agree.
 use Rattle.std.proofs.Common.{◌≡◌, ◌≢◌, ◌↔◌, Some, inl, inr, refl, sym, ap, subst, ◌∙◌}
 use Rattle.std.proofs.lemmas.Option.{same_Some}
-use Rattle.ms_edge.specs.declared.refusal.Word.{Word}
+use Rattle.ms_list.specs.declared.word.Word.{Word}
 use Rattle.ms_dfa.specs.declared.plain.FileSign.{FileSign}
-use Rattle.ms_logic.specs.declared.sign.Sign.{Sign}
-use Rattle.ms_logic.specs.declared.sign.Sign.TheVariants.{Yes, No, Undefined, Outside}
+use Rattle.ms_logic_words.specs.declared.sign.Sign.{Sign}
+use Rattle.ms_logic_words.specs.declared.sign.Sign.TheVariants.{Yes, No, Undefined, Outside}
 use Rattle.ms_logic.specs.Assignment.{Env, IsAssignment}
-use Rattle.ms_logic.specs.Content.{Content, IsWordOver, shortest_word, sign_of}
-use Rattle.ms_logic.specs.Roots.{AreRising}
+use Rattle.ms_logic_words.specs.Content.{Content, IsWordOver, shortest_word, sign_of}
+use Rattle.ms_logic.specs.Lists.{AreRising}
 use Rattle.ms_logic.specs.Verdict.{Problem, Agree, MainYes, MainNo, variables_of}
-use Rattle.ms_logic.specs.Word.{Encodes, IsEncoding}
-use Rattle.ms_logic.proofs.WordLaws.{length_is_least}
-use Rattle.ms_canonical.specs.Files.{file_sign}
+use Rattle.ms_logic_words.specs.Word.{Encodes, IsEncoding}
+use Rattle.ms_logic_words.proofs.WordLaws.{length_is_least}
+use Rattle.ms_dfa.specs.Files.{file_sign}
 use Rattle.ms_minim.specs.Residual.{HaveEqualSigns}
-use Rattle.ms_canonical.proofs.EqualityLemmas.{canonical_equal}
-use Rattle.ms_theory.specs.Values.{main_meaning}
-use Rattle.ms_theory.proofs.EncodingLemmas.{encoding_or_not}
-use Rattle.ms_theory.proofs.ValuesLemmas.{IsMeaning-main}
+use Rattle.ms_minim_canonical.proofs.EqualityLemmas.{canonical_equal}
+use Rattle.ms_dfa.specs.Values.{main_meaning}
+use Rattle.ms_dfa.proofs.EncodingLemmas.{encoding_or_not}
+use Rattle.ms_dfa.proofs.ValuesLemmas.{IsMeaning-main}
 use Rattle.ms_app.specs.Counts.{IsCanonicalOf}
 
 -- signs that are not Outside and are one sign in a file are one

@@ -3,9 +3,9 @@ use Rattle.std.proofs.Common.{ℕ, List, Option, Some, None, inl, refl, true, fa
 use Rattle.ms_edge.specs.Files.{Seen}
 use Rattle.ms_edge.specs.declared.refusal.Refusal.TheVariants.{Memory}
 use Rattle.ms_build.specs.Built.{IsLimit}
-use Rattle.ms_words.specs.Command.{HasLimit, IsCommand}
-use Rattle.ms_words.specs.declared.command.Command.{Command}
-use Rattle.ms_words.specs.declared.command.Command.TheVariants.{Decide, Same, Gen}
+use Rattle.ms_app_words.specs.Command.{HasLimit, IsCommand}
+use Rattle.ms_app_words.specs.declared.command.Command.{Command}
+use Rattle.ms_app_words.specs.declared.command.Command.TheVariants.{Decide, Same, Gen}
 use Rattle.ms_app.specs.Answer.{IsLimited, IsRefusedFor}
 use Rattle.ms_app.specs.Comparison as comparisons
 use Rattle.ms_app.specs.Source as sources

@@ -7,10 +7,10 @@ use Rattle.ms_logic.specs.declared.checked.Checked.{Checked}
 use Rattle.ms_logic.specs.declared.checked.Global.{Global}
 use Rattle.ms_logic.specs.declared.mode.Order.{Order}
 use Rattle.ms_logic.specs.declared.source.Loaded.{Loaded}
-use Rattle.ms_rules.specs.TypedSource.{IsTyped, TypedGlobal, global_of}
-use Rattle.ms_loads.specs.Told.{TellSame}
-use Rattle.ms_loads.proofs.Loads.{one_load}
-use Rattle.ms_loads.proofs.Typing.{one_globals}
+use Rattle.ms_names_rules.specs.TypedSource.{IsTyped, TypedGlobal, global_of}
+use Rattle.ms_include_laws.specs.Told.{TellSame}
+use Rattle.ms_include_laws.proofs.of_loads.Loads.{one_load}
+use Rattle.ms_include_laws.proofs.of_loads.Typing.{one_globals}
 use Rattle.ms_app.specs.Comparison as comparisons
 use Rattle.ms_app.specs.Comparison.{AreParts, AreSolved, HaveSameGlobals, IsRefusedComparison, Taken}
 use Rattle.ms_app.specs.Source.{IsRefused, IsSolved, file_of}

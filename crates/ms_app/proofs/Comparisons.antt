@@ -4,10 +4,10 @@ use Rattle.ms_dfa.specs.declared.plain.Plain.{Plain}
 use Rattle.ms_edge.specs.Files.{FilesTold, OnlyRead, Seen, between}
 use Rattle.ms_edge.specs.declared.refusal.Refusal.{Refusal}
 use Rattle.ms_edge.specs.declared.refusal.Refusal.TheVariants.{Memory, Nodes}
-use Rattle.ms_imports.specs.Imports.{answers_by}
+use Rattle.ms_dfafile_imports.specs.Imports.{answers_by}
 use Rattle.ms_logic.specs.declared.checked.Checked.{Checked}
 use Rattle.ms_logic.specs.declared.source.Loaded.{Loaded}
-use Rattle.ms_solve.specs.Limits.{IsUnsolved}
+use Rattle.ms_build_source.specs.Limits.{IsUnsolved}
 use Rattle.ms_app.specs.Comparison.{AreParts, AreSolved, HaveSameGlobals, IsRefusedComparison, Taken, lacks_nodes, left_refused, no_memory, right_refused}
 use Rattle.ms_app.specs.Source as sources
 use Rattle.ms_app.specs.Source.{IsRefused, IsSolved, IsTaken, Origin, file_of, unsolved}

@@ -8,14 +8,14 @@ use Rattle.ms_edge.specs.declared.refusal.Refusal.TheVariants.{Memory}
 use Rattle.ms_edge.specs.declared.refusal.Status.{Status}
 use Rattle.ms_edge.specs.declared.refusal.Status.TheVariants.{NoMemory}
 use Rattle.ms_report.specs.Line.{line_of}
-use Rattle.ms_words.specs.declared.command.Command.{Command}
-use Rattle.ms_words.specs.declared.command.Command.TheVariants.{Decide, Same, Gen}
+use Rattle.ms_app_words.specs.declared.command.Command.{Command}
+use Rattle.ms_app_words.specs.declared.command.Command.TheVariants.{Decide, Same, Gen}
 use Rattle.ms_app.specs.Answer as answers
 use Rattle.ms_app.specs.Answer.{Answer, IsAnswered, IsAnsweredFor, IsRefusedFor, IsUnwritten, Prints, answer_of, status_of}
 use Rattle.ms_app.specs.Completeness.{CanBeDone, IsComplete, LackedNodes, NothingFailed, WasDone, limit_of}
 use Rattle.ms_app.specs.Source.{file_of}
 use Rattle.ms_app.proofs.Compared.{comparable, rose_within}
-use Rattle.ms_words.proofs.OneCommand.{one_command}
+use Rattle.ms_app_words.proofs.OneCommand.{one_command}
 use Rattle.ms_app.proofs.Solvable.{IsWant, files_settle, solvable}
 
 -- what can be done is refused for want of memory or nodes alone

@@ -1,18 +1,18 @@
 -- The canonical content of an automaton with a main value gives that value.
 use Rattle.std.proofs.Common.{◌≡◌, ℕ, List, [], ◌∷◌, map, take, drop, slice_get, refl, sym, ap, ap₂, subst, ◌∙◌}
 use Rattle.std.proofs.lemmas.Option.{none-some, same_Some}
-use Rattle.ms_canonical.specs.Files.{content_of_file, file_states_of}
-use Rattle.ms_canonical.proofs.OrdersLemmas.{orders_of}
+use Rattle.ms_dfa.specs.Files.{content_of_file, file_states_of}
+use Rattle.ms_dfa.proofs.OrdersLemmas.{orders_of}
 use Rattle.ms_dfa.specs.declared.plain.FileState.{FileState}
 use Rattle.ms_dfa.specs.declared.plain.Plain.{Plain}
-use Rattle.ms_logic.specs.declared.sign.Sign.{Sign}
+use Rattle.ms_logic_words.specs.declared.sign.Sign.{Sign}
 use Rattle.ms_logic.specs.Assignment.{Variable}
-use Rattle.ms_logic.specs.Content.{Content, variables_by_place}
+use Rattle.ms_logic_words.specs.Content.{Content, variables_by_place}
 use Rattle.ms_logic.specs.Verdict.{Problem, variables_of}
-use Rattle.ms_solve.specs.Copies.{IsCanonicalCopy}
-use Rattle.ms_solve.specs.Values.{GivesValue, HasMainValue, IsFileOf, IsMainFile, content_over}
-use Rattle.ms_solve.proofs.FileValues.{file_of}
-use Rattle.ms_theory.specs.Values.{HasValues, main_meaning}
+use Rattle.ms_build_source.specs.inner.Copies.{IsCanonicalCopy}
+use Rattle.ms_build_source.specs.Values.{GivesValue, HasMainValue, IsFileOf, IsMainFile, content_over}
+use Rattle.ms_build_source.proofs.FileValues.{file_of}
+use Rattle.ms_dfa.specs.Values.{HasValues, main_meaning}
 use Rattle.ms_app.specs.Counts.{IsCanonicalOf}
 
 module _ (problem : Problem) (content : Content Sign) (value : HasMainValue problem content)

@@ -1,32 +1,32 @@
 -- A source that was taken, with the automata of its imports, is decided or not solved.
 use Rattle.std.proofs.Common.{◌≡◌, ◌⊎◌, ℕ, Bool, true, List, [], ◌++◌, length, map, All, Option, sym, subst}
-use Rattle.ms_checked.specs.Names.{AreDifferent}
-use Rattle.ms_checked.specs.Spellings.{IsName}
+use Rattle.ms_names_checked.specs.Names.{AreDifferent}
+use Rattle.ms_names_checked.specs.Spellings.{IsName}
 use Rattle.ms_dfa.specs.declared.plain.Plain.{Plain}
 use Rattle.ms_edge.specs.Files.{Seen}
 use Rattle.ms_edge.specs.declared.refusal.Refusal.{Refusal}
 use Rattle.ms_edge.specs.declared.refusal.Refusal.TheVariants.{Memory}
-use Rattle.ms_handover.proofs.SharedRoots.{each_all}
-use Rattle.ms_imports.specs.Adopted.{AreAdopted}
-use Rattle.ms_imports.specs.Imports.{answers_by}
+use Rattle.ms_build_source.proofs.SharedRoots.{each_all}
+use Rattle.ms_dfafile_imports.specs.Adopted.{AreAdopted}
+use Rattle.ms_dfafile_imports.specs.Imports.{answers_by}
 use Rattle.ms_logic.specs.declared.checked.Checked.{Checked}
 use Rattle.ms_logic.specs.declared.checked.Global.{Global}
-use Rattle.ms_logic.specs.declared.sign.Sign.{Sign}
+use Rattle.ms_logic_words.specs.declared.sign.Sign.{Sign}
 use Rattle.ms_logic.specs.declared.source.Loaded.{Loaded}
-use Rattle.ms_logic.specs.Content.{Content}
+use Rattle.ms_logic_words.specs.Content.{Content}
 use Rattle.ms_logic.specs.View.{problem_of}
 use Rattle.ms_lower.specs.Measure.{Answers}
 use Rattle.ms_report.specs.declared.found.Found.{Found}
-use Rattle.ms_rules.specs.Numbers.{Each}
-use Rattle.ms_solve.specs.Imported.{AreAnswersOf, AreLentFor}
-use Rattle.ms_solve.specs.Limits.{IsUnsolved, IsWithinLimits}
-use Rattle.ms_solve.specs.Solution.{HasExports, IsSmall, IsSolution}
-use Rattle.ms_solve.specs.declared.solution.Solution.{Solution}
-use Rattle.ms_solve.proofs.Solved.{answers_counted, are_own_answers, own_answers}
+use Rattle.ms_logic.specs.Lists.{Each}
+use Rattle.ms_build_source.specs.Imported.{AreAnswersOf, AreLentFor}
+use Rattle.ms_build_source.specs.Limits.{IsUnsolved, IsWithinLimits}
+use Rattle.ms_build_source.specs.Solution.{HasExports, IsSmall, IsSolution}
+use Rattle.ms_build_source.specs.declared.solution.Solution.{Solution}
+use Rattle.ms_build_source.proofs.Solved.{answers_counted, are_own_answers, own_answers}
 use Rattle.ms_app.specs.Counts.{HasStats}
 use Rattle.ms_app.specs.Decision.{IsDecided, IsFound}
-use Rattle.ms_app.specs.Files.{AreNames, AreWritable, HaveOwnNames}
-use Rattle.ms_app.specs.Right.{IsRight}
+use Rattle.ms_app.specs.inner.Files.{AreNames, AreWritable, HaveOwnNames}
+use Rattle.ms_app.specs.inner.Right.{IsRight}
 use Rattle.ms_app.specs.Source.{IsRefused, IsSolved, IsTaken, Origin, file_of, problem_with}
 use Rattle.ms_app.specs.Written.{AreFilesOf, File}
 use Rattle.ms_app.proofs.Adopted.{are_answers}

@@ -4,13 +4,13 @@ use Rattle.std.proofs.lemmas.Option.{same_Some}
 use Rattle.std.proofs.lemmas.Slice.Eq.{bytes_eq-Decides}
 use Rattle.std.specs.Str.{bytes_eq}
 use Rattle.ms_app.specs.Answer.{IsDelivered}
-use Rattle.ms_app.specs.CompletenessExamples.{empty_files, no_files, still}
-use Rattle.ms_app.specs.Examples.{nothing_held, one_held, two_files}
+use Rattle.ms_app.specs.inner.CompletenessExamples.{empty_files, no_files, still}
+use Rattle.ms_app.specs.inner.Examples.{nothing_held, one_held, two_files}
 use Rattle.ms_app.specs.Written.{AreHeld, AreHeldUpTo, File, KeepsAllBut}
 use Rattle.ms_app.proofs.Requests.{first_number, no_number}
 use Rattle.ms_edge.specs.Files.{Holding, between}
 use Rattle.ms_gen.specs.Generated.{generated}
-use Rattle.ms_words.specs.declared.command.Command.TheVariants.{Gen}
+use Rattle.ms_app_words.specs.declared.command.Command.TheVariants.{Gen}
 
 not_true : (b : Bool) → (b ≡ true → ⊥) → b ≡ false
 not_true true never = absurd (never refl)

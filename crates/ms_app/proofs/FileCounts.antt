@@ -1,7 +1,7 @@
 -- A source that is loaded has at most 64 files.
 use Rattle.std.proofs.Common.{◌≡◌, ℕ, zero, suc, ◌+◌, ◌≤◌, inl, inr, List, [], ◌∷◌, ◌++◌, length, Option, Some, None, ap, length-append, arith}
 use Rattle.ms_edge.specs.Files.{Seen}
-use Rattle.ms_edge.specs.declared.at.At.{At}
+use Rattle.ms_list.specs.declared.at.At.{At}
 use Rattle.ms_logic.specs.declared.source.Item.{Item}
 use Rattle.ms_logic.specs.declared.source.Loaded.{Loaded}
 use Rattle.ms_include.specs.declared.begun.Begun.{Begun}

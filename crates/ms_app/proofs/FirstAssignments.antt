@@ -3,23 +3,24 @@ use Rattle.std.proofs.Common.{◌≡◌, ◌≢◌, ℕ, ◌<◌, Bool, ◌⊎�
 use Rattle.std.specs.List.{flat_map}
 use Rattle.std.proofs.lemmas.Bool.{cases_eq}
 use Rattle.std.proofs.lemmas.Option.{same_Some}
-use Rattle.ms_edge.specs.declared.refusal.Word.{Word}
+use Rattle.ms_list.specs.declared.word.Word.{Word}
 use Rattle.ms_logic.specs.declared.assignment.Assignment.{Assignment}
-use Rattle.ms_logic.specs.declared.sign.Sign.{Sign}
-use Rattle.ms_logic.specs.declared.sign.Sign.TheVariants.{Yes, No, Outside}
+use Rattle.ms_logic_words.specs.declared.sign.Sign.{Sign}
+use Rattle.ms_logic_words.specs.declared.sign.Sign.TheVariants.{Yes, No, Outside}
 use Rattle.ms_logic.specs.Assignment.{Env, Variable, IsAssignment}
-use Rattle.ms_logic.specs.Content.{Content, sign_of, shortest_word}
+use Rattle.ms_logic_words.specs.Content.{Content, sign_of, shortest_word}
 use Rattle.ms_logic.specs.FiniteSet.{numbers_below}
 use Rattle.ms_logic.specs.First.{length_of, bits_of, IsLower, IsBefore, IsFirst, assignment_of}
 use Rattle.ms_logic.specs.Verdict.{Problem, variables_of, Assigns}
-use Rattle.ms_logic.specs.Word.{Encodes, IsEncoding, truth_values_of, letter_at}
-use Rattle.ms_logic.proofs.WordLaws.{encoding_is_over, length_is_least}
+use Rattle.ms_logic_words.specs.Word.{Encodes, IsEncoding}
+use Rattle.ms_logic.specs.Letters.{truth_values_of, letter_at}
+use Rattle.ms_logic_words.proofs.WordLaws.{encoding_is_over, length_is_least}
 use Rattle.ms_dfa.specs.Automaton.{IsAutomaton}
-use Rattle.ms_theory.specs.Values.{Meaning, IsMeaning, HasValues, main_meaning}
-use Rattle.ms_theory.proofs.ValuesLemmas.{IsMeaning-main, sign_if_right, right_if_sign}
+use Rattle.ms_dfa.specs.Values.{Meaning, IsMeaning, HasValues, main_meaning}
+use Rattle.ms_dfa.proofs.ValuesLemmas.{IsMeaning-main, sign_if_right, right_if_sign}
 use Rattle.ms_best.specs.FirstWord.{bits_of_word, IsFirstWord, NoWordHas}
 use Rattle.ms_app.specs.Decision.{ShowsFirst}
-use Rattle.ms_solve.specs.Values.{HasMainValue}
+use Rattle.ms_build_source.specs.Values.{HasMainValue}
 
 -- letters one after the other are their bits
 flat_letters : (g : ℕ → List Bool) (ns : List ℕ) → flat_map (λ (letter : List Bool). letter) (map g ns) ≡ flat_map g ns

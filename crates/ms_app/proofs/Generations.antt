@@ -1,29 +1,29 @@
 -- What comes of a generated source.
 use Rattle.std.proofs.Common.{◌≡◌, ◌⊎◌, inl, inr, ℕ, true, List, [], ◌∷◌, ◌++◌, length, map, None, refl, sym, ap, subst, ◌∙◌}
-use Rattle.ms_imports.specs.Imports.{answers_by}
+use Rattle.ms_dfafile_imports.specs.Imports.{answers_by}
 use Rattle.ms_include.specs.Load.{IsLoadedText}
 use Rattle.ms_dfa.specs.declared.plain.Plain.{Plain}
 use Rattle.ms_edge.specs.declared.refusal.Refusal.{Refusal}
 use Rattle.ms_edge.specs.declared.refusal.Refusal.TheVariants.{Memory, Nodes}
-use Rattle.ms_accepted.proofs.Accepting.{sources-are-accepted}
-use Rattle.ms_accepted.proofs.EachLoad.{sources-are-valid}
+use Rattle.ms_gen.proofs.Accepting.{sources-are-accepted}
+use Rattle.ms_gen.proofs.EachLoad.{sources-are-valid}
 use Rattle.ms_gen.specs.Generated.{IsNumber, generated}
 use Rattle.ms_logic.specs.declared.checked.ImportUse.{ImportUse}
-use Rattle.ms_logic.specs.declared.sign.Sign.{Sign}
-use Rattle.ms_logic.specs.Content.{Content}
+use Rattle.ms_logic_words.specs.declared.sign.Sign.{Sign}
+use Rattle.ms_logic_words.specs.Content.{Content}
 use Rattle.ms_logic.specs.Verdict.{IsValid, Problem}
 use Rattle.ms_logic.specs.View.{problem_of}
 use Rattle.ms_logic.specs.declared.checked.ExportUse.{ExportUse}
 use Rattle.ms_logic.specs.declared.checked.Checked.{Checked}
 use Rattle.ms_logic.specs.declared.source.Loaded.{Loaded}
 use Rattle.ms_report.specs.declared.found.Found.{Found}
-use Rattle.ms_solve.specs.Imported.{AreAnswersOf, AreLentFor}
-use Rattle.ms_solve.specs.Limits.{IsUnsolved, IsWithinLimits}
-use Rattle.ms_words.specs.Command.{node_limit}
+use Rattle.ms_build_source.specs.Imported.{AreAnswersOf, AreLentFor}
+use Rattle.ms_build_source.specs.Limits.{IsUnsolved, IsWithinLimits}
+use Rattle.ms_app_words.specs.Command.{node_limit}
 use Rattle.ms_app.specs.Answer.{IsNoNumber, generated_name}
 use Rattle.ms_app.specs.Counts.{HasStats}
 use Rattle.ms_app.specs.Decision.{IsDecided, IsFound}
-use Rattle.ms_app.specs.Laws.{GeneratedSourcesAreFoundValid}
+use Rattle.ms_app.specs.inner.Laws.{GeneratedSourcesAreFoundValid}
 use Rattle.ms_app.specs.Source.{IsAccepted, IsRefused, IsSolved, IsTaken, IsUnaccepted, problem_with, text_of, unaccepted, unsolved}
 use Rattle.ms_app.specs.Written.{AreFilesFrom, AreFilesOf, File}
 use Rattle.ms_app.proofs.Solvable.{solvable, texts_settle}

@@ -4,11 +4,11 @@ use Rattle.std.specs.Option.{option_map}
 use Rattle.std.proofs.lemmas.Option.{none-some, same_Some}
 use Rattle.ms_logic.specs.declared.checked.Checked.{Checked}
 use Rattle.ms_logic.specs.declared.checked.Global.{Global}
-use Rattle.ms_logic.specs.Content.{variables_from}
+use Rattle.ms_logic_words.specs.Content.{variables_from}
 use Rattle.ms_logic.specs.Verdict.{variables_of}
 use Rattle.ms_logic.specs.View.{problem_of}
 use Rattle.ms_lower.specs.Measure.{Answers}
-use Rattle.ms_solve.proofs.GlobalLemmas.{globals_by_place}
+use Rattle.ms_build_source.proofs.GlobalLemmas.{globals_by_place}
 use Rattle.ms_app.specs.Comparison.{HaveSameGlobals}
 
 abbrev pub IsSame : Global → Global → Type 0

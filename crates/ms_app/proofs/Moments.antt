@@ -2,10 +2,10 @@
 use Rattle.std.proofs.Common.{ℕ, zero, suc, inl, inr, ⊎_elim, List, [], ◌∷◌, ◌++◌, take, Option, Some, None, subst}
 use Rattle.ms_dfa.specs.declared.plain.Plain.{Plain}
 use Rattle.ms_edge.specs.Files.{FilesTold, HoldsMoreThan, Lacks, OnlyRead, between}
-use Rattle.ms_edge.specs.declared.at.At.{At}
+use Rattle.ms_list.specs.declared.at.At.{At}
 use Rattle.ms_edge.specs.declared.refusal.Refusal.{Refusal}
 use Rattle.ms_edge.specs.declared.refusal.Refusal.TheVariants.{FileSize, ImportMissing, ReadFault}
-use Rattle.ms_imports.specs.Imports.{AreImported, IsMisfit, IsNoAutomaton, IsUnimported, IsUnread, automaton_limit}
+use Rattle.ms_dfafile_imports.specs.Imports.{AreImported, IsMisfit, IsNoAutomaton, IsUnimported, IsUnread, automaton_limit}
 use Rattle.ms_include.specs.Include.{AllBecome, Becomes, Loading, Loads, and_next, include_of, greatest_depth}
 use Rattle.ms_include.specs.declared.begun.Begun.{Begun}
 use Rattle.ms_include.specs.Load.{IsLoaded, files_of}

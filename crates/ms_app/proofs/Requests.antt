@@ -8,7 +8,7 @@ use Rattle.ms_gen.specs.Generated.{IsNumber}
 use Rattle.ms_logic.specs.declared.source.Source.{Source}
 use Rattle.ms_include.specs.File.{ReadAs}
 use Rattle.ms_app.specs.Completeness.{CanBeSolved, NothingFailed}
-use Rattle.ms_app.specs.CompletenessExamples.{empty_files, no_files, nothing_checked, nothing_loaded, silent_files, sink_after, still}
+use Rattle.ms_app.specs.inner.CompletenessExamples.{empty_files, no_files, nothing_checked, nothing_loaded, silent_files, sink_after, still}
 use Rattle.ms_app.specs.Source.{file_of}
 
 abbrev nothing : Source

@@ -6,8 +6,8 @@ use Rattle.ms_edge.specs.Counts.{Rose}
 use Rattle.ms_edge.specs.Files.{Seen}
 use Rattle.ms_edge.specs.declared.refusal.Refusal.{Refusal}
 use Rattle.ms_edge.specs.declared.refusal.Refusal.TheVariants.{Memory, Nodes}
-use Rattle.ms_imports.specs.Imports.{AreImported, answers_by}
-use Rattle.ms_imports.proofs.Told.{imported-once, imported-refused}
+use Rattle.ms_dfafile_imports.specs.Imports.{AreImported, answers_by}
+use Rattle.ms_dfafile_imports.proofs.Told.{imported-once, imported-refused}
 use Rattle.ms_logic.specs.declared.checked.Checked.{Checked}
 use Rattle.ms_logic.specs.declared.checked.ExportUse.{ExportUse}
 use Rattle.ms_logic.specs.declared.checked.ImportUse.{ImportUse}
@@ -15,14 +15,14 @@ use Rattle.ms_logic.specs.declared.mode.Mode.{Mode}
 use Rattle.ms_logic.specs.declared.source.Loaded.{Loaded}
 use Rattle.ms_logic.specs.View.{problem_of}
 use Rattle.ms_lower.specs.Measure.{Answers}
-use Rattle.ms_rules.specs.Checking.{IsFirstFault}
-use Rattle.ms_rules.specs.TypedSource.{IsTyped}
-use Rattle.ms_loads.specs.Told.{IsFromOutside, TellSame}
-use Rattle.ms_loads.proofs.Loads.{load_or_refused, one_load, one_text, text_or_refused}
-use Rattle.ms_loads.proofs.Typing.{one_problem}
-use Rattle.ms_loads.proofs.Verdicts.{no_first_fault, not_too_deep, not_too_large}
-use Rattle.ms_solve.specs.Limits as limits
-use Rattle.ms_solve.specs.Limits.{IsTooLarge, IsUnsolved, IsWithinLimits}
+use Rattle.ms_names_rules.specs.Checking.{IsFirstFault}
+use Rattle.ms_names_rules.specs.TypedSource.{IsTyped}
+use Rattle.ms_include_laws.specs.Told.{IsFromOutside, TellSame}
+use Rattle.ms_include_laws.proofs.of_loads.Loads.{load_or_refused, one_load, one_text, text_or_refused}
+use Rattle.ms_include_laws.proofs.of_loads.Typing.{one_problem}
+use Rattle.ms_include_laws.proofs.of_loads.Verdicts.{no_first_fault, not_too_deep, not_too_large}
+use Rattle.ms_build_source.specs.Limits as limits
+use Rattle.ms_build_source.specs.Limits.{IsTooLarge, IsUnsolved, IsWithinLimits}
 use Rattle.ms_app.specs.Source as sources
 use Rattle.ms_app.specs.Source.{IsAccepted, IsOutFree, IsOutTaken, IsRefused, IsSolved, IsTaken, IsUnaccepted, Origin, file_of, problem_with, text_of}
 

@@ -6,10 +6,10 @@ use Rattle.ms_edge.specs.declared.refusal.Refusal.TheVariants.{Memory}
 use Rattle.ms_include.specs.Load.{files_of, IsLoaded, IsLoadedText, IsRefusedLoad, IsRefusedText}
 use Rattle.ms_logic.specs.declared.checked.Checked.{Checked}
 use Rattle.ms_logic.specs.declared.source.Loaded.{Loaded}
-use Rattle.ms_rules.specs.Checking.{IsFirstFault}
-use Rattle.ms_rules.specs.Declarations.{first_fault_of}
-use Rattle.ms_rules.specs.TypedSource.{IsTyped}
-use Rattle.ms_rules.specs.View.{placed_of}
+use Rattle.ms_names_rules.specs.Checking.{IsFirstFault}
+use Rattle.ms_names_rules.specs.Declarations.{first_fault_of}
+use Rattle.ms_names_rules.specs.TypedSource.{IsTyped}
+use Rattle.ms_names_rules.specs.View.{placed_of}
 use Rattle.ms_app.specs.Source.{IsAccepted, IsUnaccepted, Origin, file_of, text_of, not_loaded, faulty}
 
 pub wrong_refused : (origin : Origin) (loaded : Loaded) → origin.Loads loaded → (refusal : Refusal) → (refusal ≡ Memory) ⊎ IsFirstFault loaded refusal

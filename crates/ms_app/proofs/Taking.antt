@@ -4,7 +4,7 @@ use Rattle.ms_dfa.specs.declared.plain.Plain.{Plain}
 use Rattle.ms_edge.specs.Files.{FilesTold, OnlyRead, between}
 use Rattle.ms_edge.specs.declared.refusal.Refusal.{Refusal}
 use Rattle.ms_edge.specs.declared.refusal.Refusal.TheVariants.{Memory}
-use Rattle.ms_imports.specs.Imports.{AreImported, IsUnimported}
+use Rattle.ms_dfafile_imports.specs.Imports.{AreImported, IsUnimported}
 use Rattle.ms_logic.specs.declared.checked.Checked.{Checked}
 use Rattle.ms_logic.specs.declared.source.Loaded.{Loaded}
 use Rattle.ms_app.specs.Source.{IsAccepted, IsOutFree, IsOutTaken, IsRefused, IsTaken, IsUnaccepted, Origin, file_of, out_taken, unaccepted, unimported}

@@ -2,16 +2,16 @@
 use Rattle.std.proofs.Common.{◌≡◌, inl, inr, ⊎_elim, ℕ, zero, suc, true, false, List, [], ◌∷◌, ◌++◌, Contains, Option, None, Some, length, map, slice_get, sym, subst}
 use Rattle.std.proofs.lemmas.List.Elements.{All-contains}
 use Rattle.std.proofs.lemmas.Option.{none-some, same_Some}
-use Rattle.ms_adopt.specs.Import.{IsNotImportable}
+use Rattle.ms_dfafile_adopt.specs.Import.{IsNotImportable}
 use Rattle.ms_dfa.specs.declared.plain.Plain.{Plain}
 use Rattle.ms_edge.specs.Files.{Seen}
-use Rattle.ms_edge.specs.declared.at.At.{At}
+use Rattle.ms_list.specs.declared.at.At.{At}
 use Rattle.ms_edge.specs.declared.refusal.Refusal.{Refusal}
 use Rattle.ms_edge.specs.declared.refusal.Refusal.TheVariants.{Memory}
 use Rattle.ms_edge.specs.declared.refusal.Refusal.TheVariants as refusals
-use Rattle.ms_handover.proofs.SharedRoots.{each_all}
-use Rattle.ms_imports.specs.Imports.{IsNoAutomaton, IsUnimported, IsUnread, answers_by}
-use Rattle.ms_logic.specs.Size.{Extents, extents_of}
+use Rattle.ms_build_source.proofs.SharedRoots.{each_all}
+use Rattle.ms_dfafile_imports.specs.Imports.{IsNoAutomaton, IsUnimported, IsUnread, answers_by}
+use Rattle.ms_logic_core.specs.Size.{Extents, extents_of}
 use Rattle.ms_logic.specs.View.{predicate_of}
 use Rattle.ms_logic.specs.declared.checked.Checked.{Checked}
 use Rattle.ms_logic.specs.declared.checked.ExportUse.{ExportUse}
@@ -22,20 +22,20 @@ use Rattle.ms_logic.specs.declared.source.Loaded.{Loaded}
 use Rattle.ms_logic.specs.declared.mode.Mode.{Mode}
 use Rattle.ms_lower.specs.Measure.{Answers, IsDepthRefusal}
 use Rattle.ms_lower.specs.TooDeep.{HasTooDeep, Part, part_of_formula, part_of_global, parts_of}
-use Rattle.ms_places.specs.Places.{HasPlacesInFiles, IsAmongFiles, IsToldOver, KeepsPlacesInFiles}
-use Rattle.ms_places.proofs.FirstFaults.{first-faults}
-use Rattle.ms_places.proofs.Loads.{loaded-sources, loaded-texts, refused-loads, refused-texts}
-use Rattle.ms_places.proofs.Refused.{IsToldAt, told-over}
-use Rattle.ms_places.proofs.TypedSources.{typed-sources}
-use Rattle.ms_rules.specs.Numbers.{Each}
-use Rattle.ms_rules.proofs.Fitting.{each-append}
-use Rattle.ms_words.specs.declared.command.Command.{Command}
-use Rattle.ms_words.specs.declared.command.Command.TheVariants.{Decide, Same, Gen}
+use Rattle.ms_include_laws.specs.inner.places.Places.{HasPlacesInFiles, IsAmongFiles, IsToldOver, KeepsPlacesInFiles}
+use Rattle.ms_include_laws.proofs.of_places.FirstFaults.{first-faults}
+use Rattle.ms_include_laws.proofs.of_places.Loads.{loaded-sources, loaded-texts, refused-loads, refused-texts}
+use Rattle.ms_include_laws.proofs.of_places.Refused.{IsToldAt, told-over}
+use Rattle.ms_include_laws.proofs.of_places.TypedSources.{typed-sources}
+use Rattle.ms_logic.specs.Lists.{Each}
+use Rattle.ms_names_rules.proofs.Fitting.{each-append}
+use Rattle.ms_app_words.specs.declared.command.Command.{Command}
+use Rattle.ms_app_words.specs.declared.command.Command.TheVariants.{Decide, Same, Gen}
 use Rattle.ms_app.specs.Answer.{IsRefusedFor}
 use Rattle.ms_app.specs.Comparison.{IsRefusedComparison, left_refused, right_refused, not_comparable, lacks_nodes}
 use Rattle.ms_app.specs.Comparison as comparisons
-use Rattle.ms_solve.specs.Limits.{IsUnsolved, not_made, too_deep, too_large}
-use Rattle.ms_solve.specs.Limits as limits
+use Rattle.ms_build_source.specs.Limits.{IsUnsolved, not_made, too_deep, too_large}
+use Rattle.ms_build_source.specs.Limits as limits
 use Rattle.ms_app.specs.Source.{IsAccepted, IsOutTaken, IsRefused, IsUnaccepted, Origin, file_of, text_of, not_loaded, faulty, out_taken, unaccepted, unimported, unsolved}
 use Rattle.ms_app.specs.Source as sources
 

@@ -3,17 +3,17 @@ use Rattle.std.proofs.Common.{◌≡◌, ◌≢◌, ℕ, zero, suc, ◌+◌, Lis
 use Rattle.std.proofs.lemmas.List.Elements.{All-cons, All-head, All-nil, All-tail}
 use Rattle.std.proofs.lemmas.List.Quantifiers.{all_pairs_push}
 use Rattle.std.proofs.lemmas.Option.{none-some, same_Some}
-use Rattle.ms_checked.specs.Names.{AreDifferent}
+use Rattle.ms_names_checked.specs.Names.{AreDifferent}
 use Rattle.ms_dfa.specs.declared.plain.Plain.{Plain}
 use Rattle.ms_dfafile.specs.File.{IsSpelled}
 use Rattle.ms_logic.specs.declared.checked.ExportUse.{ExportUse}
 use Rattle.ms_logic.specs.Verdict.{Problem}
-use Rattle.ms_rules.specs.Numbers.{Each}
-use Rattle.ms_handover.proofs.SharedRoots.{each_all}
-use Rattle.ms_checked.specs.Spellings.{IsName}
-use Rattle.ms_solve.specs.Solution.{AreExportFiles, IsSmall}
-use Rattle.ms_solve.specs.Values.{IsMainFile}
-use Rattle.ms_app.specs.Files.{AreSpelled, AreWritable, HaveOwnNames, IsWithMain, pairs_of}
+use Rattle.ms_logic.specs.Lists.{Each}
+use Rattle.ms_build_source.proofs.SharedRoots.{each_all}
+use Rattle.ms_names_checked.specs.Spellings.{IsName}
+use Rattle.ms_build_source.specs.Solution.{AreExportFiles, IsSmall}
+use Rattle.ms_build_source.specs.Values.{IsMainFile}
+use Rattle.ms_app.specs.inner.Files.{AreSpelled, AreWritable, HaveOwnNames, IsWithMain, pairs_of}
 use Rattle.ms_app.specs.declared.files.AutomatonFile.{AutomatonFile}
 use Rattle.ms_app.specs.Source.{IsOutFree}
 use Rattle.ms_app.specs.Written.{AreFilesFrom, AreFilesOfMain, File}

@@ -3,8 +3,8 @@ use Rattle.std.proofs.Common.{◌≡◌, ◌≢◌, ℕ, zero, suc, ◌+◌, ◌
 use Rattle.std.proofs.lemmas.List.Elements.{Contains-append_left, Contains-push}
 use Rattle.std.proofs.lemmas.Option.{get_or_from_slice_get, none-some, same_Some, slice_get-map, slice_get_within}
 use Rattle.ms_edge.specs.Files.{Holding, Holds, KeepsOthers}
-use Rattle.ms_rules.specs.Numbers.{Each}
-use Rattle.ms_app.specs.Files.{HaveOwnNames, pairs_of}
+use Rattle.ms_logic.specs.Lists.{Each}
+use Rattle.ms_app.specs.inner.Files.{HaveOwnNames, pairs_of}
 use Rattle.ms_app.specs.declared.files.AutomatonFile.{AutomatonFile}
 use Rattle.ms_app.specs.Written.{AreHeld, AreHeldUpTo, File, KeepsAllBut}
 
@@ -112,3 +112,11 @@ pub name_of_pair : (files : List AutomatonFile) (place : ℕ) (file : AutomatonF
 name_of_pair [] place file held = absurd (none-some file held)
 name_of_pair (first ∷ files) zero file held = ap (λ (f : AutomatonFile). Some f.name) (same_Some first file held)
 name_of_pair (first ∷ files) (suc place) file held = name_of_pair files place file held
+
+-- no pairs are of no files
+pub no_pairs : (files : List AutomatonFile) → pairs_of files ≡ [] → length files ≡ 0
+no_pairs [] none = refl
+no_pairs (file ∷ files) none = absurd (some_pairs (file.name, file.bytes) (pairs_of files) none)
+  where
+    some_pairs : (pair : File) (pairs : List File) → pair ∷ pairs ≡ [] → ⊥
+    some_pairs pair pairs none = cc

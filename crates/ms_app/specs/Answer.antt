@@ -14,9 +14,9 @@ use Rattle.ms_gen.specs.Generated.{IsNumber, generated}
 use Rattle.ms_report.specs.declared.found.Found.{Found}
 use Rattle.ms_report.specs.Line.{line_of}
 use Rattle.ms_report.specs.Report.{report_of, summary_of}
-use Rattle.ms_words.specs.Command.{IsCommand, node_limit}
-use Rattle.ms_words.specs.declared.command.Command.{Command}
-use Rattle.ms_words.specs.declared.command.Command.TheVariants.{Decide, Same, Gen}
+use Rattle.ms_app_words.specs.Command.{IsCommand, node_limit}
+use Rattle.ms_app_words.specs.declared.command.Command.{Command}
+use Rattle.ms_app_words.specs.declared.command.Command.TheVariants.{Decide, Same, Gen}
 use Rattle.ms_app.specs.Comparison.{AreCompared, IsRefusedComparison, comparison_text}
 use Rattle.ms_app.specs.Decision.{IsDecided}
 use Rattle.ms_app.specs.Source.{IsRefused, file_of, text_of}
@@ -72,6 +72,12 @@ IsGivenFor (Gen number false) seen text written = (written ≡ []) × IsNumber n
 IsGivenFor (Gen number true) seen text written =
     (written ≡ []) × IsNumber number
     × ((found : Found) × IsDecided (text_of generated_name (generated number)) None true found written × (text ≡ summary_of number (length (generated number)) found))
+
+-- the command asks for a generated source
+abbrev pub IsGeneration : Command → Type 0
+IsGeneration (Decide file out max_nodes stats) = ⊥
+IsGeneration (Same left right max_nodes) = ⊥
+IsGeneration (Gen number decide) = Unit {0}
 
 -- a limit that a command names is one
 abbrev pub IsLimited : Command → Type 0

@@ -11,9 +11,9 @@ use Rattle.ms_gen.specs.Generated.{IsNumber}
 use Rattle.ms_logic.specs.declared.checked.Checked.{Checked}
 use Rattle.ms_logic.specs.declared.source.Loaded.{Loaded}
 use Rattle.ms_report.specs.Line.{line_of}
-use Rattle.ms_words.specs.Command.{IsCommand, node_limit}
-use Rattle.ms_words.specs.declared.command.Command.{Command}
-use Rattle.ms_words.specs.declared.command.Command.TheVariants.{Decide, Same, Gen}
+use Rattle.ms_app_words.specs.Command.{IsCommand, node_limit}
+use Rattle.ms_app_words.specs.declared.command.Command.{Command}
+use Rattle.ms_app_words.specs.declared.command.Command.TheVariants.{Decide, Same, Gen}
 use Rattle.ms_app.specs.Answer.{IsDelivered}
 use Rattle.ms_app.specs.Comparison.{AreSolved, HaveSameGlobals, Taken}
 use Rattle.ms_app.specs.Source.{IsSolved, Origin, file_of}

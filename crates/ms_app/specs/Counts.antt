@@ -1,13 +1,13 @@
 -- The counts of a source and of the canonical automaton of its main value.
 use Rattle.std.specs.Prelude.{◌≡◌, ℕ, Bool, true, false, length, Option, Some, None}
 use Rattle.ms_dfa.specs.declared.plain.FileSign.{FileSign}
-use Rattle.ms_logic.specs.Canonical.{IsCanonical}
-use Rattle.ms_logic.specs.Content.{Content}
-use Rattle.ms_logic.specs.Size.{depth_of_source, size_of_source}
+use Rattle.ms_logic_words.specs.Canonical.{IsCanonical}
+use Rattle.ms_logic_words.specs.Content.{Content}
+use Rattle.ms_logic_core.specs.Size.{depth_of_source, size_of_source}
 use Rattle.ms_logic.specs.Verdict.{Problem, variables_of}
 use Rattle.ms_report.specs.declared.found.Stats.{Stats}
-use Rattle.ms_solve.specs.Values.{GivesValue}
-use Rattle.ms_theory.specs.Values.{main_meaning}
+use Rattle.ms_build_source.specs.Values.{GivesValue}
+use Rattle.ms_dfa.specs.Values.{main_meaning}
 
 -- the canonical content of the main value, over the globals
 pub record IsCanonicalOf (problem : Problem) (content : Content FileSign) : Type 0 where

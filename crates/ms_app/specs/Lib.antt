@@ -1,13 +1,8 @@
 pub mod Answer
 pub mod Comparison
 pub mod Completeness
-pub mod CompletenessExamples
 pub mod Counts
 pub mod Decision
-pub mod Delivery
-pub mod Examples
-pub mod Files
-pub mod Laws
-pub mod Right
 pub mod Source
 pub mod Written
+pub mod inner

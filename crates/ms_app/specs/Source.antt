@@ -4,7 +4,7 @@ use Rattle.ms_dfa.specs.declared.plain.Plain.{Plain}
 use Rattle.ms_edge.specs.declared.refusal.Refusal.{Refusal}
 use Rattle.ms_edge.specs.declared.refusal.Refusal.TheVariants.{Twice, Memory}
 use Rattle.ms_edge.specs.Files.{Seen}
-use Rattle.ms_imports.specs.Imports.{AreImported, IsUnimported, answers_by}
+use Rattle.ms_dfafile_imports.specs.Imports.{AreImported, IsUnimported, answers_by}
 use Rattle.ms_include.specs.Load.{files_of, IsLoaded, IsLoadedText, IsRefusedLoad, IsRefusedText}
 use Rattle.ms_logic.specs.declared.checked.Checked.{Checked}
 use Rattle.ms_logic.specs.declared.checked.ExportUse.{ExportUse}
@@ -13,11 +13,11 @@ use Rattle.ms_logic.specs.declared.mode.Mode.{Mode}
 use Rattle.ms_logic.specs.declared.source.Loaded.{Loaded}
 use Rattle.ms_logic.specs.Verdict.{Problem}
 use Rattle.ms_logic.specs.View.{problem_of}
-use Rattle.ms_rules.specs.Checking.{IsFirstFault}
-use Rattle.ms_rules.specs.Declarations.{first_fault_of}
-use Rattle.ms_rules.specs.TypedSource.{IsTyped}
-use Rattle.ms_rules.specs.View.{placed_of}
-use Rattle.ms_solve.specs.Limits.{IsUnsolved, IsWithinLimits}
+use Rattle.ms_names_rules.specs.Checking.{IsFirstFault}
+use Rattle.ms_names_rules.specs.Declarations.{first_fault_of}
+use Rattle.ms_names_rules.specs.TypedSource.{IsTyped}
+use Rattle.ms_names_rules.specs.View.{placed_of}
+use Rattle.ms_build_source.specs.Limits.{IsUnsolved, IsWithinLimits}
 
 -- What a text loads as, and how it is refused, with the files of its own that were read by then; and what the files hold that it imports, and
 -- why one of them is not taken under a limit on nodes and states.

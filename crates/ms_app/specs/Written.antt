@@ -5,8 +5,8 @@ use Rattle.ms_dfafile.specs.File.{IsSpelled}
 use Rattle.ms_edge.specs.Files.{Holding, Holds}
 use Rattle.ms_logic.specs.declared.checked.ExportUse.{ExportUse}
 use Rattle.ms_logic.specs.Verdict.{Problem}
-use Rattle.ms_rules.specs.Numbers.{Each}
-use Rattle.ms_solve.specs.Values.{IsExportFile, IsMainFile}
+use Rattle.ms_logic.specs.Lists.{Each}
+use Rattle.ms_build_source.specs.Values.{IsExportFile, IsMainFile}
 
 -- a file to be written: its name and its bytes
 abbrev pub File : Type 0

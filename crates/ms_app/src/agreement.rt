@@ -1,13 +1,13 @@
 ghost use Rattle.std.specs.Prelude.{◌≡◌, ◌⊎◌, ◌↔◌, ℕ, List, IsTrue, IfErr, IfOk};
 ghost use Rattle.ms_logic.specs.Verdict.{Agree, Problem, variables_of};
 ghost use Rattle.ms_build.specs.Built.{IsLimit};
-ghost use Rattle.ms_solve.specs.Solution.{IsNamed, IsSolution};
+ghost use Rattle.ms_build_source.specs.Solution.{IsNamed, IsSolution};
 
 use crate::content::canonical_of;
 use ms_arena::Node;
+use ms_build_source::Solution;
 use ms_dfa::{FileState, Plain};
 use ms_edge::Refusal;
-use ms_solve::Solution;
 use std::alloc::Global;
 
 /// Whether two lists of states are equal.

@@ -3,7 +3,7 @@ ghost use Rattle.ms_build.specs.Built.{IsLimit};
 ghost use Rattle.ms_dfa.specs.declared.plain.Plain.{Plain};
 ghost use Rattle.ms_edge.specs.Files.{OnlyRead, between};
 ghost use Rattle.ms_logic.specs.declared.source.Loaded.{Loaded as Declarations};
-ghost use Rattle.ms_solve.specs.Solution.{IsNamed, IsSolution};
+ghost use Rattle.ms_build_source.specs.Solution.{IsNamed, IsSolution};
 ghost use Rattle.ms_app.specs.Comparison.{AreCompared, IsRefusedComparison};
 ghost use Rattle.ms_app.specs.Source.{IsRefused, IsSolved, file_of, problem_with};
 
@@ -11,8 +11,9 @@ use crate::agreement::agree;
 use crate::same_globals::have_same_globals;
 use crate::source::Accepted;
 use crate::taken::{Wanted, take_file};
-use ms_edge::{Files, List, Refusal, Text};
-use ms_solve::{Solution, solve};
+use ms_build_source::{Solution, solve};
+use ms_edge::{Files, Refusal};
+use ms_list::{List, Text};
 use std::alloc::Global;
 
 /// The names of two files.

@@ -3,10 +3,10 @@
 ghost use Rattle.std.specs.Prelude.{[], codes, false};
 ghost use Rattle.ms_edge.specs.Files.{between};
 ghost use Rattle.ms_gen.specs.Generated.{generated};
-ghost use Rattle.ms_words.specs.declared.command.Command.TheVariants.{Decide, Gen};
+ghost use Rattle.ms_app_words.specs.declared.command.Command.TheVariants.{Decide, Gen};
 ghost use Rattle.ms_app.specs.Answer.{IsDelivered};
 ghost use Rattle.ms_app.specs.Completeness.{CanBeDone, NothingFailed};
-ghost use Rattle.ms_app.specs.CompletenessExamples.{empty_files, no_files, silent_files, sink_after, still};
+ghost use Rattle.ms_app.specs.inner.CompletenessExamples.{empty_files, no_files, silent_files, sink_after, still};
 
 /// Requests that can be done, and requests that cannot.
 pub fn worked_requests()

@@ -1,18 +1,19 @@
 ghost use Rattle.std.specs.Prelude.{◌≡◌, ◌⊎◌, ◌≤◌, ◌+◌, ℕ, List, length, IfErr, IfOk};
 ghost use Rattle.ms_build.specs.Built.{IsLimit};
-ghost use Rattle.ms_canonical.specs.Files.{content_of_file};
+ghost use Rattle.ms_dfa.specs.Files.{content_of_file};
 ghost use Rattle.ms_dfafile.specs.File.{names_of};
-ghost use Rattle.ms_logic.specs.Canonical.{IsCanonical};
+ghost use Rattle.ms_logic_words.specs.Canonical.{IsCanonical};
 ghost use Rattle.ms_logic.specs.Verdict.{Problem};
-ghost use Rattle.ms_solve.specs.Copies.{IsCanonicalCopy};
-ghost use Rattle.ms_solve.specs.Solution.{IsNamed, IsSolution};
-ghost use Rattle.ms_solve.specs.Values.{IsMainFile};
+ghost use Rattle.ms_build_source.specs.inner.Copies.{IsCanonicalCopy};
+ghost use Rattle.ms_build_source.specs.Solution.{IsNamed, IsSolution};
+ghost use Rattle.ms_build_source.specs.Values.{IsMainFile};
 ghost use Rattle.ms_app.specs.Counts.{IsCanonicalOf};
 
-use ms_canonical::canonical;
+use ms_build_source::Solution;
 use ms_dfa::Plain;
-use ms_edge::{Refusal, StepFault};
-use ms_solve::Solution;
+use ms_edge::Refusal;
+use ms_list::StepFault;
+use ms_minim_canonical::canonical;
 use std::alloc::Global;
 
 /// The canonical content of the main value of a source over its globals, where nodes and states of a step are together at

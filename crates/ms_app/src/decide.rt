@@ -4,13 +4,13 @@ ghost use Rattle.ms_build.specs.Built.{IsLimit};
 ghost use Rattle.ms_logic.specs.Verdict.{Problem};
 ghost use Rattle.ms_logic.specs.View.{problem_of};
 ghost use Rattle.ms_lower.specs.Measure.{Answers};
-ghost use Rattle.ms_solve.specs.Imported.{AreAnswersOf, AreLentFor};
-ghost use Rattle.ms_solve.specs.Limits.{IsUnsolved, IsWithinLimits};
-ghost use Rattle.ms_solve.specs.Solution.{AreExportFiles, IsNamed, IsSolution};
+ghost use Rattle.ms_build_source.specs.Imported.{AreAnswersOf, AreLentFor};
+ghost use Rattle.ms_build_source.specs.Limits.{IsUnsolved, IsWithinLimits};
+ghost use Rattle.ms_build_source.specs.Solution.{AreExportFiles, IsNamed, IsSolution};
 ghost use Rattle.ms_app.specs.Counts.{HasStats};
 ghost use Rattle.ms_app.specs.Decision.{IsFound};
-ghost use Rattle.ms_app.specs.Files.{AreNames, AreWritable, IsWithMain, IsWritable, pairs_of};
-ghost use Rattle.ms_app.specs.Right.{IsRight};
+ghost use Rattle.ms_app.specs.inner.Files.{AreNames, AreWritable, IsWithMain, IsWritable, pairs_of};
+ghost use Rattle.ms_app.specs.inner.Right.{IsRight};
 ghost use Rattle.ms_app.specs.Written.{AreFilesOf};
 
 use crate::content::canonical_of;
@@ -19,10 +19,11 @@ use crate::found::{asked_counts, found};
 use crate::options::Options;
 use crate::source::Accepted;
 use crate::taken::Taken;
+use ms_build_source::{Solution, solve};
 use ms_dfa::Plain;
-use ms_edge::{List, Refusal, Text};
+use ms_edge::Refusal;
+use ms_list::{List, Text};
 use ms_report::{Found, Stats};
-use ms_solve::{Solution, solve};
 use std::alloc::Global;
 
 /// What is found of a source, and the automaton files that are to be written.

@@ -3,10 +3,10 @@
 ghost use Rattle.std.specs.Prelude.{◌≡◌, ◌∷◌, ◌++◌, [], codes, false, true, None, Some};
 ghost use Rattle.ms_edge.specs.declared.refusal.Refusal.TheVariants.{Twice};
 ghost use Rattle.ms_logic.specs.View.{problem_of};
-ghost use Rattle.ms_solve.specs.Limits.{IsWithinLimits};
+ghost use Rattle.ms_build_source.specs.Limits.{IsWithinLimits};
 ghost use Rattle.ms_app.specs.Comparison.{HaveSameGlobals, comparison_text};
 ghost use Rattle.ms_app.specs.Counts.{HasStats};
-ghost use Rattle.ms_app.specs.Examples.{at, export_to, nothing_held, one_held, one_set, other_mode, other_order, turned_round, two_files, two_sets};
+ghost use Rattle.ms_app.specs.inner.Examples.{at, export_to, nothing_held, one_held, one_set, other_mode, other_order, turned_round, two_files, two_sets};
 ghost use Rattle.ms_app.specs.Source.{IsOutFree, IsOutTaken};
 ghost use Rattle.ms_app.specs.Written.{AreFilesOf, AreHeld, AreHeldUpTo, KeepsAllBut};
 

@@ -1,11 +1,11 @@
 ghost use Rattle.std.specs.Prelude.{◌≡◌, ◌≤◌, ◌+◌, ◌∷◌, ◌++◌, ℕ, [], List, Some, length, map, slice_get, IfErr, IfOk};
 ghost use Rattle.ms_dfa.specs.declared.plain.Plain.{Plain as Content};
 ghost use Rattle.ms_dfafile.specs.File.{IsSpelled};
-ghost use Rattle.ms_app.specs.Files.{AreSpelled, AreWritable, IsWritable, pairs_of};
+ghost use Rattle.ms_app.specs.inner.Files.{AreSpelled, AreWritable, IsWritable, pairs_of};
 
 use ms_dfa::Plain;
 use ms_dfafile::write;
-use ms_edge::{Bytes, List, NoMemory, Text, push};
+use ms_list::{Bytes, List, NoMemory, Text, push};
 use ms_logic::ExportUse;
 use std::alloc::Global;
 

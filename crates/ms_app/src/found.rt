@@ -1,18 +1,18 @@
 ghost use Rattle.std.specs.Prelude.{◌≡◌, ◌⊎◌, ℕ, List, IfOk};
-ghost use Rattle.ms_canonical.specs.Files.{content_of_file};
+ghost use Rattle.ms_dfa.specs.Files.{content_of_file};
 ghost use Rattle.ms_logic.specs.Verdict.{Problem};
 ghost use Rattle.ms_app.specs.Counts.{HasCounts, HasStats, IsCanonicalOf};
 ghost use Rattle.ms_app.specs.Decision.{ShowsFirst, IsFound, verdict_by};
-ghost use Rattle.ms_solve.specs.Solution.{IsSolution};
-ghost use Rattle.ms_solve.specs.Values.{HasMainValue};
-ghost use Rattle.ms_theory.specs.Values.{main_meaning};
+ghost use Rattle.ms_build_source.specs.Solution.{IsSolution};
+ghost use Rattle.ms_build_source.specs.Values.{HasMainValue};
+ghost use Rattle.ms_dfa.specs.Values.{main_meaning};
 
 use ms_best::{assignment, first};
+use ms_build_source::Solution;
 use ms_dfa::{Automaton, Plain, Sign};
-use ms_edge::NoMemory;
+use ms_list::NoMemory;
 use ms_logic::Assignment;
 use ms_report::{Found, Stats, Verdict};
-use ms_solve::Solution;
 use std::alloc::Global;
 
 /// The first assignment at which the automaton has the sign, if there is one.

@@ -1,4 +1,4 @@
-use ms_edge::Text;
+use ms_list::Text;
 
 /// How a source is decided: the greatest number of nodes and states of a step, whether counts are asked for, and the name under which
 /// the automaton of the main value is to be written, where there is one.

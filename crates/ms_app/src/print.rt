@@ -4,7 +4,8 @@ ghost use Rattle.ms_edge.specs.Refusal.{IsPlaced, place_of};
 ghost use Rattle.ms_report.specs.Line.{HasLine};
 ghost use Rattle.ms_app.specs.Answer.{Prints, status_of, answer_of};
 
-use ms_edge::{List, Refusal, Sink, Status, Text, write_all};
+use ms_edge::{Refusal, Sink, Status, write_all};
+use ms_list::{List, Text};
 use ms_report::refusal_line;
 use std::alloc::Global;
 

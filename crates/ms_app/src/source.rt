@@ -1,18 +1,19 @@
 ghost use Rattle.std.specs.Prelude.{◌≡◌, ◌≤◌, ◌⊎◌, ◌++◌, ◌∷◌, ℕ, [], List, None, length, map, IfErr, IfOk, OnOk};
-ghost use Rattle.ms_checked.specs.Checked.{MeetsRules};
+ghost use Rattle.ms_names_checked.specs.Checked.{MeetsRules};
 ghost use Rattle.ms_edge.specs.Files.{OnlyRead, between};
 ghost use Rattle.ms_include.specs.Load.{IsLoadedText};
 ghost use Rattle.ms_logic.specs.declared.source.Loaded.{Loaded as Declarations};
-ghost use Rattle.ms_rules.specs.Checking.{IsFirstFault};
-ghost use Rattle.ms_rules.specs.Declarations.{first_fault_of};
-ghost use Rattle.ms_rules.specs.Numbers.{IsWellNumbered};
-ghost use Rattle.ms_rules.specs.TypedSource.{IsTyped};
-ghost use Rattle.ms_rules.specs.View.{placed_of};
-ghost use Rattle.ms_app.specs.Right.{IsRight};
+ghost use Rattle.ms_names_rules.specs.Checking.{IsFirstFault};
+ghost use Rattle.ms_names_rules.specs.Declarations.{first_fault_of};
+ghost use Rattle.ms_names_rules.specs.Numbers.{IsWellNumbered};
+ghost use Rattle.ms_names_rules.specs.TypedSource.{IsTyped};
+ghost use Rattle.ms_names_rules.specs.View.{placed_of};
+ghost use Rattle.ms_app.specs.inner.Right.{IsRight};
 ghost use Rattle.ms_app.specs.Source.{IsAccepted, IsUnaccepted, file_of, text_of};
 
-use ms_edge::{Bytes, Files, List, NoMemory, Refusal, Text, push};
+use ms_edge::{Files, Refusal};
 use ms_include::{load, load_bytes};
+use ms_list::{Bytes, List, NoMemory, Text, push};
 use ms_logic::{Checked, Loaded};
 use ms_names::check;
 use std::alloc::Global;

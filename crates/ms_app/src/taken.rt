@@ -3,15 +3,16 @@ ghost use Rattle.std.specs.Option.{option_copied};
 ghost use Rattle.ms_build.specs.Built.{IsLimit};
 ghost use Rattle.ms_dfa.specs.declared.plain.Plain.{Plain};
 ghost use Rattle.ms_edge.specs.Files.{OnlyRead, between};
-ghost use Rattle.ms_imports.specs.Adopted.{AreAdopted};
+ghost use Rattle.ms_dfafile_imports.specs.Adopted.{AreAdopted};
 ghost use Rattle.ms_logic.specs.declared.source.Loaded.{Loaded as Declarations};
 ghost use Rattle.ms_app.specs.Source.{IsOutFree, IsOutTaken, IsRefused, IsTaken, file_of};
-ghost use Rattle.ms_app.specs.Right.{IsRight};
+ghost use Rattle.ms_app.specs.inner.Right.{IsRight};
 
 use crate::source::{Accepted, accept_file};
 use ms_dfa::Automaton;
-use ms_edge::{Files, List, Refusal, Text};
-use ms_imports::imports;
+use ms_dfafile_imports::imports;
+use ms_edge::{Files, Refusal};
+use ms_list::{List, Text};
 use ms_logic::ExportUse;
 use std::alloc::Global;
 

@@ -2,10 +2,10 @@ ghost use Rattle.std.specs.Prelude.{◌≡◌, [], true, IfErr, IfOk};
 ghost use Rattle.std.specs.Option.{option_copied};
 ghost use Rattle.ms_build.specs.Built.{IsLimit};
 ghost use Rattle.ms_edge.specs.Files.{OnlyRead, Seen, between};
-ghost use Rattle.ms_words.specs.declared.command.Command.TheVariants.{Decide, Same, Gen};
+ghost use Rattle.ms_app_words.specs.declared.command.Command.TheVariants.{Decide, Same, Gen};
 ghost use Rattle.ms_app.specs.Answer.{IsGivenFor, IsRefusedFor};
 ghost use Rattle.ms_app.specs.Comparison.{comparison_text};
-ghost use Rattle.ms_app.specs.Files.{HaveOwnNames, pairs_of};
+ghost use Rattle.ms_app.specs.inner.Files.{HaveOwnNames, pairs_of};
 
 use crate::compare::{Pair, compare};
 use crate::decide::decide;
@@ -13,8 +13,9 @@ use crate::files::AutomatonFile;
 use crate::options::Options;
 use crate::source::accept_text;
 use crate::taken::{Taken, Wanted, take_file};
-use ms_edge::{Bytes, Files, List, Refusal, Text};
+use ms_edge::{Files, Refusal};
 use ms_gen::generate;
+use ms_list::{Bytes, List, Text};
 use ms_report::{report, summary};
 use std::alloc::Global;
 

@@ -2,20 +2,21 @@ ghost use Rattle.std.specs.Prelude.{◌≡◌, ℕ, [], List, IfErr, IfOk};
 ghost use Rattle.ms_edge.specs.Counts.{Rose};
 ghost use Rattle.ms_edge.specs.Files.{OnlyRead, between};
 ghost use Rattle.ms_edge.specs.Sink.{grown};
-ghost use Rattle.ms_words.specs.Command.{IsCommand};
-ghost use Rattle.ms_words.specs.declared.command.Command.{Command as Asked};
-ghost use Rattle.ms_app.specs.Answer.{IsAnswered, IsAnsweredFor, IsDelivered, IsDone, IsGivenFor, IsLimited, IsRefusedFor};
+ghost use Rattle.ms_app_words.specs.Command.{IsCommand};
+ghost use Rattle.ms_app_words.specs.declared.command.Command.{Command as Asked};
+ghost use Rattle.ms_app.specs.Answer.{IsAnswered, IsAnsweredFor, IsDelivered, IsDone, IsGeneration, IsGivenFor, IsLimited, IsRefusedFor};
 ghost use Rattle.ms_app.specs.Completeness.{IsComplete};
-ghost use Rattle.ms_app.specs.Delivery.{WasDelivered};
-ghost use Rattle.ms_app.specs.Files.{HaveOwnNames, pairs_of};
+ghost use Rattle.ms_app.specs.inner.Delivery.{WasDelivered};
+ghost use Rattle.ms_app.specs.inner.Files.{HaveOwnNames, pairs_of};
 
 use crate::compare::Pair;
 use crate::options::Options;
 use crate::print::{out_of_memory, print, print_unwritten, refuse};
 use crate::text::{Given, comparison, decision, generation};
 use crate::write::write_each;
-use ms_edge::{Files, List, Refusal, Sink, Status, Text, Words};
-use ms_words::{Command, WordsFault, options};
+use ms_app_words::{Command, WordsFault, options};
+use ms_edge::{Files, Refusal, Sink, Status, Words};
+use ms_list::{List, Text};
 use std::alloc::Global;
 
 /// What a command asks for, by what the files hold. The files that a refusal numbers are in `names`.
@@ -31,6 +32,8 @@ fn given<F: Files>(
     ensures own_names { IfOk result (λ given. HaveOwnNames (pairs_of given.files)) }
     ensures refused { IfErr result (λ refusal. IsRefusedFor command.now (between (F.told files.old) (F.told files.new)) refusal names.new) }
     ensures only_read { OnlyRead (F.told files.old) (F.told files.new) }
+    ensures generated { IsGeneration command.now → F.told files.new ≡ F.told files.old }
+    ensures no_files { IsGeneration command.now → IfOk result (λ given. pairs_of given.files ≡ []) }
 {
     match command {
         Command::Decide {
@@ -59,6 +62,7 @@ fn given<F: Files>(
 fn deliver<F: Files, S: Sink>(given: &Given, files: &mut F, out: &mut S) -> Status
     requires { HaveOwnNames (pairs_of given.now.files) }
     ensures delivered { WasDelivered (F.told files.old) (F.told files.new) (S.told out.old) (S.told out.new) given.now.text (pairs_of given.now.files) result }
+    ensures untouched { pairs_of given.now.files ≡ [] → F.told files.new ≡ F.told files.old }
     ensures not_usage { ¬ (result ≡ Status.Usage) }
     ensures sink_only { result ≡ Status.SinkFault → Rose (S.told out.old).faults (S.told out.new).faults }
 {
@@ -74,6 +78,7 @@ fn answer<F: Files, S: Sink>(alloc: Global, command: &Command, files: &mut F, ou
     ensures answered { IsAnsweredFor command.now (S.told out.old) (S.told out.new) (between (F.told files.old) (F.told files.new)) result }
     ensures done { result ≡ Status.Done → (text : List ℕ) × IsDelivered command.now (between (F.told files.old) (F.told files.new)) text
         × ((S.told out.new).taken ≡ grown (S.told out.old).taken text) }
+    ensures generated { IsGeneration command.now → F.told files.new ≡ F.told files.old }
     ensures not_usage { ¬ (result ≡ Status.Usage) }
     ensures sink_only { result ≡ Status.SinkFault → Rose (S.told out.old).faults (S.told out.new).faults }
 {
@@ -100,6 +105,9 @@ pub fn run<F: Files, S: Sink>(alloc: Global, words: &Words, files: &mut F, out: 
     ensures done { result ≡ Status.Done → IsDone words.now (S.told out.old) (S.told out.new) (between (F.told files.old) (F.told files.new)) }
     ensures usage_only { result ≡ Status.Usage → (command : Asked) → ¬ IsCommand words.now command }
     ensures sink_only { result ≡ Status.SinkFault → Rose (S.told out.old).faults (S.told out.new).faults }
+
+    // To generate a source, or to decide it, no file is read and none is changed.
+    ensures generated { (command : Asked) → IsCommand words.now command → IsGeneration command → F.told files.new ≡ F.told files.old }
 
     // What can be done is done where nothing outside fails, unless memory is wanting, or nodes in a step.
     ensures complete { IsComplete words.now (S.told out.old) (S.told out.new) (between (F.told files.old) (F.told files.new)) result }

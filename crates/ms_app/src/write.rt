@@ -1,7 +1,7 @@
-ghost use Rattle.std.specs.Prelude.{◌≡◌, ◌<◌, ℕ, IfErr, OnOk, length, map, slice_get};
+ghost use Rattle.std.specs.Prelude.{◌≡◌, ◌<◌, ℕ, IfErr, OnOk, length, map, slice_get, []};
 ghost use Rattle.ms_edge.specs.Counts.{Rose};
 ghost use Rattle.ms_edge.specs.Files.{NoCountFell};
-ghost use Rattle.ms_app.specs.Files.{HaveOwnNames, pairs_of};
+ghost use Rattle.ms_app.specs.inner.Files.{HaveOwnNames, pairs_of};
 ghost use Rattle.ms_app.specs.Written.{AreHeld, AreHeldUpTo};
 
 use crate::files::AutomatonFile;
@@ -12,6 +12,7 @@ pub fn write_each<F: Files>(written: &[AutomatonFile], files: &mut F) -> Result<
     requires { HaveOwnNames (pairs_of written.now) }
     ensures written { OnOk result (AreHeld (F.told files.old).held (F.told files.new).held (pairs_of written.now)) }
     ensures stopped { IfErr result (λ count. AreHeldUpTo count (F.told files.old).held (F.told files.new).held (pairs_of written.now)) }
+    ensures untouched { pairs_of written.now ≡ [] → F.told files.new ≡ F.told files.old }
     ensures within { IfErr result (λ count. count < length written.now) }
     ensures cause { IfErr result (λ count. Rose (F.told files.old).faults (F.told files.new).faults) }
 {

@@ -1,11 +1,15 @@
 pub mod Appending
 pub mod BitsLemmas
 pub mod Canonicity
+pub mod ChainLemmas
+pub mod CodeLemmas
 pub mod Ends
 pub mod Equality
 pub mod Essential
 pub mod HalvesLemmas
 pub mod Lists
 pub mod Needs
+pub mod PackingLemmas
 pub mod Paths
 pub mod ReachLemmas
+pub mod UniqueLemmas

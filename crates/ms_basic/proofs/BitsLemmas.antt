@@ -5,19 +5,20 @@ use Rattle.std.proofs.Math.Nat.{div-eq_of_lt, div-eq_of_lt-le, pow-le-pow_right,
 use Rattle.std.proofs.lemmas.Bool.{cases_lt, eqb-true, eq-eqb, false≢true}
 use Rattle.std.proofs.lemmas.Bool.Decides.{nat_tests}
 use Rattle.std.proofs.lemmas.Nat.{div-add-mod', mod_below, pow_pos}
-use Rattle.ms_logic.specs.declared.core_formula.Basic.TheVariants.{Bits}
+use Rattle.ms_logic_core.specs.declared.core_formula.Basic.TheVariants.{Bits}
 use Rattle.ms_logic.specs.declared.mode.Mode.{Mode}
 use Rattle.ms_logic.specs.declared.mode.Mode.TheVariants.{Ws1s, M2lStr}
-use Rattle.ms_logic.specs.declared.sign.Sign.TheVariants.{Yes, No}
+use Rattle.ms_logic_words.specs.declared.sign.Sign.TheVariants.{Yes, No}
 use Rattle.ms_logic.specs.Assignment.{Universe, IsUniverseOf, is_within}
 use Rattle.ms_logic.specs.FiniteSet.{IsMember, IsRising, is_member, one_bits}
 use Rattle.ms_logic.specs.Terms.{part_within}
-use Rattle.ms_logic.specs.Word.{HasLength, bound_of_set}
+use Rattle.ms_logic_words.specs.Word.{HasLength}
+use Rattle.ms_logic.specs.Letters.{bound_of_set}
 use Rattle.ms_logic.proofs.Members.{IsRising-filter, member_below_bound, no_member_from_bound}
 use Rattle.ms_logic.proofs.SetLaws.{one_bits_law}
 use Rattle.ms_basic.specs.Bits.{bits_sign, bits_step, bits_table, is_one}
-use Rattle.ms_basic.specs.Operands.{operands_of}
-use Rattle.ms_basic.specs.Relation.{DecidesRelation, IsRight}
+use Rattle.ms_logic_core.specs.Operands.{variables_of_basic}
+use Rattle.ms_basic.specs.inner.Relation.{DecidesRelation, IsRight}
 use Rattle.ms_basic.specs.Sets.{is_same}
 use Rattle.ms_basic.proofs.BitLemmas.{Tells, told}
 use Rattle.ms_basic.proofs.ReadingLemmas.{kept}
@@ -114,13 +115,13 @@ bits_closed n digits (suc k) s small = by_test (is_same s (is_one n k)) (k == di
     by_test true false is = omega (arith, small, is)
     by_test false last is = omega arith
 
-pub decides_bits : (mode : Mode) (s n digits : ℕ) → digits ≡ bound_of_set (one_bits n) → DecidesRelation mode (operands_of (Bits s n)) (Bits s n) (bits_table mode n digits)
+pub decides_bits : (mode : Mode) (s n digits : ℕ) → digits ≡ bound_of_set (one_bits n) → DecidesRelation mode (variables_of_basic (Bits s n)) (Bits s n) (bits_table mode n digits)
 decides_bits mode s n digits are_digits = record {
   closed = record { start = λ bits. omega arith; step = λ state bits small. bits_closed n digits state bits.first small };
   tallies = (tt, tt);
   right = λ e count assigned room string.
       bits_right (e.set s) n digits are_digits e.universe count string assigned.values.0.0 (omega (arith, room)) mode _ assigned.universe
-      (kept (bits_table mode n digits) (operands_of (Bits s n)) e count (BitsAt (e.set s) n digits) (omega arith, inl refl, λ q below. absurd (omega (arith, below)))
+      (kept (bits_table mode n digits) (variables_of_basic (Bits s n)) e count (BitsAt (e.set s) n digits) (omega arith, inl refl, λ q below. absurd (omega (arith, below)))
       (λ position state at. bits_next (e.set s) n digits are_digits position state at));
 }
 

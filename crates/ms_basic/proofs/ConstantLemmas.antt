@@ -1,18 +1,18 @@
 -- The machine that gives each word one sign, over no variable.
 use Rattle.std.proofs.Common.{◌≡◌, ◌≢◌, Bool, true, false, if◌then◌else◌, [], Some, refl, sym, subst}
-use Rattle.ms_edge.specs.declared.refusal.Word.{Word}
+use Rattle.ms_list.specs.declared.word.Word.{Word}
 use Rattle.ms_logic.specs.declared.mode.Mode.{Mode}
-use Rattle.ms_logic.specs.declared.sign.Sign.{Sign}
-use Rattle.ms_logic.specs.declared.sign.Sign.TheVariants.{Outside}
+use Rattle.ms_logic_words.specs.declared.sign.Sign.{Sign}
+use Rattle.ms_logic_words.specs.declared.sign.Sign.TheVariants.{Outside}
 use Rattle.ms_logic.specs.Assignment.{Env}
-use Rattle.ms_logic.specs.Content.{Content, IsWordOver, sign_of}
-use Rattle.ms_logic.specs.CoreForm.{falsity, truth}
-use Rattle.ms_logic.specs.Word.{IsEncoding}
-use Rattle.ms_logic.proofs.DecodedWords.{each_word_encodes}
-use Rattle.ms_logic.proofs.WordLaws.{encoding_is_over}
-use Rattle.ms_theory.specs.Values.{HasValues, core_meaning}
-use Rattle.ms_explore.specs.Small.{TellsWords, sign_by}
-use Rattle.ms_basic.specs.Repeated.{constant_table, sign_of_constant}
+use Rattle.ms_logic_words.specs.Content.{Content, IsWordOver, sign_of}
+use Rattle.ms_logic_core.specs.CoreForm.{falsity, truth}
+use Rattle.ms_logic_words.specs.Word.{IsEncoding}
+use Rattle.ms_logic_words.proofs.DecodedWords.{each_word_encodes}
+use Rattle.ms_logic_words.proofs.WordLaws.{encoding_is_over}
+use Rattle.ms_dfa.specs.Values.{HasValues, core_meaning}
+use Rattle.ms_dfa_explore.specs.Small.{TellsWords, sign_by}
+use Rattle.ms_basic.specs.inner.Repeated.{constant_table, sign_of_constant}
 
 never_outside : (holds : Bool) → sign_of_constant holds ≢ Outside
 never_outside true = λ same. cc

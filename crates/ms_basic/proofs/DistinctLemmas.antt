@@ -5,10 +5,10 @@ use Rattle.std.proofs.lemmas.Bool.Decides.{nat_tests}
 use Rattle.std.proofs.lemmas.Option.{none-some, same_Some}
 use Rattle.ms_logic.specs.declared.mode.Mode.{Mode}
 use Rattle.ms_logic.specs.Assignment.{Env, Variable, GivesEach, IsAssignment, IsValueOf, value_at}
-use Rattle.ms_logic.specs.Roots.{AreRising}
-use Rattle.ms_logic.specs.Word.{bound_at, bound_of}
-use Rattle.ms_explore.specs.Tracks.{before, from, without_first, joined, gathered_with, distinct, place_of, IsAmong}
-use Rattle.ms_explore.proofs.TracksLemmas.{AreAbove, joined-left, joined-right}
+use Rattle.ms_logic.specs.Lists.{AreRising}
+use Rattle.ms_logic.specs.Letters.{bound_at, bound_of}
+use Rattle.ms_dfa_explore.specs.Tracks.{before, from, without_first, joined, gathered_with, distinct, place_of, IsAmong}
+use Rattle.ms_dfa_explore.proofs.TracksLemmas.{AreAbove, joined-left, joined-right}
 use Rattle.ms_basic.specs.Operands.{HaveOneOrder}
 
 -- what is before a number, from it on or behind its variable is in the list

@@ -6,16 +6,16 @@ use Rattle.std.proofs.Math.Nat.{mod-eq_of_lt, mod-one, pow-le-pow_right}
 use Rattle.std.proofs.lemmas.Bool.{cases_eq, cases_lt, eq-eqb, eqb-true, false≢true}
 use Rattle.std.proofs.lemmas.Bool.Decides.{nat_tests}
 use Rattle.std.proofs.lemmas.Nat.{mod_below, ones_cat, ones_le_self, pow_pos, zero_from_ones}
-use Rattle.ms_logic.specs.declared.core_formula.Basic.TheVariants.{Down}
+use Rattle.ms_logic_core.specs.declared.core_formula.Basic.TheVariants.{Down}
 use Rattle.ms_logic.specs.declared.mode.Mode.{Mode}
-use Rattle.ms_logic.specs.declared.sign.Sign.TheVariants.{Yes, No}
+use Rattle.ms_logic_words.specs.declared.sign.Sign.TheVariants.{Yes, No}
 use Rattle.ms_logic.specs.FiniteSet.{IsRising, is_member, moved_down, moved_up}
-use Rattle.ms_logic.specs.Word.{bound_of_set}
+use Rattle.ms_logic.specs.Letters.{bound_of_set}
 use Rattle.ms_logic.proofs.Members.{IsRising-moved_down, is_member-moved_down, is_member-moved_up, no_member_from_bound}
-use Rattle.ms_basic.specs.Operands.{operands_of}
-use Rattle.ms_basic.specs.Relation.{DecidesRelation, IsRight}
+use Rattle.ms_logic_core.specs.Operands.{variables_of_basic}
+use Rattle.ms_basic.specs.inner.Relation.{DecidesRelation, IsRight}
 use Rattle.ms_basic.specs.Sets.{is_same}
-use Rattle.ms_basic.specs.Windows.{down_passed, down_sign, down_step, down_table, shifted}
+use Rattle.ms_basic.specs.inner.Windows.{down_passed, down_sign, down_step, down_table, shifted}
 use Rattle.ms_basic.proofs.ReadingLemmas.{kept}
 use Rattle.ms_basic.proofs.SetLemmas.{other_bits, other_sets, same_bits, same_sets}
 use Rattle.ms_basic.proofs.WindowLemmas.{bit_leaving, bits_left, none_in_window, power_next, some_in_window, window_of, window_within}
@@ -183,13 +183,13 @@ down_closed size (suc more) s t some small = by_test (nat_lt (shifted (suc more)
     by_test true is = below_by (shifted (suc more) s) (2 * size) is
     by_test false is = in_half (shifted (suc more) s - 2 * size) (is_same t ((shifted (suc more) s - 2 * size) / size == 1))
 
-pub decides_down : (mode : Mode) (s t n : ℕ) → DecidesRelation mode (operands_of (Down s t n)) (Down s t n) (down_table (2 ^ n))
+pub decides_down : (mode : Mode) (s t n : ℕ) → DecidesRelation mode (variables_of_basic (Down s t n)) (Down s t n) (down_table (2 ^ n))
 decides_down mode s t n = record {
   closed = record { start = λ bits. omega (arith, pow_pos n); step = λ state bits small. down_closed (2 ^ n) state bits.first bits.second (pow_pos n) small };
   tallies = (tt, (tt, tt));
   right = λ e count assigned room string.
       down_right (e.set s) (e.set t) n count assigned.values.0.0 assigned.values.1.0.0 (omega (arith, room)) (omega (arith, room)) _
-      (kept (down_table (2 ^ n)) (operands_of (Down s t n)) e count (DownAt (e.set s) (e.set t) n)
+      (kept (down_table (2 ^ n)) (variables_of_basic (Down s t n)) e count (DownAt (e.set s) (e.set t) n)
       (windowed (e.set s) (e.set t) n 0 1 (first_window (e.set s) n) (λ k below. absurd (omega (arith, below))))
       (λ position state at. down_next (e.set s) (e.set t) n position state at));
 }

@@ -1,16 +1,16 @@
 -- The machine of x = max S decides it.
 use Rattle.std.proofs.Common.{◌≡◌, ◌≢◌, ℕ, zero, suc, ◌+◌, ◌<◌, ◌≤◌, ◌⊎◌, inl, inr, ⊎_elim, Bool, true, false, if◌then◌else◌, List, [], ◌∷◌, refl, sym, ap, subst, ◌∙◌, arith}
 use Rattle.std.proofs.lemmas.Bool.{cases_lt, false≢true}
-use Rattle.ms_logic.specs.declared.core_formula.Basic.TheVariants.{Max}
+use Rattle.ms_logic_core.specs.declared.core_formula.Basic.TheVariants.{Max}
 use Rattle.ms_logic.specs.declared.mode.Mode.{Mode}
 use Rattle.ms_logic.specs.FiniteSet.{IsRising, is_member, greatest}
-use Rattle.ms_logic.specs.Word.{bound_of_set}
+use Rattle.ms_logic.specs.Letters.{bound_of_set}
 use Rattle.ms_logic.proofs.Members.{member_below_bound}
 use Rattle.ms_logic.proofs.SetLaws.{greatest_law}
-use Rattle.ms_basic.specs.Greatest.{greatest_step, greatest_table}
-use Rattle.ms_basic.specs.Operands.{operands_of}
-use Rattle.ms_basic.specs.Relation.{DecidesRelation, IsRight}
-use Rattle.ms_basic.specs.Tally.{IsTally}
+use Rattle.ms_basic.specs.inner.Greatest.{greatest_step, greatest_table}
+use Rattle.ms_logic_core.specs.Operands.{variables_of_basic}
+use Rattle.ms_basic.specs.inner.Relation.{DecidesRelation, IsRight}
+use Rattle.ms_basic.specs.inner.Tally.{IsTally}
 use Rattle.ms_basic.specs.Verdict.{sign_by_verdict}
 use Rattle.ms_basic.proofs.BitLemmas.{Tells, told}
 use Rattle.ms_basic.proofs.ReadingLemmas.{kept}
@@ -109,13 +109,13 @@ greatest_tally = record {
   sign = met_signed;
 }
 
-pub decides_max : (mode : Mode) (x s : ℕ) → DecidesRelation mode (operands_of (Max x s)) (Max x s) greatest_table
+pub decides_max : (mode : Mode) (x s : ℕ) → DecidesRelation mode (variables_of_basic (Max x s)) (Max x s) greatest_table
 decides_max mode x s = record {
   closed = record { start = λ bits. omega arith; step = λ state bits small. greatest_closed state bits.first bits.second };
   tallies = ((count_met, greatest_tally), (tt, tt));
   right = λ e count assigned room string.
       greatest_right (e.number x) (e.set s) count _ assigned.values.1.0.0
-      (kept greatest_table (operands_of (Max x s)) e count (GreatestAt (e.number x) (e.set s)) refl
+      (kept greatest_table (variables_of_basic (Max x s)) e count (GreatestAt (e.number x) (e.set s)) refl
       (λ position state at. greatest_next (e.number x) (e.set s) assigned.values.1.0.0 position state _ _ (told (e.number x) position) refl at))
       (omega (arith, room)) (omega (arith, room));
 }

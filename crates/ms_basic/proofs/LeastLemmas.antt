@@ -1,16 +1,16 @@
 -- The machine of x = min S decides it.
 use Rattle.std.proofs.Common.{◌≡◌, ◌≢◌, ℕ, zero, suc, ◌+◌, ◌<◌, ◌≤◌, ◌⊎◌, ⊎_elim, Bool, true, false, if◌then◌else◌, List, [], ◌∷◌, refl, sym, ap, subst, ◌∙◌, arith}
 use Rattle.std.proofs.lemmas.Bool.{cases_lt, false≢true}
-use Rattle.ms_logic.specs.declared.core_formula.Basic.TheVariants.{Min}
+use Rattle.ms_logic_core.specs.declared.core_formula.Basic.TheVariants.{Min}
 use Rattle.ms_logic.specs.declared.mode.Mode.{Mode}
-use Rattle.ms_logic.specs.declared.sign.Sign.TheVariants.{Outside}
+use Rattle.ms_logic_words.specs.declared.sign.Sign.TheVariants.{Outside}
 use Rattle.ms_logic.specs.FiniteSet.{IsRising, is_member, least}
-use Rattle.ms_logic.specs.Word.{bound_of_set}
+use Rattle.ms_logic.specs.Letters.{bound_of_set}
 use Rattle.ms_logic.proofs.SetLaws.{least_law}
-use Rattle.ms_basic.specs.Least.{least_sign, least_step, least_table}
-use Rattle.ms_basic.specs.Operands.{operands_of}
-use Rattle.ms_basic.specs.Relation.{DecidesRelation, IsRight}
-use Rattle.ms_basic.specs.Tally.{IsTally}
+use Rattle.ms_basic.specs.inner.Least.{least_sign, least_step, least_table}
+use Rattle.ms_logic_core.specs.Operands.{variables_of_basic}
+use Rattle.ms_basic.specs.inner.Relation.{DecidesRelation, IsRight}
+use Rattle.ms_basic.specs.inner.Tally.{IsTally}
 use Rattle.ms_basic.proofs.BitLemmas.{Tells, told}
 use Rattle.ms_basic.proofs.ReadingLemmas.{kept}
 use Rattle.ms_basic.proofs.SetLemmas.{NoneBelow, first_is_member, no_members, one_more_none}
@@ -134,13 +134,13 @@ least_tally = record {
   sign = least_signed;
 }
 
-pub decides_min : (mode : Mode) (x s : ℕ) → DecidesRelation mode (operands_of (Min x s)) (Min x s) least_table
+pub decides_min : (mode : Mode) (x s : ℕ) → DecidesRelation mode (variables_of_basic (Min x s)) (Min x s) least_table
 decides_min mode x s = record {
   closed = record { start = λ bits. omega arith; step = λ state bits small. least_closed state bits.first bits.second };
   tallies = ((count_least, least_tally), (tt, tt));
   right = λ e count assigned room string.
       least_right (e.number x) (e.set s) count _
-      (kept least_table (operands_of (Min x s)) e count (LeastAt (e.number x) (e.set s)) refl
+      (kept least_table (variables_of_basic (Min x s)) e count (LeastAt (e.number x) (e.set s)) refl
       (λ position state at. least_next (e.number x) (e.set s) assigned.values.1.0.0 position state _ _ (told (e.number x) position) refl at))
       (omega (arith, room)) (omega (arith, room));
 }

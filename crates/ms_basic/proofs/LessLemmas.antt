@@ -1,11 +1,11 @@
 -- The machine of x < y decides it.
 use Rattle.std.proofs.Common.{◌≡◌, ℕ, zero, suc, ◌+◌, ◌<◌, ◌≤◌, ◌⊎◌, Bool, if◌then◌else◌, refl, arith}
-use Rattle.ms_logic.specs.declared.core_formula.Basic.TheVariants.{Less}
+use Rattle.ms_logic_core.specs.declared.core_formula.Basic.TheVariants.{Less}
 use Rattle.ms_logic.specs.declared.mode.Mode.{Mode}
-use Rattle.ms_basic.specs.Less.{less_step, less_table}
-use Rattle.ms_basic.specs.Operands.{operands_of}
-use Rattle.ms_basic.specs.Relation.{DecidesRelation, IsRight}
-use Rattle.ms_basic.specs.Tally.{IsTally}
+use Rattle.ms_basic.specs.inner.Less.{less_step, less_table}
+use Rattle.ms_logic_core.specs.Operands.{variables_of_basic}
+use Rattle.ms_basic.specs.inner.Relation.{DecidesRelation, IsRight}
+use Rattle.ms_basic.specs.inner.Tally.{IsTally}
 use Rattle.ms_basic.specs.Verdict.{sign_by_verdict}
 use Rattle.ms_basic.proofs.BitLemmas.{Tells, told}
 use Rattle.ms_basic.proofs.ReadingLemmas.{kept}
@@ -79,13 +79,13 @@ less_closed (suc (suc (suc zero))) a b small = grind arith
 less_closed (suc (suc (suc (suc zero)))) a b small = grind arith
 less_closed (suc (suc (suc (suc (suc more))))) a b small = grind arith
 
-pub decides_less : (mode : Mode) (x y : ℕ) → DecidesRelation mode (operands_of (Less x y)) (Less x y) less_table
+pub decides_less : (mode : Mode) (x y : ℕ) → DecidesRelation mode (variables_of_basic (Less x y)) (Less x y) less_table
 decides_less mode x y = record {
   closed = record { start = λ bits. omega arith; step = λ state bits small. less_closed state bits.first bits.second small };
   tallies = ((count_first, first_tally), ((count_second, second_tally), tt));
   right = λ e count assigned room string.
       less_right (e.number x) (e.number y) count _
-      (kept less_table (operands_of (Less x y)) e count (LessAt (e.number x) (e.number y)) (omega arith, omega arith)
+      (kept less_table (variables_of_basic (Less x y)) e count (LessAt (e.number x) (e.number y)) (omega arith, omega arith)
       (λ position state at. less_next (e.number x) (e.number y) position state _ _ (told (e.number x) position) (told (e.number y) position) at))
       (omega (arith, room)) (omega (arith, room));
 }

@@ -1,13 +1,13 @@
 -- The machine of x in S decides it.
 use Rattle.std.proofs.Common.{◌≡◌, ℕ, zero, suc, ◌+◌, ◌<◌, ◌≤◌, ◌⊎◌, Bool, true, false, if◌then◌else◌, List, refl, sym, subst, ◌∙◌, arith}
 use Rattle.std.proofs.lemmas.Bool.{false≢true}
-use Rattle.ms_logic.specs.declared.core_formula.Basic.TheVariants.{Member}
+use Rattle.ms_logic_core.specs.declared.core_formula.Basic.TheVariants.{Member}
 use Rattle.ms_logic.specs.declared.mode.Mode.{Mode}
 use Rattle.ms_logic.specs.FiniteSet.{IsMember, is_member}
-use Rattle.ms_basic.specs.Member.{member_step, member_table}
-use Rattle.ms_basic.specs.Operands.{operands_of}
-use Rattle.ms_basic.specs.Relation.{DecidesRelation, IsRight}
-use Rattle.ms_basic.specs.Tally.{IsTally}
+use Rattle.ms_basic.specs.inner.Member.{member_step, member_table}
+use Rattle.ms_logic_core.specs.Operands.{variables_of_basic}
+use Rattle.ms_basic.specs.inner.Relation.{DecidesRelation, IsRight}
+use Rattle.ms_basic.specs.inner.Tally.{IsTally}
 use Rattle.ms_basic.specs.Verdict.{sign_by_verdict}
 use Rattle.ms_basic.proofs.BitLemmas.{Tells, told}
 use Rattle.ms_basic.proofs.ReadingLemmas.{kept}
@@ -61,13 +61,13 @@ member_tally = record {
   sign = met_signed;
 }
 
-pub decides_member : (mode : Mode) (x s : ℕ) → DecidesRelation mode (operands_of (Member x s)) (Member x s) member_table
+pub decides_member : (mode : Mode) (x s : ℕ) → DecidesRelation mode (variables_of_basic (Member x s)) (Member x s) member_table
 decides_member mode x s = record {
   closed = record { start = λ bits. omega arith; step = λ state bits small. member_closed state bits.first bits.second };
   tallies = ((count_met, member_tally), (tt, tt));
   right = λ e count assigned room string.
       member_right (e.number x) (e.set s) count _
-      (kept member_table (operands_of (Member x s)) e count (MemberAt (e.number x) (e.set s)) (omega arith)
+      (kept member_table (variables_of_basic (Member x s)) e count (MemberAt (e.number x) (e.set s)) (omega arith)
       (λ position state at. member_next (e.number x) (e.set s) position state _ _ (told (e.number x) position) refl at))
       (omega (arith, room));
 }

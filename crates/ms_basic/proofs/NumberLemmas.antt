@@ -1,12 +1,12 @@
 -- The machine of x = n decides it.
 use Rattle.std.proofs.Common.{◌≡◌, ◌≢◌, ℕ, zero, suc, ◌+◌, ◌<◌, ◌≤◌, ◌⊎◌, Bool, if◌then◌else◌, refl, arith}
 use Rattle.std.proofs.lemmas.Bool.Decides.{nat_tests}
-use Rattle.ms_logic.specs.declared.core_formula.Basic.TheVariants.{Number}
+use Rattle.ms_logic_core.specs.declared.core_formula.Basic.TheVariants.{Number}
 use Rattle.ms_logic.specs.declared.mode.Mode.{Mode}
-use Rattle.ms_basic.specs.Number.{number_step, number_table}
-use Rattle.ms_basic.specs.Operands.{operands_of}
-use Rattle.ms_basic.specs.Relation.{DecidesRelation, IsRight}
-use Rattle.ms_basic.specs.Tally.{IsTally}
+use Rattle.ms_basic.specs.inner.Number.{number_step, number_table}
+use Rattle.ms_logic_core.specs.Operands.{variables_of_basic}
+use Rattle.ms_basic.specs.inner.Relation.{DecidesRelation, IsRight}
+use Rattle.ms_basic.specs.inner.Tally.{IsTally}
 use Rattle.ms_basic.specs.Verdict.{sign_by_verdict}
 use Rattle.ms_basic.proofs.BitLemmas.{Tells, told}
 use Rattle.ms_basic.proofs.ReadingLemmas.{kept}
@@ -56,13 +56,13 @@ number_tally n = record {
   sign = met_signed;
 }
 
-pub decides_number : (mode : Mode) (x n : ℕ) → DecidesRelation mode (operands_of (Number x n)) (Number x n) (number_table n)
+pub decides_number : (mode : Mode) (x n : ℕ) → DecidesRelation mode (variables_of_basic (Number x n)) (Number x n) (number_table n)
 decides_number mode x n = record {
   closed = record { start = λ bits. omega arith; step = λ state bits small. number_closed n state bits.first small };
   tallies = ((count_met, number_tally n), tt);
   right = λ e count assigned room string.
       number_right n (e.number x) count _
-      (kept (number_table n) (operands_of (Number x n)) e count (NumberAt n (e.number x)) (omega arith, omega arith, omega arith)
+      (kept (number_table n) (variables_of_basic (Number x n)) e count (NumberAt n (e.number x)) (omega arith, omega arith, omega arith)
       (λ position state at. number_next n (e.number x) position state _ (told (e.number x) position) at))
       (omega (arith, room));
 }

@@ -1,15 +1,16 @@
 -- The operands of a relation, and the first of them.
 use Rattle.std.proofs.Common.{◌≡◌, ℕ, zero, suc, ◌≤◌, ⊎_elim, inl, inr, List, [], ◌∷◌, length, take, refl, ap, ◌∙◌, arith}
 use Rattle.std.proofs.lemmas.List.{length-map}
-use Rattle.ms_logic.specs.declared.core_formula.Basic.{Basic}
-use Rattle.ms_logic.specs.declared.core_formula.Basic.TheVariants.{Truth, Number, Plus, Less, Member, Sub, Union, Inter, Diff, Up, Down, Min, Max, Bits}
+use Rattle.ms_logic_core.specs.declared.core_formula.Basic.{Basic}
+use Rattle.ms_logic_core.specs.declared.core_formula.Basic.TheVariants.{Truth, Number, Plus, Less, Member, Sub, Union, Inter, Diff, Up, Down, Min, Max, Bits}
 use Rattle.ms_logic.specs.Assignment.{Variable}
 use Rattle.ms_dfa.specs.declared.track.Track.{Track}
 use Rattle.ms_dfa.specs.Automaton.{variable_of, variables_of}
-use Rattle.ms_explore.specs.Tracks.{IsAmong, distinct}
+use Rattle.ms_dfa_explore.specs.Tracks.{IsAmong, distinct}
 use Rattle.ms_basic.specs.declared.reading.Wiring.{Wiring}
-use Rattle.ms_basic.specs.Operands.{HaveOneOrder, operands_of}
-use Rattle.ms_basic.specs.Reading.{wiring_of}
+use Rattle.ms_basic.specs.Operands.{HaveOneOrder}
+use Rattle.ms_logic_core.specs.Operands.{variables_of_basic}
+use Rattle.ms_basic.specs.inner.Reading.{wiring_of}
 use Rattle.ms_basic.proofs.DistinctLemmas.{length-distinct}
 
 -- the first of a list are in the list
@@ -28,7 +29,7 @@ variables_of-take (suc count) [] = refl
 variables_of-take (suc count) (first ∷ tracks) = ap (λ vs. variable_of first ∷ vs) (variables_of-take count tracks)
 
 -- a relation has three operands at most
-few_operands : (form : Basic) → length (operands_of form) ≤ 3
+few_operands : (form : Basic) → length (variables_of_basic form) ≤ 3
 few_operands (Truth a) = omega arith
 few_operands (Number x n) = omega arith
 few_operands (Plus x y n) = omega arith
@@ -49,26 +50,26 @@ length-take zero vs = omega arith
 length-take (suc count) [] = omega arith
 length-take (suc count) (first ∷ vs) = let others = length-take count vs in omega (arith, others)
 
-pub few_taken : (count : ℕ) (form : Basic) → length (take count (operands_of form)) ≤ 3
-few_taken count form = omega (arith, length-take count (operands_of form), few_operands form)
+pub few_taken : (count : ℕ) (form : Basic) → length (take count (variables_of_basic form)) ≤ 3
+few_taken count form = omega (arith, length-take count (variables_of_basic form), few_operands form)
 
-module _ (count : ℕ) (form : Basic) (all operands : List Track) (are : variables_of all ≡ operands_of form) (same : operands ≡ all) where
+module _ (count : ℕ) (form : Basic) (all operands : List Track) (are : variables_of all ≡ variables_of_basic form) (same : operands ≡ all) where
   -- the variables of the operands that are read
-  pub taken : variables_of (take count operands) ≡ take count (operands_of form)
+  pub taken : variables_of (take count operands) ≡ take count (variables_of_basic form)
   taken = ap (λ (ts : List Track). variables_of (take count ts)) same ∙ variables_of-take count all ∙ ap (take count) are
 
   -- and the tracks made of them
   module _ (tracks : List Track) (made : variables_of tracks ≡ distinct (variables_of (take count operands))) where
-    pub tracks_are : variables_of tracks ≡ distinct (take count (operands_of form))
+    pub tracks_are : variables_of tracks ≡ distinct (take count (variables_of_basic form))
     tracks_are = made ∙ ap distinct taken
 
     pub few_tracks : length tracks ≤ 3
-    few_tracks = omega (arith, length-map tracks variable_of, ap length tracks_are, length-distinct (take count (operands_of form)), few_taken count form)
+    few_tracks = omega (arith, length-map tracks variable_of, ap length tracks_are, length-distinct (take count (variables_of_basic form)), few_taken count form)
 
     pub wires : (wiring : Wiring) (lent : List Track) → lent ≡ tracks → wiring ≡ wiring_of (variables_of (take count operands)) (variables_of lent)
-        → wiring ≡ wiring_of (take count (operands_of form)) (distinct (take count (operands_of form)))
+        → wiring ≡ wiring_of (take count (variables_of_basic form)) (distinct (take count (variables_of_basic form)))
     wires wiring lent is made_wiring =
         made_wiring
         ∙ ap (λ vs. wiring_of vs (variables_of lent)) taken
-        ∙ ap (λ (ts : List Track). wiring_of (take count (operands_of form)) (variables_of ts)) is
-        ∙ ap (wiring_of (take count (operands_of form))) tracks_are
+        ∙ ap (λ (ts : List Track). wiring_of (take count (variables_of_basic form)) (variables_of ts)) is
+        ∙ ap (wiring_of (take count (variables_of_basic form))) tracks_are

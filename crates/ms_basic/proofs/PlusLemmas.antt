@@ -1,12 +1,12 @@
 -- The machine of x = y + n decides it.
 use Rattle.std.proofs.Common.{◌≡◌, ◌≢◌, ℕ, zero, suc, ◌+◌, ◌<◌, ◌≤◌, ◌⊎◌, Bool, if◌then◌else◌, refl, arith}
 use Rattle.std.proofs.lemmas.Bool.Decides.{nat_tests}
-use Rattle.ms_logic.specs.declared.core_formula.Basic.TheVariants.{Plus}
+use Rattle.ms_logic_core.specs.declared.core_formula.Basic.TheVariants.{Plus}
 use Rattle.ms_logic.specs.declared.mode.Mode.{Mode}
-use Rattle.ms_basic.specs.Operands.{operands_of}
-use Rattle.ms_basic.specs.Plus.{plus_step, plus_table}
-use Rattle.ms_basic.specs.Relation.{DecidesRelation, IsRight}
-use Rattle.ms_basic.specs.Tally.{IsTally}
+use Rattle.ms_logic_core.specs.Operands.{variables_of_basic}
+use Rattle.ms_basic.specs.inner.Plus.{plus_step, plus_table}
+use Rattle.ms_basic.specs.inner.Relation.{DecidesRelation, IsRight}
+use Rattle.ms_basic.specs.inner.Tally.{IsTally}
 use Rattle.ms_basic.specs.Verdict.{sign_by_verdict}
 use Rattle.ms_basic.proofs.BitLemmas.{Tells, told}
 use Rattle.ms_basic.proofs.ReadingLemmas.{kept}
@@ -84,13 +84,13 @@ plus_closed n (suc (suc (suc (suc zero)))) a b small = grind arith
 plus_closed n (suc (suc (suc (suc (suc zero))))) a b small = grind arith
 plus_closed n (suc (suc (suc (suc (suc (suc j)))))) a b small = grind (arith, nat_tests)
 
-pub decides_plus : (mode : Mode) (x y n : ℕ) → DecidesRelation mode (operands_of (Plus x y n)) (Plus x y n) (plus_table n)
+pub decides_plus : (mode : Mode) (x y n : ℕ) → DecidesRelation mode (variables_of_basic (Plus x y n)) (Plus x y n) (plus_table n)
 decides_plus mode x y n = record {
   closed = record { start = λ bits. omega arith; step = λ state bits small. plus_closed n state bits.first bits.second small };
   tallies = ((count_first, first_tally n), ((count_second, second_tally n), tt));
   right = λ e count assigned room string.
       plus_right n (e.number x) (e.number y) count _
-      (kept (plus_table n) (operands_of (Plus x y n)) e count (PlusAt n (e.number x) (e.number y)) (omega arith, omega arith)
+      (kept (plus_table n) (variables_of_basic (Plus x y n)) e count (PlusAt n (e.number x) (e.number y)) (omega arith, omega arith)
       (λ position state at. plus_next n (e.number x) (e.number y) position state _ _ (told (e.number x) position) (told (e.number y) position) at))
       (omega (arith, room)) (omega (arith, room));
 }

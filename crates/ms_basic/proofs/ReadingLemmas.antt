@@ -1,22 +1,23 @@
 -- What machines over operands read of the words that encode an assignment.
 use Rattle.std.proofs.Common.{◌≡◌, ℕ, zero, suc, ◌<◌, ◌≤◌, inl, inr, nat_eq, Bool, true, false, if◌then◌else◌, List, [], ◌∷◌, length, get_or, slice_get, Some, refl, ap, ◌∙◌, arith}
 use Rattle.std.proofs.lemmas.Option.{none-some, same_Some, slice_get_within}
-use Rattle.ms_edge.specs.declared.refusal.Word.{Word}
+use Rattle.ms_list.specs.declared.word.Word.{Word}
 use Rattle.ms_arena.specs.Diagram.{Bits}
 use Rattle.ms_logic.specs.declared.mode.Order.{Order}
 use Rattle.ms_logic.specs.declared.mode.Order.TheVariants.{Zero, One, Two}
 use Rattle.ms_logic.specs.Assignment.{Env, Variable}
-use Rattle.ms_logic.specs.Content.{letter_bits, truth_bits}
-use Rattle.ms_logic.specs.Roots.{AreRising}
-use Rattle.ms_logic.specs.Word.{Encodes, letter_at, truth_values_of, with_bit, with_truth_value}
-use Rattle.ms_theory.specs.Machine.{end_of, IsScan}
-use Rattle.ms_theory.proofs.MachineLemmas.{scanned}
+use Rattle.ms_logic_words.specs.Content.{letter_bits, truth_bits}
+use Rattle.ms_logic.specs.Lists.{AreRising}
+use Rattle.ms_logic_words.specs.Word.{Encodes}
+use Rattle.ms_logic.specs.Letters.{letter_at, truth_values_of, with_bit, with_truth_value}
+use Rattle.ms_dfa.specs.Machine.{end_of, IsScan}
+use Rattle.ms_dfa.proofs.MachineLemmas.{scanned}
 use Rattle.ms_dfa.specs.declared.track.Track.{Track}
 use Rattle.ms_dfa.specs.Automaton.{variables_of}
-use Rattle.ms_explore.specs.Small.{Table, bit_at, machine_of, track_bits}
-use Rattle.ms_explore.specs.Tracks.{IsAmong, place_of}
-use Rattle.ms_explore.proofs.TracksLemmas.{place_of-among}
-use Rattle.ms_basic.specs.Reading.{bit_of, operand_bits, operand_bit, operand_truth, read_at, state_behind, track_at, operand_truths, truth_of, wired, wiring_of}
+use Rattle.ms_dfa_explore.specs.Small.{Table, bit_at, machine_of, track_bits}
+use Rattle.ms_dfa_explore.specs.Tracks.{IsAmong, place_of}
+use Rattle.ms_dfa_explore.proofs.TracksLemmas.{place_of-among}
+use Rattle.ms_basic.specs.inner.Reading.{bit_of, operand_bits, operand_bit, operand_truth, read_at, state_behind, track_at, operand_truths, truth_of, wired, wiring_of}
 
 -- the bit of a variable in a letter, by the place where it stands
 first_bit : (o : Order) (x : ℕ) (vs : List Variable) (e : Env) (position : ℕ)

@@ -1,25 +1,26 @@
 -- A machine that decides a relation makes its automaton.
 use Rattle.std.proofs.Common.{◌≡◌, ◌≢◌, ◌≤◌, List, [], length, Some, Result, Ok, Err, IfOk, refl, sym, ap, subst, ◌∙◌, arith}
-use Rattle.ms_edge.specs.declared.fault.StepFault.{StepFault}
-use Rattle.ms_edge.specs.declared.refusal.Word.{Word}
-use Rattle.ms_logic.specs.declared.core_formula.Basic.{Basic}
+use Rattle.ms_list.specs.declared.fault.StepFault.{StepFault}
+use Rattle.ms_list.specs.declared.word.Word.{Word}
+use Rattle.ms_logic_core.specs.declared.core_formula.Basic.{Basic}
 use Rattle.ms_logic.specs.declared.mode.Mode.{Mode}
-use Rattle.ms_logic.specs.declared.sign.Sign.{Sign}
-use Rattle.ms_logic.specs.declared.sign.Sign.TheVariants.{Yes, No, Undefined, Outside}
+use Rattle.ms_logic_words.specs.declared.sign.Sign.{Sign}
+use Rattle.ms_logic_words.specs.declared.sign.Sign.TheVariants.{Yes, No, Undefined, Outside}
 use Rattle.ms_logic.specs.Assignment.{Env, Variable, IsAssignment}
-use Rattle.ms_logic.specs.Content.{Content, IsWordOver, sign_of, with_zero_letter}
-use Rattle.ms_logic.specs.CoreForm.{Holds, basic}
-use Rattle.ms_logic.specs.Word.{Encodes, IsEncoding}
-use Rattle.ms_logic.specs.WordSign.{IsOutside}
-use Rattle.ms_logic.proofs.WordLaws.{encoding_is_over, zero_letter_keeps}
-use Rattle.ms_theory.specs.Values.{HasValues, core_meaning}
-use Rattle.ms_explore.specs.Small.{Table, sign_by, TellsWords}
-use Rattle.ms_explore.specs.Tracks.{IsAmong, distinct}
-use Rattle.ms_explore.proofs.TracksLemmas.{distinct-rising}
+use Rattle.ms_logic_words.specs.Content.{Content, IsWordOver, sign_of, with_zero_letter}
+use Rattle.ms_logic_core.specs.CoreForm.{Holds, basic}
+use Rattle.ms_logic_words.specs.Word.{Encodes, IsEncoding}
+use Rattle.ms_logic_words.specs.WordSign.{IsOutside}
+use Rattle.ms_logic_words.proofs.WordLaws.{encoding_is_over, zero_letter_keeps}
+use Rattle.ms_dfa.specs.Values.{HasValues, core_meaning}
+use Rattle.ms_dfa_explore.specs.Small.{Table, sign_by, TellsWords}
+use Rattle.ms_dfa_explore.specs.Tracks.{IsAmong, distinct}
+use Rattle.ms_dfa_explore.proofs.TracksLemmas.{distinct-rising}
 use Rattle.ms_basic.specs.declared.reading.Wiring.{Wiring}
-use Rattle.ms_basic.specs.Operands.{HaveOneOrder, operands_of}
-use Rattle.ms_basic.specs.Reading.{wired, wiring_of}
-use Rattle.ms_basic.specs.Relation.{DecidesRelation, IsOfRelation, IsRight}
+use Rattle.ms_basic.specs.Operands.{HaveOneOrder}
+use Rattle.ms_logic_core.specs.Operands.{variables_of_basic}
+use Rattle.ms_basic.specs.inner.Reading.{wired, wiring_of}
+use Rattle.ms_basic.specs.inner.Relation.{DecidesRelation, IsOfRelation, IsRight}
 use Rattle.ms_basic.proofs.DistinctLemmas.{IsAssignment-some, among-distinct, bound_of-some, distinct-among, length-distinct}
 use Rattle.ms_basic.proofs.ReadingLemmas.{state_at_end}
 use Rattle.ms_basic.proofs.TallyLemmas.{inside_encodes}
@@ -120,7 +121,7 @@ module _ (mode : Mode) (operands : List Variable) (form : Basic) (table : Table)
 -- the same of what was built
 pub relation_built : (mode : Mode) (operands over : List Variable) (wiring : Wiring) (form : Basic) (table : Table) (result : Result (Content Sign) StepFault) → HaveOneOrder operands
     → length operands ≤ 3 → DecidesRelation mode operands form table → over ≡ distinct operands → wiring ≡ wiring_of operands (distinct operands)
-    → distinct operands ≡ distinct (operands_of form) → IfOk result (λ made. made.mode ≡ mode) → IfOk result (λ made. made.variables ≡ over)
+    → distinct operands ≡ distinct (variables_of_basic form) → IfOk result (λ made. made.mode ≡ mode) → IfOk result (λ made. made.variables ≡ over)
     → IfOk result (λ made. (word : Word) → IsWordOver over word → sign_of made word ≡ Some (sign_by (wired wiring table) over word))
     → IfOk result (IsOfRelation mode form)
 relation_built mode operands over wiring form table (Ok made) orders few decides are wires same of_mode variables signs = record {

@@ -1,18 +1,18 @@
 -- The machines of relations that name one variable alone decide them.
 use Rattle.std.proofs.Common.{◌≡◌, ◌≢◌, ℕ, zero, suc, ◌+◌, ◌<◌, ◌≤◌, ◌⊎◌, inl, inr, Bool, true, false, ◌||◌, ◌&&◌, if◌then◌else◌, List, [], ◌∷◌, ◌++◌, refl, sym, subst, ◌∙◌, arith}
-use Rattle.ms_logic.specs.declared.core_formula.Basic.{Basic}
-use Rattle.ms_logic.specs.declared.core_formula.Basic.TheVariants.{Less, Plus, Sub, Union, Inter}
+use Rattle.ms_logic_core.specs.declared.core_formula.Basic.{Basic}
+use Rattle.ms_logic_core.specs.declared.core_formula.Basic.TheVariants.{Less, Plus, Sub, Union, Inter}
 use Rattle.ms_logic.specs.declared.mode.Mode.{Mode}
-use Rattle.ms_logic.specs.declared.sign.Sign.TheVariants.{Outside}
+use Rattle.ms_logic_words.specs.declared.sign.Sign.TheVariants.{Outside}
 use Rattle.ms_logic.specs.Assignment.{Env, IsAssignment}
-use Rattle.ms_logic.specs.CoreForm.{Holds}
+use Rattle.ms_logic_core.specs.CoreForm.{Holds}
 use Rattle.ms_logic.specs.FiniteSet.{is_member, IsRising, union_of, intersection_of}
 use Rattle.ms_logic.proofs.Members.{is_member-union_of, is_member-filter, IsRising-set_of, IsRising-filter}
 use Rattle.ms_logic.proofs.SetLaws.{sets_are_their_members, subset_law}
 use Rattle.ms_basic.specs.Operands.{number, set}
-use Rattle.ms_basic.specs.Relation.{DecidesRelation, IsRight}
-use Rattle.ms_basic.specs.Repeated.{constant_table, one_number_sign, one_number_step, one_number_table, sign_of_constant}
-use Rattle.ms_basic.specs.Tally.{IsTally}
+use Rattle.ms_basic.specs.inner.Relation.{DecidesRelation, IsRight}
+use Rattle.ms_basic.specs.inner.Repeated.{constant_table, one_number_sign, one_number_step, one_number_table, sign_of_constant}
+use Rattle.ms_basic.specs.inner.Tally.{IsTally}
 use Rattle.ms_basic.proofs.BitLemmas.{Tells, told}
 use Rattle.ms_basic.proofs.ReadingLemmas.{kept}
 

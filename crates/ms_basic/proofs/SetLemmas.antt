@@ -6,7 +6,8 @@ use Rattle.ms_logic.specs.declared.mode.Mode.TheVariants.{M2lStr}
 use Rattle.ms_logic.specs.Assignment.{Universe, IsUniverseOf, is_within}
 use Rattle.ms_logic.specs.FiniteSet.{is_member, IsRising}
 use Rattle.ms_logic.specs.Terms.{part_within}
-use Rattle.ms_logic.specs.Word.{HasLength, bound_of_set}
+use Rattle.ms_logic_words.specs.Word.{HasLength}
+use Rattle.ms_logic.specs.Letters.{bound_of_set}
 use Rattle.ms_logic.proofs.Members.{is_member-filter}
 use Rattle.ms_logic.proofs.SetLaws.{sets_are_their_members}
 use Rattle.ms_basic.specs.Sets.{is_same}

@@ -1,19 +1,19 @@
 -- The machines of relations between sets that are tested position by position decide them.
 use Rattle.std.proofs.Common.{◌≡◌, ℕ, zero, suc, ◌<◌, ◌≤◌, Bool, true, false, not, ◌&&◌, ◌||◌, List, ◌++◌, refl, sym, ap, ◌∙◌, arith}
 use Rattle.std.proofs.lemmas.Bool.{false≢true}
-use Rattle.ms_logic.specs.declared.core_formula.Basic.TheVariants.{Sub, Union, Inter, Diff}
+use Rattle.ms_logic_core.specs.declared.core_formula.Basic.TheVariants.{Sub, Union, Inter, Diff}
 use Rattle.ms_logic.specs.declared.mode.Mode.{Mode}
 use Rattle.ms_logic.specs.Assignment.{Env, Variable}
 use Rattle.ms_logic.specs.FiniteSet.{is_member, IsRising, IsSubset, union_of, intersection_of, difference_of}
-use Rattle.ms_logic.specs.Word.{bound_of_set}
+use Rattle.ms_logic.specs.Letters.{bound_of_set}
 use Rattle.ms_logic.proofs.Members.{is_member-union_of, is_member-filter, no_member_from_bound, member_below_bound, IsRising-set_of, IsRising-filter}
 use Rattle.ms_logic.proofs.SetLaws.{subset_law}
-use Rattle.ms_explore.specs.Small.{IsClosedTable}
+use Rattle.ms_dfa_explore.specs.Small.{IsClosedTable}
 use Rattle.ms_basic.specs.declared.sets.SetRelation as relations
 use Rattle.ms_basic.specs.declared.sets.SetRelation.{SetRelation}
-use Rattle.ms_basic.specs.Operands.{operands_of}
-use Rattle.ms_basic.specs.Reading.{operand_bits, state_behind}
-use Rattle.ms_basic.specs.Relation.{DecidesRelation, IsRight}
+use Rattle.ms_logic_core.specs.Operands.{variables_of_basic}
+use Rattle.ms_basic.specs.inner.Reading.{operand_bits, state_behind}
+use Rattle.ms_basic.specs.inner.Relation.{DecidesRelation, IsRight}
 use Rattle.ms_basic.specs.Sets.{agrees, is_same, sets_table, tested_step}
 use Rattle.ms_basic.specs.Verdict.{sign_by_contradiction}
 use Rattle.ms_basic.proofs.ReadingLemmas.{kept}
@@ -63,12 +63,12 @@ broken : (a b : Bool) → (not a || b) ≡ false → (a ≡ true) × (b ≡ fals
 broken true b breaks = (refl, breaks)
 broken false b breaks = let never : ⊥ = cc in absurd never
 
-pub decides_sub : (mode : Mode) (s t : ℕ) → DecidesRelation mode (operands_of (Sub s t)) (Sub s t) (sets_table relations.TheVariants.Sub)
+pub decides_sub : (mode : Mode) (s t : ℕ) → DecidesRelation mode (variables_of_basic (Sub s t)) (Sub s t) (sets_table relations.TheVariants.Sub)
 decides_sub mode s t = record {
   closed = sets_closed relations.TheVariants.Sub;
   tallies = (tt, (tt, tt));
   right = λ e count assigned room string.
-      sets_right relations.TheVariants.Sub (operands_of (Sub s t)) e count (IsSubset (e.set s) (e.set t))
+      sets_right relations.TheVariants.Sub (variables_of_basic (Sub s t)) e count (IsSubset (e.set s) (e.set t))
       (λ all. (subset_law (e.set s) (e.set t)).1 (λ n member.
       agreed (is_member n (e.set s)) (is_member n (e.set t)) (all n (omega (arith, room, member_below_bound (e.set s) n member))) member))
       (λ k below breaks subset.
@@ -95,36 +95,36 @@ equal_decides relation operands e count left right told rising_left rising_right
     (λ k below breaks.
     other_sets left right k (λ same. other_bits (is_member k left) (told k) (sym (agree k) ∙ breaks) (same ∙ tells k)))
 
-pub decides_union : (mode : Mode) (s t u : ℕ) → DecidesRelation mode (operands_of (Union s t u)) (Union s t u) (sets_table relations.TheVariants.Union)
+pub decides_union : (mode : Mode) (s t u : ℕ) → DecidesRelation mode (variables_of_basic (Union s t u)) (Union s t u) (sets_table relations.TheVariants.Union)
 decides_union mode s t u = record {
   closed = sets_closed relations.TheVariants.Union;
   tallies = (tt, (tt, (tt, tt)));
   right = λ e count assigned room string.
-      equal_decides relations.TheVariants.Union (operands_of (Union s t u)) e count (e.set s) (union_of (e.set t) (e.set u))
+      equal_decides relations.TheVariants.Union (variables_of_basic (Union s t u)) e count (e.set s) (union_of (e.set t) (e.set u))
       (λ k. is_member k (e.set t) || is_member k (e.set u)) assigned.values.0.0 (IsRising-set_of (e.set t ++ e.set u)) (omega (arith, room))
       (λ k. is_member-union_of k (e.set t) (e.set u))
       (λ k above. no_or (is_member k (e.set t)) (is_member k (e.set u)) (no_member_from_bound (e.set t) k (omega (arith, room, above))) (no_member_from_bound (e.set u) k (omega (arith, room, above))))
       (λ k. refl);
 }
 
-pub decides_inter : (mode : Mode) (s t u : ℕ) → DecidesRelation mode (operands_of (Inter s t u)) (Inter s t u) (sets_table relations.TheVariants.Inter)
+pub decides_inter : (mode : Mode) (s t u : ℕ) → DecidesRelation mode (variables_of_basic (Inter s t u)) (Inter s t u) (sets_table relations.TheVariants.Inter)
 decides_inter mode s t u = record {
   closed = sets_closed relations.TheVariants.Inter;
   tallies = (tt, (tt, (tt, tt)));
   right = λ e count assigned room string.
-      equal_decides relations.TheVariants.Inter (operands_of (Inter s t u)) e count (e.set s) (intersection_of (e.set t) (e.set u))
+      equal_decides relations.TheVariants.Inter (variables_of_basic (Inter s t u)) e count (e.set s) (intersection_of (e.set t) (e.set u))
       (λ k. is_member k (e.set t) && is_member k (e.set u)) assigned.values.0.0 (IsRising-filter (λ n. is_member n (e.set u)) (e.set t) assigned.values.1.0.0) (omega (arith, room))
       (λ k. is_member-filter k (λ n. is_member n (e.set u)) (e.set t))
       (λ k above. no_and (is_member k (e.set t)) (is_member k (e.set u)) (no_member_from_bound (e.set t) k (omega (arith, room, above))))
       (λ k. refl);
 }
 
-pub decides_diff : (mode : Mode) (s t u : ℕ) → DecidesRelation mode (operands_of (Diff s t u)) (Diff s t u) (sets_table relations.TheVariants.Diff)
+pub decides_diff : (mode : Mode) (s t u : ℕ) → DecidesRelation mode (variables_of_basic (Diff s t u)) (Diff s t u) (sets_table relations.TheVariants.Diff)
 decides_diff mode s t u = record {
   closed = sets_closed relations.TheVariants.Diff;
   tallies = (tt, (tt, (tt, tt)));
   right = λ e count assigned room string.
-      equal_decides relations.TheVariants.Diff (operands_of (Diff s t u)) e count (e.set s) (difference_of (e.set t) (e.set u))
+      equal_decides relations.TheVariants.Diff (variables_of_basic (Diff s t u)) e count (e.set s) (difference_of (e.set t) (e.set u))
       (λ k. is_member k (e.set t) && not (is_member k (e.set u))) assigned.values.0.0 (IsRising-filter (λ n. not (is_member n (e.set u))) (e.set t) assigned.values.1.0.0) (omega (arith, room))
       (λ k. is_member-filter k (λ n. not (is_member n (e.set u))) (e.set t))
       (λ k above. no_and (is_member k (e.set t)) (not (is_member k (e.set u))) (no_member_from_bound (e.set t) k (omega (arith, room, above))))

@@ -1,23 +1,23 @@
 -- A set that is itself moved by 0 is any set, and one that is itself moved further is empty.
 use Rattle.std.proofs.Common.{◌≡◌, ℕ, ◌+◌, ◌<◌, ◌↔◌, inl, inr, Bool, true, false, ◌&&◌, List, [], ◌∷◌, refl, sym, ap, subst, ◌∙◌, arith}
 use Rattle.std.proofs.lemmas.Bool.{false≢true}
-use Rattle.ms_logic.specs.declared.core_formula.Basic.{Basic}
-use Rattle.ms_logic.specs.declared.core_formula.Basic.TheVariants.{Bits, Down, Up}
+use Rattle.ms_logic_core.specs.declared.core_formula.Basic.{Basic}
+use Rattle.ms_logic_core.specs.declared.core_formula.Basic.TheVariants.{Bits, Down, Up}
 use Rattle.ms_logic.specs.declared.mode.Mode.{Mode}
-use Rattle.ms_logic.specs.declared.sign.Sign.{Sign}
-use Rattle.ms_logic.specs.declared.sign.Sign.TheVariants.{Yes, No, Undefined, Outside}
+use Rattle.ms_logic_words.specs.declared.sign.Sign.{Sign}
+use Rattle.ms_logic_words.specs.declared.sign.Sign.TheVariants.{Yes, No, Undefined, Outside}
 use Rattle.ms_logic.specs.Assignment.{Universe, AllWithin, Env, IsAssignment, Variable, is_within}
-use Rattle.ms_logic.specs.CoreForm.{Holds}
+use Rattle.ms_logic_core.specs.CoreForm.{Holds}
 use Rattle.ms_logic.specs.FiniteSet.{IsRising, greatest, is_member, moved_down, moved_up}
 use Rattle.ms_logic.specs.Terms.{part_within}
 use Rattle.ms_logic.proofs.Members.{IsRising-filter, IsRising-moved_down, IsRising-moved_up, is_member-filter, is_member-moved_down, is_member-moved_up, member_cases}
 use Rattle.ms_logic.proofs.SetLaws.{greatest_law, least_law, moved_up_law}
 use Rattle.ms_logic.proofs.Within.{is_within-of}
-use Rattle.ms_explore.specs.Small.{Table}
+use Rattle.ms_dfa_explore.specs.Small.{Table}
 use Rattle.ms_basic.specs.Bits.{bits_table}
 use Rattle.ms_basic.specs.Operands.{set}
-use Rattle.ms_basic.specs.Relation.{DecidesRelation, IsRight}
-use Rattle.ms_basic.specs.Repeated.{constant_table}
+use Rattle.ms_basic.specs.inner.Relation.{DecidesRelation, IsRight}
+use Rattle.ms_basic.specs.inner.Repeated.{constant_table}
 use Rattle.ms_basic.proofs.BitsLemmas.{decides_bits}
 use Rattle.ms_basic.proofs.RepeatedLemmas.{decides_always, same_members}
 use Rattle.ms_basic.proofs.SetLemmas.{and_true, first_is_member}

@@ -2,25 +2,25 @@
 use Rattle.std.proofs.Common.{◌≡◌, ◌≢◌, ℕ, zero, suc, ◌+◌, ◌<◌, ◌≤◌, ◌⊎◌, inl, inr, ⊎_elim, Bool, true, false, if◌then◌else◌, List, [], ◌∷◌, length, map, slice_get, Some, refl, sym, ap, subst, ◌∙◌, arith}
 use Rattle.std.specs.List.{filter, range_with_len}
 use Rattle.std.proofs.lemmas.Option.{none-some, same_Some, slice_get_within}
-use Rattle.ms_edge.specs.declared.refusal.Word.{Word}
+use Rattle.ms_list.specs.declared.word.Word.{Word}
 use Rattle.ms_logic.specs.declared.mode.Mode.{Mode}
 use Rattle.ms_logic.specs.declared.mode.Order.TheVariants.{One}
-use Rattle.ms_logic.specs.declared.sign.Sign.TheVariants.{Outside}
+use Rattle.ms_logic_words.specs.declared.sign.Sign.TheVariants.{Outside}
 use Rattle.ms_logic.specs.Assignment.{Variable}
-use Rattle.ms_logic.specs.Content.{AreLetters, IsWordOver, letter_bits, truth_bits}
-use Rattle.ms_logic.specs.Decoding.{bit_in, positions_of}
-use Rattle.ms_logic.specs.Roots.{AreRising}
-use Rattle.ms_logic.specs.Word.{IsEncoding}
-use Rattle.ms_logic.proofs.DecodedWords.{encodings_are}
-use Rattle.ms_theory.specs.Machine.{after}
-use Rattle.ms_theory.specs.Narrow.{IsCovered, narrowed}
-use Rattle.ms_theory.proofs.CoveredLemmas.{covered_encodes}
-use Rattle.ms_explore.specs.declared.small.TrackBits.{TrackBits}
-use Rattle.ms_explore.specs.Small.{Table, bit_at, machine_of, sign_by, track_bits}
-use Rattle.ms_explore.specs.Tracks.{IsAmong}
+use Rattle.ms_logic_words.specs.Content.{AreLetters, IsWordOver, letter_bits, truth_bits}
+use Rattle.ms_logic_words.specs.inner.Decoding.{bit_in, positions_of}
+use Rattle.ms_logic.specs.Lists.{AreRising}
+use Rattle.ms_logic_words.specs.Word.{IsEncoding}
+use Rattle.ms_logic_words.proofs.DecodedWords.{encodings_are}
+use Rattle.ms_dfa.specs.Machine.{after}
+use Rattle.ms_dfa.specs.Narrow.{IsCovered, narrowed}
+use Rattle.ms_dfa.proofs.CoveredLemmas.{covered_encodes}
+use Rattle.ms_dfa_explore.specs.declared.small.TrackBits.{TrackBits}
+use Rattle.ms_dfa_explore.specs.Small.{Table, bit_at, machine_of, sign_by, track_bits}
+use Rattle.ms_dfa_explore.specs.Tracks.{IsAmong}
 use Rattle.ms_basic.specs.Operands.{number}
-use Rattle.ms_basic.specs.Reading.{read_at, track_at, wired, wiring_of}
-use Rattle.ms_basic.specs.Tally.{HasTally, IsTally, OnNumber, OnNumbers}
+use Rattle.ms_basic.specs.inner.Reading.{read_at, track_at, wired, wiring_of}
+use Rattle.ms_basic.specs.inner.Tally.{HasTally, IsTally, OnNumber, OnNumbers}
 use Rattle.ms_basic.proofs.DistinctLemmas.{among-at, at-among, place_of-at}
 use Rattle.ms_basic.proofs.ReadingLemmas.{bit_at-track_bits, track_at-at}
 

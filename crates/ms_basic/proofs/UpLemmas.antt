@@ -3,20 +3,21 @@ use Rattle.std.proofs.Common.{◌≡◌, ◌≢◌, ℕ, zero, suc, ◌+◌, ◌
 use Rattle.std.proofs.lemmas.Bool.{false≢true}
 use Rattle.std.proofs.Math.Nat.{zero-mod}
 use Rattle.std.proofs.lemmas.Nat.{mod_below, pow_pos}
-use Rattle.ms_logic.specs.declared.core_formula.Basic.TheVariants.{Up}
+use Rattle.ms_logic_core.specs.declared.core_formula.Basic.TheVariants.{Up}
 use Rattle.ms_logic.specs.declared.mode.Mode.{Mode}
 use Rattle.ms_logic.specs.declared.mode.Mode.TheVariants.{Ws1s, M2lStr}
-use Rattle.ms_logic.specs.declared.sign.Sign.TheVariants.{Yes, No}
+use Rattle.ms_logic_words.specs.declared.sign.Sign.TheVariants.{Yes, No}
 use Rattle.ms_logic.specs.Assignment.{Universe, IsUniverseOf, is_within}
 use Rattle.ms_logic.specs.FiniteSet.{IsRising, is_member, moved_up}
 use Rattle.ms_logic.specs.Terms.{part_within}
-use Rattle.ms_logic.specs.Word.{HasLength, bound_of_set}
+use Rattle.ms_logic_words.specs.Word.{HasLength}
+use Rattle.ms_logic.specs.Letters.{bound_of_set}
 use Rattle.ms_logic.proofs.Members.{IsRising-filter, IsRising-moved_up, is_member-moved_up, member_below_bound, no_member_from_bound}
 use Rattle.ms_logic.proofs.SetLaws.{moved_up_law}
-use Rattle.ms_basic.specs.Operands.{operands_of}
-use Rattle.ms_basic.specs.Relation.{DecidesRelation, IsRight}
+use Rattle.ms_logic_core.specs.Operands.{variables_of_basic}
+use Rattle.ms_basic.specs.inner.Relation.{DecidesRelation, IsRight}
 use Rattle.ms_basic.specs.Sets.{is_same}
-use Rattle.ms_basic.specs.Windows.{shifted, up_sign, up_step, up_table}
+use Rattle.ms_basic.specs.inner.Windows.{shifted, up_sign, up_step, up_table}
 use Rattle.ms_basic.proofs.BitLemmas.{Tells, told}
 use Rattle.ms_basic.proofs.ReadingLemmas.{kept}
 use Rattle.ms_basic.proofs.SetLemmas.{all_within, is_member-within, none_past_end, one_more_same, other_bits, other_sets, same_bits, same_sets}
@@ -88,12 +89,12 @@ up_closed size (suc window) s t some = by_test (is_same s (shifted window t / si
     by_test true = omega (arith, mod_below (shifted window t) size some)
     by_test false = omega (arith, some)
 
-pub decides_up : (mode : Mode) (s t n : ℕ) → DecidesRelation mode (operands_of (Up s t n)) (Up s t n) (up_table mode (2 ^ n))
+pub decides_up : (mode : Mode) (s t n : ℕ) → DecidesRelation mode (variables_of_basic (Up s t n)) (Up s t n) (up_table mode (2 ^ n))
 decides_up mode s t n = record {
   closed = record { start = λ bits. omega (arith, pow_pos n); step = λ state bits small. up_closed (2 ^ n) state bits.first bits.second (pow_pos n) };
   tallies = (tt, (tt, tt));
   right = λ e count assigned room string.
       up_right (e.set s) (e.set t) n e.universe count string assigned.values.0.0 assigned.values.1.0.0 (omega (arith, room)) (omega (arith, room)) mode _ assigned.universe
-      (kept (up_table mode (2 ^ n)) (operands_of (Up s t n)) e count (UpAt (e.set s) (e.set t) n) (sym (zero-mod (2 ^ n)), λ k below. absurd (omega (arith, below)))
+      (kept (up_table mode (2 ^ n)) (variables_of_basic (Up s t n)) e count (UpAt (e.set s) (e.set t) n) (sym (zero-mod (2 ^ n)), λ k below. absurd (omega (arith, below)))
       (λ position state at. up_next (e.set s) (e.set t) n position state at));
 }

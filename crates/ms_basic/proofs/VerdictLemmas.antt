@@ -1,6 +1,6 @@
 -- How many ones a number has had, by the state.
 use Rattle.std.proofs.Common.{◌≡◌, ◌≢◌, ℕ, zero, suc, refl, arith}
-use Rattle.ms_logic.specs.declared.sign.Sign.TheVariants.{Outside}
+use Rattle.ms_logic_words.specs.declared.sign.Sign.TheVariants.{Outside}
 use Rattle.ms_basic.specs.Verdict.{sign_by_verdict}
 
 -- where the states behind its 1 are 1 and 2

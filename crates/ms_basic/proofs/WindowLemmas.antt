@@ -5,7 +5,7 @@ use Rattle.std.proofs.lemmas.Bool.{cases_lt, ne_eqb}
 use Rattle.std.proofs.lemmas.Nat.{div-add-mod', pow_pos}
 use Rattle.ms_logic.specs.FiniteSet.{is_member, moved_up}
 use Rattle.ms_logic.proofs.Members.{is_member-moved_up, is_member-moved_up_below}
-use Rattle.ms_basic.specs.Windows.{shifted}
+use Rattle.ms_basic.specs.inner.Windows.{shifted}
 
 -- the bits of a set below a position, the last of which counts 1
 abbrev pub window_of : List ℕ → ℕ → ℕ

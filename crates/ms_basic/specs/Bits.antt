@@ -4,11 +4,11 @@ use Rattle.std.specs.Prelude.{ℕ, zero, suc, ◌+◌, ◌==◌, Bool, if◌then
 use Rattle.std.specs.Int.{bit_at}
 use Rattle.ms_logic.specs.declared.mode.Mode.{Mode}
 use Rattle.ms_logic.specs.declared.mode.Mode.TheVariants.{Ws1s, M2lStr}
-use Rattle.ms_logic.specs.declared.sign.Sign.{Sign}
-use Rattle.ms_logic.specs.declared.sign.Sign.TheVariants.{Yes, No}
+use Rattle.ms_logic_words.specs.declared.sign.Sign.{Sign}
+use Rattle.ms_logic_words.specs.declared.sign.Sign.TheVariants.{Yes, No}
 use Rattle.ms_logic.specs.FiniteSet.{one_bits}
-use Rattle.ms_logic.specs.Word.{bound_of_set}
-use Rattle.ms_explore.specs.Small.{Table}
+use Rattle.ms_logic.specs.Letters.{bound_of_set}
+use Rattle.ms_dfa_explore.specs.Small.{Table}
 use Rattle.ms_basic.specs.Sets.{is_same}
 
 -- the least number above each place of a one bit

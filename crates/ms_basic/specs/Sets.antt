@@ -1,7 +1,7 @@
 -- The machine of a relation between sets that is tested position by position.
 use Rattle.std.specs.Prelude.{ℕ, zero, suc, Bool, true, false, not, ◌&&◌, ◌||◌, if◌then◌else◌}
-use Rattle.ms_explore.specs.declared.small.TrackBits.{TrackBits}
-use Rattle.ms_explore.specs.Small.{Table}
+use Rattle.ms_dfa_explore.specs.declared.small.TrackBits.{TrackBits}
+use Rattle.ms_dfa_explore.specs.Small.{Table}
 use Rattle.ms_basic.specs.declared.sets.SetRelation.TheVariants.{Sub, Union, Inter, Diff}
 use Rattle.ms_basic.specs.declared.sets.SetRelation.{SetRelation}
 use Rattle.ms_basic.specs.Verdict.{sign_by_contradiction}

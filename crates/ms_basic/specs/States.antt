@@ -1,8 +1,8 @@
 -- How many states the machine of a basic relation has. Where one variable stands for all operands, a relation may hold of each
 -- value of it, or of one or none, and has fewer.
 use Rattle.std.specs.Prelude.{ℕ, ◌+◌, ◌^◌, ◌==◌, ◌&&◌, if◌then◌else◌}
-use Rattle.ms_logic.specs.declared.core_formula.Basic.{Basic}
-use Rattle.ms_logic.specs.declared.core_formula.Basic.TheVariants.{Truth, Number, Plus, Less, Member, Sub, Union, Inter, Diff, Up, Down, Min, Max, Bits}
+use Rattle.ms_logic_core.specs.declared.core_formula.Basic.{Basic}
+use Rattle.ms_logic_core.specs.declared.core_formula.Basic.TheVariants.{Truth, Number, Plus, Less, Member, Sub, Union, Inter, Diff, Up, Down, Min, Max, Bits}
 use Rattle.ms_basic.specs.Bits.{digits_of}
 
 abbrev pub states_of : Basic → ℕ

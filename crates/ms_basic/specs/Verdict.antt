@@ -1,7 +1,7 @@
 -- How states are numbered, and their signs.
 use Rattle.std.specs.Prelude.{ℕ, zero, suc}
-use Rattle.ms_logic.specs.declared.sign.Sign.{Sign}
-use Rattle.ms_logic.specs.declared.sign.Sign.TheVariants.{Yes, No, Outside}
+use Rattle.ms_logic_words.specs.declared.sign.Sign.{Sign}
+use Rattle.ms_logic_words.specs.declared.sign.Sign.TheVariants.{Yes, No, Outside}
 
 -- the state 0 is lost: some number has had a second 1. In 1 all numbers have been met and the relation holds so far, and in 2
 -- all have and it does not hold. In the others some number has not been met.

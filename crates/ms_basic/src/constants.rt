@@ -1,11 +1,11 @@
-ghost use Rattle.std.specs.Prelude.{◌≡◌, [], IfOk, if◌then◌else◌};
-ghost use Rattle.ms_logic.specs.CoreForm.{falsity, truth};
-ghost use Rattle.ms_theory.specs.Values.{HasValues, core_meaning};
+ghost use Rattle.std.specs.Prelude.{◌≡◌, ◌+◌, ◌≤◌, [], length, IfOk, if◌then◌else◌};
+ghost use Rattle.ms_logic_core.specs.CoreForm.{falsity, truth};
+ghost use Rattle.ms_dfa.specs.Values.{HasValues, core_meaning};
 
 use crate::repeated::ConstantMachine;
 use ms_dfa::Automaton;
-use ms_edge::{List, NoMemory, StepFault};
-use ms_explore::build;
+use ms_dfa_explore::build;
+use ms_list::{List, NoMemory, StepFault};
 use ms_logic::Mode;
 use std::alloc::Global;
 
@@ -13,6 +13,7 @@ use std::alloc::Global;
 pub fn constant(alloc: Global, holds: bool, mode: Mode) -> Result<Automaton, NoMemory>
     ensures mode { IfOk result (λ made. made.mode ≡ mode) }
     ensures variables { IfOk result (λ made. made.variables ≡ []) }
+    ensures few { IfOk result (λ made. length made.nodes + length made.states ≤ 16) }
     ensures values { IfOk result (λ made. HasValues (core_meaning [] (if holds then truth else falsity)) made) }
 {
     match build(alloc, ConstantMachine { holds }, mode, List::new(alloc), 16) {

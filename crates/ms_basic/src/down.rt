@@ -1,5 +1,5 @@
 ghost use Rattle.std.specs.Prelude.{◌≤◌};
-ghost use Rattle.ms_basic.specs.Relation.{IsMadeUnder};
+ghost use Rattle.ms_basic.specs.inner.Relation.{IsMadeUnder};
 
 use crate::bits::BitsMachine;
 use crate::made::made;
@@ -8,9 +8,10 @@ use crate::setting::Setting;
 use crate::verdict::CONTRADICTED;
 use crate::windows::size;
 use ms_dfa::Automaton;
-use ms_edge::StepFault;
-use ms_explore::{SmallMachine, TrackBits};
-use ms_logic::{Basic, Sign};
+use ms_dfa_explore::{SmallMachine, TrackBits};
+use ms_list::StepFault;
+use ms_logic_core::Basic;
+use ms_logic_words::Sign;
 use std::alloc::Global;
 
 /// The greatest distance for which a machine is made: with a greater one there are more states than any limit.
@@ -26,7 +27,7 @@ struct DownMachine {
 }
 
 impl SmallMachine for DownMachine {
-    ghost use Rattle.ms_basic.specs.Windows.{down_table};
+    ghost use Rattle.ms_basic.specs.inner.Windows.{down_table};
 
     ghost table = { λ machine. down_table machine.size };
 

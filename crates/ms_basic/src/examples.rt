@@ -1,34 +1,35 @@
 ghost use Rattle.std.specs.Prelude.{◌≡◌, ◌≤◌, true, false, [], ◌∷◌};
-ghost use Rattle.ms_logic.specs.declared.core_formula.Basic.TheVariants.{Bits, Down, Less, Max, Member, Min, Number, Plus, Sub, Truth, Union, Up};
+ghost use Rattle.ms_logic_core.specs.declared.core_formula.Basic.TheVariants.{Bits, Down, Less, Max, Member, Min, Number, Plus, Sub, Truth, Union, Up};
 ghost use Rattle.ms_logic.specs.declared.mode.Mode.TheVariants.{M2lStr, Ws1s};
-ghost use Rattle.ms_logic.specs.declared.sign.Sign.TheVariants.{No, Outside, Undefined, Yes};
+ghost use Rattle.ms_logic_words.specs.declared.sign.Sign.TheVariants.{No, Outside, Undefined, Yes};
 ghost use Rattle.ms_basic.specs.declared.sets.SetRelation.TheVariants as relations;
 ghost use Rattle.ms_basic.specs.Bits.{bits_table, digits_of};
-ghost use Rattle.ms_basic.specs.Examples.{on_four_letters};
-ghost use Rattle.ms_basic.specs.Greatest.{greatest_table};
-ghost use Rattle.ms_basic.specs.Least.{least_table};
-ghost use Rattle.ms_basic.specs.Less.{less_table};
-ghost use Rattle.ms_basic.specs.Member.{member_table};
-ghost use Rattle.ms_basic.specs.Number.{number_table};
-ghost use Rattle.ms_basic.specs.Operands.{HaveOneOrder, number, operands_of, set, truth_value};
-ghost use Rattle.ms_basic.specs.Plus.{plus_table};
-ghost use Rattle.ms_basic.specs.Reading.{operand_bits, operand_truths, state_behind, track_at};
-ghost use Rattle.ms_basic.specs.Relation.{IsRight};
-ghost use Rattle.ms_basic.specs.Repeated.{one_number_table};
+ghost use Rattle.ms_basic.specs.inner.Examples.{on_four_letters};
+ghost use Rattle.ms_basic.specs.inner.Greatest.{greatest_table};
+ghost use Rattle.ms_basic.specs.inner.Least.{least_table};
+ghost use Rattle.ms_basic.specs.inner.Less.{less_table};
+ghost use Rattle.ms_basic.specs.inner.Member.{member_table};
+ghost use Rattle.ms_basic.specs.inner.Number.{number_table};
+ghost use Rattle.ms_basic.specs.Operands.{HaveOneOrder, number, set, truth_value};
+ghost use Rattle.ms_logic_core.specs.Operands.{variables_of_basic};
+ghost use Rattle.ms_basic.specs.inner.Plus.{plus_table};
+ghost use Rattle.ms_basic.specs.inner.Reading.{operand_bits, operand_truths, state_behind, track_at};
+ghost use Rattle.ms_basic.specs.inner.Relation.{IsRight};
+ghost use Rattle.ms_basic.specs.inner.Repeated.{one_number_table};
 ghost use Rattle.ms_basic.specs.Sets.{agrees, tested_step};
 ghost use Rattle.ms_basic.specs.States.{states_of};
-ghost use Rattle.ms_basic.specs.Tally.{OnNumbers};
-ghost use Rattle.ms_basic.specs.Truth.{truth_table};
+ghost use Rattle.ms_basic.specs.inner.Tally.{OnNumbers};
+ghost use Rattle.ms_basic.specs.inner.Truth.{truth_table};
 ghost use Rattle.ms_basic.specs.Verdict.{sign_by_contradiction, sign_by_verdict};
-ghost use Rattle.ms_basic.specs.Windows.{down_table, shifted, up_table};
+ghost use Rattle.ms_basic.specs.inner.Windows.{down_table, shifted, up_table};
 
 /// The operands of relations, and which orders they have.
 pub fn worked_operands()
-    ensures truth { operands_of (Truth 4) ≡ truth_value 4 ∷ [] }
-    ensures sum { operands_of (Plus 1 2 7) ≡ number 1 ∷ number 2 ∷ [] }
-    ensures union { operands_of (Union 5 3 3) ≡ set 5 ∷ set 3 ∷ set 3 ∷ [] }
-    ensures one_order { HaveOneOrder (operands_of (Sub 3 3)) }
-    ensures two_orders { ¬ HaveOneOrder (operands_of (Member 3 3)) }
+    ensures truth { variables_of_basic (Truth 4) ≡ truth_value 4 ∷ [] }
+    ensures sum { variables_of_basic (Plus 1 2 7) ≡ number 1 ∷ number 2 ∷ [] }
+    ensures union { variables_of_basic (Union 5 3 3) ≡ set 5 ∷ set 3 ∷ set 3 ∷ [] }
+    ensures one_order { HaveOneOrder (variables_of_basic (Sub 3 3)) }
+    ensures two_orders { ¬ HaveOneOrder (variables_of_basic (Member 3 3)) }
 {}
 
 /// What a machine reads of an assignment.
@@ -74,9 +75,9 @@ pub fn worked_agreements()
 
 /// What is said of the numbers among operands.
 pub fn worked_numbers()
-    ensures first_alone { OnNumbers (λ operand. operand ≡ 0) (operands_of (Member 1 2)) }
-    ensures no_number { OnNumbers (λ operand. ⊥) (operands_of (Sub 1 2)) }
-    ensures second_too { ¬ (OnNumbers (λ operand. operand ≡ 0) (operands_of (Less 1 2))) }
+    ensures first_alone { OnNumbers (λ operand. operand ≡ 0) (variables_of_basic (Member 1 2)) }
+    ensures no_number { OnNumbers (λ operand. ⊥) (variables_of_basic (Sub 1 2)) }
+    ensures second_too { ¬ (OnNumbers (λ operand. operand ≡ 0) (variables_of_basic (Less 1 2))) }
 {}
 
 /// Windows of two bits.

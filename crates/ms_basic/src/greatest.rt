@@ -1,13 +1,15 @@
-ghost use Rattle.ms_basic.specs.Operands.{HaveOneOrder, operands_of};
-ghost use Rattle.ms_basic.specs.Relation.{IsMadeUnder};
+ghost use Rattle.ms_basic.specs.Operands.{HaveOneOrder};
+ghost use Rattle.ms_logic_core.specs.Operands.{variables_of_basic};
+ghost use Rattle.ms_basic.specs.inner.Relation.{IsMadeUnder};
 
 use crate::made::made;
 use crate::setting::Setting;
 use crate::verdict::{LOST, NO, YES, sign_by_verdict};
 use ms_dfa::Automaton;
-use ms_edge::StepFault;
-use ms_explore::{SmallMachine, TrackBits};
-use ms_logic::{Basic, Sign};
+use ms_dfa_explore::{SmallMachine, TrackBits};
+use ms_list::StepFault;
+use ms_logic_core::Basic;
+use ms_logic_words::Sign;
 use std::alloc::Global;
 
 /// No position has been read.
@@ -21,7 +23,7 @@ const WAITING: u32 = 4;
 struct GreatestMachine;
 
 impl SmallMachine for GreatestMachine {
-    ghost use Rattle.ms_basic.specs.Greatest.{greatest_table};
+    ghost use Rattle.ms_basic.specs.inner.Greatest.{greatest_table};
 
     ghost table = { λ machine. greatest_table };
 
@@ -62,7 +64,7 @@ pub(crate) fn greatest(
     s: u32,
     setting: Setting,
 ) -> Result<Automaton, StepFault>
-    requires orders { HaveOneOrder (operands_of (Basic.Max x s)) }
+    requires orders { HaveOneOrder (variables_of_basic (Basic.Max x s)) }
     ensures { IsMadeUnder setting (Basic.Max x s) result }
 {
     made(alloc, GreatestMachine, Basic::Max(x, s), 2, setting)

@@ -1,13 +1,15 @@
-ghost use Rattle.ms_basic.specs.Operands.{HaveOneOrder, operands_of};
-ghost use Rattle.ms_basic.specs.Relation.{IsMadeUnder};
+ghost use Rattle.ms_basic.specs.Operands.{HaveOneOrder};
+ghost use Rattle.ms_logic_core.specs.Operands.{variables_of_basic};
+ghost use Rattle.ms_basic.specs.inner.Relation.{IsMadeUnder};
 
 use crate::made::made;
 use crate::setting::Setting;
 use crate::verdict::{LOST, NO, YES};
 use ms_dfa::Automaton;
-use ms_edge::StepFault;
-use ms_explore::{SmallMachine, TrackBits};
-use ms_logic::{Basic, Sign};
+use ms_dfa_explore::{SmallMachine, TrackBits};
+use ms_list::StepFault;
+use ms_logic_core::Basic;
+use ms_logic_words::Sign;
 use std::alloc::Global;
 
 /// The number is 0, and the set has had no member so far.
@@ -27,7 +29,7 @@ const PASSED: u32 = 6;
 struct LeastMachine;
 
 impl SmallMachine for LeastMachine {
-    ghost use Rattle.ms_basic.specs.Least.{least_table};
+    ghost use Rattle.ms_basic.specs.inner.Least.{least_table};
 
     ghost table = { λ machine. least_table };
 
@@ -74,7 +76,7 @@ impl SmallMachine for LeastMachine {
 
 /// The automaton of `x = min S`.
 pub(crate) fn least(alloc: Global, x: u32, s: u32, setting: Setting) -> Result<Automaton, StepFault>
-    requires orders { HaveOneOrder (operands_of (Basic.Min x s)) }
+    requires orders { HaveOneOrder (variables_of_basic (Basic.Min x s)) }
     ensures { IsMadeUnder setting (Basic.Min x s) result }
 {
     made(alloc, LeastMachine, Basic::Min(x, s), 2, setting)

@@ -1,13 +1,14 @@
-ghost use Rattle.ms_basic.specs.Relation.{IsMadeUnder};
+ghost use Rattle.ms_basic.specs.inner.Relation.{IsMadeUnder};
 
 use crate::made::made;
 use crate::repeated::OneNumberMachine;
 use crate::setting::Setting;
 use crate::verdict::{LOST, NO, YES, sign_by_verdict};
 use ms_dfa::Automaton;
-use ms_edge::StepFault;
-use ms_explore::{SmallMachine, TrackBits};
-use ms_logic::{Basic, Sign};
+use ms_dfa_explore::{SmallMachine, TrackBits};
+use ms_list::StepFault;
+use ms_logic_core::Basic;
+use ms_logic_words::Sign;
 use std::alloc::Global;
 
 /// Neither number has been met.
@@ -24,7 +25,7 @@ const SECOND: u32 = 5;
 struct LessMachine;
 
 impl SmallMachine for LessMachine {
-    ghost use Rattle.ms_basic.specs.Less.{less_table};
+    ghost use Rattle.ms_basic.specs.inner.Less.{less_table};
 
     ghost table = { λ machine. less_table };
 

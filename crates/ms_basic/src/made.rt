@@ -1,15 +1,16 @@
 ghost use Rattle.std.specs.Prelude.{◌≡◌, ◌≤◌, length, take};
-ghost use Rattle.ms_explore.specs.Tracks.{distinct};
-ghost use Rattle.ms_basic.specs.Operands.{HaveOneOrder, operands_of};
-ghost use Rattle.ms_basic.specs.Relation.{DecidesRelation, IsMade};
+ghost use Rattle.ms_dfa_explore.specs.Tracks.{distinct};
+ghost use Rattle.ms_basic.specs.Operands.{HaveOneOrder};
+ghost use Rattle.ms_logic_core.specs.Operands.{variables_of_basic};
+ghost use Rattle.ms_basic.specs.inner.Relation.{DecidesRelation, IsMade};
 
 use crate::operands::operands;
 use crate::reading::{Wired, wiring_of};
 use crate::setting::Setting;
 use ms_dfa::Automaton;
-use ms_edge::StepFault;
-use ms_explore::{SmallMachine, build, distinct};
-use ms_logic::Basic;
+use ms_dfa_explore::{SmallMachine, build, distinct};
+use ms_list::StepFault;
+use ms_logic_core::Basic;
 use std::alloc::Global;
 
 /// The automaton of a relation that the machine decides over its first so many operands.
@@ -20,10 +21,10 @@ pub(crate) fn made<M: SmallMachine + Drop>(
     count: usize,
     setting: Setting,
 ) -> Result<Automaton, StepFault>
-    requires count { count ≤ length (operands_of form) }
-    requires orders { HaveOneOrder (operands_of form) }
-    requires variables { distinct (take count (operands_of form)) ≡ distinct (operands_of form) }
-    requires decides { DecidesRelation setting.mode (take count (operands_of form)) form (M.table machine) }
+    requires count { count ≤ length (variables_of_basic form) }
+    requires orders { HaveOneOrder (variables_of_basic form) }
+    requires variables { distinct (take count (variables_of_basic form)) ≡ distinct (variables_of_basic form) }
+    requires decides { DecidesRelation setting.mode (take count (variables_of_basic form)) form (M.table machine) }
     ensures { IsMade setting.mode form setting.limit (M.table machine).states result }
 {
     let Ok(all) = operands(alloc, form) else {

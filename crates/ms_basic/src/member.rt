@@ -1,13 +1,15 @@
-ghost use Rattle.ms_basic.specs.Operands.{HaveOneOrder, operands_of};
-ghost use Rattle.ms_basic.specs.Relation.{IsMadeUnder};
+ghost use Rattle.ms_basic.specs.Operands.{HaveOneOrder};
+ghost use Rattle.ms_logic_core.specs.Operands.{variables_of_basic};
+ghost use Rattle.ms_basic.specs.inner.Relation.{IsMadeUnder};
 
 use crate::made::made;
 use crate::setting::Setting;
 use crate::verdict::{LOST, NO, YES, sign_by_verdict};
 use ms_dfa::Automaton;
-use ms_edge::StepFault;
-use ms_explore::{SmallMachine, TrackBits};
-use ms_logic::{Basic, Sign};
+use ms_dfa_explore::{SmallMachine, TrackBits};
+use ms_list::StepFault;
+use ms_logic_core::Basic;
+use ms_logic_words::Sign;
 use std::alloc::Global;
 
 /// The number has not been met.
@@ -18,7 +20,7 @@ const WAITING: u32 = 3;
 struct MemberMachine;
 
 impl SmallMachine for MemberMachine {
-    ghost use Rattle.ms_basic.specs.Member.{member_table};
+    ghost use Rattle.ms_basic.specs.inner.Member.{member_table};
 
     ghost table = { λ machine. member_table };
 
@@ -56,7 +58,7 @@ pub(crate) fn member(
     s: u32,
     setting: Setting,
 ) -> Result<Automaton, StepFault>
-    requires orders { HaveOneOrder (operands_of (Basic.Member x s)) }
+    requires orders { HaveOneOrder (variables_of_basic (Basic.Member x s)) }
     ensures { IsMadeUnder setting (Basic.Member x s) result }
 {
     made(alloc, MemberMachine, Basic::Member(x, s), 2, setting)

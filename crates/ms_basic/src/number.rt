@@ -1,14 +1,15 @@
 ghost use Rattle.std.specs.Prelude.{◌≡◌, ◌≤◌, ◌<◌, ◌+◌, ◌-◌, ◌==◌};
-ghost use Rattle.ms_basic.specs.Number.{number_at};
-ghost use Rattle.ms_basic.specs.Relation.{IsMadeUnder};
+ghost use Rattle.ms_basic.specs.inner.Number.{number_at};
+ghost use Rattle.ms_basic.specs.inner.Relation.{IsMadeUnder};
 
 use crate::made::made;
 use crate::setting::Setting;
 use crate::verdict::{LOST, NO, YES, sign_by_verdict};
 use ms_dfa::Automaton;
-use ms_edge::StepFault;
-use ms_explore::{SmallMachine, TrackBits};
-use ms_logic::{Basic, Sign};
+use ms_dfa_explore::{SmallMachine, TrackBits};
+use ms_list::StepFault;
+use ms_logic_core::Basic;
+use ms_logic_words::Sign;
 use std::alloc::Global;
 
 /// The position has been passed without the number.
@@ -44,7 +45,7 @@ impl NumberMachine {
 }
 
 impl SmallMachine for NumberMachine {
-    ghost use Rattle.ms_basic.specs.Number.{number_table};
+    ghost use Rattle.ms_basic.specs.inner.Number.{number_table};
 
     ghost table = { λ machine. number_table machine.number };
 

@@ -1,10 +1,12 @@
 ghost use Rattle.std.specs.Prelude.{◌≡◌, IfOk};
 ghost use Rattle.ms_dfa.specs.Automaton.{variable_of, variables_of};
-ghost use Rattle.ms_basic.specs.Operands.{number, operands_of, set, truth_value};
+ghost use Rattle.ms_basic.specs.Operands.{number, set, truth_value};
+ghost use Rattle.ms_logic_core.specs.Operands.{variables_of_basic};
 
 use ms_dfa::Track;
-use ms_edge::{List, NoMemory, push};
-use ms_logic::{Basic, Order};
+use ms_list::{List, NoMemory, push};
+use ms_logic::Order;
+use ms_logic_core::Basic;
 use std::alloc::Global;
 
 /// The operand that is a truth value.
@@ -50,7 +52,7 @@ fn list(alloc: Global, tracks: &[Track]) -> Result<List<Track>, NoMemory>
 
 /// The operands of a relation.
 pub(crate) fn operands(alloc: Global, form: Basic) -> Result<List<Track>, NoMemory>
-    ensures { IfOk result (λ made. variables_of made ≡ operands_of form) }
+    ensures { IfOk result (λ made. variables_of made ≡ variables_of_basic form) }
 {
     match form {
         Basic::Truth(a) => list(alloc, &[truth_value(a)]),

@@ -1,15 +1,16 @@
 ghost use Rattle.std.specs.Prelude.{◌≡◌, ◌≤◌, ◌<◌, ◌+◌, ◌-◌, ◌==◌, false};
-ghost use Rattle.ms_basic.specs.Plus.{plus_at, plus_first};
-ghost use Rattle.ms_basic.specs.Relation.{IsMadeUnder};
+ghost use Rattle.ms_basic.specs.inner.Plus.{plus_at, plus_first};
+ghost use Rattle.ms_basic.specs.inner.Relation.{IsMadeUnder};
 
 use crate::made::made;
 use crate::repeated::OneNumberMachine;
 use crate::setting::Setting;
 use crate::verdict::{LOST, NO, YES, sign_by_verdict};
 use ms_dfa::Automaton;
-use ms_edge::StepFault;
-use ms_explore::{SmallMachine, TrackBits};
-use ms_logic::{Basic, Sign};
+use ms_dfa_explore::{SmallMachine, TrackBits};
+use ms_list::StepFault;
+use ms_logic_core::Basic;
+use ms_logic_words::Sign;
 use std::alloc::Global;
 
 /// Neither number has been met.
@@ -63,7 +64,7 @@ impl PlusMachine {
 }
 
 impl SmallMachine for PlusMachine {
-    ghost use Rattle.ms_basic.specs.Plus.{plus_table};
+    ghost use Rattle.ms_basic.specs.inner.Plus.{plus_table};
 
     ghost table = { λ machine. plus_table machine.distance };
 

@@ -1,10 +1,10 @@
 ghost use Rattle.std.specs.Prelude.{◌≡◌, ◌≤◌, length};
 ghost use Rattle.ms_dfa.specs.Automaton.{variables_of};
-ghost use Rattle.ms_basic.specs.Reading.{read_at, track_at, wiring_of};
+ghost use Rattle.ms_basic.specs.inner.Reading.{read_at, track_at, wiring_of};
 
 use ms_dfa::Track;
-use ms_explore::{SmallMachine, TrackBits, place_of};
-use ms_logic::Sign;
+use ms_dfa_explore::{SmallMachine, TrackBits, place_of};
+use ms_logic_words::Sign;
 
 /// The tracks of three operands.
 #[derive(Clone, Copy)]
@@ -59,7 +59,7 @@ pub(crate) struct Wired<M: SmallMachine + Drop> {
 }
 
 impl<M: SmallMachine + Drop> SmallMachine for Wired<M> {
-    ghost use Rattle.ms_basic.specs.Reading.{wired};
+    ghost use Rattle.ms_basic.specs.inner.Reading.{wired};
 
     ghost table = { λ whole. wired whole.wiring (M.table whole.machine) };
 

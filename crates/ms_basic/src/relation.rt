@@ -1,22 +1,24 @@
-ghost use Rattle.std.specs.Prelude.{◌≡◌, ◌≤◌, ◌<◌, ◌+◌, ◌*◌, [], IfOk};
-ghost use Rattle.ms_logic.specs.CoreForm.{basic as basic_relation};
-ghost use Rattle.ms_theory.specs.Values.{HasValues, core_meaning};
-ghost use Rattle.ms_explore.specs.Explored.{OnRefused};
-ghost use Rattle.ms_explore.specs.Tracks.{distinct};
-ghost use Rattle.ms_basic.specs.Operands.{HaveOneOrder, operands_of};
-ghost use Rattle.ms_basic.specs.Relation.{IsMadeUnder};
+ghost use Rattle.std.specs.Prelude.{◌≡◌, ◌≤◌, ◌<◌, ◌+◌, ◌*◌, [], length, IfOk};
+ghost use Rattle.ms_logic_core.specs.CoreForm.{basic as basic_relation};
+ghost use Rattle.ms_dfa.specs.Values.{HasValues, core_meaning};
+ghost use Rattle.ms_dfa_explore.specs.Explored.{OnRefused};
+ghost use Rattle.ms_dfa_explore.specs.Tracks.{distinct};
+ghost use Rattle.ms_basic.specs.Operands.{HaveOneOrder};
+ghost use Rattle.ms_logic_core.specs.Operands.{variables_of_basic};
+ghost use Rattle.ms_basic.specs.inner.Relation.{IsMadeUnder};
 ghost use Rattle.ms_basic.specs.States.{states_of};
 
 use crate::setting::Setting;
 use crate::{bits, down, greatest, least, less, member, number, plus, sets, truth, up};
 use ms_dfa::Automaton;
-use ms_edge::StepFault;
-use ms_logic::{Basic, Mode};
+use ms_list::StepFault;
+use ms_logic::Mode;
+use ms_logic_core::Basic;
 use std::alloc::Global;
 
 /// The automaton of a relation, by its kind.
 fn relation(alloc: Global, form: Basic, setting: Setting) -> Result<Automaton, StepFault>
-    requires orders { HaveOneOrder (operands_of form) }
+    requires orders { HaveOneOrder (variables_of_basic form) }
     ensures { IsMadeUnder setting form result }
 {
     match form {
@@ -40,12 +42,13 @@ fn relation(alloc: Global, form: Basic, setting: Setting) -> Result<Automaton, S
 /// The automaton of a basic relation over its variables. Nodes and states are together at most `limit`, and the call is
 /// refused only where it is below eight for each state and for the start.
 pub fn basic(alloc: Global, form: &Basic, mode: Mode, limit: u64) -> Result<Automaton, StepFault>
-    requires orders { HaveOneOrder (operands_of form.now) }
+    requires orders { HaveOneOrder (variables_of_basic form.now) }
     requires some { 1 ≤ limit }
     requires small { limit ≤ 4000000000 }
     ensures mode { IfOk result (λ made. made.mode ≡ mode) }
-    ensures variables { IfOk result (λ made. made.variables ≡ distinct (operands_of form.now)) }
+    ensures variables { IfOk result (λ made. made.variables ≡ distinct (variables_of_basic form.now)) }
     ensures values { IfOk result (λ made. HasValues (core_meaning [] (basic_relation form.now)) made) }
+    ensures within { IfOk result (λ made. length made.nodes + length made.states ≤ limit) }
     ensures nodes { OnRefused result (λ refused. (refused ≡ limit) × (limit < 8 * (states_of form.now + 1))) }
 {
     relation(alloc, *form, Setting { mode, limit })

@@ -1,9 +1,9 @@
 ghost use Rattle.std.specs.Prelude.{◌≡◌};
-ghost use Rattle.ms_basic.specs.Repeated.{sign_of_constant};
+ghost use Rattle.ms_basic.specs.inner.Repeated.{sign_of_constant};
 
 use crate::verdict::LOST;
-use ms_explore::{SmallMachine, TrackBits};
-use ms_logic::Sign;
+use ms_dfa_explore::{SmallMachine, TrackBits};
+use ms_logic_words::Sign;
 
 /// The number has been met.
 const MET: u32 = 1;
@@ -25,7 +25,7 @@ pub(crate) struct OneNumberMachine {
 }
 
 impl SmallMachine for OneNumberMachine {
-    ghost use Rattle.ms_basic.specs.Repeated.{one_number_table};
+    ghost use Rattle.ms_basic.specs.inner.Repeated.{one_number_table};
 
     ghost table = { λ machine. one_number_table machine.holds };
 
@@ -64,7 +64,7 @@ pub(crate) struct ConstantMachine {
 }
 
 impl SmallMachine for ConstantMachine {
-    ghost use Rattle.ms_basic.specs.Repeated.{constant_table};
+    ghost use Rattle.ms_basic.specs.inner.Repeated.{constant_table};
 
     ghost table = { λ machine. constant_table machine.holds };
 

@@ -1,5 +1,5 @@
 ghost use Rattle.std.specs.Prelude.{◌≡◌};
-ghost use Rattle.ms_basic.specs.Relation.{IsMadeUnder};
+ghost use Rattle.ms_basic.specs.inner.Relation.{IsMadeUnder};
 ghost use Rattle.ms_basic.specs.Sets.{agrees};
 
 use crate::made::made;
@@ -7,9 +7,10 @@ use crate::repeated::ConstantMachine;
 use crate::setting::Setting;
 use crate::verdict::{AGREED, CONTRADICTED, sign_by_contradiction};
 use ms_dfa::Automaton;
-use ms_edge::StepFault;
-use ms_explore::{SmallMachine, TrackBits};
-use ms_logic::{Basic, Sign};
+use ms_dfa_explore::{SmallMachine, TrackBits};
+use ms_list::StepFault;
+use ms_logic_core::Basic;
+use ms_logic_words::Sign;
 use std::alloc::Global;
 
 /// A relation between sets that holds where the bits of each position agree with it.

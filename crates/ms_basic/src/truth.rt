@@ -1,12 +1,13 @@
-ghost use Rattle.ms_basic.specs.Relation.{IsMadeUnder};
+ghost use Rattle.ms_basic.specs.inner.Relation.{IsMadeUnder};
 
 use crate::made::made;
 use crate::setting::Setting;
 use crate::verdict::sign_by_contradiction;
 use ms_dfa::Automaton;
-use ms_edge::StepFault;
-use ms_explore::{SmallMachine, TrackBits};
-use ms_logic::{Basic, Sign};
+use ms_dfa_explore::{SmallMachine, TrackBits};
+use ms_list::StepFault;
+use ms_logic_core::Basic;
+use ms_logic_words::Sign;
 use std::alloc::Global;
 
 /// The machine of a truth value.
@@ -14,7 +15,7 @@ use std::alloc::Global;
 struct TruthMachine;
 
 impl SmallMachine for TruthMachine {
-    ghost use Rattle.ms_basic.specs.Truth.{truth_table};
+    ghost use Rattle.ms_basic.specs.inner.Truth.{truth_table};
 
     ghost table = { λ machine. truth_table };
 

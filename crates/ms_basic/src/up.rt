@@ -1,5 +1,5 @@
 ghost use Rattle.std.specs.Prelude.{◌≤◌};
-ghost use Rattle.ms_basic.specs.Relation.{IsMadeUnder};
+ghost use Rattle.ms_basic.specs.inner.Relation.{IsMadeUnder};
 
 use crate::bits::BitsMachine;
 use crate::made::made;
@@ -8,9 +8,11 @@ use crate::setting::Setting;
 use crate::verdict::CONTRADICTED;
 use crate::windows::size;
 use ms_dfa::Automaton;
-use ms_edge::StepFault;
-use ms_explore::{SmallMachine, TrackBits};
-use ms_logic::{Basic, Mode, Sign};
+use ms_dfa_explore::{SmallMachine, TrackBits};
+use ms_list::StepFault;
+use ms_logic::Mode;
+use ms_logic_core::Basic;
+use ms_logic_words::Sign;
 use std::alloc::Global;
 
 /// The greatest distance for which a machine is made: with a greater one there are more states than any limit.
@@ -26,7 +28,7 @@ struct UpMachine {
 }
 
 impl SmallMachine for UpMachine {
-    ghost use Rattle.ms_basic.specs.Windows.{up_table};
+    ghost use Rattle.ms_basic.specs.inner.Windows.{up_table};
 
     ghost table = { λ machine. up_table machine.mode machine.size };
 

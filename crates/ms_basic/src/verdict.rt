@@ -1,7 +1,7 @@
 ghost use Rattle.std.specs.Prelude.{◌≡◌};
 ghost use Rattle.ms_basic.specs.Verdict.{sign_by_contradiction, sign_by_verdict};
 
-use ms_logic::Sign;
+use ms_logic_words::Sign;
 
 /// Some number has had more than one 1.
 pub(crate) const LOST: u32 = 0;

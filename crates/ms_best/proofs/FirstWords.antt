@@ -8,12 +8,12 @@ use Rattle.ms_arena.proofs.BitsLemmas.{same_bits}
 use Rattle.ms_arena.proofs.Lists.{slice_get-held}
 use Rattle.ms_logic.specs.declared.mode.Order.{Order}
 use Rattle.ms_logic.specs.First.{IsLower}
-use Rattle.ms_logic.specs.Content.{StateOf, Content, AreLetters, IsFollowed, is_truth_value, is_in_letters, count_of, spread, bits_at, truth_bits, first_state, next_state, state_after, sign_at}
-use Rattle.ms_logic.specs.declared.sign.Sign.{Sign}
+use Rattle.ms_logic_words.specs.Content.{StateOf, Content, AreLetters, IsFollowed, is_truth_value, is_in_letters, count_of, spread, bits_at, truth_bits, first_state, next_state, state_after, sign_at}
+use Rattle.ms_logic_words.specs.declared.sign.Sign.{Sign}
 use Rattle.ms_dfa.specs.Automaton.{IsAutomaton}
-use Rattle.ms_best.specs.Automaton.{is_sign, distance_of, AreDistancesFrom}
+use Rattle.ms_best.specs.inner.Automaton.{is_sign, distance_of, AreDistancesFrom}
 use Rattle.ms_best.specs.FirstWord.{IsFirstWord, NoWordHas}
-use Rattle.ms_best.specs.Least.{next_of, least_values, least_letter, least_letters, least_truth, least_word}
+use Rattle.ms_best.specs.inner.Least.{next_of, least_values, least_letter, least_letters, least_truth, least_word}
 use Rattle.ms_best.proofs.LeastValues.{from_first, bits_from, leaf_by, IsRead, least_leads, length-least_values, none_lower}
 use Rattle.ms_best.proofs.Nearness.{distance_of-state, no_nearer}
 use Rattle.ms_best.proofs.Reaching.{same_sign, followed, next_is, next_within, one_letter, no_fewer, not_far}

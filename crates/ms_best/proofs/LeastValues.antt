@@ -19,10 +19,10 @@ use Rattle.ms_arena.proofs.ReachLemmas.{IsTested-own, IsTested-end}
 use Rattle.ms_logic.specs.declared.mode.Order.{Order}
 use Rattle.ms_logic.specs.Assignment.{Variable}
 use Rattle.ms_logic.specs.First.{IsLower}
-use Rattle.ms_logic.specs.Content.{Content, IsFollowed, HasValueAt, count_of, spread}
-use Rattle.ms_logic.specs.declared.sign.Sign.{Sign}
-use Rattle.ms_best.specs.Automaton.{distance_of, AreDistancesFrom}
-use Rattle.ms_best.specs.Least.{needs_one, least_values}
+use Rattle.ms_logic_words.specs.Content.{Content, IsFollowed, HasValueAt, count_of, spread}
+use Rattle.ms_logic_words.specs.declared.sign.Sign.{Sign}
+use Rattle.ms_best.specs.inner.Automaton.{distance_of, AreDistancesFrom}
+use Rattle.ms_best.specs.inner.Least.{needs_one, least_values}
 use Rattle.ms_best.proofs.Nearness.{distance_of-halves, no_nearer}
 
 -- a list of bits for the variables from a place on

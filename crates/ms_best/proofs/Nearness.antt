@@ -11,11 +11,11 @@ use Rattle.ms_arena.specs.Diagram.{Bits, leaf_of, end_at, IsBefore, IsValid, IsO
 use Rattle.ms_arena.specs.Halves.{half_of}
 use Rattle.ms_arena.proofs.Lists.{slice_get-held, slice_get-append_some}
 use Rattle.ms_arena.proofs.Paths.{IsBefore-later, IsBefore-end_at, leaf_of-leaf, leaf_of-node}
-use Rattle.ms_logic.specs.Content.{StateOf, Content}
-use Rattle.ms_logic.specs.declared.sign.Sign.{Sign}
+use Rattle.ms_logic_words.specs.Content.{StateOf, Content}
+use Rattle.ms_logic_words.specs.declared.sign.Sign.{Sign}
 use Rattle.ms_best.specs.declared.graph.Vertex.TheVariants.{Goal, Letter}
-use Rattle.ms_best.specs.Graph.{distance_by}
-use Rattle.ms_best.specs.Automaton.{is_sign, place_of, vertex_of_state, vertex_of_node, graph_of, distance_of, AreDistancesFrom}
+use Rattle.ms_best.specs.inner.Graph.{distance_by}
+use Rattle.ms_best.specs.inner.Automaton.{is_sign, place_of, vertex_of_state, vertex_of_node, graph_of, distance_of, AreDistancesFrom}
 
 -- an item of the back part of a list
 slice_get-append_right : {X : Type 0} (xs ys : List X) (n i : ℕ) → n ≡ length xs + i → slice_get (xs ++ ys) n ≡ slice_get ys i

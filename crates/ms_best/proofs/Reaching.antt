@@ -10,11 +10,11 @@ use Rattle.ms_arena.specs.declared.node.Ref.TheVariants.{Leaf}
 use Rattle.ms_arena.specs.Diagram.{leaf_of}
 use Rattle.ms_arena.proofs.Lists.{slice_get-held}
 use Rattle.ms_logic.specs.FiniteSet.{is_member}
-use Rattle.ms_logic.specs.Content.{StateOf, Content, IsFollowed, is_in_letters, letter_bits, next_from, next_state, state_after, sign_at}
-use Rattle.ms_logic.specs.declared.sign.Sign.{Sign}
-use Rattle.ms_logic.specs.declared.sign.Sign.TheVariants.{Yes, No, Undefined, Outside}
+use Rattle.ms_logic_words.specs.Content.{StateOf, Content, IsFollowed, is_in_letters, letter_bits, next_from, next_state, state_after, sign_at}
+use Rattle.ms_logic_words.specs.declared.sign.Sign.{Sign}
+use Rattle.ms_logic_words.specs.declared.sign.Sign.TheVariants.{Yes, No, Undefined, Outside}
 use Rattle.ms_dfa.specs.Automaton.{IsAutomaton}
-use Rattle.ms_best.specs.Automaton.{is_sign, distance_of, AreDistancesFrom}
+use Rattle.ms_best.specs.inner.Automaton.{is_sign, distance_of, AreDistancesFrom}
 use Rattle.ms_best.proofs.Cover.{covered}
 use Rattle.ms_best.proofs.Nearness.{distance_of-state, no_nearer}
 

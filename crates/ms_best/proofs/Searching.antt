@@ -8,8 +8,8 @@ use Rattle.std.proofs.lemmas.List.Sums.{sum_by-set}
 use Rattle.std.proofs.lemmas.Option.{same_Some, slice_get_within}
 use Rattle.ms_best.specs.declared.graph.Vertex.{Vertex}
 use Rattle.ms_best.specs.declared.graph.Vertex.TheVariants.{Goal, Letter, Choice}
-use Rattle.ms_best.specs.Graph.{LeadsTo, ListsUsers, AreDistances, distance_by}
-use Rattle.ms_best.specs.Search.{IsSearch}
+use Rattle.ms_best.specs.inner.Graph.{LeadsTo, ListsUsers, AreDistances, distance_by}
+use Rattle.ms_best.specs.inner.Search.{IsSearch}
 
 -- the distance of a vertex by its form, where the places are within the list
 pub one_further : (far : ℕ) (distances : List ℕ) (vertex : Vertex) (next : ℕ) → vertex ≡ Letter next → next < length distances

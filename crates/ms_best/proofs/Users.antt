@@ -7,7 +7,7 @@ use Rattle.std.proofs.lemmas.List.Elements.{Contains-append_left, Contains-push,
 use Rattle.std.proofs.lemmas.Option.{same_Some, slice_get_within}
 use Rattle.ms_best.specs.declared.graph.Vertex.{Vertex}
 use Rattle.ms_best.specs.declared.graph.Vertex.TheVariants.{Goal, Letter, Choice}
-use Rattle.ms_best.specs.Graph.{LeadsTo, IsClosed, ListsUsers, with_user, with_users}
+use Rattle.ms_best.specs.inner.Graph.{LeadsTo, IsClosed, ListsUsers, with_user, with_users}
 
 -- the empty list
 abbrev nothing : {X : Type 0} → List X

@@ -9,13 +9,13 @@ use Rattle.ms_arena.specs.declared.node.Ref.TheVariants.{Leaf, Inner}
 use Rattle.ms_arena.specs.declared.node.Node.{Node}
 use Rattle.ms_arena.specs.Diagram.{IsBefore}
 use Rattle.ms_arena.proofs.Paths.{IsBefore-later}
-use Rattle.ms_logic.specs.Content.{StateOf, Content}
-use Rattle.ms_logic.specs.declared.sign.Sign.{Sign}
+use Rattle.ms_logic_words.specs.Content.{StateOf, Content}
+use Rattle.ms_logic_words.specs.declared.sign.Sign.{Sign}
 use Rattle.ms_dfa.specs.Automaton.{IsAutomaton}
 use Rattle.ms_best.specs.declared.graph.Vertex.{Vertex}
 use Rattle.ms_best.specs.declared.graph.Vertex.TheVariants.{Goal, Letter}
-use Rattle.ms_best.specs.Graph.{LeadsTo, IsClosed}
-use Rattle.ms_best.specs.Automaton.{is_sign, place_of, vertex_of_state, vertex_of_node, graph_of}
+use Rattle.ms_best.specs.inner.Graph.{LeadsTo, IsClosed}
+use Rattle.ms_best.specs.inner.Automaton.{is_sign, place_of, vertex_of_state, vertex_of_node, graph_of}
 
 -- one item more of a list is mapped
 pub mapped_more : {X Y : Type 0} (f : X → Y) (xs : List X) (i : ℕ) (x d : X) (y : Y) (made : List Y) → slice_get xs i ≡ Some x → y ≡ f x

@@ -2,9 +2,9 @@
 -- letter by letter.
 use Rattle.std.specs.Prelude.{◌≡◌, ◌<◌, ◌⊎◌, Bool, List, ◌++◌, length, Some}
 use Rattle.std.specs.List.{flat_map}
-use Rattle.ms_edge.specs.declared.refusal.Word.{Word}
+use Rattle.ms_list.specs.declared.word.Word.{Word}
 use Rattle.ms_logic.specs.First.{IsLower}
-use Rattle.ms_logic.specs.Content.{Content, IsWordOver, sign_of}
+use Rattle.ms_logic_words.specs.Content.{Content, IsWordOver, sign_of}
 
 -- the truth values, and then the letters, as one list of bits
 abbrev pub bits_of_word : Word → List Bool

@@ -1,6 +1,2 @@
-pub mod Automaton
-pub mod Distances
 pub mod FirstWord
-pub mod Graph
-pub mod Least
-pub mod Search
+pub mod inner

@@ -2,12 +2,13 @@ ghost use Rattle.std.specs.Prelude.{◌≡◌, ◌<◌, ◌≤◌, ◌^◌, ◌+
 ghost use Rattle.ms_logic.specs.Assignment.{Env, IsAssignment};
 ghost use Rattle.ms_logic.specs.First.{assignment_of};
 ghost use Rattle.ms_logic.specs.FiniteSet.{least};
-ghost use Rattle.ms_logic.specs.Word.{Encodes, IsEncoding, bound_of_set};
+ghost use Rattle.ms_logic_words.specs.Word.{Encodes, IsEncoding};
+ghost use Rattle.ms_logic.specs.Letters.{bound_of_set};
 ghost use Rattle.ms_dfa.specs.Automaton.{variables_of};
-ghost use Rattle.ms_logic.specs.Decoding.{bit_in, positions_of, decoded_value, place_after, column_after, decoded_values, bound_of_value, bound_of_values, decoded_length};
+ghost use Rattle.ms_logic_words.specs.inner.Decoding.{bit_in, positions_of, decoded_value, place_after, column_after, decoded_values, bound_of_value, bound_of_values, decoded_length};
 
 use ms_dfa::Track;
-use ms_edge::{List, NoMemory, Word};
+use ms_list::{List, NoMemory, Word};
 use ms_logic::{Assignment, Mode, Order, Value};
 use std::alloc::Global;
 

@@ -1,9 +1,9 @@
 ghost use Rattle.std.specs.Prelude.{◌≡◌, ◌+◌, ◌*◌, ◌<◌, ◌≤◌, ℕ, List, [], ◌∷◌, length, sum, All, IfOk, OnOk};
-ghost use Rattle.ms_best.specs.Graph.{LeadsTo, IsClosed, AreDistances, distance_by};
-ghost use Rattle.ms_best.specs.Search.{IsSearch};
+ghost use Rattle.ms_best.specs.inner.Graph.{LeadsTo, IsClosed, AreDistances, distance_by};
+ghost use Rattle.ms_best.specs.inner.Search.{IsSearch};
 
 use crate::graph::{Vertex, users};
-use ms_edge::NoMemory;
+use ms_list::NoMemory;
 use std::alloc::Global;
 use std::collections::VecDeque;
 

@@ -1,12 +1,12 @@
 ghost use Rattle.std.specs.Prelude.{◌≡◌, ◌<◌, ◌^◌, ◌++◌, ◌∷◌, [], length, slice_get, slice_index_or, map, IfOk, IfSome, OnOk};
-ghost use Rattle.ms_best.specs.Automaton.{is_sign, place_of, vertex_of_state, vertex_of_node, graph_of};
+ghost use Rattle.ms_best.specs.inner.Automaton.{is_sign, place_of, vertex_of_state, vertex_of_node, graph_of};
 
 use crate::distance::distances;
 use crate::graph::Vertex;
 use ms_arena::{Node, Ref};
 use ms_dfa::{Automaton, Sign};
 use ms_diagram::Store;
-use ms_edge::NoMemory;
+use ms_list::NoMemory;
 use std::alloc::Global;
 
 /// How far the states and the diagrams of an automaton are from a sign.
@@ -20,7 +20,7 @@ pub struct Distances {
 }
 
 impl Distances {
-    ghost use Rattle.ms_best.specs.Distances.{HoldsDistances};
+    ghost use Rattle.ms_best.specs.inner.Distances.{HoldsDistances};
 
     /// The distances of an automaton from a sign.
     pub fn new(alloc: Global, automaton: &Automaton, sign: Sign) -> Result<Distances, NoMemory>

@@ -1,11 +1,11 @@
 ghost use Rattle.std.specs.Prelude.{◌≡◌, ◌<◌, length, IfOk, IfSome, IfNone};
 ghost use Rattle.ms_best.specs.FirstWord.{IsFirstWord, NoWordHas};
-ghost use Rattle.ms_best.specs.Least.{least_letters};
+ghost use Rattle.ms_best.specs.inner.Least.{least_letters};
 
 use crate::distances::Distances;
 use crate::least::least_values;
 use ms_dfa::{Automaton, Part, Sign};
-use ms_edge::{List, NoMemory, Word};
+use ms_list::{List, NoMemory, Word};
 use std::alloc::Global;
 
 /// The first word that has the sign: the shortest, and among these the one whose truth values and then letters have 0 at

@@ -1,7 +1,7 @@
 ghost use Rattle.std.specs.Prelude.{◌≡◌, ◌<◌, ℕ, length, IfOk, OnOk};
-ghost use Rattle.ms_best.specs.Graph.{LeadsTo, IsClosed, ListsUsers, with_user, with_users};
+ghost use Rattle.ms_best.specs.inner.Graph.{LeadsTo, IsClosed, ListsUsers, with_user, with_users};
 
-use ms_edge::{List, NoMemory};
+use ms_list::{List, NoMemory};
 use std::alloc::Global;
 
 /// A vertex of a graph in which letters are read: a goal; one from which a letter leads to another vertex; or one

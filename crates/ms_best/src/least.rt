@@ -1,15 +1,15 @@
 ghost use Rattle.std.specs.Prelude.{◌≡◌, ◌<◌, length, IfOk};
 ghost use Rattle.ms_arena.specs.Diagram.{IsValid};
 ghost use Rattle.ms_arena.specs.Halves.{half_of};
-ghost use Rattle.ms_logic.specs.Content.{IsFollowed};
+ghost use Rattle.ms_logic_words.specs.Content.{IsFollowed};
 ghost use Rattle.ms_dfa.specs.Part.{has_value};
-ghost use Rattle.ms_best.specs.Least.{least_values, least_letters};
+ghost use Rattle.ms_best.specs.inner.Least.{least_values, least_letters};
 
 use crate::distances::Distances;
 use ms_arena::Ref;
 use ms_dfa::{Automaton, Part, Sign, is_in};
 use ms_diagram::Store;
-use ms_edge::{List, NoMemory};
+use ms_list::{List, NoMemory};
 use std::alloc::Global;
 
 /// What is left of a diagram once the bit of a variable is fixed; the diagram tests no earlier variable.

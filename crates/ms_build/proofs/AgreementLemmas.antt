@@ -1,19 +1,20 @@
 -- Environments that agree on the variables of an automaton give it one sign.
 use Rattle.std.proofs.Common.{◌≡◌, ℕ, ◌==◌, ◌≤◌, Bool, List, [], ◌∷◌, length, map, max, refl, sym, ap, subst, ◌∙◌}
 use Rattle.ms_dfa.specs.Automaton.{IsAutomaton}
-use Rattle.ms_edge.specs.declared.refusal.Word.{Word}
+use Rattle.ms_list.specs.declared.word.Word.{Word}
 use Rattle.ms_logic.specs.declared.mode.Mode.{Mode}
 use Rattle.ms_logic.specs.declared.mode.Order.{Order}
 use Rattle.ms_logic.specs.declared.mode.Order.TheVariants.{Zero, One, Two}
-use Rattle.ms_logic.specs.declared.sign.Sign.{Sign}
+use Rattle.ms_logic_words.specs.declared.sign.Sign.{Sign}
 use Rattle.ms_logic.specs.declared.assignment.Value.{Value}
 use Rattle.ms_logic.specs.declared.assignment.Value.TheVariants.{Truth, Number, Set}
 use Rattle.ms_logic.specs.Assignment.{Env, Variable, GivesEach, IsAssignment, IsUniverseOf, IsValueOf, value_at}
-use Rattle.ms_logic.specs.Content.{Content, shortest_word}
+use Rattle.ms_logic_words.specs.Content.{Content, shortest_word}
 use Rattle.ms_logic.specs.FiniteSet.{is_member, numbers_below}
-use Rattle.ms_logic.specs.Word.{Encodes, HasLength, bound_at, bound_of, letter_at, truth_values_of, with_bit, with_truth_value}
-use Rattle.ms_theory.specs.Values.{own_meaning}
-use Rattle.ms_theory.proofs.EncodingLemmas.{shortest, sign_of_encoding}
+use Rattle.ms_logic_words.specs.Word.{Encodes, HasLength}
+use Rattle.ms_logic.specs.Letters.{bound_at, bound_of, letter_at, truth_values_of, with_bit, with_truth_value}
+use Rattle.ms_dfa.specs.Values.{own_meaning}
+use Rattle.ms_dfa.proofs.EncodingLemmas.{shortest, sign_of_encoding}
 
 abbrev pub AgreeOn : List Variable → Env → Env → Type 0
 AgreeOn [] e f = Unit {0}

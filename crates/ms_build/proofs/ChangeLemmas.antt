@@ -1,15 +1,15 @@
 -- The negation of an automaton over parts of the variables of a node, and the automaton as a restriction.
 use Rattle.std.proofs.Common.{◌≡◌, ℕ, List, sym, ap, subst, ◌∙◌}
 use Rattle.ms_dfa.specs.Automaton.{IsAutomaton}
-use Rattle.ms_explore.specs.Tracks.{IsAmong}
+use Rattle.ms_dfa_explore.specs.Tracks.{IsAmong}
 use Rattle.ms_logic.specs.declared.mode.Mode.{Mode}
 use Rattle.ms_logic.specs.declared.mode.Order.{Order}
-use Rattle.ms_logic.specs.declared.sign.Sign.{Sign}
+use Rattle.ms_logic_words.specs.declared.sign.Sign.{Sign}
 use Rattle.ms_logic.specs.Assignment.{Env, IsAssignment}
-use Rattle.ms_logic.specs.Content.{Content}
+use Rattle.ms_logic_words.specs.Content.{Content}
 use Rattle.ms_product.specs.Combined.{changed, with_signs}
 use Rattle.ms_product.specs.Signs.{negated, restricted}
-use Rattle.ms_theory.specs.Values.{HasValues, Meaning, meaning_by, own_meaning}
+use Rattle.ms_dfa.specs.Values.{HasValues, Meaning, meaning_by, own_meaning}
 use Rattle.ms_build.specs.Built.{IsPart}
 use Rattle.ms_build.proofs.MeaningLemmas.{HasValues-to, negated-to, own_means, restricted-to}
 

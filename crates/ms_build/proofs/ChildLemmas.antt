@@ -7,21 +7,21 @@ use Rattle.ms_basic.specs.Operands.{HaveOneOrder}
 use Rattle.ms_basic.proofs.DistinctLemmas.{among-distinct, distinct-among}
 use Rattle.ms_dag.specs.Places.{AreAt}
 use Rattle.ms_dag.specs.Values.{read_through}
-use Rattle.ms_explore.specs.Tracks.{IsAmong, distinct}
+use Rattle.ms_dfa_explore.specs.Tracks.{IsAmong, distinct}
 use Rattle.ms_logic.specs.declared.mode.Mode.{Mode}
 use Rattle.ms_logic.specs.declared.mode.Order.{Order}
 use Rattle.ms_logic.specs.declared.mode.Order.TheVariants.{Zero, One, Two}
-use Rattle.ms_logic.specs.declared.sign.Sign.{Sign}
+use Rattle.ms_logic_words.specs.declared.sign.Sign.{Sign}
 use Rattle.ms_logic.specs.Assignment.{Env, Variable, IsAssignment, IsUniverseOf, IsValueOf, value_at}
-use Rattle.ms_logic.specs.Content.{Content, variables_by_place, variables_from}
+use Rattle.ms_logic_words.specs.Content.{Content, variables_by_place, variables_from}
 use Rattle.ms_rename.specs.Renamed.{read_by, renamed, renamed_meaning}
-use Rattle.ms_theory.specs.Values.{HasValues, Meaning, own_meaning}
+use Rattle.ms_dfa.specs.Values.{HasValues, Meaning, own_meaning}
 use Rattle.ms_build.specs.Built.{AreBuilt, HasOnly, IsPart, IsReadAt, IsUsedFrom, child_meaning, node_meaning}
 use Rattle.ms_dag.specs.declared.node.Child.{Child}
 use Rattle.ms_dag.specs.declared.node.Entry.{Entry}
-use Rattle.ms_edge.specs.declared.fault.StepFault.{StepFault}
+use Rattle.ms_list.specs.declared.fault.StepFault.{StepFault}
 use Rattle.ms_logic.specs.Truth.{Import}
-use Rattle.ms_logic.specs.declared.sign.Sign.TheVariants.{Yes, No, Undefined, Outside}
+use Rattle.ms_logic_words.specs.declared.sign.Sign.TheVariants.{Yes, No, Undefined, Outside}
 use Rattle.ms_build.proofs.AgreementLemmas.{Agree, IsAssignment-agree, own_meaning-agree}
 use Rattle.ms_build.proofs.MeaningLemmas.{HasValues-to, own_means}
 use Rattle.ms_build.proofs.PlaceLemmas.{Agree-by, Agree-read, AreAt-length, AreAt-one, contains_place, length-by_place, gives_all, gives_among, own-among, among-own, renamed-at_place}

@@ -4,9 +4,9 @@ use Rattle.std.proofs.lemmas.Option.{same_Some}
 use Rattle.std.proofs.Math.Nat.{le_refl}
 use Rattle.ms_dag.specs.declared.node.Entry.{Entry}
 use Rattle.ms_dag.specs.Dag.{IsNodeOf, children_of}
-use Rattle.ms_dag.specs.Examples.{before, between, chain}
-use Rattle.ms_build.specs.Examples.{between_alone}
-use Rattle.ms_build.specs.Uses.{AreLastUses, AreUsesSoFar, to_the_end}
+use Rattle.ms_dag.specs.inner.Examples.{before, between, chain}
+use Rattle.ms_build.specs.inner.Examples.{between_alone}
+use Rattle.ms_build.specs.inner.Uses.{AreLastUses, AreUsesSoFar, to_the_end}
 
 -- the children of the second node are the first one
 pub child_of_between : (i : ℕ) → IsNodeOf (children_of between.node) i → i ≡ 0

@@ -4,7 +4,7 @@ use Rattle.std.specs.Option.{option_map}
 use Rattle.std.proofs.lemmas.Option.{none-some, same_Some, slice_get_within, slice_get-map, get_or_from_slice_get}
 use Rattle.std.proofs.lemmas.List.Elements.{Contains-append_cases, Contains-append_left, Contains-append_right}
 use Rattle.ms_arena.proofs.Lists.{slice_get-pushed}
-use Rattle.ms_basic.specs.Operands.{HaveOneOrder, operands_of}
+use Rattle.ms_basic.specs.Operands.{HaveOneOrder}
 use Rattle.ms_basic.proofs.DistinctLemmas.{among-distinct, distinct-among}
 use Rattle.ms_dag.specs.declared.node.Child.{Child}
 use Rattle.ms_dag.specs.declared.node.DagNode.{DagNode}
@@ -14,21 +14,21 @@ use Rattle.ms_dag.specs.Dag.{AreNodes, HasOwnOrders, IsChild, IsNode, children_o
 use Rattle.ms_dag.specs.Laws.{ChildrenComeFirst}
 use Rattle.ms_dag.specs.Values.{IsMetBy, NoAt, NodeNo, NodeYes, Verdict, YesAt}
 use Rattle.ms_dfa.specs.Automaton.{IsAutomaton}
-use Rattle.ms_edge.specs.declared.fault.StepFault.{StepFault}
-use Rattle.ms_explore.specs.Tracks.{IsAmong, distinct}
-use Rattle.ms_explore.proofs.AmongLemmas.{among_at, held_among}
-use Rattle.ms_explore.proofs.TracksLemmas.{distinct-rising}
-use Rattle.ms_logic.specs.declared.core_formula.Basic.{Basic as Relation}
-use Rattle.ms_logic.specs.declared.core_formula.Basic.TheVariants.{Truth, Number, Plus, Less, Member, Sub, Union, Inter, Diff, Up, Down, Min, Max, Bits}
+use Rattle.ms_list.specs.declared.fault.StepFault.{StepFault}
+use Rattle.ms_dfa_explore.specs.Tracks.{IsAmong, distinct}
+use Rattle.ms_dfa_explore.proofs.AmongLemmas.{among_at, held_among}
+use Rattle.ms_dfa_explore.proofs.TracksLemmas.{distinct-rising}
+use Rattle.ms_logic_core.specs.declared.core_formula.Basic.{Basic as Relation}
+use Rattle.ms_logic_core.specs.declared.core_formula.Basic.TheVariants.{Truth, Number, Plus, Less, Member, Sub, Union, Inter, Diff, Up, Down, Min, Max, Bits}
 use Rattle.ms_logic.specs.declared.mode.Mode.{Mode}
 use Rattle.ms_logic.specs.declared.mode.Order.{Order}
 use Rattle.ms_logic.specs.declared.mode.Quant.{Quant}
 use Rattle.ms_logic.specs.declared.mode.Quant.TheVariants as quant
-use Rattle.ms_logic.specs.declared.sign.Sign.{Sign}
+use Rattle.ms_logic_words.specs.declared.sign.Sign.{Sign}
 use Rattle.ms_logic.specs.Assignment.{Env, Variable}
-use Rattle.ms_logic.specs.Content.{Content, variables_by_place}
-use Rattle.ms_logic.specs.CoreForm.{Holds, answer_over}
-use Rattle.ms_logic.specs.Steps.{variables_of_basic}
+use Rattle.ms_logic_words.specs.Content.{Content, variables_by_place}
+use Rattle.ms_logic_core.specs.CoreForm.{Holds, answer_over}
+use Rattle.ms_logic_core.specs.Operands.{variables_of_basic}
 use Rattle.ms_logic.specs.Truth.{Import as Imported, answer_yes, answer_no}
 use Rattle.ms_product.specs.declared.op.Op.TheVariants as Op
 use Rattle.ms_project.specs.Quantified.{QuantifiedYes, QuantifiedNo}
@@ -37,7 +37,7 @@ use Rattle.ms_build.specs.declared.plan.Many.TheVariants as Many
 use Rattle.ms_minim.specs.Residual.{HasFewestStates, HaveEqualSigns}
 use Rattle.ms_project.proofs.AlwaysLemmas.{sign_moves}
 use Rattle.ms_rename.proofs.RenamedLemmas.{HasValues-same}
-use Rattle.ms_theory.specs.Values.{Meaning, meaning_by}
+use Rattle.ms_dfa.specs.Values.{Meaning, meaning_by}
 use Rattle.ms_build.specs.declared.nodes.Binder.{Binder}
 use Rattle.ms_build.specs.declared.plan.Plan.{Plan}
 use Rattle.ms_build.specs.Built.{AreBuiltFor, AreReadable, IsThere, IsUsedFrom, ChildNo, ChildYes, IsBinderOf, IsBuiltAt, IsDomainRead, IsLeastOf, IsMadeOf, IsOver, IsReadAt, ManyNo, ManyYes, child_meaning, entries_of, import_meaning, imports_for, many_meaning, node_meaning, pair_meaning, roots_of}
@@ -46,23 +46,6 @@ use Rattle.ms_build.proofs.MeaningLemmas.{HasValues-to}
 use Rattle.ms_build.proofs.NodeLemmas.{node_from_children}
 use Rattle.ms_build.proofs.PlaceLemmas.{among-own, contains_at, contains_place, own-among}
 use Rattle.ms_build.proofs.WholeLemmas.{IsOver-part, rising-by_place, rising_equal}
-
--- the variables of a relation are its operands
-operands_are : (b : Relation) → operands_of b ≡ variables_of_basic b
-operands_are (Truth a) = refl
-operands_are (Number x n) = refl
-operands_are (Plus x y n) = refl
-operands_are (Less x y) = refl
-operands_are (Member x s) = refl
-operands_are (Sub s t) = refl
-operands_are (Union s t u) = refl
-operands_are (Inter s t u) = refl
-operands_are (Diff s t u) = refl
-operands_are (Up s t n) = refl
-operands_are (Down s t n) = refl
-operands_are (Min x s) = refl
-operands_are (Max x s) = refl
-operands_are (Bits s n) = refl
 
 -- a fact of each item of a list holds of an item at a place
 pub all_at : {X : Type 0} (P : X → Type 0) (xs : List X) → All P xs → (place : ℕ) (x : X) → slice_get xs place ≡ Some x → P x
@@ -142,24 +125,24 @@ children_first entries are i node at = by (slice_get entries i) refl at
 
 -- the operands of a relation whose variables have these orders
 module _ (orders : List Order) (b : Relation) (own : All (λ (v : Variable). slice_get orders v.name ≡ Some v.order) (variables_of_basic b)) where
-  operand_order : (v : Variable) → IsAmong (operands_of b) v → slice_get orders v.name ≡ Some v.order
-  operand_order v among = all_among (λ (w : Variable). slice_get orders w.name ≡ Some w.order) (variables_of_basic b) own v (subst (λ vs. IsAmong vs v) (operands_are b) among)
+  operand_order : (v : Variable) → IsAmong (variables_of_basic b) v → slice_get orders v.name ≡ Some v.order
+  operand_order v among = all_among (λ (w : Variable). slice_get orders w.name ≡ Some w.order) (variables_of_basic b) own v among
 
-  pub operands_one_order : HaveOneOrder (operands_of b)
+  pub operands_one_order : HaveOneOrder (variables_of_basic b)
   operands_one_order v w is also same =
       same_variable v w same (same_Some v.order w.order (sym (operand_order v is) ∙ ap (slice_get orders) same ∙ operand_order w also))
 
-  pub operands_by_place : ((j : ℕ) → j < length orders → Contains (map (λ (v : Variable). v.name) (variables_of_basic b)) j) → distinct (operands_of b) ≡ variables_by_place orders
+  pub operands_by_place : ((j : ℕ) → j < length orders → Contains (map (λ (v : Variable). v.name) (variables_of_basic b)) j) → distinct (variables_of_basic b) ≡ variables_by_place orders
   operands_by_place free =
-      rising_equal (distinct (operands_of b)) (variables_by_place orders) (distinct-rising (operands_of b)) (rising-by_place 0 orders)
-      (λ x among. among-own orders x (operand_order x (distinct-among (operands_of b) x among)))
+      rising_equal (distinct (variables_of_basic b)) (variables_by_place orders) (distinct-rising (variables_of_basic b)) (rising-by_place 0 orders)
+      (λ x among. among-own orders x (operand_order x (distinct-among (variables_of_basic b) x among)))
       (λ x among.
       let held = own-among orders x among in
       let named = free x.name (slice_get_within orders x.name x.order held) in
       let found = named_variable (variables_of_basic b) x.name named in
       let own_order = all_among (λ (w : Variable). slice_get orders w.name ≡ Some w.order) (variables_of_basic b) own found.0 found.1 in
       let same : found.0 ≡ x = same_variable found.0 x found.2 (same_Some found.0.order x.order (sym own_order ∙ ap (slice_get orders) found.2 ∙ held)) in
-      among-distinct (operands_of b) x operands_one_order (subst (λ vs. IsAmong vs x) (sym (operands_are b)) (subst (IsAmong (variables_of_basic b)) same found.1)))
+      among-distinct (variables_of_basic b) x operands_one_order (subst (IsAmong (variables_of_basic b)) same found.1))
     where
       named_variable : (vs : List Variable) (name : ℕ) → Contains (map (λ (v : Variable). v.name) vs) name → (v : Variable) × IsAmong vs v × (v.name ≡ name)
       named_variable vs name is =

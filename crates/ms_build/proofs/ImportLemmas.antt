@@ -7,24 +7,24 @@ use Rattle.std.proofs.lemmas.Bool.{eq-eqb}
 use Rattle.ms_dag.specs.Values.{read_through}
 use Rattle.ms_dag.specs.Places.{AreAt}
 use Rattle.ms_dfa.specs.Automaton.{IsAutomaton}
-use Rattle.ms_edge.specs.declared.fault.StepFault.{StepFault}
-use Rattle.ms_explore.specs.Tracks.{IsAmong, distinct}
+use Rattle.ms_list.specs.declared.fault.StepFault.{StepFault}
+use Rattle.ms_dfa_explore.specs.Tracks.{IsAmong, distinct}
 use Rattle.ms_logic.specs.declared.mode.Mode.{Mode}
 use Rattle.ms_logic.specs.declared.mode.Order.{Order}
 use Rattle.ms_logic.specs.declared.mode.Order.TheVariants.{Zero, One, Two}
 use Rattle.ms_logic.specs.declared.assignment.Value.TheVariants.{Truth, Number, Set}
-use Rattle.ms_logic.specs.declared.sign.Sign.{Sign}
-use Rattle.ms_logic.specs.declared.sign.Sign.TheVariants.{Yes, No, Undefined, Outside}
+use Rattle.ms_logic_words.specs.declared.sign.Sign.{Sign}
+use Rattle.ms_logic_words.specs.declared.sign.Sign.TheVariants.{Yes, No, Undefined, Outside}
 use Rattle.ms_logic.specs.declared.assignment.Value.{Value}
 use Rattle.ms_logic.specs.Assignment.{Env, Variable, IsAssignment, assign, assign_all, value_at}
-use Rattle.ms_logic.specs.Content.{Content, answer_by, env_of, variables_from, variables_by_place}
-use Rattle.ms_logic.specs.CoreForm.{answer_over}
+use Rattle.ms_logic_words.specs.Content.{Content, answer_by, env_of, variables_from, variables_by_place}
+use Rattle.ms_logic_core.specs.CoreForm.{answer_over}
 use Rattle.ms_logic.specs.Truth.{answer_yes, answer_no, answer_undefined}
 use Rattle.ms_logic.proofs.Agreement.{universe-assign_all}
-use Rattle.ms_logic.proofs.Saying.{value_at-assign_other}
+use Rattle.ms_logic.proofs.AssignedValues.{value_at-assign_other}
 use Rattle.ms_rename.specs.Renamed.{renamed, renamed_meaning}
-use Rattle.ms_theory.specs.Values.{HasValues, own_meaning}
-use Rattle.ms_theory.proofs.OwnMeaningLemmas.{HasValues-own, IsMeaning-own}
+use Rattle.ms_dfa.specs.Values.{HasValues, own_meaning}
+use Rattle.ms_dfa.proofs.OwnMeaningLemmas.{HasValues-own, IsMeaning-own}
 use Rattle.ms_build.specs.Built.{IsPart, answer_for, import_meaning, imports_of, import_of}
 use Rattle.ms_build.proofs.AgreementLemmas.{Agree, own_meaning-agree}
 use Rattle.ms_build.proofs.ChildLemmas.{IsPart-read, assigned_through, value_through}

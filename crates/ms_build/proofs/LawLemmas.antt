@@ -2,7 +2,7 @@
 use Rattle.std.proofs.Common.{refl, sym}
 use Rattle.ms_dag.specs.Values.{ReadsAs, read_through}
 use Rattle.ms_dag.proofs.NodeValues.{node_has_value_of_formula}
-use Rattle.ms_logic.specs.CoreForm.{CoreNo, CoreYes}
+use Rattle.ms_logic_core.specs.CoreForm.{CoreNo, CoreYes}
 use Rattle.ms_project.proofs.AlwaysLemmas.{sign_moves}
 use Rattle.ms_build.specs.Built.{ChildNo, ChildYes}
 use Rattle.ms_build.specs.Laws.{ChildHasValueOfFormula}

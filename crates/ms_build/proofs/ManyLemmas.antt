@@ -6,9 +6,9 @@ use Rattle.std.proofs.lemmas.Option.{get_or_from_slice_get, none-some, slice_get
 use Rattle.ms_arena.proofs.Lists.{slice_get-append_some, slice_get-push}
 use Rattle.ms_dag.specs.Dag.{places_in_maps}
 use Rattle.ms_dfa.specs.Automaton.{IsAutomaton}
-use Rattle.ms_explore.specs.Tracks.{IsAmong, joined}
+use Rattle.ms_dfa_explore.specs.Tracks.{IsAmong, joined}
 use Rattle.ms_logic.specs.declared.mode.Order.{Order}
-use Rattle.ms_logic.specs.Content.{Content}
+use Rattle.ms_logic_words.specs.Content.{Content}
 use Rattle.ms_minim.specs.Residual.{HaveEqualSigns}
 use Rattle.ms_rename.proofs.RenamedLemmas.{HasValues-same}
 use Rattle.ms_product.specs.Combined.{HaveEqualOrders, combined}
@@ -18,11 +18,11 @@ use Rattle.ms_build.proofs.PartLemmas.{IsPart-combined, equal_orders}
 use Rattle.ms_dag.specs.declared.node.Child.{Child}
 use Rattle.ms_dag.specs.declared.node.Entry.{Entry}
 use Rattle.ms_dag.specs.Values.{Verdict, Of, EachIs, SomeIs, EachIsDefined, NodeYes, NodeNo}
-use Rattle.ms_logic.specs.declared.sign.Sign.{Sign}
+use Rattle.ms_logic_words.specs.declared.sign.Sign.{Sign}
 use Rattle.ms_logic.specs.Assignment.{Env}
 use Rattle.ms_logic.specs.Truth.{Import}
 use Rattle.ms_project.proofs.AlwaysLemmas.{sign_moves}
-use Rattle.ms_theory.specs.Values.{HasValues, meaning_by, own_meaning}
+use Rattle.ms_dfa.specs.Values.{HasValues, meaning_by, own_meaning}
 use Rattle.ms_build.specs.declared.plan.Many.{Many}
 use Rattle.ms_build.specs.declared.plan.Many.TheVariants.{All, Any}
 use Rattle.ms_build.specs.Built.{ChildYes, ChildNo, IsBrought, IsManyOf, IsPart, AreReadAt, IsReadAt, ManyYes, ManyNo, child_meaning, entries_of, imports_for, many_meaning, op_of}

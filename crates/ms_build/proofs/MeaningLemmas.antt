@@ -2,19 +2,19 @@
 use Rattle.std.proofs.Common.{inl, inr, ⊎_elim, sym, subst, ◌∙◌}
 use Rattle.std.proofs.lemmas.Option.{same_Some}
 use Rattle.ms_dfa.specs.Automaton.{IsAutomaton}
-use Rattle.ms_edge.specs.declared.refusal.Word.{Word}
-use Rattle.ms_logic.specs.declared.sign.Sign.{Sign}
-use Rattle.ms_logic.specs.declared.sign.Sign.TheVariants.{Yes, No, Undefined, Outside}
+use Rattle.ms_list.specs.declared.word.Word.{Word}
+use Rattle.ms_logic_words.specs.declared.sign.Sign.{Sign}
+use Rattle.ms_logic_words.specs.declared.sign.Sign.TheVariants.{Yes, No, Undefined, Outside}
 use Rattle.ms_logic.specs.Assignment.{Env, IsAssignment}
-use Rattle.ms_logic.specs.Content.{Content, shortest_word}
-use Rattle.ms_logic.specs.Word.{Encodes}
+use Rattle.ms_logic_words.specs.Content.{Content, shortest_word}
+use Rattle.ms_logic_words.specs.Word.{Encodes}
 use Rattle.ms_product.specs.declared.op.Op.{Op}
 use Rattle.ms_product.specs.declared.op.Op.TheVariants.{And, Or, Implies, Iff}
 use Rattle.ms_product.specs.Combined.{changed, combined}
 use Rattle.ms_product.specs.Signs.{negated, restricted, strict}
 use Rattle.ms_build.specs.Connectives.{Defined, NoOf, YesOf}
-use Rattle.ms_theory.specs.Values.{HasValues, Meaning, meaning_by, own_meaning}
-use Rattle.ms_theory.proofs.EncodingLemmas.{shortest}
+use Rattle.ms_dfa.specs.Values.{HasValues, Meaning, meaning_by, own_meaning}
+use Rattle.ms_dfa.proofs.EncodingLemmas.{shortest}
 
 -- the sign of an automaton with the values of a meaning is right there
 pub own_means : (meaning : Meaning) (content : Content Sign) → IsAutomaton content → HasValues meaning content → (e : Env) → IsAssignment content.mode content.variables e → (sign : Sign)

@@ -10,11 +10,11 @@ use Rattle.ms_dag.specs.Values.{Verdict, EachIs, SomeIs, YesAt, NoAt, YesBelow, 
 use Rattle.ms_dag.proofs.NodesByChildren.{node_has_value_by_children}
 use Rattle.ms_logic.specs.declared.mode.Mode.{Mode}
 use Rattle.ms_logic.specs.declared.mode.Quant.TheVariants.{Ex, All}
-use Rattle.ms_logic.specs.declared.sign.Sign.{Sign}
+use Rattle.ms_logic_words.specs.declared.sign.Sign.{Sign}
 use Rattle.ms_logic.specs.Assignment.{Env, Variable}
 use Rattle.ms_logic.specs.Truth.{Import as Imported}
-use Rattle.ms_theory.specs.Values.{IsMeaning, meaning_by}
-use Rattle.ms_theory.proofs.ValuesLemmas.{IsMeaning-by}
+use Rattle.ms_dfa.specs.Values.{IsMeaning, meaning_by}
+use Rattle.ms_dfa.proofs.ValuesLemmas.{IsMeaning-by}
 use Rattle.ms_project.proofs.AlwaysLemmas.{sign_moves}
 use Rattle.ms_build.specs.Built.{ChildYes, ChildNo, child_meaning, node_meaning}
 

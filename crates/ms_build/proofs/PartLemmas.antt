@@ -3,18 +3,18 @@ use Rattle.std.proofs.Common.{◌≡◌, ℕ, ⊎_elim, Result, Ok, Err, IfOk, L
 use Rattle.std.proofs.lemmas.Option.{same_Some}
 use Rattle.std.proofs.lemmas.List.Elements.{Contains-append_cases}
 use Rattle.ms_dfa.specs.Automaton.{IsAutomaton}
-use Rattle.ms_edge.specs.declared.fault.StepFault.{StepFault}
-use Rattle.ms_explore.specs.Tracks.{IsAmong, joined}
-use Rattle.ms_explore.proofs.AmongLemmas.{joined-either}
-use Rattle.ms_explore.proofs.TracksLemmas.{joined-left, joined-right}
+use Rattle.ms_list.specs.declared.fault.StepFault.{StepFault}
+use Rattle.ms_dfa_explore.specs.Tracks.{IsAmong, joined}
+use Rattle.ms_dfa_explore.proofs.AmongLemmas.{joined-either}
+use Rattle.ms_dfa_explore.proofs.TracksLemmas.{joined-left, joined-right}
 use Rattle.ms_logic.specs.declared.mode.Mode.{Mode}
 use Rattle.ms_logic.specs.declared.mode.Order.{Order}
-use Rattle.ms_logic.specs.declared.sign.Sign.{Sign}
+use Rattle.ms_logic_words.specs.declared.sign.Sign.{Sign}
 use Rattle.ms_logic.specs.Assignment.{Env, Variable, IsAssignment}
-use Rattle.ms_logic.specs.Content.{Content, variables_by_place}
+use Rattle.ms_logic_words.specs.Content.{Content, variables_by_place}
 use Rattle.ms_product.specs.declared.op.Op.{Op}
 use Rattle.ms_product.specs.Combined.{HaveEqualOrders, combined}
-use Rattle.ms_theory.specs.Values.{HasValues, meaning_by, own_meaning}
+use Rattle.ms_dfa.specs.Values.{HasValues, meaning_by, own_meaning}
 use Rattle.ms_dag.specs.declared.node.Child.{Child}
 use Rattle.ms_build.specs.declared.plan.Plan.{Plan}
 use Rattle.ms_build.specs.Built.{IsPairOf, IsPart, IsReadAt, entries_of, imports_for, pair_meaning}

@@ -13,8 +13,8 @@ use Rattle.ms_logic.specs.declared.mode.Order.{Order}
 use Rattle.ms_logic.specs.declared.mode.Order.TheVariants.{Zero, One, Two}
 use Rattle.ms_logic.specs.declared.assignment.Value.TheVariants.{Truth, Number, Set}
 use Rattle.ms_logic.specs.Assignment.{Env, Variable, GivesEach, IsAssignment, IsValueOf, value_at}
-use Rattle.ms_logic.specs.Content.{variables_from, variables_by_place}
-use Rattle.ms_explore.specs.Tracks.{IsAmong, place_of}
+use Rattle.ms_logic_words.specs.Content.{variables_from, variables_by_place}
+use Rattle.ms_dfa_explore.specs.Tracks.{IsAmong, place_of}
 use Rattle.ms_rename.specs.Renamed.{read_by, renamed}
 use Rattle.ms_build.proofs.AgreementLemmas.{Agree, AgreeOn}
 

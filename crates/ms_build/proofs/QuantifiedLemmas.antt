@@ -1,18 +1,18 @@
 -- A quantifier over automata with the values of meanings has the value of the quantifier over these.
 use Rattle.std.proofs.Common.{◌≡◌, List, Some, ap, subst, ◌∙◌}
-use Rattle.ms_edge.specs.declared.refusal.Word.{Word}
+use Rattle.ms_list.specs.declared.word.Word.{Word}
 use Rattle.ms_dfa.specs.Automaton.{IsAutomaton}
 use Rattle.ms_logic.specs.declared.mode.Quant.{Quant}
 use Rattle.ms_logic.specs.declared.mode.Quant.TheVariants.{Ex, All}
-use Rattle.ms_logic.specs.declared.sign.Sign.{Sign}
-use Rattle.ms_logic.specs.declared.sign.Sign.TheVariants.{Yes, No}
+use Rattle.ms_logic_words.specs.declared.sign.Sign.{Sign}
+use Rattle.ms_logic_words.specs.declared.sign.Sign.TheVariants.{Yes, No}
 use Rattle.ms_logic.specs.declared.assignment.Value.{Value}
 use Rattle.ms_logic.specs.Assignment.{Env, Variable, IsAssignment, IsValueOf, assign}
-use Rattle.ms_logic.specs.Content.{Content, shortest_word}
-use Rattle.ms_logic.specs.Word.{Encodes}
-use Rattle.ms_theory.specs.Values.{HasValues, IsMeaning, Meaning, own_meaning}
-use Rattle.ms_theory.proofs.EncodingLemmas.{shortest}
-use Rattle.ms_explore.specs.Tracks.{IsAmong, places_among}
+use Rattle.ms_logic_words.specs.Content.{Content, shortest_word}
+use Rattle.ms_logic_words.specs.Word.{Encodes}
+use Rattle.ms_dfa.specs.Values.{HasValues, IsMeaning, Meaning, own_meaning}
+use Rattle.ms_dfa.proofs.EncodingLemmas.{shortest}
+use Rattle.ms_dfa_explore.specs.Tracks.{IsAmong, places_among}
 use Rattle.ms_project.specs.Paired.{places_left}
 use Rattle.ms_project.specs.Quantified.{RangeOf, BodyAt, QuantifiedYes, QuantifiedNo, quantified, without}
 use Rattle.ms_project.proofs.AlwaysLemmas.{some_yes, some_no, none_yes, none_no, yes_or_empty, no_or_empty, sign_moves}

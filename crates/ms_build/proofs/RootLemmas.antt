@@ -7,34 +7,33 @@ use Rattle.std.specs.Option.{option_map}
 use Rattle.ms_dag.specs.declared.dag.SharedRoot.{SharedRoot}
 use Rattle.std.proofs.lemmas.List.Elements.{All-contains}
 use Rattle.ms_dag.specs.declared.dag.Dag.{Dag}
-use Rattle.ms_core.specs.Calls.{Calls}
-use Rattle.ms_core.specs.Orders.{order_at}
+use Rattle.ms_logic_core.specs.Calls.{Calls}
+use Rattle.ms_logic_core.specs.Orders.{order_at}
 use Rattle.ms_dag.specs.declared.node.Entry.{Entry}
 use Rattle.ms_dag.specs.Places.{AreAt}
 use Rattle.ms_dag.specs.Lowered.{IsLowered, IsLoweredRoot}
 use Rattle.ms_logic.specs.Truth.{Import}
-use Rattle.ms_rules.specs.Numbers.{Each}
+use Rattle.ms_logic.specs.Lists.{Each, AreRising}
 use Rattle.ms_dag.specs.Share.{AreRootsOf, IsDagOf, IsRootOf, children_of_roots, variables_of_roots}
-use Rattle.ms_logic.specs.declared.core_formula.Lowered.{Lowered}
-use Rattle.ms_edge.specs.declared.fault.StepFault.{StepFault}
+use Rattle.ms_logic_core.specs.declared.core_formula.Lowered.{Lowered}
+use Rattle.ms_list.specs.declared.fault.StepFault.{StepFault}
 use Rattle.ms_minim.specs.Residual.{HasFewestStates, HaveEqualSigns}
 use Rattle.ms_build.specs.declared.plan.Plan.{Plan}
 use Rattle.ms_build.proofs.FormLemmas.{least_by}
 use Rattle.ms_dag.specs.declared.node.Child.{Child}
-use Rattle.ms_explore.specs.Tracks.{IsAmong}
+use Rattle.ms_dfa_explore.specs.Tracks.{IsAmong}
 use Rattle.ms_logic.specs.declared.mode.Mode.{Mode}
 use Rattle.ms_logic.specs.declared.mode.Order.{Order}
 use Rattle.ms_logic.specs.declared.mode.Order.TheVariants.{Zero}
-use Rattle.ms_logic.specs.declared.sign.Sign.{Sign}
+use Rattle.ms_logic_words.specs.declared.sign.Sign.{Sign}
 use Rattle.ms_logic.specs.Assignment.{Variable}
-use Rattle.ms_logic.specs.Content.{Content}
-use Rattle.ms_logic.specs.Roots.{AreRising}
+use Rattle.ms_logic_words.specs.Content.{Content}
 use Rattle.ms_dfa.specs.declared.track.Track.{Track}
 use Rattle.ms_dfa.specs.Automaton.{variable_of, variables_of}
 use Rattle.std.proofs.lemmas.List.{length-map, map_push, take_more}
 use Rattle.std.proofs.lemmas.List.FromFn.{get_or-map-range_with_len, length-range_with_len}
 use Rattle.std.proofs.lemmas.List.Sums.{sum_by-cons}
-use Rattle.ms_theory.specs.Values.{Meaning}
+use Rattle.ms_dfa.specs.Values.{Meaning}
 use Rattle.ms_build.specs.Built.{HasOnly, IsOver, IsPart, IsReadAt, child_meaning, entries_of, imports_for}
 use Rattle.ms_build.specs.Roots.{AreRootVariables, AreRootsRead, IsReadInSource, IsRootAt, named}
 use Rattle.ms_build.proofs.ChildLemmas.{same_variable}

@@ -7,12 +7,12 @@ use Rattle.std.proofs.lemmas.List.Elements.{Contains-append_cases}
 use Rattle.ms_dag.specs.declared.node.Child.{Child}
 use Rattle.ms_dag.specs.declared.dag.SharedRoot.{SharedRoot}
 use Rattle.ms_dag.specs.Share.{children_of_roots}
-use Rattle.ms_logic.specs.declared.sign.Sign.{Sign}
-use Rattle.ms_logic.specs.Content.{Content}
+use Rattle.ms_logic_words.specs.declared.sign.Sign.{Sign}
+use Rattle.ms_logic_words.specs.Content.{Content}
 use Rattle.ms_build.specs.declared.plan.Plan.{Plan}
 use Rattle.ms_build.specs.Built.{AreBuiltFor, IsUsedFrom, entries_of, roots_of}
 use Rattle.ms_build.proofs.ManyLemmas.{take_next}
-use Rattle.ms_build.specs.Uses.{AreLastUses, AreNotedUses}
+use Rattle.ms_build.specs.inner.Uses.{AreLastUses, AreNotedUses}
 
 -- of no nodes, nothing is noted
 pub noted_none : (last : List ℕ) (step : ℕ) → AreNotedUses last last [] step

@@ -5,10 +5,10 @@ use Rattle.std.proofs.lemmas.List.{take_more}
 use Rattle.std.proofs.lemmas.Option.{none-some, slice_get_within, slice_get-map, slice_get-get_or, get_or_from_slice_get}
 use Rattle.ms_dfa.specs.declared.track.Track.{Track}
 use Rattle.ms_dfa.specs.Automaton.{variable_of, variables_of}
-use Rattle.ms_explore.specs.Tracks.{IsAmong}
-use Rattle.ms_explore.proofs.AmongLemmas.{among_at}
+use Rattle.ms_dfa_explore.specs.Tracks.{IsAmong}
+use Rattle.ms_dfa_explore.proofs.AmongLemmas.{among_at}
 use Rattle.ms_logic.specs.Assignment.{Variable}
-use Rattle.ms_logic.specs.Roots.{AreRising}
+use Rattle.ms_logic.specs.Lists.{AreRising}
 use Rattle.ms_build.proofs.WholeLemmas.{rising_above}
 
 -- a variable of two lists is one of the first or of the second

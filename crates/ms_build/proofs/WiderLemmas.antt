@@ -1,25 +1,25 @@
 -- Automata over more variables.
 use Rattle.std.proofs.Common.{◌≡◌, ℕ, inl, inr, ⊎_elim, Result, Ok, Err, IfOk, List, [], ◌∷◌, ◌++◌, take, slice_get, Some, refl, sym, subst, ◌∙◌}
 use Rattle.ms_dfa.specs.Automaton.{IsAutomaton, variables_of}
-use Rattle.ms_edge.specs.declared.fault.StepFault.{StepFault}
-use Rattle.ms_explore.specs.Tracks.{IsAmong, joined}
-use Rattle.ms_explore.proofs.AmongLemmas.{among_at, joined-either}
-use Rattle.ms_explore.proofs.TracksLemmas.{among-left, among-right, joined-left, joined-right}
+use Rattle.ms_list.specs.declared.fault.StepFault.{StepFault}
+use Rattle.ms_dfa_explore.specs.Tracks.{IsAmong, joined}
+use Rattle.ms_dfa_explore.proofs.AmongLemmas.{among_at, joined-either}
+use Rattle.ms_dfa_explore.proofs.TracksLemmas.{among-left, among-right, joined-left, joined-right}
 use Rattle.ms_basic.specs.Operands.{HaveOneOrder}
 use Rattle.ms_product.specs.Combined.{HaveEqualOrders}
 use Rattle.ms_rename.proofs.RenamedLemmas.{values_same}
 use Rattle.ms_minim.specs.Residual.{HaveEqualSigns}
 use Rattle.ms_logic.specs.declared.mode.Mode.{Mode}
-use Rattle.ms_logic.specs.declared.sign.Sign.{Sign}
+use Rattle.ms_logic_words.specs.declared.sign.Sign.{Sign}
 use Rattle.ms_logic.specs.Assignment.{Variable}
-use Rattle.ms_logic.specs.Content.{Content}
-use Rattle.ms_logic.specs.Roots.{AreRising}
-use Rattle.ms_theory.specs.Values.{HasValues, Meaning, own_meaning}
-use Rattle.ms_theory.proofs.OwnMeaningLemmas.{HasValues-own}
+use Rattle.ms_logic_words.specs.Content.{Content}
+use Rattle.ms_logic.specs.Lists.{AreRising}
+use Rattle.ms_dfa.specs.Values.{HasValues, Meaning, own_meaning}
+use Rattle.ms_dfa.proofs.OwnMeaningLemmas.{HasValues-own}
 use Rattle.ms_build.specs.Built.{IsOver}
 use Rattle.ms_build.specs.declared.lacked.Lacked.{Lacked}
-use Rattle.ms_build.specs.Lacked.{IsLacked}
-use Rattle.ms_build.specs.Wider.{IsWider}
+use Rattle.ms_build.specs.inner.Lacked.{IsLacked}
+use Rattle.ms_build.specs.inner.Wider.{IsWider}
 use Rattle.ms_build.proofs.VariableLemmas.{among_either, taken-among}
 use Rattle.ms_build.proofs.WholeLemmas.{HasValues-more, HaveOneOrder-rising, rising_equal}
 

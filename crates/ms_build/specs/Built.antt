@@ -2,15 +2,15 @@
 use Rattle.std.specs.Prelude.{◌≡◌, ◌<◌, ◌≤◌, ◌⊎◌, ℕ, ◌++◌, List, [], ◌∷◌, length, map, slice_get, Contains, Some, None, Option}
 use Rattle.ms_logic.specs.declared.mode.Mode.{Mode}
 use Rattle.ms_logic.specs.declared.mode.Order.{Order}
-use Rattle.ms_logic.specs.declared.sign.Sign.{Sign}
-use Rattle.ms_logic.specs.declared.sign.Sign.TheVariants.{Yes, No, Undefined, Outside}
+use Rattle.ms_logic_words.specs.declared.sign.Sign.{Sign}
+use Rattle.ms_logic_words.specs.declared.sign.Sign.TheVariants.{Yes, No, Undefined, Outside}
 use Rattle.ms_logic.specs.Assignment.{Env, Variable}
-use Rattle.ms_logic.specs.CoreForm.{Holds, answer_over}
-use Rattle.ms_logic.specs.declared.core_formula.Basic.{Basic as Relation}
-use Rattle.ms_basic.specs.Operands.{operands_of}
+use Rattle.ms_logic_core.specs.CoreForm.{Holds, answer_over}
+use Rattle.ms_logic_core.specs.declared.core_formula.Basic.{Basic as Relation}
+use Rattle.ms_logic_core.specs.Operands.{variables_of_basic}
 use Rattle.ms_dag.specs.declared.node.DagNode.{DagNode}
 use Rattle.ms_dag.specs.declared.node.DagNode.TheVariants.{True, False, Basic, Not, And, Or, Implies, Iff, Restrict, Import, Bind}
-use Rattle.ms_logic.specs.Content.{Content, answer_of, variables_by_place}
+use Rattle.ms_logic_words.specs.Content.{Content, answer_of, variables_by_place}
 use Rattle.ms_logic.specs.Truth.{Answer, Import as Imported, answer_yes, answer_no, answer_undefined}
 use Rattle.ms_dag.specs.declared.dag.Dag.{Dag}
 use Rattle.ms_dag.specs.declared.node.Child.{Child}
@@ -23,19 +23,19 @@ use Rattle.ms_build.specs.declared.plan.Many.{Many}
 use Rattle.ms_build.specs.declared.plan.Many.TheVariants.{All, Any}
 use Rattle.ms_build.specs.declared.built.Built.{Built}
 use Rattle.ms_build.specs.declared.plan.Plan.{Plan}
-use Rattle.ms_edge.specs.declared.fault.StepFault.{StepFault}
-use Rattle.ms_edge.specs.declared.fault.StepFault.TheVariants as fault
+use Rattle.ms_list.specs.declared.fault.StepFault.{StepFault}
+use Rattle.ms_list.specs.declared.fault.StepFault.TheVariants as fault
 use Rattle.ms_edge.specs.declared.refusal.Refusal.{Refusal}
 use Rattle.ms_edge.specs.declared.refusal.Refusal.TheVariants.{Nodes, Memory}
 use Rattle.ms_build.specs.declared.nodes.Binder.{Binder}
 use Rattle.ms_build.specs.Connectives.{NoOf, YesOf}
 use Rattle.ms_product.specs.declared.op.Op.{Op}
-use Rattle.ms_explore.specs.Tracks.{IsAmong, distinct}
+use Rattle.ms_dfa_explore.specs.Tracks.{IsAmong, distinct}
 use Rattle.ms_dfa.specs.Automaton.{variable_of}
 use Rattle.ms_minim.specs.Residual.{HasFewestStates}
 use Rattle.ms_project.specs.declared.quantifier.Quantifier.{Quantifier}
 use Rattle.ms_project.specs.Quantified.{quantified}
-use Rattle.ms_theory.specs.Values.{Meaning, meaning_by, HasValues}
+use Rattle.ms_dfa.specs.Values.{Meaning, meaning_by, HasValues}
 
 -- a sign as an answer
 abbrev pub answer_for : Sign → Answer
@@ -224,7 +224,7 @@ import_meaning imports i xs =
 abbrev pub IsMadeOf : Plan → Entry → DagNode → Content Sign → Type 0
 IsMadeOf plan entry True content = IsOver plan.mode [] (meaning_by (λ e. Unit {0}) (λ e. ⊥)) content
 IsMadeOf plan entry False content = IsOver plan.mode [] (meaning_by (λ e. ⊥) (λ e. Unit {0})) content
-IsMadeOf plan entry (Basic b) content = IsOver plan.mode (distinct (operands_of b)) (relation_meaning b) content
+IsMadeOf plan entry (Basic b) content = IsOver plan.mode (distinct (variables_of_basic b)) (relation_meaning b) content
 IsMadeOf plan entry (Not c) content = IsNegationOf plan c content
 IsMadeOf plan entry (And cs) content = IsManyOf plan All cs content
 IsMadeOf plan entry (Or cs) content = IsManyOf plan Any cs content

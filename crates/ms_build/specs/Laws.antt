@@ -1,12 +1,12 @@
 -- What the automata of a source stand for.
 use Rattle.std.specs.Prelude.{◌↔◌, List}
-use Rattle.ms_logic.specs.declared.core_formula.Lowered.{Lowered}
+use Rattle.ms_logic_core.specs.declared.core_formula.Lowered.{Lowered}
 use Rattle.ms_logic.specs.declared.mode.Order.{Order}
-use Rattle.ms_logic.specs.declared.sign.Sign.{Sign}
+use Rattle.ms_logic_words.specs.declared.sign.Sign.{Sign}
 use Rattle.ms_logic.specs.Assignment.{Env}
-use Rattle.ms_logic.specs.CoreForm.{CoreForm}
+use Rattle.ms_logic_core.specs.CoreForm.{CoreForm}
 use Rattle.ms_logic.specs.Truth.{Import}
-use Rattle.ms_core.specs.Calls.{Calls}
+use Rattle.ms_logic_core.specs.Calls.{Calls}
 use Rattle.ms_dag.specs.declared.dag.Dag.{Dag}
 use Rattle.ms_dag.specs.declared.node.Child.{Child}
 use Rattle.ms_dag.specs.declared.node.Entry.{Entry}
@@ -14,7 +14,7 @@ use Rattle.ms_dag.specs.Laws.{HaveTheirOrders}
 use Rattle.ms_dag.specs.Lowered.{IsLowered}
 use Rattle.ms_dag.specs.Share.{IsDagOf}
 use Rattle.ms_dag.specs.Unfolds.{Unfolds}
-use Rattle.ms_theory.specs.Values.{core_meaning}
+use Rattle.ms_dfa.specs.Values.{core_meaning}
 use Rattle.ms_build.specs.Built.{child_meaning}
 use Rattle.ms_build.specs.Roots.{AreRootsRead}
 

@@ -1,8 +1,5 @@
-pub mod Connectives
 pub mod Built
-pub mod Roots
+pub mod Connectives
 pub mod Laws
-pub mod Lacked
-pub mod Wider
-pub mod Uses
-pub mod Examples
+pub mod Roots
+pub mod inner

@@ -2,10 +2,10 @@
 use Rattle.std.specs.Prelude.{◌≡◌, ℕ, List, map, slice_get, Contains, Some}
 use Rattle.std.specs.List.Sorted.{IsStrictlyIncreasing}
 use Rattle.ms_logic.specs.declared.mode.Order.{Order}
-use Rattle.ms_logic.specs.declared.sign.Sign.{Sign}
+use Rattle.ms_logic_words.specs.declared.sign.Sign.{Sign}
 use Rattle.ms_logic.specs.Assignment.{Variable}
-use Rattle.ms_logic.specs.Content.{Content}
-use Rattle.ms_core.specs.Orders.{order_at}
+use Rattle.ms_logic_words.specs.Content.{Content}
+use Rattle.ms_logic_core.specs.Orders.{order_at}
 use Rattle.ms_dag.specs.declared.node.Child.{Child}
 use Rattle.ms_dag.specs.declared.node.Entry.{Entry}
 use Rattle.ms_dag.specs.declared.dag.Dag.{Dag}

@@ -1,6 +1,6 @@
 ghost use Rattle.std.specs.Prelude.{◌≡◌, ◌++◌, ◌∷◌, [], length, IfOk};
 ghost use Rattle.ms_dfa.specs.Automaton.{variables_of};
-ghost use Rattle.ms_logic.specs.Content.{variables_by_place};
+ghost use Rattle.ms_logic_words.specs.Content.{variables_by_place};
 ghost use Rattle.ms_build.specs.Built.{AreBuiltFor, IsBodyOf, IsLimit, IsReadAt, IsThere, entries_of};
 
 use crate::children::brought;
@@ -8,7 +8,7 @@ use crate::plan::Plan;
 use crate::wider::over_tracks;
 use ms_dag::Child;
 use ms_dfa::{Automaton, Track};
-use ms_edge::{List, NoMemory, StepFault, push};
+use ms_list::{List, NoMemory, StepFault, push};
 use ms_logic::Order;
 use std::alloc::Global;
 

@@ -2,7 +2,7 @@ ghost use Rattle.std.specs.Prelude.{◌≡◌, ◌<◌, ◌≤◌, ◌+◌, ◌+
 ghost use Rattle.ms_build.specs.Roots.{AreRootsRead, IsRootAt};
 ghost use Rattle.ms_dag.specs.Dag.{AreNodes};
 ghost use Rattle.ms_build.specs.Built.{AreBuiltFor, AreImportsOf, IsBuiltOver, IsLimit, IsStepRefused, entries_of, refusal_of, roots_of};
-ghost use Rattle.ms_build.specs.Uses.{AreLastUses};
+ghost use Rattle.ms_build.specs.inner.Uses.{AreLastUses};
 
 use crate::children::least;
 use crate::nodes::node;
@@ -11,7 +11,8 @@ use crate::roots::over_variables;
 use crate::uses::{last_uses, release};
 use ms_dag::Dag;
 use ms_dfa::Automaton;
-use ms_edge::{List, NoMemory, Refusal, StepFault};
+use ms_edge::Refusal;
+use ms_list::{List, NoMemory, StepFault};
 use ms_logic::Mode;
 use std::alloc::Global;
 
@@ -144,7 +145,8 @@ impl<'a> Built<'a> {
         requires all { length self.now.automata ≡ length (entries_of self.now.plan) }
         requires root { r < length self.now.plan.dag.now.roots }
         requires read { AreRootsRead self.now.plan.dag.now }
-        ensures { IfOk result (IsRootAt self.now.plan r) }
+        ensures root { IfOk result (IsRootAt self.now.plan r) }
+        ensures within { IfOk result (λ least. length least.nodes + length least.states ≤ self.now.plan.limit) }
     {
         let child = self.plan.dag.root(r);
         let variables = self.plan.dag.variables(r);

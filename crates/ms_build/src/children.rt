@@ -1,11 +1,11 @@
-ghost use Rattle.std.specs.Prelude.{◌≡◌, length, IfOk};
+ghost use Rattle.std.specs.Prelude.{◌≡◌, ◌+◌, ◌≤◌, length, IfOk};
 ghost use Rattle.ms_minim.specs.Residual.{HasFewestStates, HaveEqualSigns};
 ghost use Rattle.ms_build.specs.Built.{AreBuiltFor, HasOnly, IsBrought, IsLimit, IsReadSomewhere, IsThere};
 
 use crate::plan::Plan;
 use ms_dag::Child;
 use ms_dfa::Automaton;
-use ms_edge::StepFault;
+use ms_list::StepFault;
 use ms_minim::minimise;
 use ms_rename::rename;
 
@@ -16,6 +16,7 @@ pub(crate) fn least(plan: &Plan, made: &Automaton) -> Result<Automaton, StepFaul
     ensures variables { IfOk result (λ least. least.variables ≡ made.now.variables) }
     ensures signs { IfOk result (HaveEqualSigns made.now) }
     ensures fewest { IfOk result HasFewestStates }
+    ensures within { IfOk result (λ least. length least.nodes + length least.states ≤ plan.now.limit) }
 {
     minimise(plan.alloc, made, plan.limit)
 }

@@ -7,7 +7,7 @@ use crate::plan::{Many, Plan};
 use ms_basic::constant;
 use ms_dag::Child;
 use ms_dfa::Automaton;
-use ms_edge::{List, StepFault};
+use ms_list::{List, StepFault};
 use ms_product::{Op, combine, negate, restrict_to};
 
 /// The connective of two children.

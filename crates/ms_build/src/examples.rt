@@ -2,10 +2,10 @@
 //! table of its examples.
 
 ghost use Rattle.std.specs.Prelude.{[], ◌∷◌};
-ghost use Rattle.ms_dag.specs.Examples.{chain};
+ghost use Rattle.ms_dag.specs.inner.Examples.{chain};
 ghost use Rattle.ms_build.specs.Built.{IsUsedFrom};
-ghost use Rattle.ms_build.specs.Examples.{between_alone};
-ghost use Rattle.ms_build.specs.Uses.{AreLastUses};
+ghost use Rattle.ms_build.specs.inner.Examples.{between_alone};
+ghost use Rattle.ms_build.specs.inner.Uses.{AreLastUses};
 
 /// What is used from a number on. In x < y & y < z, node 0 is the child of node 1, and node 1 is the root's.
 pub fn worked_uses()

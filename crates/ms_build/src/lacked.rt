@@ -1,10 +1,10 @@
 ghost use Rattle.std.specs.Prelude.{◌≡◌, IfOk, IsTrue, OnOk};
 ghost use Rattle.ms_dfa.specs.Automaton.{variables_of};
-ghost use Rattle.ms_logic.specs.Roots.{AreRising};
-ghost use Rattle.ms_build.specs.Lacked.{HasNumber, IsLacked, with_track};
+ghost use Rattle.ms_logic.specs.Lists.{AreRising};
+ghost use Rattle.ms_build.specs.inner.Lacked.{HasNumber, IsLacked, with_track};
 
 use ms_dfa::Track;
-use ms_edge::{List, NoMemory, push};
+use ms_list::{List, NoMemory, push};
 use ms_logic::Order;
 use std::alloc::Global;
 

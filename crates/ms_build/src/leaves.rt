@@ -1,14 +1,16 @@
 ghost use Rattle.std.specs.Prelude.{◌≡◌, [], IfOk, if◌then◌else◌};
-ghost use Rattle.ms_basic.specs.Operands.{HaveOneOrder, operands_of};
-ghost use Rattle.ms_explore.specs.Tracks.{distinct};
-ghost use Rattle.ms_theory.specs.Values.{meaning_by};
+ghost use Rattle.ms_basic.specs.Operands.{HaveOneOrder};
+ghost use Rattle.ms_logic_core.specs.Operands.{variables_of_basic};
+ghost use Rattle.ms_dfa_explore.specs.Tracks.{distinct};
+ghost use Rattle.ms_dfa.specs.Values.{meaning_by};
 ghost use Rattle.ms_build.specs.Built.{IsImportOf, IsLimit, IsOver, IsPart, import_meaning, imports_for, relation_meaning};
 
 use crate::plan::Plan;
 use ms_basic::{basic, constant};
 use ms_dfa::Automaton;
-use ms_edge::{List, StepFault};
-use ms_logic::{Basic, Order};
+use ms_list::{List, StepFault};
+use ms_logic::Order;
+use ms_logic_core::Basic;
 use ms_rename::rename;
 
 /// What always holds.
@@ -34,8 +36,8 @@ pub(crate) fn falsity(plan: &Plan) -> Result<Automaton, StepFault>
 /// A basic relation.
 pub(crate) fn relation(plan: &Plan, form: &Basic) -> Result<Automaton, StepFault>
     requires limit { IsLimit plan.now.limit }
-    requires orders { HaveOneOrder (operands_of form.now) }
-    ensures { IfOk result (IsOver plan.now.mode (distinct (operands_of form.now)) (relation_meaning form.now)) }
+    requires orders { HaveOneOrder (variables_of_basic form.now) }
+    ensures { IfOk result (IsOver plan.now.mode (distinct (variables_of_basic form.now)) (relation_meaning form.now)) }
 {
     basic(plan.alloc, form, plan.mode, plan.limit)
 }

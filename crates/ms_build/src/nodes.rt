@@ -9,7 +9,7 @@ use crate::plan::{Many, Plan};
 use crate::quantified::{Scope, over_all, within};
 use ms_dag::{Child, DagNode, Entry};
 use ms_dfa::{Automaton, Track};
-use ms_edge::StepFault;
+use ms_list::StepFault;
 use ms_logic::Order;
 use ms_product::Op;
 use ms_project::Quantifier;

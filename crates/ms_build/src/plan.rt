@@ -1,6 +1,6 @@
 use ms_dag::Dag;
 use ms_dfa::Automaton;
-use ms_edge::List;
+use ms_list::List;
 use ms_logic::Mode;
 use std::alloc::Global;
 

@@ -7,7 +7,7 @@ use crate::children::brought;
 use crate::plan::Plan;
 use ms_dag::Child;
 use ms_dfa::Automaton;
-use ms_edge::StepFault;
+use ms_list::StepFault;
 use ms_logic::Order;
 use ms_project::{Quantifier, project};
 

@@ -8,7 +8,7 @@ use crate::plan::Plan;
 use crate::wider::over_tracks;
 use ms_dag::Child;
 use ms_dfa::{Automaton, Track};
-use ms_edge::{List, NoMemory, StepFault, push};
+use ms_list::{List, NoMemory, StepFault, push};
 
 /// The tracks of variables of the source, each with its order.
 fn root_tracks(plan: &Plan, variables: &[u32]) -> Result<List<Track>, NoMemory>

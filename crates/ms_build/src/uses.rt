@@ -1,13 +1,13 @@
 ghost use Rattle.std.specs.Prelude.{◌≡◌, ◌≤◌, ◌++◌, [], ◌∷◌, map, length, replicate, IfOk};
 ghost use Rattle.ms_dag.specs.Dag.{children_of};
 ghost use Rattle.ms_build.specs.Built.{AreBuiltFor, entries_of, roots_of};
-ghost use Rattle.ms_build.specs.Uses.{AreLastUses, AreNotedUses, AreUsesSoFar, to_the_end};
+ghost use Rattle.ms_build.specs.inner.Uses.{AreLastUses, AreNotedUses, AreUsesSoFar, to_the_end};
 
 use crate::leaves::truth;
 use crate::plan::Plan;
 use ms_dag::{Child, DagNode};
 use ms_dfa::Automaton;
-use ms_edge::NoMemory;
+use ms_list::NoMemory;
 use std::alloc::Global;
 
 /// The last use of what is used to the end.

@@ -1,20 +1,20 @@
 ghost use Rattle.std.specs.Prelude.{[], ◌∷◌, IfOk};
 ghost use Rattle.ms_dfa.specs.Automaton.{variable_of, variables_of};
 ghost use Rattle.ms_logic.specs.Assignment.{Variable};
-ghost use Rattle.ms_logic.specs.Roots.{AreRising};
-ghost use Rattle.ms_theory.specs.Values.{own_meaning};
-ghost use Rattle.ms_explore.specs.Tracks.{IsAmong};
+ghost use Rattle.ms_logic.specs.Lists.{AreRising};
+ghost use Rattle.ms_dfa.specs.Values.{own_meaning};
+ghost use Rattle.ms_dfa_explore.specs.Tracks.{IsAmong};
 ghost use Rattle.ms_basic.specs.Operands.{HaveOneOrder};
 ghost use Rattle.ms_product.specs.Combined.{HaveEqualOrders};
 ghost use Rattle.ms_rename.specs.Whole.{HasNoNumber};
 ghost use Rattle.ms_build.specs.Built.{IsLimit, IsOver};
-ghost use Rattle.ms_build.specs.Wider.{IsWider};
+ghost use Rattle.ms_build.specs.inner.Wider.{IsWider};
 
 use crate::children::least;
 use crate::lacked::lacked_tracks;
 use crate::plan::Plan;
 use ms_dfa::{Automaton, Track};
-use ms_edge::StepFault;
+use ms_list::StepFault;
 use ms_rename::{widen, widen_all};
 
 /// The automaton over these tracks too, none of which is that of a number, with fewest states where there are any.

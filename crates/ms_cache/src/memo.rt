@@ -5,7 +5,7 @@ ghost use Rattle.lru.specs.LruCache.{lru_cache, promoted, put_entries};
 use crate::key::Key;
 use lru::LruCache;
 use ms_arena::Ref;
-use ms_edge::NoMemory;
+use ms_list::NoMemory;
 use std::alloc::Global;
 use std::marker::Model;
 use std::num::NonZeroUsize;

@@ -9,11 +9,11 @@ use Rattle.ms_diagram.specs.Collect.{HaveSameItems}
 use Rattle.ms_dag.specs.declared.node.Child.{Child}
 use Rattle.ms_dag.specs.declared.node.DagNode.{DagNode}
 use Rattle.ms_dag.specs.declared.node.Entry.{Entry}
-use Rattle.ms_dag.specs.Binders.{EndsIn}
+use Rattle.ms_dag.specs.inner.Binders.{EndsIn}
 use Rattle.ms_dag.specs.Dag.{children_of, places_in_maps}
-use Rattle.ms_dag.specs.Maps.{AreTheSameIn}
+use Rattle.ms_dag.specs.inner.Maps.{AreTheSameIn}
 use Rattle.ms_dag.specs.Places.{AreBelow, AreAmong}
-use Rattle.ms_dag.specs.Shared.{IsMade, IsAbove}
+use Rattle.ms_dag.specs.inner.Shared.{IsMade, IsAbove}
 use Rattle.ms_dag.proofs.Members.{All-by}
 use Rattle.ms_dag.proofs.RisingLemmas.{rising_at_least}
 

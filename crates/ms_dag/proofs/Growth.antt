@@ -6,19 +6,15 @@ use Rattle.std.proofs.lemmas.List.Elements.{All-weaker, Contains-append_left, Co
 use Rattle.std.specs.Option.{option_map}
 use Rattle.ms_arena.proofs.Lists.{slice_get-append_some}
 use Rattle.ms_logic.specs.declared.mode.Order.{Order}
-use Rattle.ms_logic.specs.CoreForm.{CoreForm, truth, falsity, basic, negation, conjunction, disjunction, implication, equivalence, restrict, imported, quantified, CoreForms, no_forms, more_forms, CoreRestriction, unrestricted, restricted}
+use Rattle.ms_logic_core.specs.CoreForm.{CoreForm, truth, falsity, basic, negation, conjunction, disjunction, implication, equivalence, restrict, imported, quantified, CoreForms, no_forms, more_forms, CoreRestriction, unrestricted, restricted}
 use Rattle.ms_dag.specs.declared.node.Child.{Child}
 use Rattle.ms_dag.specs.declared.node.DagNode.{DagNode}
 use Rattle.ms_dag.specs.declared.node.Entry.{Entry}
 use Rattle.ms_diagram.specs.Numbering.{Numbers}
 use Rattle.ms_dag.specs.Dag.{children_of, orders_inside, IsChild, IsNode, AreNodes, IsUsed}
-use Rattle.ms_dag.specs.Shared.{IsShared, AreShared, Grown}
+use Rattle.ms_dag.specs.inner.Shared.{IsShared, AreShared, Grown, Keeps}
 use Rattle.ms_dag.specs.Unfolds.{node_at, Unfolds, UnfoldEach, UnfoldsIn}
 use Rattle.ms_dag.proofs.KeyLemmas.{item_of}
-
--- each node keeps its number
-abbrev pub Keeps : List Entry → List Entry → Type 0
-Keeps old new = (i : ℕ) (entry : Entry) → slice_get old i ≡ Some entry → slice_get new i ≡ Some entry
 
 pub Keeps-numbers : (old new : List Entry) (entry : Entry) → Numbers old new entry → Keeps old new
 Keeps-numbers old new entry (inl same) i held there = ap (λ list. slice_get list i) same ∙ there

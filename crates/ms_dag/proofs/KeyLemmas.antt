@@ -7,7 +7,7 @@ use Rattle.std.specs.Option.{option_map}
 use Rattle.ms_arena.proofs.Lists.{slice_get-push, slice_get-pushed}
 use Rattle.ms_diagram.specs.Numbering.{Numbers}
 use Rattle.ms_dag.specs.declared.node.Entry.{Entry}
-use Rattle.ms_dag.specs.Words.{words_of_entry}
+use Rattle.ms_dag.specs.inner.Words.{words_of_entry}
 use Rattle.ms_dag.proofs.WordLemmas.{same_words}
 
 -- the item, by what stands for it

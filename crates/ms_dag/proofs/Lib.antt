@@ -1,8 +1,9 @@
+pub mod AboveLemmas
 pub mod BinderLemmas
 pub mod Growth
 pub mod ImportLemmas
+pub mod ImportOrders
 pub mod KeyLemmas
-pub mod ListSteps
 pub mod MadeNodes
 pub mod Members
 pub mod MemoLemmas
@@ -18,5 +19,7 @@ pub mod ShareSteps
 pub mod SharedFormulas
 pub mod SharedRelations
 pub mod StandsLemmas
+pub mod TaskLemmas
+pub mod TurnLemmas
 pub mod UnionLemmas
 pub mod WordLemmas

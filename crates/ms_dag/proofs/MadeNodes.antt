@@ -8,18 +8,18 @@ use Rattle.std.specs.List.Sorted.{IsStrictlyIncreasing}
 use Rattle.std.specs.Option.{option_map}
 use Rattle.ms_arena.proofs.Lists.{slice_get-append_left, slice_get-pushed}
 use Rattle.ms_logic.specs.declared.mode.Order.{Order}
-use Rattle.ms_logic.specs.CoreForm.{CoreForm, CoreForms, no_forms, more_forms}
+use Rattle.ms_logic_core.specs.CoreForm.{CoreForm, CoreForms, no_forms, more_forms}
 use Rattle.ms_dag.specs.declared.node.Child.{Child}
 use Rattle.ms_dag.specs.declared.node.DagNode.{DagNode}
 use Rattle.ms_dag.specs.declared.node.Entry.{Entry}
 use Rattle.ms_diagram.specs.Numbering.{HasNoRepeats, Numbers}
 use Rattle.ms_dag.specs.Dag.{children_of, orders_inside, HasOwnOrders, places_in_maps, places_of, IsChild, IsNode, AreNodes}
 use Rattle.ms_dag.specs.Laws.{HaveOrders}
-use Rattle.ms_dag.specs.Maps.{IsPlaced, AreTheSameIn}
+use Rattle.ms_dag.specs.inner.Maps.{IsPlaced, AreTheSameIn}
 use Rattle.ms_dag.specs.Places.{AreBelow}
-use Rattle.ms_dag.specs.Shared.{IsShared, AreShared, Grown, IsMade, IsAbove}
+use Rattle.ms_dag.specs.inner.Shared.{IsShared, AreShared, Grown, IsMade, IsAbove, Keeps}
 use Rattle.ms_dag.specs.Unfolds.{node_at, IsPartOf, ReadAs, Unfolds, UnfoldEach}
-use Rattle.ms_dag.proofs.Growth.{Keeps, Keeps-numbers, Unfolds-kept, IsNode-kept}
+use Rattle.ms_dag.proofs.Growth.{Keeps-numbers, Unfolds-kept, IsNode-kept}
 use Rattle.ms_dag.proofs.PlaceLemmas.{AreAt-within, AreAt-picked, AreAt-inner, HaveOrders-length, places_rise, placed_place}
 
 -- what is known of a part: its variables rise, and have the orders of its node's own

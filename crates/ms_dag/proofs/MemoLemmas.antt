@@ -6,15 +6,15 @@ use Rattle.std.specs.Cmp.Lexicographic.{pointwise}
 use Rattle.std.specs.Map.{lookup}
 use Rattle.indexmap.specs.IndexMap.{insert_entry}
 use Rattle.ms_logic.specs.declared.mode.Order.{Order}
-use Rattle.ms_core.specs.Calls.{Calls}
+use Rattle.ms_logic_core.specs.Calls.{Calls}
 use Rattle.ms_diagram.proofs.ListLemmas.{same_set, set_itself}
 use Rattle.ms_dag.specs.declared.memo.Called.{Called}
 use Rattle.ms_dag.specs.declared.node.Child.{Child}
 use Rattle.ms_dag.specs.declared.node.DagNode.{DagNode}
 use Rattle.ms_dag.specs.declared.node.Entry.{Entry}
-use Rattle.ms_dag.specs.Memo.{IsTold, AreCalled, child_for}
-use Rattle.ms_dag.specs.Shared.{IsShared, IsMade}
-use Rattle.ms_dag.proofs.Growth.{Keeps, Keeps-numbers, IsShared-kept}
+use Rattle.ms_dag.specs.inner.Memo.{IsTold, AreCalled, child_for}
+use Rattle.ms_dag.specs.inner.Shared.{IsShared, IsMade, Keeps}
+use Rattle.ms_dag.proofs.Growth.{Keeps-numbers, IsShared-kept}
 
 -- whether a key is seen as this list
 abbrev is_seen : {K : Type 0} → (K → List ℕ) → List ℕ → K → Bool
@@ -41,7 +41,8 @@ module _ {K V : Type 0} (view : K → List ℕ) (key : K) (value : V) where
       ⊎_elim (λ same. inl (same_set other (view key) same)) (λ differs. inr (lookup-other other differs entries)) (cases_Bool (is_seen view other key))
 
 module _ (calls : Calls) (orders : List Order) where
-  AreCalled-kept : (old new : List Entry) (called : Called) → Keeps old new → AreCalled calls orders old called → AreCalled calls orders new called
+  -- in a graph that grew
+  pub AreCalled-kept : (old new : List Entry) (called : Called) → Keeps old new → AreCalled calls orders old called → AreCalled calls orders new called
   AreCalled-kept old new called keeps are import variables child held = IsShared-kept old new keeps orders (calls import variables) child (are import variables child held)
 
   -- after a node is made

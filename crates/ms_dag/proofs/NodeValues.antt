@@ -5,15 +5,15 @@ use Rattle.std.proofs.lemmas.List.Elements.{All-head, All-tail}
 use Rattle.ms_logic.specs.declared.mode.Order.{Order}
 use Rattle.ms_logic.specs.declared.mode.Order.TheVariants.{Zero, One, Two}
 use Rattle.ms_logic.specs.declared.mode.Quant.TheVariants.{Ex, All as Every}
-use Rattle.ms_logic.specs.declared.core_formula.Basic.{Basic as Relation}
-use Rattle.ms_logic.specs.declared.core_formula.Basic.TheVariants.{Truth, Number, Plus, Less, Member, Sub, Union, Inter, Diff, Up, Down, Min, Max, Bits}
+use Rattle.ms_logic_core.specs.declared.core_formula.Basic.{Basic as Relation}
+use Rattle.ms_logic_core.specs.declared.core_formula.Basic.TheVariants.{Truth, Number, Plus, Less, Member, Sub, Union, Inter, Diff, Up, Down, Min, Max, Bits}
 use Rattle.ms_logic.specs.declared.assignment.Value.{Value}
 use Rattle.ms_logic.specs.Assignment.{Env, Universe, Variable, assign, value_at, IsValueOf}
-use Rattle.ms_logic.specs.CoreForm.{CoreForm, truth, falsity, basic, negation, conjunction, disjunction, implication, equivalence, restrict, imported, quantified, CoreForms, no_forms, more_forms, CoreRestriction, unrestricted, restricted, CoreYes, CoreNo, AllCoreYes, AllCoreNo, AllCoreDefined, SomeCoreYes, SomeCoreNo, IsCoreMet, Holds, answer_over}
+use Rattle.ms_logic_core.specs.CoreForm.{CoreForm, truth, falsity, basic, negation, conjunction, disjunction, implication, equivalence, restrict, imported, quantified, CoreForms, no_forms, more_forms, CoreRestriction, unrestricted, restricted, CoreYes, CoreNo, AllCoreYes, AllCoreNo, AllCoreDefined, SomeCoreYes, SomeCoreNo, IsCoreMet, Holds, answer_over}
 use Rattle.ms_logic.specs.FiniteSet.{IsMember, IsSubset, union_of, intersection_of, difference_of, least, greatest, moved_up, moved_down, one_bits}
 use Rattle.ms_logic.specs.Terms.{part_within}
-use Rattle.ms_logic.specs.Spread.{variables_of_import}
-use Rattle.ms_logic.specs.Steps.{variable, variables_of_basic, variables_at}
+use Rattle.ms_logic_core.specs.Spread.{variables_of_import}
+use Rattle.ms_logic_core.specs.Operands.{variable, variables_of_basic, variables_at}
 use Rattle.ms_logic.specs.Truth.{Import as Imported, InRange}
 use Rattle.ms_logic.proofs.FreeVariables.{order_of_value_of}
 use Rattle.ms_dag.specs.declared.node.Child.{Child}

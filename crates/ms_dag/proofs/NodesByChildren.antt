@@ -1,9 +1,9 @@
 -- A node has its value by those of its children, and a root that of its formula.
 use Rattle.ms_dag.proofs.Readings.{ReadsAs-read_through}
 use Rattle.ms_dag.proofs.NodeValues.{node_has_value_of_formula}
-use Rattle.ms_logic.specs.CoreForm.{core_form_of, CoreYes, CoreNo}
+use Rattle.ms_logic_core.specs.CoreForm.{core_form_of, CoreYes, CoreNo}
 use Rattle.ms_logic.specs.declared.mode.Order.{Order}
-use Rattle.ms_logic.specs.declared.core_formula.Root.{Root}
+use Rattle.ms_logic_core.specs.declared.core_formula.Root.{Root}
 use Rattle.ms_dag.specs.declared.dag.SharedRoot.{SharedRoot}
 use Rattle.ms_dag.specs.Share.{IsRootOf}
 use Rattle.std.proofs.Common.{◌≡◌, ℕ, zero, suc, ◌<◌, List, [], ◌∷◌, All, Option, Some, None, refl, arith, ◌↔◌}
@@ -11,7 +11,7 @@ use Rattle.std.proofs.lemmas.List.Elements.{All-head, All-tail}
 use Rattle.ms_logic.specs.declared.mode.Quant.TheVariants.{Ex, All as Every}
 use Rattle.ms_logic.specs.Assignment.{Env, assign}
 use Rattle.ms_logic.specs.Truth.{Import as Imported}
-use Rattle.ms_core.specs.Calls.{Calls, filled}
+use Rattle.ms_logic_core.specs.Calls.{Calls, filled}
 use Rattle.ms_dag.specs.declared.node.Child.{Child}
 use Rattle.ms_dag.specs.declared.node.DagNode.{DagNode}
 use Rattle.ms_dag.specs.declared.node.DagNode.TheVariants.{True, False, Basic, Not, And, Or, Implies, Iff, Restrict, Import, Bind}

@@ -8,11 +8,11 @@ use Rattle.std.proofs.lemmas.Option.{slice_get_within, slice_get-get_or, slice_g
 use Rattle.std.specs.List.Sorted.{IsStrictlyIncreasing}
 use Rattle.std.specs.Option.{option_map}
 use Rattle.ms_logic.specs.declared.mode.Order.{Order}
-use Rattle.ms_core.specs.Orders.{order_at}
+use Rattle.ms_logic_core.specs.Orders.{order_at}
 use Rattle.ms_dag.specs.declared.node.Child.{Child}
 use Rattle.ms_dag.specs.Dag.{places_in_maps}
 use Rattle.ms_dag.specs.Laws.{HaveOrders}
-use Rattle.ms_dag.specs.Maps.{AreTheSameIn}
+use Rattle.ms_dag.specs.inner.Maps.{AreTheSameIn}
 use Rattle.ms_dag.specs.Places.{AreAt, AreBelow, picked}
 use Rattle.ms_dag.proofs.RisingLemmas.{rising_not_down}
 

@@ -9,7 +9,7 @@ use Rattle.ms_logic.specs.declared.assignment.Value.{Value}
 use Rattle.ms_logic.specs.declared.assignment.Value.TheVariants.{Truth, Number, Set}
 use Rattle.ms_logic.specs.Assignment.{Env, assign, value_at}
 use Rattle.ms_logic.proofs.Agreement.{order_of_value, universe-assign}
-use Rattle.ms_core.specs.Orders.{order_at}
+use Rattle.ms_logic_core.specs.Orders.{order_at}
 use Rattle.ms_dag.specs.Places.{picked, AreBelow}
 use Rattle.ms_dag.specs.Values.{read_through, ReadsAs}
 

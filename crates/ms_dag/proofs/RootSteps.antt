@@ -3,18 +3,18 @@ use Rattle.std.proofs.Common.{◌≡◌, ℕ, ◌+◌, ◌<◌, ◌≤◌, List,
 use Rattle.std.proofs.lemmas.List.{take_more, map-append, length-map}
 use Rattle.std.proofs.lemmas.List.Elements.{All-nil, All-cons}
 use Rattle.std.proofs.lemmas.Option.{slice_get_within}
-use Rattle.ms_logic.specs.declared.core_formula.Root.{Root}
+use Rattle.ms_logic_core.specs.declared.core_formula.Root.{Root}
 use Rattle.ms_logic.specs.declared.mode.Order.{Order}
-use Rattle.ms_logic.specs.CoreForm.{core_form_of}
-use Rattle.ms_core.specs.Calls.{Calls, filled}
+use Rattle.ms_logic_core.specs.CoreForm.{core_form_of}
+use Rattle.ms_logic_core.specs.Calls.{Calls, filled}
 use Rattle.ms_dag.specs.declared.node.Child.{Child}
 use Rattle.ms_dag.specs.declared.node.Entry.{Entry}
 use Rattle.ms_dag.specs.declared.dag.SharedRoot.{SharedRoot}
-use Rattle.ms_dag.specs.Dag.{IsDag}
+use Rattle.ms_dag.specs.Dag.{ImportsAgree, IsDag}
 use Rattle.ms_dag.specs.Share.{IsRootOf, AreRootsOf, children_of_roots}
-use Rattle.ms_dag.specs.Shared.{IsRootNow, AreRootsNow}
-use Rattle.ms_dag.specs.Shared.{Grown}
-use Rattle.ms_dag.proofs.Growth.{Keeps, Unfolds-kept, Grown-both}
+use Rattle.ms_dag.specs.inner.Shared.{IsRootNow, AreRootsNow}
+use Rattle.ms_dag.specs.inner.Shared.{Grown, Keeps}
+use Rattle.ms_dag.proofs.Growth.{Unfolds-kept, Grown-both}
 
 IsRootOf-kept : (calls : Calls) (orders : List Order) (old new : List Entry) → Keeps old new → (root : Root) (shared : SharedRoot) → IsRootOf calls orders old root shared → IsRootOf calls orders new root shared
 IsRootOf-kept calls orders old new keeps root shared is = record {
@@ -59,9 +59,11 @@ children_within calls orders entries (r ∷ rs) (s ∷ ss) are =
     All-cons (λ (c : Child). c.node < length entries) s.child (children_of_roots ss) (slice_get_within entries s.child.node are.0.ordered.0 are.0.ordered.1) (children_within calls orders entries rs ss are.1)
 
 -- the graph of all roots
-pub graph_of : (calls : Calls) (orders : List Order) (entries : List Entry) (roots : List Root) (shared : List SharedRoot) → AreRootsNow calls orders entries roots shared → length entries + length shared ≤ 4294967295 → IsDag entries (children_of_roots shared)
-graph_of calls orders entries roots shared now few = record {
+pub graph_of : (calls : Calls) (orders : List Order) (entries : List Entry) (roots : List Root) (shared : List SharedRoot) → AreRootsNow calls orders entries roots shared → ImportsAgree entries → length entries + length shared ≤ 4294967295 →
+    IsDag entries (children_of_roots shared)
+graph_of calls orders entries roots shared now agree few = record {
   nodes = now.grown.nodes;
+  imports = agree;
   within = children_within calls orders entries roots shared now.roots_of;
   used = λ i below. now.grown.used i (omega arith) below;
   small = let long = length-map shared (λ (s : SharedRoot). s.child) in omega (arith, few, long);

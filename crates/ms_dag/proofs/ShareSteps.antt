@@ -1,24 +1,24 @@
 -- Each form of a core formula: what is known of its parts when they stand in the graph, and that it stands there in the end.
 use Rattle.std.proofs.Common.{◌≡◌, ℕ, ◌+◌, List, [], ◌∷◌, length, All, Contains, Some, None, ◌∙◌, ap}
 use Rattle.std.proofs.lemmas.List.Elements.{All-weaker}
-use Rattle.ms_logic.specs.declared.core_formula.Basic.{Basic as Relation}
-use Rattle.ms_logic.specs.declared.core_formula.Core.{Core}
-use Rattle.ms_logic.specs.declared.core_formula.Core.TheVariants as code
+use Rattle.ms_logic_core.specs.declared.core_formula.Basic.{Basic as Relation}
+use Rattle.ms_logic_core.specs.declared.core_formula.Core.{Core}
+use Rattle.ms_logic_core.specs.declared.core_formula.Core.TheVariants as code
 use Rattle.ms_logic.specs.declared.mode.Order.{Order}
 use Rattle.ms_logic.specs.declared.mode.Quant.{Quant}
 use Rattle.ms_logic.specs.Assignment.{Variable}
-use Rattle.ms_logic.specs.CoreForm.{CoreForm, basic, negation, conjunction, disjunction, implication, equivalence, restrict, quantified, CoreForms, no_forms, more_forms, unrestricted, restricted, core_form_of}
-use Rattle.ms_logic.specs.Steps.{variable, variables_of_basic}
-use Rattle.ms_logic.proofs.Views.{core_form_of-Basic, core_form_of-Not, core_form_of-And, core_form_of-Or, core_form_of-Implies, core_form_of-Iff, core_form_of-Restrict, core_form_of-Bind-none, core_form_of-Bind-some}
-use Rattle.ms_core.specs.Calls.{Calls, filled, filled_each}
+use Rattle.ms_logic_core.specs.CoreForm.{CoreForm, basic, negation, conjunction, disjunction, implication, equivalence, restrict, quantified, CoreForms, no_forms, more_forms, unrestricted, restricted, core_form_of}
+use Rattle.ms_logic_core.specs.Operands.{variable, variables_of_basic}
+use Rattle.ms_logic_core.proofs.CoreViews.{core_form_of-Basic, core_form_of-Not, core_form_of-And, core_form_of-Or, core_form_of-Implies, core_form_of-Iff, core_form_of-Restrict, core_form_of-Bind-none, core_form_of-Bind-some}
+use Rattle.ms_logic_core.specs.Calls.{Calls, filled, filled_each}
 use Rattle.ms_dag.specs.declared.node.Child.{Child}
 use Rattle.ms_dag.specs.declared.node.DagNode.TheVariants.{Not, And, Or, Implies, Iff, Restrict, Bind}
 use Rattle.ms_dag.specs.declared.node.Entry.{Entry}
 use Rattle.ms_dag.specs.Dag.{places_in_maps}
 use Rattle.ms_dag.specs.Laws.{HasOrder}
 use Rattle.ms_dag.specs.Places.{AreBelow}
-use Rattle.ms_dag.specs.Scope.{IsInScope, forms_of}
-use Rattle.ms_dag.specs.Shared.{IsShared, IsSharedNow, AreShared, AreSharedNow, Grown, IsAbove}
+use Rattle.ms_dag.specs.inner.Scope.{IsInScope, forms_of}
+use Rattle.ms_dag.specs.inner.Shared.{IsShared, IsSharedNow, AreShared, AreSharedNow, Grown, IsAbove}
 use Rattle.ms_dag.proofs.Growth.{IsShared-kept, Grown-both}
 use Rattle.ms_dag.proofs.SharedFormulas.{parts_scoped, none_greater, shared_negation, shared_restrict, shared_conjunction, shared_disjunction, shared_implication, shared_equivalence, shared_unrestricted, shared_restricted}
 

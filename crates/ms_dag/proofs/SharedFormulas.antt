@@ -6,8 +6,8 @@ use Rattle.std.proofs.lemmas.List.Kept.{AllPairs-from_increasing}
 use Rattle.std.specs.List.Sorted.{IsStrictlyIncreasing}
 use Rattle.ms_logic.specs.declared.mode.Order.{Order}
 use Rattle.ms_logic.specs.declared.mode.Quant.{Quant}
-use Rattle.ms_logic.specs.CoreForm.{CoreForm, negation, conjunction, disjunction, implication, equivalence, restrict, quantified, CoreForms, no_forms, more_forms, unrestricted, restricted}
-use Rattle.ms_logic.specs.Steps.{variable}
+use Rattle.ms_logic_core.specs.CoreForm.{CoreForm, negation, conjunction, disjunction, implication, equivalence, restrict, quantified, CoreForms, no_forms, more_forms, unrestricted, restricted}
+use Rattle.ms_logic_core.specs.Operands.{variable}
 use Rattle.ms_diagram.proofs.ListLemmas.{Contains-cases}
 use Rattle.ms_dag.specs.declared.node.Child.{Child}
 use Rattle.ms_dag.specs.declared.node.DagNode.{DagNode}
@@ -16,8 +16,8 @@ use Rattle.ms_dag.specs.declared.node.Entry.{Entry}
 use Rattle.ms_dag.specs.Dag.{children_of, orders_inside, HasOwnOrders, places_in_maps, places_of, IsNode, AreNodes}
 use Rattle.ms_dag.specs.Laws.{HasOrder, HaveOrders}
 use Rattle.ms_dag.specs.Places.{AreBelow, AreAmong}
-use Rattle.ms_dag.specs.Scope.{IsInScope, AreInScope}
-use Rattle.ms_dag.specs.Shared.{IsShared, IsSharedNow, AreShared, Grown, IsAbove}
+use Rattle.ms_dag.specs.inner.Scope.{IsInScope, AreInScope}
+use Rattle.ms_dag.specs.inner.Shared.{IsShared, IsSharedNow, AreShared, Grown, IsAbove}
 use Rattle.ms_dag.specs.Unfolds.{node_at, Unfolds, UnfoldEach}
 use Rattle.ms_dag.proofs.Growth.{Keeps-numbers}
 use Rattle.ms_dag.proofs.MadeNodes.{AreKnown-shared, same_nodes, made_is_node, node_at-made, Grown-made, above_is_node, read_each}

@@ -4,12 +4,12 @@ use Rattle.std.proofs.lemmas.List.Elements.{All-nil, All-contains, All-weaker, A
 use Rattle.std.proofs.lemmas.Option.{slice_get-get_or}
 use Rattle.std.specs.List.Sorted.{IsStrictlyIncreasing}
 use Rattle.ms_diagram.proofs.RootLemmas.{Contains-mapped}
-use Rattle.ms_logic.specs.declared.core_formula.Basic.{Basic as Relation}
-use Rattle.ms_logic.specs.declared.core_formula.Basic.TheVariants.{Truth, Number, Plus, Less, Member, Sub, Union, Inter, Diff, Up, Down, Min, Max, Bits}
+use Rattle.ms_logic_core.specs.declared.core_formula.Basic.{Basic as Relation}
+use Rattle.ms_logic_core.specs.declared.core_formula.Basic.TheVariants.{Truth, Number, Plus, Less, Member, Sub, Union, Inter, Diff, Up, Down, Min, Max, Bits}
 use Rattle.ms_logic.specs.declared.mode.Order.{Order}
 use Rattle.ms_logic.specs.Assignment.{Variable}
-use Rattle.ms_logic.specs.CoreForm.{CoreForm, truth, falsity, basic, imported}
-use Rattle.ms_logic.specs.Steps.{variable, variables_of_basic}
+use Rattle.ms_logic_core.specs.CoreForm.{CoreForm, truth, falsity, basic, imported}
+use Rattle.ms_logic_core.specs.Operands.{variable, variables_of_basic}
 use Rattle.ms_dag.specs.declared.node.Child.{Child}
 use Rattle.ms_dag.specs.declared.node.DagNode.{DagNode}
 use Rattle.ms_dag.specs.declared.node.DagNode.TheVariants.{True, False, Basic, Import}
@@ -17,9 +17,9 @@ use Rattle.ms_dag.specs.declared.node.Entry.{Entry}
 use Rattle.ms_dag.specs.Dag.{children_of, IsChild, IsNode, AreNodes}
 use Rattle.ms_dag.specs.Laws.{HasOrder, HaveOrders}
 use Rattle.ms_dag.specs.Places.{AreAt, AreBelow, AreAmong}
-use Rattle.ms_dag.specs.Relations.{IsBasicNode, IsImportNode}
-use Rattle.ms_dag.specs.Scope.{IsInScope}
-use Rattle.ms_dag.specs.Shared.{IsSharedNow, IsMade}
+use Rattle.ms_dag.specs.inner.Relations.{IsBasicNode, IsImportNode}
+use Rattle.ms_dag.specs.inner.Scope.{IsInScope}
+use Rattle.ms_dag.specs.inner.Shared.{IsSharedNow, IsMade}
 use Rattle.ms_dag.specs.Unfolds.{node_at, renamed, names_of_basic, Unfolds}
 use Rattle.ms_dag.proofs.Growth.{Grown-none}
 use Rattle.ms_dag.proofs.MadeNodes.{node_at-made, Grown-made}

@@ -2,20 +2,20 @@
 use Rattle.std.proofs.Common.{◌≡◌, ℕ, ◌<◌, List, [], ◌∷◌, length, map, slice_get, All, Contains, subst, ⊎_elim, arith}
 use Rattle.std.proofs.lemmas.List.Elements.{All-nil, All-cons, All-head, All-tail}
 use Rattle.ms_diagram.proofs.ListLemmas.{Contains-first, Contains-rest}
-use Rattle.ms_logic.specs.declared.core_formula.Root as code
+use Rattle.ms_logic_core.specs.declared.core_formula.Root as code
 use Rattle.ms_logic.specs.declared.mode.Order.{Order}
 use Rattle.ms_logic.specs.Assignment.{Variable}
-use Rattle.ms_logic.specs.CoreForm.{CoreForm, truth, falsity, basic, negation, conjunction, disjunction, implication, equivalence, restrict, imported, quantified, CoreForms, no_forms, more_forms, CoreRestriction, unrestricted, restricted, core_form_of}
-use Rattle.ms_logic.specs.Spread.{variables_of_import}
-use Rattle.ms_logic.specs.Steps.{variable, variables_of_basic, variables_at}
+use Rattle.ms_logic_core.specs.CoreForm.{CoreForm, truth, falsity, basic, negation, conjunction, disjunction, implication, equivalence, restrict, imported, quantified, CoreForms, no_forms, more_forms, CoreRestriction, unrestricted, restricted, core_form_of}
+use Rattle.ms_logic_core.specs.Spread.{variables_of_import}
+use Rattle.ms_logic_core.specs.Operands.{variable, variables_of_basic, variables_at}
 use Rattle.ms_logic.specs.Truth.{Import}
-use Rattle.ms_rules.specs.Numbers.{Among, Each}
-use Rattle.ms_core.specs.Calls.{Calls, filled}
-use Rattle.ms_core.specs.Stands.{Stands, EachStands, RestrictionStands}
+use Rattle.ms_logic.specs.Lists.{Among, Each}
+use Rattle.ms_logic_core.specs.Calls.{Calls, filled}
+use Rattle.ms_logic_core.specs.Stands.{Stands, EachStands, RestrictionStands}
 use Rattle.ms_dag.specs.Laws.{HasOrder, HaveTheirOrders, EachHasItsOrders, RestrictionHasItsOrders}
 use Rattle.ms_dag.specs.Lowered.{IsLoweredRoot}
 use Rattle.ms_dag.specs.Places.{AreBelow}
-use Rattle.ms_dag.specs.Scope.{IsInScope, AreInScope, IsRestrictionInScope, IsRootInScope}
+use Rattle.ms_dag.specs.inner.Scope.{IsInScope, AreInScope, IsRestrictionInScope, IsRootInScope}
 
 abbrev names : List Variable → List ℕ
 names vs = map (λ v. v.name) vs

@@ -1,8 +1,8 @@
 -- An entry is known by its words.
 use Rattle.std.proofs.Common.{◌≡◌, ℕ, zero, suc, ◌==◌, cond, List, [], ◌∷◌, ◌++◌, length, map, take, drop, slice_index, Option, Some, None, refl, sym, ◌∙◌, ap, append-nil}
 use Rattle.std.proofs.Math.Seq.{take-append_seam, drop-append_seam}
-use Rattle.ms_logic.specs.declared.core_formula.Basic.{Basic as Relation}
-use Rattle.ms_logic.specs.declared.core_formula.Basic.TheVariants.{Truth, Number, Plus, Less, Member, Sub, Union, Inter, Diff, Up, Down, Min, Max, Bits}
+use Rattle.ms_logic_core.specs.declared.core_formula.Basic.{Basic as Relation}
+use Rattle.ms_logic_core.specs.declared.core_formula.Basic.TheVariants.{Truth, Number, Plus, Less, Member, Sub, Union, Inter, Diff, Up, Down, Min, Max, Bits}
 use Rattle.ms_logic.specs.declared.mode.Order.{Order}
 use Rattle.ms_logic.specs.declared.mode.Order.TheVariants.{Zero, One, Two}
 use Rattle.ms_logic.specs.declared.mode.Quant.{Quant}
@@ -11,7 +11,7 @@ use Rattle.ms_dag.specs.declared.node.Child.{Child}
 use Rattle.ms_dag.specs.declared.node.DagNode.{DagNode}
 use Rattle.ms_dag.specs.declared.node.DagNode.TheVariants.{True, False, Basic, Not, And, Or, Implies, Iff, Restrict, Import, Bind}
 use Rattle.ms_dag.specs.declared.node.Entry.{Entry}
-use Rattle.ms_dag.specs.Words.{word_of_order, word_of_quant, words_of_numbers, words_of_basic, words_of_child, words_of_each, words_of_node, words_of_entry}
+use Rattle.ms_dag.specs.inner.Words.{word_of_order, word_of_quant, words_of_numbers, words_of_basic, words_of_child, words_of_each, words_of_node, words_of_entry}
 
 -- what stands at the head of some words, and what comes after it
 

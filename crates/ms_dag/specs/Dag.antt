@@ -9,7 +9,7 @@ use Rattle.ms_dag.specs.declared.node.DagNode.TheVariants.{True, False, Basic, N
 use Rattle.ms_dag.specs.declared.node.Entry.{Entry}
 use Rattle.ms_diagram.specs.Numbering.{HasNoRepeats}
 use Rattle.ms_logic.specs.Assignment.{Variable}
-use Rattle.ms_logic.specs.Steps.{variables_of_basic}
+use Rattle.ms_logic_core.specs.Operands.{variables_of_basic}
 use Rattle.ms_dag.specs.Places.{AreAt, AreBelow}
 use Rattle.ms_dag.specs.Unfolds.{IsPartOf, names_of_basic}
 
@@ -84,9 +84,16 @@ pub record AreNodes (entries : List Entry) : Type 0 where
   pub nodes : (i : ℕ) (entry : Entry) → slice_get entries i ≡ Some entry → IsNode entries i entry
   pub distinct : HasNoRepeats entries
 
+-- where two nodes are the same import, their variables for those of its file have the same orders
+abbrev pub ImportsAgree : List Entry → Type 0
+ImportsAgree entries =
+    (i j : ℕ) (one two : Entry) (import : ℕ) (xs ys : List ℕ) → slice_get entries i ≡ Some one → slice_get entries j ≡ Some two
+    → one.node ≡ Import import xs → two.node ≡ Import import ys → map (slice_get one.orders) xs ≡ map (slice_get two.orders) ys
+
 -- a graph with these nodes and roots, with nothing that stands in no root
 pub record IsDag (entries : List Entry) (roots : List Child) : Type 0 where
   pub nodes : AreNodes entries
+  pub imports : ImportsAgree entries
   pub within : All (λ c. c.node < length entries) roots
   pub used : (i : ℕ) → i < length entries → IsUsed entries roots i
   pub small : length entries + length roots ≤ 4294967295

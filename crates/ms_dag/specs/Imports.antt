@@ -1,9 +1,9 @@
 -- The imports of core formulas, and of the nodes of their graph, are among the first so many of a source.
 use Rattle.std.specs.Prelude.{◌≡◌, ℕ, ◌<◌, List, slice_get, Some}
-use Rattle.ms_logic.specs.declared.core_formula.Lowered.{Lowered}
-use Rattle.ms_logic.specs.declared.core_formula.Root as code
-use Rattle.ms_logic.specs.CoreForm.{CoreForm, core_form_of, truth, falsity, basic, negation, conjunction, disjunction, implication, equivalence, restrict, imported, quantified, CoreForms, no_forms, more_forms, CoreRestriction, unrestricted, restricted}
-use Rattle.ms_core.specs.Calls.{Calls, filled}
+use Rattle.ms_logic_core.specs.declared.core_formula.Lowered.{Lowered}
+use Rattle.ms_logic_core.specs.declared.core_formula.Root as code
+use Rattle.ms_logic_core.specs.CoreForm.{CoreForm, core_form_of, truth, falsity, basic, negation, conjunction, disjunction, implication, equivalence, restrict, imported, quantified, CoreForms, no_forms, more_forms, CoreRestriction, unrestricted, restricted}
+use Rattle.ms_logic_core.specs.Calls.{Calls, filled}
 use Rattle.ms_dag.specs.declared.dag.Dag.{Dag}
 use Rattle.ms_dag.specs.declared.node.DagNode.TheVariants.{Import}
 use Rattle.ms_dag.specs.declared.node.Entry.{Entry}

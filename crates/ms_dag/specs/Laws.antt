@@ -2,11 +2,11 @@
 use Rattle.std.specs.Prelude.{◌≡◌, ◌↔◌, ℕ, ◌<◌, List, map, slice_get, All, Some}
 use Rattle.ms_logic.specs.declared.mode.Order.{Order}
 use Rattle.ms_logic.specs.Assignment.{Env, Variable}
-use Rattle.ms_logic.specs.CoreForm.{CoreForm, truth, falsity, basic, negation, conjunction, disjunction, implication, equivalence, restrict, imported, quantified, CoreForms, no_forms, more_forms, CoreRestriction, unrestricted, restricted, CoreYes, CoreNo}
-use Rattle.ms_logic.specs.Spread.{variables_of_import}
-use Rattle.ms_logic.specs.Steps.{variable, variables_of_basic, variables_at}
+use Rattle.ms_logic_core.specs.CoreForm.{CoreForm, truth, falsity, basic, negation, conjunction, disjunction, implication, equivalence, restrict, imported, quantified, CoreForms, no_forms, more_forms, CoreRestriction, unrestricted, restricted, CoreYes, CoreNo}
+use Rattle.ms_logic_core.specs.Spread.{variables_of_import}
+use Rattle.ms_logic_core.specs.Operands.{variable, variables_of_basic, variables_at}
 use Rattle.ms_logic.specs.Truth.{Import}
-use Rattle.ms_core.specs.Orders.{order_at}
+use Rattle.ms_logic_core.specs.Orders.{order_at}
 use Rattle.ms_dag.specs.declared.node.DagNode.{DagNode}
 use Rattle.ms_dag.specs.declared.node.Entry.{Entry}
 use Rattle.ms_dag.specs.Dag.{children_of}

@@ -1,15 +1,15 @@
 -- What lowering promises of its answer.
 use Rattle.std.specs.Prelude.{◌≡◌, List, map}
 use Rattle.std.specs.List.Sorted.{IsStrictlyIncreasing}
-use Rattle.ms_logic.specs.declared.core_formula.Lowered.{Lowered}
-use Rattle.ms_logic.specs.declared.core_formula.Root as code
+use Rattle.ms_logic_core.specs.declared.core_formula.Lowered.{Lowered}
+use Rattle.ms_logic_core.specs.declared.core_formula.Root as code
 use Rattle.ms_logic.specs.declared.mode.Order.{Order}
 use Rattle.ms_logic.specs.Assignment.{Variable}
-use Rattle.ms_logic.specs.CoreForm.{core_form_of}
+use Rattle.ms_logic_core.specs.CoreForm.{core_form_of}
 use Rattle.ms_logic.specs.Truth.{Import}
-use Rattle.ms_rules.specs.Numbers.{Each}
-use Rattle.ms_core.specs.Calls.{Calls, filled}
-use Rattle.ms_core.specs.Stands.{Stands}
+use Rattle.ms_logic.specs.Lists.{Each}
+use Rattle.ms_logic_core.specs.Calls.{Calls, filled}
+use Rattle.ms_logic_core.specs.Stands.{Stands}
 use Rattle.ms_dag.specs.Laws.{HasOrder, HaveTheirOrders}
 
 -- a root over a rising list of variables, each of which has its order: with what its imports stand for in their places, the variables of its

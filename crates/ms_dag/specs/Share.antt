@@ -2,11 +2,11 @@
 use Rattle.std.specs.Prelude.{◌≡◌, ℕ, List, map, slice_get, Some}
 use Rattle.std.specs.List.{AllZip}
 use Rattle.std.specs.List.Sorted.{IsStrictlyIncreasing}
-use Rattle.ms_logic.specs.declared.core_formula.Lowered.{Lowered}
-use Rattle.ms_logic.specs.declared.core_formula.Root.{Root}
+use Rattle.ms_logic_core.specs.declared.core_formula.Lowered.{Lowered}
+use Rattle.ms_logic_core.specs.declared.core_formula.Root.{Root}
 use Rattle.ms_logic.specs.declared.mode.Order.{Order}
-use Rattle.ms_logic.specs.CoreForm.{core_form_of}
-use Rattle.ms_core.specs.Calls.{Calls, filled}
+use Rattle.ms_logic_core.specs.CoreForm.{core_form_of}
+use Rattle.ms_logic_core.specs.Calls.{Calls, filled}
 use Rattle.ms_dag.specs.declared.node.Child.{Child}
 use Rattle.ms_dag.specs.declared.dag.Dag.{Dag}
 use Rattle.ms_dag.specs.declared.node.Entry.{Entry}

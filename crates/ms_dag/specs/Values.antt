@@ -4,10 +4,10 @@ use Rattle.std.specs.Prelude.{◌≡◌, ℕ, zero, suc, ◌<◌, ◌⊎◌, Lis
 use Rattle.ms_logic.specs.declared.mode.Order.{Order}
 use Rattle.ms_logic.specs.declared.mode.Quant.TheVariants.{Ex, All}
 use Rattle.ms_logic.specs.Assignment.{Env, assign, value_at}
-use Rattle.ms_logic.specs.CoreForm.{Holds, answer_over}
+use Rattle.ms_logic_core.specs.CoreForm.{Holds, answer_over}
 use Rattle.ms_logic.specs.Truth.{answer_yes, answer_no, InRange, SomeInRange, NoneInRange, IsEmptyRange}
 use Rattle.ms_logic.specs.Truth.{Import as Imported}
-use Rattle.ms_core.specs.Orders.{order_at}
+use Rattle.ms_logic_core.specs.Orders.{order_at}
 use Rattle.ms_dag.specs.declared.node.Child.{Child}
 use Rattle.ms_dag.specs.declared.node.DagNode.{DagNode}
 use Rattle.ms_dag.specs.declared.node.DagNode.TheVariants.{True, False, Basic, Not, And, Or, Implies, Iff, Restrict, Import, Bind}

@@ -1,8 +1,8 @@
-ghost use Rattle.ms_dag.specs.Binders.{EndsIn};
+ghost use Rattle.ms_dag.specs.inner.Binders.{EndsIn};
 ghost use Rattle.ms_dag.specs.Dag.{places_in_maps};
-ghost use Rattle.ms_dag.specs.Keys.{IsKeyed};
+ghost use Rattle.ms_dag.specs.inner.Keys.{IsKeyed};
 ghost use Rattle.ms_dag.specs.Places.{AreBelow};
-ghost use Rattle.ms_dag.specs.Shared.{IsAbove};
+ghost use Rattle.ms_dag.specs.inner.Shared.{IsAbove};
 ghost use Rattle.ms_dag.specs.declared.node.Child.{Child};
 ghost use Rattle.ms_dag.specs.declared.node.DagNode.TheVariants.{Bind};
 ghost use Rattle.std.specs.List.Sorted.{IsStrictlyIncreasing};
@@ -13,7 +13,7 @@ use crate::maps::placed;
 use crate::node::{Child, DagNode};
 use crate::nodes::Nodes;
 use crate::rising::union_of;
-use ms_edge::{List, NoMemory, push};
+use ms_list::{List, NoMemory, push};
 use ms_logic::{Order, Quant};
 
 /// What a quantifier binds.

@@ -1,7 +1,7 @@
-ghost use Rattle.ms_dag.specs.Connectives.{node_of_one, node_of_two, node_of_each};
-ghost use Rattle.ms_dag.specs.Keys.{IsKeyed};
+ghost use Rattle.ms_dag.specs.inner.Connectives.{node_of_one, node_of_two, node_of_each};
+ghost use Rattle.ms_dag.specs.inner.Keys.{IsKeyed};
 ghost use Rattle.ms_dag.specs.Laws.{HaveOrders};
-ghost use Rattle.ms_dag.specs.Shared.{IsAbove, IsMade};
+ghost use Rattle.ms_dag.specs.inner.Shared.{IsAbove, IsMade};
 ghost use Rattle.ms_dag.specs.declared.node.Child.{Child};
 ghost use Rattle.std.specs.Prelude.{◌≡◌, [], ◌∷◌, List as Sequence, IfOk, OnOk};
 
@@ -9,9 +9,9 @@ use crate::maps::{placed, placed_each};
 use crate::node::{Child, DagNode, Entry};
 use crate::nodes::Nodes;
 use crate::rising::union_of;
-use ms_core::order_at;
-use ms_edge::{List, NoMemory, push};
+use ms_list::{List, NoMemory, push};
 use ms_logic::Order;
+use ms_logic_core::order_at;
 use std::alloc::Global;
 
 #[derive(Clone, Copy)]

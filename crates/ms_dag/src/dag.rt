@@ -1,13 +1,13 @@
-ghost use Rattle.ms_core.specs.Orders.{order_at};
+ghost use Rattle.ms_logic_core.specs.Orders.{order_at};
 ghost use Rattle.ms_dag.specs.Dag.{own_orders};
 ghost use Rattle.ms_dag.specs.Share.{children_of_roots, variables_of_roots};
 ghost use Rattle.ms_dag.specs.Unfolds.{node_at};
 ghost use Rattle.std.specs.Prelude.{◌≡◌, ◌<◌, ◌≤◌, length, slice_get};
 
 use crate::node::{Child, DagNode, Entry};
-use ms_core::order_at;
-use ms_edge::List;
+use ms_list::List;
 use ms_logic::Order;
+use ms_logic_core::order_at;
 
 /// A root: the node of its formula, whose variables have their numbers in the source here, and the rising
 /// list of the root's variables.

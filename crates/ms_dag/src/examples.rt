@@ -1,14 +1,14 @@
 //! The definitions at small graphs, worked out by hand. Each function has an empty body, and its contract
 //! is the table of its examples.
 
-ghost use Rattle.ms_core.specs.Calls.{filled};
+ghost use Rattle.ms_logic_core.specs.Calls.{filled};
 ghost use Rattle.ms_dag.specs.Dag.{IsDag};
-ghost use Rattle.ms_dag.specs.Examples.{child, chain, restricted_chain, bound_chain, before, at_values, calls_before};
+ghost use Rattle.ms_dag.specs.inner.Examples.{child, chain, restricted_chain, bound_chain, before, at_values, calls_before, import_at};
 ghost use Rattle.ms_dag.specs.Unfolds.{Unfolds};
 ghost use Rattle.ms_dag.specs.Values.{NodeYes, NodeNo};
-ghost use Rattle.ms_logic.specs.CoreForm.{basic, conjunction, core_forms, imported, quantified, unrestricted};
-ghost use Rattle.ms_logic.specs.declared.core_formula.Basic.TheVariants.{Less};
-ghost use Rattle.ms_logic.specs.declared.mode.Order.TheVariants.{One};
+ghost use Rattle.ms_logic_core.specs.CoreForm.{basic, conjunction, core_forms, imported, quantified, unrestricted};
+ghost use Rattle.ms_logic_core.specs.declared.core_formula.Basic.TheVariants.{Less};
+ghost use Rattle.ms_logic.specs.declared.mode.Order.TheVariants.{One, Two};
 ghost use Rattle.ms_logic.specs.declared.mode.Quant.TheVariants.{Ex};
 ghost use Rattle.std.specs.Prelude.{[], ◌∷◌};
 
@@ -58,4 +58,6 @@ pub fn worked_graphs()
     ensures unused { ¬ IsDag chain (child 0 (0 ∷ 4 ∷ []) ∷ []) }
     // the same node twice
     ensures repeated { ¬ IsDag (before ∷ before ∷ []) (child 0 (0 ∷ 4 ∷ []) ∷ child 1 (0 ∷ 4 ∷ []) ∷ []) }
+    // import 5 at a variable of order 1, and at one of order 2
+    ensures unlike { ¬ IsDag (import_at One ∷ import_at Two ∷ []) (child 0 (3 ∷ []) ∷ child 1 (4 ∷ []) ∷ []) }
 {}

@@ -1,8 +1,10 @@
 //! Sharing: core formulas as a directed acyclic graph, in which each formula stands once.
 #![tactic(auto)]
 
+mod above;
 mod binders;
 mod bodies;
+mod call;
 mod connectives;
 mod dag;
 mod examples;
@@ -15,6 +17,7 @@ mod nodes;
 mod relations;
 mod rising;
 mod sharing;
+mod tasks;
 mod words;
 
 pub use bodies::Bodies;

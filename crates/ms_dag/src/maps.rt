@@ -1,12 +1,12 @@
 ghost use Rattle.ms_dag.specs.Dag.{places_in_maps};
-ghost use Rattle.ms_dag.specs.Maps.{AreTheSameIn, IsPlaced};
+ghost use Rattle.ms_dag.specs.inner.Maps.{AreTheSameIn, IsPlaced};
 ghost use Rattle.ms_dag.specs.Places.{AreAmong};
 ghost use Rattle.std.specs.List.Sorted.{IsStrictlyIncreasing};
 ghost use Rattle.std.specs.Prelude.{IfOk};
 
 use crate::node::Child;
 use crate::rising::places;
-use ms_edge::{List, NoMemory, push};
+use ms_list::{List, NoMemory, push};
 use std::alloc::Global;
 
 /// The child with the places of its variables in a rising list in which they stand.

@@ -1,11 +1,12 @@
-ghost use Rattle.ms_dag.specs.Memo.{IsTold, child_for};
+ghost use Rattle.ms_dag.specs.inner.Memo.{IsTold, child_for};
 ghost use Rattle.std.specs.Prelude.{◌≡◌, ◌∷◌, ℕ, List as Sequence, None, IfOk, OnOk};
 
+use crate::call::Call;
 use crate::node::Child;
 use crate::relations::copied;
 use crate::rising::add_all;
 use indexmap::IndexMap;
-use ms_edge::{List, NoMemory};
+use ms_list::{List, NoMemory};
 use std::alloc::Global;
 
 /// The nodes of the calls that have been met, each by its import and then its variables.
@@ -63,4 +64,31 @@ impl Called {
             Err(_) => Err(NoMemory),
         }
     }
+}
+
+/// The node of a call, if it has been met.
+#[inline(never)]
+pub(crate) fn known_child(
+    alloc: Global,
+    called: &Called,
+    call: &Call,
+) -> Result<Option<Child>, NoMemory>
+    ensures { IfOk result (λ found. found ≡ child_for called.now (call.now.import ∷ call.now.variables.now)) }
+{
+    let key = key_of(alloc, call.import, call.variables)?;
+    called.ask(alloc, &key)
+}
+
+/// From now on the call has this node.
+#[inline(never)]
+pub(crate) fn note_child(
+    alloc: Global,
+    called: &mut Called,
+    call: &Call,
+    child: &Child,
+) -> Result<(), NoMemory>
+    ensures { OnOk result (IsTold called.old called.new (call.now.import ∷ call.now.variables.now) child.now) }
+{
+    let key = key_of(alloc, call.import, call.variables)?;
+    called.tell(key, copied_child(alloc, child)?)
 }

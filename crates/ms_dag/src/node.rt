@@ -1,5 +1,6 @@
-use ms_edge::List;
-use ms_logic::{Basic, Order, Quant};
+use ms_list::List;
+use ms_logic::{Order, Quant};
+use ms_logic_core::Basic;
 
 /// A formula below another one: its node, and for each of its own variables that of the upper formula.
 #[derive(Drop)]

@@ -1,12 +1,12 @@
-ghost use Rattle.ms_dag.specs.Keys.{IsKeyed, keys_of};
-ghost use Rattle.ms_dag.specs.Words.{words_of_entry};
+ghost use Rattle.ms_dag.specs.inner.Keys.{IsKeyed, keys_of};
+ghost use Rattle.ms_dag.specs.inner.Words.{words_of_entry};
 ghost use Rattle.ms_diagram.specs.Numbering.{Numbers};
 ghost use Rattle.std.specs.Prelude.{◌≡◌, ◌==◌, ◌∷◌, ◌++◌, [], if◌then◌else◌, length, slice_get, IfOk, OnOk, Ok};
 
 use crate::node::Entry;
 use crate::words::words_of;
 use indexmap::IndexSet;
-use ms_edge::{List, NoMemory, push};
+use ms_list::{List, NoMemory, push};
 use std::alloc::Global;
 
 /// The nodes of a graph while it grows, and their words, by which each gets one number.

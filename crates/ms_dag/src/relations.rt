@@ -1,6 +1,6 @@
-ghost use Rattle.ms_dag.specs.Keys.{IsKeyed};
+ghost use Rattle.ms_dag.specs.inner.Keys.{IsKeyed};
 ghost use Rattle.ms_dag.specs.Places.{AreAmong};
-ghost use Rattle.ms_dag.specs.Relations.{IsBasicNode, IsImportNode, IsPlacedBasic};
+ghost use Rattle.ms_dag.specs.inner.Relations.{IsBasicNode, IsImportNode, IsPlacedBasic};
 ghost use Rattle.ms_dag.specs.Unfolds.{names_of_basic};
 ghost use Rattle.std.specs.List.Sorted.{IsStrictlyIncreasing};
 ghost use Rattle.std.specs.Prelude.{◌≡◌, IfOk, OnOk};
@@ -9,8 +9,9 @@ use crate::connectives::number_node;
 use crate::node::{Child, DagNode};
 use crate::nodes::Nodes;
 use crate::rising::{place, places, rising};
-use ms_edge::{List, NoMemory};
-use ms_logic::{Basic, Order};
+use ms_list::{List, NoMemory};
+use ms_logic::Order;
+use ms_logic_core::Basic;
 use std::alloc::Global;
 
 /// An equal list of its own.
@@ -85,6 +86,7 @@ pub(crate) fn share_basic(
 }
 
 /// An import at these variables.
+#[inline(never)]
 pub(crate) fn share_import(
     nodes: &mut Nodes,
     orders: &[Order],

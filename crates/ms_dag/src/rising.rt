@@ -5,7 +5,7 @@ ghost use Rattle.std.specs.List.Sorted.{IsStrictlyIncreasing};
 ghost use Rattle.std.specs.Prelude.{◌≡◌, ◌++◌, Contains, slice_get, IfOk, OnOk};
 
 use crate::node::Child;
-use ms_edge::{List, NoMemory, push};
+use ms_list::{List, NoMemory, push};
 use std::alloc::Global;
 
 /// The place of a name in a rising list in which it stands.

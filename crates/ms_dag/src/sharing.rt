@@ -1,20 +1,20 @@
 ghost use Rattle.ms_dag.specs.Dag.{AreNodes};
-ghost use Rattle.ms_dag.specs.Keys.{IsKeyed};
+ghost use Rattle.ms_dag.specs.inner.Keys.{IsKeyed};
 ghost use Rattle.ms_dag.specs.Lowered.{IsLowered};
-ghost use Rattle.ms_dag.specs.Memo.{AreCalled};
-ghost use Rattle.ms_dag.specs.Scope.{IsRootInScope};
+ghost use Rattle.ms_dag.specs.inner.Memo.{AreCalled};
+ghost use Rattle.ms_dag.specs.inner.Scope.{IsRootInScope};
 ghost use Rattle.ms_dag.specs.Share.{IsDagOf};
-ghost use Rattle.ms_dag.specs.Shared.{AreRootsNow, IsRootNow};
+ghost use Rattle.ms_dag.specs.inner.Shared.{AreRootsNow, IsRootNow};
 ghost use Rattle.ms_logic.specs.Truth.{Import};
 ghost use Rattle.std.specs.Prelude.{◌≡◌, ◌↔◌, ◌+◌, ◌≤◌, [], All, List as Sequence, IfOk, IsTrue, OnOk};
 
 use crate::bodies::Bodies;
 use crate::dag::{Dag, SharedRoot};
-use crate::formulas::{LEVELS, Source, share_core};
+use crate::formulas::{ABOVE_IMPORTS, Source, share_core};
 use crate::memo::Called;
 use crate::nodes::Nodes;
-use ms_edge::{List, NoMemory, push};
-use ms_logic::{Lowered, Root};
+use ms_list::{List, NoMemory, push};
+use ms_logic_core::{Lowered, Root};
 use std::alloc::Global;
 
 // An equal list of its own.
@@ -44,7 +44,7 @@ fn share_root<B: Bodies>(
     ensures called { OnOk result (AreCalled (B.calls source.now.bodies.now) source.now.orders.now nodes.new.entries called.new) }
     ensures shared { IfOk result (λ made. IsRootNow (B.calls source.now.bodies.now) source.now.orders.now nodes.old.entries nodes.new.entries root.now made) }
 {
-    let child = share_core(nodes, called, source, &root.core, LEVELS)?;
+    let child = share_core(nodes, called, source, &root.core, ABOVE_IMPORTS)?;
     let variables = copied(nodes.alloc, root.variables.slice())?;
     Ok(SharedRoot { child, variables })
 }

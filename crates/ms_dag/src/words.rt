@@ -1,9 +1,10 @@
-ghost use Rattle.ms_dag.specs.Words.{word_of_order, word_of_quant, words_of_basic, words_of_child, words_of_domain, words_of_each, words_of_entry, words_of_node, words_of_numbers};
+ghost use Rattle.ms_dag.specs.inner.Words.{word_of_order, word_of_quant, words_of_basic, words_of_child, words_of_domain, words_of_each, words_of_entry, words_of_node, words_of_numbers};
 ghost use Rattle.std.specs.Prelude.{◌≡◌, ◌++◌, ◌∷◌, length, map, IfOk, OnOk};
 
 use crate::node::{Child, DagNode, Entry};
-use ms_edge::{List, NoMemory, push};
-use ms_logic::{Basic, Order, Quant};
+use ms_list::{List, NoMemory, push};
+use ms_logic::{Order, Quant};
+use ms_logic_core::Basic;
 use std::alloc::Global;
 
 /// How many words there is room for from the first, which is enough for most nodes.

@@ -9,10 +9,10 @@ use Rattle.ms_arena.specs.Reach.{here, through_low, through_high, TestsOnly}
 use Rattle.ms_arena.proofs.Paths.{IsBefore-later, IsBefore-end_at, leaf_of-node}
 use Rattle.ms_logic.specs.declared.mode.Order.{Order}
 use Rattle.ms_logic.specs.Assignment.{Variable}
-use Rattle.ms_logic.specs.Content.{count_of, spread, head_bit, tail_bits, bits_at, HasValueAt}
+use Rattle.ms_logic_words.specs.Content.{count_of, spread, head_bit, tail_bits, bits_at, HasValueAt}
 use Rattle.std.proofs.lemmas.List.{take-map, length-map}
-use Rattle.ms_logic.specs.Content.{Content}
-use Rattle.ms_logic.specs.declared.sign.Sign.{Sign}
+use Rattle.ms_logic_words.specs.Content.{Content}
+use Rattle.ms_logic_words.specs.declared.sign.Sign.{Sign}
 use Rattle.ms_dfa.specs.declared.track.Track.{Track}
 use Rattle.ms_dfa.specs.Automaton.{variable_of, variables_of}
 use Rattle.ms_dfa.proofs.Ranks.{counted}

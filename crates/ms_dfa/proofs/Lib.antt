@@ -1,3 +1,13 @@
-pub mod Ranks
+pub mod CoveredLemmas
+pub mod EncodingLemmas
 pub mod Following
+pub mod FunctionLemmas
+pub mod GatheredLemmas
+pub mod HasValueAtLemmas
+pub mod MachineLemmas
+pub mod NarrowLemmas
+pub mod OrdersLemmas
+pub mod OwnMeaningLemmas
+pub mod Ranks
 pub mod States
+pub mod ValuesLemmas

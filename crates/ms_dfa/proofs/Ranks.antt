@@ -3,7 +3,7 @@ use Rattle.std.proofs.Common.{◌≡◌, ℕ, ◌+◌, ◌<◌, Bool, true, fals
 use Rattle.std.proofs.lemmas.List.{map-append, take_more}
 use Rattle.ms_logic.specs.declared.mode.Order.{Order}
 use Rattle.ms_logic.specs.Assignment.{Variable}
-use Rattle.ms_logic.specs.Content.{count_of}
+use Rattle.ms_logic_words.specs.Content.{count_of}
 use Rattle.ms_dfa.specs.declared.track.Track.{Track}
 use Rattle.ms_dfa.specs.Automaton.{variable_of, variables_of}
 

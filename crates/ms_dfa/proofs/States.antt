@@ -3,8 +3,8 @@ use Rattle.std.proofs.Common.{◌≡◌, ℕ, All, Bool, List, slice_get, Some, 
 use Rattle.std.proofs.lemmas.Option.{slice_get-map, slice_get_within, get_or_from_slice_get}
 use Rattle.std.specs.Option.{option_map}
 use Rattle.ms_arena.specs.Diagram.{leaf_of}
-use Rattle.ms_logic.specs.Content.{StateOf, Content, IsClosed, IsFollowed, is_in_letters, next_from, next_state, letter_bits}
-use Rattle.ms_logic.specs.declared.sign.Sign.{Sign}
+use Rattle.ms_logic_words.specs.Content.{StateOf, Content, IsClosed, IsFollowed, is_in_letters, next_from, next_state, letter_bits}
+use Rattle.ms_logic_words.specs.declared.sign.Sign.{Sign}
 use Rattle.ms_dfa.specs.declared.state.State.{State}
 use Rattle.ms_dfa.specs.Automaton.{state_of, states_of}
 

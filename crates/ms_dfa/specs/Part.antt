@@ -1,7 +1,7 @@
 -- The two parts of a word.
 use Rattle.std.specs.Prelude.{Bool}
 use Rattle.ms_logic.specs.declared.mode.Order.{Order}
-use Rattle.ms_logic.specs.Content.{is_truth_value, is_in_letters}
+use Rattle.ms_logic_words.specs.Content.{is_truth_value, is_in_letters}
 use Rattle.ms_dfa.specs.declared.part.Part.{Part}
 use Rattle.ms_dfa.specs.declared.part.Part.TheVariants.{Truth, Letters}
 

@@ -1,6 +1,6 @@
 ghost use Rattle.std.specs.Prelude.{◌≡◌, ◌<◌, ℕ, length, slice_get, IfSome, Some};
 ghost use Rattle.ms_arena.specs.Diagram.{leaf_of};
-ghost use Rattle.ms_logic.specs.Content.{count_of, is_truth_value, is_in_letters, spread, bits_at, first_state, next_state, sign_at, IsFollowed};
+ghost use Rattle.ms_logic_words.specs.Content.{count_of, is_truth_value, is_in_letters, spread, bits_at, first_state, next_state, sign_at, IsFollowed};
 ghost use Rattle.ms_dfa.specs.Automaton.{variables_of, content_of, IsAutomaton};
 ghost use Rattle.ms_dfa.specs.Part.{has_value};
 
@@ -10,8 +10,9 @@ use crate::state::State;
 use crate::track::Track;
 use ms_arena::Ref;
 use ms_diagram::Store;
-use ms_edge::List;
-use ms_logic::{Mode, Sign};
+use ms_list::List;
+use ms_logic::Mode;
+use ms_logic_words::Sign;
 use std::marker::Model;
 
 /// An automaton over tracks, seen as its content.
@@ -25,8 +26,8 @@ pub struct Automaton {
 }
 
 impl Model for Automaton {
-    ghost use Rattle.ms_logic.specs.Content.{Content};
-    ghost use Rattle.ms_logic.specs.declared.sign.Sign.{Sign};
+    ghost use Rattle.ms_logic_words.specs.Content.{Content};
+    ghost use Rattle.ms_logic_words.specs.declared.sign.Sign.{Sign};
 
     ghost Value = { Content Sign };
 

@@ -1,5 +1,5 @@
 ghost use Rattle.std.specs.Prelude.{◌≡◌};
-ghost use Rattle.ms_logic.specs.Content.{count_of};
+ghost use Rattle.ms_logic_words.specs.Content.{count_of};
 ghost use Rattle.ms_dfa.specs.Automaton.{variables_of};
 ghost use Rattle.ms_dfa.specs.Part.{has_value};
 

@@ -1,7 +1,7 @@
 ghost use Rattle.std.specs.Prelude.{◌≡◌, IfOk};
 
 use ms_arena::{Node, Ref};
-use ms_edge::{List, Name, NoMemory};
+use ms_list::{List, Name, NoMemory};
 use ms_logic::{Mode, Order};
 use std::alloc::Global;
 

@@ -1,5 +1,5 @@
 use ms_arena::Ref;
-use ms_logic::Sign;
+use ms_logic_words::Sign;
 
 /// A state: the sign of the words that end in it, and the diagram that leads on from it.
 #[derive(Clone, Copy, PartialEq, Eq)]

@@ -13,8 +13,8 @@ use Rattle.ms_logic.specs.declared.mode.Mode.{Mode}
 use Rattle.ms_logic.specs.declared.mode.Mode.TheVariants.{Ws1s}
 use Rattle.ms_logic.specs.declared.mode.Order.TheVariants.{Zero, Two}
 use Rattle.ms_logic.specs.Assignment.{Variable}
-use Rattle.ms_logic.specs.Content.{HasValueAt, StateOf, is_in_letters, is_truth_value}
-use Rattle.ms_canonical.specs.Files.{content_of_file}
+use Rattle.ms_logic_words.specs.Content.{HasValueAt, StateOf, is_in_letters, is_truth_value}
+use Rattle.ms_dfa.specs.Files.{content_of_file}
 use Rattle.ms_dfa.specs.declared.plain.FileSign.{FileSign}
 use Rattle.ms_dfa.specs.declared.plain.FileSign.TheVariants as signs
 use Rattle.ms_dfa.specs.declared.plain.Plain.{Plain}
@@ -22,12 +22,12 @@ use Rattle.ms_text.specs.Spelling.{Spells}
 use Rattle.ms_text.specs.declared.keyword.Keyword.TheVariants as words
 use Rattle.ms_text.specs.declared.token.Kind.TheVariants as kinds
 use Rattle.ms_text.proofs.Here.{name_here}
-use Rattle.ms_theory.proofs.FunctionLemmas.{TestsOnly-held, TestsOnly-leaf}
-use Rattle.ms_dfafile.specs.Examples.{emptiness, emptiness_file, line_behind, named_by_word, own_node, same_variable, set_from_start, truth_value_from_state, zero_before}
+use Rattle.ms_dfa.proofs.FunctionLemmas.{TestsOnly-held, TestsOnly-leaf}
+use Rattle.ms_dfafile.specs.inner.Examples.{emptiness, emptiness_file, line_behind, named_by_word, own_node, same_variable, set_from_start, truth_value_from_state, zero_before}
 use Rattle.ms_dfafile.specs.File.{IsFile, IsSpelled}
-use Rattle.ms_dfafile.specs.Parts.{body_of, body_text, head_text, variables_text}
-use Rattle.ms_dfafile.specs.Reading.{BeginsNumber, ended}
-use Rattle.ms_dfafile.specs.Rules.{ArePlaced, IsNext, IsPlacedNode}
+use Rattle.ms_dfafile.specs.inner.Parts.{body_of, body_text, head_text, variables_text}
+use Rattle.ms_dfafile.specs.inner.Reading.{BeginsNumber, ended}
+use Rattle.ms_dfafile.specs.inner.Rules.{ArePlaced, IsNext, IsPlacedNode}
 use Rattle.ms_dfafile.specs.Spelling.{field, line, variable_line}
 use Rattle.ms_dfafile.proofs.FieldLemmas.{ended-one}
 use Rattle.ms_dfafile.proofs.FileLemmas.{one_file}

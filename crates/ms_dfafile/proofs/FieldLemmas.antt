@@ -3,7 +3,7 @@ use Rattle.std.proofs.Common.{◌≡◌, ◌≢◌, ℕ, ◌<◌, ◌≤◌, ◌
 use Rattle.std.specs.List.{list_all, prefix_len}
 use Rattle.std.proofs.lemmas.List.{take-append-drop}
 use Rattle.ms_text.proofs.Bytes.{Stops, one_run, prefix_passes, prefix_stops}
-use Rattle.ms_dfafile.specs.Reading.{is_field_byte, IsField, ended}
+use Rattle.ms_dfafile.specs.inner.Reading.{is_field_byte, IsField, ended}
 
 -- the byte that ends a field, and what stands behind it
 pub ended-append : (end : ℕ) (text rest : List ℕ) → ended end text ++ rest ≡ text ++ end ∷ rest

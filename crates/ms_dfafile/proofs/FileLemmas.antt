@@ -7,8 +7,8 @@ use Rattle.ms_arena.specs.declared.node.Node.{Node}
 use Rattle.ms_arena.specs.declared.node.Ref.{Ref}
 use Rattle.ms_arena.specs.declared.node.Ref.TheVariants.{Leaf, Inner}
 use Rattle.ms_logic.specs.declared.mode.Mode.{Mode}
-use Rattle.ms_logic.specs.Content.{Content, IsContent, NamesPart}
-use Rattle.ms_canonical.specs.Files.{content_of_file}
+use Rattle.ms_logic_words.specs.Content.{Content, IsContent, NamesPart}
+use Rattle.ms_dfa.specs.Files.{content_of_file}
 use Rattle.ms_dfa.specs.declared.plain.FileState.{FileState}
 use Rattle.ms_dfa.specs.declared.plain.FileVar.{FileVar}
 use Rattle.ms_dfa.specs.declared.plain.Plain.{Plain}
@@ -18,8 +18,8 @@ use Rattle.ms_dfafile.specs.declared.fault.FileFault.{FileFault}
 use Rattle.ms_dfafile.specs.declared.fault.FileFault.TheVariants as faults
 use Rattle.ms_dfafile.specs.declared.parts.Body.{Body}
 use Rattle.ms_dfafile.specs.File.{IsFile, IsSpelled, names_of}
-use Rattle.ms_dfafile.specs.Parts.{IsSmallBody, IsSmallPlain, body_of, body_text, content_text, ending_text, head_text, nodes_text, start_text, states_text, variables_text}
-use Rattle.ms_dfafile.specs.Reading.{Gives, HasName, IsOneForm, IsSection, IsSmall, IsSmallNode, IsSmallRef, IsSmallState}
+use Rattle.ms_dfafile.specs.inner.Parts.{IsSmallBody, IsSmallPlain, body_of, body_text, content_text, ending_text, head_text, nodes_text, start_text, states_text, variables_text}
+use Rattle.ms_dfafile.specs.inner.Reading.{Gives, HasName, IsOneForm, IsSection, IsSmall, IsSmallNode, IsSmallRef, IsSmallState}
 use Rattle.ms_dfafile.specs.Spelling.{line}
 use Rattle.ms_dfafile.proofs.PairLemmas.{pair-one_form}
 use Rattle.ms_dfafile.proofs.PartsLemmas.{AreSmallNamed, AreSmallTables, content_text-spelled, head-one_form, named_text, nodes-one_form, start-one_form, states-one_form, tables_text, variables-one_form}

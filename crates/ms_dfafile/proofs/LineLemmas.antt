@@ -18,7 +18,7 @@ use Rattle.ms_text.proofs.Bytes.{and_both}
 use Rattle.ms_text.proofs.Starts.{start_is_byte}
 use Rattle.ms_dfafile.specs.declared.fault.FileFault.{FileFault}
 use Rattle.ms_dfafile.specs.declared.fault.FileFault.TheVariants as faults
-use Rattle.ms_dfafile.specs.Reading.{BeginsWith, BeginsWithNone, Finds, Gives, HasName, IsField, IsOneForm, IsSmall, IsSmallNode, IsSmallRef, IsSmallState, is_field_byte}
+use Rattle.ms_dfafile.specs.inner.Reading.{BeginsWith, BeginsWithNone, Finds, Gives, HasName, IsField, IsOneForm, IsSmall, IsSmallNode, IsSmallRef, IsSmallState, is_field_byte}
 use Rattle.ms_dfafile.specs.Spelling.{field, line, node_line, order_text, ref_text, sign_text, state_line, variable_line}
 use Rattle.ms_dfafile.proofs.FieldLemmas.{ended-one}
 use Rattle.ms_dfafile.proofs.NumberLemmas.{number-one_form, reference-one_form}

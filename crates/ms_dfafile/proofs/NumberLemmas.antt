@@ -10,7 +10,7 @@ use Rattle.std.proofs.lemmas.Str.{IsUtf8-from_ascii}
 use Rattle.std.proofs.lemmas.Str.Parse.{IsNumeralModel, digit_at, numerals_by_value, parse_plain, tells_digits}
 use Rattle.ms_arena.specs.declared.node.Ref.{Ref}
 use Rattle.ms_arena.specs.declared.node.Ref.TheVariants.{Leaf, Inner}
-use Rattle.ms_dfafile.specs.Reading.{BeginsNumber, Decodes, IsField, IsOneForm, IsSmall, IsSmallRef, ended, is_field_byte}
+use Rattle.ms_dfafile.specs.inner.Reading.{BeginsNumber, Decodes, IsField, IsOneForm, IsSmall, IsSmallRef, ended, is_field_byte}
 use Rattle.ms_dfafile.specs.Spelling.{ref_text}
 use Rattle.ms_dfafile.proofs.FieldLemmas.{ended-one}
 

@@ -3,7 +3,7 @@ use Rattle.std.proofs.Common.{◌≡◌, ℕ, List, ◌++◌, Err, sym, ap, subs
 use Rattle.std.proofs.lemmas.List.{append_cancel_left}
 use Rattle.ms_dfafile.specs.declared.fault.FileFault.{FileFault}
 use Rattle.ms_dfafile.specs.declared.fault.FileFault.TheVariants as faults
-use Rattle.ms_dfafile.specs.Reading.{BeginsWith, BeginsWithNone, Finds, Gives, IsOneForm}
+use Rattle.ms_dfafile.specs.inner.Reading.{BeginsWith, BeginsWithNone, Finds, Gives, IsOneForm}
 use Rattle.ms_dfafile.proofs.ReadingLemmas.{same_front}
 
 module _ {X Y : Type 0} (text : X → List ℕ) (Fits : X → Type 0) (more : Y → List ℕ) (Suits : Y → Type 0) where

@@ -12,8 +12,8 @@ use Rattle.ms_dfa.specs.declared.plain.Plain.{Plain}
 use Rattle.ms_dfafile.specs.declared.fault.FileFault.{FileFault}
 use Rattle.ms_dfafile.specs.declared.fault.FileFault.TheVariants as faults
 use Rattle.ms_dfafile.specs.declared.parts.Body.{Body}
-use Rattle.ms_dfafile.specs.Parts.{IsSmallBody, IsSmallPlain, body_text, content_text, ending_text, head_text, nodes_text, start_text, states_text, variables_text}
-use Rattle.ms_dfafile.specs.Reading.{BeginsWith, Finds, Gives, HasName, IsOneForm, IsSection, IsSmallNode, IsSmallRef, IsSmallState}
+use Rattle.ms_dfafile.specs.inner.Parts.{IsSmallBody, IsSmallPlain, body_text, content_text, ending_text, head_text, nodes_text, start_text, states_text, variables_text}
+use Rattle.ms_dfafile.specs.inner.Reading.{BeginsWith, Finds, Gives, HasName, IsOneForm, IsSection, IsSmallNode, IsSmallRef, IsSmallState}
 use Rattle.ms_dfafile.specs.Spelling.{field, line, node_line, ref_text, spelled, state_line, variable_line}
 use Rattle.ms_dfafile.proofs.LineLemmas.{node-one_form, state-one_form, variable-one_form}
 use Rattle.ms_dfafile.proofs.NumberLemmas.{reference-one_form}

@@ -6,7 +6,7 @@ use Rattle.std.specs.List.{AllByRecursion, flat_map}
 use Rattle.std.proofs.lemmas.List.{append-nil, append_cancel_left, nil_from_length}
 use Rattle.ms_dfafile.specs.declared.fault.FileFault.{FileFault}
 use Rattle.ms_dfafile.specs.declared.fault.FileFault.TheVariants as faults
-use Rattle.ms_dfafile.specs.Reading.{AreLines, BeginsWith, BeginsWithNone, Finds, IsOneForm, IsSection, IsSmall, ended, section_text}
+use Rattle.ms_dfafile.specs.inner.Reading.{AreLines, BeginsWith, BeginsWithNone, Finds, IsOneForm, IsSection, IsSmall, ended, section_text}
 use Rattle.ms_dfafile.proofs.NumberLemmas.{number-one_form}
 
 -- the value at the front and what stands behind it are found in one way

@@ -13,16 +13,16 @@ use Rattle.ms_arena.proofs.Lists.{slice_get-pushed}
 use Rattle.ms_arena.proofs.ReachLemmas.{IsTested-end, IsTested-own}
 use Rattle.ms_logic.specs.declared.mode.Order.{Order}
 use Rattle.ms_logic.specs.Assignment.{Variable}
-use Rattle.ms_logic.specs.Content.{Content, HasValueAt, IsContent, NamesPart, StateOf, variables_by_place}
-use Rattle.ms_theory.proofs.FunctionLemmas.{TestsOnly-held}
-use Rattle.ms_canonical.proofs.OrdersLemmas.{orders-by_place, orders_of}
-use Rattle.ms_canonical.specs.Files.{content_of_file}
+use Rattle.ms_logic_words.specs.Content.{Content, HasValueAt, IsContent, NamesPart, StateOf, variables_by_place}
+use Rattle.ms_dfa.proofs.FunctionLemmas.{TestsOnly-held}
+use Rattle.ms_dfa.proofs.OrdersLemmas.{orders-by_place, orders_of}
+use Rattle.ms_dfa.specs.Files.{content_of_file}
 use Rattle.ms_dfa.specs.declared.plain.FileSign.{FileSign}
 use Rattle.ms_dfa.specs.declared.plain.FileState.{FileState}
 use Rattle.ms_dfa.specs.declared.plain.FileVar.{FileVar}
 use Rattle.ms_dfa.specs.declared.plain.Plain.{Plain}
 use Rattle.ms_dfafile.specs.declared.tested.Tests.{Tests}
-use Rattle.ms_dfafile.specs.Rules.{ArePlaced, AreTestsOf, FindsNodeTests, FindsTests, IsNext, IsPlacedNode, IsStart, KnowsTests, NamesAmong}
+use Rattle.ms_dfafile.specs.inner.Rules.{ArePlaced, AreTestsOf, FindsNodeTests, FindsTests, IsNext, IsPlacedNode, IsStart, KnowsTests, NamesAmong}
 
 both_true : (a b : Bool) → (a && b) ≡ true → (a ≡ true) × (b ≡ true)
 both_true true b is = (refl, is)

@@ -1,10 +1,10 @@
 -- Which contents an automaton file may have (docs/FORMATS.md, "Automaton file").
 use Rattle.std.specs.Prelude.{◌≡◌, ◌≢◌, ℕ, ◌<◌, ◌^◌, List, All, AllPairs, length, map}
 use Rattle.ms_dfa.specs.declared.plain.Plain.{Plain}
-use Rattle.ms_logic.specs.Content.{IsContent}
+use Rattle.ms_logic_words.specs.Content.{IsContent}
 use Rattle.ms_text.specs.Spelling.{Spells}
 use Rattle.ms_text.specs.declared.token.Kind.TheVariants as kinds
-use Rattle.ms_canonical.specs.Files.{content_of_file}
+use Rattle.ms_dfa.specs.Files.{content_of_file}
 use Rattle.ms_dfafile.specs.Spelling.{spelled}
 
 -- the names of the variables

@@ -1,9 +1,9 @@
 -- What a reader may rely on.
 use Rattle.std.specs.Prelude.{◌≡◌, ◌≢◌, ℕ, ◌<◌, ◌^◌, List, [], ◌++◌, All, AllPairs, length}
-use Rattle.ms_canonical.specs.Files.{content_of_file}
+use Rattle.ms_dfa.specs.Files.{content_of_file}
 use Rattle.ms_dfa.specs.declared.plain.Plain.{Plain}
 use Rattle.ms_dfafile.specs.File.{IsFile, IsSpelled, names_of}
-use Rattle.ms_logic.specs.Canonical.{IsCanonical}
+use Rattle.ms_logic_words.specs.Canonical.{IsCanonical}
 use Rattle.ms_text.specs.Spelling.{Spells}
 use Rattle.ms_text.specs.declared.token.Kind.TheVariants as kinds
 

@@ -1,6 +1,6 @@
 ghost use Rattle.std.specs.Prelude.{◌≡◌, length};
 ghost use Rattle.ms_dfa.specs.declared.plain.Plain.{Plain};
-ghost use Rattle.ms_dfafile.specs.Examples.{emptiness, emptiness_file, equivalence, equivalence_file, line_behind, missing_state, named_by_word, named_twice, no_states, own_node, same_variable, set_from_start, subset, subset_file, truth_value_from_state, zero_before};
+ghost use Rattle.ms_dfafile.specs.inner.Examples.{emptiness, emptiness_file, equivalence, equivalence_file, line_behind, missing_state, named_by_word, named_twice, no_states, own_node, same_variable, set_from_start, subset, subset_file, truth_value_from_state, zero_before};
 ghost use Rattle.ms_dfafile.specs.File.{IsFile, IsSpelled};
 ghost use Rattle.ms_dfafile.specs.Spelling.{spelled};
 

@@ -1,7 +1,7 @@
 ghost use Rattle.std.specs.Prelude.{◌≡◌, ◌≢◌, ◌≤◌, ◌∷◌, ◌++◌, ◌↔◌, false, length, IfSome, IfNone, IsTrue, List, OnOk, ℕ, string_bytes};
 ghost use Rattle.std.specs.Fmt.{decimal};
 ghost use Rattle.std.specs.List.{prefix_len};
-ghost use Rattle.ms_dfafile.specs.Reading.{BeginsNumber, Decodes, IsField, IsSmall, IsSmallRef, Reads, ended, is_field_byte};
+ghost use Rattle.ms_dfafile.specs.inner.Reading.{BeginsNumber, Decodes, IsField, IsSmall, IsSmallRef, Reads, ended, is_field_byte};
 ghost use Rattle.ms_dfafile.specs.Spelling.{ref_text};
 
 use ms_arena::Ref;

@@ -1,5 +1,5 @@
 ghost use Rattle.std.specs.Prelude.{◌≡◌, ◌++◌, List, ℕ, OnOk, string_bytes};
-ghost use Rattle.ms_dfafile.specs.Reading.{Finds};
+ghost use Rattle.ms_dfafile.specs.inner.Reading.{Finds};
 
 use crate::fault::FileFault;
 use std::alloc::{AllocError, Global};

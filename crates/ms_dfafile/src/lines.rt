@@ -1,11 +1,11 @@
 ghost use Rattle.std.specs.Prelude.{◌≡◌, ◌∷◌, ◌++◌, [], IfOk, IsErrOf, OnOk, string_bytes};
 ghost use Rattle.std.specs.List.{flat_map};
-ghost use Rattle.ms_dfafile.specs.Reading.{AreLines, BeginsWith, BeginsWithNone, Finds, IsOneForm, IsSection, section_text};
+ghost use Rattle.ms_dfafile.specs.inner.Reading.{AreLines, BeginsWith, BeginsWithNone, Finds, IsOneForm, IsSection, section_text};
 
 use crate::fault::FileFault;
 use crate::field::{behind, number};
 use crate::line::Line;
-use ms_edge::{List, push};
+use ms_list::{List, push};
 use std::alloc::{AllocError, Global};
 
 /// One line more; what stands behind it.

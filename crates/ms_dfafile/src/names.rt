@@ -1,7 +1,7 @@
 ghost use Rattle.std.specs.Prelude.{◌≢◌, ◌↔◌, AllPairs, IfOk, IsTrue, map};
 
 use ms_dfa::FileVar;
-use ms_edge::NoMemory;
+use ms_list::NoMemory;
 use std::alloc::Global;
 use std::collections::HashSet;
 

@@ -1,5 +1,5 @@
 ghost use Rattle.std.specs.Prelude.{◌≡◌, ◌++◌, OnOk, string_bytes};
-ghost use Rattle.ms_dfafile.specs.Reading.{Finds, IsSmallNode, Reads};
+ghost use Rattle.ms_dfafile.specs.inner.Reading.{Finds, IsSmallNode, Reads};
 ghost use Rattle.ms_dfafile.specs.Spelling.{node_line};
 
 use crate::fault::FileFault;

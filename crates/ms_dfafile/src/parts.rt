@@ -1,6 +1,6 @@
 ghost use Rattle.std.specs.Prelude.{◌≡◌, ◌↔◌, codes, IsTrue};
-ghost use Rattle.ms_dfafile.specs.Parts.{IsSmallBody, IsSmallPlain, body_text, content_text, ending_text, head_text, start_text};
-ghost use Rattle.ms_dfafile.specs.Reading.{Gives, IsSection, IsSmallNode, IsSmallRef, Reads};
+ghost use Rattle.ms_dfafile.specs.inner.Parts.{IsSmallBody, IsSmallPlain, body_text, content_text, ending_text, head_text, start_text};
+ghost use Rattle.ms_dfafile.specs.inner.Reading.{Gives, IsSection, IsSmallNode, IsSmallRef, Reads};
 ghost use Rattle.ms_dfafile.specs.Spelling.{line};
 
 use crate::fault::FileFault;
@@ -8,7 +8,7 @@ use crate::field::{behind, reference};
 use crate::lines::lines;
 use ms_arena::{Node, Ref};
 use ms_dfa::{FileState, Plain};
-use ms_edge::List;
+use ms_list::List;
 use ms_logic::Mode;
 use std::alloc::Global;
 

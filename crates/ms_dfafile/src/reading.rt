@@ -1,15 +1,15 @@
 ghost use Rattle.std.specs.Prelude.{◌≢◌, ◌↔◌, AllPairs, IfOk, IsErrOf, IsTrue};
-ghost use Rattle.ms_canonical.specs.Files.{content_of_file};
+ghost use Rattle.ms_dfa.specs.Files.{content_of_file};
 ghost use Rattle.ms_dfa.specs.declared.plain.Plain.{Plain};
 ghost use Rattle.ms_dfafile.specs.File.{IsSpelled, names_of};
-ghost use Rattle.ms_logic.specs.Content.{IsContent};
+ghost use Rattle.ms_logic_words.specs.Content.{IsContent};
 
 use crate::fault::FileFault;
 use crate::names::names_differ;
 use crate::parts::content;
 use crate::rules::is_content;
 use ms_dfa::Plain;
-use ms_edge::NoMemory;
+use ms_list::NoMemory;
 use std::alloc::Global;
 
 /// Whether the names differ, and references, nodes and variables are as in each content.

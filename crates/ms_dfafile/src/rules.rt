@@ -1,14 +1,14 @@
 ghost use Rattle.std.specs.Prelude.{◌≡◌, ◌<◌, ◌≤◌, ◌↔◌, ℕ, List, length, slice_get, IfOk, IsTrue, Some};
 ghost use Rattle.ms_arena.specs.Diagram.{IsValid, TestsAbove};
-ghost use Rattle.ms_canonical.specs.Files.{content_of_file};
+ghost use Rattle.ms_dfa.specs.Files.{content_of_file};
 ghost use Rattle.ms_dfa.specs.declared.plain.FileState.{FileState};
-ghost use Rattle.ms_dfafile.specs.Rules.{ArePlaced, FindsAllTests, FindsNodeTests, FindsTests, IsNext, IsStart, KnowsTests};
-ghost use Rattle.ms_logic.specs.Content.{IsContent};
+ghost use Rattle.ms_dfafile.specs.inner.Rules.{ArePlaced, FindsAllTests, FindsNodeTests, FindsTests, IsNext, IsStart, KnowsTests};
+ghost use Rattle.ms_logic_words.specs.Content.{IsContent};
 
 use crate::tested::Tests;
 use ms_arena::{Node, Ref};
 use ms_dfa::Plain;
-use ms_edge::{List, NoMemory, push};
+use ms_list::{List, NoMemory, push};
 use ms_logic::Order;
 use std::alloc::Global;
 

@@ -1,5 +1,5 @@
 ghost use Rattle.std.specs.Prelude.{◌≡◌, ◌++◌, OnOk, codes, string_bytes};
-ghost use Rattle.ms_dfafile.specs.Reading.{Finds, IsSmallState, Reads};
+ghost use Rattle.ms_dfafile.specs.inner.Reading.{Finds, IsSmallState, Reads};
 ghost use Rattle.ms_dfafile.specs.Spelling.{field, sign_text, state_line};
 
 use crate::fault::FileFault;

@@ -1,5 +1,5 @@
 ghost use Rattle.std.specs.Prelude.{◌≡◌, ◌&&◌};
-ghost use Rattle.ms_logic.specs.Content.{is_in_letters, is_truth_value};
+ghost use Rattle.ms_logic_words.specs.Content.{is_in_letters, is_truth_value};
 
 use ms_logic::Order;
 

@@ -1,5 +1,5 @@
 ghost use Rattle.std.specs.Prelude.{◌≡◌, ◌++◌, List, ℕ, OnOk, string_bytes};
-ghost use Rattle.ms_dfafile.specs.Reading.{Finds, Gives, HasName, Reads};
+ghost use Rattle.ms_dfafile.specs.inner.Reading.{Finds, Gives, HasName, Reads};
 ghost use Rattle.ms_dfafile.specs.Spelling.{field, order_text, variable_line};
 ghost use Rattle.ms_text.specs.Spelling.{Spells};
 ghost use Rattle.ms_text.specs.declared.token.Kind.TheVariants as kinds;
@@ -8,7 +8,7 @@ use crate::fault::FileFault;
 use crate::field::{behind, field};
 use crate::line::Line;
 use ms_dfa::FileVar;
-use ms_edge::Name;
+use ms_list::Name;
 use ms_logic::Order;
 use ms_text::is_name;
 use std::alloc::{AllocError, Global};

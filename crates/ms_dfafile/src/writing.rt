@@ -1,14 +1,14 @@
 ghost use Rattle.std.specs.Prelude.{◌≡◌, ◌++◌, IfOk, OnOk, string_bytes};
 ghost use Rattle.ms_dfafile.specs.File.{IsFile, IsSpelled};
-ghost use Rattle.ms_dfafile.specs.Parts.{content_text};
-ghost use Rattle.ms_dfafile.specs.Reading.{section_text};
+ghost use Rattle.ms_dfafile.specs.inner.Parts.{content_text};
+ghost use Rattle.ms_dfafile.specs.inner.Reading.{section_text};
 ghost use Rattle.ms_dfafile.specs.Spelling.{line, mode_text};
 
 use crate::field::append_ref;
 use crate::line::Line;
 use crate::lines::append_lines;
 use ms_dfa::Plain;
-use ms_edge::{Bytes, List, NoMemory};
+use ms_list::{Bytes, List, NoMemory};
 use ms_logic::Mode;
 use std::alloc::{AllocError, Global};
 

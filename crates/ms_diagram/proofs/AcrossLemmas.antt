@@ -3,8 +3,8 @@ use Rattle.std.proofs.Common.{◌≡◌, ◌≢◌, ℕ, zero, suc, ◌<◌, ◌
 use Rattle.std.proofs.Math.Nat.{le_refl}
 use Rattle.std.proofs.lemmas.Bool.{cases_lt}
 use Rattle.std.proofs.lemmas.Option.{same_Some}
-use Rattle.ms_edge.specs.declared.fault.StepFault.{StepFault}
-use Rattle.ms_edge.specs.declared.fault.StepFault.TheVariants.{Nodes, Memory}
+use Rattle.ms_list.specs.declared.fault.StepFault.{StepFault}
+use Rattle.ms_list.specs.declared.fault.StepFault.TheVariants.{Nodes, Memory}
 use Rattle.ms_arena.specs.declared.node.Ref.{Ref}
 use Rattle.ms_arena.specs.declared.node.Ref.TheVariants.{Leaf, Inner}
 use Rattle.ms_arena.specs.declared.node.Node.{Node}
@@ -19,15 +19,15 @@ use Rattle.ms_arena.proofs.Paths.{leaf_of-leaf}
 use Rattle.ms_arena.proofs.ReachLemmas.{IsTested-own, IsTested-above, leaf_of-tested}
 use Rattle.ms_diagram.specs.declared.sides.Sides.{Sides}
 use Rattle.ms_diagram.specs.Across.{side_leaf, IsOn, AreOn, leaves_across, HasLeavesAcross, NumberAcross, LacksAcross, IsPairedAcross, IsEnd, IsLater, IsHalf, IsBranchAcross}
-use Rattle.ms_diagram.specs.Adding.{AddsOnly-implies}
+use Rattle.ms_diagram.specs.inner.Adding.{AddsOnly-implies}
 use Rattle.ms_diagram.specs.Bring.{read_through}
-use Rattle.ms_diagram.specs.Crossing.{crossing}
+use Rattle.ms_diagram.specs.inner.Crossing.{crossing}
 use Rattle.ms_diagram.specs.Growth.{Builds, OnNodes}
 use Rattle.ms_diagram.specs.Numbering.{AddsOnly, HasNoRepeats, IsMissing, IsLeafOf}
 use Rattle.ms_diagram.specs.Side.{Side}
 use Rattle.ms_diagram.specs.Store.{Contents}
 use Rattle.ms_diagram.specs.Table.{EachEntry}
-use Rattle.ms_diagram.specs.Walk.{OnFault, IsSplit, IsWalked}
+use Rattle.ms_diagram.specs.inner.Walk.{OnFault, IsSplit, IsWalked}
 use Rattle.ms_diagram.proofs.BringLemmas.{RenamedLeaf-part, Renames-end, brought_end_valid}
 
 -- the half of a reference, at the first variable that is read for it or for another

@@ -1,8 +1,8 @@
 -- The pair of two functions' leaves, split at a variable.
 use Rattle.std.proofs.Common.{◌≡◌, ℕ, ◌<◌, ◌⊎◌, min, Bool, true, false, List, length, slice_get, Some, Result, Ok, Err, IfOk, sym, ap, subst, ◌∙◌, inl, inr, ⊎_elim, arith}
 use Rattle.std.proofs.lemmas.Bool.{cases_lt}
-use Rattle.ms_edge.specs.declared.fault.StepFault.{StepFault}
-use Rattle.ms_edge.specs.declared.fault.StepFault.TheVariants.{Nodes, Memory}
+use Rattle.ms_list.specs.declared.fault.StepFault.{StepFault}
+use Rattle.ms_list.specs.declared.fault.StepFault.TheVariants.{Nodes, Memory}
 use Rattle.ms_arena.specs.declared.node.Ref.{Ref}
 use Rattle.ms_arena.specs.declared.node.Ref.TheVariants.{Leaf, Inner}
 use Rattle.ms_arena.specs.declared.node.Node.{Node}
@@ -19,9 +19,9 @@ use Rattle.ms_diagram.specs.Growth.{OnNodes, IsFull, Builds}
 use Rattle.ms_diagram.specs.Store.{Contents, IsStore}
 use Rattle.ms_diagram.proofs.Building.{Grows-same, Builds-found, IsPart-implies}
 use Rattle.ms_diagram.specs.Numbering.{HasNoRepeats, IsMissing, IsLeafOf}
-use Rattle.ms_diagram.specs.Adding.{AddsOnly-implies}
-use Rattle.ms_diagram.specs.Applying.{applying, leaves_later, leaves_later_has}
-use Rattle.ms_diagram.specs.Walk.{OnFault, IsSplit}
+use Rattle.ms_diagram.specs.inner.Adding.{AddsOnly-implies}
+use Rattle.ms_diagram.specs.inner.Applying.{applying, leaves_later, leaves_later_has}
+use Rattle.ms_diagram.specs.inner.Walk.{OnFault, IsSplit}
 use Rattle.ms_diagram.specs.Apply.{leaves_at, HasLeaves, PairNumber, LacksPair, IsPairBranch}
 
 module _ (old new : List Node) (ordered : IsOrdered old) (ordered_new : IsOrdered new) (extends : Extends old new) (var : ℕ) (bit : Bool) (root : Ref)

@@ -2,7 +2,7 @@
 use Rattle.std.proofs.Common.{◌≡◌, ◌≢◌, ℕ, ◌<◌, Bool, List, length, slice_get, get_or, Some, Result, Ok, true, false, sym, ap, subst, ◌∙◌, ⊎_elim, arith}
 use Rattle.std.proofs.lemmas.Bool.{cases_eq, cases_lt}
 use Rattle.std.proofs.lemmas.Option.{slice_get_within}
-use Rattle.ms_edge.specs.declared.fault.StepFault.{StepFault}
+use Rattle.ms_list.specs.declared.fault.StepFault.{StepFault}
 use Rattle.ms_arena.specs.declared.node.Ref.{Ref}
 use Rattle.ms_arena.specs.declared.node.Ref.TheVariants.{Leaf, Inner}
 use Rattle.ms_arena.specs.declared.node.Node.{Node}
@@ -18,10 +18,10 @@ use Rattle.ms_arena.proofs.Needs.{IsPart}
 use Rattle.ms_arena.proofs.Paths.{leaf_of-leaf}
 use Rattle.ms_arena.proofs.ReachLemmas.{IsTested-own, IsTested-end, IsTested-above, leaf_of-tested}
 use Rattle.ms_diagram.specs.Bring.{read_through, RenamedLeaf, Renames, IsBrought}
-use Rattle.ms_diagram.specs.Bringing.{bringing, bringing_fits}
+use Rattle.ms_diagram.specs.inner.Bringing.{bringing, bringing_fits}
 use Rattle.ms_diagram.specs.Growth.{Builds}
 use Rattle.ms_diagram.specs.Table.{EachEntry}
-use Rattle.ms_diagram.specs.Walk.{IsSplit, IsWalked}
+use Rattle.ms_diagram.specs.inner.Walk.{IsSplit, IsWalked}
 use Rattle.ms_diagram.specs.Store.{Contents, IsStore}
 use Rattle.ms_diagram.proofs.Building.{Builds-found}
 

@@ -1,7 +1,7 @@
 -- The set of several functions' leaves, split at a variable, and at the track.
 use Rattle.std.proofs.Common.{◌≡◌, ◌≢◌, ℕ, ◌⊎◌, Bool, false, List, slice_get, get_or, Some, Result, Ok, Err, IfOk, All, Contains, sym, ap, subst, ◌∙◌, inr}
-use Rattle.ms_edge.specs.declared.fault.StepFault.{StepFault}
-use Rattle.ms_edge.specs.declared.fault.StepFault.TheVariants.{Nodes, Memory}
+use Rattle.ms_list.specs.declared.fault.StepFault.{StepFault}
+use Rattle.ms_list.specs.declared.fault.StepFault.TheVariants.{Nodes, Memory}
 use Rattle.ms_arena.specs.declared.node.Ref.{Ref}
 use Rattle.ms_arena.specs.declared.node.Ref.TheVariants.{Leaf, Inner}
 use Rattle.ms_arena.specs.declared.node.Node.{Node}
@@ -15,9 +15,9 @@ use Rattle.ms_arena.proofs.HalvesLemmas.{leaf_of-half}
 use Rattle.ms_arena.proofs.Needs.{Implies, IsPart}
 use Rattle.ms_arena.proofs.Paths.{leaf_of-leaf}
 use Rattle.ms_diagram.specs.Collect.{IsLeafThere, IsRisingSet, HasLeafSet, SetNumber, LacksSet, IsCollected, AreHalves, AreBothHalves, IsSetOf, IsSetLeaf, IsSetMissing, leaf_values}
-use Rattle.ms_diagram.specs.Collecting.{All-member, IsLeafThere-before, IsLeafThere-later, IsRisingSet-same}
+use Rattle.ms_diagram.specs.inner.Collecting.{All-member, IsLeafThere-before, IsLeafThere-later, IsRisingSet-same}
 use Rattle.ms_diagram.specs.Growth.{OnNodes, IsFull, Builds}
-use Rattle.ms_diagram.specs.Walk.{OnFault}
+use Rattle.ms_diagram.specs.inner.Walk.{OnFault}
 use Rattle.ms_diagram.specs.Numbering.{HasNoRepeats}
 use Rattle.ms_diagram.specs.Store.{Contents, IsStore}
 use Rattle.ms_diagram.proofs.ApplyLemmas.{half_leaf, half_blind}

@@ -1,7 +1,7 @@
 -- The steps of `collect` at a list of roots: its halves, and at the track both halves together.
 use Rattle.std.proofs.Common.{◌≡◌, ◌≢◌, ℕ, ◌<◌, ◌≤◌, Bool, true, false, List, get_or, Result, All, Contains, sym, subst, ◌∙◌, arith}
 use Rattle.std.proofs.lemmas.List.Elements.{Contains-get_or}
-use Rattle.ms_edge.specs.declared.fault.StepFault.{StepFault}
+use Rattle.ms_list.specs.declared.fault.StepFault.{StepFault}
 use Rattle.ms_arena.specs.declared.node.Ref.{Ref}
 use Rattle.ms_arena.specs.declared.node.Node.{Node}
 use Rattle.ms_arena.specs.Diagram.{IsValid, TestsAbove}
@@ -10,10 +10,10 @@ use Rattle.ms_arena.specs.Target.{Extends}
 use Rattle.ms_arena.proofs.Appending.{Extends-same, IsValid-extends}
 use Rattle.ms_arena.proofs.HalvesLemmas.{IsValid-half, TestsAbove-half, TestsFrom-level}
 use Rattle.ms_arena.proofs.Needs.{IsPart}
-use Rattle.ms_diagram.specs.Adding.{AddsOnly-implies}
-use Rattle.ms_diagram.specs.Collecting.{collecting, All-member, SetNumber-later, SetNumber-before, LacksSet-later, LacksSet-before, HasLeafSet-later, HasLeafSet-before}
+use Rattle.ms_diagram.specs.inner.Adding.{AddsOnly-implies}
+use Rattle.ms_diagram.specs.inner.Collecting.{collecting, All-member, SetNumber-later, SetNumber-before, LacksSet-later, LacksSet-before, HasLeafSet-later, HasLeafSet-before}
 use Rattle.ms_diagram.specs.Table.{EachEntry}
-use Rattle.ms_diagram.specs.Walk.{Follows, IsSplit, StandsFor, IsWalked}
+use Rattle.ms_diagram.specs.inner.Walk.{Follows, IsSplit, StandsFor, IsWalked}
 use Rattle.ms_diagram.specs.Collect.{HasLeafSet, IsCollected, SetNumber, LacksSet, AreHalves, AreBothHalves, least_level}
 use Rattle.ms_diagram.specs.Growth.{Builds}
 use Rattle.ms_diagram.specs.Numbering.{AddsOnly}

@@ -1,5 +1,6 @@
 pub mod AcrossLemmas
 pub mod ApplyLemmas
+pub mod BothSides
 pub mod BringLemmas
 pub mod Building
 pub mod CollectLemmas

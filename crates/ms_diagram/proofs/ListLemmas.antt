@@ -3,7 +3,7 @@ use Rattle.std.proofs.Common.{◌≡◌, ℕ, zero, suc, ◌+◌, ◌<◌, ◌�
 use Rattle.std.proofs.lemmas.Bool.{eqb-true, eq-eqb, and_from}
 use Rattle.std.proofs.lemmas.List.Kept.{AllPairs-from_increasing}
 use Rattle.std.specs.Cmp.Lexicographic.{pointwise}
-pub use Rattle.ms_diagram.specs.Equal.{same_list}
+pub use Rattle.ms_diagram.specs.inner.Equal.{same_list}
 use Rattle.std.specs.List.Sorted.{IsStrictlyIncreasing}
 
 module _ {X : Type 0} (eq : X → X → Bool) where

@@ -8,8 +8,8 @@ use Rattle.ms_arena.specs.contracts.node.RefPartialEq.TheImpl as of_ref
 use Rattle.ms_cache.specs.declared.key.Key.{Key}
 use Rattle.ms_cache.specs.Key.{is_key}
 use Rattle.ms_cache.proofs.Among.{Contains-head, Contains-tail, Contains-cons, Contains-nil}
-use Rattle.ms_diagram.specs.Equal.{pair_eq}
-use Rattle.ms_diagram.specs.Notes.{KeepsOnly, NotesOnly, pair_entries}
+use Rattle.ms_diagram.specs.inner.Equal.{pair_eq}
+use Rattle.ms_diagram.specs.inner.Notes.{KeepsOnly, NotesOnly, pair_entries}
 
 -- an insertion into a table notes one entry
 pub NotesOnly-insert : {K V : Type 0} → (eq : K → K → Bool) (old : List (K × V)) (key : K) (value : V) → NotesOnly eq old (insert_entry eq old key value) key value

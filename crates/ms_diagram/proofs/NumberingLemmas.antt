@@ -3,7 +3,7 @@ use Rattle.std.proofs.Common.{◌<◌, List, [], ◌∷◌, ◌++◌, length, sl
 use Rattle.std.proofs.lemmas.Option.{slice_get_within}
 use Rattle.ms_arena.specs.Target.{Extends}
 use Rattle.ms_arena.proofs.Lists.{slice_get-pushed}
-pub use Rattle.ms_diagram.specs.Adding.{AddsOnly-same, AddsOnly-then, AddsOnly-implies}
+pub use Rattle.ms_diagram.specs.inner.Adding.{AddsOnly-same, AddsOnly-then, AddsOnly-implies}
 use Rattle.ms_diagram.specs.Numbering.{HasNoRepeats, IsNumbering, IsMissing, Numbers, AddsOnly}
 
 module _ {X : Type 0} (old new : List X) (item : X) where

@@ -1,7 +1,7 @@
 -- The `==` of pairs is equality.
 use Rattle.std.proofs.Common.{◌≡◌, ℕ, Bool, true, nat_eq, refl}
 use Rattle.std.proofs.lemmas.Bool.{eqb-true, eq-eqb, and_from}
-pub use Rattle.ms_diagram.specs.Equal.{pair_eq, same_pair}
+pub use Rattle.ms_diagram.specs.inner.Equal.{pair_eq, same_pair}
 
 module _ {A B : Type 0} (eq_a : A → A → Bool) (eq_b : B → B → Bool) where
   -- a pair compares equal to itself

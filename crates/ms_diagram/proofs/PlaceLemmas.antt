@@ -5,8 +5,8 @@ use Rattle.std.proofs.lemmas.List.Elements.{Contains-append_left, Contains-appen
 use Rattle.std.proofs.lemmas.Option.{none-some}
 use Rattle.std.specs.Map.{lookup}
 use Rattle.ms_cache.proofs.Among.{Contains-head, Contains-tail, Contains-cons}
-use Rattle.ms_diagram.specs.Notes.{NotesOnly}
-use Rattle.ms_diagram.specs.Places.{place_entries}
+use Rattle.ms_diagram.specs.inner.Notes.{NotesOnly}
+use Rattle.ms_diagram.specs.inner.Places.{place_entries}
 
 module _ {V : Type 0} where
   -- an entry at another place is passed over

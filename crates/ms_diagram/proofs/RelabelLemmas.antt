@@ -1,6 +1,6 @@
 -- Leaves read in a map, split at a node.
 use Rattle.std.proofs.Common.{◌≡◌, ℕ, ◌<◌, Bool, List, length, slice_get, Some, Result, Ok, true, false, sym, ap, subst, ◌∙◌}
-use Rattle.ms_edge.specs.declared.fault.StepFault.{StepFault}
+use Rattle.ms_list.specs.declared.fault.StepFault.{StepFault}
 use Rattle.ms_arena.specs.declared.node.Ref.{Ref}
 use Rattle.ms_arena.specs.declared.node.Ref.TheVariants.{Leaf, Inner}
 use Rattle.ms_arena.specs.declared.node.Node.{Node}
@@ -14,10 +14,10 @@ use Rattle.ms_arena.proofs.Needs.{IsPart}
 use Rattle.ms_arena.proofs.Paths.{leaf_of-leaf}
 use Rattle.ms_diagram.specs.Growth.{Builds}
 use Rattle.ms_diagram.specs.Relabel.{MappedLeaf, CoversLeaves, IsRelabelled}
-use Rattle.ms_diagram.specs.Relabelling.{relabelling, covers_later}
+use Rattle.ms_diagram.specs.inner.Relabelling.{relabelling, covers_later}
 use Rattle.ms_diagram.specs.Store.{Contents, IsStore}
 use Rattle.ms_diagram.specs.Table.{EachEntry}
-use Rattle.ms_diagram.specs.Walk.{IsSplit, IsWalked}
+use Rattle.ms_diagram.specs.inner.Walk.{IsSplit, IsWalked}
 use Rattle.ms_diagram.proofs.Building.{Builds-found}
 
 module _ (old : List Node) (ordered : IsOrdered old) (map : List ℕ) (root : Ref) (place : ℕ) (is : root ≡ Inner place) (node : Node)

@@ -6,11 +6,11 @@ use Rattle.ms_arena.specs.declared.node.Ref.{Ref}
 use Rattle.ms_arena.specs.contracts.node.RefPartialEq.TheImpl as of_ref
 use Rattle.ms_arena.proofs.Equality.{same_ref, ref_itself}
 use Rattle.ms_cache.proofs.Among.{Contains-head, Contains-tail, Contains-cons, Contains-nil}
-use Rattle.ms_unique.specs.Code.{code_of, ref_of}
-use Rattle.ms_unique.proofs.CodeLemmas.{code_of-ref_of, ref_of-code_of}
-use Rattle.ms_diagram.specs.Equal.{pair_eq}
-use Rattle.ms_diagram.specs.Notes.{NotesOnly}
-use Rattle.ms_diagram.specs.Short.{with_refs, short_entries, IsShort, AreShort, IsLong}
+use Rattle.ms_arena.specs.inner.Code.{code_of, ref_of}
+use Rattle.ms_arena.proofs.CodeLemmas.{code_of-ref_of, ref_of-code_of}
+use Rattle.ms_diagram.specs.inner.Equal.{pair_eq}
+use Rattle.ms_diagram.specs.inner.Notes.{NotesOnly}
+use Rattle.ms_diagram.specs.inner.Short.{with_refs, short_entries, IsShort, AreShort, IsLong}
 use Rattle.ms_diagram.proofs.PairLemmas.{numbers_eq, same_numbers}
 use Rattle.ms_diagram.proofs.TableLemmas.{EachEntry-found, EachEntry-noted}
 

@@ -8,9 +8,9 @@ use Rattle.ms_cache.proofs.MemoLemmas.{EachEntry-weaker}
 use Rattle.ms_diagram.specs.Bring.{IsBrought}
 use Rattle.ms_diagram.specs.Relabel.{IsRelabelled}
 use Rattle.ms_diagram.specs.Table.{AreBrought, AreRelabelled}
-use Rattle.ms_diagram.specs.Bringing.{IsBrought-grows}
+use Rattle.ms_diagram.specs.inner.Bringing.{IsBrought-grows}
 use Rattle.ms_diagram.proofs.BringLemmas.{IsBrought-origin_grows}
-use Rattle.ms_diagram.specs.Relabelling.{IsRelabelled-grows}
+use Rattle.ms_diagram.specs.inner.Relabelling.{IsRelabelled-grows}
 
 module _ (old new : List Node) (ordered : IsOrdered old) (extends : Extends old new) where
   pub AreRelabelled-grow : (map : List ℕ) (table : List (ℕ × Ref)) → AreRelabelled old map table → AreRelabelled new map table

@@ -2,7 +2,7 @@
 use Rattle.std.proofs.Common.{◌≡◌, Bool, true, List, Some, sym, subst, ⊎_elim}
 use Rattle.std.specs.Map.{lookup}
 use Rattle.ms_cache.proofs.MemoLemmas.{EachEntry-at, EachEntry-from, EachEntry-passed}
-use Rattle.ms_diagram.specs.Notes.{KeepsOnly, NotesOnly}
+use Rattle.ms_diagram.specs.inner.Notes.{KeepsOnly, NotesOnly}
 use Rattle.ms_diagram.specs.Table.{EachEntry}
 
 module _ {K V : Type 0} (fact : K → V → Type 0) where

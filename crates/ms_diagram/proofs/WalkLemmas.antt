@@ -1,7 +1,7 @@
 -- A walk from an item to its ends and back.
 use Rattle.std.proofs.Common.{◌≡◌, ◌⊎◌, ℕ, Bool, true, false, List, [], ◌∷◌, ◌++◌, Result, Ok, Err, sym, subst, inl, inr, ⊎_elim}
-use Rattle.ms_edge.specs.declared.fault.StepFault.{StepFault}
-use Rattle.ms_edge.specs.declared.fault.StepFault.TheVariants.{Nodes, Memory}
+use Rattle.ms_list.specs.declared.fault.StepFault.{StepFault}
+use Rattle.ms_list.specs.declared.fault.StepFault.TheVariants.{Nodes, Memory}
 use Rattle.ms_arena.specs.declared.node.Ref.{Ref}
 use Rattle.ms_arena.specs.declared.node.Node.{Node}
 use Rattle.ms_arena.specs.Diagram.{leaf_of, end_at, IsValid, TestsAbove}
@@ -15,10 +15,10 @@ use Rattle.ms_diagram.specs.declared.walk.Frame.TheVariants.{Low, High}
 use Rattle.ms_diagram.specs.declared.walk.Turn.{Turn}
 use Rattle.ms_diagram.specs.declared.walk.Turn.TheVariants.{Down, Up}
 use Rattle.ms_diagram.specs.Growth.{Grows, Builds, OnNodes, IsFull}
-use Rattle.ms_diagram.specs.Notes.{KeepsOnly, NotesOnly}
+use Rattle.ms_diagram.specs.inner.Notes.{KeepsOnly, NotesOnly}
 use Rattle.ms_diagram.specs.Store.{Contents, IsStore}
 use Rattle.ms_diagram.specs.Table.{EachEntry}
-use Rattle.ms_diagram.specs.Walk.{Rules, Follows, IsBuilt, AreParts, IsSplit, Answers, StandsFor, OnFault, AreLaws, IsWalked}
+use Rattle.ms_diagram.specs.inner.Walk.{Rules, Follows, IsBuilt, AreParts, IsSplit, Answers, StandsFor, OnFault, AreLaws, IsWalked}
 use Rattle.ms_diagram.proofs.Building.{Grows-same, Grows-then, Makes, Builds-made, Builds-then, Builds-found}
 use Rattle.ms_diagram.proofs.TableLemmas.{EachEntry-kept, EachEntry-noted}
 use Rattle.ms_diagram.proofs.Walking.{Leads, IsAt, IsWalking}

@@ -9,7 +9,7 @@ use Rattle.ms_diagram.specs.declared.walk.Turn.TheVariants.{Down, Up}
 use Rattle.ms_diagram.specs.Growth.{Grows}
 use Rattle.ms_diagram.specs.Store.{Contents}
 use Rattle.ms_diagram.specs.Table.{EachEntry}
-use Rattle.ms_diagram.specs.Walk.{Rules, IsBuilt, IsSplit, StandsFor}
+use Rattle.ms_diagram.specs.inner.Walk.{Rules, IsBuilt, IsSplit, StandsFor}
 
 module _ {S I K : Type 0} where
   -- the frames, of which the last is the innermost, lead from one item to another

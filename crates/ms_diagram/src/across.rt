@@ -13,7 +13,7 @@ use crate::sides::{Renamed, Sides};
 use crate::store::Store;
 use crate::walk::{Visit, Walk};
 use ms_arena::Ref;
-use ms_edge::StepFault;
+use ms_list::StepFault;
 
 impl Renamed<'_> {
     // The variable that is read for the one that the diagram tests first, or the level of a leaf.
@@ -98,7 +98,7 @@ struct Crossing<'a> {
 }
 
 impl Walk for Crossing<'_> {
-    ghost use Rattle.ms_diagram.specs.Crossing.{crossing, crossing_laws};
+    ghost use Rattle.ms_diagram.specs.inner.Crossing.{crossing, crossing_laws};
 
     type Item = (Ref, Ref);
 

@@ -8,7 +8,7 @@ use crate::pairs::Pairs;
 use crate::store::Store;
 use crate::walk::{Visit, Walk};
 use ms_arena::Ref;
-use ms_edge::StepFault;
+use ms_list::StepFault;
 
 // Two diagrams at one place: two leaves, or the first variable of the two with their halves.
 #[derive(Clone, Copy)]
@@ -22,7 +22,7 @@ pub(crate) enum PairSplit {
 }
 
 impl Walk for Pairs {
-    ghost use Rattle.ms_diagram.specs.Applying.{applying, applying_laws};
+    ghost use Rattle.ms_diagram.specs.inner.Applying.{applying, applying_laws};
 
     type Item = (Ref, Ref);
 

@@ -5,7 +5,7 @@ use crate::places::PlaceTable;
 use crate::store::Store;
 use crate::walk::{Visit, Walk};
 use ms_arena::Ref;
-use ms_edge::StepFault;
+use ms_list::StepFault;
 
 // Nodes are read in another store, and their variables in a map.
 #[derive(Drop)]
@@ -15,7 +15,7 @@ struct Bringing<'a> {
 }
 
 impl Walk for Bringing<'_> {
-    ghost use Rattle.ms_diagram.specs.Bringing.{bringing, bringing_laws};
+    ghost use Rattle.ms_diagram.specs.inner.Bringing.{bringing, bringing_laws};
 
     type Item = Ref;
 

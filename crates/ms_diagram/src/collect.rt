@@ -10,7 +10,7 @@ use crate::store::Store;
 use crate::walk::{Visit, Walk};
 use indexmap::IndexMap;
 use ms_arena::Ref;
-use ms_edge::StepFault;
+use ms_list::StepFault;
 
 // What each list of roots has become.
 type RootTable = IndexMap<Vec<Ref>, Ref>;
@@ -23,7 +23,7 @@ struct Collecting<'a> {
 }
 
 impl Walk for Collecting<'_> {
-    ghost use Rattle.ms_diagram.specs.Collecting.{collecting, collecting_laws};
+    ghost use Rattle.ms_diagram.specs.inner.Collecting.{collecting, collecting_laws};
 
     type Item = Vec<Ref>;
 

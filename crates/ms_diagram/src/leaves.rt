@@ -4,7 +4,7 @@ ghost use Rattle.ms_arena.specs.Diagram.{IsValid};
 use crate::store::Store;
 use indexmap::IndexSet;
 use ms_arena::Ref;
-use ms_edge::{List, NoMemory};
+use ms_list::{List, NoMemory};
 
 // What is left to do: to note the leaves of a diagram, or a place whose leaves are noted.
 #[derive(Clone, Copy)]

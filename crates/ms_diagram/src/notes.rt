@@ -1,10 +1,10 @@
 ghost use Rattle.std.specs.Prelude.{◌≡◌, MatchResult};
-ghost use Rattle.ms_diagram.specs.Notes.{NotesOnly};
+ghost use Rattle.ms_diagram.specs.inner.Notes.{NotesOnly};
 
 use indexmap::IndexMap;
 use ms_arena::Ref;
 use ms_cache::{Key, Memo};
-use ms_edge::{NoMemory, StepFault};
+use ms_list::{NoMemory, StepFault};
 use std::hash::Hash;
 
 // What keys have become, which a walk asks and tells.
@@ -12,7 +12,7 @@ pub(crate) trait Notes<K: Eq> {
     ghost use Rattle.std.specs.Prelude.{List, OnOk};
     ghost use Rattle.std.specs.Map.{lookup};
     ghost use Rattle.ms_arena.specs.declared.node.Ref.{Ref};
-    ghost use Rattle.ms_diagram.specs.Notes.{KeepsOnly, NotesOnly};
+    ghost use Rattle.ms_diagram.specs.inner.Notes.{KeepsOnly, NotesOnly};
 
     ghost entries: { Self → List (K × Ref) };
 
@@ -43,7 +43,7 @@ impl<K: Eq + Hash + Drop> Notes<K> for IndexMap<K, Ref> {
 }
 
 impl Notes<(Ref, Ref)> for Memo {
-    ghost use Rattle.ms_diagram.specs.Notes.{pair_entries};
+    ghost use Rattle.ms_diagram.specs.inner.Notes.{pair_entries};
 
     ghost entries = { λ memo. pair_entries memo.entries };
 

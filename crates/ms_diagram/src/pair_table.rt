@@ -1,11 +1,11 @@
 ghost use Rattle.std.specs.Prelude.{◌≡◌, ◌≤◌, MatchOption};
-ghost use Rattle.ms_unique.specs.Code.{code_of};
-ghost use Rattle.ms_diagram.specs.Short.{IsLong, IsShort};
+ghost use Rattle.ms_arena.specs.inner.Code.{code_of};
+ghost use Rattle.ms_diagram.specs.inner.Short.{IsLong, IsShort};
 
 use crate::notes::Notes;
 use indexmap::IndexMap;
 use ms_arena::Ref;
-use ms_edge::NoMemory;
+use ms_list::NoMemory;
 use std::alloc::Global;
 use std::marker::Model;
 
@@ -30,7 +30,7 @@ impl Drop for PairTable {
 impl Model for PairTable {
     ghost use Rattle.std.specs.Prelude.{◌++◌, List};
     ghost use Rattle.ms_arena.specs.declared.node.Ref.{Ref};
-    ghost use Rattle.ms_diagram.specs.Short.{AreShort, short_entries};
+    ghost use Rattle.ms_diagram.specs.inner.Short.{AreShort, short_entries};
 
     ghost Value = { List ((Ref × Ref) × Ref) };
 

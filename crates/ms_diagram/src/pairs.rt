@@ -2,7 +2,7 @@ ghost use Rattle.std.specs.Prelude.{◌≡◌, ◌<◌, [], length, slice_get, I
 ghost use Rattle.ms_diagram.specs.Numbering.{AreOwnPairs, IsMissing, IsNumbering, Numbers};
 
 use indexmap::IndexSet;
-use ms_edge::NoMemory;
+use ms_list::NoMemory;
 use std::alloc::Global;
 use std::marker::Model;
 

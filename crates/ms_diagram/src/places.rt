@@ -1,12 +1,12 @@
 ghost use Rattle.std.specs.Prelude.{◌≡◌, ◌<◌, ◌≤◌, ◌^◌, ℕ, length, nat_eq, None, Some, IsTrue, OnOk, false};
 ghost use Rattle.std.specs.Map.{lookup};
-ghost use Rattle.ms_diagram.specs.Notes.{NotesOnly};
-ghost use Rattle.ms_diagram.specs.Places.{place_entries};
+ghost use Rattle.ms_diagram.specs.inner.Notes.{NotesOnly};
+ghost use Rattle.ms_diagram.specs.inner.Places.{place_entries};
 
 use crate::notes::Notes;
 use indexmap::IndexMap;
 use ms_arena::Ref;
-use ms_edge::NoMemory;
+use ms_list::NoMemory;
 use std::alloc::Global;
 use std::marker::Model;
 
@@ -39,7 +39,7 @@ impl Drop for PlaceTable {
 impl Model for PlaceTable {
     ghost use Rattle.std.specs.Prelude.{◌++◌, ℕ, List};
     ghost use Rattle.ms_arena.specs.declared.node.Ref.{Ref};
-    ghost use Rattle.ms_diagram.specs.Places.{place_entries};
+    ghost use Rattle.ms_diagram.specs.inner.Places.{place_entries};
 
     ghost Value = { List (ℕ × Ref) };
 

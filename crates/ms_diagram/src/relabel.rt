@@ -6,7 +6,7 @@ use crate::places::PlaceTable;
 use crate::store::Store;
 use crate::walk::{Visit, Walk};
 use ms_arena::Ref;
-use ms_edge::StepFault;
+use ms_list::StepFault;
 
 // Leaves are read in a map.
 #[derive(Drop)]
@@ -15,7 +15,7 @@ struct Relabelling<'a> {
 }
 
 impl Walk for Relabelling<'_> {
-    ghost use Rattle.ms_diagram.specs.Relabelling.{relabelling, relabelling_laws};
+    ghost use Rattle.ms_diagram.specs.inner.Relabelling.{relabelling, relabelling_laws};
 
     type Item = Ref;
 

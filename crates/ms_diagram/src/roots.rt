@@ -7,7 +7,7 @@ ghost use Rattle.ms_diagram.specs.Collect.{AreBothHalves, AreHalves, HaveSameIte
 use crate::halves::LEAF_LEVEL;
 use crate::store::Store;
 use ms_arena::Ref;
-use ms_edge::NoMemory;
+use ms_list::NoMemory;
 use std::alloc::Global;
 
 // Where a reference stands in a sorted list: the leaves first.

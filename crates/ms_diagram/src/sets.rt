@@ -4,7 +4,7 @@ ghost use Rattle.ms_diagram.specs.Collect.{IsSetNumbering};
 ghost use Rattle.ms_diagram.specs.Numbering.{IsMissing, Numbers};
 
 use indexmap::IndexSet;
-use ms_edge::NoMemory;
+use ms_list::NoMemory;
 use std::alloc::Global;
 use std::marker::Model;
 

@@ -4,10 +4,9 @@ ghost use Rattle.ms_arena.specs.Reach.{IsTested};
 ghost use Rattle.ms_arena.specs.Target.{Appends, HoldsAt, IsFormed, IsNew};
 ghost use Rattle.ms_diagram.specs.Store.{IsNewest};
 
-use ms_arena::{Node, Ref};
+use ms_arena::{Arena, Node, Ref};
 use ms_cache::Memo;
-use ms_edge::{NoMemory, StepFault};
-use ms_unique::Arena;
+use ms_list::{NoMemory, StepFault};
 use std::alloc::Global;
 use std::marker::Model;
 
@@ -24,11 +23,11 @@ pub struct Store {
 }
 
 impl Model for Store {
-    ghost use Rattle.ms_diagram.specs.Store.{Contents, IsStore};
+    ghost use Rattle.ms_diagram.specs.Store.{Contents, IsStore, memo_hits};
 
     ghost Value = { Contents };
 
-    ghost view = { λ s. record { nodes = s.nodes.nodes; limit = s.limit } };
+    ghost view = { λ s. record { nodes = s.nodes.nodes; limit = s.limit; hits = memo_hits s.memo } };
 
     ghost invariant = { λ s. IsStore s.nodes.nodes s.limit };
 }
@@ -43,6 +42,7 @@ impl Store {
         requires small { limit ≤ 4000000000 }
         ensures empty { result.nodes ≡ [] }
         ensures limit { result.limit ≡ limit }
+        ensures hits { result.hits ≡ 0 }
     {
         Store {
             alloc,
@@ -83,7 +83,9 @@ impl Store {
     }
 
     /// How often `apply` has found in the memo what it was to build, up to the greatest `u64`.
-    pub fn hits(&self) -> u64 {
+    pub fn hits(&self) -> u64
+        ensures { result ≡ self.now.hits }
+    {
         match &self.memo {
             Some(memo) => memo.hits(),
             None => 0,
@@ -93,7 +95,10 @@ impl Store {
     // Takes the memo out of the store, and lets its entries go. The first call makes it.
     pub(crate) fn take_memo(&mut self) -> Result<Memo, NoMemory>
         ensures empty { IfOk result (λ memo. memo.entries ≡ []) }
-        ensures store { self.new ≡ self.old }
+        ensures hits { IfOk result (λ memo. memo.hits ≡ self.old.hits) }
+        ensures refused { OnErr result (self.new ≡ self.old) }
+        ensures nodes { self.new.nodes ≡ self.old.nodes }
+        ensures limit { self.new.limit ≡ self.old.limit }
     {
         match self.memo.take() {
             Some(mut memo) => {
@@ -106,14 +111,18 @@ impl Store {
 
     // Puts the memo into the store.
     pub(crate) fn put_memo(&mut self, memo: Memo)
-        ensures { self.new ≡ self.old }
+        ensures nodes { self.new.nodes ≡ self.old.nodes }
+        ensures limit { self.new.limit ≡ self.old.limit }
+        ensures hits { self.new.hits ≡ memo.hits }
     {
         self.memo = Some(memo);
     }
 
     /// An equal store, whose memo has not been made.
     pub fn copy(&self) -> Result<Store, NoMemory>
-        ensures { IfOk result (λ made. made ≡ self.now) }
+        ensures nodes { IfOk result (λ made. made.nodes ≡ self.now.nodes) }
+        ensures limit { IfOk result (λ made. made.limit ≡ self.now.limit) }
+        ensures hits { IfOk result (λ made. made.hits ≡ 0) }
     {
         let nodes = self.nodes.copy()?;
         Ok(Store {

@@ -10,7 +10,7 @@ use crate::sides::Sides;
 use crate::store::Store;
 use indexmap::IndexMap;
 use ms_arena::Ref;
-use ms_edge::StepFault;
+use ms_list::StepFault;
 use std::alloc::Global;
 use std::hash::Hash;
 use std::marker::Model;

@@ -3,7 +3,7 @@ ghost use Rattle.std.specs.Prelude.{◌≡◌, IfOk, IfErr};
 use crate::notes::{Notes, remember};
 use crate::store::Store;
 use ms_arena::Ref;
-use ms_edge::StepFault;
+use ms_list::StepFault;
 use std::hash::Hash;
 
 // What a walk finds at an item: its answer, an item whose answer it has, or a variable and the items of both ends.
@@ -30,10 +30,10 @@ pub(crate) enum Turn<I> {
 
 /// What a call that builds a diagram from its ends does at each item.
 pub(crate) trait Walk {
-    ghost use Rattle.ms_diagram.specs.Notes.{KeepsOnly};
+    ghost use Rattle.ms_diagram.specs.inner.Notes.{KeepsOnly};
     ghost use Rattle.ms_diagram.specs.Store.{IsStore};
     ghost use Rattle.ms_diagram.specs.Table.{EachEntry};
-    ghost use Rattle.ms_diagram.specs.Walk.{Rules, IsVisited, OnFault, AreLaws};
+    ghost use Rattle.ms_diagram.specs.inner.Walk.{Rules, IsVisited, OnFault, AreLaws};
 
     type Item: Drop;
 
@@ -64,7 +64,7 @@ pub(crate) trait Walk {
 impl Store {
     ghost use Rattle.ms_diagram.specs.Store.{IsStore};
     ghost use Rattle.ms_diagram.specs.Table.{EachEntry};
-    ghost use Rattle.ms_diagram.specs.Walk.{IsWalked};
+    ghost use Rattle.ms_diagram.specs.inner.Walk.{IsWalked};
 
     // The answer for the root: the ends of each item are answered before the item, whose answer is the node over theirs.
     pub(crate) fn walk<W: Walk, T: Notes<W::Key>>(

@@ -3,7 +3,7 @@ ghost use Rattle.ms_edge.specs.Counts.{Rose};
 ghost use Rattle.ms_edge.specs.Files.{Holding, IsCauseOfRead, NoCountFell, OnlyRead, untold};
 
 use crate::files::{Files, ReadAnswer, WriteFailed};
-use crate::list::{Bytes, List};
+use ms_list::{Bytes, List};
 use std::alloc::Global;
 use std::fs::File;
 use std::io::{ErrorKind, Read, Write};

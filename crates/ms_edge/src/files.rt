@@ -2,7 +2,7 @@ ghost use Rattle.std.specs.Prelude.{◌≡◌, ◌≤◌, length, IfOk, IfErr, O
 ghost use Rattle.ms_edge.specs.Counts.{Rose};
 ghost use Rattle.ms_edge.specs.Files.{FilesTold, Holds, IsCauseOfRead, KeepsOthers, NoCountFell, OnlyRead};
 
-use crate::list::Bytes;
+use ms_list::Bytes;
 use std::alloc::Global;
 use thiserror::Error;
 

@@ -4,10 +4,9 @@ ghost use Rattle.ms_edge.specs.Counts.{Rose, counted};
 ghost use Rattle.ms_edge.specs.Files.{HoldsMoreThan, IsCauseOfRead, KeepsOthers, NoCountFell, OnlyRead};
 ghost use Rattle.ms_edge.specs.FilesInMemory.{held_under, told_of, WriteFails, with_entry, after_writing, after_failing, noted, after_reading};
 
-use crate::fault::NoMemory;
 use crate::files::{Files, ReadAnswer, WriteFailed};
-use crate::list::{Bytes, List};
 use crate::log::{Span, append, last_of};
+use ms_list::{Bytes, List, NoMemory};
 use std::alloc::Global;
 use std::marker::Model;
 

@@ -3,9 +3,8 @@ ghost use Rattle.ms_edge.specs.Counts.{Rose};
 ghost use Rattle.ms_edge.specs.Sink.{grown};
 ghost use Rattle.ms_edge.specs.SinkInMemory.{Fails, told_of, part_taken, after_taking, after_failing};
 
-use crate::fault::NoMemory;
-use crate::list::List;
 use crate::sink::{Sink, SinkFailed};
+use ms_list::{List, NoMemory};
 use std::alloc::Global;
 use std::marker::Model;
 

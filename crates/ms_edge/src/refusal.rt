@@ -1,15 +1,4 @@
-use crate::at::At;
-use crate::list::List;
-use crate::name::Name;
-use crate::text::Text;
-
-/// A word over a list of variables: the truth values of the variables of order 0, and letters with
-/// one bit for each other variable.
-#[derive(Drop)]
-pub struct Word {
-    pub truth: List<bool>,
-    pub letters: List<List<bool>>,
-}
+use ms_list::{At, List, Name, Text, Word};
 
 /// Why a request is refused. Each variant has a number and a line of its own (docs/FORMATS.md).
 #[derive(Drop)]

@@ -1,8 +1,6 @@
 ghost use Rattle.std.specs.Prelude.{◌≡◌, [], ◌∷◌, ◌++◌, OnOk, OnErr};
 
-use crate::fault::NoMemory;
-use crate::list::List;
-use crate::text::Text;
+use ms_list::{List, NoMemory, Text};
 use std::alloc::Global;
 use std::marker::Model;
 

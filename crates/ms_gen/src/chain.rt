@@ -1,7 +1,8 @@
 ghost use Rattle.std.specs.Prelude.{◌≡◌, ◌<◌, ◌⊎◌, ◌++◌, ◌+◌, codes, None, IfErr, IfOk, OnOk, string_bytes};
 ghost use Rattle.ms_gen.specs.Generated.{IsNumber, chain_line, free_line, generated, links_text, name_of, names_text, sets_line, source_text};
 
-use ms_edge::{Bytes, List, Refusal};
+use ms_edge::Refusal;
+use ms_list::{Bytes, List};
 use std::alloc::{AllocError, Global};
 
 /// The greatest number of a source.

@@ -3,18 +3,18 @@ use Rattle.std.proofs.Common.{◌≡◌, ℕ, zero, suc, ◌+◌, ◌*◌, ◌�
 use Rattle.std.proofs.lemmas.List.{length-append, map-append}
 use Rattle.std.proofs.Math.ListN.{length-map}
 use Rattle.ms_edge.specs.Files.{Holding, Seen}
-use Rattle.ms_edge.specs.declared.at.At.{At}
+use Rattle.ms_list.specs.declared.at.At.{At}
 use Rattle.ms_text.specs.declared.token.Token.{Token}
 use Rattle.ms_text.specs.TokenList.{Lexed, IsTokenList, place_behind}
 use Rattle.ms_text.proofs.Starts.{spelled_nonempty}
 use Rattle.ms_logic.specs.declared.source.Item.{Item}
 use Rattle.ms_logic.specs.declared.source.Loaded.{Loaded}
 use Rattle.ms_logic.specs.declared.source.Source.{Source}
-use Rattle.ms_grammar.specs.Size.{size_of_declarations, size_of_items}
-use Rattle.ms_grammar.specs.Symbol.{placed_symbol}
-use Rattle.ms_grammar.specs.Tree.{Declared}
-use Rattle.ms_grammar.specs.View.{declared_of, document_of}
-use Rattle.ms_grammar.proofs.Sizes.{document_fits}
+use Rattle.ms_parse_grammar.specs.Size.{size_of_declarations, size_of_items}
+use Rattle.ms_parse_grammar.specs.Symbol.{placed_symbol}
+use Rattle.ms_parse_grammar.specs.Tree.{Declared}
+use Rattle.ms_parse_grammar.specs.View.{declared_of, document_of}
+use Rattle.ms_parse_grammar.proofs.Sizes.{document_fits}
 use Rattle.ms_include.specs.declared.begun.Begun.{Begun}
 use Rattle.ms_include.specs.File.{IsSource, ReadAs, source_limit}
 use Rattle.ms_include.specs.Include.{Loading, Becomes, AllBecome, Loads, and_next, include_of, greatest_depth, most_files}

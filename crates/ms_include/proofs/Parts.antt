@@ -1,7 +1,7 @@
 -- Calls as parts of a request.
 use Rattle.std.proofs.Common.{refl, ◌∙◌, arith}
 use Rattle.ms_edge.specs.Files.{FilesTold, NoCountFell, OnlyRead, Seen, between}
-use Rattle.ms_include.specs.Seen.{IsPart}
+use Rattle.ms_include.specs.inner.Seen.{IsPart}
 
 pub same-counts : (told : FilesTold) → NoCountFell told told
 same-counts told = record { faults = omega arith; absences = omega arith; overlongs = omega arith }

@@ -2,14 +2,14 @@
 use Rattle.std.specs.Prelude.{◌≡◌, ℕ, ◌≤◌, ◌⊎◌, true, List, length, Option}
 use Rattle.ms_edge.specs.Counts.{Rose}
 use Rattle.ms_edge.specs.Files.{Holding, Holds, Lacks, HoldsMoreThan, Seen}
-use Rattle.ms_edge.specs.declared.at.At.{At}
+use Rattle.ms_list.specs.declared.at.At.{At}
 use Rattle.ms_edge.specs.declared.refusal.Refusal.{Refusal}
 use Rattle.ms_edge.specs.declared.refusal.Refusal.TheVariants.{FileMissing, FileSize, ReadFault}
 use Rattle.ms_text.specs.declared.token.Token.{Token}
 use Rattle.ms_text.specs.Fault.{IsCause}
 use Rattle.ms_text.specs.TokenList.{IsTokenList}
 use Rattle.ms_logic.specs.declared.source.Source.{Source}
-use Rattle.ms_grammar.specs.Declarations.{ReadsAs}
+use Rattle.ms_parse_grammar.specs.Declarations.{ReadsAs}
 use Rattle.ms_parse.specs.Refused.{IsGrammarFault}
 
 -- the most bytes of a source file

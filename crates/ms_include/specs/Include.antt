@@ -1,7 +1,7 @@
 -- Includes put in place: what a list of declarations becomes once each include in it is replaced by the declarations of
 -- its file (MONA Version 1.4 User Manual, Klarlund and Møller 2001, on `include`), or where that ends.
 use Rattle.std.specs.Prelude.{◌≡◌, ℕ, zero, suc, ◌+◌, ◌<◌, ◌≤◌, Bool, true, false, ◌||◌, bytes_eq, ◌⊎◌, List, [], ◌∷◌, ◌++◌, length, map, Option, Some, None}
-use Rattle.ms_edge.specs.declared.at.At.{At}
+use Rattle.ms_list.specs.declared.at.At.{At}
 use Rattle.ms_edge.specs.declared.refusal.Refusal.{Refusal}
 use Rattle.ms_edge.specs.declared.refusal.Refusal.TheVariants.{NotHere, IncludeCycle, Includes}
 use Rattle.ms_logic.specs.declared.mode.Mode.{Mode}

@@ -1,5 +1,4 @@
-pub mod Examples
 pub mod File
 pub mod Include
 pub mod Load
-pub mod Seen
+pub mod inner

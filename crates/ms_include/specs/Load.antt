@@ -1,7 +1,7 @@
 -- A source of several files as one list of declarations, or why it is refused.
 use Rattle.std.specs.Prelude.{◌≡◌, ℕ, ◌⊎◌, List, [], ◌∷◌, Option, Some, None}
 use Rattle.ms_edge.specs.Files.{Seen}
-use Rattle.ms_edge.specs.declared.at.At.{At}
+use Rattle.ms_list.specs.declared.at.At.{At}
 use Rattle.ms_edge.specs.declared.refusal.Refusal.{Refusal}
 use Rattle.ms_edge.specs.declared.refusal.Refusal.TheVariants.{NotHere}
 use Rattle.ms_logic.specs.declared.mode.Mode.{Mode}

@@ -1,7 +1,7 @@
 ghost use Rattle.std.specs.Prelude.{◌≡◌, ◌≤◌, length, drop, IfOk};
 ghost use Rattle.ms_include.specs.Include.{is_among, names, numbers};
 
-use ms_edge::{List, NoMemory, Text};
+use ms_list::{List, NoMemory, Text};
 use std::alloc::Global;
 
 /// A file whose loading has begun and not ended: its number, and its name.

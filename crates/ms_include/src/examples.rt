@@ -1,6 +1,6 @@
 ghost use Rattle.std.specs.Prelude.{[], ◌∷◌, Some};
 ghost use Rattle.ms_edge.specs.declared.refusal.Refusal.TheVariants.{FileMissing, IncludeCycle, NotHere};
-ghost use Rattle.ms_include.specs.Examples.{a, b, c, d, at, mark, include, plain, headed, files_in, gives};
+ghost use Rattle.ms_include.specs.inner.Examples.{a, b, c, d, at, mark, include, plain, headed, files_in, gives};
 ghost use Rattle.ms_include.specs.Load.{IsLoaded, IsRefusedLoad};
 
 /// Sources of several files, and the declarations that they come to.

@@ -1,9 +1,10 @@
 ghost use Rattle.std.specs.Prelude.{◌≡◌, ◌≤◌, ◌⊎◌, ◌++◌, ◌∷◌, [], List, ℕ, length, IfOk, IfErr, OnOk, OnErr};
 ghost use Rattle.ms_edge.specs.Files.{OnlyRead, Seen, between};
 ghost use Rattle.ms_include.specs.File.{AreBytes, ReadAs, ReadAsNone, IsSource, IsNoSource, IsUnread, source_limit};
-ghost use Rattle.ms_include.specs.Seen.{IsPart};
+ghost use Rattle.ms_include.specs.inner.Seen.{IsPart};
 
-use ms_edge::{At, Bytes, Files, List, ReadAnswer, Refusal, Text};
+use ms_edge::{Files, ReadAnswer, Refusal};
+use ms_list::{At, Bytes, List, Text};
 use ms_logic::Source;
 use ms_text::tokens;
 use std::alloc::Global;

@@ -4,11 +4,12 @@ ghost use Rattle.ms_edge.specs.Files.{OnlyRead, Seen, between};
 ghost use Rattle.ms_edge.specs.declared.refusal.Refusal.TheVariants.{IncludeCycle, NotHere};
 ghost use Rattle.ms_include.specs.Include.{numbers, Becomes, AllBecome, Loads, Stops, OneStops, IsRefused, include_of, is_among, names};
 ghost use Rattle.ms_include.specs.Load.{files_of};
-ghost use Rattle.ms_include.specs.Seen.{IsPart};
+ghost use Rattle.ms_include.specs.inner.Seen.{IsPart};
 
 use crate::begun::{Begun, is_in_chain, is_read, numbers};
 use crate::file::open;
-use ms_edge::{At, Files, List, Refusal, Text};
+use ms_edge::{Files, Refusal};
+use ms_list::{At, List, Text};
 use ms_logic::{Decl, Item};
 use std::alloc::Global;
 

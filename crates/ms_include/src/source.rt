@@ -1,11 +1,12 @@
 ghost use Rattle.std.specs.Prelude.{◌≡◌, ◌≤◌, ◌⊎◌, ◌++◌, List, ℕ, length, drop, IfOk, IfErr};
 ghost use Rattle.ms_edge.specs.Files.{OnlyRead, between};
-ghost use Rattle.ms_grammar.specs.Size.{size_of_items};
+ghost use Rattle.ms_parse_grammar.specs.Size.{size_of_items};
 ghost use Rattle.ms_include.specs.Load.{mode_of, files_of, IsLoaded, IsRefusedLoad};
 
 use crate::file::{note, open};
 use crate::loader::{GREATEST_DEPTH, Loader};
-use ms_edge::{At, Files, List, Refusal, Text};
+use ms_edge::{Files, Refusal};
+use ms_list::{At, List, Text};
 use ms_logic::{Loaded, Mode, Source};
 use std::alloc::Global;
 

@@ -1,12 +1,13 @@
 ghost use Rattle.std.specs.Prelude.{◌≡◌, ◌≤◌, ◌⊎◌, List, ℕ, length, None, IfOk, IfErr};
-ghost use Rattle.ms_grammar.specs.Size.{size_of_items};
+ghost use Rattle.ms_parse_grammar.specs.Size.{size_of_items};
 ghost use Rattle.ms_include.specs.File.{source_limit};
 ghost use Rattle.ms_include.specs.Include.{include_of};
 ghost use Rattle.ms_include.specs.Load.{place_or, first_include, IsLoadedText, IsRefusedText};
 
 use crate::file::parse;
 use crate::source::mode;
-use ms_edge::{At, Bytes, List, Refusal, Text};
+use ms_edge::Refusal;
+use ms_list::{At, Bytes, List, Text};
 use ms_logic::{Decl, Item, Loaded, Source};
 use std::alloc::Global;
 

@@ -5,7 +5,7 @@ use Rattle.std.proofs.lemmas.Bool.Decides.{nat_tests}
 use Rattle.std.proofs.lemmas.List.Folds.{list_any-append}
 use Rattle.std.proofs.lemmas.Bool.{eqb-true}
 use Rattle.ms_logic.specs.Assignment.{AllWithin}
-use Rattle.ms_logic.specs.Word.{bound_of_set}
+use Rattle.ms_logic.specs.Letters.{bound_of_set}
 use Rattle.ms_logic.specs.FiniteSet.{is_member, IsMember, with_member, set_of, union_of, IsRising, IsBelowFirst, moved_up, moved_down}
 
 -- a further member is the only new one

@@ -14,7 +14,7 @@ use Rattle.ms_logic.specs.Assignment.{Universe, Env, Variable, AllWithin, IsWith
 use Rattle.ms_logic.specs.FiniteSet.{is_member, IsMember, IsRising, numbers_below}
 use Rattle.ms_logic.specs.First.{length_by, length_of, bits_of, IsLower}
 use Rattle.ms_logic.specs.OrderLaws.{IsValueBelow, ValuesAreBelow, GiveSameValues, BoundIsLeast, BeforeIsIrreflexive, BeforeIsTransitive, BeforeIsTotal}
-use Rattle.ms_logic.specs.Word.{with_truth_value, truth_values_of, with_bit, letter_at, bound_of_set, bound_at, bound_of}
+use Rattle.ms_logic.specs.Letters.{with_truth_value, truth_values_of, with_bit, letter_at, bound_of_set, bound_at, bound_of}
 use Rattle.ms_logic.proofs.BitOrder.{lower_irreflexive, lower_transitive, lower_total, append_parts, length-flat_map_same, flat_map_parts}
 use Rattle.ms_logic.proofs.SetLaws.{sets_are_their_members}
 

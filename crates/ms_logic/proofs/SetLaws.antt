@@ -7,7 +7,7 @@ use Rattle.std.proofs.lemmas.Bool.Decides.{nat_tests}
 use Rattle.std.proofs.Math.Nat.{div-eq_of_lt, pow-suc}
 use Rattle.ms_logic.specs.Assignment.{Universe, is_within, IsWithin}
 use Rattle.ms_logic.specs.FiniteSet.{is_member, IsMember, greatest, IsRising, numbers_below, moved_up}
-use Rattle.ms_logic.specs.SetLaws.{SetsAreTheirMembers, SubsetLaw, ListedSet, UnionLaw, IntersectionLaw, DifferenceLaw, MovedUpLaw, MovedDownLaw, NumbersBelowLaw, OneBitsLaw, PartWithinLaw, LeastLaw, GreatestLaw}
+use Rattle.ms_logic.specs.inner.SetLaws.{SetsAreTheirMembers, SubsetLaw, ListedSet, UnionLaw, IntersectionLaw, DifferenceLaw, MovedUpLaw, MovedDownLaw, NumbersBelowLaw, OneBitsLaw, PartWithinLaw, LeastLaw, GreatestLaw}
 use Rattle.ms_logic.proofs.Members.{is_member-set_of, is_member-union_of, is_member-filter, is_member-moved_up, is_member-moved_up_below, is_member-moved_down, is_member-range, IsRising-set_of, IsRising-filter, IsRising-moved_up, IsRising-moved_down, IsRising-range, below_first-below, both_true, either_true, along}
 
 pub listed_set : ListedSet

@@ -5,7 +5,7 @@ use Rattle.ms_logic.specs.declared.assignment.Assignment.{Assignment}
 use Rattle.ms_logic.specs.declared.mode.Mode.{Mode}
 use Rattle.ms_logic.specs.Assignment.{Universe, Env, Variable, value_at, IsAssignment}
 use Rattle.ms_logic.specs.FiniteSet.{numbers_below}
-use Rattle.ms_logic.specs.Word.{truth_values_of, letter_at, bound_of}
+use Rattle.ms_logic.specs.Letters.{truth_values_of, letter_at, bound_of}
 
 -- the length of the string, and in WS1S the bound
 abbrev pub length_by : Universe → ℕ → ℕ

@@ -5,7 +5,7 @@ use Rattle.ms_logic.specs.declared.mode.Order.{Order}
 use Rattle.ms_logic.specs.declared.mode.Order.TheVariants.{Zero, One, Two}
 use Rattle.ms_logic.specs.Assignment.{Env, Variable, AllWithin, value_at, IsAssignment}
 use Rattle.ms_logic.specs.First.{IsBefore}
-use Rattle.ms_logic.specs.Word.{bound_of}
+use Rattle.ms_logic.specs.Letters.{bound_of}
 
 -- a number, or each member of a set, is below n
 abbrev pub IsValueBelow : ℕ → Order → ℕ → Env → Type 0

@@ -1,4 +1,4 @@
-use ms_edge::List;
+use ms_list::List;
 
 /// The value of a variable, by its order.
 #[derive(Drop)]

@@ -1,6 +1,6 @@
 use crate::formula::Formula;
 use crate::mode::{Mode, Order};
-use ms_edge::{At, List, Name, Text};
+use ms_list::{At, List, Name, Text};
 
 /// A parameter with its restriction.
 #[derive(Drop)]

@@ -1,6 +1,6 @@
 use crate::mode::{Order, Quant, Rel};
 use crate::term::{Term1, Term2};
-use ms_edge::{Boxed, List};
+use ms_list::{Boxed, List};
 
 /// What a parameter or a `let` name is bound to.
 #[cycle(formulas)]

@@ -1,11 +1,9 @@
 //! Laws of the definitions. Each function has an empty body, and its contract states its laws.
 
 ghost use Rattle.ms_logic.specs.FreeVariables.{ValueDependsOnFreeVariables};
-ghost use Rattle.ms_logic.specs.Laws.{YesExcludesNo, DoubleNegation, ExIsDual, AllIsDual};
+ghost use Rattle.ms_logic.specs.inner.Laws.{YesExcludesNo, DoubleNegation, ExIsDual, AllIsDual};
 ghost use Rattle.ms_logic.specs.OrderLaws.{BoundIsLeast, BeforeIsIrreflexive, BeforeIsTransitive, BeforeIsTotal};
-ghost use Rattle.ms_logic.specs.SetLaws.{SetsAreTheirMembers, SubsetLaw, ListedSet, UnionLaw, IntersectionLaw, DifferenceLaw, MovedUpLaw, MovedDownLaw, NumbersBelowLaw, OneBitsLaw, PartWithinLaw, LeastLaw, GreatestLaw};
-ghost use Rattle.ms_logic.specs.WordLaws.{EncodingIsOver, LengthIsLeast, WordIsUnique, ZeroLetterKeeps};
-ghost use Rattle.ms_logic.specs.WordSign.{EncodingExists, EncodingIsUnique};
+ghost use Rattle.ms_logic.specs.inner.SetLaws.{SetsAreTheirMembers, SubsetLaw, ListedSet, UnionLaw, IntersectionLaw, DifferenceLaw, MovedUpLaw, MovedDownLaw, NumbersBelowLaw, OneBitsLaw, PartWithinLaw, LeastLaw, GreatestLaw};
 
 /// Yes and No exclude each other, and negation exchanges them.
 pub fn laws_of_truth()
@@ -39,15 +37,4 @@ pub fn laws_of_order()
     ensures irreflexive { BeforeIsIrreflexive }
     ensures transitive { BeforeIsTransitive }
     ensures total { BeforeIsTotal }
-{}
-
-/// A word encodes one assignment at most, and each assignment is encoded, by exactly one word of its own length and by
-/// none that is shorter. In WS1S a zero letter at the end changes nothing.
-pub fn laws_of_words()
-    ensures encoding_exists { EncodingExists }
-    ensures encoding_is_unique { EncodingIsUnique }
-    ensures encoding_is_over { EncodingIsOver }
-    ensures length_is_least { LengthIsLeast }
-    ensures word_is_unique { WordIsUnique }
-    ensures zero_letter_keeps { ZeroLetterKeeps }
 {}

@@ -1,5 +1,5 @@
 use crate::mode::{Mode, Order, Quant, Rel};
-use ms_edge::{At, Boxed, List, Name, Text};
+use ms_list::{At, Boxed, List, Name, Text};
 
 /// A number or the name of a constant.
 #[derive(Drop)]

@@ -1,4 +1,4 @@
-use ms_edge::{Boxed, List};
+use ms_list::{Boxed, List};
 
 /// A term that stands for a number. Variables go by their numbers.
 #[cycle(terms)]

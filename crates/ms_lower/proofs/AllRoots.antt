@@ -4,9 +4,9 @@ use Rattle.std.proofs.lemmas.List.{map-append}
 use Rattle.ms_logic.specs.declared.checked.ExportUse.{ExportUse}
 use Rattle.ms_logic.specs.declared.checked.Global.{Global}
 use Rattle.ms_logic.specs.declared.checked.Placed.{Placed}
-use Rattle.ms_logic.specs.declared.core_formula.Root as code
+use Rattle.ms_logic_core.specs.declared.core_formula.Root as code
 use Rattle.ms_logic.specs.Assignment.{Variable}
-use Rattle.ms_logic.specs.Roots.{Root}
+use Rattle.ms_logic_core.specs.Roots.{Root}
 use Rattle.ms_logic.specs.View.{formula_of, forms}
 use Rattle.ms_lower.specs.declared.scope.Named.{Named}
 use Rattle.ms_lower.specs.declared.tables.Tables.{Tables}

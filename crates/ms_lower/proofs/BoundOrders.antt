@@ -2,15 +2,15 @@
 use Rattle.std.proofs.Common.{◌≡◌, ℕ, ◌-◌, ◌%◌, ◌<◌, ◌≤◌, min, List, [], ◌∷◌, length, ap, ◌∙◌, arith}
 use Rattle.ms_logic.specs.declared.mode.Order.{Order}
 use Rattle.ms_logic.specs.Assignment.{Variable}
-use Rattle.ms_logic.specs.CoreForm.{CoreForm, truth, falsity, basic, negation, conjunction, disjunction, implication, equivalence, restrict, imported, quantified, CoreForms, no_forms, more_forms, CoreRestriction, unrestricted, restricted}
-use Rattle.ms_logic.specs.Roots.{Root, first_free}
+use Rattle.ms_logic_core.specs.CoreForm.{CoreForm, truth, falsity, basic, negation, conjunction, disjunction, implication, equivalence, restrict, imported, quantified, CoreForms, no_forms, more_forms, CoreRestriction, unrestricted, restricted}
+use Rattle.ms_logic_core.specs.Roots.{Root, first_free}
 use Rattle.ms_logic.specs.Truth.{Import}
-use Rattle.ms_rules.specs.Numbers.{Each}
-use Rattle.ms_core.specs.Orders.{order_at, order_of_rank, order_or}
-use Rattle.ms_core.specs.Stands.{EachStands, RestrictionStands, Stands}
+use Rattle.ms_logic.specs.Lists.{Each}
+use Rattle.ms_logic_core.specs.Orders.{order_at, order_of_rank, order_or}
+use Rattle.ms_logic_core.specs.Stands.{EachStands, RestrictionStands, Stands}
 use Rattle.ms_lower.specs.NumberLaws.{numbering_in}
 use Rattle.ms_lower.specs.Numbering.{Numbering, number_at, renumbered, renumbered_each, renumbered_in}
-use Rattle.ms_lower.specs.Orders.{BoundHaveOrders, EachHasOrders, RestrictionHasOrders}
+use Rattle.ms_lower.specs.inner.Orders.{BoundHaveOrders, EachHasOrders, RestrictionHasOrders}
 use Rattle.ms_lower.proofs.Callees.{get-beyond}
 use Rattle.ms_lower.proofs.KeptScopes.{have_orders}
 

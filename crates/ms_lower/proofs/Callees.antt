@@ -12,10 +12,10 @@ use Rattle.ms_logic.specs.View.{declaration_of, predicate_of}
 use Rattle.ms_logic.specs.declared.mode.Order.{Order}
 use Rattle.ms_logic.specs.declared.mode.Order.TheVariants.{Zero}
 use Rattle.ms_logic.specs.Assignment.{Variable}
-use Rattle.ms_logic.specs.CoreForm.{imported}
-use Rattle.ms_logic.specs.Spread.{Callees, Names, default_names, spread_under}
+use Rattle.ms_logic_core.specs.CoreForm.{imported}
+use Rattle.ms_logic_core.specs.Spread.{Callees, Names, default_names, spread_under}
 use Rattle.ms_logic.specs.Tree.{Declaration, Predicate}
-use Rattle.ms_core.specs.Calls.{calling_with, calling_with_all}
+use Rattle.ms_logic_core.specs.Calls.{calling_with, calling_with_all}
 use Rattle.ms_lower.specs.declared.tables.Tables.{Tables}
 use Rattle.ms_lower.specs.Bodies.{callees_before}
 use Rattle.ms_lower.specs.Callees.{callable, callees_in, callees_of_uses}
@@ -156,7 +156,7 @@ callee_nowhere tables p is =
     let same = length-map (callable tables) predicate_of in
     beyond_count (length tables.imports.now) (callees_of_uses tables.imports.now) 0 (map predicate_of (callable tables)) p (omega arith)
 
-take_twice : {A : Type 0} (xs : List A) (m n : ℕ) → take (min m n) xs ≡ take n (take m xs)
+pub take_twice : {A : Type 0} (xs : List A) (m n : ℕ) → take (min m n) xs ≡ take n (take m xs)
 take_twice xs zero n = let none : min zero n ≡ 0 = omega arith in ap (λ k. take k xs) none ∙ take_none n
   where
     take_none : {A : Type 0} (n : ℕ) → [] ≡ take n (let xs : List A = [] in xs)

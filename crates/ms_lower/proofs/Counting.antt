@@ -1,7 +1,7 @@
 -- Counts of parts that are put together.
 use Rattle.std.proofs.Common.{◌≡◌, ℕ, suc, ◌≤◌, ◌<◌, ◌^◌, max, min, cond, List, [], ◌∷◌, ◌++◌, Option, Some, None, inl, inr, refl, sym, ap, ◌∙◌, arith}
 use Rattle.std.proofs.lemmas.Bool.{le-leb, lt-leb, cases_lt}
-use Rattle.ms_logic.specs.Size.{Extent, total_size, greatest_depth, above}
+use Rattle.ms_logic_core.specs.Size.{Extent, total_size, greatest_depth, above}
 use Rattle.ms_lower.specs.declared.counted.Counted.{Counted}
 use Rattle.ms_lower.specs.Counted.{counted, above_count, both_counts, too_large}
 

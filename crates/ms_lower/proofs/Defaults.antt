@@ -1,11 +1,11 @@
 -- The names inside a default restriction, and lists of variables that are entered.
 use Rattle.std.proofs.Common.{◌≡◌, ℕ, suc, ◌+◌, ◌-◌, ◌<◌, ◌≤◌, List, [], ◌∷◌, ◌++◌, length, map, take, drop, drop-cons, get_or, refl, sym, ap, ◌∙◌, arith}
 use Rattle.ms_logic.specs.declared.checked.Param.{Param}
-use Rattle.ms_logic.specs.Spread.{Names, default_names, named}
+use Rattle.ms_logic_core.specs.Spread.{Names, default_names, named}
 use Rattle.ms_logic.specs.Tree.{Declaration}
 use Rattle.ms_logic.specs.View.{declaration_of}
 use Rattle.ms_lower.specs.declared.scope.Named.{Named}
-use Rattle.ms_lower.specs.Scope.{all_named, default_over, names_in}
+use Rattle.ms_lower.specs.inner.Scope.{all_named, default_over, names_in}
 use Rattle.ms_lower.proofs.Parts.{map-more}
 use Rattle.ms_lower.proofs.Scopes.{names_in-append}
 

@@ -1,8 +1,8 @@
 -- The variable that the set of some elements is.
 use Rattle.std.proofs.Common.{◌≡◌, ℕ, zero, suc, ◌+◌, ◌/◌, ◌≤◌, List, [], ◌∷◌, length, map, take, drop, refl, sym, ap, subst, ◌∙◌, arith}
 use Rattle.std.proofs.lemmas.List.{length-take, length-drop, length-map, take-map, drop-map}
-use Rattle.ms_logic.specs.declared.core_formula.Core.{Core}
-use Rattle.ms_logic.specs.declared.core_formula.Basic.TheVariants.{Union}
+use Rattle.ms_logic_core.specs.declared.core_formula.Core.{Core}
+use Rattle.ms_logic_core.specs.declared.core_formula.Basic.TheVariants.{Union}
 use Rattle.ms_logic.specs.declared.mode.Order.{Order}
 use Rattle.ms_logic.specs.declared.mode.Order.TheVariants.{Two}
 use Rattle.ms_logic.specs.declared.mode.Quant.TheVariants.{Ex}
@@ -11,11 +11,11 @@ use Rattle.ms_logic.specs.declared.term.Term2.{Term2}
 use Rattle.ms_logic.specs.declared.term.Term2.TheVariants.{Literal}
 use Rattle.ms_logic.specs.Tree.{literal}
 use Rattle.ms_logic.proofs.Views.{set_term_of-Literal}
-use Rattle.ms_logic.specs.CoreForm.{core_form_of, basic, quantified, restricted}
-use Rattle.ms_logic.specs.Spread.{Names, Saying, TermSpread, first_half, second_half, new_variable, set_of_elements, spread_elements, spread_number, spread_set}
+use Rattle.ms_logic_core.specs.CoreForm.{core_form_of, basic, quantified, restricted}
+use Rattle.ms_logic_core.specs.Spread.{Names, Saying, TermSpread, first_half, second_half, new_variable, set_of_elements, spread_elements, spread_number, spread_set}
 use Rattle.ms_logic.specs.View.{set_term_of, term_of, terms}
 use Rattle.ms_lower.specs.declared.defined.Defined.{Defined}
-use Rattle.ms_lower.specs.Defined.{IsDefined, below, new_definition}
+use Rattle.ms_lower.specs.inner.Defined.{IsDefined, below, new_definition}
 use Rattle.ms_lower.specs.Numbering.{Numbering, renumbered}
 
 -- a new variable with its restriction

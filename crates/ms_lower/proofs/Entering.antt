@@ -5,14 +5,14 @@ use Rattle.std.proofs.lemmas.Option.{none-some, same_Some}
 use Rattle.std.specs.Option.{option_map}
 use Rattle.ms_logic.specs.declared.mode.Order.{Order}
 use Rattle.ms_logic.specs.declared.mode.Order.TheVariants.{Zero, One, Two}
-use Rattle.ms_logic.specs.Spread.{Callees, Names, TermSpread, after_first, first_named, numbers_and_sets, spread_number, spread_set, spread_under, truth_value, truth_values, variable_of_form}
+use Rattle.ms_logic_core.specs.Spread.{Callees, Names, TermSpread, after_first, first_named, numbers_and_sets, spread_number, spread_set, spread_under, truth_value, truth_values, variable_of_form}
 use Rattle.ms_logic.specs.Tree.{Term, SetTerm, Argument, Arguments, more_arguments, truth_argument, number_argument, set_argument}
 use Rattle.ms_logic.specs.View.{arguments}
 use Rattle.ms_lower.specs.declared.defined.Defined.{Defined}
 use Rattle.ms_lower.specs.declared.given.Entered.{Entered}
 use Rattle.ms_lower.specs.declared.given.Given.{Given}
-use Rattle.ms_lower.specs.Defined.{IsDefined}
-use Rattle.ms_lower.specs.Given.{Giving, IsGiven, IsNumberOrSet, IsTruth, EntersBefore, all_entered, below_all, below_given_at, entered_at, entered_with}
+use Rattle.ms_lower.specs.inner.Defined.{IsDefined}
+use Rattle.ms_lower.specs.inner.Given.{Giving, IsGiven, IsNumberOrSet, IsTruth, EntersBefore, all_entered, below_all, below_given_at, entered_at, entered_with}
 use Rattle.ms_lower.specs.Numbering.{Numbering, renumbered}
 use Rattle.ms_lower.proofs.ValueLists.{all_entered-append, below_all-append}
 

@@ -3,12 +3,12 @@ use Rattle.std.proofs.Common.{◌≡◌, ℕ, zero, suc, ◌+◌, ◌<◌, ◌�
 use Rattle.std.proofs.lemmas.Bool.{eq-eqb, ne_eqb, cases_eq}
 use Rattle.std.proofs.lemmas.List.{take_more, map-append, length-append, length-map, length-take-le}
 use Rattle.ms_logic.specs.declared.checked.Predicate as code
-use Rattle.ms_logic.specs.Size.{Extent, Extents, extents_of, extents_of_restrictions, extent_under, extents_with, extents_with_all, no_extents}
+use Rattle.ms_logic_core.specs.Size.{Extent, Extents, extents_of, extents_of_restrictions, extent_under, extents_with, extents_with_all, no_extents}
 use Rattle.ms_logic.specs.Tree.{Predicate}
 use Rattle.ms_logic.specs.View.{predicate_of}
 use Rattle.ms_lower.specs.declared.called.Called.{Called}
 use Rattle.ms_lower.specs.Counted.{counted, deepest}
-use Rattle.ms_lower.specs.Extents.{HasEntries, called_by}
+use Rattle.ms_lower.specs.inner.Extents.{HasEntries, called_by}
 use Rattle.ms_lower.proofs.Positive.{form_positive}
 
 get-front : {A : Type 0} (xs : List A) (x : A) (i : ℕ) → i < length xs → slice_get (xs ++ x ∷ []) i ≡ slice_get xs i
@@ -28,10 +28,10 @@ called_new x n p predicate same = ap (λ b. cond b (extents_of_restrictions x pr
 called_old : (x : Extents) (n p : ℕ) (predicate : Predicate) → (p ≡ n → ⊥) → (extents_with x n predicate).called p ≡ x.called p
 called_old x n p predicate other = ap (λ b. cond b (extents_of_restrictions x predicate.parameters ++ extent_under x predicate.body ∷ []) (x.called p)) (ne_eqb p n other)
 
-default_new : (x : Extents) (n p : ℕ) (predicate : Predicate) → p ≡ n → (extents_with x n predicate).default p ≡ extent_under x predicate.body
+pub default_new : (x : Extents) (n p : ℕ) (predicate : Predicate) → p ≡ n → (extents_with x n predicate).default p ≡ extent_under x predicate.body
 default_new x n p predicate same = ap (λ b. cond b (extent_under x predicate.body) (x.default p)) (eq-eqb p n same)
 
-default_old : (x : Extents) (n p : ℕ) (predicate : Predicate) → (p ≡ n → ⊥) → (extents_with x n predicate).default p ≡ x.default p
+pub default_old : (x : Extents) (n p : ℕ) (predicate : Predicate) → (p ≡ n → ⊥) → (extents_with x n predicate).default p ≡ x.default p
 default_old x n p predicate other = ap (λ b. cond b (extent_under x predicate.body) (x.default p)) (ne_eqb p n other)
 
 made : List Extent → Extent → Called

@@ -4,21 +4,21 @@ use Rattle.std.proofs.lemmas.Bool.{cases_eq, eq-eqb, ne_eqb}
 use Rattle.std.proofs.lemmas.List.{length-map}
 use Rattle.std.proofs.lemmas.Option.{none-some, same_Some}
 use Rattle.std.specs.Option.{option_map}
-use Rattle.ms_logic.specs.declared.core_formula.Basic.TheVariants as Basic
+use Rattle.ms_logic_core.specs.declared.core_formula.Basic.TheVariants as Basic
 use Rattle.ms_logic.specs.declared.mode.Order.{Order}
 use Rattle.ms_logic.specs.declared.mode.Order.TheVariants.{Zero, One, Two}
 use Rattle.ms_logic.specs.declared.mode.Rel.{Rel}
 use Rattle.ms_logic.specs.declared.mode.Rel.TheVariants.{Equal, Differs, Less, AtMost, Greater, AtLeast, Member, NotMember, Sub}
 use Rattle.ms_logic.specs.Assignment.{Variable}
-use Rattle.ms_logic.specs.CoreForm.{CoreForm, basic, core_forms}
+use Rattle.ms_logic_core.specs.CoreForm.{CoreForm, basic, core_forms}
 use Rattle.ms_logic.specs.FreeVariables.{FreeUnder, FreeInForms, FreeInRestriction, FreeInArguments, IsBound, IsListed, IsVariable, Reads, orders_of}
-use Rattle.ms_logic.specs.Spread.{Callees, Names, conjunction_of, is_order, named, numbers_and_sets, numbers_relate, sets_relate, is_member_or_not, spread_each, spread_number, spread_restriction, spread_set, spread_under, truth_value, truth_values, variable_of_form, variables_of_import}
-use Rattle.ms_logic.specs.Steps.{variables_at}
+use Rattle.ms_logic_core.specs.Spread.{Callees, Names, conjunction_of, is_order, named, numbers_and_sets, numbers_relate, sets_relate, is_member_or_not, spread_each, spread_number, spread_restriction, spread_set, spread_under, truth_value, truth_values, variable_of_form, variables_of_import}
+use Rattle.ms_logic_core.specs.Operands.{variables_at}
 use Rattle.ms_logic.specs.Tree.{Form, truth, falsity, truth_variable, negation, conjunction, disjunction, implication, equivalence, comparison, set_comparison, membership, emptiness, quantified, where_let, call, restrict, imported, exported, default_at, Forms, no_forms, more_forms, Restriction, unrestricted, restricted, truth_argument, number_argument, set_argument, Arguments, no_arguments, more_arguments}
 use Rattle.ms_logic.specs.Truth.{Import}
-use Rattle.ms_rules.specs.Numbers.{Among, Each}
-use Rattle.ms_lower.specs.Given.{Inner}
-use Rattle.ms_core.specs.Stands.{EachStands, RestrictionStands, Stands}
+use Rattle.ms_logic.specs.Lists.{Among, Each}
+use Rattle.ms_lower.specs.inner.Given.{Inner}
+use Rattle.ms_logic_core.specs.Stands.{EachStands, RestrictionStands, Stands}
 use Rattle.ms_lower.proofs.TermScopes.{Below, Covers, SaysWell, Wider, at, below_new, number_well, set_well, variable}
 
 order_is : (o p : Order) → is_order o p ≡ true → o ≡ p

@@ -5,16 +5,16 @@ use Rattle.std.specs.List.{zip}
 use Rattle.ms_logic.specs.declared.mode.Order.{Order}
 use Rattle.ms_logic.specs.declared.mode.Order.TheVariants.{Zero, One, Two}
 use Rattle.ms_logic.specs.Assignment.{Variable}
-use Rattle.ms_logic.specs.CoreForm.{CoreForm, truth, falsity, basic, negation, conjunction, disjunction, implication, equivalence, restrict, imported, quantified, CoreForms, no_forms, more_forms, CoreRestriction, unrestricted, restricted}
-use Rattle.ms_logic.specs.Roots.{Root, first_free}
-use Rattle.ms_logic.specs.Spread.{variables_of_import}
-use Rattle.ms_logic.specs.Steps.{variables_at, variables_of_basic}
+use Rattle.ms_logic_core.specs.CoreForm.{CoreForm, truth, falsity, basic, negation, conjunction, disjunction, implication, equivalence, restrict, imported, quantified, CoreForms, no_forms, more_forms, CoreRestriction, unrestricted, restricted}
+use Rattle.ms_logic_core.specs.Roots.{Root, first_free}
+use Rattle.ms_logic_core.specs.Spread.{variables_of_import}
+use Rattle.ms_logic_core.specs.Operands.{variables_at, variables_of_basic}
 use Rattle.ms_logic.specs.Truth.{Import}
-use Rattle.ms_rules.specs.Numbers.{Among, Each}
+use Rattle.ms_logic.specs.Lists.{Among, Each}
 use Rattle.ms_lower.specs.NumberLaws.{numbering_in}
 use Rattle.ms_lower.specs.Numbering.{Numbering, number_at, rank, renumbered, renumbered_each, renumbered_in, renumbered_variable, with_new_numbers}
-use Rattle.ms_core.specs.Orders.{order_of_rank}
-use Rattle.ms_core.specs.Stands.{EachStands, RestrictionStands, Stands}
+use Rattle.ms_logic_core.specs.Orders.{order_of_rank}
+use Rattle.ms_logic_core.specs.Stands.{EachStands, RestrictionStands, Stands}
 use Rattle.ms_lower.proofs.SameNumbers.{Rises, basic_variables, import_length, import_variables, numbers_rise}
 
 among_renumbered : (n : Numbering) (scope : List Variable) (v : Variable) → Among scope v → Among (map (renumbered_variable n) scope) (renumbered_variable n v)

@@ -8,6 +8,7 @@ pub mod Entering
 pub mod Entries
 pub mod FormScopes
 pub mod KeptScopes
+pub mod Left
 pub mod Lowering
 pub mod MainRoot
 pub mod Measures

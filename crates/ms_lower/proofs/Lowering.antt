@@ -2,10 +2,9 @@
 use Rattle.std.proofs.Common.{◌≡◌, ℕ, ◌+◌, List, [], ◌∷◌, ◌++◌, map, Option, Some, refl, sym, ap, subst, ◌∙◌}
 use Rattle.std.proofs.lemmas.List.{map-append}
 use Rattle.std.specs.Option.{option_map}
-use Rattle.ms_logic.specs.declared.core_formula.Core.{Core}
+use Rattle.ms_logic_core.specs.declared.core_formula.Core.{Core}
 use Rattle.ms_logic.specs.declared.formula.Arg.{Arg}
 use Rattle.ms_logic.specs.declared.formula.Arg.TheVariants as arg
-use Rattle.ms_logic.specs.declared.formula.Binding.{Binding}
 use Rattle.ms_logic.specs.declared.formula.Formula.{Formula}
 use Rattle.ms_logic.specs.declared.formula.Formula.TheVariants as form
 use Rattle.ms_logic.specs.declared.mode.Order.{Order}
@@ -15,20 +14,19 @@ use Rattle.ms_logic.specs.declared.mode.Rel.{Rel}
 use Rattle.ms_logic.specs.declared.mode.Rel.TheVariants.{Equal, Differs, Less, AtMost, Greater, AtLeast, Member, NotMember, Sub}
 use Rattle.ms_logic.specs.declared.term.Term1.{Term1}
 use Rattle.ms_logic.specs.declared.term.Term2.{Term2}
-use Rattle.ms_logic.specs.CoreForm as core
-use Rattle.ms_logic.specs.CoreForm.{CoreForm, CoreRestriction, core_form_of, core_forms, conjunction, disjunction, quantified}
-use Rattle.ms_logic.specs.Spread.{Callees, Names, TermSpread, conjunction_of, default_names, named, numbers_and_sets, numbers_relate, sets_relate, restrictions_of, spread_each, spread_number, spread_restriction, spread_set, spread_under, truth_value, truth_values, variable_of_form}
-use Rattle.ms_logic.specs.Tree.{Declaration, Form, Predicate}
-use Rattle.ms_logic.specs.View.{argument_of, arguments, binding_of, formula_of, forms, restriction, set_term_of, term_of}
-use Rattle.ms_logic.proofs.Views.{argument_of-Zero, formula_of-And, formula_of-Or, formula_of-Compare, formula_of-CompareSets, formula_of-Let, formula_of-Call}
+use Rattle.ms_logic_core.specs.CoreForm as core
+use Rattle.ms_logic_core.specs.CoreForm.{CoreForm, CoreRestriction, core_form_of, core_forms, conjunction, disjunction}
+use Rattle.ms_logic_core.specs.Spread.{Callees, Names, TermSpread, conjunction_of, default_names, named, numbers_relate, sets_relate, restrictions_of, spread_each, spread_number, spread_restriction, spread_set, spread_under, truth_value, variable_of_form}
+use Rattle.ms_logic.specs.Tree.{Declaration, Form, Predicate, comparison, quantified, set_comparison}
+use Rattle.ms_logic.specs.View.{argument_of, formula_of, forms, restriction, set_term_of, term_of}
+use Rattle.ms_logic.proofs.Views.{argument_of-Zero, formula_of-And, formula_of-Or}
 use Rattle.ms_lower.specs.declared.defined.Defined.{Defined}
 use Rattle.ms_lower.specs.declared.pairs.TermPair.{TermPair}
 use Rattle.ms_lower.specs.Callees.{disjunction_over}
-use Rattle.ms_lower.specs.Defined.{AreDefined, below}
-use Rattle.ms_lower.specs.Given.{IsGiven, IsTruth}
+use Rattle.ms_lower.specs.inner.Defined.{AreDefined, below}
+use Rattle.ms_lower.specs.inner.Given.{IsGiven, IsTruth}
 use Rattle.ms_lower.specs.Numbering.{Numbering, renumbered, renumbered_each, renumbered_in}
 use Rattle.ms_lower.proofs.Callees.{IsCallee}
-use Rattle.ms_lower.proofs.Trees.{formula_of-Bind}
 
 pub each_renumbered : (n : Numbering) (fs : List CoreForm) → renumbered_each n (core_forms fs) ≡ core_forms (map (renumbered n) fs)
 each_renumbered n [] = refl
@@ -84,48 +82,27 @@ module _ (n : Numbering) (c : Callees) (names : Names) (free : ℕ) (source : Fo
       ∙ (ap (λ l. renumbered n (disjunction_over (spread_each c (forms (map formula_of l)) names free))) same
       ∙ ap (λ f. renumbered n (spread_under c f names free)) (sym (ap formula_of is ∙ formula_of-Or fs))))
 
-  pub compare_lowered : (rel : Rel) (t u : Term1) (two : TermPair) → source ≡ form.Compare rel t u → AreDefined n One (spread_number (term_of t) names) One (spread_number (term_of u) names) free two →
-      below two.first (below two.second (numbers_relate rel two.first.number two.second.number)) ≡ renumbered n (spread_under c (formula_of source) names free)
-  compare_lowered rel t u two is are =
+module _ (n : Numbering) (c : Callees) (names : Names) (free : ℕ) where
+  pub compare_lowered : (rel : Rel) (t u : Term1) (two : TermPair) → AreDefined n One (spread_number (term_of t) names) One (spread_number (term_of u) names) free two →
+      below two.first (below two.second (numbers_relate rel two.first.number two.second.number)) ≡ renumbered n (spread_under c (comparison rel (term_of t) (term_of u)) names free)
+  compare_lowered rel t u two are =
       two_defined n One One (spread_number (term_of t) names) (spread_number (term_of u) names) free two (numbers_relate rel) (numbers_relate rel two.first.number two.second.number) are
       (ap (λ x. numbers_relate rel x two.second.number) are.first.number_is ∙ (ap (numbers_relate rel (n.number One two.first.name)) are.second.number_is ∙ sym (numbers_renumbered n rel two.first.name two.second.name)))
-      ∙ ap (λ f. renumbered n (spread_under c f names free)) (sym (ap formula_of is ∙ formula_of-Compare rel t u))
 
-  pub compare_sets_lowered : (rel : Rel) (s t : Term2) (two : TermPair) → source ≡ form.CompareSets rel s t → AreDefined n Two (spread_set (set_term_of s) names) Two (spread_set (set_term_of t) names) free two →
-      below two.first (below two.second (sets_relate rel two.first.number two.second.number)) ≡ renumbered n (spread_under c (formula_of source) names free)
-  compare_sets_lowered rel s t two is are =
+  pub compare_sets_lowered : (rel : Rel) (s t : Term2) (two : TermPair) → AreDefined n Two (spread_set (set_term_of s) names) Two (spread_set (set_term_of t) names) free two →
+      below two.first (below two.second (sets_relate rel two.first.number two.second.number)) ≡ renumbered n (spread_under c (set_comparison rel (set_term_of s) (set_term_of t)) names free)
+  compare_sets_lowered rel s t two are =
       two_defined n Two Two (spread_set (set_term_of s) names) (spread_set (set_term_of t) names) free two (sets_relate rel) (sets_relate rel two.first.number two.second.number) are
       (ap (λ x. sets_relate rel x two.second.number) are.first.number_is ∙ (ap (sets_relate rel (n.number Two two.first.name)) are.second.number_is ∙ sym (sets_renumbered n rel two.first.name two.second.name)))
-      ∙ ap (λ f. renumbered n (spread_under c f names free)) (sym (ap formula_of is ∙ formula_of-CompareSets rel s t))
 
-  pub bind_lowered : (q : Quant) (o : Order) (x : ℕ) (d : Option Formula) (f : Formula) (inner deeper : Names) (number : ℕ) (domain : CoreRestriction) (body : CoreForm) → source ≡ form.Bind q o x d f →
+  pub bind_lowered : (q : Quant) (o : Order) (x : ℕ) (d : Option Formula) (f : Formula) (inner deeper : Names) (number : ℕ) (domain : CoreRestriction) (body : CoreForm) →
       inner ≡ named o x free names → deeper ≡ inner → number ≡ n.number o free → domain ≡ renumbered_in n (spread_restriction c (restriction (option_map formula_of d)) inner (free + 1)) →
-      body ≡ renumbered n (spread_under c (formula_of f) deeper (free + 1)) → quantified q o number domain body ≡ renumbered n (spread_under c (formula_of source) names free)
-  bind_lowered q o x d f inner deeper number domain body is named_is same number_is domain_is body_is =
-      ap (λ k. quantified q o k domain body) number_is
-      ∙ (ap (λ e. quantified q o (n.number o free) e body) (domain_is ∙ ap (λ m. renumbered_in n (spread_restriction c (restriction (option_map formula_of d)) m (free + 1))) named_is)
-      ∙ (ap (quantified q o (n.number o free) (renumbered_in n (spread_restriction c (restriction (option_map formula_of d)) (named o x free names) (free + 1)))) (body_is ∙ ap (λ m. renumbered n (spread_under c (formula_of f) m (free + 1))) (same ∙ named_is))
-      ∙ ap (λ g. renumbered n (spread_under c g names free)) (sym (ap formula_of is ∙ formula_of-Bind q o x d f))))
-
-  pub let_lowered : (bindings all : List Binding) (f : Formula) (under : CoreForm → CoreForm) (inner : Names) (next : ℕ) (body : CoreForm) → source ≡ form.Let bindings f → all ≡ bindings →
-      renumbered n (numbers_and_sets (map (λ b. b.0) (map binding_of all)) (arguments (map (λ b. b.1) (map binding_of all))) names names free (λ inner free. truth_values c (map (λ b. b.0) (map binding_of all)) (arguments (map (λ b. b.1) (map binding_of all))) names inner free (λ inner free. spread_under c (formula_of f) inner free)))
-      ≡ under (renumbered n (spread_under c (formula_of f) inner next)) →
-      body ≡ renumbered n (spread_under c (formula_of f) inner next) → under body ≡ renumbered n (spread_under c (formula_of source) names free)
-  let_lowered bindings all f under inner next body is same entered body_is =
-      ap under body_is
-      ∙ (sym entered
-      ∙ (ap (λ bs. renumbered n (numbers_and_sets (map (λ b. b.0) (map binding_of bs)) (arguments (map (λ b. b.1) (map binding_of bs))) names names free (λ inner free. truth_values c (map (λ b. b.0) (map binding_of bs)) (arguments (map (λ b. b.1) (map binding_of bs))) names inner free (λ inner free. spread_under c (formula_of f) inner free)))) same
-      ∙ ap (λ g. renumbered n (spread_under c g names free)) (sym (ap formula_of is ∙ formula_of-Let bindings f))))
-
-  pub call_lowered : (p : ℕ) (xs : List ℕ) (given all : List Arg) (under : CoreForm → CoreForm) (inner : Names) (next : ℕ) (body : CoreForm) → source ≡ form.Call p given → xs ≡ c.parameters p → all ≡ given →
-      renumbered n (numbers_and_sets xs (arguments (map argument_of all)) names names free (λ inner free. truth_values c xs (arguments (map argument_of all)) names inner free (λ inner free. c.body p inner free))) ≡ under (renumbered n (c.body p inner next)) →
-      body ≡ renumbered n (c.body p inner next) → under body ≡ renumbered n (spread_under c (formula_of source) names free)
-  call_lowered p xs given all under inner next body is params same entered body_is =
-      ap under body_is
-      ∙ (sym entered
-      ∙ (ap (λ vs. renumbered n (numbers_and_sets xs (arguments (map argument_of vs)) names names free (λ inner free. truth_values c xs (arguments (map argument_of vs)) names inner free (λ inner free. c.body p inner free)))) same
-      ∙ (ap (λ ys. renumbered n (numbers_and_sets ys (arguments (map argument_of given)) names names free (λ inner free. truth_values c ys (arguments (map argument_of given)) names inner free (λ inner free. c.body p inner free)))) params
-      ∙ ap (λ g. renumbered n (spread_under c g names free)) (sym (ap formula_of is ∙ formula_of-Call p given)))))
+      body ≡ renumbered n (spread_under c (formula_of f) deeper (free + 1)) →
+      core.quantified q o number domain body ≡ renumbered n (spread_under c (quantified q o x (restriction (option_map formula_of d)) (formula_of f)) names free)
+  bind_lowered q o x d f inner deeper number domain body named_is same number_is domain_is body_is =
+      ap (λ k. core.quantified q o k domain body) number_is
+      ∙ (ap (λ e. core.quantified q o (n.number o free) e body) (domain_is ∙ ap (λ m. renumbered_in n (spread_restriction c (restriction (option_map formula_of d)) m (free + 1))) named_is)
+      ∙ ap (core.quantified q o (n.number o free) (renumbered_in n (spread_restriction c (restriction (option_map formula_of d)) (named o x free names) (free + 1)))) (body_is ∙ ap (λ m. renumbered n (spread_under c (formula_of f) m (free + 1))) (same ∙ named_is)))
 
 -- the restrictions and the body of a predicate
 pub body_lowered : (n m : Numbering) (own before : Callees) (ds : List Declaration) (f : Form) (names inner : Names) (free : ℕ) (cores made : List Core) (body : Core) → own ≡ before → m ≡ n → inner ≡ names →

@@ -7,14 +7,14 @@ use Rattle.std.specs.List.{range_with_len}
 use Rattle.std.specs.Option.{option_map}
 use Rattle.ms_logic.specs.declared.checked.Global.{Global}
 use Rattle.ms_logic.specs.declared.checked.Placed.{Placed}
-use Rattle.ms_logic.specs.declared.core_formula.Core.{Core}
-use Rattle.ms_logic.specs.declared.core_formula.Root as code
+use Rattle.ms_logic_core.specs.declared.core_formula.Core.{Core}
+use Rattle.ms_logic_core.specs.declared.core_formula.Root as code
 use Rattle.ms_logic.specs.declared.formula.Formula.{Formula}
 use Rattle.ms_logic.specs.declared.mode.Order.{Order}
 use Rattle.ms_logic.specs.Assignment.{Variable}
-use Rattle.ms_logic.specs.CoreForm.{core_form_of, restrict}
-use Rattle.ms_logic.specs.Roots.{first_free}
-use Rattle.ms_logic.specs.Spread.{Callees, Names, conjunction_of, own_names, restriction_before, restrictions_of, spread_each, spread_under}
+use Rattle.ms_logic_core.specs.CoreForm.{core_form_of, restrict}
+use Rattle.ms_logic_core.specs.Roots.{first_free}
+use Rattle.ms_logic_core.specs.Spread.{Callees, Names, conjunction_of, own_names, restriction_before, restrictions_of, spread_each, spread_under}
 use Rattle.ms_logic.specs.Tree.{Declaration}
 use Rattle.ms_logic.specs.View.{formula_of, forms, globals_from, restriction}
 use Rattle.ms_lower.specs.declared.tables.Tables.{Tables}

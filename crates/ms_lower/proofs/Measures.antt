@@ -1,14 +1,14 @@
 -- The parts of a source are those of the mathematical source.
 use Rattle.std.proofs.Common.{◌≡◌, ℕ, ◌+◌, ◌<◌, ◌≤◌, min, List, [], ◌∷◌, ◌++◌, suc, length, map, Some, Result, inl, inr, refl, sym, ap, subst, ◌∙◌, arith, append_assoc}
 use Rattle.std.proofs.lemmas.Bool.{cases_lt}
-use Rattle.ms_edge.specs.declared.at.At.{At}
+use Rattle.ms_list.specs.declared.at.At.{At}
 use Rattle.ms_edge.specs.declared.refusal.Refusal.TheVariants.{Depth, CoreSize}
 use Rattle.ms_logic.specs.declared.checked.Checked.{Checked}
 use Rattle.ms_logic.specs.declared.checked.Global.{Global}
 use Rattle.ms_logic.specs.declared.checked.Placed.{Placed}
 use Rattle.ms_logic.specs.declared.checked.Predicate as code
 use Rattle.ms_lower.specs.declared.source_extents.Deep.{Deep}
-use Rattle.ms_logic.specs.Size.{Extents, extents_of, extents_of_each, extents_of_restrictions, total_size, greatest_depth, parts_of_source}
+use Rattle.ms_logic_core.specs.Size.{Extents, extents_of, extents_of_each, extents_of_restrictions, total_size, greatest_depth, parts_of_source}
 use Rattle.ms_logic.specs.View.{formula_of, forms, globals_from, predicate_of, problem_of}
 use Rattle.ms_lower.specs.declared.counted.Counted.{Counted}
 use Rattle.ms_lower.specs.Counted.{counted, deepest, too_large, whole_count}

@@ -1,11 +1,11 @@
 -- Parameters with the variables that stand for them at a call.
 use Rattle.std.proofs.Common.{◌≡◌, ℕ, zero, suc, ◌+◌, ◌<◌, ◌≤◌, max, min, List, [], ◌∷◌, ◌++◌, length, map, take, get_or, refl, ap, ◌∙◌, arith}
 use Rattle.ms_logic.specs.declared.checked.Param.{Param}
-use Rattle.ms_logic.specs.Spread.{named, own_names}
+use Rattle.ms_logic_core.specs.Spread.{named, own_names}
 use Rattle.ms_logic.specs.View.{declaration_of}
 use Rattle.ms_lower.specs.Bodies.{named_at, one_named}
 use Rattle.ms_lower.specs.Calling.{free_at, names_at, spread_number_of}
-use Rattle.ms_lower.specs.Scope.{all_named}
+use Rattle.ms_lower.specs.inner.Scope.{all_named}
 
 -- one more
 pub named_more : (globals : ℕ) (ps : List Param) (ys : List ℕ) (i : ℕ) (d : Param) → i < length ps → i < length ys →

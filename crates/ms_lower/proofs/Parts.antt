@@ -2,8 +2,8 @@
 use Rattle.std.proofs.Common.{◌≡◌, ℕ, ◌+◌, ◌<◌, ◌≤◌, List, [], ◌∷◌, ◌++◌, length, map, max, take, get_or, Some, None, inl, inr, refl, sym, ap, ◌∙◌, arith, append_assoc, append-nil}
 use Rattle.std.proofs.lemmas.Bool.{cases_lt}
 use Rattle.std.proofs.lemmas.List.{take_more, map-append}
-use Rattle.ms_edge.specs.declared.at.At.{At}
-use Rattle.ms_logic.specs.Size.{Extent, greatest_depth}
+use Rattle.ms_list.specs.declared.at.At.{At}
+use Rattle.ms_logic_core.specs.Size.{Extent, greatest_depth}
 use Rattle.ms_lower.specs.declared.counted.Counted.{Counted}
 use Rattle.ms_lower.specs.declared.source_extents.Deep.{Deep}
 use Rattle.ms_lower.specs.Counted.{counted, both_counts, deepest}

@@ -1,6 +1,6 @@
 -- Each term and each formula has a depth of 1 at least.
 use Rattle.std.proofs.Common.{ℕ, ◌≤◌, arith}
-use Rattle.ms_logic.specs.Size.{Extents, extent_under}
+use Rattle.ms_logic_core.specs.Size.{Extents, extent_under}
 use Rattle.ms_logic.specs.Tree.{Form, truth, falsity, truth_variable, negation, conjunction, disjunction, implication, equivalence, comparison, set_comparison, membership, emptiness, quantified, where_let, call, restrict, imported, exported, default_at}
 
 pub form_positive : (x : Extents) → ((p : ℕ) → 1 ≤ (x.default p).depth) → (f : Form) → 1 ≤ (extent_under x f).depth

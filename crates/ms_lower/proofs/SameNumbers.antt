@@ -2,22 +2,21 @@
 use Rattle.std.proofs.Common.{◌≡◌, ◌≢◌, ℕ, ◌+◌, ◌-◌, ◌*◌, ◌<◌, ◌≤◌, ◌⊎◌, Bool, true, false, cond, max, min, MatchBool, List, [], ◌∷◌, length, map, slice_get, suc, inl, inr, refl, sym, ap, subst, ◌∙◌, arith}
 use Rattle.std.proofs.lemmas.Bool.{le-ltb, lt-ltb, cases_lt}
 use Rattle.std.specs.List.{zip}
-use Rattle.ms_logic.specs.declared.core_formula.Basic.{Basic}
-use Rattle.ms_logic.specs.declared.core_formula.Basic.TheVariants.{Truth, Number, Plus, Less, Member, Sub, Union, Inter, Diff, Up, Down, Min, Max, Bits}
+use Rattle.ms_logic_core.specs.declared.core_formula.Basic.{Basic}
+use Rattle.ms_logic_core.specs.declared.core_formula.Basic.TheVariants.{Truth, Number, Plus, Less, Member, Sub, Union, Inter, Diff, Up, Down, Min, Max, Bits}
 use Rattle.ms_logic.specs.declared.mode.Order.{Order}
 use Rattle.ms_logic.specs.declared.mode.Order.TheVariants.{Zero, One, Two}
 use Rattle.ms_logic.specs.Assignment.{Variable}
-use Rattle.ms_logic.specs.CallMeasures.{at_places}
-use Rattle.ms_logic.specs.CoreForm.{CoreForm, truth, falsity, basic, negation, conjunction, disjunction, implication, equivalence, restrict, imported, quantified, CoreForms, no_forms, more_forms, CoreRestriction, unrestricted, restricted}
-use Rattle.ms_logic.specs.Roots.{AreRising, IsBelowFirst, Root, first_free}
-use Rattle.ms_logic.specs.SameUpToBound.{AnswerToEachOther, BoundPair, SameEach, SameRestriction, SameRoot, SameUnder, SameVariable, SameVariables, pairs_of}
-use Rattle.ms_logic.specs.Spread.{is_order, variables_of_import}
-use Rattle.ms_logic.specs.Steps.{variables_at, variables_of_basic}
+use Rattle.ms_logic_core.specs.Operands.{at_places, variables_at, variables_of_basic}
+use Rattle.ms_logic_core.specs.CoreForm.{CoreForm, truth, falsity, basic, negation, conjunction, disjunction, implication, equivalence, restrict, imported, quantified, CoreForms, no_forms, more_forms, CoreRestriction, unrestricted, restricted}
+use Rattle.ms_logic.specs.Lists.{AreRising, IsBelowFirst, Among, Each}
+use Rattle.ms_logic_core.specs.Roots.{Root, first_free}
+use Rattle.ms_logic_core.specs.SameUpToBound.{AnswerToEachOther, BoundPair, SameEach, SameRestriction, SameRoot, SameUnder, SameVariable, SameVariables, pairs_of}
+use Rattle.ms_logic_core.specs.Spread.{is_order, variables_of_import}
 use Rattle.ms_logic.specs.Truth.{Import}
-use Rattle.ms_rules.specs.Numbers.{Among, Each}
 use Rattle.ms_lower.specs.Numbering.{Numbering, number_at, rank, renumbered, renumbered_basic, renumbered_each, renumbered_in, renumbered_variable, with_new_numbers}
 use Rattle.ms_lower.specs.NumberLaws.{numbering_in}
-use Rattle.ms_core.specs.Stands.{EachStands, RestrictionStands, Stands}
+use Rattle.ms_logic_core.specs.Stands.{EachStands, RestrictionStands, Stands}
 
 rank_small : (o : Order) → rank o < 3
 rank_small Zero = omega arith

@@ -2,9 +2,9 @@
 use Rattle.std.proofs.Common.{◌≡◌, ℕ, ◌+◌, ◌-◌, ◌<◌, ◌≤◌, ◌==◌, ◌&&◌, Bool, cond, List, [], ◌∷◌, ◌++◌, length, take, get_or, refl, sym, ap, ◌∙◌, arith}
 use Rattle.std.proofs.lemmas.List.{take_more}
 use Rattle.ms_logic.specs.declared.mode.Order.{Order}
-use Rattle.ms_logic.specs.Spread.{Names, is_order, named, own_names}
+use Rattle.ms_logic_core.specs.Spread.{Names, is_order, named, own_names}
 use Rattle.ms_lower.specs.declared.scope.Named.{Named}
-use Rattle.ms_lower.specs.Scope.{names_in, names_over}
+use Rattle.ms_lower.specs.inner.Scope.{names_in, names_over}
 
 names_over-append : (names : Names) (scope : List Named) (n : Named) → names_over names (scope ++ n ∷ []) ≡ named n.order n.variable n.name (names_over names scope)
 names_over-append names [] n = refl

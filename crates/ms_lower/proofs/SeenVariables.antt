@@ -3,13 +3,13 @@ use Rattle.std.proofs.Common.{◌≡◌, ℕ, ◌+◌, ◌-◌, ◌<◌, ◌≤�
 use Rattle.std.proofs.lemmas.Bool.{eq-eqb, ne_eqb}
 use Rattle.std.proofs.lemmas.List.{map-append, take_more}
 use Rattle.ms_logic.specs.declared.checked.ExportUse.{ExportUse}
-use Rattle.ms_logic.specs.declared.core_formula.Core.{Core}
-use Rattle.ms_logic.specs.declared.core_formula.Root as code
-use Rattle.ms_logic.specs.CoreForm.{core_form_of}
-use Rattle.ms_logic.specs.Spread.{own_names, spread_under}
+use Rattle.ms_logic_core.specs.declared.core_formula.Core.{Core}
+use Rattle.ms_logic_core.specs.declared.core_formula.Root as code
+use Rattle.ms_logic_core.specs.CoreForm.{core_form_of}
+use Rattle.ms_logic_core.specs.Spread.{own_names, spread_under}
 use Rattle.ms_logic.specs.declared.formula.Formula.{Formula}
 use Rattle.ms_logic.specs.Assignment.{Variable}
-use Rattle.ms_logic.specs.Roots.{first_free}
+use Rattle.ms_logic_core.specs.Roots.{first_free}
 use Rattle.ms_logic.specs.Tree.{Form}
 use Rattle.ms_logic.specs.View.{formula_of, forms}
 use Rattle.ms_lower.specs.declared.scope.Named.{Named}
@@ -18,7 +18,7 @@ use Rattle.ms_lower.specs.NumberedRoots.{NumberedRoot, above_all, numbering_over
 use Rattle.ms_lower.proofs.Callees.{variables_same}
 use Rattle.ms_lower.specs.Numbering.{Numbering, number_at, numbering_of, renumbered, variables_at}
 use Rattle.ms_lower.specs.Callees.{callees_in, spread_in}
-use Rattle.ms_lower.specs.Scope.{names_in}
+use Rattle.ms_lower.specs.inner.Scope.{names_in}
 use Rattle.ms_lower.proofs.Parts.{map-more}
 
 pub seen_over-append : (outer : List Variable) (scope : List Named) (n : Named) → seen_over outer (scope ++ n ∷ []) ≡ record { name = n.variable; order = n.order } ∷ seen_over outer scope

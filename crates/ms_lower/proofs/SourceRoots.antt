@@ -4,16 +4,16 @@ use Rattle.std.proofs.lemmas.Option.{get_or_from_slice_get, none-some, same_Some
 use Rattle.std.proofs.lemmas.List.{length-map}
 use Rattle.ms_logic.specs.declared.checked.Checked.{Checked}
 use Rattle.ms_logic.specs.declared.checked.ExportUse.{ExportUse}
-use Rattle.ms_logic.specs.declared.core_formula.Root as code
+use Rattle.ms_logic_core.specs.declared.core_formula.Root as code
 use Rattle.ms_logic.specs.Assignment.{Variable}
-use Rattle.ms_logic.specs.Roots.{AreFreeVariables, Export, Root, exports_among, exports_in, first_free}
-use Rattle.ms_logic.specs.Spread.{conjunction_of, own_names, restrictions_of, spread_each, spread_under}
+use Rattle.ms_logic_core.specs.Roots.{AreFreeVariables, Export, Root, exports_among, exports_in, first_free}
+use Rattle.ms_logic_core.specs.Spread.{conjunction_of, own_names, restrictions_of, spread_each, spread_under}
 use Rattle.ms_lower.specs.Calling.{calling}
 use Rattle.ms_logic.specs.Tree as tree
 use Rattle.ms_logic.specs.Tree.{Form, Forms, no_forms, more_forms, truth, falsity as false_form, truth_variable, negation, conjunction, disjunction, implication, equivalence, comparison, set_comparison, membership, emptiness, quantified, where_let, call, imported, exported, default_at}
 use Rattle.ms_logic.specs.Truth.{Given}
 use Rattle.ms_logic.specs.View.{formula_of, forms, globals_from, problem_of}
-use Rattle.ms_rules.specs.Numbers.{CountUp}
+use Rattle.ms_names_rules.specs.Numbers.{CountUp}
 use Rattle.ms_lower.specs.declared.tables.Tables.{Tables}
 use Rattle.ms_lower.specs.Callees.{IsTablesOf, callees_in}
 use Rattle.ms_lower.specs.Lowered.{ExportsFit, ExportsFitEach, HasCallingRoots, IsRootOver, ListsVariables, export_root_over, main_root_over}

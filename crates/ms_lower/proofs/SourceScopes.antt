@@ -4,14 +4,14 @@ use Rattle.std.proofs.lemmas.Bool.{cases_eq}
 use Rattle.ms_logic.specs.declared.mode.Order.{Order}
 use Rattle.ms_logic.specs.declared.mode.Order.TheVariants.{Zero, One, Two}
 use Rattle.ms_logic.specs.Assignment.{Variable}
-use Rattle.ms_logic.specs.CoreForm.{CoreForm, core_forms}
+use Rattle.ms_logic_core.specs.CoreForm.{CoreForm, core_forms}
 use Rattle.ms_logic.specs.FreeVariables.{FreeUnder, FreeInRestriction, FreeInRestrictions, IsBound, IsListed, IsReadBy, IsReadFor, IsVariable, Reads, reads_of_imports, reads_with_predicate, reads_with_predicates}
-use Rattle.ms_logic.specs.Roots.{AreFreeVariables, export_root, first_free}
-use Rattle.ms_logic.specs.Spread.{Callees, Names, callees_of, callees_of_imports, callees_with, callees_with_all, conjunction_of, default_names, is_order, own_names, restriction_before, restrictions_of, spread_under, variables_of_import}
+use Rattle.ms_logic_core.specs.Roots.{AreFreeVariables, export_root, first_free}
+use Rattle.ms_logic_core.specs.Spread.{Callees, Names, callees_of, callees_of_imports, callees_with, callees_with_all, conjunction_of, default_names, is_order, own_names, restriction_before, restrictions_of, spread_under, variables_of_import}
 use Rattle.ms_logic.specs.Tree.{Form, Declaration, Predicate, Restriction, unrestricted, restricted}
 use Rattle.ms_logic.specs.Truth.{Given, Import}
-use Rattle.ms_rules.specs.Numbers.{Among}
-use Rattle.ms_core.specs.Stands.{EachStands, Stands}
+use Rattle.ms_logic.specs.Lists.{Among}
+use Rattle.ms_logic_core.specs.Stands.{EachStands, Stands}
 use Rattle.ms_lower.proofs.FormScopes.{Fits, conjunction_stands, form_stands, named_or}
 use Rattle.ms_lower.proofs.TermScopes.{Below, Covers, at, variable}
 use Rattle.ms_lower.proofs.SameNumbers.{below_first_free}

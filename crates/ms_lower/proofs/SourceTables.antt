@@ -5,14 +5,14 @@ use Rattle.std.proofs.lemmas.List.{take-map, take_all}
 use Rattle.std.proofs.lemmas.Option.{slice_get-map}
 use Rattle.std.specs.List.{zip}
 use Rattle.std.specs.Option.{option_map}
-use Rattle.ms_core.specs.Calls.{calling_with_all}
+use Rattle.ms_logic_core.specs.Calls.{calling_with_all}
 use Rattle.ms_logic.specs.declared.checked.Checked.{Checked}
 use Rattle.ms_logic.specs.declared.checked.ImportUse.{ImportUse}
 use Rattle.ms_logic.specs.declared.checked.Predicate as code
 use Rattle.ms_logic.specs.Assignment.{Variable}
-use Rattle.ms_logic.specs.CoreForm.{CoreForm, falsity, restrict}
-use Rattle.ms_logic.specs.Roots.{first_free}
-use Rattle.ms_logic.specs.Spread.{Callees, callees_of_imports, conjunction_of, restrictions_of, spread_under, variables_of_import}
+use Rattle.ms_logic_core.specs.CoreForm.{CoreForm, falsity, restrict}
+use Rattle.ms_logic_core.specs.Roots.{first_free}
+use Rattle.ms_logic_core.specs.Spread.{Callees, callees_of_imports, conjunction_of, restrictions_of, spread_under, variables_of_import}
 use Rattle.ms_logic.specs.Tree.{Predicate}
 use Rattle.ms_logic.specs.Truth.{Given}
 use Rattle.ms_logic.specs.View.{declaration_of, formula_of, import_of, predicate_of, problem_of}

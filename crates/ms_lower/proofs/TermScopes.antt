@@ -1,16 +1,16 @@
 -- In the spread of a term each variable stands in its scope.
 use Rattle.std.proofs.Common.{ℕ, zero, suc, ◌+◌, ◌/◌, ◌<◌, ◌≤◌, List, [], ◌∷◌, length, take, drop, inl, inr, refl, arith}
-use Rattle.ms_logic.specs.declared.core_formula.Basic.TheVariants as Basic
+use Rattle.ms_logic_core.specs.declared.core_formula.Basic.TheVariants as Basic
 use Rattle.ms_logic.specs.declared.mode.Order.{Order}
 use Rattle.ms_logic.specs.declared.mode.Order.TheVariants.{One, Two}
 use Rattle.ms_logic.specs.Assignment.{Variable}
-use Rattle.ms_logic.specs.CoreForm.{basic}
+use Rattle.ms_logic_core.specs.CoreForm.{basic}
 use Rattle.ms_logic.specs.FreeVariables.{TermReads, SetTermReads, TermsRead}
-use Rattle.ms_logic.specs.Spread.{Names, Saying, TermSpread, first_half, second_half, is_minus, is_only_member, is_whole, new_variable, set_of_elements, spread_elements, spread_number, spread_set}
+use Rattle.ms_logic_core.specs.Spread.{Names, Saying, TermSpread, first_half, second_half, is_minus, is_only_member, is_whole, new_variable, set_of_elements, spread_elements, spread_number, spread_set}
 use Rattle.ms_logic.specs.Tree.{Term, number_variable, numeral, plus, minus, minimum, maximum, SetTerm, set_variable, empty_set, whole, literal, pconst, union, intersection, difference, shift_up, shift_down, Terms, no_terms, more_terms}
 use Rattle.ms_logic.specs.Truth.{Import}
-use Rattle.ms_rules.specs.Numbers.{Among, Each}
-use Rattle.ms_core.specs.Stands.{Stands}
+use Rattle.ms_logic.specs.Lists.{Among, Each}
+use Rattle.ms_logic_core.specs.Stands.{Stands}
 
 abbrev pub variable : ℕ → Order → Variable
 variable x o = record { name = x; order = o }

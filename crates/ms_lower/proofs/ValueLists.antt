@@ -1,14 +1,14 @@
 -- Values that are entered one after the other.
 use Rattle.std.proofs.Common.{◌≡◌, ℕ, zero, suc, ◌+◌, ◌-◌, ◌<◌, ◌≤◌, List, [], ◌∷◌, ◌++◌, length, map, drop, drop-cons, get_or, slice_get, Some, None, refl, sym, ap, ◌∙◌, arith}
-use Rattle.ms_logic.specs.CoreForm.{CoreForm}
+use Rattle.ms_logic_core.specs.CoreForm.{CoreForm}
 use Rattle.ms_logic.specs.declared.formula.Binding.{Binding}
 use Rattle.ms_logic.specs.declared.formula.Arg.TheFolds.{fold_out-Binding}
-use Rattle.ms_logic.specs.Spread.{Names, named}
+use Rattle.ms_logic_core.specs.Spread.{Names, named}
 use Rattle.ms_logic.specs.Tree.{Form, Argument}
 use Rattle.ms_logic.specs.View.{argument_at, argument_of, binding_at, binding_of, form_at}
 use Rattle.ms_lower.specs.declared.given.Given.{Given}
-use Rattle.ms_lower.specs.Given.{all_entered, below_all, below_given, entered, entered_at}
-use Rattle.ms_lower.specs.Scope.{names_in}
+use Rattle.ms_lower.specs.inner.Given.{all_entered, below_all, below_given, entered, entered_at}
+use Rattle.ms_lower.specs.inner.Scope.{names_in}
 use Rattle.ms_lower.specs.declared.scope.Named.{Named}
 use Rattle.ms_lower.proofs.Scopes.{names_in-append}
 

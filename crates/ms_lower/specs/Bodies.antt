@@ -2,10 +2,10 @@
 use Rattle.std.specs.Prelude.{ℕ, List, [], ◌∷◌, ◌++◌, length, map, slice_get, take, Option, Some, None}
 use Rattle.ms_logic.specs.declared.checked.Param.{Param}
 use Rattle.ms_logic.specs.declared.checked.Predicate as code
-use Rattle.ms_logic.specs.CoreForm.{CoreForm, falsity, restrict}
-use Rattle.ms_logic.specs.Spread.{Callees, conjunction_of, restrictions_of, spread_under}
+use Rattle.ms_logic_core.specs.CoreForm.{CoreForm, falsity, restrict}
+use Rattle.ms_logic_core.specs.Spread.{Callees, conjunction_of, restrictions_of, spread_under}
 use Rattle.ms_logic.specs.View.{declaration_of, formula_of, predicate_of}
-use Rattle.ms_core.specs.Calls.{calling_with_all}
+use Rattle.ms_logic_core.specs.Calls.{calling_with_all}
 use Rattle.ms_lower.specs.declared.scope.Named.{Named}
 use Rattle.ms_lower.specs.declared.tables.Tables.{Tables}
 use Rattle.ms_lower.specs.Callees.{callable, callees_of_uses}

@@ -3,12 +3,12 @@ use Rattle.std.specs.Prelude.{◌≡◌, ℕ, Bool, true, false, List, [], lengt
 use Rattle.ms_logic.specs.declared.checked.Checked.{Checked}
 use Rattle.ms_logic.specs.declared.checked.ImportUse.{ImportUse}
 use Rattle.ms_logic.specs.declared.checked.Predicate.{Predicate}
-use Rattle.ms_logic.specs.declared.core_formula.Basic.{Basic}
-use Rattle.ms_logic.specs.CoreForm.{CoreForm, restrict, falsity, basic, negation, disjunction, core_forms}
-use Rattle.ms_logic.specs.Spread.{Callees, Names, spread_under}
+use Rattle.ms_logic_core.specs.declared.core_formula.Basic.{Basic}
+use Rattle.ms_logic_core.specs.CoreForm.{CoreForm, restrict, falsity, basic, negation, disjunction, core_forms}
+use Rattle.ms_logic_core.specs.Spread.{Callees, Names, spread_under}
 use Rattle.ms_logic.specs.Tree.{Form}
 use Rattle.ms_logic.specs.View.{predicate_of}
-use Rattle.ms_core.specs.Calls.{calling_with_all}
+use Rattle.ms_logic_core.specs.Calls.{calling_with_all}
 use Rattle.ms_lower.specs.declared.tables.Tables.{Tables}
 use Rattle.ms_lower.specs.Numbering.{numbering_of, renumbered, variables_of_use}
 

@@ -1,11 +1,11 @@
 -- Core formulas in which calls stand as imports behind those of the source: what is lowered where a call is met, and what the calls
 -- stand for.
 use Rattle.std.specs.Prelude.{ℕ, ◌+◌, ◌-◌, ◌/◌, nat_lt, max, if◌then◌else◌, List, [], ◌∷◌, ◌++◌, length, take, slice_get, Option, Some, None}
-use Rattle.ms_logic.specs.CoreForm.{CoreForm, falsity, imported, restrict}
-use Rattle.ms_logic.specs.Spread.{Callees, Names, callees_of, callees_of_imports, conjunction_of, named, own_names, restrictions_of, spread_under, variables_of_import}
+use Rattle.ms_logic_core.specs.CoreForm.{CoreForm, falsity, imported, restrict}
+use Rattle.ms_logic_core.specs.Spread.{Callees, Names, callees_of, callees_of_imports, conjunction_of, named, own_names, restrictions_of, spread_under, variables_of_import}
 use Rattle.ms_logic.specs.Tree.{Declaration, Predicate}
 use Rattle.ms_logic.specs.Truth.{Given}
-use Rattle.ms_core.specs.Calls.{Calls, calling_with_all}
+use Rattle.ms_logic_core.specs.Calls.{Calls, calling_with_all}
 use Rattle.ms_lower.specs.Numbering.{Numbering, number_at, renumbered, variables_of_call}
 
 -- the number in the spread of a variable of the answer: a global keeps its number, and of the numbers behind those of the globals

@@ -1,6 +1,6 @@
 -- How size and depth are counted: up to a limit.
 use Rattle.std.specs.Prelude.{ℕ, ◌+◌, ◌-◌, ◌^◌, nat_le, max, min, if◌then◌else◌, List, Option, Some, None}
-use Rattle.ms_logic.specs.Size.{Extent, total_size, greatest_depth}
+use Rattle.ms_logic_core.specs.Size.{Extent, total_size, greatest_depth}
 use Rattle.ms_lower.specs.declared.counted.Counted.{Counted}
 
 -- the least size that is too large

@@ -2,14 +2,10 @@ pub mod Bodies
 pub mod Callees
 pub mod Calling
 pub mod Counted
-pub mod Defined
-pub mod Extents
-pub mod Given
 pub mod Lowered
 pub mod Measure
-pub mod Numbering
 pub mod NumberLaws
 pub mod NumberedRoots
-pub mod Orders
-pub mod Scope
+pub mod Numbering
 pub mod TooDeep
+pub mod inner

@@ -2,22 +2,22 @@
 use Rattle.std.specs.Prelude.{◌≡◌, ℕ, zero, suc, ◌+◌, List, [], ◌∷◌, ◌++◌, length, map, min, slice_get, Contains, Some}
 use Rattle.ms_logic.specs.declared.checked.Checked.{Checked}
 use Rattle.ms_logic.specs.declared.checked.ExportUse.{ExportUse}
-use Rattle.ms_logic.specs.declared.core_formula.Root as code
+use Rattle.ms_logic_core.specs.declared.core_formula.Root as code
 use Rattle.ms_logic.specs.Assignment.{Variable}
-use Rattle.ms_logic.specs.CoreForm.{core_form_of}
+use Rattle.ms_logic_core.specs.CoreForm.{core_form_of}
 use Rattle.ms_logic.specs.FreeVariables.{FreeInForms, FreeInRestrictions, IsListed, Reads, reads_of_imports, reads_with_predicates}
-use Rattle.ms_logic.specs.SameUpToBound.{SameRoot}
+use Rattle.ms_logic_core.specs.SameUpToBound.{SameRoot}
 use Rattle.ms_lower.specs.NumberLaws.{numbering_in}
-use Rattle.ms_core.specs.Calls.{filled}
-use Rattle.ms_core.specs.Stands.{Stands}
-use Rattle.ms_logic.specs.Spread.{Callees, conjunction_of, own_names, restrictions_of, spread_each, spread_under}
+use Rattle.ms_logic_core.specs.Calls.{filled}
+use Rattle.ms_logic_core.specs.Stands.{Stands}
+use Rattle.ms_logic_core.specs.Spread.{Callees, conjunction_of, own_names, restrictions_of, spread_each, spread_under}
 use Rattle.ms_lower.specs.Calling.{calling, calling_numbers, calls_of}
-use Rattle.ms_logic.specs.Roots.{AreFreeVariables, first_free, IsRoot, Root, exports_among}
+use Rattle.ms_logic_core.specs.Roots.{AreFreeVariables, first_free, IsRoot, Root, exports_among}
 use Rattle.ms_logic.specs.Tree.{Form, truth, falsity, truth_variable, negation, conjunction, disjunction, implication, equivalence, comparison, set_comparison, membership, emptiness, quantified, where_let, call, restrict, imported, exported, default_at, Forms, no_forms, more_forms}
 use Rattle.ms_logic.specs.Truth.{Given}
 use Rattle.ms_logic.specs.Verdict.{Problem, variables_of}
 use Rattle.ms_logic.specs.View.{problem_of}
-use Rattle.ms_rules.specs.Numbers.{CountUp}
+use Rattle.ms_names_rules.specs.Numbers.{CountUp}
 use Rattle.ms_lower.specs.Measure.{Answers}
 use Rattle.ms_lower.specs.NumberedRoots.{globals_over, variables_of_export, with_orders}
 use Rattle.ms_lower.specs.Numbering.{number_at, renumbered, with_new_numbers}

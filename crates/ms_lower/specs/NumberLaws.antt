@@ -1,13 +1,14 @@
 -- What the numbers of the answer keep.
 use Rattle.std.specs.Prelude.{◌≡◌, ℕ, ◌-◌, ◌%◌, ◌≤◌, List, min, slice_get}
 use Rattle.ms_logic.specs.declared.mode.Order.{Order}
-use Rattle.ms_logic.specs.Roots.{AreRising, Root, first_free}
-use Rattle.ms_logic.specs.SameUpToBound.{SameRoot}
-use Rattle.ms_logic.specs.Spread.{variables_of_import}
+use Rattle.ms_logic.specs.Lists.{AreRising}
+use Rattle.ms_logic_core.specs.Roots.{Root, first_free}
+use Rattle.ms_logic_core.specs.SameUpToBound.{SameRoot}
+use Rattle.ms_logic_core.specs.Spread.{variables_of_import}
 use Rattle.ms_logic.specs.Truth.{Import}
 use Rattle.ms_lower.specs.Numbering.{Numbering, number_at, with_new_numbers}
-use Rattle.ms_core.specs.Orders.{order_of_rank}
-use Rattle.ms_core.specs.Stands.{Stands}
+use Rattle.ms_logic_core.specs.Orders.{order_of_rank}
+use Rattle.ms_logic_core.specs.Stands.{Stands}
 
 -- the numbers of the answer for a root, in a source with so many globals and these imports
 abbrev pub numbering_in : ℕ → List Import → Root → Numbering

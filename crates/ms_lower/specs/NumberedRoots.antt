@@ -3,13 +3,13 @@ use Rattle.std.specs.Prelude.{ℕ, ◌+◌, ◌==◌, max, min, if◌then◌else
 use Rattle.ms_logic.specs.declared.checked.ExportUse.{ExportUse}
 use Rattle.ms_logic.specs.declared.checked.Global.{Global}
 use Rattle.ms_logic.specs.declared.checked.Placed.{Placed}
-use Rattle.ms_logic.specs.declared.core_formula.Root as code
+use Rattle.ms_logic_core.specs.declared.core_formula.Root as code
 use Rattle.ms_logic.specs.declared.mode.Order.{Order}
 use Rattle.ms_logic.specs.declared.mode.Order.TheVariants.{Zero}
 use Rattle.ms_logic.specs.Assignment.{Variable}
-use Rattle.ms_logic.specs.CoreForm.{CoreForm, core_form_of}
-use Rattle.ms_logic.specs.Roots.{Root, first_free}
-use Rattle.ms_logic.specs.Spread.{conjunction_of, own_names, restrictions_of, spread_each, spread_under}
+use Rattle.ms_logic_core.specs.CoreForm.{CoreForm, core_form_of}
+use Rattle.ms_logic_core.specs.Roots.{Root, first_free}
+use Rattle.ms_logic_core.specs.Spread.{conjunction_of, own_names, restrictions_of, spread_each, spread_under}
 use Rattle.ms_logic.specs.Tree.{Form, truth, falsity, truth_variable, negation, conjunction, disjunction, implication, equivalence, comparison, set_comparison, membership, emptiness, quantified, where_let, call, restrict, imported, exported, default_at, Forms, no_forms, more_forms}
 use Rattle.ms_logic.specs.View.{formula_of, forms, globals_from}
 use Rattle.ms_lower.specs.declared.scope.Named.{Named}

@@ -5,13 +5,13 @@ use Rattle.std.specs.List.{zip}
 use Rattle.std.specs.Option.{option_map}
 use Rattle.ms_logic.specs.declared.checked.ImportUse.{ImportUse}
 use Rattle.ms_logic.specs.declared.checked.MapPair.{MapPair}
-use Rattle.ms_logic.specs.declared.core_formula.Basic.{Basic}
-use Rattle.ms_logic.specs.declared.core_formula.Basic.TheVariants.{Truth, Number, Plus, Less, Member, Sub, Union, Inter, Diff, Up, Down, Min, Max, Bits}
+use Rattle.ms_logic_core.specs.declared.core_formula.Basic.{Basic}
+use Rattle.ms_logic_core.specs.declared.core_formula.Basic.TheVariants.{Truth, Number, Plus, Less, Member, Sub, Union, Inter, Diff, Up, Down, Min, Max, Bits}
 use Rattle.ms_logic.specs.declared.mode.Order.{Order}
 use Rattle.ms_logic.specs.declared.mode.Order.TheVariants.{Zero, One, Two}
 use Rattle.ms_logic.specs.Assignment.{Variable}
-use Rattle.ms_logic.specs.CoreForm.{CoreForm, truth, falsity, basic, negation, conjunction, disjunction, implication, equivalence, restrict, imported, quantified, CoreForms, no_forms, more_forms, CoreRestriction, unrestricted, restricted}
-use Rattle.ms_logic.specs.Roots.{Root}
+use Rattle.ms_logic_core.specs.CoreForm.{CoreForm, truth, falsity, basic, negation, conjunction, disjunction, implication, equivalence, restrict, imported, quantified, CoreForms, no_forms, more_forms, CoreRestriction, unrestricted, restricted}
+use Rattle.ms_logic_core.specs.Roots.{Root}
 use Rattle.ms_logic.specs.Tree.{Predicate}
 use Rattle.ms_logic.specs.View.{predicate_of}
 use Rattle.ms_lower.specs.declared.tables.Tables.{Tables}

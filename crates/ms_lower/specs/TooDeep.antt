@@ -1,11 +1,11 @@
 -- The first declaration of a source that is too deep.
 use Rattle.std.specs.Prelude.{◌≡◌, ℕ, ◌<◌, ◌≤◌, ◌⊎◌, List, [], ◌∷◌, ◌++◌, Result, Ok, Err, Some, map}
 use Rattle.std.specs.Option.{option_map}
-use Rattle.ms_edge.specs.declared.at.At.{At}
+use Rattle.ms_list.specs.declared.at.At.{At}
 use Rattle.ms_logic.specs.declared.checked.Checked.{Checked}
 use Rattle.ms_logic.specs.declared.checked.Global.{Global}
 use Rattle.ms_logic.specs.declared.checked.Placed.{Placed}
-use Rattle.ms_logic.specs.Size.{Extent, Extents, extent_under, extents_of, extents_of_restriction, greatest_depth}
+use Rattle.ms_logic_core.specs.Size.{Extent, Extents, extent_under, extents_of, extents_of_restriction, greatest_depth}
 use Rattle.ms_logic.specs.View.{formula_of, predicate_of, restriction}
 use Rattle.ms_lower.specs.declared.counted.Counted.{Counted}
 use Rattle.ms_lower.specs.declared.source_extents.Deep.{Deep}

@@ -5,8 +5,9 @@ use crate::exports::{joined, roots};
 use crate::main_root::main_root;
 use crate::scope::{Named, Scope};
 use crate::tables::Tables;
-use ms_edge::{List, NoMemory, push};
-use ms_logic::{Checked, Global, Root};
+use ms_list::{List, NoMemory, push};
+use ms_logic::{Checked, Global};
+use ms_logic_core::Root;
 
 // The globals, which all formulas see.
 fn see_globals(tables: &Tables, globals: &[Global]) -> Result<Scope, NoMemory>

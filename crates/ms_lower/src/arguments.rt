@@ -1,5 +1,5 @@
 ghost use Rattle.ms_logic.specs.View.{argument_of, binding_of};
-ghost use Rattle.ms_lower.specs.Given.{values_of, variables_of};
+ghost use Rattle.ms_lower.specs.inner.Given.{values_of, variables_of};
 ghost use Rattle.std.specs.Prelude.{◌≡◌, ◌<◌, length, map, slice_get, Some};
 
 use ms_logic::{Arg, Binding, Param};

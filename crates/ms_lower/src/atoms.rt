@@ -1,15 +1,16 @@
-ghost use Rattle.ms_logic.specs.CoreForm.{basic, core_form_of};
-ghost use Rattle.ms_logic.specs.Spread.{is_minus, is_only_member, is_whole};
-ghost use Rattle.ms_lower.specs.Defined.{below, IsDefined, number_binder};
+ghost use Rattle.ms_logic_core.specs.CoreForm.{basic, core_form_of};
+ghost use Rattle.ms_logic_core.specs.Spread.{is_minus, is_only_member, is_whole};
+ghost use Rattle.ms_lower.specs.inner.Defined.{below, IsDefined, number_binder};
 ghost use Rattle.ms_lower.specs.Numbering.{numbering_of};
-ghost use Rattle.ms_logic.specs.Spread.{the_variable};
+ghost use Rattle.ms_logic_core.specs.Spread.{the_variable};
 ghost use Rattle.std.specs.Prelude.{◌≡◌, IfOk};
 
 use crate::cores::{Bound, and, implies, not, or, quantify, relation};
 use crate::defined::{Defined, over};
 use crate::tables::{Tables, number};
-use ms_edge::{Boxed, NoMemory};
-use ms_logic::{Basic, Core, Order, Quant};
+use ms_list::{Boxed, NoMemory};
+use ms_logic::{Order, Quant};
+use ms_logic_core::{Basic, Core};
 use std::alloc::Global;
 
 fn number_bound(quant: Quant, number: u32) -> Bound

@@ -1,20 +1,21 @@
-ghost use Rattle.ms_logic.specs.CoreForm.{core_form_of};
-ghost use Rattle.ms_logic.specs.Spread.{own_names, restrictions_of};
+ghost use Rattle.ms_logic_core.specs.CoreForm.{core_form_of};
+ghost use Rattle.ms_logic_core.specs.Spread.{own_names, restrictions_of};
 ghost use Rattle.ms_logic.specs.View.{declaration_of};
 ghost use Rattle.ms_lower.specs.Bodies.{called_in, named_at, one_named};
 ghost use Rattle.ms_lower.specs.Callees.{callees_in};
 ghost use Rattle.ms_lower.specs.Calling.{free_at, spread_number_of};
 ghost use Rattle.ms_lower.specs.Numbering.{numbering_of, renumbered};
-ghost use Rattle.ms_lower.specs.Scope.{names_in};
+ghost use Rattle.ms_lower.specs.inner.Scope.{names_in};
 ghost use Rattle.std.specs.Prelude.{◌≡◌, map, IfOk, OnOk};
 
-use crate::formulas::{DEPTH, formula};
+use crate::formulas::formula;
 use crate::relations::{conjunction, constant, restricted};
 use crate::scope::{Named, Scope};
 use crate::tables::Tables;
 use crate::truths::enter_named;
-use ms_edge::{Boxed, List, NoMemory, push};
-use ms_logic::{Core, Param};
+use ms_list::{Boxed, List, NoMemory, push};
+use ms_logic::Param;
+use ms_logic_core::Core;
 use std::alloc::Global;
 
 // The number in the spread of a variable of the answer.
@@ -81,7 +82,7 @@ fn restrictions(
         match &param.domain {
             None => {}
             Some(domain) => {
-                let core = formula(tables, scope, domain, free, DEPTH)?;
+                let core = formula(tables, scope, domain, free)?;
                 push(&mut cores, restricted(tables.alloc, core)?.into_inner())?;
             }
         }
@@ -108,7 +109,7 @@ pub fn lower_call(
     enter_named(&mut scope, named.slice())?;
     let free = free_at(tables.globals, params, variables);
     let mut cores = restrictions(&before, &mut scope, params, free)?;
-    let body = formula(&before, &mut scope, &known.body, free, DEPTH)?;
+    let body = formula(&before, &mut scope, &known.body, free)?;
     if cores.is_empty() {
         return Ok(body);
     }

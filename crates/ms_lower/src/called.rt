@@ -1,6 +1,6 @@
-ghost use Rattle.ms_logic.specs.Size.{alone};
+ghost use Rattle.ms_logic_core.specs.Size.{alone};
 ghost use Rattle.ms_lower.specs.Counted.{counted, deepest, narrowed};
-ghost use Rattle.ms_lower.specs.Extents.{AreExtents, known_extents};
+ghost use Rattle.ms_lower.specs.inner.Extents.{AreExtents, known_extents};
 ghost use Rattle.std.specs.Prelude.{◌≡◌, ◌∷◌, [], ◌≤◌};
 
 use crate::counted::{Counted, NO_PARTS, above};

@@ -1,14 +1,15 @@
-ghost use Rattle.ms_logic.specs.CoreForm.{core_form_of};
+ghost use Rattle.ms_logic_core.specs.CoreForm.{core_form_of};
 ghost use Rattle.ms_lower.specs.Callees.{callees_in};
 ghost use Rattle.ms_lower.specs.Numbering.{number_at, numbering_of, renumbered};
-ghost use Rattle.ms_lower.specs.Scope.{names_in};
+ghost use Rattle.ms_lower.specs.inner.Scope.{names_in};
 ghost use Rattle.std.specs.Prelude.{◌≡◌, ◌+◌, length, map, IfOk};
 
 use crate::relations::{constant, restricted};
 use crate::scope::Scope;
 use crate::tables::{Tables, number};
-use ms_edge::{Boxed, List, NoMemory, on_heap, push};
-use ms_logic::{Core, Order, Param};
+use ms_list::{Boxed, List, NoMemory, on_heap, push};
+use ms_logic::{Order, Param};
+use ms_logic_core::Core;
 
 // The numbers in the answer of the variables that some parameters stand for.
 fn numbers_of(tables: &Tables, scope: &Scope, params: &[Param]) -> Result<List<u32>, NoMemory>

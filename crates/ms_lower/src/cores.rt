@@ -1,10 +1,11 @@
-ghost use Rattle.ms_logic.specs.CoreForm.{basic, core_form_of, core_restriction, implication, negation, quantified};
-ghost use Rattle.ms_logic.specs.Spread.{both_of, either_of, is_minus, is_only_member, is_whole};
+ghost use Rattle.ms_logic_core.specs.CoreForm.{basic, core_form_of, core_restriction, implication, negation, quantified};
+ghost use Rattle.ms_logic_core.specs.Spread.{both_of, either_of, is_minus, is_only_member, is_whole};
 ghost use Rattle.std.specs.Option.{option_map};
 ghost use Rattle.std.specs.Prelude.{◌≡◌, ◌∷◌, [], IfOk};
 
-use ms_edge::{Boxed, List, NoMemory, on_heap, push};
-use ms_logic::{Basic, Core, Order, Quant};
+use ms_list::{Boxed, List, NoMemory, on_heap, push};
+use ms_logic::{Order, Quant};
+use ms_logic_core::{Basic, Core};
 use std::alloc::Global;
 
 /// A basic relation.

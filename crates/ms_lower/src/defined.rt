@@ -1,10 +1,11 @@
-ghost use Rattle.ms_logic.specs.CoreForm.{core_form_of};
-ghost use Rattle.ms_lower.specs.Defined.{below, new_definition};
+ghost use Rattle.ms_logic_core.specs.CoreForm.{core_form_of};
+ghost use Rattle.ms_lower.specs.inner.Defined.{below, new_definition};
 ghost use Rattle.std.specs.Prelude.{◌≡◌, ◌<◌, ◌^◌, IfOk};
 
 use crate::cores::{Bound, quantify};
-use ms_edge::{Boxed, NoMemory};
-use ms_logic::{Core, Order, Quant};
+use ms_list::{Boxed, NoMemory};
+use ms_logic::{Order, Quant};
+use ms_logic_core::Core;
 use std::alloc::Global;
 
 /// The variable that a term is: its order, and its number in the spread and in the answer. If it is new, it has the restriction

@@ -3,11 +3,12 @@ ghost use Rattle.ms_lower.specs.NumberedRoots.{above_all, renumbered_root, root_
 ghost use Rattle.ms_lower.specs.Numbering.{number_at};
 ghost use Rattle.std.specs.Prelude.{◌≡◌, ◌++◌, [], map, slice_get, IfOk, OnOk};
 
-use crate::formulas::{DEPTH, formula};
+use crate::formulas::formula;
 use crate::scope::{Named, Scope};
 use crate::tables::{Tables, number};
-use ms_edge::{List, NoMemory, push};
-use ms_logic::{ExportUse, Formula, Root};
+use ms_list::{List, NoMemory, push};
+use ms_logic::{ExportUse, Formula};
+use ms_logic_core::Root;
 
 /// The items of both lists.
 pub fn joined<T: Drop>(front: List<T>, later: List<T>) -> Result<List<T>, NoMemory>
@@ -74,7 +75,7 @@ fn export_root(
     };
     let numbers = numbers_of(&own, seen, variables)?;
     let mut scope = Scope::new(tables.alloc);
-    let core = formula(&own, &mut scope, source, free, DEPTH)?;
+    let core = formula(&own, &mut scope, source, free)?;
     Ok(Root {
         variables: numbers,
         core: core.into_inner(),

@@ -1,15 +1,15 @@
-ghost use Rattle.ms_logic.specs.Size.{extent_of_argument, extent_of_number, extent_of_set, extent_under, extents_of_arguments, extents_of_each, extents_of_restriction};
+ghost use Rattle.ms_logic_core.specs.Size.{extent_of_argument, extent_of_number, extent_of_set, extent_under, extents_of_arguments, extents_of_each, extents_of_restriction};
 ghost use Rattle.ms_logic.specs.View.{argument_of, binding_of, formula_of, forms, restriction, set_term_of, term_of};
 ghost use Rattle.ms_logic.specs.View.{arguments as arguments_of};
 ghost use Rattle.ms_lower.specs.Counted.{counted, deepest};
-ghost use Rattle.ms_lower.specs.Extents.{AreExtents, known_extents};
+ghost use Rattle.ms_lower.specs.inner.Extents.{AreExtents, known_extents};
 ghost use Rattle.std.specs.Option.{option_map};
 ghost use Rattle.std.specs.Prelude.{◌≡◌, ◌∷◌, [], ◌≤◌, map};
 
 use crate::called::Extents;
 use crate::counted::{Counted, NO_PARTS, above, both};
 use crate::term_extents::{count_number, count_set};
-use ms_edge::Boxed;
+use ms_list::Boxed;
 use ms_logic::{Arg, Binding, Formula, Term1, Term2};
 
 /// The size and the depth of a formula, where each call counts with the body of its predicate; or none where it is deeper

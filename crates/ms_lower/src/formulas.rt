@@ -1,52 +1,43 @@
-ghost use Rattle.ms_logic.specs.CoreForm.{core_form_of, core_restriction};
-ghost use Rattle.ms_logic.specs.Spread.{numbers_and_sets, spread_each, spread_restriction, truth_values};
-ghost use Rattle.ms_logic.specs.View.{argument_of, formula_of, forms, restriction};
+ghost use Rattle.ms_logic_core.specs.CoreForm.{core_form_of, core_restriction};
+ghost use Rattle.ms_logic_core.specs.Spread.{numbers_and_sets, spread_each, spread_restriction, truth_values};
+ghost use Rattle.ms_logic.specs.Tree.{call, quantified, where_let};
+ghost use Rattle.ms_logic.specs.View.{argument_of, binding_of, formula_of, forms, restriction};
 ghost use Rattle.ms_logic.specs.View.{arguments as arguments_of};
 ghost use Rattle.ms_lower.specs.Callees.{callees_in, spread_in};
-ghost use Rattle.ms_lower.specs.Given.{Enters, Inner, IsTruth, below_all, values_of, variables_of};
+ghost use Rattle.ms_lower.specs.inner.Given.{Enters, Inner, IsTruth, below_all, values_of, variables_of};
 ghost use Rattle.ms_lower.specs.Numbering.{numbering_of, renumbered, renumbered_in};
-ghost use Rattle.ms_lower.specs.Scope.{names_in};
+ghost use Rattle.ms_lower.specs.inner.Scope.{names_in};
 ghost use Rattle.std.specs.Option.{option_map};
 ghost use Rattle.std.specs.Prelude.{◌≡◌, length, map, take, IfOk, OnOk};
 
 use crate::arguments::Arguments;
-use crate::atoms::of_one;
 use crate::calls::call;
 use crate::cores::{Bound, implies, not, quantify, relation, with_room};
 use crate::defined::{Defined, fresh};
 use crate::given::{Entered, enter_all, number_arguments, over_all, with_value};
-use crate::pairs::{
-    Level, compare, compare_sets, membership, number_and_set, two_numbers, two_sets,
-};
+use crate::pairs::{comparison, emptiness, membership, set_comparison};
 use crate::relations::{conjunction, constant, disjunction, import, restricted, same};
 use crate::scope::{Named, Scope};
 use crate::tables::{Tables, number};
-use crate::terms::define_set;
 use crate::truths::{default_names, enter_named, known_truth, truth_variable};
-use ms_edge::{Boxed, List, NoMemory, push};
-use ms_logic::{Arg, Basic, Core, Formula, Order};
+use ms_list::{Boxed, List, NoMemory, push};
+use ms_logic::{Arg, Binding, Formula, Order, Quant};
+use ms_logic_core::{Basic, Core};
 use std::alloc::Global;
 
-/// How many levels a source that is not too deep has at most.
-pub const DEPTH: u32 = 300;
-
-/// The core formula of a formula. From a number on all are free in the spread. The call goes down as many levels as the depth
-/// says, which is counted before.
+/// The core formula of a formula. From a number on all are free in the spread. It calls itself once for each level, so the
+/// depth of a source is looked at before.
 #[cycle(formulas)]
 pub fn formula(
     tables: &Tables,
     scope: &mut Scope,
     source: &Formula,
     free: u64,
-    depth: u32,
 ) -> Result<Boxed<Core>, NoMemory>
     ensures core { IfOk result (λ core. core_form_of core ≡ spread_in tables.now (formula_of source.now) (names_in scope.old) free) }
     ensures scope { OnOk result (scope.new ≡ scope.old) }
 {
     let alloc = tables.alloc;
-    let Some(depth) = depth.checked_sub(1) else {
-        return Err(NoMemory);
-    };
     match source {
         Formula::True => constant(alloc, true),
         Formula::False => constant(alloc, false),
@@ -54,84 +45,52 @@ pub fn formula(
             let name = scope.name_of(Order::Zero, *variable);
             relation(alloc, Basic::Truth(number(tables, Order::Zero, name)?))
         }
-        Formula::Not(body) => not(alloc, formula(tables, scope, body.get(), free, depth)?),
-        Formula::And(operands) => conjunction(
-            alloc,
-            each(tables, scope, operands.slice(), free, depth)?,
-        ),
-        Formula::Or(operands) => disjunction(
-            alloc,
-            each(tables, scope, operands.slice(), free, depth)?,
-        ),
+        Formula::Not(body) => not(alloc, formula(tables, scope, body.get(), free)?),
+        Formula::And(operands) => conjunction(alloc, each(tables, scope, operands.slice(), free)?),
+        Formula::Or(operands) => disjunction(alloc, each(tables, scope, operands.slice(), free)?),
         Formula::Implies(left, right) => {
-            let left = formula(tables, scope, left.get(), free, depth)?;
-            let right = formula(tables, scope, right.get(), free, depth)?;
+            let left = formula(tables, scope, left.get(), free)?;
+            let right = formula(tables, scope, right.get(), free)?;
             implies(alloc, left, right)
         }
         Formula::Iff(left, right) => {
-            let left = formula(tables, scope, left.get(), free, depth)?;
-            let right = formula(tables, scope, right.get(), free, depth)?;
+            let left = formula(tables, scope, left.get(), free)?;
+            let right = formula(tables, scope, right.get(), free)?;
             same(alloc, left, right)
         }
         Formula::Compare(rel, left, right) => {
-            let two = two_numbers(tables, scope, left, right, Level { free, depth })?;
-            compare(alloc, *rel, two)
+            comparison(tables, scope, *rel, (left, right), free)
         }
         Formula::CompareSets(rel, left, right) => {
-            let two = two_sets(tables, scope, left, right, Level { free, depth })?;
-            compare_sets(alloc, *rel, two)
+            set_comparison(tables, scope, *rel, (left, right), free)
         }
         Formula::Member(positive, number, set) => {
-            let two = number_and_set(tables, scope, number, set, Level { free, depth })?;
-            membership(alloc, *positive, two)
+            membership(tables, scope, *positive, (number, set), free)
         }
-        Formula::IsEmpty(set) => {
-            let set = define_set(tables, scope, set, free, depth)?;
-            let relates = Basic::Bits(set.number, 0);
-            of_one(alloc, set, relates)
-        }
+        Formula::IsEmpty(set) => emptiness(tables, scope, set, free),
         Formula::Bind(quant, order, variable, domain, body) => {
-            let bound = Bound {
-                quant: *quant,
-                order: *order,
-                number: number(tables, *order, free)?,
-            };
-            let outer = scope.len();
             let named = Named {
                 order: *order,
                 variable: *variable,
                 name: free,
             };
-            scope.enter(named)?;
-            let domain = domain_of(tables, scope, domain, free + 1, depth)?;
-            let body = formula(tables, scope, body.get(), free + 1, depth)?;
-            scope.leave(outer);
-            quantify(alloc, bound, domain, body)
+            let binder = Binder {
+                quant: *quant,
+                named,
+            };
+            bind(tables, scope, binder, domain, body.get())
         }
         Formula::Let(bindings, body) => {
-            let arguments = Arguments::Let(bindings.slice());
-            let outer = scope.len();
-            let values = enter_arguments(tables, scope, &arguments, free, depth)?;
-            let body = formula(tables, scope, body.get(), values.next, depth)?;
-            scope.leave(outer);
-            over_values(alloc, values, body)
+            where_let(tables, scope, bindings.slice(), body.get(), free)
         }
         Formula::Call(predicate, arguments) => {
-            let arguments = Arguments::Call(tables.params(*predicate), arguments.slice());
-            let outer = scope.len();
-            let values = enter_arguments(tables, scope, &arguments, free, depth)?;
-            let body = call(tables, scope, *predicate, values.next)?;
-            scope.leave(outer);
-            over_values(alloc, values, body)
+            call_with(tables, scope, *predicate, arguments.slice(), free)
         }
-        Formula::Restrict(body) => restricted(
-            alloc,
-            formula(tables, scope, body.get(), free, depth)?,
-        ),
+        Formula::Restrict(body) => restricted(alloc, formula(tables, scope, body.get(), free)?),
         Formula::Import(index) => import(tables, scope, *index),
-        Formula::Export(_, body) => formula(tables, scope, body.get(), free, depth),
+        Formula::Export(_, body) => formula(tables, scope, body.get(), free),
         Formula::Domain(predicate, variable) => {
-            default(tables, scope, *predicate, *variable, Level { free, depth })
+            default(tables, scope, *predicate, *variable, free)
         }
     }
 }
@@ -142,7 +101,6 @@ fn each(
     scope: &mut Scope,
     operands: &[Formula],
     free: u64,
-    depth: u32,
 ) -> Result<List<Core>, NoMemory>
     ensures cores { IfOk result (λ cores. map core_form_of cores ≡ map (renumbered (numbering_of tables.now))
         (spread_each (callees_in tables.now) (forms (map formula_of operands.now)) (names_in scope.old) free)) }
@@ -150,7 +108,7 @@ fn each(
 {
     let mut cores = with_room(tables.alloc, operands.len())?;
     for operand in operands {
-        let core = formula(tables, scope, operand, free, depth)?;
+        let core = formula(tables, scope, operand, free)?;
         push(&mut cores, core.into_inner())?;
     }
     Ok(cores)
@@ -162,7 +120,6 @@ fn domain_of(
     scope: &mut Scope,
     domain: &Option<Boxed<Formula>>,
     free: u64,
-    depth: u32,
 ) -> Result<Option<Boxed<Core>>, NoMemory>
     ensures core { IfOk result (λ core. core_restriction (option_map core_form_of core) ≡ renumbered_in (numbering_of tables.now)
         (spread_restriction (callees_in tables.now) (restriction (option_map formula_of domain.now)) (names_in scope.old) free)) }
@@ -170,8 +127,87 @@ fn domain_of(
 {
     match domain {
         None => Ok(None),
-        Some(source) => Ok(Some(formula(tables, scope, source.get(), free, depth)?)),
+        Some(source) => Ok(Some(formula(tables, scope, source.get(), free)?)),
     }
+}
+
+/// A quantifier, and its variable with its number in the spread.
+#[derive(Clone, Copy)]
+struct Binder {
+    quant: Quant,
+    named: Named,
+}
+
+#[cycle(formulas)]
+#[inline(never)]
+fn bind(
+    tables: &Tables,
+    scope: &mut Scope,
+    binder: Binder,
+    domain: &Option<Boxed<Formula>>,
+    body: &Formula,
+) -> Result<Boxed<Core>, NoMemory>
+    ensures core { IfOk result (λ core. core_form_of core ≡ spread_in tables.now
+        (quantified binder.quant binder.named.order binder.named.variable (restriction (option_map formula_of domain.now)) (formula_of body.now))
+        (names_in scope.old) binder.named.name) }
+    ensures scope { OnOk result (scope.new ≡ scope.old) }
+{
+    let Binder { quant, named } = binder;
+    let bound = Bound {
+        quant,
+        order: named.order,
+        number: number(tables, named.order, named.name)?,
+    };
+    let outer = scope.len();
+    scope.enter(named)?;
+    let domain = domain_of(tables, scope, domain, named.name + 1)?;
+    let body = formula(tables, scope, body, named.name + 1)?;
+    scope.leave(outer);
+    quantify(tables.alloc, bound, domain, body)
+}
+
+#[cycle(formulas)]
+#[inline(never)]
+fn where_let(
+    tables: &Tables,
+    scope: &mut Scope,
+    bindings: &[Binding],
+    body: &Formula,
+    free: u64,
+) -> Result<Boxed<Core>, NoMemory>
+    ensures core { IfOk result (λ core. core_form_of core ≡ spread_in tables.now
+        (where_let (map (λ b. b.0) (map binding_of bindings.now)) (arguments_of (map (λ b. b.1) (map binding_of bindings.now))) (formula_of body.now))
+        (names_in scope.old) free) }
+    ensures scope { OnOk result (scope.new ≡ scope.old) }
+{
+    let arguments = Arguments::Let(bindings);
+    let outer = scope.len();
+    let values = enter_arguments(tables, scope, &arguments, free)?;
+    let body = formula(tables, scope, body, values.next)?;
+    scope.leave(outer);
+    over_values(tables.alloc, values, body)
+}
+
+// A call, over its arguments.
+#[cycle(formulas)]
+#[inline(never)]
+fn call_with(
+    tables: &Tables,
+    scope: &mut Scope,
+    predicate: u32,
+    given: &[Arg],
+    free: u64,
+) -> Result<Boxed<Core>, NoMemory>
+    ensures core { IfOk result (λ core. core_form_of core ≡ spread_in tables.now
+        (call predicate (arguments_of (map argument_of given.now))) (names_in scope.old) free) }
+    ensures scope { OnOk result (scope.new ≡ scope.old) }
+{
+    let arguments = Arguments::Call(tables.params(predicate), given);
+    let outer = scope.len();
+    let values = enter_arguments(tables, scope, &arguments, free)?;
+    let body = call(tables, scope, predicate, values.next)?;
+    scope.leave(outer);
+    over_values(tables.alloc, values, body)
 }
 
 // A default restriction at a variable.
@@ -181,10 +217,10 @@ fn default(
     scope: &mut Scope,
     predicate: u32,
     variable: u32,
-    level: Level,
+    free: u64,
 ) -> Result<Boxed<Core>, NoMemory>
     ensures core { IfOk result (λ core. core_form_of core ≡ renumbered (numbering_of tables.now)
-        ((callees_in tables.now).default predicate variable (names_in scope.old) level.free)) }
+        ((callees_in tables.now).default predicate variable (names_in scope.old) free)) }
     ensures scope { OnOk result (scope.new ≡ scope.old) }
 {
     let known = match tables.predicate(predicate) {
@@ -195,7 +231,7 @@ fn default(
     let outer = scope.len();
     enter_named(scope, named.slice())?;
     let before = tables.before(predicate);
-    let core = formula(&before, scope, &known.body, level.free, level.depth)?;
+    let core = formula(&before, scope, &known.body, free)?;
     scope.leave(outer);
     Ok(core)
 }
@@ -207,7 +243,6 @@ fn truth(
     scope: &mut Scope,
     value: &Arg,
     free: u64,
-    depth: u32,
 ) -> Result<Option<Defined>, NoMemory>
     ensures value { IfOk result (IsTruth (numbering_of tables.now) (callees_in tables.now) (argument_of value.now) (names_in scope.old) free) }
     ensures scope { OnOk result (scope.new ≡ scope.old) }
@@ -222,7 +257,7 @@ fn truth(
         }
         None => {
             let own = number(tables, Order::Zero, free)?;
-            let core = formula(tables, scope, source, free + 1, depth)?;
+            let core = formula(tables, scope, source, free + 1)?;
             Ok(Some(fresh(Order::Zero, free, own, core)))
         }
     }
@@ -234,7 +269,6 @@ fn truth_arguments(
     scope: &mut Scope,
     arguments: &Arguments,
     free: u64,
-    depth: u32,
 ) -> Result<Entered, NoMemory>
     ensures value { IfOk result (Enters (numbering_of tables.now)
         (truth_values (callees_in tables.now) (variables_of arguments.now) (arguments_of (values_of arguments.now)) (names_in scope.old)) free) }
@@ -245,7 +279,7 @@ fn truth_arguments(
         next: free,
     };
     for i in 0..arguments.len() {
-        let value = truth(tables, scope, arguments.value(i), entered.next, depth)?;
+        let value = truth(tables, scope, arguments.value(i), entered.next)?;
         entered = with_value(entered, arguments.variable(i), value)?;
     }
     Ok(entered)
@@ -266,7 +300,6 @@ fn enter_arguments(
     scope: &mut Scope,
     arguments: &Arguments,
     free: u64,
-    depth: u32,
 ) -> Result<Values, NoMemory>
     ensures values { (Said : Inner) → IfOk result (λ values. renumbered (numbering_of tables.now)
         (numbers_and_sets (variables_of arguments.now) (arguments_of (values_of arguments.now)) (names_in scope.old) (names_in scope.old) free
@@ -274,8 +307,8 @@ fn enter_arguments(
         ≡ below_all values.numbers.given (below_all values.truths.given (renumbered (numbering_of tables.now) (Said (names_in scope.new) values.next)))) }
     ensures kept { OnOk result (take (length scope.old) scope.new ≡ scope.old) }
 {
-    let numbers = number_arguments(tables, scope, arguments, free, depth)?;
-    let truths = truth_arguments(tables, scope, arguments, numbers.next, depth)?;
+    let numbers = number_arguments(tables, scope, arguments, free)?;
+    let truths = truth_arguments(tables, scope, arguments, numbers.next)?;
     enter_all(scope, numbers.given.slice())?;
     enter_all(scope, truths.given.slice())?;
     let next = truths.next;

@@ -1,10 +1,10 @@
-ghost use Rattle.ms_logic.specs.CoreForm.{core_form_of};
-ghost use Rattle.ms_logic.specs.Spread.{numbers_and_sets};
+ghost use Rattle.ms_logic_core.specs.CoreForm.{core_form_of};
+ghost use Rattle.ms_logic_core.specs.Spread.{numbers_and_sets};
 ghost use Rattle.ms_logic.specs.View.{argument_of};
 ghost use Rattle.ms_logic.specs.View.{arguments as arguments_of};
-ghost use Rattle.ms_lower.specs.Given.{Enters, IsNumberOrSet, all_entered, below_all, below_given, below_truth, entered_with, values_of, variables_of};
+ghost use Rattle.ms_lower.specs.inner.Given.{Enters, IsNumberOrSet, all_entered, below_all, below_given, below_truth, entered_with, values_of, variables_of};
 ghost use Rattle.ms_lower.specs.Numbering.{numbering_of};
-ghost use Rattle.ms_lower.specs.Scope.{names_in};
+ghost use Rattle.ms_lower.specs.inner.Scope.{names_in};
 ghost use Rattle.std.specs.Option.{option_map};
 ghost use Rattle.std.specs.Prelude.{◌≡◌, length, take, IfOk, OnOk};
 
@@ -15,8 +15,9 @@ use crate::relations::{restricted, same};
 use crate::scope::{Named, Scope};
 use crate::tables::Tables;
 use crate::terms::{define_number, define_set};
-use ms_edge::{Boxed, List, NoMemory, push};
-use ms_logic::{Arg, Basic, Core, Order, Quant};
+use ms_list::{Boxed, List, NoMemory, push};
+use ms_logic::{Arg, Order, Quant};
+use ms_logic_core::{Basic, Core};
 use std::alloc::Global;
 
 /// A variable that gets a value, if there is one, and the variable that the value is.
@@ -140,18 +141,17 @@ pub fn number_or_set(
     scope: &Scope,
     value: &Arg,
     free: u64,
-    depth: u32,
 ) -> Result<Option<Defined>, NoMemory>
     ensures { IfOk result (IsNumberOrSet (numbering_of tables.now) (argument_of value.now) (names_in scope.now) free) }
 {
     match value {
         Arg::Zero(_) => Ok(None),
         Arg::One(term) => {
-            let made = define_number(tables, scope, term, free, depth)?;
+            let made = define_number(tables, scope, term, free)?;
             Ok(Some(made))
         }
         Arg::Two(set) => {
-            let made = define_set(tables, scope, set, free, depth)?;
+            let made = define_set(tables, scope, set, free)?;
             Ok(Some(made))
         }
     }
@@ -163,7 +163,6 @@ pub fn number_arguments(
     scope: &Scope,
     arguments: &Arguments,
     free: u64,
-    depth: u32,
 ) -> Result<Entered, NoMemory>
     ensures { IfOk result (Enters (numbering_of tables.now)
         (numbers_and_sets (variables_of arguments.now) (arguments_of (values_of arguments.now)) (names_in scope.now)) free) }
@@ -173,7 +172,7 @@ pub fn number_arguments(
         next: free,
     };
     for i in 0..arguments.len() {
-        let value = number_or_set(tables, scope, arguments.value(i), entered.next, depth)?;
+        let value = number_or_set(tables, scope, arguments.value(i), entered.next)?;
         entered = with_value(entered, arguments.variable(i), value)?;
     }
     Ok(entered)

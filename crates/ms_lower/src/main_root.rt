@@ -1,5 +1,5 @@
-ghost use Rattle.ms_logic.specs.CoreForm.{core_form_of};
-ghost use Rattle.ms_logic.specs.Spread.{own_names, restrictions_of, spread_each};
+ghost use Rattle.ms_logic_core.specs.CoreForm.{core_form_of};
+ghost use Rattle.ms_logic_core.specs.Spread.{own_names, restrictions_of, spread_each};
 ghost use Rattle.ms_logic.specs.View.{formula_of, forms, globals_from};
 ghost use Rattle.ms_lower.specs.Callees.{callees_in};
 ghost use Rattle.ms_lower.specs.NumberedRoots.{main_over, renumbered_root, root_of};
@@ -8,12 +8,13 @@ ghost use Rattle.std.specs.List.{range_with_len};
 ghost use Rattle.std.specs.Prelude.{◌≡◌, length, map, IfOk};
 
 use crate::exports::joined;
-use crate::formulas::{DEPTH, formula};
+use crate::formulas::formula;
 use crate::relations::{conjunction, restricted};
 use crate::scope::Scope;
 use crate::tables::Tables;
-use ms_edge::{List, NoMemory, push};
-use ms_logic::{Core, Global, Placed, Root};
+use ms_list::{List, NoMemory, push};
+use ms_logic::{Global, Placed};
+use ms_logic_core::{Core, Root};
 
 // `restrict` of each restriction of the globals.
 fn global_restrictions(
@@ -30,7 +31,7 @@ fn global_restrictions(
         match &global.domain {
             None => {}
             Some(domain) => {
-                let core = formula(tables, &mut scope, domain, free, DEPTH)?;
+                let core = formula(tables, &mut scope, domain, free)?;
                 push(&mut cores, restricted(tables.alloc, core)?.into_inner())?;
             }
         }
@@ -45,7 +46,7 @@ fn placed_formulas(tables: &Tables, formulas: &[Placed], free: u64) -> Result<Li
     let mut scope = Scope::new(tables.alloc);
     let mut cores = List::new(tables.alloc);
     for placed in formulas {
-        let core = formula(tables, &mut scope, &placed.formula, free, DEPTH)?;
+        let core = formula(tables, &mut scope, &placed.formula, free)?;
         push(&mut cores, core.into_inner())?;
     }
     Ok(cores)

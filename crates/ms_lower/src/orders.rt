@@ -1,6 +1,6 @@
 ghost use Rattle.std.specs.Prelude.{◌≡◌, map, IfOk};
 
-use ms_edge::{List, NoMemory, push};
+use ms_list::{List, NoMemory, push};
 use ms_logic::{Global, Order};
 use std::alloc::Global as Allocator;
 

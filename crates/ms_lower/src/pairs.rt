@@ -1,27 +1,24 @@
-ghost use Rattle.ms_logic.specs.CoreForm.{core_form_of};
-ghost use Rattle.ms_logic.specs.Spread.{is_member_or_not, numbers_relate, sets_relate, spread_number, spread_set};
+ghost use Rattle.ms_logic_core.specs.CoreForm.{core_form_of};
+ghost use Rattle.ms_logic_core.specs.Spread.{is_member_or_not, numbers_relate, sets_relate, spread_number, spread_set};
+ghost use Rattle.ms_logic.specs.Tree as tree;
 ghost use Rattle.ms_logic.specs.View.{set_term_of, term_of};
 ghost use Rattle.ms_logic.specs.declared.mode.Order.TheVariants.{One, Two};
-ghost use Rattle.ms_lower.specs.Defined.{AreDefined, below};
+ghost use Rattle.ms_lower.specs.Callees.{spread_in};
+ghost use Rattle.ms_lower.specs.inner.Defined.{AreDefined, below};
 ghost use Rattle.ms_lower.specs.Numbering.{numbering_of};
-ghost use Rattle.ms_lower.specs.Scope.{names_in};
+ghost use Rattle.ms_lower.specs.inner.Scope.{names_in};
 ghost use Rattle.std.specs.Prelude.{◌≡◌, IfOk};
 
+use crate::atoms::of_one;
 use crate::defined::{Defined, over};
 use crate::relations::{number_relation, relate, set_relation};
 use crate::scope::Scope;
 use crate::tables::Tables;
 use crate::terms::{define_number, define_set};
-use ms_edge::{Boxed, NoMemory};
-use ms_logic::{Basic, Core, Rel, Term1, Term2};
+use ms_list::{Boxed, NoMemory};
+use ms_logic::{Rel, Term1, Term2};
+use ms_logic_core::{Basic, Core};
 use std::alloc::Global;
-
-/// A number from which on all are free in the spread, and how many levels a call may go down.
-#[derive(Clone, Copy)]
-pub struct Level {
-    pub free: u64,
-    pub depth: u32,
-}
 
 /// The variables that two terms are, the first around the second.
 #[derive(Drop)]
@@ -30,54 +27,54 @@ pub struct TermPair {
     pub second: Defined,
 }
 
-/// Two numbers.
-pub fn two_numbers(
+// Two numbers.
+fn two_numbers(
     tables: &Tables,
     scope: &Scope,
     first: &Term1,
     second: &Term1,
-    level: Level,
+    free: u64,
 ) -> Result<TermPair, NoMemory>
     ensures { IfOk result (AreDefined (numbering_of tables.now)
         One (spread_number (term_of first.now) (names_in scope.now))
-        One (spread_number (term_of second.now) (names_in scope.now)) level.free) }
+        One (spread_number (term_of second.now) (names_in scope.now)) free) }
 {
-    let first = define_number(tables, scope, first, level.free, level.depth)?;
-    let second = define_number(tables, scope, second, first.next, level.depth)?;
+    let first = define_number(tables, scope, first, free)?;
+    let second = define_number(tables, scope, second, first.next)?;
     Ok(TermPair { first, second })
 }
 
-/// Two sets.
-pub fn two_sets(
+// Two sets.
+fn two_sets(
     tables: &Tables,
     scope: &Scope,
     first: &Term2,
     second: &Term2,
-    level: Level,
+    free: u64,
 ) -> Result<TermPair, NoMemory>
     ensures { IfOk result (AreDefined (numbering_of tables.now)
         Two (spread_set (set_term_of first.now) (names_in scope.now))
-        Two (spread_set (set_term_of second.now) (names_in scope.now)) level.free) }
+        Two (spread_set (set_term_of second.now) (names_in scope.now)) free) }
 {
-    let first = define_set(tables, scope, first, level.free, level.depth)?;
-    let second = define_set(tables, scope, second, first.next, level.depth)?;
+    let first = define_set(tables, scope, first, free)?;
+    let second = define_set(tables, scope, second, first.next)?;
     Ok(TermPair { first, second })
 }
 
-/// A number and a set.
-pub fn number_and_set(
+// A number and a set.
+fn number_and_set(
     tables: &Tables,
     scope: &Scope,
     first: &Term1,
     second: &Term2,
-    level: Level,
+    free: u64,
 ) -> Result<TermPair, NoMemory>
     ensures { IfOk result (AreDefined (numbering_of tables.now)
         One (spread_number (term_of first.now) (names_in scope.now))
-        Two (spread_set (set_term_of second.now) (names_in scope.now)) level.free) }
+        Two (spread_set (set_term_of second.now) (names_in scope.now)) free) }
 {
-    let first = define_number(tables, scope, first, level.free, level.depth)?;
-    let second = define_set(tables, scope, second, first.next, level.depth)?;
+    let first = define_number(tables, scope, first, free)?;
+    let second = define_set(tables, scope, second, first.next)?;
     Ok(TermPair { first, second })
 }
 
@@ -89,8 +86,8 @@ fn over_two(alloc: Global, two: TermPair, body: Boxed<Core>) -> Result<Boxed<Cor
     over(alloc, first, body)
 }
 
-/// A relation of two numbers.
-pub fn compare(alloc: Global, rel: Rel, two: TermPair) -> Result<Boxed<Core>, NoMemory>
+// A relation of two numbers.
+fn compare(alloc: Global, rel: Rel, two: TermPair) -> Result<Boxed<Core>, NoMemory>
     ensures { IfOk result (λ core. core_form_of core
         ≡ below two.first (below two.second (numbers_relate rel two.first.number two.second.number))) }
 {
@@ -98,8 +95,8 @@ pub fn compare(alloc: Global, rel: Rel, two: TermPair) -> Result<Boxed<Core>, No
     over_two(alloc, two, body)
 }
 
-/// A relation of two sets.
-pub fn compare_sets(alloc: Global, rel: Rel, two: TermPair) -> Result<Boxed<Core>, NoMemory>
+// A relation of two sets.
+fn compare_sets(alloc: Global, rel: Rel, two: TermPair) -> Result<Boxed<Core>, NoMemory>
     ensures { IfOk result (λ core. core_form_of core
         ≡ below two.first (below two.second (sets_relate rel two.first.number two.second.number))) }
 {
@@ -107,12 +104,76 @@ pub fn compare_sets(alloc: Global, rel: Rel, two: TermPair) -> Result<Boxed<Core
     over_two(alloc, two, body)
 }
 
-/// `in`, or where it is not positive `notin`.
-pub fn membership(alloc: Global, positive: bool, two: TermPair) -> Result<Boxed<Core>, NoMemory>
+// `in`, or where it is not positive `notin`.
+fn member(alloc: Global, positive: bool, two: TermPair) -> Result<Boxed<Core>, NoMemory>
     ensures { IfOk result (λ core. core_form_of core
         ≡ below two.first (below two.second (is_member_or_not positive two.first.number two.second.number))) }
 {
     let relates = Basic::Member(two.first.number, two.second.number);
     let body = relate(alloc, relates, positive)?;
     over_two(alloc, two, body)
+}
+
+/// A relation of two terms for numbers.
+#[inline(never)]
+pub fn comparison(
+    tables: &Tables,
+    scope: &Scope,
+    rel: Rel,
+    sides: (&Term1, &Term1),
+    free: u64,
+) -> Result<Boxed<Core>, NoMemory>
+    ensures { IfOk result (λ core. core_form_of core ≡ spread_in tables.now
+        (tree.comparison rel (term_of sides.entry.0.now) (term_of sides.entry.1.now)) (names_in scope.now) free) }
+{
+    let two = two_numbers(tables, scope, sides.0, sides.1, free)?;
+    compare(tables.alloc, rel, two)
+}
+
+/// A relation of two terms for sets.
+#[inline(never)]
+pub fn set_comparison(
+    tables: &Tables,
+    scope: &Scope,
+    rel: Rel,
+    sides: (&Term2, &Term2),
+    free: u64,
+) -> Result<Boxed<Core>, NoMemory>
+    ensures { IfOk result (λ core. core_form_of core ≡ spread_in tables.now
+        (tree.set_comparison rel (set_term_of sides.entry.0.now) (set_term_of sides.entry.1.now)) (names_in scope.now) free) }
+{
+    let two = two_sets(tables, scope, sides.0, sides.1, free)?;
+    compare_sets(tables.alloc, rel, two)
+}
+
+/// `in` of a term for a number and a term for a set, or where it is not positive `notin`.
+#[inline(never)]
+pub fn membership(
+    tables: &Tables,
+    scope: &Scope,
+    positive: bool,
+    sides: (&Term1, &Term2),
+    free: u64,
+) -> Result<Boxed<Core>, NoMemory>
+    ensures { IfOk result (λ core. core_form_of core ≡ spread_in tables.now
+        (tree.membership positive (term_of sides.entry.0.now) (set_term_of sides.entry.1.now)) (names_in scope.now) free) }
+{
+    let two = number_and_set(tables, scope, sides.0, sides.1, free)?;
+    member(tables.alloc, positive, two)
+}
+
+/// `empty` of a term for a set.
+#[inline(never)]
+pub fn emptiness(
+    tables: &Tables,
+    scope: &Scope,
+    set: &Term2,
+    free: u64,
+) -> Result<Boxed<Core>, NoMemory>
+    ensures { IfOk result (λ core. core_form_of core ≡ spread_in tables.now
+        (tree.emptiness (set_term_of set.now)) (names_in scope.now) free) }
+{
+    let set = define_set(tables, scope, set, free)?;
+    let relates = Basic::Bits(set.number, 0);
+    of_one(tables.alloc, set, relates)
 }

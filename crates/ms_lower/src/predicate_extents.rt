@@ -1,14 +1,14 @@
-ghost use Rattle.ms_logic.specs.Size.{extent_under, extents_of, extents_of_restriction, extents_of_restrictions};
+ghost use Rattle.ms_logic_core.specs.Size.{extent_under, extents_of, extents_of_restriction, extents_of_restrictions};
 ghost use Rattle.ms_logic.specs.View.{declaration_of, formula_of, predicate_of, restriction};
 ghost use Rattle.ms_lower.specs.Counted.{counted, deepest};
-ghost use Rattle.ms_lower.specs.Extents.{AreExtents, HasEntries, called_by, known_extents};
+ghost use Rattle.ms_lower.specs.inner.Extents.{AreExtents, HasEntries, called_by, known_extents};
 ghost use Rattle.std.specs.Option.{option_map};
 ghost use Rattle.std.specs.Prelude.{◌≡◌, ◌∷◌, [], ◌++◌, ◌≤◌, map, IfOk};
 
 use crate::called::{Called, Extents};
 use crate::counted::{Counted, DEEPEST, NO_PARTS, both};
 use crate::extents::count_formula;
-use ms_edge::{List, NoMemory, push};
+use ms_list::{List, NoMemory, push};
 use ms_logic::{Formula, Param, Predicate};
 use std::alloc::Global;
 

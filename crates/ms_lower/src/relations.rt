@@ -1,17 +1,18 @@
-ghost use Rattle.ms_logic.specs.CoreForm.{CoreForm, basic, core_form_of};
-ghost use Rattle.ms_logic.specs.Spread.{conjunction_of, is_member_or_not, numbers_relate, sets_relate, spread_under};
-ghost use Rattle.ms_logic.specs.CoreForm.{equivalence, falsity, restrict, truth};
+ghost use Rattle.ms_logic_core.specs.CoreForm.{CoreForm, basic, core_form_of};
+ghost use Rattle.ms_logic_core.specs.Spread.{conjunction_of, is_member_or_not, numbers_relate, sets_relate, spread_under};
+ghost use Rattle.ms_logic_core.specs.CoreForm.{equivalence, falsity, restrict, truth};
 ghost use Rattle.ms_logic.specs.Tree as tree;
 ghost use Rattle.ms_lower.specs.Callees.{basic_or_not, callees_in, disjunction_over};
 ghost use Rattle.ms_lower.specs.Numbering.{numbering_of, renumbered, variable_of_pair, variables_of_use};
-ghost use Rattle.ms_lower.specs.Scope.{names_in};
+ghost use Rattle.ms_lower.specs.inner.Scope.{names_in};
 ghost use Rattle.std.specs.Prelude.{◌≡◌, map, slice_get, if◌then◌else◌, IfOk};
 
 use crate::cores::{not, relation};
 use crate::scope::Scope;
 use crate::tables::{Tables, number};
-use ms_edge::{Boxed, List, NoMemory, on_heap, push};
-use ms_logic::{Basic, Core, ImportUse, MapPair, Order, Rel};
+use ms_list::{Boxed, List, NoMemory, on_heap, push};
+use ms_logic::{ImportUse, MapPair, Order, Rel};
+use ms_logic_core::{Basic, Core};
 use std::alloc::Global;
 
 /// A basic relation, or where it is not positive its negation.

@@ -1,9 +1,9 @@
-ghost use Rattle.ms_logic.specs.Spread.{is_order};
+ghost use Rattle.ms_logic_core.specs.Spread.{is_order};
 ghost use Rattle.ms_lower.specs.NumberedRoots.{order_seen, seen_over};
-ghost use Rattle.ms_lower.specs.Scope.{names_in};
+ghost use Rattle.ms_lower.specs.inner.Scope.{names_in};
 ghost use Rattle.std.specs.Prelude.{◌≡◌, ◌++◌, ◌∷◌, [], ◌==◌, ◌&&◌, length, take, OnOk};
 
-use ms_edge::NoMemory;
+use ms_list::NoMemory;
 use ms_logic::Order;
 use std::alloc::Global;
 use std::marker::Model;

@@ -7,8 +7,10 @@ use crate::all_roots::all_roots;
 use crate::orders::orders;
 use crate::source_measure::measure;
 use crate::tables::Tables;
-use ms_edge::{List, NoMemory, Refusal};
-use ms_logic::{Checked, Lowered, Root};
+use ms_edge::Refusal;
+use ms_list::{List, NoMemory};
+use ms_logic::Checked;
+use ms_logic_core::{Lowered, Root};
 use std::alloc::Global;
 
 fn roots_of(alloc: Global, checked: &Checked) -> Result<List<Root>, NoMemory>

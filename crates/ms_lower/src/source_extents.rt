@@ -1,6 +1,6 @@
-ghost use Rattle.ms_logic.specs.Size.{Extent};
+ghost use Rattle.ms_logic_core.specs.Size.{Extent};
 ghost use Rattle.ms_lower.specs.Counted.{counted, deepest};
-ghost use Rattle.ms_lower.specs.Extents.{AreExtents, known_extents};
+ghost use Rattle.ms_lower.specs.inner.Extents.{AreExtents, known_extents};
 ghost use Rattle.ms_lower.specs.TooDeep.{IsFound, Part, parts_under};
 ghost use Rattle.std.specs.Prelude.{◌≡◌, ◌∷◌, [], ◌++◌, List};
 
@@ -8,7 +8,7 @@ use crate::called::Extents;
 use crate::counted::{Counted, DEEPEST, NO_PARTS, sum};
 use crate::extents::count_formula;
 use crate::predicate_extents::count_domain;
-use ms_edge::At;
+use ms_list::At;
 use ms_logic::{Global, Placed};
 
 /// A declaration that is too deep: its number and its place.

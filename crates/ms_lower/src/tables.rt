@@ -2,7 +2,7 @@ ghost use Rattle.ms_lower.specs.Callees.{IsTablesOf, callable, callees_in};
 ghost use Rattle.ms_lower.specs.Numbering.{number_at, rank};
 ghost use Rattle.std.specs.Prelude.{◌≡◌, ◌<◌, ◌^◌, map, min, slice_get, IfNone, IfOk, IfSome, None, Some, OnOk};
 
-use ms_edge::NoMemory;
+use ms_list::NoMemory;
 use ms_logic::{Checked, ImportUse, Order, Param, Predicate};
 use std::alloc::Global;
 

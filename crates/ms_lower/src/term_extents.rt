@@ -1,4 +1,4 @@
-ghost use Rattle.ms_logic.specs.Size.{extent_of_number, extent_of_set, extents_of_elements};
+ghost use Rattle.ms_logic_core.specs.Size.{extent_of_number, extent_of_set, extents_of_elements};
 ghost use Rattle.ms_logic.specs.View.{set_term_of, term_of, terms};
 ghost use Rattle.ms_lower.specs.Counted.{counted};
 ghost use Rattle.std.specs.Prelude.{◌≡◌, ◌∷◌, [], ◌<◌, map};

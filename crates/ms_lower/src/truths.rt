@@ -1,16 +1,16 @@
-ghost use Rattle.ms_logic.specs.Spread.{Names, truth_value, variable_of_form};
-ghost use Rattle.ms_logic.specs.CoreForm.{CoreForm};
+ghost use Rattle.ms_logic_core.specs.Spread.{Names, truth_value, variable_of_form};
+ghost use Rattle.ms_logic_core.specs.CoreForm.{CoreForm};
 ghost use Rattle.ms_logic.specs.View.{declaration_of, formula_of};
 ghost use Rattle.ms_logic.specs.declared.mode.Order.TheVariants.{Zero};
-ghost use Rattle.ms_lower.specs.Given.{IsGiven};
+ghost use Rattle.ms_lower.specs.inner.Given.{IsGiven};
 ghost use Rattle.ms_lower.specs.Numbering.{numbering_of};
-ghost use Rattle.ms_lower.specs.Scope.{all_named, default_over, names_in};
+ghost use Rattle.ms_lower.specs.inner.Scope.{all_named, default_over, names_in};
 ghost use Rattle.std.specs.Prelude.{◌≡◌, ◌++◌, ◌∷◌, [], ℕ, length, map, take, IfOk, OnOk, Some};
 
 use crate::defined::Defined;
 use crate::scope::{Named, Scope};
 use crate::tables::{Tables, number};
-use ms_edge::{List, NoMemory, push};
+use ms_list::{List, NoMemory, push};
 use ms_logic::{Formula, Order, Param};
 use std::alloc::Global;
 

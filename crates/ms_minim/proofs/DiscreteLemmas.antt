@@ -7,14 +7,14 @@ use Rattle.ms_arena.specs.declared.node.Ref.TheVariants.{Inner}
 use Rattle.ms_arena.specs.declared.node.Node.{Node}
 use Rattle.ms_arena.proofs.Lists.{slice_get-held, slice_get-pushed}
 use Rattle.ms_diagram.specs.Store.{IsStore}
-use Rattle.ms_logic.specs.declared.sign.Sign.{Sign}
-use Rattle.ms_logic.specs.Content.{Content, sign_at}
+use Rattle.ms_logic_words.specs.declared.sign.Sign.{Sign}
+use Rattle.ms_logic_words.specs.Content.{Content, sign_at}
 use Rattle.ms_minim.specs.declared.images.Images.{Images}
 use Rattle.ms_minim.specs.declared.origins.Origins.{Origins}
-use Rattle.ms_minim.specs.Discrete.{AreOwnImages}
-use Rattle.ms_minim.specs.Image.{IsImage, AreImages}
-use Rattle.ms_minim.specs.Origin.{AreOrigins}
-use Rattle.ms_minim.specs.Partition.{IsIdentity, HaveOneClass, IsInhabited, IsPartition, AreNerodeClasses, next_by}
+use Rattle.ms_minim.specs.inner.Discrete.{AreOwnImages}
+use Rattle.ms_minim.specs.inner.Image.{IsImage, AreImages}
+use Rattle.ms_minim.specs.inner.Origin.{AreOrigins}
+use Rattle.ms_minim.specs.inner.Partition.{IsIdentity, HaveOneClass, IsInhabited, IsPartition, AreNerodeClasses, next_by}
 use Rattle.ms_minim.specs.Reading.{IsRead}
 use Rattle.ms_minim.proofs.OriginLemmas.{comes_leaves}
 use Rattle.ms_minim.proofs.Pigeonhole.{pigeonhole}

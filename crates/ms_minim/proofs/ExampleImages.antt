@@ -7,8 +7,8 @@ use Rattle.ms_arena.specs.declared.node.Node.{Node}
 use Rattle.ms_arena.specs.Diagram.{Bits, leaf_of, IsBefore, TestsAbove}
 use Rattle.ms_arena.proofs.Paths.{leaf_of-leaf}
 use Rattle.ms_diagram.specs.Store.{IsStore}
-use Rattle.ms_minim.specs.Examples.{one_image, one_node, three_states}
-use Rattle.ms_minim.specs.Image.{AreImages, HaveImages, IsImage}
+use Rattle.ms_minim.specs.inner.Examples.{one_image, one_node, three_states}
+use Rattle.ms_minim.specs.inner.Image.{AreImages, HaveImages, IsImage}
 use Rattle.ms_minim.proofs.ExampleOrigins.{one_node-leaf}
 
 -- a node with the classes at its ends

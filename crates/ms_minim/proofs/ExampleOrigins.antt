@@ -6,11 +6,11 @@ use Rattle.ms_arena.specs.declared.node.Ref.TheVariants.{Leaf, Inner}
 use Rattle.ms_arena.specs.declared.node.Node.{Node}
 use Rattle.ms_arena.specs.Diagram.{Bits, leaf_number, leaf_of}
 use Rattle.ms_arena.proofs.Paths.{leaf_of-leaf}
-use Rattle.ms_logic.specs.declared.sign.Sign.{Sign}
-use Rattle.ms_logic.specs.Content.{Content}
+use Rattle.ms_logic_words.specs.declared.sign.Sign.{Sign}
+use Rattle.ms_logic_words.specs.Content.{Content}
 use Rattle.ms_minim.specs.declared.origins.Origins.{Origins}
-use Rattle.ms_minim.specs.Examples.{AreNoted, one_node, three_states, two_nodes, with_unreached}
-use Rattle.ms_minim.specs.Origin.{AreClosed, AreOrigins, ComesFrom, HasPlace, IsSeen, next_of, nowhere, origin_at, root_at}
+use Rattle.ms_minim.specs.inner.Examples.{AreNoted, one_node, three_states, two_nodes, with_unreached}
+use Rattle.ms_minim.specs.inner.Origin.{AreClosed, AreOrigins, ComesFrom, HasPlace, IsSeen, next_of, nowhere, origin_at, root_at}
 
 -- the bits lead to one of the leaves of a node
 pub one_node-leaf : (var low high : ℕ) (bits : Bits) → leaf_of (one_node var low high) (Inner 0) bits ≡ (if bits var then high else low)

@@ -2,8 +2,8 @@
 -- (Myhill, 1957; Nerode, 1958).
 use Rattle.std.proofs.Common.{◌≡◌, ◌≢◌, ℕ, ◌<◌, ◌≤◌, Bool, true, false, List, length, slice_get, Some, Result, refl, sym, ap, subst, ◌∙◌, arith}
 use Rattle.std.proofs.lemmas.Option.{slice_get_within, same_Some, get_or_from_slice_get}
-use Rattle.ms_edge.specs.declared.fault.StepFault.{StepFault}
-use Rattle.ms_edge.specs.declared.refusal.Word.{Word}
+use Rattle.ms_list.specs.declared.fault.StepFault.{StepFault}
+use Rattle.ms_list.specs.declared.word.Word.{Word}
 use Rattle.ms_arena.specs.declared.node.Ref.{Ref}
 use Rattle.ms_arena.specs.declared.node.Node.{Node}
 use Rattle.ms_arena.specs.Bits.{with_bit}
@@ -17,20 +17,20 @@ use Rattle.ms_dfa.specs.declared.track.Track.{Track}
 use Rattle.ms_logic.specs.declared.mode.Mode.{Mode}
 use Rattle.ms_dfa.specs.declared.state.State.{State}
 use Rattle.ms_logic.specs.declared.mode.Order.{Order}
-use Rattle.ms_logic.specs.declared.sign.Sign.{Sign}
-use Rattle.ms_logic.specs.Content.{Content, HasValueAt, AreLetters, IsWordOver, IsClosed, IsFollowed, is_in_letters, is_truth_value, first_state, state_after, last_state, sign_at, sign_of, truth_bits, letter_bits}
-use Rattle.ms_logic.proofs.WordLaws.{encoding_is_over}
-use Rattle.ms_theory.specs.Machine.{machine_of}
-use Rattle.ms_theory.specs.Values.{own_meaning}
-use Rattle.ms_theory.proofs.MachineLemmas.{related_at_end, state_after-machine}
-use Rattle.ms_theory.proofs.OwnMeaningLemmas.{next_within, last_within, word_has_sign, HasValues-own, IsMeaning-own}
-use Rattle.ms_theory.proofs.ValuesLemmas.{IsAutomaton-by_values}
-use Rattle.ms_explore.specs.Explored.{Findings, Leads, Follows, Explores}
-use Rattle.ms_explore.specs.Run.{IsOver, AreNames}
-use Rattle.ms_explore.proofs.RunLemmas.{explored, length-states_of, IsClosed-explored, IsSimulation-explored, sign_of_explored}
+use Rattle.ms_logic_words.specs.declared.sign.Sign.{Sign}
+use Rattle.ms_logic_words.specs.Content.{Content, HasValueAt, AreLetters, IsWordOver, IsClosed, IsFollowed, is_in_letters, is_truth_value, first_state, state_after, last_state, sign_at, sign_of, truth_bits, letter_bits}
+use Rattle.ms_logic_words.proofs.WordLaws.{encoding_is_over}
+use Rattle.ms_dfa.specs.Machine.{machine_of}
+use Rattle.ms_dfa.specs.Values.{own_meaning}
+use Rattle.ms_dfa.proofs.MachineLemmas.{related_at_end, state_after-machine}
+use Rattle.ms_dfa.proofs.OwnMeaningLemmas.{next_within, last_within, word_has_sign, HasValues-own, IsMeaning-own}
+use Rattle.ms_dfa.proofs.ValuesLemmas.{IsAutomaton-by_values}
+use Rattle.ms_dfa_explore.specs.Explored.{Findings, Leads, Follows, Explores}
+use Rattle.ms_dfa_explore.specs.inner.Run.{IsOver, AreNames}
+use Rattle.ms_dfa_explore.proofs.RunLemmas.{explored, length-states_of, IsClosed-explored, IsSimulation-explored, sign_of_explored}
 use Rattle.ms_minim.specs.Residual.{HaveEqualResiduals, HaveEqualSigns, HasFewestStates}
-use Rattle.ms_minim.specs.Partition.{HaveOneClass, behind, next_by}
-use Rattle.ms_minim.specs.Quotient.{Quotienting, IsNumberOf, IsMemberOf, IsQuotient, sign_or_outside, sign_of_number, quotient_findings}
+use Rattle.ms_minim.specs.inner.Partition.{HaveOneClass, behind, next_by}
+use Rattle.ms_minim.specs.inner.Quotient.{Quotienting, IsNumberOf, IsMemberOf, IsQuotient, sign_or_outside, sign_of_number, quotient_findings}
 use Rattle.ms_minim.specs.Reduced.{IsReducedOf, content_over}
 use Rattle.ms_minim.proofs.LettersLemmas.{over-with_letters, sign_of-with_letters, with_letters}
 use Rattle.ms_minim.proofs.Pigeonhole.{counted}

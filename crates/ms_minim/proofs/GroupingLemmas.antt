@@ -7,8 +7,8 @@ use Rattle.ms_arena.proofs.Appending.{Extends-further, slice_get-extends}
 use Rattle.ms_arena.proofs.Lists.{slice_get-pushed}
 use Rattle.ms_diagram.specs.Numbering.{Numbers}
 use Rattle.ms_diagram.proofs.NumberingLemmas.{Extends-numbers}
-use Rattle.ms_minim.specs.Grouping.{AreListed, AreWithin, IsDue, IsMoved}
-use Rattle.ms_minim.specs.Predecessors.{AreBelow, IsListed}
+use Rattle.ms_minim.specs.inner.Grouping.{AreListed, AreWithin, IsDue, IsMoved}
+use Rattle.ms_minim.specs.inner.Predecessors.{AreBelow, IsListed}
 
 -- what is due stays due
 pub IsDue-later : (early late : List (ℕ × ℕ)) → Extends early late → (state : ℕ) → IsDue early state → IsDue late state

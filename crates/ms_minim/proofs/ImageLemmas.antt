@@ -11,13 +11,13 @@ use Rattle.ms_arena.proofs.Lists.{slice_get-held, slice_get-pushed}
 use Rattle.ms_arena.proofs.Paths.{leaf_of-leaf, leaf_of-node}
 use Rattle.ms_diagram.specs.Relabel.{MappedLeaf}
 use Rattle.ms_diagram.specs.Store.{Contents, IsStore}
-use Rattle.ms_logic.specs.declared.sign.Sign.{Sign}
-use Rattle.ms_logic.specs.Content.{Content}
+use Rattle.ms_logic_words.specs.declared.sign.Sign.{Sign}
+use Rattle.ms_logic_words.specs.Content.{Content}
 use Rattle.ms_minim.specs.declared.images.Images.{Images}
 use Rattle.ms_minim.specs.declared.origins.Origins.{Origins}
-use Rattle.ms_minim.specs.Image.{IsImage, HaveImages, AreImages, image_of}
-use Rattle.ms_minim.specs.Origin.{IsOn, IsSeen}
-use Rattle.ms_minim.specs.Partition.{IsRoot}
+use Rattle.ms_minim.specs.inner.Image.{IsImage, HaveImages, AreImages, image_of}
+use Rattle.ms_minim.specs.inner.Origin.{IsOn, IsSeen}
+use Rattle.ms_minim.specs.inner.Partition.{IsRoot}
 
 -- an image stays one when nodes are added
 pub IsImage-extends : (old_new new old : List Node) (classes : List ℕ) (root made : Ref) → IsOrdered old_new → Extends old_new new → IsImage old_new old classes root made

@@ -9,12 +9,12 @@ use Rattle.ms_arena.specs.Target.{Meets, Extends}
 use Rattle.ms_arena.proofs.ReachLemmas.{leaf_of-tested}
 use Rattle.ms_diagram.specs.Bring.{read_through, RenamedLeaf, Renames}
 use Rattle.ms_diagram.specs.Relabel.{MappedLeaf}
-use Rattle.ms_logic.specs.declared.sign.Sign.{Sign}
-use Rattle.ms_logic.specs.Content.{Content}
+use Rattle.ms_logic_words.specs.declared.sign.Sign.{Sign}
+use Rattle.ms_logic_words.specs.Content.{Content}
 use Rattle.ms_logic.specs.Assignment.{Variable}
-use Rattle.ms_logic.specs.Roots.{AreRising}
-use Rattle.ms_explore.specs.Tracks.{place_of, places_among}
-use Rattle.ms_explore.proofs.AmongLemmas.{one_place, leads_to}
+use Rattle.ms_logic.specs.Lists.{AreRising}
+use Rattle.ms_dfa_explore.specs.Tracks.{place_of, places_among}
+use Rattle.ms_dfa_explore.proofs.AmongLemmas.{one_place, leads_to}
 use Rattle.ms_arena.proofs.Lists.{slice_get-held}
 use Rattle.std.proofs.lemmas.List.{length-map}
 use Rattle.std.specs.Prelude.{IsTrue}
@@ -24,11 +24,11 @@ use Rattle.ms_diagram.proofs.TableGrowth.{AreBrought-grow, AreBrought-origin_gro
 use Rattle.ms_minim.specs.declared.classes.LeadTables.{LeadTables}
 use Rattle.ms_minim.specs.declared.origins.Origins.{Origins}
 use Rattle.ms_minim.specs.declared.quotient.QuotientTables.{QuotientTables}
-use Rattle.ms_minim.specs.Image.{AreImages}
-use Rattle.ms_minim.specs.Lead.{AreLed, AreNumbered, IsGrownFrom}
-use Rattle.ms_minim.specs.Origin.{AreOrigins}
+use Rattle.ms_minim.specs.inner.Image.{AreImages}
+use Rattle.ms_minim.specs.inner.Lead.{AreLed, AreNumbered, IsGrownFrom}
+use Rattle.ms_minim.specs.inner.Origin.{AreOrigins}
 use Rattle.ms_minim.proofs.ImageLemmas.{AreImages-grow}
-use Rattle.ms_minim.specs.Partition.{IsIdentity, IsRoot}
+use Rattle.ms_minim.specs.inner.Partition.{IsIdentity, IsRoot}
 
 -- what is tested is read through the map
 pub Renames-identity : (nodes : List Node) (root : Ref) (count : ℕ) (map : List ℕ) → IsIdentity count map → ((var : ℕ) → IsTested nodes root var → var < count) → Renames nodes map root

@@ -1,8 +1,8 @@
 -- A word, and letters behind it.
 use Rattle.std.proofs.Common.{◌≡◌, ℕ, Bool, List, [], ◌∷◌, ◌++◌, refl, ap}
-use Rattle.ms_edge.specs.declared.refusal.Word.{Word}
+use Rattle.ms_list.specs.declared.word.Word.{Word}
 use Rattle.ms_logic.specs.Assignment.{Variable}
-use Rattle.ms_logic.specs.Content.{Content, AreLetters, IsWordOver, first_state, next_state, state_after, last_state, sign_at, sign_of}
+use Rattle.ms_logic_words.specs.Content.{Content, AreLetters, IsWordOver, first_state, next_state, state_after, last_state, sign_at, sign_of}
 
 module _ {Sign : Type 0} (content : Content Sign) where
   -- letters, and more behind them

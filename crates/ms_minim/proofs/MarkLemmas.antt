@@ -12,11 +12,11 @@ use Rattle.ms_arena.proofs.Lists.{slice_get-held, slice_get-pushed}
 use Rattle.ms_diagram.specs.Numbering.{IsNumbering}
 use Rattle.ms_diagram.specs.Relabel.{MappedLeaf}
 use Rattle.ms_diagram.specs.Store.{IsStore}
-use Rattle.ms_logic.specs.declared.sign.Sign.{Sign}
-use Rattle.ms_logic.specs.declared.sign.Sign.TheVariants.{Yes, No, Undefined, Outside}
-use Rattle.ms_logic.specs.Content.{StateOf, Content}
-use Rattle.ms_minim.specs.Partition.{AreMarks, behind, next_by}
-use Rattle.ms_minim.specs.Marks.{pair_of, mark_of_sign, IsMarkOf, MarksSoFar}
+use Rattle.ms_logic_words.specs.declared.sign.Sign.{Sign}
+use Rattle.ms_logic_words.specs.declared.sign.Sign.TheVariants.{Yes, No, Undefined, Outside}
+use Rattle.ms_logic_words.specs.Content.{StateOf, Content}
+use Rattle.ms_minim.specs.inner.Partition.{AreMarks, behind, next_by}
+use Rattle.ms_minim.specs.inner.Marks.{pair_of, mark_of_sign, IsMarkOf, MarksSoFar}
 
 -- a pair stands for one reference
 pair_of-one : (one other : Ref) → pair_of one ≡ pair_of other → one ≡ other

@@ -2,8 +2,8 @@
 use Rattle.std.proofs.Common.{◌≡◌, ⊎_elim, ℕ, zero, suc, ◌+◌, ◌<◌, ◌≤◌, false, List, [], ◌∷◌, ◌++◌, length, length-append, slice_get, Some, None, Err, refl, sym, ap, subst, ◌∙◌, arith}
 use Rattle.std.proofs.lemmas.Bool.{cases_lt}
 use Rattle.std.proofs.lemmas.Option.{slice_get_within, same_Some}
-use Rattle.ms_edge.specs.declared.fault.StepFault.{StepFault}
-use Rattle.ms_edge.specs.declared.fault.StepFault.TheVariants.{Nodes, Memory}
+use Rattle.ms_list.specs.declared.fault.StepFault.{StepFault}
+use Rattle.ms_list.specs.declared.fault.StepFault.TheVariants.{Nodes, Memory}
 use Rattle.ms_arena.specs.declared.node.Ref.{Ref}
 use Rattle.ms_arena.specs.declared.node.Ref.TheVariants.{Leaf, Inner}
 use Rattle.ms_arena.specs.declared.node.Node.{Node}
@@ -20,11 +20,11 @@ use Rattle.ms_arena.proofs.Paths.{IsBefore-later, IsBefore-end_at, leaf_of-leaf,
 use Rattle.ms_arena.proofs.ReachLemmas.{IsTested-above, leaf_of-tested}
 use Rattle.ms_diagram.specs.Store.{Contents}
 use Rattle.ms_dfa.specs.declared.state.State.{State}
-use Rattle.ms_logic.specs.declared.sign.Sign.{Sign}
-use Rattle.ms_logic.specs.Content.{Content}
-use Rattle.ms_explore.specs.Explored.{Findings, Origin, IsFound, target_of, GrowsForSome, OnRefused, IsFullForSome, Explores}
-use Rattle.ms_minim.specs.Partition.{behind, next_by}
-use Rattle.ms_minim.specs.Quotient.{IsNumberOf, IsQuotient, quotient_findings}
+use Rattle.ms_logic_words.specs.declared.sign.Sign.{Sign}
+use Rattle.ms_logic_words.specs.Content.{Content}
+use Rattle.ms_dfa_explore.specs.Explored.{Findings, Origin, IsFound, target_of, GrowsForSome, OnRefused, IsFullForSome, Explores}
+use Rattle.ms_minim.specs.inner.Partition.{behind, next_by}
+use Rattle.ms_minim.specs.inner.Quotient.{IsNumberOf, IsQuotient, quotient_findings}
 use Rattle.ms_minim.proofs.FewestLemmas.{few_numbers, one_member, member_within}
 use Rattle.ms_minim.proofs.Pigeonhole.{counted}
 use Rattle.ms_minim.proofs.QuotientLemmas.{one_number}

@@ -13,14 +13,14 @@ use Rattle.ms_arena.proofs.Canonicity.{end_for, leaf_of-end_for}
 use Rattle.ms_arena.proofs.Lists.{slice_get-held}
 use Rattle.ms_arena.proofs.Paths.{IsBefore-later, leaf_of-leaf}
 use Rattle.ms_logic.specs.declared.mode.Order.{Order}
-use Rattle.ms_logic.specs.declared.sign.Sign.{Sign}
-use Rattle.ms_logic.specs.Content.{StateOf, Content, IsFollowed, is_truth_value, first_state, state_after}
-use Rattle.ms_theory.specs.Narrow.{gathered}
-use Rattle.ms_theory.proofs.GatheredLemmas.{length-gathered}
-use Rattle.ms_theory.proofs.NarrowLemmas.{leaf_of-gathered}
+use Rattle.ms_logic_words.specs.declared.sign.Sign.{Sign}
+use Rattle.ms_logic_words.specs.Content.{StateOf, Content, IsFollowed, is_truth_value, first_state, state_after}
+use Rattle.ms_dfa.specs.Narrow.{gathered}
+use Rattle.ms_dfa.proofs.GatheredLemmas.{length-gathered}
+use Rattle.ms_dfa.proofs.NarrowLemmas.{leaf_of-gathered}
 use Rattle.ms_minim.specs.declared.origins.Origins.{Origins}
-use Rattle.ms_minim.specs.Origin.{nowhere, next_of, root_at, ComesFrom, origin_at, HasPlace, IsSeen, IsNoted, OriginsSoFar, AreOrigins, IsReachedState}
-use Rattle.ms_minim.specs.Partition.{behind, next_by}
+use Rattle.ms_minim.specs.inner.Origin.{nowhere, next_of, root_at, ComesFrom, origin_at, HasPlace, IsSeen, IsNoted, OriginsSoFar, AreOrigins, IsReachedState}
+use Rattle.ms_minim.specs.inner.Partition.{behind, next_by}
 use Rattle.ms_minim.specs.Reading.{IsRead}
 use Rattle.ms_minim.proofs.LettersLemmas.{AreLetters-append, state_after-append}
 use Rattle.ms_minim.proofs.PartitionLemmas.{some_state}

@@ -5,13 +5,13 @@ use Rattle.std.proofs.lemmas.Option.{slice_get_within, same_Some, none-some}
 use Rattle.ms_arena.proofs.Lists.{slice_get-held, slice_get-append_left, slice_get-push, slice_get-pushed}
 use Rattle.ms_arena.specs.Diagram.{Bits}
 use Rattle.ms_minim.specs.Reading.{IsRead}
-use Rattle.ms_logic.specs.declared.sign.Sign.{Sign}
-use Rattle.ms_logic.specs.Content.{Content}
-use Rattle.ms_edge.specs.declared.fault.NoMemory.{NoMemory}
+use Rattle.ms_logic_words.specs.declared.sign.Sign.{Sign}
+use Rattle.ms_logic_words.specs.Content.{Content}
+use Rattle.ms_list.specs.declared.fault.NoMemory.{NoMemory}
 use Rattle.ms_minim.specs.declared.classes.Partition.{Partition}
 use Rattle.ms_minim.specs.Residual.{HaveEqualResiduals}
-use Rattle.ms_minim.specs.Partition.{HaveOneClass, IsInhabited, LeadAlike, IsPartition, IsPassed, AreNerodeClasses, AreMarks, AreSignMarks, next_by}
-use Rattle.ms_minim.specs.Split.{IsSplit, AreZeros}
+use Rattle.ms_minim.specs.inner.Partition.{HaveOneClass, IsInhabited, LeadAlike, IsPartition, IsPassed, AreNerodeClasses, AreMarks, AreSignMarks, next_by}
+use Rattle.ms_minim.specs.inner.Split.{IsSplit, AreZeros}
 use Rattle.ms_minim.proofs.Pigeonhole.{counted}
 use Rattle.ms_minim.proofs.ResidualLemmas.{next_by-within, residuals_next}
 

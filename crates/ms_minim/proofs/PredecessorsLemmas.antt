@@ -14,10 +14,10 @@ use Rattle.ms_arena.proofs.Paths.{IsBefore-later, IsBefore-end_at, leaf_of-leaf,
 use Rattle.ms_diagram.specs.Leaves.{noted, leaves_of, KnowsAll}
 use Rattle.ms_diagram.proofs.LeavesLemmas.{leaves_within-leaf, leaves_within-node, KnowsAll-noted}
 use Rattle.ms_minim.specs.Reading.{IsRead}
-use Rattle.ms_logic.specs.declared.sign.Sign.{Sign}
-use Rattle.ms_logic.specs.Content.{StateOf, Content}
-use Rattle.ms_minim.specs.Partition.{next_by}
-use Rattle.ms_minim.specs.Predecessors.{IsListed, AreBelow, PredecessorsSoFar}
+use Rattle.ms_logic_words.specs.declared.sign.Sign.{Sign}
+use Rattle.ms_logic_words.specs.Content.{StateOf, Content}
+use Rattle.ms_minim.specs.inner.Partition.{next_by}
+use Rattle.ms_minim.specs.inner.Predecessors.{IsListed, AreBelow, PredecessorsSoFar}
 use Rattle.ms_minim.proofs.MarkLemmas.{leads_by}
 use Rattle.ms_minim.proofs.ResidualLemmas.{next_by-within}
 

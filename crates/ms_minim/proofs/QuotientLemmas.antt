@@ -2,7 +2,7 @@
 use Rattle.std.proofs.Common.{◌≡◌, ◌≢◌, ℕ, ◌<◌, ◌≤◌, inl, inr, ⊎_elim, Bool, true, false, List, [], ◌∷◌, ◌++◌, length, slice_get, Some, Result, IfSome, refl, sym, ap, subst, ◌∙◌, arith}
 use Rattle.std.proofs.lemmas.Bool.{cases_lt}
 use Rattle.std.proofs.lemmas.Option.{slice_get_within, same_Some, get_or_from_slice_get}
-use Rattle.ms_edge.specs.declared.fault.StepFault.{StepFault}
+use Rattle.ms_list.specs.declared.fault.StepFault.{StepFault}
 use Rattle.ms_arena.specs.declared.node.Ref.{Ref}
 use Rattle.ms_arena.specs.declared.node.Ref.TheVariants.{Leaf}
 use Rattle.ms_arena.specs.declared.node.Node.{Node}
@@ -22,16 +22,16 @@ use Rattle.ms_diagram.specs.Relabel.{MappedLeaf}
 use Rattle.ms_diagram.specs.Store.{Contents}
 use Rattle.ms_diagram.proofs.Building.{Builds-implies}
 use Rattle.ms_diagram.proofs.NumberingLemmas.{AddsOnly-implies}
-use Rattle.ms_logic.specs.declared.sign.Sign.{Sign}
-use Rattle.ms_logic.specs.Content.{StateOf, Content, is_truth_value, first_state, state_after, last_state, sign_at}
-use Rattle.ms_theory.specs.Narrow.{gathered}
-use Rattle.ms_theory.proofs.FunctionLemmas.{TestsOnly-by_function}
-use Rattle.ms_theory.proofs.GatheredLemmas.{length-gathered}
-use Rattle.ms_theory.proofs.NarrowLemmas.{leaf_of-gathered}
-use Rattle.ms_theory.proofs.OwnMeaningLemmas.{last_within}
-use Rattle.ms_minim.specs.Origin.{IsReachedState}
-use Rattle.ms_minim.specs.Partition.{IsIdentity, IsPartition, IsRoot, HaveOneClass, next_by}
-use Rattle.ms_minim.specs.Quotient.{Quotienting, sign_or_outside, sign_of_number, IsNumberOf, NumberBehind, HaveOwnNumbers, IsClassBehind, LeadsOn, IsReached, AreReached, IsQuotient}
+use Rattle.ms_logic_words.specs.declared.sign.Sign.{Sign}
+use Rattle.ms_logic_words.specs.Content.{StateOf, Content, is_truth_value, first_state, state_after, last_state, sign_at}
+use Rattle.ms_dfa.specs.Narrow.{gathered}
+use Rattle.ms_dfa.proofs.FunctionLemmas.{TestsOnly-by_function}
+use Rattle.ms_dfa.proofs.GatheredLemmas.{length-gathered}
+use Rattle.ms_dfa.proofs.NarrowLemmas.{leaf_of-gathered}
+use Rattle.ms_dfa.proofs.OwnMeaningLemmas.{last_within}
+use Rattle.ms_minim.specs.inner.Origin.{IsReachedState}
+use Rattle.ms_minim.specs.inner.Partition.{IsIdentity, IsPartition, IsRoot, HaveOneClass, next_by}
+use Rattle.ms_minim.specs.inner.Quotient.{Quotienting, sign_or_outside, sign_of_number, IsNumberOf, NumberBehind, HaveOwnNumbers, IsClassBehind, LeadsOn, IsReached, AreReached, IsQuotient}
 use Rattle.ms_minim.proofs.LeadLemmas.{Renames-identity, tested_within, identity_leaf}
 use Rattle.ms_minim.proofs.MarkLemmas.{leads_by}
 use Rattle.ms_minim.proofs.LettersLemmas.{AreLetters-append, state_after-append}

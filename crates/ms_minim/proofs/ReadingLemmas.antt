@@ -3,16 +3,16 @@ use Rattle.std.proofs.Common.{◌≡◌, ℕ, ◌+◌, ◌<◌, Bool, Err, List,
 use Rattle.std.specs.Option.{option_map}
 use Rattle.std.proofs.lemmas.List.{length-map, map-id}
 use Rattle.std.proofs.lemmas.Option.{slice_get_within, slice_get-map, get_or_from_slice_get}
-use Rattle.ms_edge.specs.declared.refusal.Word.{Word}
-use Rattle.ms_edge.specs.declared.fault.StepFault.{StepFault}
-use Rattle.ms_edge.specs.declared.fault.StepFault.TheVariants.{Nodes, Memory}
+use Rattle.ms_list.specs.declared.word.Word.{Word}
+use Rattle.ms_list.specs.declared.fault.StepFault.{StepFault}
+use Rattle.ms_list.specs.declared.fault.StepFault.TheVariants.{Nodes, Memory}
 use Rattle.ms_arena.specs.declared.node.Ref.{Ref}
 use Rattle.ms_arena.proofs.Lists.{slice_get-held}
 use Rattle.ms_dfa.specs.Automaton.{IsAutomaton}
 use Rattle.ms_logic.specs.declared.mode.Order.{Order}
-use Rattle.ms_logic.specs.declared.sign.Sign.{Sign}
-use Rattle.ms_logic.specs.Content.{StateOf, Content, IsClosed, IsFollowed, is_in_letters, next_from, next_state, state_after, first_state, last_state, sign_at, sign_of}
-use Rattle.ms_explore.specs.Explored.{OnRefused}
+use Rattle.ms_logic_words.specs.declared.sign.Sign.{Sign}
+use Rattle.ms_logic_words.specs.Content.{StateOf, Content, IsClosed, IsFollowed, is_in_letters, next_from, next_state, state_after, first_state, last_state, sign_at, sign_of}
+use Rattle.ms_dfa_explore.specs.Explored.{OnRefused}
 use Rattle.ms_minim.specs.declared.reading.Reading.{Reading}
 use Rattle.ms_minim.specs.declared.reading.Reading.TheVariants.{AsTheyAre}
 use Rattle.ms_minim.specs.Reading.{IsRead, read_content, read_sign, read_state}

@@ -3,13 +3,13 @@ use Rattle.std.proofs.Common.{◌≡◌, ℕ, ◌<◌, Bool, List, ◌∷◌, le
 use Rattle.std.proofs.lemmas.Option.{slice_get_within, get_or_from_slice_get}
 use Rattle.ms_arena.proofs.Lists.{slice_get-held}
 use Rattle.ms_arena.specs.Diagram.{Bits, IsOrdered}
-use Rattle.ms_logic.specs.declared.sign.Sign.{Sign}
-use Rattle.ms_logic.specs.Content.{StateOf, Content, IsClosed, IsFollowed, count_of, is_in_letters, next_from, next_state, state_after, sign_at, letter_bits}
-use Rattle.ms_theory.specs.Narrow.{gathered}
-use Rattle.ms_theory.proofs.GatheredLemmas.{length-gathered}
-use Rattle.ms_theory.proofs.NarrowLemmas.{leaf_of-gathered}
+use Rattle.ms_logic_words.specs.declared.sign.Sign.{Sign}
+use Rattle.ms_logic_words.specs.Content.{StateOf, Content, IsClosed, IsFollowed, count_of, is_in_letters, next_from, next_state, state_after, sign_at, letter_bits}
+use Rattle.ms_dfa.specs.Narrow.{gathered}
+use Rattle.ms_dfa.proofs.GatheredLemmas.{length-gathered}
+use Rattle.ms_dfa.proofs.NarrowLemmas.{leaf_of-gathered}
 use Rattle.ms_minim.specs.Residual.{HaveEqualResiduals}
-use Rattle.ms_minim.specs.Partition.{behind, next_by}
+use Rattle.ms_minim.specs.inner.Partition.{behind, next_by}
 
 -- a letter leads where its bits do
 pub next_by-letter : (content : Content Sign) (state : ℕ) (letter : List Bool) → next_by content state (letter_bits content.variables letter) ≡ next_state content state letter

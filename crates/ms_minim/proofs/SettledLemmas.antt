@@ -5,15 +5,15 @@ use Rattle.ms_arena.specs.declared.node.Ref.{Ref}
 use Rattle.ms_arena.specs.declared.node.Node.{Node}
 use Rattle.ms_arena.proofs.Lists.{slice_get-pushed}
 use Rattle.ms_dfa.specs.declared.state.State.{State}
-use Rattle.ms_logic.specs.declared.sign.Sign.{Sign}
-use Rattle.ms_logic.specs.Content.{Content}
-use Rattle.ms_explore.specs.Explored.{Findings, Follows, Leads}
+use Rattle.ms_logic_words.specs.declared.sign.Sign.{Sign}
+use Rattle.ms_logic_words.specs.Content.{Content}
+use Rattle.ms_dfa_explore.specs.Explored.{Findings, Follows, Leads}
 use Rattle.ms_minim.specs.declared.quotient.QuotientTables.{QuotientTables}
-use Rattle.ms_minim.specs.Image.{image_of}
-use Rattle.ms_minim.specs.Lead.{AreNumbered}
-use Rattle.ms_minim.specs.Origin.{IsSeen}
-use Rattle.ms_minim.specs.Partition.{IsRoot}
-use Rattle.ms_minim.specs.Quotient.{IsQuotient, NumberBehind}
+use Rattle.ms_minim.specs.inner.Image.{image_of}
+use Rattle.ms_minim.specs.inner.Lead.{AreNumbered}
+use Rattle.ms_minim.specs.inner.Origin.{IsSeen}
+use Rattle.ms_minim.specs.inner.Partition.{IsRoot}
+use Rattle.ms_minim.specs.inner.Quotient.{IsQuotient, NumberBehind}
 use Rattle.ms_minim.proofs.ImageLemmas.{IsImage-read, Meets-read}
 use Rattle.ms_minim.proofs.QuotientLemmas.{Meets-own}
 

@@ -11,14 +11,14 @@ use Rattle.ms_arena.proofs.Lists.{slice_get-held, slice_get-pushed}
 use Rattle.ms_arena.proofs.Paths.{leaf_of-leaf}
 use Rattle.ms_diagram.specs.Numbering.{IsNumbering}
 use Rattle.ms_minim.specs.Reading.{IsRead}
-use Rattle.ms_logic.specs.declared.sign.Sign.{Sign}
-use Rattle.ms_logic.specs.Content.{Content}
+use Rattle.ms_logic_words.specs.declared.sign.Sign.{Sign}
+use Rattle.ms_logic_words.specs.Content.{Content}
 use Rattle.ms_minim.specs.declared.signatures.Seen.{Seen}
-use Rattle.ms_minim.specs.Marks.{IsMarkOf, pair_of}
-use Rattle.ms_minim.specs.Partition.{IsPartition, LeadAlike, next_by}
-use Rattle.ms_minim.specs.Predecessors.{AreBelow, ArePredecessors}
+use Rattle.ms_minim.specs.inner.Marks.{IsMarkOf, pair_of}
+use Rattle.ms_minim.specs.inner.Partition.{IsPartition, LeadAlike, next_by}
+use Rattle.ms_minim.specs.inner.Predecessors.{AreBelow, ArePredecessors}
 use Rattle.ms_minim.specs.Residual.{HaveEqualResiduals}
-use Rattle.ms_minim.specs.Grouping.{AreCovered, AreGrouped, AreLabels, AreListed, AreSplitters, IsDue, IsLabel, IsLaterSeen, IsMoved, IsNewClass, IsSeen, NeverSplits, through}
+use Rattle.ms_minim.specs.inner.Grouping.{AreCovered, AreGrouped, AreLabels, AreListed, AreSplitters, IsDue, IsLabel, IsLaterSeen, IsMoved, IsNewClass, IsSeen, NeverSplits, through}
 use Rattle.ms_minim.proofs.GroupingLemmas.{due_or_not}
 use Rattle.ms_minim.proofs.ResidualLemmas.{next_by-within, residuals_next}
 

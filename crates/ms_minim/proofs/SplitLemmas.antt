@@ -6,8 +6,8 @@ use Rattle.ms_arena.specs.Target.{Extends}
 use Rattle.ms_arena.proofs.Appending.{Extends-same, slice_get-extends}
 use Rattle.ms_arena.proofs.Lists.{slice_get-held, slice_get-push, slice_get-pushed}
 use Rattle.ms_diagram.specs.Numbering.{IsMissing}
-use Rattle.ms_minim.specs.Partition.{HaveOneClass, IsInhabited}
-use Rattle.ms_minim.specs.Split.{IsPlaced, key_of, AreKeyed, HaveBegun, AreSplit, IsSplit}
+use Rattle.ms_minim.specs.inner.Partition.{HaveOneClass, IsInhabited}
+use Rattle.ms_minim.specs.inner.Split.{IsPlaced, key_of, AreKeyed, HaveBegun, AreSplit, IsSplit}
 
 -- a key that got a number
 module _ (keys : List (ℕ × ℕ)) (members : List ℕ) (late_keys : List (ℕ × ℕ)) (late_members : List ℕ) (key : ℕ × ℕ) (state number : ℕ)

@@ -1,15 +1,4 @@
-pub mod Residual
-pub mod Partition
-pub mod Marks
-pub mod Split
-pub mod Predecessors
-pub mod Grouping
-pub mod Quotient
-pub mod Image
-pub mod Origin
-pub mod Lead
 pub mod Reading
 pub mod Reduced
-pub mod Later
-pub mod Discrete
-pub mod Examples
+pub mod Residual
+pub mod inner

@@ -2,10 +2,10 @@
 -- Outside.
 use Rattle.std.specs.Prelude.{◌≤◌, length, map}
 use Rattle.ms_arena.specs.Diagram.{IsOrdered, IsReduced}
-use Rattle.ms_logic.specs.declared.sign.Sign.{Sign}
-use Rattle.ms_logic.specs.declared.sign.Sign.TheVariants.{Yes, No, Undefined, Outside}
-use Rattle.ms_logic.specs.Content.{StateOf, Content, IsClosed}
-use Rattle.ms_logic.specs.Roots.{AreRising}
+use Rattle.ms_logic_words.specs.declared.sign.Sign.{Sign}
+use Rattle.ms_logic_words.specs.declared.sign.Sign.TheVariants.{Yes, No, Undefined, Outside}
+use Rattle.ms_logic_words.specs.Content.{StateOf, Content, IsClosed}
+use Rattle.ms_logic.specs.Lists.{AreRising}
 use Rattle.ms_minim.specs.declared.reading.Reading.{Reading}
 use Rattle.ms_minim.specs.declared.reading.Reading.TheVariants.{AsTheyAre, AsInFiles}
 

@@ -1,14 +1,13 @@
 -- What is left of a content where its states are reached and no two of them have equal residuals (Myhill, 1957; Nerode, 1958).
-use Rattle.std.specs.Prelude.{◌≡◌, ℕ, ◌<◌, ◌≤◌, List, length}
-use Rattle.ms_edge.specs.declared.refusal.Word.{Word}
+use Rattle.std.specs.Prelude.{◌≤◌, List, length}
 use Rattle.ms_arena.specs.declared.node.Node.{Node}
 use Rattle.ms_arena.specs.declared.node.Ref.{Ref}
 use Rattle.ms_arena.specs.Diagram.{IsOrdered, IsReduced}
 use Rattle.ms_dfa.specs.Automaton.{states_of}
 use Rattle.ms_dfa.specs.declared.state.State.{State}
-use Rattle.ms_logic.specs.declared.sign.Sign.{Sign}
-use Rattle.ms_logic.specs.Content.{Content, IsClosed, IsWordOver, last_state}
-use Rattle.ms_minim.specs.Residual.{HaveEqualResiduals, HaveEqualSigns, HasFewestStates}
+use Rattle.ms_logic_words.specs.declared.sign.Sign.{Sign}
+use Rattle.ms_logic_words.specs.Content.{Content, IsClosed}
+use Rattle.ms_minim.specs.Residual.{AreReached, HaveDifferentResiduals, HaveEqualSigns, HasFewestStates}
 
 -- a content over the variables of another
 abbrev pub content_over : Content Sign → List Node → Ref → List State → Content Sign
@@ -21,7 +20,6 @@ pub record IsReducedOf (content made : Content Sign) : Type 0 where
   pub few_states : length made.states ≤ 4294967295
   pub signs : HaveEqualSigns content made
   pub fewest : HasFewestStates made
-  -- some word leads to each state
-  pub reached : (state : ℕ) → state < length made.states → (word : Word) × IsWordOver made.variables word × (last_state made word ≡ state)
-  pub differ : (one other : ℕ) → one < length made.states → other < length made.states → HaveEqualResiduals made one other → one ≡ other
+  pub reached : AreReached made
+  pub differ : HaveDifferentResiduals made
   pub no_more_nodes : length made.nodes ≤ length content.nodes

@@ -1,7 +1,7 @@
 -- Residuals of states, and automata of fewest states (Myhill, 1957; Nerode, 1958).
-use Rattle.std.specs.Prelude.{◌≡◌, ℕ, ◌≤◌, Bool, List, length}
-use Rattle.ms_edge.specs.declared.refusal.Word.{Word}
-use Rattle.ms_logic.specs.Content.{Content, AreLetters, IsWordOver, IsClosed, state_after, sign_at, sign_of}
+use Rattle.std.specs.Prelude.{◌≡◌, ℕ, ◌<◌, ◌≤◌, Bool, List, length}
+use Rattle.ms_list.specs.declared.word.Word.{Word}
+use Rattle.ms_logic_words.specs.Content.{Content, AreLetters, IsWordOver, IsClosed, last_state, state_after, sign_at, sign_of}
 
 -- the same letters behind two states lead to the same sign
 abbrev pub HaveEqualResiduals : {Sign : Type 0} → Content Sign → ℕ → ℕ → Type 0
@@ -12,6 +12,15 @@ HaveEqualResiduals content one other =
 -- each word over the variables of the first has one sign in both
 abbrev pub HaveEqualSigns : {Sign : Type 0} → Content Sign → Content Sign → Type 0
 HaveEqualSigns first second = (word : Word) → IsWordOver first.variables word → sign_of second word ≡ sign_of first word
+
+-- some word over the variables leads to each state
+abbrev pub AreReached : {Sign : Type 0} → Content Sign → Type 0
+AreReached content = (state : ℕ) → state < length content.states → (word : Word) × IsWordOver content.variables word × (last_state content word ≡ state)
+
+-- no two states have equal residuals
+abbrev pub HaveDifferentResiduals : {Sign : Type 0} → Content Sign → Type 0
+HaveDifferentResiduals content =
+    (one other : ℕ) → one < length content.states → other < length content.states → HaveEqualResiduals content one other → one ≡ other
 
 -- no closed content over the same variables that gives each word over them the same sign has fewer states
 abbrev pub HasFewestStates : {Sign : Type 0} → Content Sign → Type 0

@@ -3,13 +3,13 @@ ghost use Rattle.ms_arena.specs.Diagram.{IsValid};
 ghost use Rattle.ms_arena.specs.Target.{Extends, Meets};
 ghost use Rattle.ms_diagram.specs.Relabel.{MappedLeaf};
 ghost use Rattle.ms_diagram.specs.Store.{IsStore};
-ghost use Rattle.ms_minim.specs.Lead.{AreLed};
-ghost use Rattle.ms_minim.specs.Partition.{IsIdentity, IsRoot};
+ghost use Rattle.ms_minim.specs.inner.Lead.{AreLed};
+ghost use Rattle.ms_minim.specs.inner.Partition.{IsIdentity, IsRoot};
 
 use crate::reading::Reader;
 use ms_arena::Ref;
 use ms_diagram::{PlaceTable, Store};
-use ms_edge::{List, NoMemory};
+use ms_list::{List, NoMemory};
 use std::alloc::Global;
 
 /// A class for each state of an automaton, and for each class one of its states.

@@ -1,12 +1,12 @@
 ghost use Rattle.std.specs.Prelude.{◌≡◌, length, IfOk};
-ghost use Rattle.ms_minim.specs.Discrete.{AreOwnImages};
-ghost use Rattle.ms_minim.specs.Partition.{IsIdentity};
+ghost use Rattle.ms_minim.specs.inner.Discrete.{AreOwnImages};
+ghost use Rattle.ms_minim.specs.inner.Partition.{IsIdentity};
 
 use crate::classes::Partition;
 use crate::images::Images;
 use ms_arena::Ref;
 use ms_diagram::Store;
-use ms_edge::{List, NoMemory, push};
+use ms_list::{List, NoMemory, push};
 use std::alloc::Global;
 
 /// The numbers below a count, one after the other.
@@ -32,7 +32,7 @@ pub(crate) fn own_classes(alloc: Global, states: u32) -> Result<Partition, NoMem
 
 /// The nodes of a store as they are, in a copy of it.
 pub(crate) fn own_images(alloc: Global, from: &Store) -> Result<Images, NoMemory>
-    ensures store { IfOk result (λ made. made.store ≡ from.now) }
+    ensures store { IfOk result (λ made. made.store.nodes ≡ from.now.nodes) }
     ensures list { IfOk result (λ made. AreOwnImages (length from.now.nodes) made.list) }
 {
     let mut list = List::new(alloc);

@@ -1,11 +1,11 @@
 ghost use Rattle.std.specs.Prelude.{◌≡◌, ◌<◌, ◌⊎◌, ℕ, length, slice_get, Some, IfOk, OnOk};
 ghost use Rattle.ms_arena.specs.Target.{Extends};
-ghost use Rattle.ms_minim.specs.Grouping.{AreCovered, AreListed, IsDue};
-ghost use Rattle.ms_minim.specs.Predecessors.{AreBelow, IsListed};
+ghost use Rattle.ms_minim.specs.inner.Grouping.{AreCovered, AreListed, IsDue};
+ghost use Rattle.ms_minim.specs.inner.Predecessors.{AreBelow, IsListed};
 
 use crate::marking::number;
 use ms_diagram::Pairs;
-use ms_edge::{List, NoMemory};
+use ms_list::{List, NoMemory};
 use std::alloc::Global;
 
 /// These states are due.

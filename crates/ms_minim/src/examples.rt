@@ -1,14 +1,14 @@
 ghost use Rattle.ms_minim.specs.Residual.{HaveEqualResiduals, HasFewestStates};
 ghost use Rattle.std.specs.Prelude.{◌≡◌, [], ◌∷◌};
 ghost use Rattle.ms_arena.specs.declared.node.Ref.TheVariants.{Leaf, Inner};
-ghost use Rattle.ms_logic.specs.declared.sign.Sign.TheVariants.{No, Undefined, Outside};
+ghost use Rattle.ms_logic_words.specs.declared.sign.Sign.TheVariants.{No, Undefined, Outside};
 ghost use Rattle.ms_minim.specs.declared.origins.Origins.{Origins};
 ghost use Rattle.ms_minim.specs.declared.reading.Reading.TheVariants.{AsInFiles, AsTheyAre};
 ghost use Rattle.ms_minim.specs.Reading.{read_sign};
-ghost use Rattle.ms_minim.specs.Examples.{AreNoted, one_image, one_node, one_state, three_states, two_nodes, with_unreached};
-ghost use Rattle.ms_minim.specs.Discrete.{AreOwnImages};
-ghost use Rattle.ms_minim.specs.Image.{AreImages, IsImage, image_of};
-ghost use Rattle.ms_minim.specs.Origin.{AreClosed, AreOrigins, ComesFrom, nowhere};
+ghost use Rattle.ms_minim.specs.inner.Examples.{AreNoted, one_image, one_node, one_state, three_states, two_nodes, with_unreached};
+ghost use Rattle.ms_minim.specs.inner.Discrete.{AreOwnImages};
+ghost use Rattle.ms_minim.specs.inner.Image.{AreImages, IsImage, image_of};
+ghost use Rattle.ms_minim.specs.inner.Origin.{AreClosed, AreOrigins, ComesFrom, nowhere};
 
 /// States that lead to each other with one sign have equal residuals, and states with different signs have not.
 pub fn worked_residuals()

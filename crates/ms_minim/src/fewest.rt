@@ -1,11 +1,11 @@
 ghost use Rattle.std.specs.Prelude.{◌≡◌, ◌≤◌, ◌<◌, ◌+◌, length, IfOk};
-ghost use Rattle.ms_explore.specs.Explored.{OnRefused};
-ghost use Rattle.ms_minim.specs.Residual.{HasFewestStates, HaveEqualSigns};
+ghost use Rattle.ms_dfa_explore.specs.Explored.{OnRefused};
+ghost use Rattle.ms_minim.specs.Residual.{AreReached, HasFewestStates, HaveDifferentResiduals, HaveEqualSigns};
 
 use crate::reading::Reading;
 use crate::reduction::reduce;
 use ms_dfa::{Automaton, Track};
-use ms_edge::{List, NoMemory, StepFault};
+use ms_list::{List, NoMemory, StepFault};
 use std::alloc::Global;
 
 fn copy_tracks(alloc: Global, tracks: &[Track]) -> Result<List<Track>, NoMemory>
@@ -26,6 +26,9 @@ pub fn minimise(alloc: Global, a: &Automaton, limit: u64) -> Result<Automaton, S
     ensures variables { IfOk result (λ made. made.variables ≡ a.now.variables) }
     ensures signs { IfOk result (HaveEqualSigns a.now) }
     ensures fewest { IfOk result HasFewestStates }
+    ensures reached { IfOk result AreReached }
+    ensures differ { IfOk result HaveDifferentResiduals }
+    ensures within { IfOk result (λ made. length made.nodes + length made.states ≤ limit) }
     ensures no_more_nodes { IfOk result (λ made. length made.nodes ≤ length a.now.nodes) }
     ensures nodes { OnRefused result (λ refused. (refused ≡ limit) × (limit < length a.now.nodes + length a.now.states)) }
 {

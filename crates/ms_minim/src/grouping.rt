@@ -1,10 +1,10 @@
 ghost use Rattle.std.specs.Prelude.{◌≡◌, ◌≢◌, ◌<◌, ◌≤◌, ℕ, ◌+◌, [], length, replicate, slice_get, Some, IfOk, OnOk, ◌++◌, ◌∷◌};
-ghost use Rattle.ms_minim.specs.Grouping.{AreListed, IsDue, IsMoved};
-ghost use Rattle.ms_minim.specs.Predecessors.{AreBelow, IsListed};
+ghost use Rattle.ms_minim.specs.inner.Grouping.{AreListed, IsDue, IsMoved};
+ghost use Rattle.ms_minim.specs.inner.Predecessors.{AreBelow, IsListed};
 
 use crate::predecessors::{no_lists, note_one};
 use ms_diagram::Pairs;
-use ms_edge::{List, NoMemory};
+use ms_list::{List, NoMemory};
 use std::alloc::Global;
 
 /// The class of each state, and for each class its members, with how many they are. A state that has left a class may stand

@@ -3,13 +3,13 @@ ghost use Rattle.ms_arena.specs.declared.node.Ref.TheVariants.{Inner};
 ghost use Rattle.ms_arena.specs.Diagram.{IsBefore};
 ghost use Rattle.ms_arena.specs.Target.{Extends};
 ghost use Rattle.ms_diagram.specs.Store.{IsStore};
-ghost use Rattle.ms_minim.specs.Image.{AreImages, HaveImages, IsImage, image_of};
-ghost use Rattle.ms_minim.specs.Origin.{AreClosed, IsOn};
+ghost use Rattle.ms_minim.specs.inner.Image.{AreImages, HaveImages, IsImage, image_of};
+ghost use Rattle.ms_minim.specs.inner.Origin.{AreClosed, IsOn};
 
 use crate::origins::is_seen;
 use ms_arena::Ref;
 use ms_diagram::Store;
-use ms_edge::{List, NoMemory, push};
+use ms_list::{List, NoMemory, push};
 use std::alloc::Global;
 
 /// How many nodes a store holds at most.

@@ -1,18 +1,18 @@
 ghost use Rattle.std.specs.Prelude.{◌≡◌, length, slice_get, Some, IfOk, OnOk};
 ghost use Rattle.ms_arena.specs.Target.{Extends};
 ghost use Rattle.ms_diagram.specs.Numbering.{IsNumbering, Numbers};
-ghost use Rattle.ms_minim.specs.Image.{AreImages};
-ghost use Rattle.ms_minim.specs.Partition.{AreMarks, AreSignMarks};
-ghost use Rattle.ms_minim.specs.Marks.{mark_of_sign, pair_of};
-ghost use Rattle.ms_minim.specs.Origin.{AreOrigins};
+ghost use Rattle.ms_minim.specs.inner.Image.{AreImages};
+ghost use Rattle.ms_minim.specs.inner.Partition.{AreMarks, AreSignMarks};
+ghost use Rattle.ms_minim.specs.inner.Marks.{mark_of_sign, pair_of};
+ghost use Rattle.ms_minim.specs.inner.Origin.{AreOrigins};
 
 use crate::images::{Images, image};
 use crate::origins::Origins;
 use crate::reading::Reader;
 use ms_arena::Ref;
 use ms_diagram::Pairs;
-use ms_edge::{List, NoMemory, push};
-use ms_logic::Sign;
+use ms_list::{List, NoMemory, push};
+use ms_logic_words::Sign;
 use std::alloc::Global;
 
 /// The number of a pair.

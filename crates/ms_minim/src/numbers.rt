@@ -1,14 +1,14 @@
 ghost use Rattle.std.specs.Prelude.{IsTrue, IfOk};
 ghost use Rattle.ms_diagram.specs.Numbering.{IsNumbering};
-ghost use Rattle.ms_minim.specs.Origin.{AreOrigins};
-ghost use Rattle.ms_minim.specs.Partition.{AreNerodeClasses};
-ghost use Rattle.ms_minim.specs.Quotient.{AreReached, HaveOwnNumbers};
+ghost use Rattle.ms_minim.specs.inner.Origin.{AreOrigins};
+ghost use Rattle.ms_minim.specs.inner.Partition.{AreNerodeClasses};
+ghost use Rattle.ms_minim.specs.inner.Quotient.{AreReached, HaveOwnNumbers};
 
 use crate::classes::Partition;
 use crate::origins::{Origins, reach_all};
 use crate::reading::Reader;
 use ms_diagram::Pairs;
-use ms_edge::NoMemory;
+use ms_list::NoMemory;
 use std::alloc::Global;
 
 /// The numbers that classes have before a quotient is explored, each as the pair of the class and 0.

@@ -1,10 +1,10 @@
 ghost use Rattle.std.specs.Prelude.{◌≡◌, ◌⊎◌, ◌<◌, ◌≤◌, ◌+◌, ◌↔◌, ℕ, length, replicate, slice_index, IsTrue, IfOk};
 ghost use Rattle.ms_arena.specs.declared.node.Ref.{Ref as Reference};
-ghost use Rattle.ms_minim.specs.Origin.{AreOrigins, HasPlace, IsNoted, IsSeen, OriginsSoFar, nowhere};
+ghost use Rattle.ms_minim.specs.inner.Origin.{AreOrigins, HasPlace, IsNoted, IsSeen, OriginsSoFar, nowhere};
 
 use crate::reading::Reader;
 use ms_arena::Ref;
-use ms_edge::NoMemory;
+use ms_list::NoMemory;
 use std::alloc::Global;
 
 /// The origin of what is reached from nowhere.

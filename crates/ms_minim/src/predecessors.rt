@@ -1,8 +1,8 @@
 ghost use Rattle.std.specs.Prelude.{◌≡◌, ◌<◌, ◌≤◌, ℕ, length, slice_get, Some, IfOk, OnOk};
-ghost use Rattle.ms_minim.specs.Predecessors.{AreBelow, ArePredecessors, IsListed};
+ghost use Rattle.ms_minim.specs.inner.Predecessors.{AreBelow, ArePredecessors, IsListed};
 
 use crate::reading::Reader;
-use ms_edge::{List, NoMemory, push};
+use ms_list::{List, NoMemory, push};
 use std::alloc::Global;
 
 /// One item more in the list at a place, where there is one.

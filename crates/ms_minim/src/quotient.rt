@@ -4,21 +4,21 @@ ghost use Rattle.ms_arena.specs.Target.{Extends, Meets};
 ghost use Rattle.ms_diagram.specs.Growth.{Builds};
 ghost use Rattle.ms_diagram.specs.Numbering.{AddsOnly, IsNumbering};
 ghost use Rattle.ms_diagram.specs.Table.{ArePaired};
-ghost use Rattle.ms_minim.specs.Image.{AreImages};
-ghost use Rattle.ms_minim.specs.Lead.{AreNoted, AreNumbered, IsGrownFrom};
-ghost use Rattle.ms_minim.specs.Origin.{IsSeen};
-ghost use Rattle.ms_minim.specs.Partition.{IsIdentity, IsRoot};
-ghost use Rattle.ms_minim.specs.Quotient.{HaveOwnNumbers, IsClassBehind, IsLaterQuotient, NumberBehind, findings_of};
+ghost use Rattle.ms_minim.specs.inner.Image.{AreImages};
+ghost use Rattle.ms_minim.specs.inner.Lead.{AreNoted, AreNumbered, IsGrownFrom};
+ghost use Rattle.ms_minim.specs.inner.Origin.{IsSeen};
+ghost use Rattle.ms_minim.specs.inner.Partition.{IsIdentity, IsRoot};
+ghost use Rattle.ms_minim.specs.inner.Quotient.{HaveOwnNumbers, IsClassBehind, IsLaterQuotient, NumberBehind, findings_of};
 
 use crate::classes::Partition;
 use crate::images::{Images, image};
 use crate::origins::Origins;
 use crate::reading::Reader;
 use ms_arena::Ref;
+use ms_dfa_explore::Machine;
 use ms_diagram::{PairTable, Pairs, PlaceTable, Store};
-use ms_edge::{List, NoMemory, StepFault};
-use ms_explore::Machine;
-use ms_logic::Sign;
+use ms_list::{List, NoMemory, StepFault};
+use ms_logic_words::Sign;
 use std::alloc::Global;
 use std::marker::Model;
 
@@ -156,7 +156,7 @@ pub(crate) struct Quotient<'a> {
 }
 
 impl<'a> Model for Quotient<'a> {
-    ghost use Rattle.ms_minim.specs.Quotient.{IsQuotient, Quotienting};
+    ghost use Rattle.ms_minim.specs.inner.Quotient.{IsQuotient, Quotienting};
 
     ghost Value = { Quotienting };
 
@@ -234,9 +234,9 @@ pub(crate) struct QuotientMachine<'a> {
 }
 
 impl<'a> Machine for QuotientMachine<'a> {
-    ghost use Rattle.ms_minim.specs.Lead.{AreNoted};
-    ghost use Rattle.ms_minim.specs.Quotient.{IsLaterQuotient, findings_of};
-    ghost use Rattle.ms_minim.specs.Later.{quotient_later_itself, quotient_later_later, quotient_later_findings};
+    ghost use Rattle.ms_minim.specs.inner.Lead.{AreNoted};
+    ghost use Rattle.ms_minim.specs.inner.Quotient.{IsLaterQuotient, findings_of};
+    ghost use Rattle.ms_minim.specs.inner.Later.{quotient_later_itself, quotient_later_later, quotient_later_findings};
 
     ghost findings = { λ machine. findings_of machine.quotient };
 

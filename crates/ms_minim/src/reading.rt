@@ -1,12 +1,12 @@
 ghost use Rattle.std.specs.Prelude.{◌≡◌, ◌<◌, length, slice_get, IfSome, Some};
-ghost use Rattle.ms_logic.specs.Content.{is_truth_value, is_in_letters, sign_at, IsFollowed};
+ghost use Rattle.ms_logic_words.specs.Content.{is_truth_value, is_in_letters, sign_at, IsFollowed};
 ghost use Rattle.ms_dfa.specs.Automaton.{variables_of};
 ghost use Rattle.ms_minim.specs.Reading.{IsRead, read_content, read_sign, without_undefined};
 
 use ms_arena::Ref;
 use ms_dfa::{Automaton, Track};
 use ms_diagram::Store;
-use ms_logic::Sign;
+use ms_logic_words::Sign;
 use std::marker::Model;
 
 /// How signs are read: each as it is, or as files tell them, which have one sign for Undefined and Outside.
@@ -44,8 +44,8 @@ pub(crate) struct Reader<'a> {
 }
 
 impl<'a> Model for Reader<'a> {
-    ghost use Rattle.ms_logic.specs.Content.{Content};
-    ghost use Rattle.ms_logic.specs.declared.sign.Sign.{Sign};
+    ghost use Rattle.ms_logic_words.specs.Content.{Content};
+    ghost use Rattle.ms_logic_words.specs.declared.sign.Sign.{Sign};
     ghost use Rattle.ms_minim.specs.Reading.{IsRead, read_content};
 
     ghost Value = { Content Sign };

@@ -1,7 +1,7 @@
 ghost use Rattle.std.specs.Prelude.{◌≡◌, ◌≤◌, ◌<◌, ◌+◌, List as Sequence, length, IsTrue, IfOk};
 ghost use Rattle.ms_arena.specs.declared.node.Node.{Node};
-ghost use Rattle.ms_explore.specs.Explored.{OnRefused};
-ghost use Rattle.ms_minim.specs.Lead.{AreNoted};
+ghost use Rattle.ms_dfa_explore.specs.Explored.{OnRefused};
+ghost use Rattle.ms_minim.specs.inner.Lead.{AreNoted};
 ghost use Rattle.ms_minim.specs.Reading.{read_content};
 ghost use Rattle.ms_minim.specs.Reduced.{IsReducedOf, content_over};
 
@@ -13,9 +13,9 @@ use crate::refinement::{Residuals, refine};
 use crate::settled::{own_start, own_states};
 use ms_arena::Ref;
 use ms_dfa::{Automaton, State};
+use ms_dfa_explore::{explore, places_among};
 use ms_diagram::{PairTable, PlaceTable, Store};
-use ms_edge::{List, NoMemory, StepFault};
-use ms_explore::{explore, places_among};
+use ms_list::{List, NoMemory, StepFault};
 use std::alloc::Global;
 
 /// Diagrams, and a start and states over them.

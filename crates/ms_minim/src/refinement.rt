@@ -1,7 +1,7 @@
 ghost use Rattle.std.specs.Prelude.{◌≡◌, ◌≤◌, ◌<◌, ℕ, length, slice_get, IfOk, IsTrue};
-ghost use Rattle.ms_minim.specs.Image.{AreImages};
-ghost use Rattle.ms_minim.specs.Origin.{AreOrigins};
-ghost use Rattle.ms_minim.specs.Partition.{IsIdentity, IsPartition, IsPassed, AreNerodeClasses, IsInhabited};
+ghost use Rattle.ms_minim.specs.inner.Image.{AreImages};
+ghost use Rattle.ms_minim.specs.inner.Origin.{AreOrigins};
+ghost use Rattle.ms_minim.specs.inner.Partition.{IsIdentity, IsPartition, IsPassed, AreNerodeClasses, IsInhabited};
 
 use crate::classes::Partition;
 use crate::discrete::{own_classes, own_images};
@@ -11,7 +11,7 @@ use crate::origins::{Origins, reach_all, reach_nodes};
 use crate::reading::Reader;
 use crate::rounds::group;
 use crate::splitting::split;
-use ms_edge::{List, NoMemory, push};
+use ms_list::{List, NoMemory, push};
 use std::alloc::Global;
 
 /// How many passes over all states are tried before classes are split where few states lead elsewhere.

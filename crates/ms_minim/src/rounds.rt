@@ -1,7 +1,7 @@
 ghost use Rattle.std.specs.Prelude.{◌≡◌, ◌<◌, ◌≤◌, ℕ, length, IfOk, OnOk};
-ghost use Rattle.ms_minim.specs.Grouping.{AreGrouped, AreSplitters, NeverSplits};
-ghost use Rattle.ms_minim.specs.Partition.{IsIdentity, IsPartition};
-ghost use Rattle.ms_minim.specs.Predecessors.{ArePredecessors};
+ghost use Rattle.ms_minim.specs.inner.Grouping.{AreGrouped, AreSplitters, NeverSplits};
+ghost use Rattle.ms_minim.specs.inner.Partition.{IsIdentity, IsPartition};
+ghost use Rattle.ms_minim.specs.inner.Predecessors.{ArePredecessors};
 
 use crate::classes::{Partition, Plan};
 use crate::due::due;
@@ -10,7 +10,7 @@ use crate::predecessors::predecessors;
 use crate::reading::Reader;
 use crate::signatures::{Choice, labels, nothing_seen};
 use crate::splitters::{Splitters, all_but_largest, choose, more_classes};
-use ms_edge::{List, NoMemory, push};
+use ms_list::{List, NoMemory, push};
 use std::alloc::Global;
 
 /// A class that most states are in, among the first so many.

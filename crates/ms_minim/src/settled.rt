@@ -1,14 +1,14 @@
 ghost use Rattle.std.specs.Prelude.{◌≡◌, ◌<◌, [], length, IsTrue, IfOk};
-ghost use Rattle.ms_explore.specs.Explored.{Follows, Leads};
-ghost use Rattle.ms_minim.specs.Lead.{AreNumbered};
-ghost use Rattle.ms_minim.specs.Quotient.{IsQuotient, quotient_findings};
+ghost use Rattle.ms_dfa_explore.specs.Explored.{Follows, Leads};
+ghost use Rattle.ms_minim.specs.inner.Lead.{AreNumbered};
+ghost use Rattle.ms_minim.specs.inner.Quotient.{IsQuotient, quotient_findings};
 
 use crate::images::image;
 use crate::quotient::{QuotientTables, Source};
 use ms_arena::Ref;
 use ms_dfa::State;
 use ms_diagram::Pairs;
-use ms_edge::{List, NoMemory, push};
+use ms_list::{List, NoMemory, push};
 
 /// The image of the start.
 pub(crate) fn own_start(source: &Source, pairs: &Pairs, tables: &QuotientTables) -> Ref

@@ -4,16 +4,16 @@ ghost use Rattle.ms_arena.specs.Target.{Extends, Meets};
 ghost use Rattle.ms_diagram.specs.Numbering.{IsNumbering};
 ghost use Rattle.ms_diagram.specs.Relabel.{MappedLeaf};
 ghost use Rattle.ms_diagram.specs.Store.{IsStore};
-ghost use Rattle.ms_minim.specs.Lead.{AreChosen};
-ghost use Rattle.ms_minim.specs.Partition.{IsIdentity, next_by};
-ghost use Rattle.ms_minim.specs.Grouping.{AreLabels, AreWithin, IsDue, IsLabel, IsLaterSeen, IsNewClass, IsSeen, through};
+ghost use Rattle.ms_minim.specs.inner.Lead.{AreChosen};
+ghost use Rattle.ms_minim.specs.inner.Partition.{IsIdentity, next_by};
+ghost use Rattle.ms_minim.specs.inner.Grouping.{AreLabels, AreWithin, IsDue, IsLabel, IsLaterSeen, IsNewClass, IsSeen, through};
 
 use crate::classes::{LeadTables, Plan, lead};
 use crate::images::ROOM;
 use crate::marking::{mark, number};
 use ms_arena::Ref;
 use ms_diagram::{Pairs, PlaceTable, Store};
-use ms_edge::{List, NoMemory, push};
+use ms_list::{List, NoMemory, push};
 use std::alloc::Global;
 
 /// How many classes there are at most.

@@ -1,10 +1,10 @@
 ghost use Rattle.std.specs.Prelude.{◌≡◌, ◌≢◌, ◌<◌, ℕ, ◌+◌, length, slice_get, slice_index, Some, IfOk, OnOk};
-ghost use Rattle.ms_minim.specs.Grouping.{AreSplitters};
+ghost use Rattle.ms_minim.specs.inner.Grouping.{AreSplitters};
 
 use crate::grouping::{Groups, size_of};
 use crate::signatures::Seen;
 use indexmap::IndexMap;
-use ms_edge::{List, NoMemory, push};
+use ms_list::{List, NoMemory, push};
 use std::alloc::Global;
 
 /// The classes that are chosen to split others, and a number for each class, which is 0 where it is not chosen.

@@ -1,12 +1,12 @@
 ghost use Rattle.std.specs.Prelude.{◌≡◌, ◌≤◌, [], length, IfOk, OnOk};
 ghost use Rattle.ms_diagram.specs.Numbering.{IsNumbering};
-ghost use Rattle.ms_minim.specs.Partition.{IsInhabited};
-ghost use Rattle.ms_minim.specs.Split.{IsPlaced, IsSplit, BeginsWith};
+ghost use Rattle.ms_minim.specs.inner.Partition.{IsInhabited};
+ghost use Rattle.ms_minim.specs.inner.Split.{IsPlaced, IsSplit, BeginsWith};
 
 use crate::classes::Partition;
 use crate::marking::number;
 use ms_diagram::Pairs;
-use ms_edge::{List, NoMemory, push};
+use ms_list::{List, NoMemory, push};
 use std::alloc::Global;
 
 /// The new class of a state of an old class with a mark. Where the class is new, the state is the one that it is known by.

@@ -4,20 +4,20 @@ use Rattle.std.specs.Option.{option_map}
 use Rattle.ms_logic.specs.declared.mode.Order.{Order}
 use Rattle.ms_logic.specs.Tree as tree
 use Rattle.ms_logic.specs.Tree.{Argument}
-use Rattle.ms_rules.specs.declared.meaning.Meaning.TheVariants.{Variable}
-use Rattle.ms_rules.specs.Syntax.{Bytes, Expression, Bounds}
-use Rattle.ms_rules.specs.Before.{after, after_bounds, with_names}
-use Rattle.ms_rules.specs.Binder.{restricted_variable, restricted_variables, predicate_with}
-use Rattle.ms_rules.specs.Declarations.{occurrences_in_default, occurrences_in_predicate}
-use Rattle.ms_rules.specs.Occurrence.{occurrences, inside_bounds, formula_wanted}
-use Rattle.ms_rules.specs.Scope.{Scope, bind, count_of_bounds, under_bounds, without_exports}
-use Rattle.ms_rules.specs.Typed.{both, formula_in, typed}
-use Rattle.ms_rules.specs.TypedSource.{parameters_of_bounds, typed_default, typed_predicate}
-use Rattle.ms_rules.proofs.Exports.{typed-same, under_bounds-same}
-use Rattle.ms_rules.proofs.Lists.{parameters-all}
-use Rattle.ms_rules.proofs.Declaring.{restricted-same}
-use Rattle.ms_scopes.specs.State.{after_restrictions, unbound, State, passed}
-use Rattle.ms_scopes.proofs.States.{passed-passed}
+use Rattle.ms_names_rules.specs.declared.meaning.Meaning.TheVariants.{Variable}
+use Rattle.ms_names_rules.specs.Syntax.{Bytes, Expression, Bounds}
+use Rattle.ms_names_rules.specs.Before.{after, after_bounds, with_names}
+use Rattle.ms_names_rules.specs.inner.Binder.{restricted_variable, restricted_variables, predicate_with}
+use Rattle.ms_names_rules.specs.Declarations.{occurrences_in_default, occurrences_in_predicate}
+use Rattle.ms_names_rules.specs.Occurrence.{occurrences, inside_bounds, formula_wanted}
+use Rattle.ms_names_rules.specs.Scope.{Scope, bind, count_of_bounds, under_bounds, without_exports}
+use Rattle.ms_names_rules.specs.Typed.{both, formula_in, typed}
+use Rattle.ms_names_rules.specs.TypedSource.{parameters_of_bounds, typed_default, typed_predicate}
+use Rattle.ms_names_rules.proofs.Exports.{typed-same, under_bounds-same}
+use Rattle.ms_names_rules.proofs.Lists.{parameters-all}
+use Rattle.ms_names_rules.proofs.Declaring.{restricted-same}
+use Rattle.ms_names_scopes.specs.inner.State.{after_restrictions, unbound, State, passed}
+use Rattle.ms_names_scopes.proofs.States.{passed-passed}
 use Rattle.ms_names.proofs.Walk.{unbound-bounds}
 
 pub predicate-passed : (s r q t u v w : State) (vs : Bounds) (e : Expression) (x n m : ℕ) (allowed : Bool) →

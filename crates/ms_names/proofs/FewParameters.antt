@@ -3,13 +3,13 @@ use Rattle.std.proofs.Common.{◌≡◌, ℕ, zero, suc, ◌+◌, ◌<◌, ◌�
 use Rattle.std.specs.Option.{option_and_then}
 use Rattle.ms_logic.specs.declared.mode.Order.{Order}
 use Rattle.ms_logic.specs.Tree as tree
-use Rattle.ms_rules.specs.Syntax.{Expressions, no_expressions, more_expressions}
-use Rattle.ms_rules.specs.Before.{Before, after}
-use Rattle.ms_rules.specs.Occurrence.{inside_arguments, occurrences}
-use Rattle.ms_rules.specs.Order.{wanted_by}
-use Rattle.ms_rules.specs.Rules.{count}
-use Rattle.ms_rules.specs.Scope.{Scope}
-use Rattle.ms_rules.specs.Typed.{both, of_order, typed, typed_arguments}
+use Rattle.ms_names_rules.specs.Syntax.{Expressions, no_expressions, more_expressions}
+use Rattle.ms_names_rules.specs.Before.{Before, after}
+use Rattle.ms_names_rules.specs.Occurrence.{inside_arguments, occurrences}
+use Rattle.ms_names_rules.specs.Order.{wanted_by}
+use Rattle.ms_names_rules.specs.Rules.{count}
+use Rattle.ms_names_rules.specs.Scope.{Scope}
+use Rattle.ms_names_rules.specs.Typed.{both, of_order, typed, typed_arguments}
 
 -- what is inside the arguments
 pub arguments-inside-few : (s : Scope) (b : Before) (ps : List Order) (es : Expressions) (n : ℕ) → count es ≤ n →

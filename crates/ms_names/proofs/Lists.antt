@@ -1,22 +1,22 @@
 -- Lists that are gone through item by item: what is found so far and what the rest gives.
 use Rattle.std.proofs.Common.{◌≡◌, ℕ, ◌+◌, Bool, List, [], ◌∷◌, ◌++◌, Option, ap, ◌∙◌}
 use Rattle.std.specs.Option.{option_map, option_and_then}
-use Rattle.ms_edge.specs.declared.at.At.{At}
+use Rattle.ms_list.specs.declared.at.At.{At}
 use Rattle.ms_logic.specs.declared.mode.Order.{Order}
 use Rattle.ms_logic.specs.Tree as tree
 use Rattle.ms_logic.specs.Tree.{Argument}
-use Rattle.ms_rules.specs.declared.meaning.Meaning.TheVariants.{Variable}
-use Rattle.ms_rules.specs.declared.wanted.Wanted.TheVariants.{Exactly}
-use Rattle.ms_rules.specs.Syntax.{Bytes, Expression, Expressions, more_expressions, Bounds, more_bounds, Domain, Parts, more_parts}
-use Rattle.ms_rules.specs.Before.{after, after_all, after_bounds, after_domain, after_parts}
-use Rattle.ms_rules.specs.Binder.{argument_for, restricted_variable, restricted_variables, restriction_in, with_front}
-use Rattle.ms_rules.specs.Occurrence.{occurrences, inside_arguments, inside_bounds, inside_domain, inside_parts}
-use Rattle.ms_rules.specs.Order.{later_parameters, wanted_by}
-use Rattle.ms_rules.specs.Scope.{bind, under_bounds, without_exports}
-use Rattle.ms_rules.specs.Typed.{both, numbers_of_parts, of_order, typed, typed_arguments, typed_parts}
-use Rattle.ms_rules.proofs.Lists.{argument-typed, front-wanted, in_front, side-behind, sides_behind, variable-behind}
-use Rattle.ms_scopes.specs.State.{after_restriction, after_restrictions, State, passed}
-use Rattle.ms_scopes.proofs.States.{passed-passed}
+use Rattle.ms_names_rules.specs.declared.meaning.Meaning.TheVariants.{Variable}
+use Rattle.ms_names_rules.specs.declared.wanted.Wanted.TheVariants.{Exactly}
+use Rattle.ms_names_rules.specs.Syntax.{Bytes, Expression, Expressions, more_expressions, Bounds, more_bounds, Domain, Parts, more_parts}
+use Rattle.ms_names_rules.specs.Before.{after, after_all, after_bounds, after_domain, after_parts}
+use Rattle.ms_names_rules.specs.inner.Binder.{argument_for, restricted_variable, restricted_variables, restriction_in, with_front}
+use Rattle.ms_names_rules.specs.Occurrence.{occurrences, inside_arguments, inside_bounds, inside_domain, inside_parts}
+use Rattle.ms_names_rules.specs.Order.{later_parameters, wanted_by}
+use Rattle.ms_names_rules.specs.Scope.{bind, under_bounds, without_exports}
+use Rattle.ms_names_rules.specs.Typed.{both, numbers_of_parts, of_order, typed, typed_arguments, typed_parts}
+use Rattle.ms_names_rules.proofs.Lists.{argument-typed, front-wanted, in_front, side-behind, sides_behind, variable-behind}
+use Rattle.ms_names_scopes.specs.inner.State.{after_restriction, after_restrictions, State, passed}
+use Rattle.ms_names_scopes.proofs.States.{passed-passed}
 
 pub arguments-next : (t u : State) (ps rest : List Order) (o : Option Order) (e : Expression) (es : Expressions) →
     ps ≡ with_front o (later_parameters ps) → rest ≡ later_parameters ps →

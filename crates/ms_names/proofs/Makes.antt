@@ -1,12 +1,12 @@
 -- Where nothing is wrong with a declaration, it gives typed trees.
 use Rattle.std.proofs.Common.{◌≡◌, true, None}
-use Rattle.ms_rules.specs.Syntax.{Declaration, globals, constant, predicate, include, default, formula}
-use Rattle.ms_rules.specs.Declarations.{Known, faults_in, occurrences_in}
-use Rattle.ms_rules.specs.Fault.{first_fault}
-use Rattle.ms_rules.proofs.Orders.{AreRight, formula-here, ordered}
-use Rattle.ms_rules.proofs.Makes.{default-all, predicate-all, restricted-all, right-there}
-use Rattle.ms_names.specs.Outcome.{made_in}
-use Rattle.ms_names.specs.Progress.{IsMade}
+use Rattle.ms_names_rules.specs.Syntax.{Declaration, globals, constant, predicate, include, default, formula}
+use Rattle.ms_names_rules.specs.Declarations.{Known, faults_in, occurrences_in}
+use Rattle.ms_names_rules.specs.Fault.{first_fault}
+use Rattle.ms_names_rules.proofs.Orders.{AreRight, formula-here, ordered}
+use Rattle.ms_names_rules.proofs.Makes.{default-all, predicate-all, restricted-all, right-there}
+use Rattle.ms_names.specs.inner.Outcome.{made_in}
+use Rattle.ms_names.specs.inner.Progress.{IsMade}
 
 all-made : (k : Known) (d : Declaration) → AreRight (occurrences_in k d) → IsMade (made_in k.scope k.globals k.before d)
 all-made k (globals vs) h = restricted-all true k.scope k.globals k.before vs h

@@ -1,16 +1,16 @@
 -- A list of operands with one more.
 use Rattle.std.proofs.Common.{◌≡◌, List, [], ◌∷◌, ◌++◌, Option, sym, subst, ap, ◌∙◌}
 use Rattle.ms_logic.specs.Tree.{Forms, Terms, Argument}
-use Rattle.ms_rules.specs.declared.wanted.Wanted.{Wanted}
-use Rattle.ms_rules.specs.Syntax.{Expression}
-use Rattle.ms_rules.specs.Before.{after, after_all}
-use Rattle.ms_rules.specs.Lists.{formula_behind, number_behind}
-use Rattle.ms_rules.specs.Occurrence.{occurrences, inside_operands}
-use Rattle.ms_rules.specs.Typed.{both, formula_in, number_in, typed, typed_formulas, typed_numbers}
-use Rattle.ms_rules.specs.View.{expressions}
-use Rattle.ms_rules.proofs.Operands.{after_all-more, inside_operands-more, typed_formulas-more, typed_numbers-more}
-use Rattle.ms_scopes.specs.State.{State, passed}
-use Rattle.ms_scopes.proofs.States.{passed-passed}
+use Rattle.ms_names_rules.specs.declared.wanted.Wanted.{Wanted}
+use Rattle.ms_names_rules.specs.Syntax.{Expression}
+use Rattle.ms_names_rules.specs.Before.{after, after_all}
+use Rattle.ms_names_rules.specs.inner.Lists.{formula_behind, number_behind}
+use Rattle.ms_names_rules.specs.Occurrence.{occurrences, inside_operands}
+use Rattle.ms_names_rules.specs.Typed.{both, formula_in, number_in, typed, typed_formulas, typed_numbers}
+use Rattle.ms_names_rules.specs.View.{expressions}
+use Rattle.ms_names_rules.proofs.Operands.{after_all-more, inside_operands-more, typed_formulas-more, typed_numbers-more}
+use Rattle.ms_names_scopes.specs.inner.State.{State, passed}
+use Rattle.ms_names_scopes.proofs.States.{passed-passed}
 
 -- after some operands and one more
 pub operands-more : (s t u : State) (w : Wanted) (es : List Expression) (e : Expression) →

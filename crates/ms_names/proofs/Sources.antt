@@ -3,26 +3,26 @@ use Rattle.std.proofs.Common.{◌≡◌, ℕ, ◌+◌, Bool, true, false, List, 
 use Rattle.std.specs.Prelude.{flat_map}
 use Rattle.std.specs.Option.{option_map}
 use Rattle.std.proofs.lemmas.List.{append-nil}
-use Rattle.ms_edge.specs.declared.at.At.{At}
+use Rattle.ms_list.specs.declared.at.At.{At}
 use Rattle.ms_edge.specs.declared.refusal.Refusal.{Refusal}
 use Rattle.ms_edge.specs.declared.refusal.Refusal.TheVariants.{Memory}
 use Rattle.ms_logic.specs.declared.mode.Order.{Order}
 use Rattle.ms_logic.specs.Tree as tree
 use Rattle.ms_logic.specs.Tree.{Form, Restriction}
-use Rattle.ms_rules.specs.declared.fault.Fault.{Fault}
-use Rattle.ms_rules.specs.declared.meaning.Meaning.TheVariants.{Variable}
-use Rattle.ms_rules.specs.Before.{Before, after_domain}
-use Rattle.ms_rules.specs.Binder.{restricted_variable, restricted_variables}
-use Rattle.ms_rules.specs.Declarations.{Known, after_declaration, faults_in, first_fault_from, globals_in, occurrences_in, or_later}
-use Rattle.ms_rules.specs.Fault.{first_fault}
-use Rattle.ms_rules.specs.Scope.{Scope, bind, count_of_bounds}
-use Rattle.ms_rules.specs.Syntax.{Bytes, Bounds, no_bounds, more_bounds, Domain, Declaration, globals, constant, predicate, include, default, formula, Placed}
-use Rattle.ms_rules.specs.Typed.{both, typed_domain}
-use Rattle.ms_rules.specs.TypedSource.{TypedFormula, TypedGlobal, collected, formulas_of, globals_of, globals_of_bounds, predicates_of}
-use Rattle.ms_rules.specs.Uses.{export_at, import_at}
+use Rattle.ms_names_rules.specs.declared.fault.Fault.{Fault}
+use Rattle.ms_names_rules.specs.declared.meaning.Meaning.TheVariants.{Variable}
+use Rattle.ms_names_rules.specs.Before.{Before, after_domain}
+use Rattle.ms_names_rules.specs.inner.Binder.{restricted_variable, restricted_variables}
+use Rattle.ms_names_rules.specs.Declarations.{Known, after_declaration, faults_in, first_fault_from, globals_in, occurrences_in, or_later}
+use Rattle.ms_names_rules.specs.Fault.{first_fault}
+use Rattle.ms_names_rules.specs.Scope.{Scope, bind, count_of_bounds}
+use Rattle.ms_names_rules.specs.Syntax.{Bytes, Bounds, no_bounds, more_bounds, Domain, Declaration, globals, constant, predicate, include, default, formula, Placed}
+use Rattle.ms_names_rules.specs.Typed.{both, typed_domain}
+use Rattle.ms_names_rules.specs.TypedSource.{TypedFormula, TypedGlobal, collected, formulas_of, globals_of, globals_of_bounds, predicates_of}
+use Rattle.ms_names_rules.specs.Uses.{export_at, import_at}
 use Rattle.ms_names.specs.declared.progress.Progress.{Progress}
-use Rattle.ms_names.specs.Outcome.{Made, made_globals, made_predicate, made_formula, made_nothing, made_in}
-use Rattle.ms_names.specs.Progress.{IsAfter, IsFirstOf, IsNext, Keeps, bounds_in, globals_with, kept_formulas, kept_globals, kept_predicates, known}
+use Rattle.ms_names.specs.inner.Outcome.{Made, made_globals, made_predicate, made_formula, made_nothing, made_in}
+use Rattle.ms_names.specs.inner.Progress.{IsAfter, IsFirstOf, IsNext, Keeps, bounds_in, globals_with, kept_formulas, kept_globals, kept_predicates, known}
 
 -- globals
 

@@ -3,26 +3,26 @@ use Rattle.std.proofs.Common.{◌≡◌, ℕ, List, [], ◌∷◌, ◌++◌, app
 use Rattle.std.specs.Prelude.{flat_map}
 use Rattle.std.proofs.lemmas.List.{append-nil}
 use Rattle.std.proofs.Math.Seq.{drop-append_seam}
-use Rattle.ms_edge.specs.declared.at.At.{At}
+use Rattle.ms_list.specs.declared.at.At.{At}
 use Rattle.ms_logic.specs.declared.mode.Order.{Order}
 use Rattle.ms_logic.specs.declared.source.PlacedInt.{PlacedInt}
-use Rattle.ms_rules.specs.declared.fault.Fault.{Fault}
-use Rattle.ms_rules.specs.declared.meaning.Meaning.TheVariants.{Constant, Predicate}
-use Rattle.ms_rules.specs.declared.meaning.Reading.{Reading}
-use Rattle.ms_rules.specs.Syntax.{Bytes, Expression, Bounds, Declaration, globals, constant, predicate, default, formula}
-use Rattle.ms_rules.specs.Before.{after, after_bounds, with_names}
-use Rattle.ms_rules.specs.Constant.{sum_from, value_of_sum}
-use Rattle.ms_rules.specs.Declarations.{Known, after_declaration, declared_names, exports_in, faults_of_declaration, faults_of_sum, next_predicate, occurrences_in, occurrences_in_default, occurrences_in_predicate, orders_of_bounds}
-use Rattle.ms_rules.specs.Fault.{first_with}
-use Rattle.ms_rules.specs.Occurrence.{occurrences, inside_bounds, formula_wanted}
-use Rattle.ms_rules.specs.Reads.{readings_at}
-use Rattle.ms_rules.specs.Rules.{faults_at, faults_of_bounds, faults_of_exports, faults_of_placed, faults_of_repeat}
-use Rattle.ms_rules.specs.Scope.{bind, count_of_bounds, under_bounds, with_default}
-use Rattle.ms_rules.specs.Uses.{import_at, export_at, with_files}
-use Rattle.ms_scopes.specs.State.{after_restrictions, State, with_faults, passed}
-use Rattle.ms_scopes.specs.Declaration.{Files, known_at, read_through, told}
-use Rattle.ms_names.specs.Outcome.{declared_in}
-use Rattle.ms_scopes.proofs.States.{first_with-append}
+use Rattle.ms_names_rules.specs.declared.fault.Fault.{Fault}
+use Rattle.ms_names_rules.specs.declared.meaning.Meaning.TheVariants.{Constant, Predicate}
+use Rattle.ms_names_rules.specs.declared.meaning.Reading.{Reading}
+use Rattle.ms_names_rules.specs.Syntax.{Bytes, Expression, Bounds, Declaration, globals, constant, predicate, default, formula}
+use Rattle.ms_names_rules.specs.Before.{after, after_bounds, with_names}
+use Rattle.ms_names_rules.specs.Constant.{sum_from, value_of_sum}
+use Rattle.ms_names_rules.specs.Declarations.{Known, after_declaration, declared_names, exports_in, faults_of_declaration, faults_of_sum, next_predicate, occurrences_in, occurrences_in_default, occurrences_in_predicate, orders_of_bounds}
+use Rattle.ms_names_rules.specs.Fault.{first_with}
+use Rattle.ms_names_rules.specs.Occurrence.{occurrences, inside_bounds, formula_wanted}
+use Rattle.ms_names_rules.specs.Reads.{readings_at}
+use Rattle.ms_names_rules.specs.Rules.{faults_at, faults_of_bounds, faults_of_exports, faults_of_placed, faults_of_repeat}
+use Rattle.ms_names_rules.specs.Scope.{bind, count_of_bounds, under_bounds, with_default}
+use Rattle.ms_names_rules.specs.Uses.{import_at, export_at, with_files}
+use Rattle.ms_names_scopes.specs.inner.State.{after_restrictions, State, with_faults, passed}
+use Rattle.ms_names_scopes.specs.inner.Declaration.{Files, known_at, read_through, told}
+use Rattle.ms_names.specs.inner.Outcome.{declared_in}
+use Rattle.ms_names_scopes.proofs.States.{first_with-append}
 
 kept-reads : (u v : State) → u ≡ v → u ≡ record v { reads = u.reads }
 kept-reads u v same = let P : State → Type 0 = λ there. u ≡ record there { reads = u.reads } in subst P same refl

@@ -1,26 +1,26 @@
 -- What an expression becomes, by what is inside it.
 use Rattle.std.proofs.Common.{◌≡◌, ℕ, ◌+◌, Bool, true, List, take, Option, Some, None, refl, sym, ap, ◌∙◌, arith}
 use Rattle.std.specs.Option.{option_map}
-use Rattle.ms_edge.specs.declared.at.At.{At}
+use Rattle.ms_list.specs.declared.at.At.{At}
 use Rattle.ms_logic.specs.declared.mode.Order.{Order}
 use Rattle.ms_logic.specs.declared.mode.Quant.{Quant}
 use Rattle.ms_logic.specs.Tree as tree
 use Rattle.ms_logic.specs.Tree.{Form, Argument, Arguments}
-use Rattle.ms_rules.specs.declared.fault.Fault.{Fault}
-use Rattle.ms_rules.specs.declared.meaning.Meaning.TheVariants.{Variable}
-use Rattle.ms_rules.specs.declared.meaning.Reading.{Reading}
-use Rattle.ms_rules.specs.Syntax.{Bytes, Expression, call, quantified, where_let, Expressions, Bounds, Domain, restricted, Parts}
-use Rattle.ms_rules.specs.Before.{Before, after_bounds, after_parts, with_names}
-use Rattle.ms_rules.specs.Binder.{quantified_over, restricted_variable, restricted_variables, restriction_in, typed_sides}
-use Rattle.ms_rules.specs.Occurrence.{Occurrence}
-use Rattle.ms_rules.specs.Order.{parameters_of}
-use Rattle.ms_rules.specs.Rules.{count}
-use Rattle.ms_rules.specs.Scope.{bind, count_of_bounds, count_of_parts, meaning_of, under_bounds, under_parts, without_exports}
-use Rattle.ms_rules.specs.Typed.{both, formula_in, numbers_of_parts, typed, typed_arguments, typed_call, typed_parts, typed_restriction}
-use Rattle.ms_rules.proofs.Exports.{arguments-same, parts-same, typed-same, under_parts-same}
-use Rattle.ms_rules.proofs.Lists.{call-typed, quantifiers-all, restriction-own}
+use Rattle.ms_names_rules.specs.declared.fault.Fault.{Fault}
+use Rattle.ms_names_rules.specs.declared.meaning.Meaning.TheVariants.{Variable}
+use Rattle.ms_names_rules.specs.declared.meaning.Reading.{Reading}
+use Rattle.ms_names_rules.specs.Syntax.{Bytes, Expression, call, quantified, where_let, Expressions, Bounds, Domain, restricted, Parts}
+use Rattle.ms_names_rules.specs.Before.{Before, after_bounds, after_parts, with_names}
+use Rattle.ms_names_rules.specs.inner.Binder.{quantified_over, restricted_variable, restricted_variables, restriction_in, typed_sides}
+use Rattle.ms_names_rules.specs.Occurrence.{Occurrence}
+use Rattle.ms_names_rules.specs.Order.{parameters_of}
+use Rattle.ms_names_rules.specs.Rules.{count}
+use Rattle.ms_names_rules.specs.Scope.{bind, count_of_bounds, count_of_parts, meaning_of, under_bounds, under_parts, without_exports}
+use Rattle.ms_names_rules.specs.Typed.{both, formula_in, numbers_of_parts, typed, typed_arguments, typed_call, typed_parts, typed_restriction}
+use Rattle.ms_names_rules.proofs.Exports.{arguments-same, parts-same, typed-same, under_parts-same}
+use Rattle.ms_names_rules.proofs.Lists.{call-typed, quantifiers-all, restriction-own}
 use Rattle.ms_names.proofs.FewParameters.{arguments-typed-few}
-use Rattle.ms_scopes.specs.State.{after_restrictions, State, with_faults, passed, noted}
+use Rattle.ms_names_scopes.specs.inner.State.{after_restrictions, State, with_faults, passed, noted}
 
 pub call-value : (s r q u v : State) (fs : List Fault) (rs : List Reading) (os : List Occurrence) (b : Before) (at : At) (n : Bytes) (es : Expressions)
     (given : ℕ) (parameters : List Order) (allowed : Bool) (made : Option Arguments) (value : Option Argument) →

@@ -4,30 +4,30 @@ use Rattle.std.specs.Prelude.{flat_map, not}
 use Rattle.std.specs.List.{insert}
 use Rattle.std.proofs.lemmas.List.{drop-drop}
 use Rattle.std.proofs.Math.Seq.{drop-append_seam, take-append_seam}
-use Rattle.ms_edge.specs.declared.at.At.{At}
+use Rattle.ms_list.specs.declared.at.At.{At}
 use Rattle.ms_logic.specs.declared.mode.Order.{Order}
 use Rattle.ms_logic.specs.declared.mode.Quant.{Quant}
 use Rattle.ms_logic.specs.Tree as tree
-use Rattle.ms_rules.specs.declared.fault.Fault.{Fault}
-use Rattle.ms_rules.specs.declared.fault.Fault.TheVariants.{NotHere}
-use Rattle.ms_rules.specs.declared.meaning.Meaning.{Meaning}
-use Rattle.ms_rules.specs.declared.meaning.Meaning.TheVariants.{Variable}
-use Rattle.ms_rules.specs.declared.meaning.Reading.{Reading}
-use Rattle.ms_rules.specs.declared.wanted.Wanted.{Wanted}
-use Rattle.ms_rules.specs.Syntax.{Bytes, Expression, Expressions, Bounds, no_bounds, more_bounds, Parts, no_parts, more_parts, call, quantified, where_let, exported}
-use Rattle.ms_rules.specs.Before.{Before, after, after_all, after_bounds, after_parts, with_names, with_export}
-use Rattle.ms_rules.specs.Fault.{first_with}
-use Rattle.ms_rules.specs.Free.{export_use}
-use Rattle.ms_rules.specs.Occurrence.{Occurrence, occurrences, inside, inside_arguments, inside_bounds, inside_parts, formula_wanted}
-use Rattle.ms_rules.specs.Order.{parameters_of}
-use Rattle.ms_rules.specs.Reads.{readings_at, readings_of_bounds, readings_of_call, variables_read}
-use Rattle.ms_rules.specs.Rules.{count, faults_at, faults_of_bounds, faults_of_call, faults_of_form, faults_of_order, faults_of_parts, in_case}
-use Rattle.ms_rules.specs.Scope.{Scope, bind, count_of_bounds, count_of_parts, meaning_of, under_bounds, under_parts, without_exports}
-use Rattle.ms_rules.specs.Typed.{both, typed}
-use Rattle.ms_rules.specs.Uses.{import_at, export_at}
-use Rattle.ms_scopes.specs.State.{after_restrictions, unbound, State, with_faults, passed, noted, formed}
+use Rattle.ms_names_rules.specs.declared.fault.Fault.{Fault}
+use Rattle.ms_names_rules.specs.declared.fault.Fault.TheVariants.{NotHere}
+use Rattle.ms_names_rules.specs.declared.meaning.Meaning.{Meaning}
+use Rattle.ms_names_rules.specs.declared.meaning.Meaning.TheVariants.{Variable}
+use Rattle.ms_names_rules.specs.declared.meaning.Reading.{Reading}
+use Rattle.ms_names_rules.specs.declared.wanted.Wanted.{Wanted}
+use Rattle.ms_names_rules.specs.Syntax.{Bytes, Expression, Expressions, Bounds, no_bounds, more_bounds, Parts, no_parts, more_parts, call, quantified, where_let, exported}
+use Rattle.ms_names_rules.specs.Before.{Before, after, after_all, after_bounds, after_parts, with_names, with_export}
+use Rattle.ms_names_rules.specs.Fault.{first_with}
+use Rattle.ms_names_rules.specs.inner.Free.{export_use}
+use Rattle.ms_names_rules.specs.Occurrence.{Occurrence, occurrences, inside, inside_arguments, inside_bounds, inside_parts, formula_wanted}
+use Rattle.ms_names_rules.specs.Order.{parameters_of}
+use Rattle.ms_names_rules.specs.Reads.{readings_at, readings_of_bounds, readings_of_call, variables_read}
+use Rattle.ms_names_rules.specs.Rules.{count, faults_at, faults_of_bounds, faults_of_call, faults_of_form, faults_of_order, faults_of_parts, in_case}
+use Rattle.ms_names_rules.specs.Scope.{Scope, bind, count_of_bounds, count_of_parts, meaning_of, under_bounds, under_parts, without_exports}
+use Rattle.ms_names_rules.specs.Typed.{both, typed}
+use Rattle.ms_names_rules.specs.Uses.{import_at, export_at}
+use Rattle.ms_names_scopes.specs.inner.State.{after_restrictions, unbound, State, with_faults, passed, noted, formed}
 use Rattle.ms_names.proofs.FewParameters.{arguments-inside-few}
-use Rattle.ms_scopes.proofs.States.{first_with-append, passed-passed}
+use Rattle.ms_names_scopes.proofs.States.{first_with-append, passed-passed}
 
 -- after some faults and readings, and then some expressions
 abbrev pub with_inside : State → List Fault → List Reading → List Occurrence → Before → State

@@ -1,19 +1,19 @@
 ghost use Rattle.ms_logic.specs.View.{predicate_of};
-ghost use Rattle.ms_rules.specs.Before.{after, after_bounds, with_names};
-ghost use Rattle.ms_rules.specs.Declarations.{occurrences_in_default, occurrences_in_predicate};
-ghost use Rattle.ms_rules.specs.Scope.{count_of_bounds};
-ghost use Rattle.ms_rules.specs.TypedSource.{typed_default, typed_predicate};
-ghost use Rattle.ms_rules.specs.View.{bounds_of, expression_of};
-ghost use Rattle.ms_scopes.specs.State.{passed};
+ghost use Rattle.ms_names_rules.specs.Before.{after, after_bounds, with_names};
+ghost use Rattle.ms_names_rules.specs.Declarations.{occurrences_in_default, occurrences_in_predicate};
+ghost use Rattle.ms_names_rules.specs.Scope.{count_of_bounds};
+ghost use Rattle.ms_names_rules.specs.TypedSource.{typed_default, typed_predicate};
+ghost use Rattle.ms_names_rules.specs.View.{bounds_of, expression_of};
+ghost use Rattle.ms_names_scopes.specs.inner.State.{passed};
 ghost use Rattle.std.specs.Option.{option_map};
 ghost use Rattle.std.specs.Prelude.{◌≡◌, IfOk, OnOk};
 
 use crate::expression::{expression, variables};
-use ms_edge::{Name, NoMemory};
+use ms_list::{Name, NoMemory};
 use ms_logic::{Bound, Expr, Order, Predicate};
-use ms_rules::{Meaning, Wanted};
-use ms_scopes::Checker;
-use ms_typing::{default_predicate, predicate};
+use ms_names_rules::{Meaning, Wanted};
+use ms_names_scopes::Checker;
+use ms_names_typing::{default_predicate, predicate};
 
 /// The parameters and the body of a predicate or a macro, in which no export may stand.
 pub(crate) fn predicate_parts(

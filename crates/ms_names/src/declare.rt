@@ -1,20 +1,20 @@
 ghost use Rattle.ms_logic.specs.View.{declaration_of, formula_of, predicate_of};
-ghost use Rattle.ms_rules.specs.Binder.{restricted_variables};
-ghost use Rattle.ms_rules.specs.Syntax.{constant, default, formula, globals, predicate};
-ghost use Rattle.ms_rules.specs.Typed.{formula_in, typed};
-ghost use Rattle.ms_rules.specs.TypedSource.{typed_default, typed_predicate};
-ghost use Rattle.ms_rules.specs.View.{bounds_of, expression_of};
-ghost use Rattle.ms_scopes.specs.Declaration.{Files, known_at, told};
+ghost use Rattle.ms_names_rules.specs.inner.Binder.{restricted_variables};
+ghost use Rattle.ms_names_rules.specs.Syntax.{constant, default, formula, globals, predicate};
+ghost use Rattle.ms_names_rules.specs.Typed.{formula_in, typed};
+ghost use Rattle.ms_names_rules.specs.TypedSource.{typed_default, typed_predicate};
+ghost use Rattle.ms_names_rules.specs.View.{bounds_of, expression_of};
+ghost use Rattle.ms_names_scopes.specs.inner.Declaration.{Files, known_at, told};
 ghost use Rattle.std.specs.Option.{option_map};
 ghost use Rattle.std.specs.Prelude.{◌≡◌, [], ℕ, true, map, IfOk, OnOk};
 
 use crate::declaration::{default_parts, predicate_parts};
 use crate::expression::{expression, variables};
-use ms_edge::{At, Name, NoMemory};
+use ms_list::{At, Name, NoMemory};
 use ms_logic::{Bound, Expr, Formula, Order, Param, PlacedInt, Predicate};
-use ms_rules::{Meaning, Wanted};
-use ms_scopes::Checker;
-use ms_typing::formula_in;
+use ms_names_rules::{Meaning, Wanted};
+use ms_names_scopes::Checker;
+use ms_names_typing::formula_in;
 
 /// A formula declaration.
 pub(crate) fn declare_formula(checker: &mut Checker, e: &Expr) -> Result<Option<Formula>, NoMemory>

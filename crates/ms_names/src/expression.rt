@@ -1,23 +1,23 @@
 ghost use Rattle.ms_logic.specs.View.{argument_of, declaration_of};
-ghost use Rattle.ms_rules.specs.Before.{after, after_all, after_parts};
-ghost use Rattle.ms_rules.specs.Binder.{restricted_variable, restricted_variables, restriction_in, sides_of, typed_sides};
-ghost use Rattle.ms_rules.specs.Lists.{arguments_of, expressions_of, forms_of, terms_of};
-ghost use Rattle.ms_rules.specs.Occurrence.{formula_wanted, inside_arguments, inside_operands, inside_parts, number_wanted, occurrences};
-ghost use Rattle.ms_rules.specs.Scope.{bind};
-ghost use Rattle.ms_rules.specs.Typed.{typed, typed_arguments, typed_formulas, typed_numbers};
-ghost use Rattle.ms_rules.specs.View.{bound_of, bounds_of, expression_of, parts_of};
-ghost use Rattle.ms_rules.specs.declared.meaning.Meaning.TheVariants.{Variable};
-ghost use Rattle.ms_scopes.specs.State.{after_restriction, after_restrictions, formed, passed};
+ghost use Rattle.ms_names_rules.specs.Before.{after, after_all, after_parts};
+ghost use Rattle.ms_names_rules.specs.inner.Binder.{restricted_variable, restricted_variables, restriction_in, sides_of, typed_sides};
+ghost use Rattle.ms_names_rules.specs.inner.Lists.{arguments_of, expressions_of, forms_of, terms_of};
+ghost use Rattle.ms_names_rules.specs.Occurrence.{formula_wanted, inside_arguments, inside_operands, inside_parts, number_wanted, occurrences};
+ghost use Rattle.ms_names_rules.specs.Scope.{bind};
+ghost use Rattle.ms_names_rules.specs.Typed.{typed, typed_arguments, typed_formulas, typed_numbers};
+ghost use Rattle.ms_names_rules.specs.View.{bound_of, bounds_of, expression_of, parts_of};
+ghost use Rattle.ms_names_rules.specs.declared.meaning.Meaning.TheVariants.{Variable};
+ghost use Rattle.ms_names_scopes.specs.inner.State.{after_restriction, after_restrictions, formed, passed};
 ghost use Rattle.std.specs.Option.{option_map};
 ghost use Rattle.std.specs.Prelude.{◌≡◌, map, IfOk, OnOk};
 
 use crate::call::called;
 use crate::name::lone_name;
-use ms_edge::{List, NoMemory};
+use ms_list::{List, NoMemory};
 use ms_logic::{Arg, Binding, Bound, Expr, Form, Formula, LetPart, Order, Param, Term1, Term2};
-use ms_rules::{Meaning, Wanted};
-use ms_scopes::Checker;
-use ms_typing::{
+use ms_names_rules::{Meaning, Wanted};
+use ms_names_scopes::Checker;
+use ms_names_typing::{
     conjunction, difference, disjunction, emptiness, equivalence, exported, implication,
     intersection, literal, maximum, minimum, more_arguments, more_bindings, more_formulas,
     more_numbers, more_params, negation, parameter_at, pconst, quantified, relation, restricted,

@@ -1,19 +1,20 @@
 ghost use Rattle.ms_logic.specs.View.{argument_of};
-ghost use Rattle.ms_rules.specs.Reads.{readings_of_name};
-ghost use Rattle.ms_rules.specs.Rules.{faults_of_name};
-ghost use Rattle.ms_rules.specs.Scope.{meaning_of};
-ghost use Rattle.ms_rules.specs.Typed.{typed_name};
-ghost use Rattle.ms_scopes.specs.State.{noted};
+ghost use Rattle.ms_names_rules.specs.Reads.{readings_of_name};
+ghost use Rattle.ms_names_rules.specs.Rules.{faults_of_name};
+ghost use Rattle.ms_names_rules.specs.Scope.{meaning_of};
+ghost use Rattle.ms_names_rules.specs.Typed.{typed_name};
+ghost use Rattle.ms_names_scopes.specs.inner.State.{noted};
 ghost use Rattle.std.specs.Option.{option_map};
 ghost use Rattle.std.specs.Prelude.{◌≡◌, IfOk, OnOk};
 
-use ms_edge::{At, List, Name, NoMemory};
+use ms_list::{At, List, Name, NoMemory};
 use ms_logic::{Arg, Formula, Term1};
-use ms_rules::{Fault, Meaning, Reading};
-use ms_scopes::{Checker, copy_name, small};
-use ms_typing::variable;
+use ms_names_rules::{Fault, Meaning, Reading};
+use ms_names_scopes::{Checker, copy_name, small};
+use ms_names_typing::variable;
 
 /// A name by itself: what is wrong with it, what it reads and what it becomes.
+#[inline(never)]
 pub(crate) fn lone_name(checker: &mut Checker, at: At, name: &Name) -> Result<Option<Arg>, NoMemory>
     ensures state { OnOk result (checker.new ≡ noted checker.old
         (faults_of_name at name.now (meaning_of checker.old.scope name.now))

@@ -1,15 +1,15 @@
-ghost use Rattle.ms_rules.specs.Declarations.{after_declaration};
-ghost use Rattle.ms_rules.specs.View.{declaration_of};
-ghost use Rattle.ms_scopes.specs.Declaration.{Files, known_at, told};
-ghost use Rattle.ms_names.specs.Outcome.{declared_in, made_in, outcome_of};
+ghost use Rattle.ms_names_rules.specs.Declarations.{after_declaration};
+ghost use Rattle.ms_names_rules.specs.View.{declaration_of};
+ghost use Rattle.ms_names_scopes.specs.inner.Declaration.{Files, known_at, told};
+ghost use Rattle.ms_names.specs.inner.Outcome.{declared_in, made_in, outcome_of};
 ghost use Rattle.std.specs.Prelude.{◌≡◌, [], IfOk, OnOk};
 
 use crate::declare::{
     declare_constant, declare_default, declare_formula, declare_globals, declare_predicate,
 };
-use ms_edge::NoMemory;
+use ms_list::NoMemory;
 use ms_logic::{Decl, Formula, Param, Predicate};
-use ms_scopes::{Checker, Seen};
+use ms_names_scopes::{Checker, Seen};
 
 /// What a declaration gave. Nothing comes of what has a fault.
 #[derive(Drop)]

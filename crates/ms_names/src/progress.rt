@@ -1,14 +1,15 @@
 ghost use Rattle.ms_logic.specs.View.{declaration_of as parameter_of};
-ghost use Rattle.ms_rules.specs.Declarations.{count_of_globals, globals_in};
-ghost use Rattle.ms_rules.specs.View.{bounds_of, declaration_of, placed_of};
-ghost use Rattle.ms_names.specs.Outcome.{outcome_of};
-ghost use Rattle.ms_names.specs.Progress.{IsAfter, IsBeginning, IsFirstOf, IsMade, IsNext, Keeps, bounds_in, globals_with, kept_globals, known};
+ghost use Rattle.ms_names_rules.specs.Declarations.{count_of_globals, globals_in};
+ghost use Rattle.ms_names_rules.specs.View.{bounds_of, declaration_of, placed_of};
+ghost use Rattle.ms_names.specs.inner.Outcome.{outcome_of};
+ghost use Rattle.ms_names.specs.inner.Progress.{IsAfter, IsBeginning, IsFirstOf, IsMade, IsNext, Keeps, bounds_in, globals_with, kept_globals, known};
 ghost use Rattle.std.specs.Prelude.{◌≡◌, ◌+◌, ◌∷◌, ◌++◌, ◌⊎◌, [], map, IfErr, IfOk, OnOk};
 
 use crate::outcome::{Outcome, declare};
-use ms_edge::{At, List, NoMemory, Refusal, push};
+use ms_edge::Refusal;
+use ms_list::{At, List, NoMemory, push};
 use ms_logic::{Bound, Decl, Item, Mode, Param, Placed, Predicate};
-use ms_scopes::{Checker, Seen, copy_name, small};
+use ms_names_scopes::{Checker, Seen, copy_name, small};
 use std::alloc::Global;
 
 /// A check of a source that stands between two declarations: what it knows there, and what those before gave.

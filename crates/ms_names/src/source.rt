@@ -1,14 +1,15 @@
-ghost use Rattle.ms_checked.specs.Checked.{MeetsRules};
-ghost use Rattle.ms_rules.specs.Checking.{IsFirstFault};
-ghost use Rattle.ms_rules.specs.Declarations.{first_fault_of};
-ghost use Rattle.ms_rules.specs.Numbers.{IsWellNumbered};
-ghost use Rattle.ms_rules.specs.TypedSource.{IsTyped};
-ghost use Rattle.ms_rules.specs.View.{placed_of};
-ghost use Rattle.ms_names.specs.Progress.{IsEnd, checked_with};
+ghost use Rattle.ms_names_checked.specs.Checked.{MeetsRules};
+ghost use Rattle.ms_names_rules.specs.Checking.{IsFirstFault};
+ghost use Rattle.ms_names_rules.specs.Declarations.{first_fault_of};
+ghost use Rattle.ms_names_rules.specs.Numbers.{IsWellNumbered};
+ghost use Rattle.ms_names_rules.specs.TypedSource.{IsTyped};
+ghost use Rattle.ms_names_rules.specs.View.{placed_of};
+ghost use Rattle.ms_names.specs.inner.Progress.{IsEnd, checked_with};
 ghost use Rattle.std.specs.Prelude.{◌≡◌, ◌⊎◌, None, map, IfErr, IfOk};
 
 use crate::progress::Progress;
-use ms_edge::{List, NoMemory, Refusal, Text, let_go, push};
+use ms_edge::Refusal;
+use ms_list::{List, NoMemory, Text, let_go, push};
 use ms_logic::{Checked, Loaded, Mode};
 use std::alloc::Global;
 

@@ -1,13 +1,13 @@
 -- What can follow symbols, and what cannot, by computation.
 use Rattle.std.proofs.Common.{◌≡◌, ℕ, zero, suc, List, [], ◌∷◌, ◌++◌, refl, sym, ◌∙◌, subst, false}
-use Rattle.ms_grammar.specs.Continuation.{CanFollow, CanFollowAtAnyDepth}
-use Rattle.ms_grammar.specs.Grammar.{greatest_depth}
-use Rattle.ms_grammar.specs.Symbol.{Placed}
-use Rattle.ms_grammar.specs.Tree.{Document}
-use Rattle.ms_steps.specs.Machine.{State, outside, Step, took, misplaced, too_deep, start, step}
-use Rattle.ms_steps.proofs.Headers.{is_header_word}
-use Rattle.ms_steps.proofs.Refusals.{ReachedFrom, reached_from_first, reached_from_next, symbol_refused, symbol_too_deep, end_follows}
-use Rattle.ms_steps.proofs.Steps.{IsStuck}
+use Rattle.ms_parse_grammar.specs.Continuation.{CanFollow, CanFollowAtAnyDepth}
+use Rattle.ms_parse_grammar.specs.Grammar.{greatest_depth}
+use Rattle.ms_parse_grammar.specs.Symbol.{Placed}
+use Rattle.ms_parse_grammar.specs.Tree.{Document}
+use Rattle.ms_parse_steps.specs.inner.Machine.{State, outside, Step, took, misplaced, too_deep, start, step}
+use Rattle.ms_parse_steps.proofs.Headers.{is_header_word}
+use Rattle.ms_parse_steps.proofs.Refusals.{ReachedFrom, reached_from_first, reached_from_next, symbol_refused, symbol_too_deep, end_follows}
+use Rattle.ms_parse_steps.proofs.Steps.{IsStuck}
 
 abbrev behind_step : (State → List Placed → Step) → Step → Step
 behind_step further (took s ts) = further s ts

@@ -1,7 +1,7 @@
 -- Names and words that are left out, by the number of their token.
 use Rattle.std.proofs.Common.{◌≡◌, ◌≢◌, ℕ, suc, List, [], ◌∷◌, ◌++◌, take, slice_get, Some, refl, sym, ap, ◌∙◌, subst}
 use Rattle.std.specs.Prelude.{IfSome, IsUtf8, codes}
-use Rattle.ms_edge.specs.declared.at.At.{At}
+use Rattle.ms_list.specs.declared.at.At.{At}
 use Rattle.ms_text.specs.declared.keyword.Keyword.{Keyword}
 use Rattle.ms_text.specs.declared.keyword.Keyword.TheVariants as words
 use Rattle.ms_text.specs.declared.keyword.LeftOutWord.{LeftOutWord}
@@ -13,14 +13,14 @@ use Rattle.ms_text.specs.declared.token.Kind.TheVariants as kinds
 use Rattle.ms_text.specs.declared.token.Token.{Token}
 use Rattle.ms_text.specs.Spelling.{left_out_spelling, Spells}
 use Rattle.ms_text.specs.TokenList.{Lexed, slice_of}
-use Rattle.ms_grammar.specs.Symbol.{Symbol, left_out, symbol_of, word_symbol, mark_symbol, placed, symbols}
-use Rattle.ms_steps.specs.Terminals.{behind, IsNext}
+use Rattle.ms_parse_grammar.specs.Symbol.{Symbol, left_out, symbol_of, word_symbol, mark_symbol, placed, symbols}
+use Rattle.ms_parse_steps.specs.inner.Terminals.{behind, IsNext}
 use Rattle.ms_parse.specs.Refused.{IsMisplaced, IsTooDeepAt, IsLanguage, end_of, EndsEarly}
-use Rattle.ms_steps.specs.Stops.{Misplaces, Deepens, MisplacesAt, DeepensAt}
-use Rattle.ms_grammar.specs.Continuation.{CanFollow}
+use Rattle.ms_parse_steps.specs.inner.Stops.{Misplaces, Deepens, MisplacesAt, DeepensAt}
+use Rattle.ms_parse_grammar.specs.Continuation.{CanFollow}
 use Rattle.std.proofs.lemmas.List.{append-nil}
-use Rattle.ms_steps.proofs.Inputs.{of_token, name_is_utf8, terminal_next}
-use Rattle.ms_steps.proofs.Tokens.{cut}
+use Rattle.ms_parse_steps.proofs.Inputs.{of_token, name_is_utf8, terminal_next}
+use Rattle.ms_parse_steps.proofs.Tokens.{cut}
 
 pub left_out_symbol : (lexed : Lexed) (i : ℕ) (token : Token) (bytes made : List ℕ) → slice_get lexed.tokens i ≡ Some token → token.kind ≡ kinds.LeftOut → IfSome (slice_get lexed.tokens i) (λ t. bytes ≡ slice_of lexed t) → made ≡ bytes
     → symbol_of token.kind (slice_of lexed token) ≡ left_out made

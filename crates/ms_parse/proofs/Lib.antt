@@ -1,4 +1,4 @@
+pub mod Continuations
+pub mod Faults
 pub mod OneTree
 pub mod Trials
-pub mod Faults
-pub mod Continuations

@@ -1,14 +1,14 @@
 -- Symbols read as one document at most, since the automaton is a function.
 use Rattle.std.proofs.Common.{◌≡◌, ℕ, zero, suc, true, List, [], ◌∷◌, Option, Some, sym, ◌∙◌}
-use Rattle.ms_grammar.specs.Symbol.{Placed}
-use Rattle.ms_grammar.specs.Tree.{Document}
-use Rattle.ms_grammar.specs.Declarations.{Reads}
-use Rattle.ms_steps.specs.Machine.{State, outside, wanted, holding, variable_wanted, part_wanted, pair_wanted, global_wanted, parameter_wanted, summand_wanted, Step, took, misplaced, too_deep, start, step, finished, goes_on, run}
-use Rattle.ms_grammar.specs.Grammar.{greatest_depth}
-use Rattle.ms_steps.proofs.Limits.{within}
-use Rattle.ms_steps.proofs.Headers.{document_read}
-use Rattle.ms_steps.proofs.Steps.{IsStuck}
-use Rattle.ms_steps.proofs.Loops.{stuck_run}
+use Rattle.ms_parse_grammar.specs.Symbol.{Placed}
+use Rattle.ms_parse_grammar.specs.Tree.{Document}
+use Rattle.ms_parse_grammar.specs.Declarations.{Reads}
+use Rattle.ms_parse_steps.specs.inner.Machine.{State, outside, wanted, holding, variable_wanted, part_wanted, pair_wanted, global_wanted, parameter_wanted, summand_wanted, Step, took, misplaced, too_deep, start, step, finished, goes_on, run}
+use Rattle.ms_parse_grammar.specs.Grammar.{greatest_depth}
+use Rattle.ms_parse_steps.proofs.Limits.{within}
+use Rattle.ms_parse_steps.proofs.Headers.{document_read}
+use Rattle.ms_parse_steps.proofs.Steps.{IsStuck}
+use Rattle.ms_parse_steps.proofs.Loops.{stuck_run}
 
 -- where nothing is left, no step is taken
 finished_stops : (limit : ℕ) (s : State) (ts : List Placed) (d : Document) → finished s ts ≡ Some d → IsStuck (step limit s ts)

@@ -1,14 +1,14 @@
 -- What the automaton reads, or does not, by computation.
 use Rattle.std.proofs.Common.{arith, ◌≡◌, ℕ, zero, suc, Bool, true, false, List, Option, Some, None, refl, sym, ap, ◌∙◌}
 use Rattle.std.proofs.lemmas.Bool.{false≢true}
-use Rattle.ms_grammar.specs.Symbol.{Placed}
-use Rattle.ms_grammar.specs.Tree.{Document}
-use Rattle.ms_grammar.specs.Declarations.{Reads}
-use Rattle.ms_steps.specs.Machine.{State, outside, Step, took, misplaced, too_deep, start, step, finished, goes_on, run, Runs}
-use Rattle.ms_grammar.specs.Grammar.{greatest_depth}
-use Rattle.ms_steps.proofs.Limits.{within, of_grammar}
-use Rattle.ms_steps.proofs.Headers.{document_read}
-use Rattle.ms_steps.proofs.Runs.{runs_read}
+use Rattle.ms_parse_grammar.specs.Symbol.{Placed}
+use Rattle.ms_parse_grammar.specs.Tree.{Document}
+use Rattle.ms_parse_grammar.specs.Declarations.{Reads}
+use Rattle.ms_parse_steps.specs.inner.Machine.{State, outside, Step, took, misplaced, too_deep, start, step, finished, goes_on, run, Runs}
+use Rattle.ms_parse_grammar.specs.Grammar.{greatest_depth}
+use Rattle.ms_parse_steps.proofs.Limits.{within, of_grammar}
+use Rattle.ms_parse_steps.proofs.Headers.{document_read}
+use Rattle.ms_parse_steps.proofs.Runs.{runs_read}
 
 abbrev or_on : (Step → Option Document) → Step → Option Document → Option Document
 or_on further next (Some d) = Some d

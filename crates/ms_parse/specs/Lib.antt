@@ -1,2 +1,2 @@
-pub mod Examples
 pub mod Refused
+pub mod inner

@@ -1,13 +1,13 @@
 -- What `parse` refuses: it names the first token after which no source of the grammar can follow, and why.
 use Rattle.std.specs.Prelude.{◌≡◌, ◌⊎◌, ℕ, true, List, [], ◌∷◌, ◌++◌, length}
-use Rattle.ms_edge.specs.declared.at.At.{At}
+use Rattle.ms_list.specs.declared.at.At.{At}
 use Rattle.ms_edge.specs.declared.refusal.Refusal.{Refusal}
 use Rattle.ms_edge.specs.declared.refusal.Refusal.TheVariants.{Grammar, LeftOut, Depth}
 use Rattle.ms_text.specs.TokenList.{Lexed}
 use Rattle.ms_logic.specs.declared.source.Source.{Source}
-use Rattle.ms_grammar.specs.Continuation.{CanFollow, CanFollowAtAnyDepth}
-use Rattle.ms_grammar.specs.Declarations.{ReadsAs}
-use Rattle.ms_grammar.specs.Symbol.{Symbol, left_out, Placed, placed, symbols}
+use Rattle.ms_parse_grammar.specs.Continuation.{CanFollow, CanFollowAtAnyDepth}
+use Rattle.ms_parse_grammar.specs.Declarations.{ReadsAs}
+use Rattle.ms_parse_grammar.specs.Symbol.{Symbol, left_out, Placed, placed, symbols}
 
 -- behind these symbols of the file this one stands at the place
 abbrev pub StandsBehind : ℕ → Lexed → List Placed → Symbol → At → Type 0

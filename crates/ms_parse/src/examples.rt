@@ -4,16 +4,16 @@ ghost use Rattle.ms_logic.specs.declared.mode.Order.TheVariants.{One, Two, Zero}
 ghost use Rattle.ms_logic.specs.declared.mode.Quant.TheVariants.{Ex};
 ghost use Rattle.ms_logic.specs.declared.mode.Rel.TheVariants.{Equal, Member};
 ghost use Rattle.ms_logic.specs.declared.source.Int.TheVariants.{Number, Constant};
-ghost use Rattle.ms_grammar.specs.Continuation.{CanFollow, CanFollowAtAnyDepth};
-ghost use Rattle.ms_grammar.specs.Declarations.{Reads};
-ghost use Rattle.ms_parse.specs.Examples.{bracketed, brackets, at, row, a, b, c, x, y, P, p, a_at, b_at, c_at, x_at, y_at, P_at, one, two, three, ex1_x, only, says, repeated};
-ghost use Rattle.ms_grammar.specs.Symbol.{name, number, prefix_operator, infix_operator, joining, sign, quantifier, let_word, kind, predicate_word, word_true, word_where, word_empty, word_ws1s, left_out, open_round, close_round, open_curly, close_curly, comma, colon, semicolon, word_const, word_include, text, default_word, word_import, arrow, word_export, word_pconst, word_restrict, dollar};
-ghost use Rattle.ms_grammar.specs.declared.operator.Prefix.TheVariants.{Negation, Minimum};
-ghost use Rattle.ms_grammar.specs.declared.operator.Binary.TheVariants.{Implication, Equivalence, Relation, Union, Difference};
-ghost use Rattle.ms_grammar.specs.declared.operator.Junction.TheVariants.{Conjunction, Disjunction};
-ghost use Rattle.ms_grammar.specs.declared.operator.Bracket.TheVariants.{Parentheses, Emptiness, Export, Restriction};
-ghost use Rattle.ms_grammar.specs.declared.operator.Listing.TheVariants.{Literal, Call};
-ghost use Rattle.ms_grammar.specs.Tree.{truth, empty_set, named, prefixed, binary, joined, shifted, enclosed, listed, let_in, quantified, atom, no_expressions, no_variables, and_variable, unrestricted, restricted, no_parts, and_part, predicate, variables, formula, constant, included, default_restriction, imported, pconst, whole, Document};
+ghost use Rattle.ms_parse_grammar.specs.Continuation.{CanFollow, CanFollowAtAnyDepth};
+ghost use Rattle.ms_parse_grammar.specs.Declarations.{Reads};
+ghost use Rattle.ms_parse.specs.inner.Examples.{bracketed, brackets, at, row, a, b, c, x, y, P, p, a_at, b_at, c_at, x_at, y_at, P_at, one, two, three, ex1_x, only, says, repeated};
+ghost use Rattle.ms_parse_grammar.specs.Symbol.{name, number, prefix_operator, infix_operator, joining, sign, quantifier, let_word, kind, predicate_word, word_true, word_where, word_empty, word_ws1s, left_out, open_round, close_round, open_curly, close_curly, comma, colon, semicolon, word_const, word_include, text, default_word, word_import, arrow, word_export, word_pconst, word_restrict, dollar};
+ghost use Rattle.ms_parse_grammar.specs.declared.operator.Prefix.TheVariants.{Negation, Minimum};
+ghost use Rattle.ms_parse_grammar.specs.declared.operator.Binary.TheVariants.{Implication, Equivalence, Relation, Union, Difference};
+ghost use Rattle.ms_parse_grammar.specs.declared.operator.Junction.TheVariants.{Conjunction, Disjunction};
+ghost use Rattle.ms_parse_grammar.specs.declared.operator.Bracket.TheVariants.{Parentheses, Emptiness, Export, Restriction};
+ghost use Rattle.ms_parse_grammar.specs.declared.operator.Listing.TheVariants.{Literal, Call};
+ghost use Rattle.ms_parse_grammar.specs.Tree.{truth, empty_set, named, prefixed, binary, joined, shifted, enclosed, listed, let_in, quantified, atom, no_expressions, no_variables, and_variable, unrestricted, restricted, no_parts, and_part, predicate, variables, formula, constant, included, default_restriction, imported, pconst, whole, Document};
 
 /// Rows of symbols and their trees: how operators group, and how far a body reaches.
 pub fn example_operators()

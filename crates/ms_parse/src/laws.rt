@@ -1,7 +1,7 @@
 ghost use Rattle.std.specs.Prelude.{◌≡◌, List, true};
-ghost use Rattle.ms_grammar.specs.Declarations.{Reads};
-ghost use Rattle.ms_grammar.specs.Symbol.{Placed};
-ghost use Rattle.ms_grammar.specs.Tree.{Document};
+ghost use Rattle.ms_parse_grammar.specs.Declarations.{Reads};
+ghost use Rattle.ms_parse_grammar.specs.Symbol.{Placed};
+ghost use Rattle.ms_parse_grammar.specs.Tree.{Document};
 
 /// Symbols read as one document at most.
 pub fn one_document()

@@ -1,11 +1,11 @@
 ghost use Rattle.std.specs.Prelude.{◌≡◌, ◌⊎◌, true, IfOk, IfErr};
-ghost use Rattle.ms_grammar.specs.Declarations.{ReadsAs};
+ghost use Rattle.ms_parse_grammar.specs.Declarations.{ReadsAs};
 ghost use Rattle.ms_parse.specs.Refused.{IsGrammarFault};
 
 use crate::refuse::refusal_of;
 use ms_edge::Refusal;
 use ms_logic::Source;
-use ms_steps::read;
+use ms_parse_steps::read;
 use ms_text::Tokens;
 use std::alloc::Global;
 

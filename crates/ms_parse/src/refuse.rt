@@ -1,10 +1,11 @@
 ghost use Rattle.std.specs.Prelude.{◌≡◌, ◌⊎◌, ◌↔◌, IsTrue};
-ghost use Rattle.ms_grammar.specs.Symbol.{symbols};
+ghost use Rattle.ms_parse_grammar.specs.Symbol.{symbols};
 ghost use Rattle.ms_parse.specs.Refused.{IsGrammarFault, NamesFault, end_of};
-ghost use Rattle.ms_steps.specs.Stops.{MisplacesAt, DeepensAt, StopsAt, behind_word};
+ghost use Rattle.ms_parse_steps.specs.inner.Stops.{MisplacesAt, DeepensAt, StopsAt, behind_word};
 
-use ms_edge::{At, Name, Refusal};
-use ms_steps::{Punctuation, Stop, at_of, behind_mark};
+use ms_edge::Refusal;
+use ms_list::{At, Name};
+use ms_parse_steps::{Punctuation, Stop, at_of, behind_mark};
 use ms_text::{Kind, Tokens};
 use std::alloc::Global;
 use std::str;

@@ -3,7 +3,7 @@ use Rattle.std.proofs.Common.{◌≡◌, ℕ, ◌+◌, ◌<◌, Bool, List, [], 
 use Rattle.std.specs.Option.{option_map}
 use Rattle.std.proofs.lemmas.List.{length-map, map_push, take_more}
 use Rattle.std.proofs.lemmas.Option.{slice_get-map, slice_get_within, get_or_from_slice_get, same_Some}
-use Rattle.ms_edge.specs.declared.refusal.Word.{Word}
+use Rattle.ms_list.specs.declared.word.Word.{Word}
 use Rattle.ms_arena.specs.declared.node.Ref.{Ref}
 use Rattle.ms_arena.proofs.Lists.{slice_get-held}
 use Rattle.ms_arena.specs.declared.node.Node.{Node}
@@ -12,11 +12,11 @@ use Rattle.ms_dfa.specs.declared.track.Track.{Track}
 use Rattle.ms_dfa.specs.Automaton.{IsAutomaton, content_of, state_of, states_of, variables_of}
 use Rattle.ms_logic.specs.declared.mode.Mode.{Mode}
 use Rattle.ms_logic.specs.declared.mode.Order.{Order}
-use Rattle.ms_logic.specs.declared.sign.Sign.{Sign}
-use Rattle.ms_logic.specs.declared.sign.Sign.TheVariants.{Yes, No, Undefined, Outside}
-use Rattle.ms_logic.specs.Content.{StateOf, Content, IsClosed, IsFollowed, is_in_letters, first_state, next_from, next_state, state_after, last_state, sign_at, sign_of, with_zero_letter}
-use Rattle.ms_theory.specs.Values.{HasValues, own_meaning}
-use Rattle.ms_theory.proofs.OwnMeaningLemmas.{word_has_sign, HasValues-own}
+use Rattle.ms_logic_words.specs.declared.sign.Sign.{Sign}
+use Rattle.ms_logic_words.specs.declared.sign.Sign.TheVariants.{Yes, No, Undefined, Outside}
+use Rattle.ms_logic_words.specs.Content.{StateOf, Content, IsClosed, IsFollowed, is_in_letters, first_state, next_from, next_state, state_after, last_state, sign_at, sign_of, with_zero_letter}
+use Rattle.ms_dfa.specs.Values.{HasValues, own_meaning}
+use Rattle.ms_dfa.proofs.OwnMeaningLemmas.{word_has_sign, HasValues-own}
 use Rattle.ms_product.specs.declared.change.Change.{Change}
 use Rattle.ms_product.specs.declared.change.Change.TheVariants.{Negation, Restriction}
 use Rattle.ms_product.specs.Combined.{changed, with_sign, with_signs}

@@ -1,6 +1,6 @@
 -- The steps of a product: what its exploration found, said of the operands with which it began.
 use Rattle.std.proofs.Common.{◌≡◌, ℕ, List, Result, ap, subst, ◌∙◌}
-use Rattle.ms_edge.specs.declared.fault.StepFault.{StepFault}
+use Rattle.ms_list.specs.declared.fault.StepFault.{StepFault}
 use Rattle.ms_arena.specs.declared.node.Ref.{Ref}
 use Rattle.ms_diagram.specs.Numbering.{IsNumbering}
 use Rattle.ms_diagram.specs.Store.{Contents}
@@ -8,10 +8,10 @@ use Rattle.ms_dfa.specs.declared.state.State.{State}
 use Rattle.ms_dfa.specs.declared.track.Track.{Track}
 use Rattle.ms_dfa.specs.Automaton.{variables_of}
 use Rattle.ms_logic.specs.Assignment.{Variable}
-use Rattle.ms_logic.specs.declared.sign.Sign.{Sign}
-use Rattle.ms_logic.specs.Content.{Content}
-use Rattle.ms_explore.specs.Explored.{Explores}
-use Rattle.ms_explore.specs.Tracks.{joined, places_among}
+use Rattle.ms_logic_words.specs.declared.sign.Sign.{Sign}
+use Rattle.ms_logic_words.specs.Content.{Content}
+use Rattle.ms_dfa_explore.specs.Explored.{Explores}
+use Rattle.ms_dfa_explore.specs.Tracks.{joined, places_among}
 use Rattle.ms_product.specs.declared.op.Op.{Op}
 use Rattle.ms_product.specs.Pairing.{Operands, Pairing, IsLaterPairing, operands_over, product_findings, AreStates}
 

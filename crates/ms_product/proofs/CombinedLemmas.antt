@@ -1,7 +1,7 @@
 -- The product of two automata has at each assignment the connective of both signs, and is an automaton.
 use Rattle.std.proofs.Common.{◌≡◌, ℕ, ◌≤◌, ◌⊎◌, inl, inr, ⊎_elim, Bool, true, false, List, length, slice_get, slice_index, Some, refl, sym, ap, subst, ◌∙◌, arith}
 use Rattle.std.proofs.lemmas.Option.{same_Some}
-use Rattle.ms_edge.specs.declared.refusal.Word.{Word}
+use Rattle.ms_list.specs.declared.word.Word.{Word}
 use Rattle.ms_arena.specs.declared.node.Ref.{Ref}
 use Rattle.ms_arena.specs.declared.node.Node.{Node}
 use Rattle.ms_arena.specs.Diagram.{IsOrdered, IsReduced}
@@ -10,26 +10,26 @@ use Rattle.ms_dfa.specs.Automaton.{IsAutomaton}
 use Rattle.ms_dfa.specs.declared.state.State.{State}
 use Rattle.ms_logic.specs.declared.mode.Mode.{Mode}
 use Rattle.ms_logic.specs.declared.mode.Order.TheVariants.{One}
-use Rattle.ms_logic.specs.declared.sign.Sign.{Sign}
-use Rattle.ms_logic.specs.declared.sign.Sign.TheVariants.{Yes, No, Undefined, Outside}
+use Rattle.ms_logic_words.specs.declared.sign.Sign.{Sign}
+use Rattle.ms_logic_words.specs.declared.sign.Sign.TheVariants.{Yes, No, Undefined, Outside}
 use Rattle.ms_logic.specs.Assignment.{Env, Variable, IsAssignment}
-use Rattle.ms_logic.specs.Content.{Content, IsWordOver, last_state, sign_of}
-use Rattle.ms_logic.specs.Roots.{AreRising}
-use Rattle.ms_logic.specs.Word.{IsEncoding}
-use Rattle.ms_logic.specs.WordSign.{IsOutside}
-use Rattle.ms_logic.proofs.WordLaws.{encoding_is_over}
-use Rattle.ms_theory.specs.Narrow.{narrowed, ReadsThrough, IsCovered}
-use Rattle.ms_theory.specs.Values.{Meaning, IsMeaning, HasValues, own_meaning}
-use Rattle.ms_theory.proofs.CoveredLemmas.{covered_encodes}
-use Rattle.ms_theory.proofs.EncodingLemmas.{encoding_or_not}
-use Rattle.ms_theory.proofs.NarrowLemmas.{narrowed_encodes, narrowed_assigned, narrowed_over}
-use Rattle.ms_theory.proofs.OwnMeaningLemmas.{word_has_sign, sign_outside, HasValues-own, IsMeaning-own}
-use Rattle.ms_theory.proofs.ValuesLemmas.{IsAutomaton-by_values}
-use Rattle.ms_explore.specs.Explored.{Leads, Follows}
-use Rattle.ms_explore.specs.Tracks.{joined, places_among, IsAmong}
-use Rattle.ms_explore.proofs.AmongLemmas.{among_at, held_among, joined-either, leads_to, one_place, reads_through_places}
-use Rattle.ms_explore.proofs.RunLemmas.{explored, length-states_of, IsClosed-explored, sign_of_explored}
-use Rattle.ms_explore.proofs.TracksLemmas.{joined-left, joined-right, joined-rising}
+use Rattle.ms_logic_words.specs.Content.{Content, IsWordOver, last_state, sign_of}
+use Rattle.ms_logic.specs.Lists.{AreRising}
+use Rattle.ms_logic_words.specs.Word.{IsEncoding}
+use Rattle.ms_logic_words.specs.WordSign.{IsOutside}
+use Rattle.ms_logic_words.proofs.WordLaws.{encoding_is_over}
+use Rattle.ms_dfa.specs.Narrow.{narrowed, ReadsThrough, IsCovered}
+use Rattle.ms_dfa.specs.Values.{Meaning, IsMeaning, HasValues, own_meaning}
+use Rattle.ms_dfa.proofs.CoveredLemmas.{covered_encodes}
+use Rattle.ms_dfa.proofs.EncodingLemmas.{encoding_or_not}
+use Rattle.ms_dfa.proofs.NarrowLemmas.{narrowed_encodes, narrowed_assigned, narrowed_over}
+use Rattle.ms_dfa.proofs.OwnMeaningLemmas.{word_has_sign, sign_outside, HasValues-own, IsMeaning-own}
+use Rattle.ms_dfa.proofs.ValuesLemmas.{IsAutomaton-by_values}
+use Rattle.ms_dfa_explore.specs.Explored.{Leads, Follows}
+use Rattle.ms_dfa_explore.specs.Tracks.{joined, places_among, IsAmong}
+use Rattle.ms_dfa_explore.proofs.AmongLemmas.{among_at, held_among, joined-either, leads_to, one_place, reads_through_places}
+use Rattle.ms_dfa_explore.proofs.RunLemmas.{explored, length-states_of, IsClosed-explored, sign_of_explored}
+use Rattle.ms_dfa_explore.proofs.TracksLemmas.{joined-left, joined-right, joined-rising}
 use Rattle.ms_product.specs.declared.op.Op.{Op}
 use Rattle.ms_product.specs.Combined.{combined, HaveEqualOrders}
 use Rattle.ms_product.specs.Pairing.{Operands, operands_of, pair_sign, product_findings, AreStates}

@@ -3,8 +3,8 @@ use Rattle.std.proofs.Common.{◌≡◌, ℕ, ◌<◌, ⊎_elim, Bool, true, fal
 use Rattle.std.specs.Prelude.{map as map_list}
 use Rattle.std.proofs.lemmas.Bool.{cases_lt}
 use Rattle.std.proofs.lemmas.Option.{slice_get_within, same_Some}
-use Rattle.ms_edge.specs.declared.fault.StepFault.{StepFault}
-use Rattle.ms_edge.specs.declared.refusal.Word.{Word}
+use Rattle.ms_list.specs.declared.fault.StepFault.{StepFault}
+use Rattle.ms_list.specs.declared.word.Word.{Word}
 use Rattle.ms_arena.specs.declared.node.Ref.{Ref}
 use Rattle.ms_arena.specs.Bits.{with_bit}
 use Rattle.ms_arena.specs.Diagram.{Bits, leaf_of, IsOrdered}
@@ -18,12 +18,12 @@ use Rattle.ms_diagram.specs.Numbering.{AddsOnly, IsNumbering}
 use Rattle.ms_diagram.specs.Store.{Contents}
 use Rattle.ms_diagram.proofs.Building.{Builds-implies}
 use Rattle.ms_logic.specs.declared.mode.Order.{Order}
-use Rattle.ms_logic.specs.declared.sign.Sign.{Sign}
+use Rattle.ms_logic_words.specs.declared.sign.Sign.{Sign}
 use Rattle.ms_logic.specs.Assignment.{Variable}
-use Rattle.ms_logic.specs.Content.{StateOf, Content, HasValueAt, IsClosed, IsFollowed, is_truth_value, is_in_letters, first_state, next_state, state_after, last_state, letter_bits}
-use Rattle.ms_theory.specs.Machine.{Machine, after, end_of}
-use Rattle.ms_theory.specs.Narrow.{narrowed_truth, narrowed_letter, narrowed}
-use Rattle.ms_explore.specs.Run.{IsOver, AreNames}
+use Rattle.ms_logic_words.specs.Content.{StateOf, Content, HasValueAt, IsClosed, IsFollowed, is_truth_value, is_in_letters, first_state, next_state, state_after, last_state, letter_bits}
+use Rattle.ms_dfa.specs.Machine.{Machine, after, end_of}
+use Rattle.ms_dfa.specs.Narrow.{narrowed_truth, narrowed_letter, narrowed}
+use Rattle.ms_dfa_explore.specs.inner.Run.{IsOver, AreNames}
 use Rattle.ms_product.specs.declared.op.Op.{Op}
 use Rattle.ms_product.specs.Widened.{behind_through, next_through}
 use Rattle.ms_product.specs.Pairing.{Operands, HaveRisingMaps, sides_of, first_pair, next_pair, pair_sign, behind_pair, sign_of_number, product_findings, AreStates}

@@ -1,11 +1,11 @@
 -- What a product holds is needed: the nodes that it adds to an empty store, and its pairs.
 use Rattle.std.proofs.Common.{◌≡◌, ℕ, ◌+◌, ◌≤◌, ⊎_elim, List, [], length, Err, ap, ◌∙◌, arith}
-use Rattle.ms_edge.specs.declared.fault.StepFault.{StepFault}
-use Rattle.ms_edge.specs.declared.fault.StepFault.TheVariants.{Nodes, Memory}
+use Rattle.ms_list.specs.declared.fault.StepFault.{StepFault}
+use Rattle.ms_list.specs.declared.fault.StepFault.TheVariants.{Nodes, Memory}
 use Rattle.ms_diagram.specs.Numbering.{IsNumbering}
 use Rattle.ms_diagram.specs.Store.{Contents}
 use Rattle.ms_dfa.specs.declared.state.State.{State}
-use Rattle.ms_explore.specs.Explored.{GrowsForSome, OnRefused, Explores}
+use Rattle.ms_dfa_explore.specs.Explored.{GrowsForSome, OnRefused, Explores}
 use Rattle.ms_product.specs.declared.op.Op.{Op}
 use Rattle.ms_product.specs.Pairing.{Operands, product_findings, AreStates, IsPairedStore, AreAtLeast}
 

@@ -1,7 +1,7 @@
 -- An automaton over more variables leads, by the bits of a word over them, where it leads by the word read over its own.
 use Rattle.std.proofs.Common.{◌≡◌, ◌≢◌, ℕ, ◌<◌, Bool, true, false, List, length, slice_get, slice_index, Some, None, Result, Ok, IfSome, sym, ap, subst, ◌∙◌, arith}
 use Rattle.std.proofs.lemmas.Option.{slice_get_within, get_or_from_slice_get}
-use Rattle.ms_edge.specs.declared.fault.StepFault.{StepFault}
+use Rattle.ms_list.specs.declared.fault.StepFault.{StepFault}
 use Rattle.ms_arena.specs.declared.node.Ref.{Ref}
 use Rattle.ms_arena.specs.declared.node.Node.{Node}
 use Rattle.ms_arena.specs.Bits.{with_bit}
@@ -14,18 +14,18 @@ use Rattle.ms_diagram.specs.Growth.{Builds}
 use Rattle.ms_diagram.specs.Store.{Contents, IsStore}
 use Rattle.ms_dfa.specs.declared.state.State.{State}
 use Rattle.ms_logic.specs.declared.mode.Order.{Order}
-use Rattle.ms_logic.specs.declared.sign.Sign.{Sign}
+use Rattle.ms_logic_words.specs.declared.sign.Sign.{Sign}
 use Rattle.ms_logic.specs.Assignment.{Variable}
-use Rattle.ms_logic.specs.Content.{StateOf, Content, HasValueAt, IsClosed, IsFollowed, is_truth_value, is_in_letters, first_state, next_from, next_state, sign_at, truth_bits, letter_bits}
-use Rattle.ms_theory.specs.Narrow.{narrowed_truth, narrowed_letter}
-use Rattle.ms_theory.proofs.NarrowLemmas.{leaf_of-gathered}
+use Rattle.ms_logic_words.specs.Content.{StateOf, Content, HasValueAt, IsClosed, IsFollowed, is_truth_value, is_in_letters, first_state, next_from, next_state, sign_at, truth_bits, letter_bits}
+use Rattle.ms_dfa.specs.Narrow.{narrowed_truth, narrowed_letter}
+use Rattle.ms_dfa.proofs.NarrowLemmas.{leaf_of-gathered}
 use Rattle.std.proofs.lemmas.List.{length-map}
 use Rattle.ms_diagram.proofs.Building.{Grows-same}
-use Rattle.ms_logic.specs.Roots.{AreRising}
-use Rattle.ms_explore.specs.Explored.{Findings, GrowsForSome, Explores}
-use Rattle.ms_explore.specs.Tracks.{IsAmong, place_of, places_among}
-use Rattle.ms_explore.proofs.AmongLemmas.{places_rise}
-use Rattle.ms_explore.proofs.ExploredLemmas.{GrowsForSome-one}
+use Rattle.ms_logic.specs.Lists.{AreRising}
+use Rattle.ms_dfa_explore.specs.Explored.{Findings, GrowsForSome, Explores}
+use Rattle.ms_dfa_explore.specs.Tracks.{IsAmong, place_of, places_among}
+use Rattle.ms_dfa_explore.proofs.AmongLemmas.{places_rise}
+use Rattle.ms_dfa_explore.proofs.ExploredLemmas.{GrowsForSome-one}
 use Rattle.ms_product.specs.Widened.{first_through, behind_through, next_through, sign_or_outside, sign_in, widened_findings, IsRisingMap, IsBroughtIn}
 
 -- what a followed reference tests is read through a rising map

@@ -1,10 +1,10 @@
 -- The meaning of a connective of two automata, and of an automaton whose signs are changed.
 use Rattle.std.specs.Prelude.{◌≡◌, List, map}
-use Rattle.ms_logic.specs.declared.sign.Sign.{Sign}
+use Rattle.ms_logic_words.specs.declared.sign.Sign.{Sign}
 use Rattle.ms_logic.specs.Assignment.{Variable}
-use Rattle.ms_logic.specs.Content.{StateOf, Content}
-use Rattle.ms_explore.specs.Tracks.{IsAmong}
-use Rattle.ms_theory.specs.Values.{Meaning}
+use Rattle.ms_logic_words.specs.Content.{StateOf, Content}
+use Rattle.ms_dfa_explore.specs.Tracks.{IsAmong}
+use Rattle.ms_dfa.specs.Values.{Meaning}
 use Rattle.ms_product.specs.declared.op.Op.{Op}
 use Rattle.ms_product.specs.Signs.{strict}
 

@@ -1,5 +1,5 @@
+pub mod Combined
+pub mod Pairing
 pub mod Signs
 pub mod Widened
-pub mod Pairing
-pub mod Combined
-pub mod Later
+pub mod inner

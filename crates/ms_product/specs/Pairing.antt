@@ -9,12 +9,12 @@ use Rattle.ms_diagram.specs.declared.sides.Sides.{Sides}
 use Rattle.ms_diagram.specs.Numbering.{IsNumbering}
 use Rattle.ms_diagram.specs.Store.{Contents, IsStore}
 use Rattle.ms_dfa.specs.declared.state.State.{State}
-use Rattle.ms_logic.specs.declared.sign.Sign.{Sign}
-use Rattle.ms_logic.specs.declared.sign.Sign.TheVariants.{Outside}
+use Rattle.ms_logic_words.specs.declared.sign.Sign.{Sign}
+use Rattle.ms_logic_words.specs.declared.sign.Sign.TheVariants.{Outside}
 use Rattle.ms_logic.specs.Assignment.{Variable}
-use Rattle.ms_logic.specs.Content.{Content}
-use Rattle.ms_explore.specs.Explored.{Findings, Leads, Follows, Origin, IsFound, target_of}
-use Rattle.ms_explore.specs.Tracks.{joined, places_among}
+use Rattle.ms_logic_words.specs.Content.{Content}
+use Rattle.ms_dfa_explore.specs.Explored.{Findings, Leads, Follows, Origin, IsFound, target_of}
+use Rattle.ms_dfa_explore.specs.Tracks.{joined, places_among}
 use Rattle.ms_product.specs.declared.op.Op.{Op}
 use Rattle.ms_product.specs.Signs.{strict}
 use Rattle.ms_product.specs.Widened.{first_through, next_through, sign_in, IsRisingMap}

@@ -1,8 +1,8 @@
 -- The connectives on three values, strict in the third: a formula has no value where a part has none. A word that encodes no
 -- assignment keeps its sign.
 use Rattle.std.specs.Prelude.{Bool, true, false, not, ◌&&◌, ◌||◌, if◌then◌else◌}
-use Rattle.ms_logic.specs.declared.sign.Sign.{Sign}
-use Rattle.ms_logic.specs.declared.sign.Sign.TheVariants.{Yes, No, Undefined, Outside}
+use Rattle.ms_logic_words.specs.declared.sign.Sign.{Sign}
+use Rattle.ms_logic_words.specs.declared.sign.Sign.TheVariants.{Yes, No, Undefined, Outside}
 use Rattle.ms_product.specs.declared.change.Change.{Change}
 use Rattle.ms_product.specs.declared.change.Change.TheVariants.{Negation, Restriction}
 use Rattle.ms_product.specs.declared.op.Op.{Op}

@@ -5,10 +5,10 @@ use Rattle.ms_arena.specs.declared.node.Node.{Node}
 use Rattle.ms_arena.specs.Diagram.{Bits, leaf_of}
 use Rattle.ms_diagram.specs.Bring.{read_through}
 use Rattle.ms_dfa.specs.declared.state.State.{State}
-use Rattle.ms_logic.specs.declared.sign.Sign.{Sign}
-use Rattle.ms_logic.specs.declared.sign.Sign.TheVariants.{Outside}
-use Rattle.ms_logic.specs.Content.{StateOf, Content, IsClosed, sign_at}
-use Rattle.ms_explore.specs.Explored.{Findings, Leads, Follows}
+use Rattle.ms_logic_words.specs.declared.sign.Sign.{Sign}
+use Rattle.ms_logic_words.specs.declared.sign.Sign.TheVariants.{Outside}
+use Rattle.ms_logic_words.specs.Content.{StateOf, Content, IsClosed, sign_at}
+use Rattle.ms_dfa_explore.specs.Explored.{Findings, Leads, Follows}
 
 -- the state to which the bits lead from the start
 abbrev pub first_through : Content Sign → List ℕ → Bits → ℕ

@@ -1,12 +1,12 @@
 ghost use Rattle.std.specs.Prelude.{◌≡◌, IfOk, map};
 ghost use Rattle.ms_dfa.specs.Automaton.{states_of};
-ghost use Rattle.ms_theory.specs.Values.{HasValues, own_meaning};
+ghost use Rattle.ms_dfa.specs.Values.{HasValues, own_meaning};
 ghost use Rattle.ms_product.specs.Combined.{changed, with_sign, with_signs};
 ghost use Rattle.ms_product.specs.Signs.{change_by, negated, restricted};
 
 use ms_dfa::{Automaton, State, Track};
-use ms_edge::{List, NoMemory, push};
-use ms_logic::Sign;
+use ms_list::{List, NoMemory, push};
+use ms_logic_words::Sign;
 use std::alloc::Global;
 
 /// What becomes of each sign.

@@ -1,7 +1,7 @@
 ghost use Rattle.std.specs.Prelude.{◌≡◌, ◌≤◌, ◌+◌, length, IfOk};
-ghost use Rattle.ms_explore.specs.Explored.{OnRefused};
-ghost use Rattle.ms_explore.specs.Tracks.{joined};
-ghost use Rattle.ms_theory.specs.Values.{HasValues, own_meaning};
+ghost use Rattle.ms_dfa_explore.specs.Explored.{OnRefused};
+ghost use Rattle.ms_dfa_explore.specs.Tracks.{joined};
+ghost use Rattle.ms_dfa.specs.Values.{HasValues, own_meaning};
 ghost use Rattle.ms_product.specs.Combined.{HaveEqualOrders, combined};
 ghost use Rattle.ms_product.specs.Pairing.{AreAtLeast, operands_of};
 
@@ -9,8 +9,8 @@ use crate::op::Op;
 use crate::operand::widen;
 use crate::pairing::{Paired, pair_up};
 use ms_dfa::Automaton;
-use ms_edge::StepFault;
-use ms_explore::join;
+use ms_dfa_explore::join;
+use ms_list::StepFault;
 use std::alloc::Global;
 
 /// The connective of two automata over the tracks of both: at each assignment the sign that the strict connective gives the
@@ -30,6 +30,7 @@ pub fn combine(
     ensures variables { IfOk result (λ made. made.variables ≡ joined a.now.variables b.now.variables) }
     ensures values { IfOk result (HasValues (combined op (own_meaning a.now) (own_meaning b.now))) }
     ensures size { IfOk result (λ made. AreAtLeast (length made.nodes + length made.states) op (operands_of a.now b.now)) }
+    ensures within { IfOk result (λ made. length made.nodes + length made.states ≤ limit) }
     ensures nodes { OnRefused result (λ refused. (refused ≡ limit) × AreAtLeast limit op (operands_of a.now b.now)) }
 {
     let Ok(tracks) = join(alloc, a.tracks(), b.tracks()) else {

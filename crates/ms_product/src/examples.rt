@@ -1,5 +1,5 @@
 ghost use Rattle.std.specs.Prelude.{◌≡◌};
-ghost use Rattle.ms_logic.specs.declared.sign.Sign.TheVariants.{Yes, No, Undefined, Outside};
+ghost use Rattle.ms_logic_words.specs.declared.sign.Sign.TheVariants.{Yes, No, Undefined, Outside};
 ghost use Rattle.ms_product.specs.declared.op.Op.TheVariants.{And, Or, Implies, Iff};
 ghost use Rattle.ms_product.specs.Signs.{negated, restricted, strict};
 

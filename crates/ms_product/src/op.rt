@@ -1,7 +1,7 @@
 ghost use Rattle.std.specs.Prelude.{◌≡◌};
 ghost use Rattle.ms_product.specs.Signs.{connective, sign_for, strict};
 
-use ms_logic::Sign;
+use ms_logic_words::Sign;
 
 /// A connective of two formulas.
 #[derive(Clone, Copy, PartialEq, Eq)]

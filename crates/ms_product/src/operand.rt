@@ -1,17 +1,17 @@
 ghost use Rattle.std.specs.Prelude.{◌≡◌, ◌≤◌, ◌+◌, length, IfOk};
 ghost use Rattle.ms_logic.specs.Assignment.{Variable};
-ghost use Rattle.ms_logic.specs.Roots.{AreRising};
+ghost use Rattle.ms_logic.specs.Lists.{AreRising};
 ghost use Rattle.ms_dfa.specs.Automaton.{variables_of};
-ghost use Rattle.ms_explore.specs.Explored.{GrowsForSome, OnRefused};
-ghost use Rattle.ms_explore.specs.Tracks.{IsAmong, places_among};
+ghost use Rattle.ms_dfa_explore.specs.Explored.{GrowsForSome, OnRefused};
+ghost use Rattle.ms_dfa_explore.specs.Tracks.{IsAmong, places_among};
 ghost use Rattle.ms_product.specs.Widened.{IsBroughtIn, IsRisingMap, widened_findings};
 
 use ms_arena::Ref;
 use ms_dfa::{Automaton, State, Track};
+use ms_dfa_explore::{Machine, explore, places_among};
 use ms_diagram::{PlaceTable, Store};
-use ms_edge::{List, NoMemory, StepFault};
-use ms_explore::{Machine, explore, places_among};
-use ms_logic::Sign;
+use ms_list::{List, NoMemory, StepFault};
+use ms_logic_words::Sign;
 use std::alloc::Global;
 
 /// An automaton over more tracks: the map has the place of each of its own among them.
@@ -48,7 +48,7 @@ impl<'a> Machine for WidenedMachine<'a> {
     ghost use Rattle.std.proofs.Common.{◌≡◌, length, refl, ◌∙◌, subst};
     ghost use Rattle.std.proofs.Math.Nat.{le_refl};
     ghost use Rattle.ms_diagram.specs.Table.{AreBrought};
-    ghost use Rattle.ms_explore.specs.Explored.{AreMore};
+    ghost use Rattle.ms_dfa_explore.specs.Explored.{AreMore};
     ghost use Rattle.ms_product.specs.Widened.{IsRisingMap, widened_findings};
 
     ghost findings = { λ machine. widened_findings machine.widened.automaton.now machine.widened.map };
@@ -113,6 +113,7 @@ pub fn bring(
     requires among { (v : Variable) → IsAmong automaton.now.variables v → IsAmong (variables_of tracks.now) v }
     ensures brought { IfOk result (λ made. IsBroughtIn store.new.nodes automaton.now (places_among automaton.now.variables (variables_of tracks.now)) made.start made.states) }
     ensures grows { GrowsForSome store.old store.new (widened_findings automaton.now (places_among automaton.now.variables (variables_of tracks.now))) }
+    ensures within { IfOk result (λ made. length store.new.nodes + length made.states ≤ store.old.limit) }
     ensures nodes { OnRefused result (λ limit. (limit ≡ store.old.limit) × (limit ≤ length store.new.nodes + length automaton.now.states)) }
 {
     // The length tells that the nodes are those of a store, and the states that it is an automaton.

@@ -1,5 +1,5 @@
-ghost use Rattle.std.specs.Prelude.{◌≡◌, ◌≤◌, length, IfOk};
-ghost use Rattle.ms_explore.specs.Explored.{OnRefused};
+ghost use Rattle.std.specs.Prelude.{◌≡◌, ◌≤◌, ◌+◌, length, IfOk};
+ghost use Rattle.ms_dfa_explore.specs.Explored.{OnRefused};
 ghost use Rattle.ms_product.specs.Pairing.{AreAtLeast, IsPairedIn, IsPairedStore};
 ghost use Rattle.ms_product.specs.Widened.{IsRisingMap};
 
@@ -8,9 +8,9 @@ use crate::operand::Widened;
 use crate::product::{Product, ProductMachine};
 use ms_arena::Ref;
 use ms_dfa::State;
+use ms_dfa_explore::explore;
 use ms_diagram::{PairTable, Pairs, Store};
-use ms_edge::{List, StepFault};
-use ms_explore::explore;
+use ms_list::{List, StepFault};
 use std::alloc::Global;
 
 /// The product of two automata in a store of its own: where the truth values lead, its states, and the pairs that these are.
@@ -39,6 +39,7 @@ pub fn pair_up(
         (record { left = left.entry.automaton.now; left_map = left.entry.map; right = right.entry.automaton.now; right_map = right.entry.map }) p.pairs p.start p.states) }
     ensures store { IfOk result (λ p. IsPairedStore p.store limit op
         (record { left = left.entry.automaton.now; left_map = left.entry.map; right = right.entry.automaton.now; right_map = right.entry.map }) p.pairs) }
+    ensures within { IfOk result (λ p. length p.store.nodes + length p.states ≤ limit) }
     ensures nodes { OnRefused result (λ refused. (refused ≡ limit) × AreAtLeast limit op
         (record { left = left.entry.automaton.now; left_map = left.entry.map; right = right.entry.automaton.now; right_map = right.entry.map })) }
 {

@@ -6,10 +6,10 @@ ghost use Rattle.ms_product.specs.Pairing.{HaveRisingMaps, IsLaterPairing, produ
 use crate::op::{Op, strict};
 use crate::operand::Widened;
 use ms_arena::Ref;
+use ms_dfa_explore::Machine;
 use ms_diagram::{PairTable, Pairs, Renamed, Sides, Store};
-use ms_edge::StepFault;
-use ms_explore::Machine;
-use ms_logic::Sign;
+use ms_list::StepFault;
+use ms_logic_words::Sign;
 use std::marker::Model;
 
 /// The product of two automata, each read where it is: its states are pairs of theirs, which get numbers at first sight.
@@ -127,7 +127,7 @@ pub(crate) struct ProductMachine<'a> {
 impl<'a> Machine for ProductMachine<'a> {
     ghost use Rattle.ms_diagram.specs.Table.{ArePairedAcross};
     ghost use Rattle.ms_product.specs.Pairing.{HaveRisingMaps, IsLaterPairing, product_findings, sides_of};
-    ghost use Rattle.ms_product.specs.Later.{pairing_later_itself, pairing_later_later, pairing_later_findings};
+    ghost use Rattle.ms_product.specs.inner.Later.{pairing_later_itself, pairing_later_later, pairing_later_findings};
 
     ghost findings = { λ machine. product_findings machine.product.op machine.product.operands machine.product.pairs };
 

@@ -1,7 +1,7 @@
 -- The automaton of truth is one, and a quantifier over its Yes is one over all values.
 use Rattle.std.proofs.Common.{◌≡◌, ℕ, zero, suc, ◌<◌, ◌⊎◌, Bool, get_or, List, [], ◌∷◌, slice_get, Option, Some, None, refl, sym, ap, subst, ◌∙◌, arith}
 use Rattle.std.proofs.lemmas.Option.{none-some, same_Some}
-use Rattle.ms_edge.specs.declared.refusal.Word.{Word}
+use Rattle.ms_list.specs.declared.word.Word.{Word}
 use Rattle.ms_arena.specs.declared.node.Ref.TheVariants.{Leaf}
 use Rattle.ms_arena.specs.declared.node.Node.{Node}
 use Rattle.ms_arena.specs.Diagram.{IsOrdered, IsReduced}
@@ -11,16 +11,16 @@ use Rattle.ms_logic.specs.declared.mode.Mode.{Mode}
 use Rattle.ms_logic.specs.declared.mode.Order.{Order}
 use Rattle.ms_logic.specs.declared.mode.Quant.{Quant}
 use Rattle.ms_logic.specs.declared.mode.Quant.TheVariants.{Ex, All}
-use Rattle.ms_logic.specs.declared.sign.Sign.{Sign}
-use Rattle.ms_logic.specs.declared.sign.Sign.TheVariants.{Yes, No, Undefined, Outside}
+use Rattle.ms_logic_words.specs.declared.sign.Sign.{Sign}
+use Rattle.ms_logic_words.specs.declared.sign.Sign.TheVariants.{Yes, No, Undefined, Outside}
 use Rattle.ms_logic.specs.declared.assignment.Value.{Value}
 use Rattle.ms_logic.specs.Assignment.{Env, Variable, assign}
-use Rattle.ms_logic.specs.Content.{Content, StateOf, is_truth_value, is_in_letters, with_zero_letter, HasValueAt, IsFollowed, letter_bits, truth_bits, next_state, state_after, first_state, last_state, shortest_word, sign_at, sign_of}
+use Rattle.ms_logic_words.specs.Content.{Content, StateOf, is_truth_value, is_in_letters, with_zero_letter, HasValueAt, IsFollowed, letter_bits, truth_bits, next_state, state_after, first_state, last_state, shortest_word, sign_at, sign_of}
 use Rattle.ms_logic.specs.Truth.{SomeInRange, NoneInRange, IsEmptyRange}
-use Rattle.ms_logic.proofs.DecodedWords.{encodings_are}
+use Rattle.ms_logic_words.proofs.DecodedWords.{encodings_are}
 use Rattle.ms_logic.proofs.FreeVariables.{some_moves, none_moves, some_or_empty_moves}
-use Rattle.ms_theory.specs.Values.{Meaning, meaning_by, HasValues, own_meaning}
-use Rattle.ms_theory.proofs.FunctionLemmas.{TestsOnly-leaf}
+use Rattle.ms_dfa.specs.Values.{Meaning, meaning_by, HasValues, own_meaning}
+use Rattle.ms_dfa.proofs.FunctionLemmas.{TestsOnly-leaf}
 use Rattle.ms_project.specs.Always.{always}
 use Rattle.ms_project.specs.Quantified.{IsMetBy, RangeOf, BodyAt, QuantifiedYes, QuantifiedNo, quantified}
 

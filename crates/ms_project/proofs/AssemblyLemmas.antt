@@ -13,13 +13,13 @@ use Rattle.ms_dfa.specs.declared.track.Track.{Track}
 use Rattle.ms_dfa.proofs.States.{state_in}
 use Rattle.ms_logic.specs.declared.mode.Mode.{Mode}
 use Rattle.ms_logic.specs.declared.mode.Quant.{Quant}
-use Rattle.ms_logic.specs.declared.sign.Sign.{Sign}
-use Rattle.ms_logic.specs.declared.sign.Sign.TheVariants.{Yes, Outside}
+use Rattle.ms_logic_words.specs.declared.sign.Sign.{Sign}
+use Rattle.ms_logic_words.specs.declared.sign.Sign.TheVariants.{Yes, Outside}
 use Rattle.ms_logic.specs.Assignment.{Variable}
-use Rattle.ms_logic.specs.Content.{Content, StateOf, IsClosed, IsFollowed, is_in_letters}
-use Rattle.ms_theory.specs.Values.{HasValues, own_meaning}
-use Rattle.ms_explore.specs.Tracks.{IsAmong}
-use Rattle.ms_explore.proofs.RunLemmas.{explored, length-states_of, IsClosed-explored}
+use Rattle.ms_logic_words.specs.Content.{Content, StateOf, IsClosed, IsFollowed, is_in_letters}
+use Rattle.ms_dfa.specs.Values.{HasValues, own_meaning}
+use Rattle.ms_dfa_explore.specs.Tracks.{IsAmong}
+use Rattle.ms_dfa_explore.proofs.RunLemmas.{explored, length-states_of, IsClosed-explored}
 use Rattle.ms_product.proofs.ChangeLemmas.{content_is}
 use Rattle.ms_quotient.specs.declared.marks.Marks.{Marks}
 use Rattle.ms_quotient.specs.Closure.{no_marks}

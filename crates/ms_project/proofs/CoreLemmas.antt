@@ -1,24 +1,24 @@
 -- Over a body and a domain with the values of core formulas, a quantifier has the value of the quantified core formula.
 use Rattle.std.proofs.Common.{◌≡◌, ◌↔◌, ℕ, List, Some, sym, ap, subst, ◌∙◌}
 use Rattle.std.proofs.lemmas.Option.{same_Some}
-use Rattle.ms_edge.specs.declared.refusal.Word.{Word}
+use Rattle.ms_list.specs.declared.word.Word.{Word}
 use Rattle.ms_dfa.specs.Automaton.{IsAutomaton}
 use Rattle.ms_logic.specs.declared.mode.Quant.{Quant}
 use Rattle.ms_logic.specs.declared.mode.Quant.TheVariants.{Ex, All}
-use Rattle.ms_logic.specs.declared.sign.Sign.{Sign}
-use Rattle.ms_logic.specs.declared.sign.Sign.TheVariants.{Yes, No}
+use Rattle.ms_logic_words.specs.declared.sign.Sign.{Sign}
+use Rattle.ms_logic_words.specs.declared.sign.Sign.TheVariants.{Yes, No}
 use Rattle.ms_logic.specs.declared.assignment.Value.{Value}
 use Rattle.ms_logic.specs.Assignment.{Env, Variable, IsAssignment, IsValueOf, assign}
-use Rattle.ms_logic.specs.Content.{Content, shortest_word}
-use Rattle.ms_logic.specs.CoreForm.{CoreForm, CoreRestriction, CoreYes, CoreNo, IsCoreMet, unrestricted, restricted, quantified as core_quantified}
+use Rattle.ms_logic_words.specs.Content.{Content, shortest_word}
+use Rattle.ms_logic_core.specs.CoreForm.{CoreForm, CoreRestriction, CoreYes, CoreNo, IsCoreMet, unrestricted, restricted, quantified as core_quantified}
 use Rattle.ms_logic.specs.Truth.{Import, InRange}
-use Rattle.ms_logic.specs.Word.{Encodes}
-use Rattle.ms_theory.specs.Values.{HasValues, core_meaning, own_meaning}
-use Rattle.ms_theory.proofs.EncodingLemmas.{shortest}
-use Rattle.ms_theory.proofs.NarrowLemmas.{narrowed_assigned}
-use Rattle.ms_theory.proofs.ValuesLemmas.{IsMeaning-core}
-use Rattle.ms_explore.specs.Tracks.{IsAmong, places_among}
-use Rattle.ms_explore.proofs.AmongLemmas.{reads_through_places}
+use Rattle.ms_logic_words.specs.Word.{Encodes}
+use Rattle.ms_dfa.specs.Values.{HasValues, core_meaning, own_meaning}
+use Rattle.ms_dfa.proofs.EncodingLemmas.{shortest}
+use Rattle.ms_dfa.proofs.NarrowLemmas.{narrowed_assigned}
+use Rattle.ms_dfa.proofs.ValuesLemmas.{IsMeaning-core}
+use Rattle.ms_dfa_explore.specs.Tracks.{IsAmong, places_among}
+use Rattle.ms_dfa_explore.proofs.AmongLemmas.{reads_through_places}
 use Rattle.ms_project.specs.Paired.{IsDomainFor, places_left}
 use Rattle.ms_project.specs.Quantified.{IsMetBy, RangeOf, BodyAt, QuantifiedYes, QuantifiedNo, quantified, without}
 use Rattle.ms_project.proofs.AlwaysLemmas.{some_yes, some_no, none_yes, none_no, yes_or_empty, no_or_empty, sign_moves}

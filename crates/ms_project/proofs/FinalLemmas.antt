@@ -5,7 +5,7 @@ use Rattle.std.specs.Option.{option_map}
 use Rattle.std.proofs.lemmas.Bool.{cases_lt, false≢true}
 use Rattle.std.proofs.lemmas.List.{length-map, length-replicate, get_or-replicate, get_or_past}
 use Rattle.std.proofs.lemmas.Option.{same_Some, slice_get-map, slice_get_within, get_or_from_slice_get}
-use Rattle.ms_edge.specs.declared.refusal.Word.{Word}
+use Rattle.ms_list.specs.declared.word.Word.{Word}
 use Rattle.ms_arena.specs.declared.node.Ref.{Ref}
 use Rattle.ms_arena.specs.declared.node.Node.{Node}
 use Rattle.ms_arena.specs.Diagram.{Bits, leaf_of}
@@ -20,19 +20,19 @@ use Rattle.ms_logic.specs.declared.mode.Mode.{Mode}
 use Rattle.ms_logic.specs.declared.mode.Order.{Order}
 use Rattle.ms_logic.specs.declared.mode.Quant.{Quant}
 use Rattle.ms_logic.specs.declared.mode.Quant.TheVariants.{Ex, All}
-use Rattle.ms_logic.specs.declared.sign.Sign.{Sign}
-use Rattle.ms_logic.specs.declared.sign.Sign.TheVariants.{Yes, No}
+use Rattle.ms_logic_words.specs.declared.sign.Sign.{Sign}
+use Rattle.ms_logic_words.specs.declared.sign.Sign.TheVariants.{Yes, No}
 use Rattle.ms_logic.specs.Assignment.{Env, Variable, IsAssignment}
-use Rattle.ms_logic.specs.Content.{Content, StateOf, IsClosed, IsWordOver, bits_at, spread, head_bit, tail_bits, count_of, is_in_letters, letter_bits, last_state, next_from, next_state, sign_of, zero_letter}
-use Rattle.ms_logic.specs.Roots.{AreRising}
-use Rattle.ms_theory.specs.Narrow.{narrowed}
-use Rattle.ms_theory.specs.Values.{HasValues, IsMeaning, own_meaning}
-use Rattle.ms_theory.proofs.MachineLemmas.{related_at_end}
-use Rattle.ms_theory.proofs.ValuesLemmas.{IsMeaning-by, IsAutomaton-by_values}
-use Rattle.ms_explore.specs.Explored.{Leads, Follows}
-use Rattle.ms_explore.specs.Tracks.{IsAmong, places_among}
-use Rattle.ms_explore.proofs.AmongLemmas.{leads_to}
-use Rattle.ms_explore.proofs.RunLemmas.{explored, length-states_of, IsClosed-explored, IsSimulation-explored}
+use Rattle.ms_logic_words.specs.Content.{Content, StateOf, IsClosed, IsWordOver, bits_at, spread, head_bit, tail_bits, count_of, is_in_letters, letter_bits, last_state, next_from, next_state, sign_of, zero_letter}
+use Rattle.ms_logic.specs.Lists.{AreRising}
+use Rattle.ms_dfa.specs.Narrow.{narrowed}
+use Rattle.ms_dfa.specs.Values.{HasValues, IsMeaning, own_meaning}
+use Rattle.ms_dfa.proofs.MachineLemmas.{related_at_end}
+use Rattle.ms_dfa.proofs.ValuesLemmas.{IsMeaning-by, IsAutomaton-by_values}
+use Rattle.ms_dfa_explore.specs.Explored.{Leads, Follows}
+use Rattle.ms_dfa_explore.specs.Tracks.{IsAmong, places_among}
+use Rattle.ms_dfa_explore.proofs.AmongLemmas.{leads_to}
+use Rattle.ms_dfa_explore.proofs.RunLemmas.{explored, length-states_of, IsClosed-explored, IsSimulation-explored}
 use Rattle.ms_product.specs.declared.op.Op.TheVariants.{And}
 use Rattle.ms_product.specs.Pairing.{Operands, product_findings, pair_sign}
 use Rattle.ms_product.specs.Widened.{sign_in}

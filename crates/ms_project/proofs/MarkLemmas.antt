@@ -1,14 +1,14 @@
 -- The closed marks of the set that a word reaches are those of the states that are reached by words over all variables.
 use Rattle.std.proofs.Common.{◌≡◌, ◌↔◌, ℕ, zero, suc, ◌<◌, inl, inr, ⊎_elim, Bool, IsTrue, List, [], ◌∷◌, Contains, length, slice_get, slice_index, Some, refl, sym, ap, subst, ◌∙◌, arith}
-use Rattle.ms_edge.specs.declared.refusal.Word.{Word}
+use Rattle.ms_list.specs.declared.word.Word.{Word}
 use Rattle.ms_diagram.proofs.ListLemmas.{Contains-cases, Contains-first, Contains-rest, Contains-none}
 use Rattle.ms_logic.specs.declared.mode.Mode.{Mode}
 use Rattle.ms_logic.specs.declared.mode.Mode.TheVariants.{Ws1s, M2lStr}
-use Rattle.ms_logic.specs.declared.sign.Sign.{Sign}
-use Rattle.ms_logic.specs.Content.{Content, IsClosed, IsWordOver, first_state, next_state, last_state, zero_letter, with_zero_letter}
-use Rattle.ms_theory.specs.Narrow.{narrowed}
-use Rattle.ms_theory.proofs.EncodingLemmas.{zero_letter_over}
-use Rattle.ms_theory.proofs.OwnMeaningLemmas.{last_within}
+use Rattle.ms_logic_words.specs.declared.sign.Sign.{Sign}
+use Rattle.ms_logic_words.specs.Content.{Content, IsClosed, IsWordOver, first_state, next_state, last_state, zero_letter, with_zero_letter}
+use Rattle.ms_dfa.specs.Narrow.{narrowed}
+use Rattle.ms_dfa.proofs.EncodingLemmas.{zero_letter_over}
+use Rattle.ms_dfa.proofs.OwnMeaningLemmas.{last_within}
 use Rattle.ms_quotient.specs.declared.marks.Marks.{Marks}
 use Rattle.ms_quotient.specs.Closure.{no_marks, marks_at, place_after, StandsOnWay, AreMarksFrom}
 use Rattle.ms_quotient.specs.Way.{IsOn, union_along}

@@ -2,36 +2,36 @@
 use Rattle.std.proofs.Common.{◌≡◌, ◌≢◌, ◌↔◌, ℕ, zero, suc, ◌<◌, ◌⊎◌, inl, inr, ⊎_elim, Bool, true, false, if◌then◌else◌, IsTrue, List, [], ◌∷◌, length, slice_get, Option, Some, None, refl, sym, ap, subst, ◌∙◌, arith}
 use Rattle.std.proofs.lemmas.Bool.{false≢true}
 use Rattle.std.proofs.lemmas.Option.{same_Some}
-use Rattle.ms_edge.specs.declared.refusal.Word.{Word}
+use Rattle.ms_list.specs.declared.word.Word.{Word}
 use Rattle.ms_logic.specs.declared.mode.Mode.{Mode}
 use Rattle.ms_logic.specs.declared.mode.Mode.TheVariants.{Ws1s, M2lStr}
 use Rattle.ms_logic.specs.declared.mode.Order.{Order}
 use Rattle.ms_logic.specs.declared.mode.Order.TheVariants.{Zero, One, Two}
 use Rattle.ms_logic.specs.declared.mode.Quant.{Quant}
 use Rattle.ms_logic.specs.declared.mode.Quant.TheVariants.{Ex, All}
-use Rattle.ms_logic.specs.declared.sign.Sign.{Sign}
-use Rattle.ms_logic.specs.declared.sign.Sign.TheVariants.{Yes, No, Undefined, Outside}
+use Rattle.ms_logic_words.specs.declared.sign.Sign.{Sign}
+use Rattle.ms_logic_words.specs.declared.sign.Sign.TheVariants.{Yes, No, Undefined, Outside}
 use Rattle.ms_logic.specs.declared.assignment.Value.{Value}
 use Rattle.ms_logic.specs.declared.assignment.Value.TheVariants.{Truth, Number, Set}
 use Rattle.ms_logic.specs.Assignment.{Universe, Env, Variable, IsAssignment, IsUniverseOf, IsValueOf, GivesEach, IsWithin, assign, value_at}
-use Rattle.ms_logic.specs.Content.{Content, StateOf, IsWordOver, last_state, sign_of}
-use Rattle.ms_logic.specs.Decoding.{HaveOneBit, column_after}
-use Rattle.ms_logic.specs.Roots.{AreRising}
+use Rattle.ms_logic_words.specs.Content.{Content, StateOf, IsWordOver, last_state, sign_of}
+use Rattle.ms_logic_words.specs.inner.Decoding.{HaveOneBit, column_after}
+use Rattle.ms_logic.specs.Lists.{AreRising}
 use Rattle.ms_logic.specs.Truth.{SomeInRange, NoneInRange, IsEmptyRange}
-use Rattle.ms_logic.specs.Word.{Encodes, IsEncoding}
-use Rattle.ms_logic.specs.WordSign.{IsOutside}
-use Rattle.ms_logic.proofs.DecodedWords.{encodings_are}
-use Rattle.ms_logic.proofs.WordLaws.{encoding_is_over}
+use Rattle.ms_logic_words.specs.Word.{Encodes, IsEncoding}
+use Rattle.ms_logic_words.specs.WordSign.{IsOutside}
+use Rattle.ms_logic_words.proofs.DecodedWords.{encodings_are}
+use Rattle.ms_logic_words.proofs.WordLaws.{encoding_is_over}
 use Rattle.ms_dfa.specs.Automaton.{IsAutomaton}
 use Rattle.ms_arena.specs.declared.node.Ref.{Ref}
 use Rattle.ms_arena.specs.declared.node.Node.{Node}
-use Rattle.ms_theory.specs.Narrow.{narrowed, ReadsThrough}
-use Rattle.ms_theory.specs.Values.{Meaning, HasValues, own_meaning, sign_at_values}
-use Rattle.ms_theory.proofs.EncodingLemmas.{sign_of_encoding}
-use Rattle.ms_theory.proofs.NarrowLemmas.{narrowed_encodes, narrowed_assigned}
-use Rattle.ms_theory.proofs.OwnMeaningLemmas.{word_has_sign}
-use Rattle.ms_explore.specs.Tracks.{IsAmong, places_among}
-use Rattle.ms_explore.proofs.AmongLemmas.{reads_through_places}
+use Rattle.ms_dfa.specs.Narrow.{narrowed, ReadsThrough}
+use Rattle.ms_dfa.specs.Values.{Meaning, HasValues, own_meaning, sign_at_values}
+use Rattle.ms_dfa.proofs.EncodingLemmas.{sign_of_encoding}
+use Rattle.ms_dfa.proofs.NarrowLemmas.{narrowed_encodes, narrowed_assigned}
+use Rattle.ms_dfa.proofs.OwnMeaningLemmas.{word_has_sign}
+use Rattle.ms_dfa_explore.specs.Tracks.{IsAmong, places_among}
+use Rattle.ms_dfa_explore.proofs.AmongLemmas.{reads_through_places}
 use Rattle.ms_product.specs.Widened.{sign_in}
 use Rattle.ms_product.proofs.WidenedLemmas.{sign_in-is}
 use Rattle.ms_quotient.specs.declared.marks.Marks.{Marks}

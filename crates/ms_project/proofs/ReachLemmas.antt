@@ -3,17 +3,17 @@ use Rattle.std.proofs.Common.{◌≡◌, ℕ, ◌<◌, Bool, List, [], ◌∷◌
 use Rattle.std.specs.Prelude.{map as map_list}
 use Rattle.std.proofs.lemmas.List.{map-append}
 use Rattle.std.proofs.lemmas.Option.{slice_get_within, get_or_from_slice_get}
-use Rattle.ms_edge.specs.declared.refusal.Word.{Word}
+use Rattle.ms_list.specs.declared.word.Word.{Word}
 use Rattle.ms_arena.specs.declared.node.Ref.{Ref}
 use Rattle.ms_arena.specs.Diagram.{Bits, leaf_of, IsOrdered}
 use Rattle.ms_arena.proofs.Lists.{slice_get-held}
 use Rattle.ms_diagram.specs.Collect.{IsRisingSet}
-use Rattle.ms_diagram.specs.Collecting.{IsRisingSet-same}
-use Rattle.ms_logic.specs.declared.sign.Sign.{Sign}
+use Rattle.ms_diagram.specs.inner.Collecting.{IsRisingSet-same}
+use Rattle.ms_logic_words.specs.declared.sign.Sign.{Sign}
 use Rattle.ms_logic.specs.Assignment.{Variable}
-use Rattle.ms_logic.specs.Content.{Content, StateOf, IsClosed, IsFollowed, IsWordOver, AreLetters, count_of, is_truth_value, is_in_letters, truth_bits, letter_bits, first_state, next_state, next_from, state_after, last_state}
-use Rattle.ms_theory.specs.Narrow.{narrowed, narrowed_letter}
-use Rattle.ms_theory.proofs.OwnMeaningLemmas.{last_within}
+use Rattle.ms_logic_words.specs.Content.{Content, StateOf, IsClosed, IsFollowed, IsWordOver, AreLetters, count_of, is_truth_value, is_in_letters, truth_bits, letter_bits, first_state, next_state, next_from, state_after, last_state}
+use Rattle.ms_dfa.specs.Narrow.{narrowed, narrowed_letter}
+use Rattle.ms_dfa.proofs.OwnMeaningLemmas.{last_within}
 use Rattle.ms_project.specs.Subsets.{IsLeftOut, opened, next_of, next_ref, IsFirst, IsBehind, Reaches, IsReachedSet}
 use Rattle.ms_project.proofs.RestLemmas.{widened, length-widened, widened-narrowed, leaf_of-widened, leaf_of-opened}
 

@@ -12,10 +12,10 @@ use Rattle.ms_arena.proofs.ReachLemmas.{leaf_of-tested}
 use Rattle.ms_diagram.specs.Bring.{read_through}
 use Rattle.ms_logic.specs.declared.mode.Order.{Order}
 use Rattle.ms_logic.specs.Assignment.{Variable}
-use Rattle.ms_logic.specs.Content.{HasValueAt, count_of, bits_at, spread, head_bit, tail_bits}
-use Rattle.ms_theory.specs.Narrow.{gathered}
-use Rattle.ms_theory.proofs.GatheredLemmas.{gathered_at, length-gathered}
-use Rattle.ms_theory.proofs.NarrowLemmas.{leaf_of-gathered}
+use Rattle.ms_logic_words.specs.Content.{HasValueAt, count_of, bits_at, spread, head_bit, tail_bits}
+use Rattle.ms_dfa.specs.Narrow.{gathered}
+use Rattle.ms_dfa.proofs.GatheredLemmas.{gathered_at, length-gathered}
+use Rattle.ms_dfa.proofs.NarrowLemmas.{leaf_of-gathered}
 use Rattle.ms_project.specs.Subsets.{IsLeftOut, opened}
 
 module _ (has_value : Order → Bool) where

@@ -3,8 +3,8 @@ use Rattle.std.proofs.Common.{◌≡◌, ◌≢◌, ℕ, ◌+◌, ◌<◌, ◌�
 use Rattle.std.specs.Prelude.{map as map_list}
 use Rattle.std.proofs.lemmas.List.{length-map}
 use Rattle.std.proofs.lemmas.Option.{none-some, slice_get_within, get_or_from_slice_get}
-use Rattle.ms_edge.specs.declared.fault.StepFault.{StepFault}
-use Rattle.ms_edge.specs.declared.fault.StepFault.TheVariants.{Nodes, Memory}
+use Rattle.ms_list.specs.declared.fault.StepFault.{StepFault}
+use Rattle.ms_list.specs.declared.fault.StepFault.TheVariants.{Nodes, Memory}
 use Rattle.ms_arena.specs.declared.node.Ref.{Ref}
 use Rattle.ms_arena.specs.declared.node.Node.{Node}
 use Rattle.ms_arena.specs.Diagram.{leaf_of, IsOrdered}
@@ -14,14 +14,14 @@ use Rattle.ms_diagram.specs.Store.{Contents, IsStore}
 use Rattle.ms_dfa.specs.Automaton.{IsAutomaton, states_of}
 use Rattle.ms_dfa.specs.declared.state.State.{State}
 use Rattle.ms_dfa.proofs.States.{state_in}
-use Rattle.ms_logic.specs.declared.sign.Sign.{Sign}
+use Rattle.ms_logic_words.specs.declared.sign.Sign.{Sign}
 use Rattle.ms_logic.specs.Assignment.{Variable}
-use Rattle.ms_logic.specs.Content.{Content, StateOf, IsClosed, IsFollowed, is_in_letters}
-use Rattle.ms_explore.specs.Explored.{Leads, Follows, OnRefused}
-use Rattle.ms_explore.specs.Tracks.{IsAmong, place_of, places_among}
-use Rattle.ms_explore.proofs.AmongLemmas.{leads_to}
-use Rattle.ms_explore.proofs.ExploredLemmas.{Leads-later}
-use Rattle.ms_explore.proofs.RunLemmas.{IsClosed-explored, length-states_of}
+use Rattle.ms_logic_words.specs.Content.{Content, StateOf, IsClosed, IsFollowed, is_in_letters}
+use Rattle.ms_dfa_explore.specs.Explored.{Leads, Follows, OnRefused}
+use Rattle.ms_dfa_explore.specs.Tracks.{IsAmong, place_of, places_among}
+use Rattle.ms_dfa_explore.proofs.AmongLemmas.{leads_to}
+use Rattle.ms_dfa_explore.proofs.ExploredLemmas.{Leads-later}
+use Rattle.ms_dfa_explore.proofs.RunLemmas.{IsClosed-explored, length-states_of}
 use Rattle.ms_product.specs.declared.op.Op.TheVariants.{And}
 use Rattle.ms_product.specs.Pairing.{AreAtLeast, product_findings}
 use Rattle.ms_product.proofs.ProductLemmas.{IsOver-product}

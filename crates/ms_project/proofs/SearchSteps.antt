@@ -1,11 +1,11 @@
 -- Why a search for sets is refused for want of nodes.
 use Rattle.std.proofs.Common.{◌≡◌, ℕ, ◌+◌, ◌≤◌, ⊎_elim, List, [], length, Result, Err, sym, ap, subst, ◌∙◌, arith}
-use Rattle.ms_edge.specs.declared.fault.StepFault.{StepFault}
-use Rattle.ms_edge.specs.declared.fault.StepFault.TheVariants.{Nodes, Memory}
+use Rattle.ms_list.specs.declared.fault.StepFault.{StepFault}
+use Rattle.ms_list.specs.declared.fault.StepFault.TheVariants.{Nodes, Memory}
 use Rattle.ms_diagram.specs.Collect.{IsSetNumbering}
 use Rattle.ms_diagram.specs.Store.{Contents, IsStore}
 use Rattle.ms_dfa.specs.declared.state.State.{State}
-use Rattle.ms_explore.specs.Explored.{OnRefused, Explores}
+use Rattle.ms_dfa_explore.specs.Explored.{OnRefused, Explores}
 use Rattle.ms_project.specs.Subsetting.{Subsetting, subset_findings, IsReadyForSets, IsLaterSubsetting, SetsAreAtLeast}
 
 module _ (A : Type 0) (begun_with inside seen : Subsetting) (same : inside ≡ seen) (later : IsLaterSubsetting begun_with seen) (ready : IsReadyForSets begun_with)

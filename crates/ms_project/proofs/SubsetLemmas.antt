@@ -5,8 +5,8 @@ use Rattle.std.proofs.lemmas.Bool.{cases_lt, cases_eq}
 use Rattle.std.proofs.lemmas.List.{length-append, length-map, get_or_default, get_or-map}
 use Rattle.ms_diagram.proofs.ListLemmas.{Contains-cases, Contains-first, Contains-rest, Contains-none}
 use Rattle.std.proofs.lemmas.Option.{same_Some, slice_get_within, get_or_from_slice_get}
-use Rattle.ms_edge.specs.declared.fault.StepFault.{StepFault}
-use Rattle.ms_edge.specs.declared.fault.StepFault.TheVariants.{Nodes, Memory}
+use Rattle.ms_list.specs.declared.fault.StepFault.{StepFault}
+use Rattle.ms_list.specs.declared.fault.StepFault.TheVariants.{Nodes, Memory}
 use Rattle.ms_arena.specs.declared.node.Ref.{Ref}
 use Rattle.ms_arena.specs.declared.node.Node.{Node}
 use Rattle.ms_arena.specs.Bits.{with_bit}
@@ -24,21 +24,21 @@ use Rattle.ms_diagram.specs.Growth.{Builds, Grows}
 use Rattle.ms_diagram.specs.Numbering.{AddsOnly}
 use Rattle.ms_diagram.specs.Store.{Contents, IsStore}
 use Rattle.ms_diagram.proofs.Building.{Builds-implies, Grows-same}
-use Rattle.ms_diagram.specs.Collecting.{IsRisingSet-same}
+use Rattle.ms_diagram.specs.inner.Collecting.{IsRisingSet-same}
 use Rattle.ms_diagram.proofs.CollectLemmas.{same_number, IsCollected-built}
 use Rattle.ms_dfa.specs.declared.state.State.{State}
 use Rattle.ms_dfa.specs.Automaton.{states_of}
 use Rattle.ms_dfa.proofs.States.{state_in}
 use Rattle.ms_logic.specs.declared.mode.Order.{Order}
-use Rattle.ms_logic.specs.declared.sign.Sign.{Sign}
+use Rattle.ms_logic_words.specs.declared.sign.Sign.{Sign}
 use Rattle.ms_logic.specs.Assignment.{Variable}
-use Rattle.ms_logic.specs.Content.{Content, StateOf, HasValueAt, IsClosed, IsFollowed, is_truth_value, is_in_letters}
-use Rattle.ms_theory.specs.Function.{Ignores}
-use Rattle.ms_theory.proofs.FunctionLemmas.{TestsOnly-by_function, TestsOnly-extends}
-use Rattle.ms_theory.proofs.HasValueAtLemmas.{HasValueAt-or_not}
-use Rattle.ms_explore.specs.Explored.{Findings, AreMore, Origin, IsFound, target_of, GrowsForSome}
-use Rattle.ms_explore.proofs.ExploredLemmas.{GrowsForSome-one}
-use Rattle.ms_explore.proofs.RunLemmas.{length-states_of}
+use Rattle.ms_logic_words.specs.Content.{Content, StateOf, HasValueAt, IsClosed, IsFollowed, is_truth_value, is_in_letters}
+use Rattle.ms_dfa.specs.inner.Function.{Ignores}
+use Rattle.ms_dfa.proofs.FunctionLemmas.{TestsOnly-by_function, TestsOnly-extends}
+use Rattle.ms_dfa.proofs.HasValueAtLemmas.{HasValueAt-or_not}
+use Rattle.ms_dfa_explore.specs.Explored.{Findings, AreMore, Origin, IsFound, target_of, GrowsForSome}
+use Rattle.ms_dfa_explore.proofs.ExploredLemmas.{GrowsForSome-one}
+use Rattle.ms_dfa_explore.proofs.RunLemmas.{length-states_of}
 use Rattle.ms_project.specs.Subsets.{next_of, next_in, next_ref, opened, start_sets, sets_behind}
 use Rattle.ms_quotient.specs.Closure.{LeadsWithin}
 use Rattle.ms_project.specs.Signed.{TestBelow, zero_step}

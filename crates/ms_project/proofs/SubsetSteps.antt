@@ -3,8 +3,8 @@ use Rattle.std.proofs.Common.{◌≡◌, ℕ, ◌<◌, All, List, [], ◌∷◌,
 use Rattle.std.specs.Prelude.{map as map_list}
 use Rattle.std.proofs.lemmas.List.{get_or_default}
 use Rattle.std.proofs.lemmas.Option.{slice_get_within}
-use Rattle.ms_edge.specs.declared.fault.StepFault.{StepFault}
-use Rattle.ms_edge.specs.declared.fault.StepFault.TheVariants.{Memory}
+use Rattle.ms_list.specs.declared.fault.StepFault.{StepFault}
+use Rattle.ms_list.specs.declared.fault.StepFault.TheVariants.{Memory}
 use Rattle.ms_arena.specs.declared.node.Ref.{Ref}
 use Rattle.ms_arena.specs.declared.node.Node.{Node}
 use Rattle.ms_arena.specs.Diagram.{IsValid, IsOrdered}
@@ -20,7 +20,7 @@ use Rattle.ms_diagram.proofs.TableGrowth.{AreBrought-origin_grows}
 use Rattle.ms_diagram.proofs.Building.{Grows-same}
 use Rattle.ms_dfa.specs.Automaton.{states_of}
 use Rattle.ms_dfa.specs.declared.state.State.{State}
-use Rattle.ms_logic.specs.Content.{IsFollowed, is_truth_value, is_in_letters}
+use Rattle.ms_logic_words.specs.Content.{IsFollowed, is_truth_value, is_in_letters}
 use Rattle.ms_project.specs.Subsets.{next_in, start_sets, sets_behind}
 use Rattle.ms_project.specs.Subsetting.{Subsetting, paired, sets_at, subset_findings, IsFullWithin, IsReadyForSets, IsLaterSubsetting, IsHanded, IsHandable}
 use Rattle.ms_project.proofs.SubsetLemmas.{handable, later, handed, followed_start, implies_start, followed_next, implies_next, at_behind}

@@ -1,8 +1,8 @@
 -- The product of a body and truth is the body itself.
 use Rattle.std.proofs.Common.{◌≡◌, ℕ, ◌<◌, ◌≤◌, ◌+◌, List, [], length, slice_get, None, Some, IfSome, Err, refl, sym, ap, subst, ◌∙◌, arith}
 use Rattle.std.proofs.lemmas.Option.{slice_get_within}
-use Rattle.ms_edge.specs.declared.fault.StepFault.{StepFault}
-use Rattle.ms_edge.specs.declared.fault.StepFault.TheVariants.{Nodes, Memory}
+use Rattle.ms_list.specs.declared.fault.StepFault.{StepFault}
+use Rattle.ms_list.specs.declared.fault.StepFault.TheVariants.{Nodes, Memory}
 use Rattle.ms_arena.specs.declared.node.Ref.{Ref}
 use Rattle.ms_arena.specs.declared.node.Node.{Node}
 use Rattle.ms_arena.specs.Bits.{below_from}
@@ -11,11 +11,11 @@ use Rattle.ms_arena.specs.Target.{IsNeeded}
 use Rattle.ms_dfa.specs.declared.state.State.{State}
 use Rattle.ms_diagram.specs.Numbering.{IsNumbering, AreOwnPairs}
 use Rattle.ms_diagram.specs.Store.{Contents}
-use Rattle.ms_logic.specs.declared.sign.Sign.{Sign}
-use Rattle.ms_logic.specs.declared.sign.Sign.TheVariants.{Yes, No, Undefined, Outside}
-use Rattle.ms_logic.specs.Content.{Content, IsClosed}
-use Rattle.ms_explore.specs.Explored.{GrowsForSome, Leads, OnRefused, Origin, IsFound, target_of}
-use Rattle.ms_explore.specs.Tracks.{places_among}
+use Rattle.ms_logic_words.specs.declared.sign.Sign.{Sign}
+use Rattle.ms_logic_words.specs.declared.sign.Sign.TheVariants.{Yes, No, Undefined, Outside}
+use Rattle.ms_logic_words.specs.Content.{Content, IsClosed}
+use Rattle.ms_dfa_explore.specs.Explored.{GrowsForSome, Leads, OnRefused, Origin, IsFound, target_of}
+use Rattle.ms_dfa_explore.specs.Tracks.{places_among}
 use Rattle.ms_product.specs.declared.op.Op.TheVariants.{And}
 use Rattle.ms_product.specs.Pairing.{behind_pair, sign_of_number, product_findings, AreStates, AreAtLeast, IsNeededForSome, IsPairedIn, IsPairedStore}
 use Rattle.ms_product.specs.Signs.{strict}

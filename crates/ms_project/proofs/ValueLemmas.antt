@@ -4,7 +4,7 @@ use Rattle.std.specs.Prelude.{map as map_list}
 use Rattle.std.proofs.lemmas.Bool.{cases_eq, cases_lt, eq-eqb, ne_eqb, false≢true}
 use Rattle.std.proofs.lemmas.List.{length-map, length-replicate, get_or_append_left, get_or_push, get_or-replicate, get_or_past}
 use Rattle.std.proofs.lemmas.Option.{same_Some, none-some}
-use Rattle.ms_edge.specs.declared.refusal.Word.{Word}
+use Rattle.ms_list.specs.declared.word.Word.{Word}
 use Rattle.ms_diagram.specs.Bring.{read_through}
 use Rattle.ms_logic.specs.declared.mode.Mode.{Mode}
 use Rattle.ms_logic.specs.declared.mode.Mode.TheVariants.{Ws1s, M2lStr}
@@ -13,21 +13,22 @@ use Rattle.ms_logic.specs.declared.mode.Order.TheVariants.{Zero, One, Two}
 use Rattle.ms_logic.specs.declared.assignment.Value.{Value}
 use Rattle.ms_logic.specs.declared.assignment.Value.TheVariants.{Truth, Number, Set}
 use Rattle.ms_logic.specs.Assignment.{Universe, Env, Variable, IsAssignment, IsUniverseOf, IsValueOf, GivesEach, assign, value_at}
-use Rattle.ms_logic.specs.Content.{IsWordOver, AreLetters, count_of, is_truth_value, is_in_letters, bits_at, spread, zero_letter, with_zero_letter, shortest_word}
-use Rattle.ms_logic.specs.Decoding.{HasOneBit, HaveOneBit, bit_in, column_after, positions_of}
+use Rattle.ms_logic_words.specs.Content.{IsWordOver, AreLetters, count_of, is_truth_value, is_in_letters, bits_at, spread, zero_letter, with_zero_letter, shortest_word}
+use Rattle.ms_logic_words.specs.inner.Decoding.{HasOneBit, HaveOneBit, bit_in, column_after, positions_of}
 use Rattle.ms_logic.specs.OrderLaws.{GiveSameValues}
-use Rattle.ms_logic.specs.Roots.{AreRising}
-use Rattle.ms_logic.specs.Word.{Encodes, HasLength, IsEncoding, bound_of, bound_of_set}
-use Rattle.ms_logic.specs.WordSign.{word_of}
+use Rattle.ms_logic.specs.Lists.{AreRising}
+use Rattle.ms_logic_words.specs.Word.{Encodes, HasLength, IsEncoding}
+use Rattle.ms_logic.specs.Letters.{bound_of, bound_of_set}
+use Rattle.ms_logic_words.specs.WordSign.{word_of}
 use Rattle.ms_logic.proofs.Agreement.{universe-assign}
-use Rattle.ms_logic.proofs.DecodedWords.{encodings_are}
-use Rattle.ms_logic.proofs.DecodingLemmas.{bound-positions_of, rising-positions_of, is_member-positions_of, positions_are}
+use Rattle.ms_logic_words.proofs.DecodedWords.{encodings_are}
+use Rattle.ms_logic_words.proofs.DecodingLemmas.{bound-positions_of, rising-positions_of, is_member-positions_of, positions_are}
 use Rattle.ms_logic.proofs.Members.{no_member_from_bound}
-use Rattle.ms_logic.proofs.WordLaws.{encoding_is_over, encoding_exists, encoding_is_unique, length-letters_below, length_is_least, word_is_unique, zero_letter_keeps}
-use Rattle.ms_theory.specs.Narrow.{gathered, narrowed, narrowed_letter, narrowed_truth, ReadsThrough}
-use Rattle.ms_theory.proofs.NarrowLemmas.{narrowed_encodes, narrowed_assigned}
-use Rattle.ms_explore.specs.Tracks.{IsAmong, places_among}
-use Rattle.ms_explore.proofs.AmongLemmas.{leads_to, one_place}
+use Rattle.ms_logic_words.proofs.WordLaws.{encoding_is_over, encoding_exists, encoding_is_unique, length-letters_below, length_is_least, word_is_unique, zero_letter_keeps}
+use Rattle.ms_dfa.specs.Narrow.{gathered, narrowed, narrowed_letter, narrowed_truth, ReadsThrough}
+use Rattle.ms_dfa.proofs.NarrowLemmas.{narrowed_encodes, narrowed_assigned}
+use Rattle.ms_dfa_explore.specs.Tracks.{IsAmong, places_among}
+use Rattle.ms_dfa_explore.proofs.AmongLemmas.{leads_to, one_place}
 use Rattle.ms_project.specs.Subsets.{IsLeftOut}
 use Rattle.ms_project.proofs.RestLemmas.{gathered_as}
 

@@ -2,9 +2,9 @@
 use Rattle.std.specs.Prelude.{List, [], ◌∷◌, Option, Some, None}
 use Rattle.ms_arena.specs.declared.node.Ref.TheVariants.{Leaf}
 use Rattle.ms_logic.specs.declared.mode.Mode.{Mode}
-use Rattle.ms_logic.specs.declared.sign.Sign.{Sign}
-use Rattle.ms_logic.specs.declared.sign.Sign.TheVariants.{Yes}
-use Rattle.ms_logic.specs.Content.{Content}
+use Rattle.ms_logic_words.specs.declared.sign.Sign.{Sign}
+use Rattle.ms_logic_words.specs.declared.sign.Sign.TheVariants.{Yes}
+use Rattle.ms_logic_words.specs.Content.{Content}
 
 abbrev pub always : Mode → Content Sign
 always mode = record { mode = mode; variables = []; start = Leaf 0; states = record { sign = Yes; next = Leaf 0 } ∷ []; nodes = [] }

@@ -1,10 +1,9 @@
-pub mod Quantified
-pub mod Subsets
-pub mod Subsetting
-pub mod Later
+pub mod Always
 pub mod Marks
 pub mod Paired
-pub mod Signed
 pub mod Projection
-pub mod Always
-pub mod Examples
+pub mod Quantified
+pub mod Signed
+pub mod Subsets
+pub mod Subsetting
+pub mod inner

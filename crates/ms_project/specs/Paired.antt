@@ -1,10 +1,10 @@
 -- The product of a body and a domain over the variables of the body.
 use Rattle.std.specs.Prelude.{◌≡◌, ℕ, ◌+◌, ◌==◌, if◌then◌else◌, List, [], ◌∷◌, length}
-use Rattle.ms_logic.specs.declared.sign.Sign.{Sign}
-use Rattle.ms_logic.specs.declared.sign.Sign.TheVariants.{Yes}
+use Rattle.ms_logic_words.specs.declared.sign.Sign.{Sign}
+use Rattle.ms_logic_words.specs.declared.sign.Sign.TheVariants.{Yes}
 use Rattle.ms_logic.specs.Assignment.{Variable}
-use Rattle.ms_logic.specs.Content.{Content}
-use Rattle.ms_explore.specs.Tracks.{IsAmong}
+use Rattle.ms_logic_words.specs.Content.{Content}
+use Rattle.ms_dfa_explore.specs.Tracks.{IsAmong}
 use Rattle.ms_product.specs.Pairing.{Operands, operands_over}
 use Rattle.ms_product.specs.Widened.{sign_in}
 use Rattle.ms_quotient.specs.declared.marks.Marks.{Marks}

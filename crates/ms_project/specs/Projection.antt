@@ -6,10 +6,10 @@ use Rattle.ms_diagram.specs.Store.{Contents}
 use Rattle.ms_dfa.specs.declared.state.State.{State}
 use Rattle.ms_logic.specs.declared.mode.Mode.{Mode}
 use Rattle.ms_logic.specs.declared.mode.Quant.{Quant}
-use Rattle.ms_logic.specs.declared.sign.Sign.{Sign}
+use Rattle.ms_logic_words.specs.declared.sign.Sign.{Sign}
 use Rattle.ms_logic.specs.Assignment.{Variable}
-use Rattle.ms_logic.specs.Content.{Content}
-use Rattle.ms_explore.specs.Tracks.{place_of}
+use Rattle.ms_logic_words.specs.Content.{Content}
+use Rattle.ms_dfa_explore.specs.Tracks.{place_of}
 use Rattle.ms_product.specs.declared.op.Op.TheVariants.{And}
 use Rattle.ms_product.specs.Pairing.{AreAtLeast}
 use Rattle.ms_quotient.specs.declared.marks.Marks.{Marks}

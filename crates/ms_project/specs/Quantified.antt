@@ -3,13 +3,13 @@
 use Rattle.std.specs.Prelude.{◌⊎◌, List, Option, Some, None, filter, not, ◌==◌, ℕ}
 use Rattle.ms_logic.specs.declared.mode.Quant.{Quant}
 use Rattle.ms_logic.specs.declared.mode.Quant.TheVariants.{Ex, All}
-use Rattle.ms_logic.specs.declared.sign.Sign.{Sign}
-use Rattle.ms_logic.specs.declared.sign.Sign.TheVariants.{Yes, No}
+use Rattle.ms_logic_words.specs.declared.sign.Sign.{Sign}
+use Rattle.ms_logic_words.specs.declared.sign.Sign.TheVariants.{Yes, No}
 use Rattle.ms_logic.specs.declared.assignment.Value.{Value}
 use Rattle.ms_logic.specs.Assignment.{Env, Variable, assign}
 use Rattle.ms_logic.specs.Truth.{InRange, SomeInRange, NoneInRange, IsEmptyRange}
-use Rattle.ms_logic.specs.Content.{Content}
-use Rattle.ms_theory.specs.Values.{Meaning, meaning_by, own_meaning}
+use Rattle.ms_logic_words.specs.Content.{Content}
+use Rattle.ms_dfa.specs.Values.{Meaning, meaning_by, own_meaning}
 
 -- the other variables
 abbrev pub without : ℕ → List Variable → List Variable

@@ -1,7 +1,7 @@
 -- The subset construction over a content with one track left out: the sets of states that are reached by the words that
 -- differ in that track alone (Rabin and Scott, 1959).
 use Rattle.std.specs.Prelude.{◌≡◌, ◌≢◌, ℕ, ◌<◌, Bool, List, length, Contains, slice_get, slice_index, Option, Some, None}
-use Rattle.ms_edge.specs.declared.refusal.Word.{Word}
+use Rattle.ms_list.specs.declared.word.Word.{Word}
 use Rattle.ms_arena.specs.declared.node.Ref.{Ref}
 use Rattle.ms_arena.specs.declared.node.Ref.TheVariants.{Leaf}
 use Rattle.ms_arena.specs.Bits.{with_bit}
@@ -9,10 +9,10 @@ use Rattle.ms_arena.specs.Diagram.{Bits, leaf_of}
 use Rattle.ms_arena.specs.Target.{Target}
 use Rattle.ms_diagram.specs.Bring.{read_through}
 use Rattle.ms_diagram.specs.Collect.{IsRisingSet}
-use Rattle.ms_logic.specs.declared.sign.Sign.{Sign}
+use Rattle.ms_logic_words.specs.declared.sign.Sign.{Sign}
 use Rattle.ms_logic.specs.Assignment.{Variable}
-use Rattle.ms_logic.specs.Content.{Content, StateOf, IsWordOver, last_state}
-use Rattle.ms_theory.specs.Narrow.{narrowed}
+use Rattle.ms_logic_words.specs.Content.{Content, StateOf, IsWordOver, last_state}
+use Rattle.ms_dfa.specs.Narrow.{narrowed}
 
 -- the variables without the one at the bound place, and the places of each list in the other
 pub record IsLeftOut (wide rest : List Variable) (bound : ℕ) (into back : List ℕ) : Type 0 where

@@ -1,7 +1,7 @@
 -- The sets that a subset construction has found, in a store of their own that holds the diagrams over all variables.
 use Rattle.std.specs.Prelude.{◌≡◌, ◌≢◌, ◌⊎◌, ℕ, ◌+◌, ◌<◌, ◌≤◌, Bool, List, [], length, Contains, slice_get, slice_index, Option, Some, None, Result, Ok, Err, Vec}
-use Rattle.ms_edge.specs.declared.fault.StepFault.{StepFault}
-use Rattle.ms_edge.specs.declared.fault.StepFault.TheVariants.{Nodes, Memory}
+use Rattle.ms_list.specs.declared.fault.StepFault.{StepFault}
+use Rattle.ms_list.specs.declared.fault.StepFault.TheVariants.{Nodes, Memory}
 use Rattle.ms_arena.specs.declared.node.Ref.{Ref}
 use Rattle.ms_arena.specs.declared.node.Node.{Node}
 use Rattle.ms_arena.specs.Bits.{with_bit}
@@ -14,10 +14,10 @@ use Rattle.ms_diagram.specs.Store.{Contents, IsStore}
 use Rattle.ms_diagram.specs.Table.{AreBrought, AreCollected}
 use Rattle.ms_dfa.specs.Automaton.{states_of}
 use Rattle.ms_dfa.specs.declared.state.State.{State}
-use Rattle.ms_logic.specs.declared.sign.Sign.{Sign}
-use Rattle.ms_logic.specs.declared.sign.Sign.TheVariants.{Outside}
-use Rattle.ms_logic.specs.Content.{Content, IsClosed}
-use Rattle.ms_explore.specs.Explored.{Findings, AreMore, GrowsForSome, Leads, Follows}
+use Rattle.ms_logic_words.specs.declared.sign.Sign.{Sign}
+use Rattle.ms_logic_words.specs.declared.sign.Sign.TheVariants.{Outside}
+use Rattle.ms_logic_words.specs.Content.{Content, IsClosed}
+use Rattle.ms_dfa_explore.specs.Explored.{Findings, AreMore, GrowsForSome, Leads, Follows}
 use Rattle.ms_product.specs.Pairing.{IsNeededForSome}
 use Rattle.ms_project.specs.Subsets.{next_of, start_sets, sets_behind}
 

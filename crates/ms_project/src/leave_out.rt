@@ -4,7 +4,7 @@ ghost use Rattle.ms_project.specs.Paired.{places_left};
 ghost use Rattle.ms_project.specs.Quantified.{without};
 
 use ms_dfa::Track;
-use ms_edge::{List, NoMemory, push};
+use ms_list::{List, NoMemory, push};
 use std::alloc::Global;
 
 /// The tracks of the other variables, and for each track its place among them.

@@ -8,8 +8,9 @@ ghost use Rattle.ms_dfa.specs.Automaton.{variables_of};
 
 use ms_dfa::{Automaton, Track};
 use ms_diagram::{Pairs, Sets};
-use ms_edge::{List, NoMemory, push};
-use ms_logic::{Mode, Order, Quant, Sign};
+use ms_list::{List, NoMemory, push};
+use ms_logic::{Mode, Order, Quant};
+use ms_logic_words::Sign;
 use ms_quotient::Marks;
 use std::alloc::Global;
 

@@ -1,13 +1,13 @@
 ghost use Rattle.std.specs.Prelude.{◌≡◌, ◌≤◌, IsTrue, IfOk};
-ghost use Rattle.ms_explore.specs.Explored.{OnRefused};
+ghost use Rattle.ms_dfa_explore.specs.Explored.{OnRefused};
 ghost use Rattle.ms_product.specs.Pairing.{AreAtLeast, IsPairedIn, IsPairedStore};
 ghost use Rattle.ms_product.specs.declared.op.Op.TheVariants.{And};
 ghost use Rattle.ms_project.specs.Paired.{IsDomainFor, IsTruth, operands_for};
 
 use ms_dfa::Automaton;
 use ms_diagram::{Pairs, Store};
-use ms_edge::StepFault;
-use ms_logic::Sign;
+use ms_list::StepFault;
+use ms_logic_words::Sign;
 use ms_product::{Brought, Op, Paired, bring, widen};
 use std::alloc::Global;
 

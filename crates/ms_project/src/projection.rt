@@ -1,7 +1,7 @@
-ghost use Rattle.std.specs.Prelude.{◌≡◌, ◌<◌, ◌≤◌, All, IfOk, length};
+ghost use Rattle.std.specs.Prelude.{◌≡◌, ◌<◌, ◌≤◌, ◌+◌, All, IfOk, length};
 ghost use Rattle.ms_dfa.specs.Automaton.{variable_of, variables_of};
-ghost use Rattle.ms_explore.specs.Explored.{OnRefused};
-ghost use Rattle.ms_explore.specs.Tracks.{IsAmong};
+ghost use Rattle.ms_dfa_explore.specs.Explored.{OnRefused};
+ghost use Rattle.ms_dfa_explore.specs.Tracks.{IsAmong};
 ghost use Rattle.ms_project.specs.Paired.{IsDomainFor};
 ghost use Rattle.ms_project.specs.Projection.{AreSignedSets, IsProjection, NeedsAtLeast};
 ghost use Rattle.ms_project.specs.Quantified.{without};
@@ -13,8 +13,8 @@ use crate::pairing::pair_up;
 use crate::search::{SetsFound, find_sets};
 use crate::signs::{Stage, closed_marks, sign_states};
 use ms_dfa::{Automaton, State, Track};
-use ms_edge::{List, NoMemory, StepFault};
-use ms_explore::place_of;
+use ms_dfa_explore::place_of;
+use ms_list::{List, NoMemory, StepFault};
 use ms_logic::{Mode, Quant};
 use ms_quotient::Marks;
 use std::alloc::Global;
@@ -41,6 +41,7 @@ pub(crate) fn search<'a>(
     requires small { limit ≤ 4000000000 }
     ensures tracks { IfOk result (λ p. variables_of p.tracks ≡ without track.variable body.now.variables) }
     ensures projection { IfOk result (λ p. IsProjection body.now domain.now track.variable p.marks p.found.subsets p.found.store p.found.start p.found.states) }
+    ensures within { IfOk result (λ p. length p.found.store.nodes + length p.found.states ≤ limit) }
     ensures nodes { OnRefused result (λ refused. (refused ≡ limit) × NeedsAtLeast limit body.now domain.now track.variable) }
 {
     let rest = match leave_out(alloc, body.tracks(), track.variable) {

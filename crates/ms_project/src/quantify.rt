@@ -1,10 +1,10 @@
-ghost use Rattle.std.specs.Prelude.{◌≡◌, ◌≤◌, IfOk};
+ghost use Rattle.std.specs.Prelude.{◌≡◌, ◌≤◌, IfOk, ◌+◌, length};
 ghost use Rattle.std.specs.Option.{ForSome, option_copied};
 ghost use Rattle.ms_dfa.specs.Automaton.{variable_of};
-ghost use Rattle.ms_explore.specs.Explored.{OnRefused};
-ghost use Rattle.ms_explore.specs.Tracks.{IsAmong};
-ghost use Rattle.ms_logic.specs.declared.sign.Sign.TheVariants.{Yes};
-ghost use Rattle.ms_theory.specs.Values.{HasValues, own_meaning};
+ghost use Rattle.ms_dfa_explore.specs.Explored.{OnRefused};
+ghost use Rattle.ms_dfa_explore.specs.Tracks.{IsAmong};
+ghost use Rattle.ms_logic_words.specs.declared.sign.Sign.TheVariants.{Yes};
+ghost use Rattle.ms_dfa.specs.Values.{HasValues, own_meaning};
 ghost use Rattle.ms_project.specs.Always.{always, domain_or_always};
 ghost use Rattle.ms_project.specs.Paired.{IsDomainFor};
 ghost use Rattle.ms_project.specs.Projection.{NeedsAtLeast};
@@ -15,8 +15,9 @@ use crate::quantifier::Quantifier;
 use ms_arena::Ref;
 use ms_dfa::{Automaton, State};
 use ms_diagram::Store;
-use ms_edge::{List, NoMemory, StepFault, push};
-use ms_logic::{Mode, Sign};
+use ms_list::{List, NoMemory, StepFault, push};
+use ms_logic::Mode;
+use ms_logic_words::Sign;
 use std::alloc::Global;
 
 /// The quantified body, over the values at which the domain is Yes.
@@ -34,6 +35,7 @@ fn project_within(
     ensures mode { IfOk result (λ made. made.mode ≡ body.now.mode) }
     ensures variables { IfOk result (λ made. made.variables ≡ without quantifier.track.variable body.now.variables) }
     ensures values { IfOk result (HasValues (quantified quantifier.quant (variable_of quantifier.track) (λ e. own_meaning domain.now e Yes) (own_meaning body.now))) }
+    ensures within { IfOk result (λ made. length made.nodes + length made.states ≤ limit) }
     ensures nodes { OnRefused result (λ refused. (refused ≡ limit) × NeedsAtLeast limit body.now domain.now quantifier.track.variable) }
 {
     // The tracks tell that both are automata.
@@ -81,6 +83,7 @@ pub fn project(
     ensures mode { IfOk result (λ made. made.mode ≡ body.now.mode) }
     ensures variables { IfOk result (λ made. made.variables ≡ without quantifier.track.variable body.now.variables) }
     ensures values { IfOk result (HasValues (quantified quantifier.quant (variable_of quantifier.track) (IsMetBy (option_copied domain.entry)) (own_meaning body.now))) }
+    ensures within { IfOk result (λ made. length made.nodes + length made.states ≤ limit) }
     ensures nodes { OnRefused result (λ refused. (refused ≡ limit) × NeedsAtLeast limit body.now (domain_or_always body.now.mode (option_copied domain.entry)) quantifier.track.variable) }
 {
     match domain {

@@ -1,13 +1,13 @@
-ghost use Rattle.std.specs.Prelude.{◌≡◌, ◌≤◌, IfOk};
-ghost use Rattle.ms_explore.specs.Explored.{OnRefused};
+ghost use Rattle.std.specs.Prelude.{◌≡◌, ◌≤◌, ◌+◌, length, IfOk};
+ghost use Rattle.ms_dfa_explore.specs.Explored.{OnRefused};
 ghost use Rattle.ms_project.specs.Subsetting.{AreSetsFound, IsLaterSubsetting, IsReadyForSets, SetsAreAtLeast, begun};
 
 use crate::subsets::{SubsetTables, Subsets, SubsetsMachine};
 use ms_arena::Ref;
 use ms_dfa::{Automaton, State};
+use ms_dfa_explore::explore;
 use ms_diagram::{ListTable, PlaceTable, Sets, Store};
-use ms_edge::{List, StepFault};
-use ms_explore::explore;
+use ms_list::{List, StepFault};
 use ms_product::Paired;
 use std::alloc::Global;
 
@@ -32,6 +32,7 @@ pub(crate) fn find_sets<'a>(
     requires some { 1 ≤ paired.store.limit }
     ensures later { IfOk result (λ found. IsLaterSubsetting (begun body.now paired.store paired.start paired.states bound back) found.subsets) }
     ensures found { IfOk result (λ found. AreSetsFound found.subsets found.store found.start found.states) }
+    ensures within { IfOk result (λ found. length found.store.nodes + length found.states ≤ paired.store.limit) }
     ensures nodes { OnRefused result (λ refused. (refused ≡ paired.store.limit) × SetsAreAtLeast refused (begun body.now paired.store paired.start paired.states bound back)) }
 {
     // The lengths tell that the nodes are those of stores, and the sets a numbering.

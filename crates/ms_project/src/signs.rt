@@ -5,7 +5,7 @@ ghost use Rattle.ms_project.specs.Signed.{AreSigned, TestBelow, zero_step};
 use crate::marks::sign_by;
 use ms_dfa::State;
 use ms_diagram::Store;
-use ms_edge::{List, NoMemory, push};
+use ms_list::{List, NoMemory, push};
 use ms_logic::{Mode, Quant};
 use ms_quotient::{Marks, close_zeros};
 use std::alloc::Global;

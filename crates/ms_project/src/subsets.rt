@@ -7,10 +7,10 @@ ghost use Rattle.ms_project.specs.Subsetting.{AreNoted, IsHandable, IsHanded, Is
 
 use ms_arena::Ref;
 use ms_dfa::{Automaton, State};
+use ms_dfa_explore::Machine;
 use ms_diagram::{ListTable, PlaceTable, Sets, Store};
-use ms_edge::{List, NoMemory, StepFault, push};
-use ms_explore::Machine;
-use ms_logic::Sign;
+use ms_list::{List, NoMemory, StepFault, push};
+use ms_logic_words::Sign;
 use std::alloc::Global;
 use std::marker::Model;
 
@@ -182,7 +182,7 @@ pub(crate) struct SubsetsMachine<'a> {
 
 impl<'a> Machine for SubsetsMachine<'a> {
     ghost use Rattle.ms_project.specs.Subsetting.{AreNoted, IsReadyForSets, IsLaterSubsetting, subset_findings};
-    ghost use Rattle.ms_project.specs.Later.{subsetting_later_itself, subsetting_later_later, subsetting_later_findings};
+    ghost use Rattle.ms_project.specs.inner.Later.{subsetting_later_itself, subsetting_later_later, subsetting_later_findings};
 
     ghost findings = { λ machine. subset_findings machine.subsets };
 

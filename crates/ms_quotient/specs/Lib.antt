@@ -1,3 +1,3 @@
 pub mod Closure
 pub mod Way
-pub mod Examples
+pub mod inner

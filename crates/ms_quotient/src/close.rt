@@ -4,7 +4,7 @@ ghost use Rattle.ms_quotient.specs.Way.{ArePlaces, IsClosedWhereSeen, IsOn, IsSe
 
 use crate::marks::Marks;
 use crate::way::{Way, go_on, place_on};
-use ms_edge::{List, NoMemory};
+use ms_list::{List, NoMemory};
 use std::alloc::Global;
 
 /// Places with their marks, each of which leads on to another.

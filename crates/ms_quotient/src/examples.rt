@@ -1,5 +1,5 @@
 ghost use Rattle.ms_quotient.specs.Closure.{StandsOnWay};
-ghost use Rattle.ms_quotient.specs.Examples.{marks_of_ring, way_into_ring};
+ghost use Rattle.ms_quotient.specs.inner.Examples.{marks_of_ring, way_into_ring};
 
 /// A way into a ring of two places: what stands in the ring is met at each of them, what stands before it at neither.
 pub fn worked_closures()

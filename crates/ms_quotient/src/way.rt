@@ -3,7 +3,7 @@ ghost use Rattle.std.specs.Prelude.{All};
 ghost use Rattle.ms_quotient.specs.Closure.{LeadsWithin};
 ghost use Rattle.ms_quotient.specs.Way.{IsSeen, IsSeenAlong, LeadsTo};
 
-use ms_edge::{List, NoMemory, push};
+use ms_list::{List, NoMemory, push};
 use std::alloc::Global;
 
 /// Places each of which leads on to the next, and the place to which the last one leads.

@@ -1,8 +1,8 @@
 -- An automaton that is brought over its own variables runs as it did.
 use Rattle.std.proofs.Common.{◌≡◌, ℕ, ◌<◌, ◌≤◌, ◌+◌, Bool, List, [], length, slice_get, slice_index, Some, Err, sym, ap, subst, ◌∙◌, arith}
-use Rattle.ms_edge.specs.declared.fault.StepFault.{StepFault}
-use Rattle.ms_edge.specs.declared.fault.StepFault.TheVariants.{Nodes, Memory}
-use Rattle.ms_edge.specs.declared.refusal.Word.{Word}
+use Rattle.ms_list.specs.declared.fault.StepFault.{StepFault}
+use Rattle.ms_list.specs.declared.fault.StepFault.TheVariants.{Nodes, Memory}
+use Rattle.ms_list.specs.declared.word.Word.{Word}
 use Rattle.ms_arena.specs.declared.node.Ref.{Ref}
 use Rattle.ms_arena.specs.declared.node.Node.{Node}
 use Rattle.ms_arena.specs.Diagram.{Bits, leaf_of, IsOrdered, IsReduced}
@@ -13,18 +13,18 @@ use Rattle.ms_diagram.specs.Store.{Contents}
 use Rattle.ms_dfa.specs.declared.state.State.{State}
 use Rattle.ms_dfa.specs.Automaton.{IsAutomaton}
 use Rattle.ms_logic.specs.declared.mode.Order.{Order}
-use Rattle.ms_logic.specs.declared.sign.Sign.{Sign}
+use Rattle.ms_logic_words.specs.declared.sign.Sign.{Sign}
 use Rattle.ms_logic.specs.Assignment.{Variable}
-use Rattle.ms_logic.specs.Content.{Content, IsFollowed, IsWordOver, is_truth_value, is_in_letters, first_state, next_from, next_state, last_state, sign_of, truth_bits, letter_bits, with_zero_letter}
-use Rattle.ms_theory.specs.Machine.{machine_of}
-use Rattle.ms_theory.proofs.EncodingLemmas.{zero_letter_over}
-use Rattle.ms_theory.proofs.MachineLemmas.{state_after-machine}
-use Rattle.ms_theory.proofs.OwnMeaningLemmas.{word_has_sign}
-use Rattle.ms_explore.specs.Explored.{GrowsForSome, Leads, Follows, OnRefused}
-use Rattle.ms_explore.specs.Run.{IsOver, AreNames}
-use Rattle.ms_explore.specs.Tracks.{places_among}
-use Rattle.ms_explore.proofs.AmongLemmas.{leads_to, one_place}
-use Rattle.ms_explore.proofs.RunLemmas.{explored, length-states_of, IsClosed-explored, sign_of_explored}
+use Rattle.ms_logic_words.specs.Content.{Content, IsFollowed, IsWordOver, is_truth_value, is_in_letters, first_state, next_from, next_state, last_state, sign_of, truth_bits, letter_bits, with_zero_letter}
+use Rattle.ms_dfa.specs.Machine.{machine_of}
+use Rattle.ms_dfa.proofs.EncodingLemmas.{zero_letter_over}
+use Rattle.ms_dfa.proofs.MachineLemmas.{state_after-machine}
+use Rattle.ms_dfa.proofs.OwnMeaningLemmas.{word_has_sign}
+use Rattle.ms_dfa_explore.specs.Explored.{GrowsForSome, Leads, Follows, OnRefused}
+use Rattle.ms_dfa_explore.specs.inner.Run.{IsOver, AreNames}
+use Rattle.ms_dfa_explore.specs.Tracks.{places_among}
+use Rattle.ms_dfa_explore.proofs.AmongLemmas.{leads_to, one_place}
+use Rattle.ms_dfa_explore.proofs.RunLemmas.{explored, length-states_of, IsClosed-explored, sign_of_explored}
 use Rattle.ms_product.specs.Widened.{behind_through, first_through, next_through, sign_in, widened_findings}
 use Rattle.ms_product.proofs.WidenedLemmas.{first_below, next_below, first_reads, next_reads, followed, sign_in-is}
 use Rattle.ms_rename.specs.Renamed.{NeedsAtLeast}

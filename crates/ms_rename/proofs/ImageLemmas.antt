@@ -17,10 +17,10 @@ use Rattle.ms_diagram.specs.Growth.{KeepsFunctions}
 use Rattle.ms_diagram.specs.Relabel.{MappedLeaf}
 use Rattle.ms_dfa.specs.declared.state.State.{State}
 use Rattle.ms_dfa.specs.Automaton.{state_of, states_of}
-use Rattle.ms_logic.specs.declared.sign.Sign.{Sign}
-use Rattle.ms_logic.specs.Content.{StateOf, Content, IsClosed, IsFollowed, is_in_letters, sign_at}
-use Rattle.ms_rename.specs.Choice.{chosen_end, choice_of}
-use Rattle.ms_rename.specs.Image.{IsImage, AreImages, IsRenamedBy, image_of, with_image}
+use Rattle.ms_logic_words.specs.declared.sign.Sign.{Sign}
+use Rattle.ms_logic_words.specs.Content.{StateOf, Content, IsClosed, IsFollowed, is_in_letters, sign_at}
+use Rattle.ms_rename.specs.inner.Choice.{chosen_end, choice_of}
+use Rattle.ms_rename.specs.inner.Image.{IsImage, AreImages, IsRenamedBy, image_of, with_image}
 
 -- the end that is chosen is the low one at the bit 0, and the high one at 1
 pub chosen_is : (choices ends : List (ℕ × ℕ)) (table : List ℕ) (which made both low high : ℕ) (bit : Bool) (test : ℕ) → table ≡ map (choice_of ends) choices

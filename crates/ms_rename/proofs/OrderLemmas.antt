@@ -8,17 +8,17 @@ use Rattle.ms_arena.proofs.ReachLemmas.{leaf_of-tested}
 use Rattle.ms_diagram.specs.Bring.{read_through}
 use Rattle.ms_dfa.specs.Automaton.{IsAutomaton}
 use Rattle.ms_logic.specs.declared.mode.Order.{Order}
-use Rattle.ms_logic.specs.declared.sign.Sign.{Sign}
+use Rattle.ms_logic_words.specs.declared.sign.Sign.{Sign}
 use Rattle.ms_logic.specs.Assignment.{Variable}
-use Rattle.ms_logic.specs.Content.{StateOf, Content, IsFollowed, is_truth_value, is_in_letters}
-use Rattle.ms_logic.specs.Roots.{AreRising, IsBelowFirst}
-use Rattle.ms_explore.specs.Tracks.{without_first, joined, gathered_with, distinct, place_of, places_among}
-use Rattle.ms_explore.proofs.AmongLemmas.{leads_to, one_place}
-use Rattle.ms_theory.specs.Values.{HasValues, own_meaning}
+use Rattle.ms_logic_words.specs.Content.{StateOf, Content, IsFollowed, is_truth_value, is_in_letters}
+use Rattle.ms_logic.specs.Lists.{AreRising, IsBelowFirst}
+use Rattle.ms_dfa_explore.specs.Tracks.{without_first, joined, gathered_with, distinct, place_of, places_among}
+use Rattle.ms_dfa_explore.proofs.AmongLemmas.{leads_to, one_place}
+use Rattle.ms_dfa.specs.Values.{HasValues, own_meaning}
 use Rattle.ms_basic.specs.Operands.{HaveOneOrder}
-use Rattle.ms_explore.proofs.TracksLemmas.{above-first, among-above, among-right, place_of-among}
+use Rattle.ms_dfa_explore.proofs.TracksLemmas.{above-first, among-above, among-right, place_of-among}
 use Rattle.ms_product.proofs.WidenedLemmas.{followed}
-use Rattle.ms_rename.specs.Image.{IsImage, IsRenamedBy}
+use Rattle.ms_rename.specs.inner.Image.{IsImage, IsRenamedBy}
 use Rattle.ms_rename.specs.Renamed.{renamed, renamed_meaning, renamed_places, Rises}
 use Rattle.ms_rename.proofs.RenamedLemmas.{renamed-at, HasValues-renamed, IsAutomaton-renamed}
 

@@ -3,9 +3,9 @@ use Rattle.std.proofs.Common.{◌≡◌, ◌≢◌, ℕ, zero, suc, ◌<◌, inl
 use Rattle.std.specs.Prelude.{map as map_list}
 use Rattle.std.specs.Option.{option_map}
 use Rattle.std.proofs.lemmas.Option.{none-some, same_Some, slice_get-map, slice_get_within, get_or_from_slice_get}
-use Rattle.ms_edge.specs.declared.fault.StepFault.{StepFault}
-use Rattle.ms_edge.specs.declared.fault.StepFault.TheVariants.{Nodes, Memory}
-use Rattle.ms_edge.specs.declared.refusal.Word.{Word}
+use Rattle.ms_list.specs.declared.fault.StepFault.{StepFault}
+use Rattle.ms_list.specs.declared.fault.StepFault.TheVariants.{Nodes, Memory}
+use Rattle.ms_list.specs.declared.word.Word.{Word}
 use Rattle.ms_arena.specs.declared.node.Ref.{Ref}
 use Rattle.ms_arena.specs.Bits.{with_bit, below_from}
 use Rattle.ms_arena.specs.Diagram.{end_at, leaf_of, IsOrdered, IsReduced}
@@ -17,32 +17,32 @@ use Rattle.ms_diagram.specs.Bring.{read_through}
 use Rattle.ms_dfa.specs.Automaton.{IsAutomaton}
 use Rattle.ms_logic.specs.declared.mode.Order.{Order}
 use Rattle.ms_logic.specs.declared.mode.Order.TheVariants.{Zero, One, Two}
-use Rattle.ms_logic.specs.declared.sign.Sign.{Sign}
+use Rattle.ms_logic_words.specs.declared.sign.Sign.{Sign}
 use Rattle.ms_logic.specs.declared.assignment.Value.TheVariants.{Truth, Number, Set}
 use Rattle.ms_logic.specs.Assignment.{Env, Variable, IsAssignment, value_at}
-use Rattle.ms_logic.specs.Content.{StateOf, Content, HasValueAt, IsClosed, IsFollowed, IsWordOver, is_truth_value, is_in_letters, first_state, next_from, next_state, state_after, last_state, sign_at, sign_of, truth_bits, letter_bits}
-use Rattle.ms_logic.specs.Roots.{AreRising}
-use Rattle.ms_logic.specs.Word.{Encodes, IsEncoding}
-use Rattle.ms_logic.specs.WordSign.{IsOutside}
-use Rattle.ms_logic.proofs.WordLaws.{encoding_is_over}
-use Rattle.ms_theory.specs.Narrow.{narrowed, narrowed_truth, narrowed_letter, ReadsThrough}
-use Rattle.ms_theory.specs.Values.{Meaning, IsMeaning, HasValues, own_meaning}
-use Rattle.ms_theory.proofs.CoveredLemmas.{covered_encodes}
-use Rattle.ms_theory.proofs.FunctionLemmas.{TestsOnly-by_function}
-use Rattle.ms_theory.proofs.HasValueAtLemmas.{HasValueAt-or_not}
-use Rattle.ms_theory.proofs.NarrowLemmas.{leaf_of-gathered, narrowed_encodes, narrowed_assigned, narrowed_over}
-use Rattle.ms_theory.proofs.OwnMeaningLemmas.{next_within, sign_outside, HasValues-own, IsMeaning-own}
-use Rattle.ms_theory.proofs.ValuesLemmas.{IsAutomaton-by_values}
-use Rattle.ms_explore.specs.Explored.{Origin, IsFound, OnRefused, target_of}
-use Rattle.ms_explore.specs.Tracks.{distinct, place_of, places_among}
-use Rattle.ms_explore.proofs.AmongLemmas.{among_at, held_among, one_place}
-use Rattle.ms_explore.proofs.TracksLemmas.{distinct-rising, place_of-among}
+use Rattle.ms_logic_words.specs.Content.{StateOf, Content, HasValueAt, IsClosed, IsFollowed, IsWordOver, is_truth_value, is_in_letters, first_state, next_from, next_state, state_after, last_state, sign_at, sign_of, truth_bits, letter_bits}
+use Rattle.ms_logic.specs.Lists.{AreRising}
+use Rattle.ms_logic_words.specs.Word.{Encodes, IsEncoding}
+use Rattle.ms_logic_words.specs.WordSign.{IsOutside}
+use Rattle.ms_logic_words.proofs.WordLaws.{encoding_is_over}
+use Rattle.ms_dfa.specs.Narrow.{narrowed, narrowed_truth, narrowed_letter, ReadsThrough}
+use Rattle.ms_dfa.specs.Values.{Meaning, IsMeaning, HasValues, own_meaning}
+use Rattle.ms_dfa.proofs.CoveredLemmas.{covered_encodes}
+use Rattle.ms_dfa.proofs.FunctionLemmas.{TestsOnly-by_function}
+use Rattle.ms_dfa.proofs.HasValueAtLemmas.{HasValueAt-or_not}
+use Rattle.ms_dfa.proofs.NarrowLemmas.{leaf_of-gathered, narrowed_encodes, narrowed_assigned, narrowed_over}
+use Rattle.ms_dfa.proofs.OwnMeaningLemmas.{next_within, sign_outside, HasValues-own, IsMeaning-own}
+use Rattle.ms_dfa.proofs.ValuesLemmas.{IsAutomaton-by_values}
+use Rattle.ms_dfa_explore.specs.Explored.{Origin, IsFound, OnRefused, target_of}
+use Rattle.ms_dfa_explore.specs.Tracks.{distinct, place_of, places_among}
+use Rattle.ms_dfa_explore.proofs.AmongLemmas.{among_at, held_among, one_place}
+use Rattle.ms_dfa_explore.proofs.TracksLemmas.{distinct-rising, place_of-among}
 use Rattle.ms_basic.specs.Operands.{HaveOneOrder}
 use Rattle.ms_basic.proofs.DistinctLemmas.{among-distinct, distinct-among}
 use Rattle.ms_product.specs.Widened.{behind_through, widened_findings}
 use Rattle.ms_product.proofs.WidenedLemmas.{followed}
 use Rattle.ms_rename.proofs.CompactLemmas.{read_same}
-use Rattle.ms_rename.specs.Image.{IsImage, IsRenamedBy}
+use Rattle.ms_rename.specs.inner.Image.{IsImage, IsRenamedBy}
 use Rattle.ms_rename.specs.Renamed.{renamed, read_by, renamed_meaning, renamed_places, NeedsAtLeast}
 
 -- a variable at a place, and the one that the map has for it

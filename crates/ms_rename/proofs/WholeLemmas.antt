@@ -2,32 +2,32 @@
 use Rattle.std.proofs.Common.{◌≡◌, ℕ, zero, suc, ◌+◌, ◌*◌, ◌<◌, ◌==◌, inl, inr, get_or, nat_lt, nat_eq, false, true, Bool, if◌then◌else◌, List, [], ◌∷◌, ◌++◌, Some, Result, Ok, Err, IfOk, refl, sym, ap, subst, ◌∙◌, arith}
 use Rattle.std.proofs.lemmas.Bool.Decides.{nat_tests}
 use Rattle.std.proofs.lemmas.Option.{none-some, same_Some}
-use Rattle.ms_edge.specs.declared.fault.StepFault.{StepFault}
-use Rattle.ms_edge.specs.declared.refusal.Word.{Word}
+use Rattle.ms_list.specs.declared.fault.StepFault.{StepFault}
+use Rattle.ms_list.specs.declared.word.Word.{Word}
 use Rattle.ms_arena.specs.declared.node.Node.{Node}
 use Rattle.ms_arena.specs.declared.node.Ref.TheVariants.{Leaf}
 use Rattle.ms_arena.proofs.Paths.{leaf_of-leaf}
 use Rattle.ms_dfa.specs.Automaton.{IsAutomaton, content_of, variables_of}
 use Rattle.ms_dfa.specs.declared.state.State.{State}
 use Rattle.ms_dfa.specs.declared.track.Track.{Track}
-use Rattle.ms_logic.specs.declared.core_formula.Basic.TheVariants.{Plus}
+use Rattle.ms_logic_core.specs.declared.core_formula.Basic.TheVariants.{Plus}
 use Rattle.ms_logic.specs.declared.mode.Mode.{Mode}
 use Rattle.ms_logic.specs.declared.mode.Order.{Order}
 use Rattle.ms_logic.specs.declared.mode.Order.TheVariants.{Zero, One, Two}
-use Rattle.ms_logic.specs.declared.sign.Sign.{Sign}
-use Rattle.ms_logic.specs.declared.sign.Sign.TheVariants.{Yes, No, Undefined, Outside}
+use Rattle.ms_logic_words.specs.declared.sign.Sign.{Sign}
+use Rattle.ms_logic_words.specs.declared.sign.Sign.TheVariants.{Yes, No, Undefined, Outside}
 use Rattle.ms_logic.specs.Assignment.{Env, Variable, IsAssignment}
-use Rattle.ms_logic.specs.Content.{Content, StateOf, HasValueAt, IsFollowed, IsWordOver, is_in_letters, is_truth_value, letter_bits, sign_at, sign_of, shortest_word, state_after, truth_bits, with_zero_letter}
-use Rattle.ms_logic.specs.CoreForm.{basic}
-use Rattle.ms_logic.specs.Decoding.{HasOneBit, HaveOneBit, column_after}
-use Rattle.ms_logic.specs.Roots.{AreRising}
-use Rattle.ms_logic.specs.Word.{IsEncoding}
-use Rattle.ms_logic.proofs.DecodedWords.{encodings_are}
-use Rattle.ms_theory.specs.Values.{HasValues, core_meaning, own_meaning}
-use Rattle.ms_theory.proofs.EncodingLemmas.{shortest}
-use Rattle.ms_theory.proofs.FunctionLemmas.{TestsOnly-leaf}
-use Rattle.ms_explore.specs.Tracks.{IsAmong, distinct, joined}
-use Rattle.ms_explore.proofs.TracksLemmas.{joined-right}
+use Rattle.ms_logic_words.specs.Content.{Content, StateOf, HasValueAt, IsFollowed, IsWordOver, is_in_letters, is_truth_value, letter_bits, sign_at, sign_of, shortest_word, state_after, truth_bits, with_zero_letter}
+use Rattle.ms_logic_core.specs.CoreForm.{basic}
+use Rattle.ms_logic_words.specs.inner.Decoding.{HasOneBit, HaveOneBit, column_after}
+use Rattle.ms_logic.specs.Lists.{AreRising}
+use Rattle.ms_logic_words.specs.Word.{IsEncoding}
+use Rattle.ms_logic_words.proofs.DecodedWords.{encodings_are}
+use Rattle.ms_dfa.specs.Values.{HasValues, core_meaning, own_meaning}
+use Rattle.ms_dfa.proofs.EncodingLemmas.{shortest}
+use Rattle.ms_dfa.proofs.FunctionLemmas.{TestsOnly-leaf}
+use Rattle.ms_dfa_explore.specs.Tracks.{IsAmong, distinct, joined}
+use Rattle.ms_dfa_explore.proofs.TracksLemmas.{joined-right}
 use Rattle.ms_basic.specs.States.{states_of}
 use Rattle.ms_basic.proofs.DistinctLemmas.{IsAssignment-some}
 use Rattle.ms_product.specs.declared.op.Op.TheVariants.{And}

@@ -1,4 +1,3 @@
-pub mod Choice
-pub mod Image
 pub mod Renamed
 pub mod Whole
+pub mod inner

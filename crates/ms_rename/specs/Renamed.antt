@@ -2,13 +2,13 @@
 use Rattle.std.specs.Prelude.{◌≡◌, ℕ, ◌<◌, ◌≤◌, ◌+◌, List, [], ◌∷◌, length, slice_get, slice_index, Some}
 use Rattle.ms_arena.specs.declared.node.Node.{Node}
 use Rattle.ms_arena.specs.Diagram.{IsOrdered, IsReduced}
-use Rattle.ms_logic.specs.declared.sign.Sign.{Sign}
+use Rattle.ms_logic_words.specs.declared.sign.Sign.{Sign}
 use Rattle.ms_logic.specs.Assignment.{Env, Variable}
-use Rattle.ms_logic.specs.Content.{Content}
-use Rattle.ms_theory.specs.Values.{Meaning}
-use Rattle.ms_explore.specs.Explored.{Origin, IsFound, target_of}
+use Rattle.ms_logic_words.specs.Content.{Content}
+use Rattle.ms_dfa.specs.Values.{Meaning}
+use Rattle.ms_dfa_explore.specs.Explored.{Origin, IsFound, target_of}
 use Rattle.ms_arena.specs.Target.{IsNeeded}
-use Rattle.ms_explore.specs.Tracks.{distinct, place_of, places_among}
+use Rattle.ms_dfa_explore.specs.Tracks.{distinct, place_of, places_among}
 use Rattle.ms_product.specs.Widened.{widened_findings}
 
 -- the variables, each with the number that the map has for it
@@ -33,6 +33,12 @@ read_by names variables e = record {
 -- right is what is right at these values
 abbrev pub renamed_meaning : List ℕ → List Variable → Meaning → Meaning
 renamed_meaning names variables meaning e sign = meaning (read_by names variables e) sign
+
+-- the same start, states and nodes
+pub record HasPartsOf (content made : Content Sign) : Type 0 where
+  pub start : made.start ≡ content.start
+  pub states : made.states ≡ content.states
+  pub nodes : made.nodes ≡ content.nodes
 
 -- the places that the variables of an automaton have once they are renamed
 abbrev pub renamed_places : List ℕ → List Variable → List ℕ

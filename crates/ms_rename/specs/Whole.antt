@@ -1,12 +1,12 @@
 -- What holds at each assignment of some variables.
 use Rattle.std.specs.Prelude.{◌≡◌, ◌≢◌, List}
 use Rattle.ms_logic.specs.declared.mode.Order.TheVariants.{One}
-use Rattle.ms_logic.specs.declared.sign.Sign.{Sign}
-use Rattle.ms_logic.specs.declared.sign.Sign.TheVariants.{Yes}
+use Rattle.ms_logic_words.specs.declared.sign.Sign.{Sign}
+use Rattle.ms_logic_words.specs.declared.sign.Sign.TheVariants.{Yes}
 use Rattle.ms_logic.specs.Assignment.{Variable}
-use Rattle.ms_logic.specs.Content.{Content}
-use Rattle.ms_theory.specs.Values.{Meaning, HasValues}
-use Rattle.ms_explore.specs.Tracks.{IsAmong}
+use Rattle.ms_logic_words.specs.Content.{Content}
+use Rattle.ms_dfa.specs.Values.{Meaning, HasValues}
+use Rattle.ms_dfa_explore.specs.Tracks.{IsAmong}
 
 -- Yes is right everywhere
 abbrev pub always : Meaning

@@ -2,11 +2,11 @@ ghost use Rattle.std.specs.Prelude.{◌≡◌, if◌then◌else◌, map, IfOk};
 ghost use Rattle.ms_arena.specs.Diagram.{Bits, IsValid, leaf_of};
 ghost use Rattle.ms_arena.specs.Target.{Extends};
 ghost use Rattle.ms_diagram.specs.Store.{IsStore};
-ghost use Rattle.ms_rename.specs.Choice.{choice_of};
+ghost use Rattle.ms_rename.specs.inner.Choice.{choice_of};
 
 use ms_arena::Ref;
 use ms_diagram::{PairTable, Pairs, Store};
-use ms_edge::{List, NoMemory, StepFault, push};
+use ms_list::{List, NoMemory, StepFault, push};
 use std::alloc::Global;
 
 /// The end that a bit chooses of the two that have a number.

@@ -1,6 +1,6 @@
 ghost use Rattle.std.specs.Prelude.{◌≡◌, [], ◌∷◌};
 ghost use Rattle.ms_logic.specs.declared.mode.Order.TheVariants.{One, Two, Zero};
-ghost use Rattle.ms_rename.specs.Choice.{choice_of};
+ghost use Rattle.ms_rename.specs.inner.Choice.{choice_of};
 ghost use Rattle.ms_rename.specs.Renamed.{renamed, renamed_places};
 ghost use Rattle.ms_rename.specs.Whole.{HasNoNumber};
 

@@ -1,11 +1,11 @@
 ghost use Rattle.std.specs.Prelude.{◌≡◌, length, slice_index, IfOk};
 ghost use Rattle.ms_arena.specs.Diagram.{IsBefore};
-ghost use Rattle.ms_rename.specs.Image.{AreImages, image_of};
+ghost use Rattle.ms_rename.specs.inner.Image.{AreImages, image_of};
 
 use crate::choose::choose;
 use ms_arena::Ref;
 use ms_diagram::Store;
-use ms_edge::{List, StepFault, push};
+use ms_list::{List, StepFault, push};
 use std::alloc::Global;
 
 /// What a reference has become, by what the nodes have become.

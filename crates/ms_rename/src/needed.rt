@@ -1,14 +1,14 @@
-ghost use Rattle.std.specs.Prelude.{◌≡◌, ◌≤◌, IfOk};
-ghost use Rattle.ms_edge.specs.declared.refusal.Word.{Word};
-ghost use Rattle.ms_logic.specs.Content.{IsWordOver, sign_of};
-ghost use Rattle.ms_explore.specs.Explored.{OnRefused};
-ghost use Rattle.ms_explore.specs.Tracks.{places_among};
+ghost use Rattle.std.specs.Prelude.{◌≡◌, ◌≤◌, IfOk, ◌+◌, length};
+ghost use Rattle.ms_list.specs.declared.word.Word.{Word};
+ghost use Rattle.ms_logic_words.specs.Content.{IsWordOver, sign_of};
+ghost use Rattle.ms_dfa_explore.specs.Explored.{OnRefused};
+ghost use Rattle.ms_dfa_explore.specs.Tracks.{places_among};
 ghost use Rattle.ms_rename.specs.Renamed.{NeedsAtLeast};
 
 use crate::tracks::copy;
 use ms_dfa::Automaton;
 use ms_diagram::Store;
-use ms_edge::StepFault;
+use ms_list::StepFault;
 use ms_product::{Brought, bring};
 use std::alloc::Global;
 
@@ -20,6 +20,7 @@ pub fn compact(alloc: Global, a: &Automaton, limit: u64) -> Result<Automaton, St
     ensures mode { IfOk result (λ made. made.mode ≡ a.now.mode) }
     ensures variables { IfOk result (λ made. made.variables ≡ a.now.variables) }
     ensures signs { IfOk result (λ made. (word : Word) → IsWordOver a.now.variables word → sign_of made word ≡ sign_of a.now word) }
+    ensures within { IfOk result (λ made. length made.nodes + length made.states ≤ limit) }
     ensures nodes { OnRefused result (λ refused. (refused ≡ limit) × NeedsAtLeast limit a.now (places_among a.now.variables a.now.variables)) }
 {
     let Ok(tracks) = copy(alloc, a.tracks()) else {

@@ -1,20 +1,20 @@
-ghost use Rattle.std.specs.Prelude.{◌≡◌, ◌≤◌, length, map, IfOk, IsTrue};
+ghost use Rattle.std.specs.Prelude.{◌≡◌, ◌≤◌, length, map, IfOk, IsTrue, ◌+◌, ◌↔◌};
 ghost use Rattle.ms_dfa.specs.Automaton.{states_of};
-ghost use Rattle.ms_theory.specs.Values.{HasValues, own_meaning};
-ghost use Rattle.ms_explore.specs.Explored.{OnRefused};
-ghost use Rattle.ms_explore.specs.Tracks.{distinct};
+ghost use Rattle.ms_dfa.specs.Values.{HasValues, own_meaning};
+ghost use Rattle.ms_dfa_explore.specs.Explored.{OnRefused};
+ghost use Rattle.ms_dfa_explore.specs.Tracks.{distinct};
 ghost use Rattle.ms_basic.specs.Operands.{HaveOneOrder};
-ghost use Rattle.ms_rename.specs.Image.{IsRenamedBy, with_image};
-ghost use Rattle.ms_rename.specs.Renamed.{NeedsAtLeast, Rises, renamed, renamed_meaning, renamed_places};
+ghost use Rattle.ms_rename.specs.inner.Image.{IsRenamedBy, with_image};
+ghost use Rattle.ms_rename.specs.Renamed.{HasPartsOf, NeedsAtLeast, Rises, renamed, renamed_meaning, renamed_places};
 
 use crate::images::{image, images};
 use crate::needed::compact;
 use crate::tracks;
 use ms_arena::Ref;
 use ms_dfa::{Automaton, State};
+use ms_dfa_explore::distinct;
 use ms_diagram::Store;
-use ms_edge::{List, NoMemory, StepFault, push};
-use ms_explore::distinct;
+use ms_list::{List, NoMemory, StepFault, push};
 use std::alloc::Global;
 
 /// How many nodes there may be on the way; what is more is more than memory holds.
@@ -58,7 +58,7 @@ fn renamed_in_scratch(alloc: Global, a: &Automaton, map: &[u32]) -> Result<Autom
 
 /// Whether each number is below the next.
 fn rises(map: &[u32]) -> bool
-    ensures { IsTrue result → Rises map.now }
+    ensures { IsTrue result ↔ Rises map.now }
 {
     for i in 1..map.len() {
         if map[i - 1] >= map[i] {
@@ -87,6 +87,7 @@ fn renamed_in_order(alloc: Global, a: &Automaton, map: &[u32]) -> Result<Automat
     requires rises { Rises map.now }
     ensures mode { IfOk result (λ made. made.mode ≡ a.now.mode) }
     ensures variables { IfOk result (λ made. made.variables ≡ distinct (renamed map.now a.now.variables)) }
+    ensures parts { IfOk result (HasPartsOf a.now) }
     ensures values { IfOk result (HasValues (renamed_meaning map.now a.now.variables (own_meaning a.now))) }
 {
     let store = a.store().copy()?;
@@ -106,6 +107,10 @@ pub fn rename(alloc: Global, a: &Automaton, map: &[u32], limit: u64) -> Result<A
     ensures mode { IfOk result (λ made. made.mode ≡ a.now.mode) }
     ensures variables { IfOk result (λ made. made.variables ≡ distinct (renamed map.now a.now.variables)) }
     ensures values { IfOk result (HasValues (renamed_meaning map.now a.now.variables (own_meaning a.now))) }
+    // Where the numbers rise, the automaton stays as it is but for its names, and memory alone can be wanting.
+    ensures same { Rises map.now → IfOk result (HasPartsOf a.now) }
+    ensures only_memory { Rises map.now → OnRefused result (λ refused. ⊥) }
+    ensures within { (Rises map.now → length a.now.nodes + length a.now.states ≤ limit) → IfOk result (λ made. length made.nodes + length made.states ≤ limit) }
     ensures nodes { OnRefused result (λ refused. (refused ≡ limit) × NeedsAtLeast limit a.now (renamed_places map.now a.now.variables)) }
 {
     if rises(map) {

@@ -1,11 +1,11 @@
 ghost use Rattle.std.specs.Prelude.{◌≡◌, length, IfOk};
 ghost use Rattle.ms_dfa.specs.Automaton.{variables_of};
-ghost use Rattle.ms_explore.specs.Tracks.{places_among};
+ghost use Rattle.ms_dfa_explore.specs.Tracks.{places_among};
 ghost use Rattle.ms_rename.specs.Renamed.{renamed};
 
 use ms_dfa::Track;
-use ms_edge::{List, NoMemory, push};
-use ms_explore::place_of;
+use ms_dfa_explore::place_of;
+use ms_list::{List, NoMemory, push};
 use std::alloc::Global;
 
 /// The tracks with the variables of a map, which has one for each.

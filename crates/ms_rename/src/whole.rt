@@ -1,11 +1,11 @@
-ghost use Rattle.std.specs.Prelude.{◌≡◌, ◌≤◌, ◌<◌, ◌⊎◌, [], ◌∷◌, IfOk};
+ghost use Rattle.std.specs.Prelude.{◌≡◌, ◌≤◌, ◌<◌, ◌⊎◌, [], ◌∷◌, IfOk, ◌+◌, length};
 ghost use Rattle.ms_dfa.specs.Automaton.{variable_of, variables_of};
-ghost use Rattle.ms_logic.specs.declared.sign.Sign.{Sign};
-ghost use Rattle.ms_logic.specs.Content.{Content};
-ghost use Rattle.ms_logic.specs.Roots.{AreRising};
-ghost use Rattle.ms_theory.specs.Values.{HasValues, own_meaning};
-ghost use Rattle.ms_explore.specs.Explored.{OnRefused};
-ghost use Rattle.ms_explore.specs.Tracks.{joined};
+ghost use Rattle.ms_logic_words.specs.declared.sign.Sign.{Sign};
+ghost use Rattle.ms_logic_words.specs.Content.{Content};
+ghost use Rattle.ms_logic.specs.Lists.{AreRising};
+ghost use Rattle.ms_dfa.specs.Values.{HasValues, own_meaning};
+ghost use Rattle.ms_dfa_explore.specs.Explored.{OnRefused};
+ghost use Rattle.ms_dfa_explore.specs.Tracks.{joined};
 ghost use Rattle.ms_product.specs.Combined.{HaveEqualOrders};
 ghost use Rattle.ms_product.specs.Pairing.{AreAtLeast, operands_of};
 ghost use Rattle.ms_rename.specs.Whole.{HasNoNumber, IsWhole};
@@ -15,8 +15,10 @@ use ms_arena::Ref;
 use ms_basic::basic;
 use ms_dfa::{Automaton, State, Track};
 use ms_diagram::Store;
-use ms_edge::{List, NoMemory, StepFault, push};
-use ms_logic::{Basic, Mode, Order, Sign};
+use ms_list::{List, NoMemory, StepFault, push};
+use ms_logic::{Mode, Order};
+use ms_logic_core::Basic;
+use ms_logic_words::Sign;
 use ms_product::{Op, combine};
 use std::alloc::Global;
 
@@ -80,6 +82,7 @@ pub fn widen(alloc: Global, a: &Automaton, track: Track, limit: u64) -> Result<A
     ensures mode { IfOk result (λ made. made.mode ≡ a.now.mode) }
     ensures variables { IfOk result (λ made. made.variables ≡ joined a.now.variables (variable_of track ∷ [])) }
     ensures values { IfOk result (HasValues (own_meaning a.now)) }
+    ensures within { IfOk result (λ made. length made.nodes + length made.states ≤ limit) }
     ensures nodes { OnRefused result (λ refused. (refused ≡ limit)
         × ((limit < 32) ⊎ ((other : Content Sign) × IsWhole (variable_of track ∷ []) other × AreAtLeast limit Op.And (operands_of a.now other)))) }
 {
@@ -108,6 +111,7 @@ pub fn widen_all(
     ensures mode { IfOk result (λ made. made.mode ≡ a.now.mode) }
     ensures variables { IfOk result (λ made. made.variables ≡ joined a.now.variables (variables_of tracks.now)) }
     ensures values { IfOk result (HasValues (own_meaning a.now)) }
+    ensures within { IfOk result (λ made. length made.nodes + length made.states ≤ limit) }
     ensures nodes { OnRefused result (λ refused. (refused ≡ limit)
         × ((other : Content Sign) × IsWhole (variables_of tracks.now) other × AreAtLeast limit Op.And (operands_of a.now other))) }
 {

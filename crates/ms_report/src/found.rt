@@ -1,4 +1,4 @@
-use ms_edge::{List, Name};
+use ms_list::{List, Name};
 use ms_logic::Assignment;
 
 /// What a source comes to: whether some assignment makes it Yes, and whether some makes it No.

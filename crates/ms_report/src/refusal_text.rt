@@ -3,7 +3,8 @@ ghost use Rattle.ms_edge.specs.Refusal.{IsPlaced, place_of};
 ghost use Rattle.ms_report.specs.Line.{words_of, detail_of, hex_digit, place_text, detail_text, line_of, HasLine};
 
 use crate::number::push_number;
-use ms_edge::{At, Bytes, List, NoMemory, Refusal, Text};
+use ms_edge::Refusal;
+use ms_list::{At, Bytes, List, NoMemory, Text};
 use std::alloc::{AllocError, Global};
 
 /// The line of a refusal, with a line feed at its end.

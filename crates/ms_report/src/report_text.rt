@@ -3,7 +3,7 @@ ghost use Rattle.ms_report.specs.Report.{verdict_text, members_text, value_text,
 
 use crate::found::{Found, Stats, Verdict};
 use crate::number::push_number;
-use ms_edge::{Bytes, List, Name, NoMemory};
+use ms_list::{Bytes, List, Name, NoMemory};
 use ms_logic::{Assignment, Value};
 use std::alloc::{AllocError, Global};
 

@@ -4,7 +4,7 @@ ghost use Rattle.ms_report.specs.Report.{length_text, size_text, summary_of};
 use crate::found::{Found, Stats};
 use crate::number::push_number;
 use crate::report_text::{push_count, verdict};
-use ms_edge::{Bytes, List, NoMemory};
+use ms_list::{Bytes, List, NoMemory};
 use ms_logic::Assignment;
 use std::alloc::{AllocError, Global};
 

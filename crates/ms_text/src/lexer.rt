@@ -10,7 +10,8 @@ use crate::gap::gap_length;
 use crate::scan::token_at;
 use crate::token::Token;
 use crate::token_list::{MAX_BYTES, Tokens};
-use ms_edge::{At, Bytes, List, Refusal};
+use ms_edge::Refusal;
+use ms_list::{At, Bytes, List};
 use std::alloc::Global;
 
 // The first token from a place on, if there is one.

@@ -3,7 +3,7 @@ ghost use Rattle.ms_text.specs.Spelling.{Spells};
 ghost use Rattle.ms_text.specs.TokenList.{IsTokenList, slice_of, place_behind};
 
 use crate::token::Token;
-use ms_edge::{Bytes, List};
+use ms_list::{Bytes, List};
 use std::marker::Model;
 
 /// The most bytes that a source may have.

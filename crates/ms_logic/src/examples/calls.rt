@@ -1,5 +1,5 @@
 ghost use Rattle.ms_logic.specs.Assignment.{assign};
-ghost use Rattle.ms_logic.specs.Examples.{naturals, string, x_at, x_on, a_at, var_x, var_y, var_z, truth_a, truth_b, less, both, two_arguments, let_y, let_b, call_number, call_truth, undecided, nothing_given, later_given, restricted_given, identity_given, defaults_given, import_given};
+ghost use Rattle.ms_logic.specs.inner.Examples.{naturals, string, x_at, x_on, a_at, var_x, var_y, var_z, truth_a, truth_b, less, both, two_arguments, let_y, let_b, call_number, call_truth, undecided, nothing_given, later_given, restricted_given, identity_given, defaults_given, import_given};
 ghost use Rattle.ms_logic.specs.Tree.{numeral, plus, truth, falsity, negation, disjunction, where_let, restrict, imported, exported, default_at, truth_argument, number_argument};
 ghost use Rattle.ms_logic.specs.Truth.{Yes, No, IsUndefined};
 ghost use Rattle.ms_logic.specs.declared.assignment.Value.TheVariants.{Number};

@@ -1,5 +1,5 @@
 ghost use Rattle.ms_logic.specs.Assignment.{assign};
-ghost use Rattle.ms_logic.specs.Examples.{naturals, string, x_on, a_at, P_at, var_x, set_P, truth_a, listed, less, at_most, greater, at_least, equal, differs, is_in, not_in, subset, set_equal, both, undecided, nothing_given};
+ghost use Rattle.ms_logic.specs.inner.Examples.{naturals, string, x_on, a_at, P_at, var_x, set_P, truth_a, listed, less, at_most, greater, at_least, equal, differs, is_in, not_in, subset, set_equal, both, undecided, nothing_given};
 ghost use Rattle.ms_logic.specs.Tree.{numeral, plus, empty_set, truth, falsity, negation, conjunction, disjunction, implication, equivalence, emptiness, restrict, no_forms};
 ghost use Rattle.ms_logic.specs.Truth.{Yes, No, IsUndefined};
 ghost use Rattle.ms_logic.specs.declared.assignment.Value.TheVariants.{Set};

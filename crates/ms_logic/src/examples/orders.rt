@@ -1,8 +1,8 @@
 ghost use Rattle.ms_logic.specs.Assignment.{assign};
-ghost use Rattle.ms_logic.specs.Examples.{naturals, string, x_at, x_on, a_at, P_at, set_P, set_Q, subset, nothing_given, just_x, just_a, set_P_and_Q, of_each_order};
+ghost use Rattle.ms_logic.specs.inner.Examples.{naturals, string, x_at, x_on, a_at, P_at, set_P, set_Q, subset, nothing_given, just_x, just_a, set_P_and_Q, of_each_order};
 ghost use Rattle.ms_logic.specs.First.{length_of, IsBefore, IsFirst};
 ghost use Rattle.ms_logic.specs.Truth.{Yes};
-ghost use Rattle.ms_logic.specs.Word.{truth_values_of, letters_below};
+ghost use Rattle.ms_logic.specs.Letters.{truth_values_of, letters_below};
 ghost use Rattle.ms_logic.specs.declared.assignment.Value.TheVariants.{Number, Set};
 ghost use Rattle.ms_logic.specs.declared.mode.Mode.TheVariants.{Ws1s};
 ghost use Rattle.std.specs.Prelude.{◌≡◌, [], ◌∷◌, true, false};

@@ -1,4 +1,4 @@
-ghost use Rattle.ms_logic.specs.Examples.{naturals, string, var_x, var_y, set_P, truth_a, less, at_most, equal, is_in, ex0, ex1, ex2, all0, all1, ex1_where, all1_where, ex1_y, both, undecided, nothing_given};
+ghost use Rattle.ms_logic.specs.inner.Examples.{naturals, string, var_x, var_y, set_P, truth_a, less, at_most, equal, is_in, ex0, ex1, ex2, all0, all1, ex1_where, all1_where, ex1_y, both, undecided, nothing_given};
 ghost use Rattle.ms_logic.specs.Tree.{numeral, truth, falsity, conjunction, restrict};
 ghost use Rattle.ms_logic.specs.Truth.{Yes, No, IsUndefined};
 

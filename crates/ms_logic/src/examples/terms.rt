@@ -1,5 +1,5 @@
 ghost use Rattle.ms_logic.specs.Assignment.{assign};
-ghost use Rattle.ms_logic.specs.Examples.{naturals, string, x_on, var_x, set_P, listed};
+ghost use Rattle.ms_logic.specs.inner.Examples.{naturals, string, x_on, var_x, set_P, listed};
 ghost use Rattle.ms_logic.specs.Terms.{number_value, set_value};
 ghost use Rattle.ms_logic.specs.Tree.{numeral, plus, minus, minimum, maximum, empty_set, whole, pconst, union, intersection, difference, shift_up, shift_down};
 ghost use Rattle.ms_logic.specs.declared.assignment.Value.TheVariants.{Set};

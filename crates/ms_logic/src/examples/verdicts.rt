@@ -1,4 +1,4 @@
-ghost use Rattle.ms_logic.specs.Examples.{x_at, var_x, var_y, less, ex1, all1, ex1_where, all1_where, ex1_y, one_form, undecided, set_global, problem, zero_source};
+ghost use Rattle.ms_logic.specs.inner.Examples.{x_at, var_x, var_y, less, ex1, all1, ex1_where, all1_where, ex1_y, one_form, undecided, set_global, problem, zero_source};
 ghost use Rattle.ms_logic.specs.Tree.{truth, falsity, restricted, no_forms};
 ghost use Rattle.ms_logic.specs.Verdict.{MainYes, MainNo, IsValid, IsUnsatisfiable, IsContingent, IsVacuous};
 ghost use Rattle.ms_logic.specs.declared.mode.Mode.TheVariants.{Ws1s, M2lStr};

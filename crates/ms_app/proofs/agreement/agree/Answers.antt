@@ -1,6 +1,6 @@
 use Rattle.std.proofs.Common.{map, sym, ◌∙◌}
 use Rattle.ms_build.proofs.WholeLemmas.{rising-by_place}
-use Rattle.ms_canonical.specs.Files.{content_of_file}
+use Rattle.ms_dfa.specs.Files.{content_of_file}
 use Rattle.ms_app.proofs.AgreementLemmas.{agree_equal, equal_agree}
 use Rattle.ms_app.proofs.ContentLemmas.{contents_equal, parts_equal}
 use Rattle.ms_app.proofs.agreement.agree.Goals as goal

@@ -2,7 +2,7 @@ use Rattle.std.proofs.Common.{map, refl, sym, ◌∙◌}
 use Rattle.std.proofs.lemmas.Bool.{false≢true}
 use Rattle.std.proofs.lemmas.Result.{IfErr-weaker, IfOk-weaker}
 use Rattle.ms_edge.specs.Files.{between}
-use Rattle.ms_imports.specs.Imports.{answers_by}
+use Rattle.ms_dfafile_imports.specs.Imports.{answers_by}
 use Rattle.ms_app.specs.Comparison.{Taken, not_comparable, problem_in}
 use Rattle.ms_app.proofs.Comparisons.{agreement_refused, both_solved, left_fails, right_fails}
 use Rattle.ms_app.proofs.GlobalLemmas.{same_variables}

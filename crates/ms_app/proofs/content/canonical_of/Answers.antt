@@ -1,5 +1,5 @@
 use Rattle.std.proofs.Common.{subst, arith}
-use Rattle.ms_solve.specs.Values.{IsMainFile}
+use Rattle.ms_build_source.specs.Values.{IsMainFile}
 use Rattle.ms_app.proofs.ContentLemmas.{canonical_of_value, file_of_value}
 use Rattle.ms_app.proofs.content.canonical_of.Goals as goal
 

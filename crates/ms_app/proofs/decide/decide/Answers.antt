@@ -1,7 +1,7 @@
 use Rattle.std.proofs.Common.{inl, inr, ⊎_elim, Option, map, sym, subst}
 use Rattle.ms_logic.specs.View.{problem_of}
 use Rattle.ms_report.specs.declared.found.Stats.{Stats}
-use Rattle.ms_solve.specs.Limits.{lacks_nodes}
+use Rattle.ms_build_source.specs.Limits.{lacks_nodes}
 use Rattle.ms_app.specs.Counts.{HasStats}
 use Rattle.ms_app.proofs.Decisions.{as_many, names_good, writable}
 use Rattle.ms_app.proofs.decide.decide.Goals as goal

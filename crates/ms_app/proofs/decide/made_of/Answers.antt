@@ -1,6 +1,6 @@
 use Rattle.std.proofs.Common.{ℕ, List, Option, ap, sym, subst}
 use Rattle.std.specs.Option.{option_copied}
-use Rattle.ms_app.specs.Files.{pairs_of}
+use Rattle.ms_app.specs.inner.Files.{pairs_of}
 use Rattle.ms_app.specs.Written.{AreFilesFrom}
 use Rattle.ms_app.proofs.Writing.{files_alone, files_with, spelled_here}
 use Rattle.ms_app.proofs.decide.made_of.Goals as goal

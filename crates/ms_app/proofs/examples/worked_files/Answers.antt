@@ -1,5 +1,5 @@
 use Rattle.std.proofs.Common.{codes, refl, arith}
-use Rattle.ms_app.specs.Examples.{export_to}
+use Rattle.ms_app.specs.inner.Examples.{export_to}
 use Rattle.ms_app.proofs.examples.worked_files.Goals as goal
 
 pub returns-clause-not_free : goal.returns-clause-not_free

@@ -2,7 +2,7 @@ use Rattle.std.proofs.Common.{Some, slice_index_or, ap, subst, sym, take, â—Œ+â—
 use Rattle.std.proofs.lemmas.Option.{slice_get-get_or}
 use Rattle.ms_dfa.specs.declared.plain.Plain.{Plain}
 use Rattle.ms_logic.specs.declared.checked.ExportUse.{ExportUse}
-use Rattle.ms_app.specs.Files.{AreSpelled, pairs_of}
+use Rattle.ms_app.specs.inner.Files.{AreSpelled, pairs_of}
 use Rattle.ms_app.proofs.Writing.{pairs_more, spelled_more}
 use Rattle.ms_app.proofs.files.export_files.Goals as goal
 

@@ -1,5 +1,5 @@
 use Rattle.std.proofs.Common.{take}
-use Rattle.ms_app.specs.Files.{AreSpelled, pairs_of}
+use Rattle.ms_app.specs.inner.Files.{AreSpelled, pairs_of}
 use Rattle.ms_app.proofs.files.export_files.Given as goal
 
 -- the files so far are those of the first exports

@@ -1,8 +1,8 @@
 use Rattle.std.proofs.Common.{refl, arith}
 use Rattle.std.proofs.lemmas.List.{length-map}
 use Rattle.ms_dfa.specs.declared.plain.FileSign.{FileSign}
-use Rattle.ms_logic.specs.Content.{StateOf}
-use Rattle.ms_canonical.specs.Files.{content_of_file}
+use Rattle.ms_logic_words.specs.Content.{StateOf}
+use Rattle.ms_dfa.specs.Files.{content_of_file}
 use Rattle.ms_app.proofs.found.counts.Goals as goal
 
 pub returns : goal.returns

@@ -3,7 +3,7 @@ use Rattle.std.proofs.lemmas.Option.{MatchOption-at_some, MatchOption-at_none}
 use Rattle.ms_logic.specs.declared.mode.Mode.{Mode}
 use Rattle.ms_logic.specs.Assignment.{Env, Variable, IsAssignment}
 use Rattle.ms_logic.specs.First.{assignment_of}
-use Rattle.ms_logic.specs.Word.{Encodes}
+use Rattle.ms_logic_words.specs.Word.{Encodes}
 use Rattle.ms_dfa.specs.Automaton.{variables_of}
 use Rattle.ms_app.proofs.FirstAssignments.{first_shown, none_shown}
 use Rattle.ms_app.proofs.found.shown.Goals as goal

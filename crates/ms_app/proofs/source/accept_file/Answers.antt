@@ -1,8 +1,8 @@
 use Rattle.std.proofs.Common.{length}
 use Rattle.std.proofs.lemmas.Result.{IfErr-weaker, IfOk-weaker}
 use Rattle.ms_edge.specs.Files.{between}
-use Rattle.ms_checked.proofs.CheckedSpellings.{have-names}
-use Rattle.ms_spellings.proofs.Loads.{loaded-sources}
+use Rattle.ms_names_checked.proofs.CheckedSpellings.{have-names}
+use Rattle.ms_include_laws.proofs.of_spellings.Loads.{loaded-sources}
 use Rattle.ms_app.specs.Source.{file_of}
 use Rattle.ms_app.proofs.FileCounts.{files_few}
 use Rattle.ms_app.proofs.Results.{if_ok_three}

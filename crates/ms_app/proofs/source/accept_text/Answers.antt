@@ -1,6 +1,6 @@
 use Rattle.std.proofs.lemmas.Result.{IfErr-weaker, IfOk-weaker}
-use Rattle.ms_checked.proofs.CheckedSpellings.{have-names}
-use Rattle.ms_spellings.proofs.Loads.{loaded-texts}
+use Rattle.ms_names_checked.proofs.CheckedSpellings.{have-names}
+use Rattle.ms_include_laws.proofs.of_spellings.Loads.{loaded-texts}
 use Rattle.ms_app.specs.Source.{text_of}
 use Rattle.ms_app.proofs.Results.{if_ok_three}
 use Rattle.ms_app.proofs.Sources.{right_accepted, text_refused}

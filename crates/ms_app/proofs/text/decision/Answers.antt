@@ -1,7 +1,7 @@
 use Rattle.std.proofs.Common.{length}
 use Rattle.std.specs.Option.{option_copied}
 use Rattle.ms_edge.specs.Files.{between}
-use Rattle.ms_app.specs.Files.{pairs_of}
+use Rattle.ms_app.specs.inner.Files.{pairs_of}
 use Rattle.ms_app.specs.Source.{file_of}
 use Rattle.ms_app.proofs.Adopted.{are_lent}
 use Rattle.ms_app.proofs.Comparisons.{first_refused}

@@ -1,8 +1,8 @@
 use Rattle.std.proofs.Common.{Bool, sym, subst}
 use Rattle.std.proofs.lemmas.Result.{IfErr-weaker, IfOk-weaker}
-use Rattle.ms_words.specs.declared.command.Command.TheVariants.{Gen}
+use Rattle.ms_app_words.specs.declared.command.Command.TheVariants.{Gen}
 use Rattle.ms_app.specs.Answer.{IsGivenFor, IsRefusedFor}
-use Rattle.ms_app.specs.Files.{pairs_of}
+use Rattle.ms_app.specs.inner.Files.{pairs_of}
 use Rattle.ms_app.proofs.text.generation.Goals as goal
 
 pub returns-then-decide-clause-given : goal.returns-then-decide-clause-given

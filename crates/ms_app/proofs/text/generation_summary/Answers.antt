@@ -1,9 +1,9 @@
 use Rattle.std.proofs.Common.{◌≤◌, ℕ, true, List, [], length, ap, map, sym, subst, ◌∙◌}
 use Rattle.ms_gen.proofs.Lengths.{generated_short}
-use Rattle.ms_imports.specs.Imports.{answers_by}
+use Rattle.ms_dfafile_imports.specs.Imports.{answers_by}
 use Rattle.ms_report.specs.Report.{summary_of}
 use Rattle.ms_app.specs.Counts.{HasStats}
-use Rattle.ms_app.specs.Files.{pairs_of}
+use Rattle.ms_app.specs.inner.Files.{pairs_of}
 use Rattle.ms_app.specs.Source.{problem_with}
 use Rattle.ms_app.proofs.Generations.{no_files, nothing_answers, nothing_counted, nothing_lent, text_decided, text_unaccepted, text_unsolved}
 use Rattle.ms_app.proofs.text.generation_summary.Goals as goal

@@ -1,8 +1,8 @@
-use Rattle.std.proofs.Common.{⊎_elim}
+use Rattle.std.proofs.Common.{⊎_elim, ◌∙◌}
 use Rattle.ms_edge.specs.Files.{between}
 use Rattle.ms_edge.specs.declared.refusal.Refusal.TheVariants.{Memory}
 use Rattle.ms_app.specs.Answer as answers
-use Rattle.ms_app.specs.Files.{pairs_of}
+use Rattle.ms_app.specs.inner.Files.{pairs_of}
 use Rattle.ms_app.proofs.Commands.{memory_refuses}
 use Rattle.ms_app.proofs.Told.{command-told}
 use Rattle.ms_app.proofs.top.answer.Goals as goal
@@ -35,3 +35,6 @@ returns-in-Ok-clause-answered g c =
     (record { middle = middle; reads = made.only_read; text = given.text; written = pairs_of given.files; is_given = made.given; count = some.0; held = some.2; next = some.3; rose = some.4 })
     some.5)
     c.deliver.ensures.delivered
+
+pub returns-in-Ok-clause-generated : goal.returns-in-Ok-clause-generated
+returns-in-Ok-clause-generated g c generation = c.deliver.ensures.untouched (c.in-Ok.ensures.no_files generation) ∙ c.in-Ok.ensures.generated generation

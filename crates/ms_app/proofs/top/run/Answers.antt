@@ -1,5 +1,7 @@
-use Rattle.std.proofs.Common.{refl}
+use Rattle.std.proofs.Common.{refl, subst}
 use Rattle.ms_edge.specs.Files.{between}
+use Rattle.ms_app_words.proofs.OneCommand.{one_command}
+use Rattle.ms_app.specs.Answer.{IsGeneration}
 use Rattle.ms_app.specs.Answer as answers
 use Rattle.ms_app.proofs.Commands.{limited}
 use Rattle.ms_app.proofs.Complete.{complete}
@@ -28,3 +30,7 @@ pub returns-in-Err-NoMemory-clause-complete : goal.returns-in-Err-NoMemory-claus
 returns-in-Err-NoMemory-clause-complete g c =
     complete c.args.words.now (g.S.Sink.told c.args.out.now) (g.S.Sink.told c.out_of_memory.new.out) (between (g.F.Files.told c.args.files.now) (g.F.Files.told c.args.files.now)) c.out_of_memory.result
     (answers.no_words refl c.out_of_memory.ensures)
+
+pub returns-in-Ok-clause-generated : goal.returns-in-Ok-clause-generated
+returns-in-Ok-clause-generated g c command is generation =
+    c.answer.ensures.generated (subst IsGeneration (one_command c.args.words.now command c.in-Ok.command is c.in-Ok.ensures.command) generation)

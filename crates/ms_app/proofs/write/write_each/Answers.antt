@@ -1,11 +1,12 @@
-use Rattle.std.proofs.Common.{◌≡◌, Some, slice_get, ap, sym, subst, arith, ◌∙◌}
+use Rattle.std.proofs.Common.{◌≡◌, Some, length, slice_get, ap, sym, subst, arith, ◌∙◌}
 use Rattle.std.specs.Option.{option_map}
+use Rattle.std.proofs.lemmas.List.{length-map}
 use Rattle.std.proofs.lemmas.Option.{slice_get-get_or, slice_get-map}
 use Rattle.ms_edge.specs.Files.{Holds, KeepsOthers}
-use Rattle.ms_app.specs.Files.{pairs_of}
+use Rattle.ms_app.specs.inner.Files.{pairs_of}
 use Rattle.ms_app.specs.Written.{File}
 use Rattle.ms_app.specs.declared.files.AutomatonFile.{AutomatonFile}
-use Rattle.ms_app.proofs.Written.{written_more, written_up_to}
+use Rattle.ms_app.proofs.Written.{all_written, no_pairs, written_more, written_up_to}
 use Rattle.ms_app.proofs.write.write_each.Goals as goal
 
 pub returns-in-Err-clause-stopped : goal.returns-in-Err-clause-stopped
@@ -46,4 +47,19 @@ loop-place-preserved g c =
     let new_overlongs = new.overlongs in (
       written_more before mid after (pairs_of written) place file here c.requires c.loop-place.invariant.0 keeps holds,
       record { faults = omega (arith, old_faults, new_faults); absences = omega (arith, old_absences, new_absences); overlongs = omega (arith, old_overlongs, new_overlongs) },
+      λ first. absurd (omega (arith, first)),
     )
+
+pub returns-in-Err-clause-untouched : goal.returns-in-Err-clause-untouched
+returns-in-Err-clause-untouched g c none = let less = c.loop-place-test.true in let empty = no_pairs c.args.written.now none in absurd (omega (arith, less, empty))
+
+pub returns-clause-untouched : goal.returns-clause-untouched
+returns-clause-untouched g c none = let end = c.loop-place.auto.place-end in let empty = no_pairs c.args.written.now none in c.loop-place.invariant.2 (omega (arith, end, empty))
+
+pub returns-clause-written : goal.returns-clause-written
+returns-clause-written g c =
+    let written = c.args.written.now in
+    let past = c.loop-place-test.false in
+    let end = c.loop-place.auto.place-end in
+    let long : length (pairs_of written) ≡ length written = length-map {B = File} written (λ (f : AutomatonFile). (f.name, f.bytes)) in
+    all_written c.loop-place.place (g.F.Files.told c.args.files.now).held (g.F.Files.told c.loop-place.files).held (pairs_of written) (omega (arith, past, end, long)) c.loop-place.invariant.0

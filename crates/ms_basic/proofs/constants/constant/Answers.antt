@@ -1,10 +1,10 @@
 use Rattle.std.proofs.Common.{◌≡◌, List, Some, ap, sym, subst, ◌∙◌}
-use Rattle.ms_edge.specs.declared.refusal.Word.{Word}
+use Rattle.ms_list.specs.declared.word.Word.{Word}
 use Rattle.ms_dfa.specs.declared.track.Track.{Track}
 use Rattle.ms_dfa.specs.Automaton.{variables_of}
-use Rattle.ms_logic.specs.Content.{IsWordOver, sign_of}
-use Rattle.ms_explore.specs.Small.{TellsWords, sign_by}
-use Rattle.ms_basic.specs.Repeated.{constant_table}
+use Rattle.ms_logic_words.specs.Content.{IsWordOver, sign_of}
+use Rattle.ms_dfa_explore.specs.Small.{TellsWords, sign_by}
+use Rattle.ms_basic.specs.inner.Repeated.{constant_table}
 use Rattle.ms_basic.proofs.ConstantLemmas.{constant_tells, constant_values}
 use Rattle.ms_basic.proofs.constants.constant.Goals as goal
 

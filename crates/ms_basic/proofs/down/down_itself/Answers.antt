@@ -1,9 +1,9 @@
 use Rattle.std.proofs.Common.{◌<◌, true, [], ◌∷◌, sym, subst, arith}
-use Rattle.ms_logic.specs.declared.core_formula.Basic.TheVariants.{Down}
+use Rattle.ms_logic_core.specs.declared.core_formula.Basic.TheVariants.{Down}
 use Rattle.ms_basic.specs.Bits.{bits_table}
 use Rattle.ms_basic.specs.Operands.{set}
-use Rattle.ms_basic.specs.Relation.{DecidesRelation}
-use Rattle.ms_basic.specs.Repeated.{constant_table}
+use Rattle.ms_basic.specs.inner.Relation.{DecidesRelation}
+use Rattle.ms_basic.specs.inner.Repeated.{constant_table}
 use Rattle.ms_basic.proofs.ShiftedItselfLemmas.{decides_down_by_none, decides_down_itself}
 use Rattle.ms_basic.proofs.down.down_itself.Goals as goal
 

@@ -1,8 +1,8 @@
 use Rattle.std.proofs.Common.{false, [], ◌∷◌, subst}
-use Rattle.ms_logic.specs.declared.core_formula.Basic.TheVariants.{Less}
+use Rattle.ms_logic_core.specs.declared.core_formula.Basic.TheVariants.{Less}
 use Rattle.ms_basic.specs.Operands.{number}
-use Rattle.ms_basic.specs.Relation.{DecidesRelation}
-use Rattle.ms_basic.specs.Repeated.{one_number_table}
+use Rattle.ms_basic.specs.inner.Relation.{DecidesRelation}
+use Rattle.ms_basic.specs.inner.Repeated.{one_number_table}
 use Rattle.ms_basic.proofs.LessLemmas.{decides_less}
 use Rattle.ms_basic.proofs.RepeatedLemmas.{decides_less_itself}
 use Rattle.ms_basic.proofs.less.less.Goals as goal

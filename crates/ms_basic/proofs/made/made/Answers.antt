@@ -1,8 +1,8 @@
 use Rattle.std.proofs.Common.{length, take, ap, subst, sym, arith}
 use Rattle.ms_dfa.specs.Automaton.{variables_of}
-use Rattle.ms_logic.specs.Roots.{AreRising}
-use Rattle.ms_explore.proofs.TracksLemmas.{distinct-rising}
-use Rattle.ms_basic.specs.Operands.{operands_of}
+use Rattle.ms_logic.specs.Lists.{AreRising}
+use Rattle.ms_dfa_explore.proofs.TracksLemmas.{distinct-rising}
+use Rattle.ms_logic_core.specs.Operands.{variables_of_basic}
 use Rattle.ms_basic.proofs.OperandsLemmas.{few_taken, few_tracks, orders-take, tracks_are, wires}
 use Rattle.ms_basic.proofs.RelationLemmas.{relation_built, tells_wired}
 use Rattle.ms_basic.proofs.made.made.Goals as goal
@@ -25,22 +25,23 @@ build-requires-clause-rising g c =
 
 pub build-requires-clause-tells : goal.build-requires-clause-tells
 build-requires-clause-tells g c =
-    let operands = take c.args.count (operands_of c.args.form) in
+    let operands = take c.args.count (variables_of_basic c.args.form) in
     tells_wired c.args.setting.mode operands (variables_of c.in-Ok-distinct.tracks) c.wiring_of-wiring.result c.args.form (g.M.SmallMachine.table c.args.machine)
-    (orders-take c.args.count (operands_of c.args.form) c.requires.orders) (few_taken c.args.count c.args.form) c.requires.decides
+    (orders-take c.args.count (variables_of_basic c.args.form) c.requires.orders) (few_taken c.args.count c.args.form) c.requires.decides
     (tracks_are c.args.count c.args.form c.in-Ok.all c.slice.result.now c.in-Ok.ensures c.slice.ensures c.in-Ok-distinct.tracks c.in-Ok-distinct.ensures)
     (wires c.args.count c.args.form c.in-Ok.all c.slice.result.now c.in-Ok.ensures c.slice.ensures c.in-Ok-distinct.tracks c.in-Ok-distinct.ensures
     c.wiring_of-wiring.result c.slice-2.result.now c.slice-2.ensures c.wiring_of-wiring.ensures)
 
 pub returns : goal.returns
 returns g c =
-    let operands = take c.args.count (operands_of c.args.form) in
+    let operands = take c.args.count (variables_of_basic c.args.form) in
     record {
       made = relation_built c.args.setting.mode operands (variables_of c.in-Ok-distinct.tracks) c.wiring_of-wiring.result c.args.form (g.M.SmallMachine.table c.args.machine) c.build.result
-          (orders-take c.args.count (operands_of c.args.form) c.requires.orders) (few_taken c.args.count c.args.form) c.requires.decides
+          (orders-take c.args.count (variables_of_basic c.args.form) c.requires.orders) (few_taken c.args.count c.args.form) c.requires.decides
           (tracks_are c.args.count c.args.form c.in-Ok.all c.slice.result.now c.in-Ok.ensures c.slice.ensures c.in-Ok-distinct.tracks c.in-Ok-distinct.ensures)
           (wires c.args.count c.args.form c.in-Ok.all c.slice.result.now c.in-Ok.ensures c.slice.ensures c.in-Ok-distinct.tracks c.in-Ok-distinct.ensures
           c.wiring_of-wiring.result c.slice-2.result.now c.slice-2.ensures c.wiring_of-wiring.ensures)
           c.requires.variables c.build.ensures.mode c.build.ensures.variables c.build.ensures.signs;
+      within = c.build.ensures.within;
       nodes = c.build.ensures.nodes;
     }

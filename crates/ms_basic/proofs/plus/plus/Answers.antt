@@ -1,8 +1,8 @@
 use Rattle.std.proofs.Common.{◌==◌, [], ◌∷◌, subst}
-use Rattle.ms_logic.specs.declared.core_formula.Basic.TheVariants.{Plus}
+use Rattle.ms_logic_core.specs.declared.core_formula.Basic.TheVariants.{Plus}
 use Rattle.ms_basic.specs.Operands.{number}
-use Rattle.ms_basic.specs.Relation.{DecidesRelation}
-use Rattle.ms_basic.specs.Repeated.{one_number_table}
+use Rattle.ms_basic.specs.inner.Relation.{DecidesRelation}
+use Rattle.ms_basic.specs.inner.Repeated.{one_number_table}
 use Rattle.ms_basic.proofs.BitLemmas.{told}
 use Rattle.ms_basic.proofs.PlusLemmas.{decides_plus}
 use Rattle.ms_basic.proofs.RepeatedLemmas.{decides_plus_itself}

@@ -1,8 +1,8 @@
 use Rattle.std.proofs.Common.{true, [], ◌∷◌, subst}
-use Rattle.ms_logic.specs.declared.core_formula.Basic.TheVariants.{Sub}
+use Rattle.ms_logic_core.specs.declared.core_formula.Basic.TheVariants.{Sub}
 use Rattle.ms_basic.specs.Operands.{set}
-use Rattle.ms_basic.specs.Relation.{DecidesRelation}
-use Rattle.ms_basic.specs.Repeated.{constant_table}
+use Rattle.ms_basic.specs.inner.Relation.{DecidesRelation}
+use Rattle.ms_basic.specs.inner.Repeated.{constant_table}
 use Rattle.ms_basic.proofs.RepeatedLemmas.{decides_sub_itself}
 use Rattle.ms_basic.proofs.SetsLemmas.{decides_sub}
 use Rattle.ms_basic.proofs.sets.sub.Goals as goal

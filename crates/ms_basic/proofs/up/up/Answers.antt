@@ -1,15 +1,15 @@
 use Rattle.std.proofs.Common.{[], ◌∷◌, refl, sym, subst}
-use Rattle.ms_logic.specs.declared.core_formula.Basic.TheVariants.{Up}
+use Rattle.ms_logic_core.specs.declared.core_formula.Basic.TheVariants.{Up}
 use Rattle.ms_basic.specs.Operands.{set}
-use Rattle.ms_basic.specs.Relation.{DecidesRelation}
-use Rattle.ms_basic.specs.Windows.{up_table}
+use Rattle.ms_basic.specs.inner.Relation.{DecidesRelation}
+use Rattle.ms_basic.specs.inner.Windows.{up_table}
 use Rattle.ms_basic.proofs.UpLemmas.{decides_up}
 use Rattle.ms_basic.proofs.WindowLemmas.{few_windows_up, some_windows, too_many_up}
 use Rattle.ms_basic.proofs.up.up.Goals as goal
 
 pub returns-then-n-gt-GREATEST : goal.returns-then-n-gt-GREATEST
 returns-then-n-gt-GREATEST c =
-    record { made = tt; nodes = (refl, too_many_up c.args.s c.args.t c.args.n c.args.setting.limit c.if-s-t.false c.if-n-gt-GREATEST.true c.args.setting.small) }
+    record { made = tt; within = tt; nodes = (refl, too_many_up c.args.s c.args.t c.args.n c.args.setting.limit c.if-s-t.false c.if-n-gt-GREATEST.true c.args.setting.small) }
 
 pub invariant_of-machine : goal.invariant_of-machine
 invariant_of-machine c = record {

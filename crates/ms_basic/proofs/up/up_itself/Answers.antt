@@ -1,9 +1,9 @@
 use Rattle.std.proofs.Common.{◌<◌, true, [], ◌∷◌, sym, subst, arith}
-use Rattle.ms_logic.specs.declared.core_formula.Basic.TheVariants.{Up}
+use Rattle.ms_logic_core.specs.declared.core_formula.Basic.TheVariants.{Up}
 use Rattle.ms_basic.specs.Bits.{bits_table}
 use Rattle.ms_basic.specs.Operands.{set}
-use Rattle.ms_basic.specs.Relation.{DecidesRelation}
-use Rattle.ms_basic.specs.Repeated.{constant_table}
+use Rattle.ms_basic.specs.inner.Relation.{DecidesRelation}
+use Rattle.ms_basic.specs.inner.Repeated.{constant_table}
 use Rattle.ms_basic.proofs.ShiftedItselfLemmas.{decides_up_by_none, decides_up_itself}
 use Rattle.ms_basic.proofs.up.up_itself.Goals as goal
 

@@ -2,8 +2,8 @@ use Rattle.std.proofs.Common.{◌≡◌, length, map, refl, ap, ◌∙◌, arith
 use Rattle.ms_logic.specs.Assignment.{value_at}
 use Rattle.ms_logic.specs.First.{length_of}
 use Rattle.ms_dfa.specs.Automaton.{variables_of}
-use Rattle.ms_logic.specs.Decoding.{bound_of_values, decoded_length}
-use Rattle.ms_logic.proofs.DecodingLemmas.{values_are, bound_is, decoded_length_is}
+use Rattle.ms_logic_words.specs.inner.Decoding.{bound_of_values, decoded_length}
+use Rattle.ms_logic_words.proofs.DecodingLemmas.{values_are, bound_is, decoded_length_is}
 use Rattle.ms_best.proofs.decoding.assignment.Goals as goal
 
 pub length-length-requires : goal.length-length-requires

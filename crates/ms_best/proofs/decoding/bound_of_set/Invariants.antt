@@ -1,5 +1,5 @@
 use Rattle.std.proofs.Common.{◌≡◌, max, drop}
-use Rattle.ms_logic.specs.Word.{bound_of_set}
+use Rattle.ms_logic.specs.Letters.{bound_of_set}
 use Rattle.ms_best.proofs.decoding.bound_of_set.Given as goal
 
 abbrev pub invariant-loop-member : goal.invariant-loop-member

@@ -1,5 +1,5 @@
 use Rattle.std.proofs.Common.{◌≡◌, max, drop}
-use Rattle.ms_logic.specs.Decoding.{bound_of_values}
+use Rattle.ms_logic_words.specs.inner.Decoding.{bound_of_values}
 use Rattle.ms_best.proofs.decoding.bound_of_values.Given as goal
 
 abbrev pub invariant-loop-value : goal.invariant-loop-value

@@ -1,7 +1,7 @@
 use Rattle.std.proofs.Common.{◌≡◌, ◌<◌, [], true, false, length, get_or, ap, sym, ◌∙◌, arith}
 use Rattle.std.proofs.lemmas.List.{get_or_default}
 use Rattle.ms_logic.specs.FiniteSet.{least}
-use Rattle.ms_logic.specs.Decoding.{bit_in}
+use Rattle.ms_logic_words.specs.inner.Decoding.{bit_in}
 use Rattle.ms_best.proofs.PassingPositions.{least_passing, none_passing}
 use Rattle.ms_best.proofs.decoding.first_position.Goals as goal
 

@@ -1,5 +1,5 @@
 use Rattle.std.proofs.Common.{◌≡◌, ◌<◌, ℕ, false}
-use Rattle.ms_logic.specs.Decoding.{bit_in}
+use Rattle.ms_logic_words.specs.inner.Decoding.{bit_in}
 use Rattle.ms_best.proofs.decoding.first_position.Given as goal
 
 abbrev pub invariant-loop-position : goal.invariant-loop-position

@@ -2,7 +2,7 @@ use Rattle.std.proofs.Common.{◌≡◌, ◌<◌, ◌++◌, ◌∷◌, [], false
 use Rattle.std.specs.List.{filter}
 use Rattle.std.proofs.lemmas.List.{get_or_default, append-nil}
 use Rattle.ms_logic.specs.FiniteSet.{numbers_below}
-use Rattle.ms_logic.specs.Decoding.{bit_in}
+use Rattle.ms_logic_words.specs.inner.Decoding.{bit_in}
 use Rattle.ms_best.proofs.PassingPositions.{filter_more_numbers}
 use Rattle.ms_best.proofs.decoding.positions.Goals as goal
 use Rattle.ms_best.proofs.decoding.positions.Goals.{then-bit+in-Ok, else-bit}

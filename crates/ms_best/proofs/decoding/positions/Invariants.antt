@@ -1,7 +1,7 @@
 use Rattle.std.proofs.Common.{◌≡◌}
 use Rattle.std.specs.List.{filter}
 use Rattle.ms_logic.specs.FiniteSet.{numbers_below}
-use Rattle.ms_logic.specs.Decoding.{bit_in}
+use Rattle.ms_logic_words.specs.inner.Decoding.{bit_in}
 use Rattle.ms_best.proofs.decoding.positions.Given as goal
 
 abbrev pub invariant-loop-position : goal.invariant-loop-position

@@ -1,6 +1,6 @@
 use Rattle.std.proofs.Common.{◌≡◌, ◌≤◌, ◌++◌, drop}
 use Rattle.ms_dfa.specs.Automaton.{variables_of}
-use Rattle.ms_logic.specs.Decoding.{decoded_values}
+use Rattle.ms_logic_words.specs.inner.Decoding.{decoded_values}
 use Rattle.ms_best.proofs.decoding.values.Given as goal
 
 abbrev pub invariant-loop-track : goal.invariant-loop-track

@@ -2,7 +2,7 @@ use Rattle.std.proofs.Common.{◌≡◌, ℕ, ◌<◌, ◌+◌, ◌-◌, [], Lis
 use Rattle.std.specs.List.{All, range_with_len}
 use Rattle.std.proofs.lemmas.List.{get_or_default}
 use Rattle.std.proofs.lemmas.List.Elements.{All-head}
-use Rattle.ms_best.specs.Search.{IsSearch}
+use Rattle.ms_best.specs.inner.Search.{IsSearch}
 use Rattle.ms_best.proofs.Searching.{all_bounded, begun, due_from, users_within, taken}
 use Rattle.ms_best.proofs.distance.distances.Goals as goal
 

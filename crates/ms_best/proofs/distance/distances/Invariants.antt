@@ -1,6 +1,6 @@
 use Rattle.std.proofs.Common.{◌+◌, ◌-◌, ◌*◌, [], length}
 use Rattle.std.specs.List.{sum, range_with_len}
-use Rattle.ms_best.specs.Search.{IsSearch}
+use Rattle.ms_best.specs.inner.Search.{IsSearch}
 use Rattle.ms_best.proofs.distance.distances.Given as goal
 
 abbrev pub invariant-loop-place : goal.invariant-loop-place

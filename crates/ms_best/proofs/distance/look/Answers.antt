@@ -1,6 +1,6 @@
 use Rattle.std.proofs.Common.{ℕ, ◌+◌, List, drop, subst, arith}
 use Rattle.std.proofs.lemmas.List.{drop_more}
-use Rattle.ms_best.specs.Search.{IsSearch}
+use Rattle.ms_best.specs.inner.Search.{IsSearch}
 use Rattle.ms_best.proofs.distance.look.Goals as goal
 
 pub loop-place-preserved : goal.loop-place-preserved

@@ -1,6 +1,6 @@
 use Rattle.std.proofs.Common.{◌+◌, ◌*◌, ◌≤◌, length, drop}
 use Rattle.std.specs.List.{sum}
-use Rattle.ms_best.specs.Search.{IsSearch}
+use Rattle.ms_best.specs.inner.Search.{IsSearch}
 use Rattle.ms_best.proofs.distance.look.Given as goal
 
 abbrev pub invariant-loop-place : goal.invariant-loop-place

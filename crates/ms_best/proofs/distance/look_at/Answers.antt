@@ -2,7 +2,7 @@ use Rattle.std.proofs.Common.{◌<◌, ℕ, List, length, get_or, ap, ◌∙◌,
 use Rattle.std.proofs.lemmas.List.{get_or_default}
 use Rattle.std.proofs.lemmas.Option.{slice_get-get_or}
 use Rattle.ms_best.specs.declared.graph.Vertex.TheVariants.{Goal}
-use Rattle.ms_best.specs.Graph.{distance_by}
+use Rattle.ms_best.specs.inner.Graph.{distance_by}
 use Rattle.ms_best.proofs.Searching.{lowered_to}
 use Rattle.ms_best.proofs.distance.look_at.Goals as goal
 

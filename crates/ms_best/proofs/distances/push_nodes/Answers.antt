@@ -1,6 +1,6 @@
 use Rattle.std.proofs.Common.{length, ◌∙◌, ap}
 use Rattle.ms_best.proofs.Vertices.{mapped_behind}
-use Rattle.ms_best.specs.Automaton.{vertex_of_node}
+use Rattle.ms_best.specs.inner.Automaton.{vertex_of_node}
 use Rattle.ms_best.proofs.distances.push_nodes.Goals as goal
 
 pub loop-place-preserved : goal.loop-place-preserved

@@ -1,5 +1,5 @@
 use Rattle.std.proofs.Common.{◌≡◌, ◌++◌, length, map, take}
-use Rattle.ms_best.specs.Automaton.{vertex_of_node}
+use Rattle.ms_best.specs.inner.Automaton.{vertex_of_node}
 use Rattle.ms_best.proofs.distances.push_nodes.Given as goal
 
 abbrev pub invariant-loop-place : goal.invariant-loop-place

@@ -1,7 +1,7 @@
 use Rattle.std.proofs.Common.{◌<◌, length, ◌∙◌, arith}
 use Rattle.std.proofs.lemmas.Option.{MatchOption-at_some}
 use Rattle.ms_arena.proofs.Lists.{slice_get-held}
-use Rattle.ms_best.specs.Automaton.{vertex_of_state}
+use Rattle.ms_best.specs.inner.Automaton.{vertex_of_state}
 use Rattle.ms_best.proofs.Vertices.{mapped_more}
 use Rattle.ms_best.proofs.distances.state_vertices.Goals as goal
 

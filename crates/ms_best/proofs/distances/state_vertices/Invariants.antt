@@ -1,5 +1,5 @@
 use Rattle.std.proofs.Common.{◌≡◌, length, map, take}
-use Rattle.ms_best.specs.Automaton.{vertex_of_state}
+use Rattle.ms_best.specs.inner.Automaton.{vertex_of_state}
 use Rattle.ms_best.proofs.distances.state_vertices.Given as goal
 
 abbrev pub invariant-loop-state : goal.invariant-loop-state

@@ -1,7 +1,7 @@
 use Rattle.std.proofs.Common.{◌≡◌, length, ap, ◌∙◌, arith}
-use Rattle.ms_logic.specs.Content.{is_truth_value, first_state}
-use Rattle.ms_best.specs.Automaton.{distance_of}
-use Rattle.ms_best.specs.Least.{least_values, least_truth, least_letters}
+use Rattle.ms_logic_words.specs.Content.{is_truth_value, first_state}
+use Rattle.ms_best.specs.inner.Automaton.{distance_of}
+use Rattle.ms_best.specs.inner.Least.{least_values, least_truth, least_letters}
 use Rattle.ms_best.proofs.LeastValues.{length-least_values}
 use Rattle.ms_best.proofs.Nearness.{kept_distance}
 use Rattle.ms_best.proofs.FirstWords.{is_first, none_has}

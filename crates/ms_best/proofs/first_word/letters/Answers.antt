@@ -1,8 +1,8 @@
 use Rattle.std.proofs.Common.{◌≡◌, ◌<◌, ◌+◌, ◌-◌, ◌++◌, ◌∷◌, [], suc, length, length-append, ap, sym, ◌∙◌, arith}
 use Rattle.std.proofs.lemmas.Option.{MatchOption-at_some}
 use Rattle.ms_arena.proofs.Lists.{slice_get-held}
-use Rattle.ms_logic.specs.Content.{next_state, is_in_letters}
-use Rattle.ms_best.specs.Least.{next_of, least_values, least_letter, least_letters}
+use Rattle.ms_logic_words.specs.Content.{next_state, is_in_letters}
+use Rattle.ms_best.specs.inner.Least.{next_of, least_values, least_letter, least_letters}
 use Rattle.ms_best.proofs.LeastValues.{length-least_values}
 use Rattle.ms_best.proofs.FirstWords.{letters_more}
 use Rattle.ms_best.proofs.first_word.letters.Goals as goal

@@ -1,5 +1,5 @@
 use Rattle.std.proofs.Common.{◌≡◌, ◌<◌, ◌≤◌, ◌-◌, ◌++◌, length}
-use Rattle.ms_best.specs.Least.{least_letters}
+use Rattle.ms_best.specs.inner.Least.{least_letters}
 use Rattle.ms_best.proofs.first_word.letters.Given as goal
 
 abbrev pub invariant-reading : goal.invariant-reading

@@ -7,8 +7,8 @@ use Rattle.ms_logic.specs.Assignment.{Variable}
 use Rattle.ms_dfa.specs.declared.track.Track.{Track}
 use Rattle.ms_dfa.specs.Automaton.{variable_of}
 use Rattle.ms_dfa.specs.Part.{has_value}
-use Rattle.ms_best.specs.Automaton.{distance_of}
-use Rattle.ms_best.specs.Least.{needs_one}
+use Rattle.ms_best.specs.inner.Automaton.{distance_of}
+use Rattle.ms_best.specs.inner.Least.{needs_one}
 use Rattle.ms_best.proofs.LeastValues.{taken_past, taken_more}
 use Rattle.ms_best.proofs.Nearness.{kept_distance}
 use Rattle.ms_best.proofs.least.least_values.Goals as goal

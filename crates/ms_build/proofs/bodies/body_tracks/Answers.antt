@@ -4,7 +4,7 @@ use Rattle.ms_dfa.specs.declared.track.Track.{Track}
 use Rattle.ms_dfa.specs.Automaton.{variable_of, variables_of}
 use Rattle.ms_logic.specs.declared.mode.Order.{Order}
 use Rattle.ms_logic.specs.declared.mode.Order.TheVariants.{Zero}
-use Rattle.ms_logic.specs.Content.{variables_from, variables_by_place}
+use Rattle.ms_logic_words.specs.Content.{variables_from, variables_by_place}
 use Rattle.ms_build.proofs.PlaceLemmas.{first_tracks}
 use Rattle.ms_build.proofs.bodies.body_tracks.Goals as goal
 

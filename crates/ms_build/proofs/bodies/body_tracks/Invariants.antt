@@ -1,6 +1,6 @@
 use Rattle.std.proofs.Common.{◌≡◌, drop, [], ◌∷◌, ◌++◌}
 use Rattle.ms_dfa.specs.Automaton.{variables_of}
-use Rattle.ms_logic.specs.Content.{variables_from, variables_by_place}
+use Rattle.ms_logic_words.specs.Content.{variables_from, variables_by_place}
 use Rattle.ms_build.proofs.bodies.body_tracks.Given as goal
 
 -- the tracks so far are the first ones

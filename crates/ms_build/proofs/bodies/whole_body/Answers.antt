@@ -1,8 +1,8 @@
 use Rattle.std.proofs.Common.{[], ◌∷◌, ◌++◌, ap, sym, subst, ◌∙◌}
 use Rattle.ms_dfa.specs.Automaton.{variables_of}
-use Rattle.ms_explore.specs.Tracks.{IsAmong}
-use Rattle.ms_logic.specs.Content.{variables_by_place}
-use Rattle.ms_logic.specs.Roots.{AreRising}
+use Rattle.ms_dfa_explore.specs.Tracks.{IsAmong}
+use Rattle.ms_logic_words.specs.Content.{variables_by_place}
+use Rattle.ms_logic.specs.Lists.{AreRising}
 use Rattle.ms_build.specs.Built.{child_meaning, entries_of, imports_for}
 use Rattle.ms_build.proofs.WholeLemmas.{rising-by_place}
 use Rattle.ms_build.proofs.WiderLemmas.{over_by}

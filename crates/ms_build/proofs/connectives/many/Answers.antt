@@ -1,6 +1,6 @@
 use Rattle.std.proofs.Common.{◌+◌, take, take_all, sym, subst, arith}
 use Rattle.ms_product.specs.Combined.{combined}
-use Rattle.ms_theory.specs.Values.{HasValues, own_meaning}
+use Rattle.ms_dfa.specs.Values.{HasValues, own_meaning}
 use Rattle.ms_build.specs.Built.{AreReadAt, IsManyOf, entries_of}
 use Rattle.ms_build.proofs.ManyLemmas.{IsManyOf-one, IsManyOf-same, IsPart-more, modes_equal, orders_equal, read_first, take_next}
 use Rattle.ms_build.proofs.connectives.many.Goals as goal

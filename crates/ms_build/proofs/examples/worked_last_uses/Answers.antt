@@ -1,5 +1,5 @@
 use Rattle.std.proofs.Common.{◌≤◌, refl, arith}
-use Rattle.ms_dag.specs.Examples.{between}
+use Rattle.ms_dag.specs.inner.Examples.{between}
 use Rattle.ms_build.proofs.ExampleLemmas.{last_uses}
 use Rattle.ms_build.proofs.examples.worked_last_uses.Goals as goal
 

@@ -1,5 +1,5 @@
 use Rattle.std.proofs.Common.{inl, inr, ⊎_elim, refl, arith}
-use Rattle.ms_dag.specs.Examples.{between}
+use Rattle.ms_dag.specs.inner.Examples.{between}
 use Rattle.ms_build.proofs.ExampleLemmas.{node_of_root, two_nodes, no_third}
 use Rattle.ms_build.proofs.examples.worked_uses.Goals as goal
 

@@ -3,7 +3,7 @@ use Rattle.std.proofs.lemmas.List.{length-map, take_all}
 use Rattle.ms_dfa.specs.Automaton.{variable_of, variables_of}
 use Rattle.ms_dfa.specs.declared.track.Track.{Track}
 use Rattle.ms_logic.specs.declared.mode.Order.TheVariants.{Zero}
-use Rattle.ms_build.specs.Lacked.{IsLacked, with_track}
+use Rattle.ms_build.specs.inner.Lacked.{IsLacked, with_track}
 use Rattle.ms_build.proofs.LackedLemmas.{IsLacked-more, IsLacked-none, IsLacked-there}
 use Rattle.ms_build.proofs.VariableLemmas.{taken-next, taken_below, variable_at_place}
 use Rattle.ms_build.proofs.lacked.lacked_tracks.Goals as goal

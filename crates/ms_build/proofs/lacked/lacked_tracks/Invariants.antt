@@ -1,6 +1,6 @@
 use Rattle.std.proofs.Common.{take}
 use Rattle.ms_dfa.specs.Automaton.{variables_of}
-use Rattle.ms_build.specs.Lacked.{IsLacked}
+use Rattle.ms_build.specs.inner.Lacked.{IsLacked}
 use Rattle.ms_build.proofs.lacked.lacked_tracks.Given as goal
 
 -- what is lacked of the wanted tracks so far

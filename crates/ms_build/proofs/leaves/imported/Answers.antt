@@ -1,8 +1,8 @@
 use Rattle.std.proofs.Common.{◌≡◌, length, ap, sym, subst, ◌∙◌}
 use Rattle.std.proofs.lemmas.Option.{same_Some}
 use Rattle.ms_basic.specs.Operands.{HaveOneOrder}
-use Rattle.ms_logic.specs.Content.{Content}
-use Rattle.ms_logic.specs.declared.sign.Sign.{Sign}
+use Rattle.ms_logic_words.specs.Content.{Content}
+use Rattle.ms_logic_words.specs.declared.sign.Sign.{Sign}
 use Rattle.ms_rename.specs.Renamed.{renamed}
 use Rattle.ms_build.proofs.ChildLemmas.{as_long, one_order}
 use Rattle.ms_build.proofs.ImportLemmas.{imported_by}

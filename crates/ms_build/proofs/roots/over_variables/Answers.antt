@@ -1,7 +1,7 @@
 use Rattle.std.proofs.Common.{ap, sym, subst, ◌∙◌}
 use Rattle.ms_dfa.specs.Automaton.{variables_of}
-use Rattle.ms_explore.specs.Tracks.{IsAmong}
-use Rattle.ms_logic.specs.Roots.{AreRising}
+use Rattle.ms_dfa_explore.specs.Tracks.{IsAmong}
+use Rattle.ms_logic.specs.Lists.{AreRising}
 use Rattle.ms_build.specs.Built.{child_meaning, entries_of, imports_for}
 use Rattle.ms_build.specs.Roots.{named}
 use Rattle.ms_build.proofs.RootLemmas.{named-rising, orders_for, read_at_first, root-among}

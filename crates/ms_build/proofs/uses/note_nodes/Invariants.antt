@@ -1,6 +1,6 @@
 use Rattle.std.proofs.Common.{◌≡◌, length}
 use Rattle.ms_build.specs.Built.{entries_of}
-use Rattle.ms_build.specs.Uses.{AreUsesSoFar}
+use Rattle.ms_build.specs.inner.Uses.{AreUsesSoFar}
 use Rattle.ms_build.proofs.uses.note_nodes.Given as goal
 
 -- the uses of the nodes so far

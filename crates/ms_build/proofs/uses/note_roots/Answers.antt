@@ -3,7 +3,7 @@ use Rattle.ms_dag.specs.declared.dag.SharedRoot.{SharedRoot}
 use Rattle.ms_dag.specs.declared.node.Child.{Child}
 use Rattle.ms_dag.specs.Share.{children_of_roots}
 use Rattle.ms_build.specs.Built.{roots_of}
-use Rattle.ms_build.specs.Uses.{to_the_end}
+use Rattle.ms_build.specs.inner.Uses.{to_the_end}
 use Rattle.ms_build.proofs.UsesLemmas.{noted_next, root_next}
 use Rattle.ms_build.proofs.uses.note_roots.Goals as goal
 

@@ -1,7 +1,7 @@
 use Rattle.std.proofs.Common.{map, take}
 use Rattle.ms_dag.specs.declared.node.Child.{Child}
 use Rattle.ms_build.specs.Built.{roots_of}
-use Rattle.ms_build.specs.Uses.{AreNotedUses, to_the_end}
+use Rattle.ms_build.specs.inner.Uses.{AreNotedUses, to_the_end}
 use Rattle.ms_build.proofs.uses.note_roots.Given as goal
 
 -- the uses of the roots so far

@@ -1,5 +1,5 @@
 use Rattle.std.proofs.Common.{take}
-use Rattle.ms_build.specs.Uses.{AreNotedUses}
+use Rattle.ms_build.specs.inner.Uses.{AreNotedUses}
 use Rattle.ms_build.proofs.uses.note_uses.Given as goal
 
 -- the uses of the nodes so far

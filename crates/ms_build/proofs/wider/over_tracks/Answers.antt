@@ -3,8 +3,8 @@ use Rattle.ms_dfa.specs.Automaton.{variables_of}
 use Rattle.ms_dfa.specs.declared.track.Track.{Track}
 use Rattle.ms_basic.specs.Operands.{HaveOneOrder}
 use Rattle.ms_product.specs.Combined.{HaveEqualOrders}
-use Rattle.ms_build.specs.Lacked.{IsLacked}
-use Rattle.ms_build.specs.Wider.{IsWider}
+use Rattle.ms_build.specs.inner.Lacked.{IsLacked}
+use Rattle.ms_build.specs.inner.Wider.{IsWider}
 use Rattle.ms_build.proofs.WiderLemmas.{IsOver-lacked, free_orders, number_orders, one_order}
 use Rattle.ms_build.proofs.wider.over_tracks.Goals as goal
 

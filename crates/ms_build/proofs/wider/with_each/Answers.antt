@@ -3,7 +3,7 @@ use Rattle.std.proofs.lemmas.List.{length-map, take_all}
 use Rattle.ms_dfa.specs.Automaton.{variable_of, variables_of}
 use Rattle.ms_dfa.specs.declared.track.Track.{Track}
 use Rattle.ms_logic.specs.declared.mode.Order.TheVariants.{Zero}
-use Rattle.ms_build.specs.Wider.{IsWider}
+use Rattle.ms_build.specs.inner.Wider.{IsWider}
 use Rattle.ms_build.proofs.WiderLemmas.{IsWider-none, IsWider-then, next_orders}
 use Rattle.ms_build.proofs.VariableLemmas.{taken-next, variable_at_place}
 use Rattle.ms_build.proofs.wider.with_each.Goals as goal

@@ -1,6 +1,6 @@
 use Rattle.std.proofs.Common.{take}
 use Rattle.ms_dfa.specs.Automaton.{variables_of}
-use Rattle.ms_build.specs.Wider.{IsWider}
+use Rattle.ms_build.specs.inner.Wider.{IsWider}
 use Rattle.ms_build.proofs.wider.with_each.Given as goal
 
 -- the automaton over the tracks so far

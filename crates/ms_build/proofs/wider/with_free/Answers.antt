@@ -3,7 +3,7 @@ use Rattle.std.proofs.lemmas.Bool.{eqb-true}
 use Rattle.std.proofs.lemmas.List.{nil_from_length}
 use Rattle.ms_dfa.specs.Automaton.{variables_of}
 use Rattle.ms_dfa.specs.declared.track.Track.{Track}
-use Rattle.ms_build.specs.Wider.{IsWider}
+use Rattle.ms_build.specs.inner.Wider.{IsWider}
 use Rattle.ms_build.proofs.WiderLemmas.{IsWider-none, wider_by}
 use Rattle.ms_build.proofs.wider.with_free.Goals as goal
 

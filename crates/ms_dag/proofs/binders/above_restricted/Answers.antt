@@ -2,9 +2,9 @@ use Rattle.std.proofs.Common.{◌≡◌, ◌∷◌, [], List, ℕ, length, Conta
 use Rattle.std.proofs.lemmas.List.{length_push}
 use Rattle.ms_dag.specs.declared.node.Child.{Child}
 use Rattle.ms_dag.specs.declared.node.DagNode.TheVariants.{Bind}
-use Rattle.ms_dag.specs.Maps.{AreTheSameIn, IsPlaced}
+use Rattle.ms_dag.specs.inner.Maps.{AreTheSameIn, IsPlaced}
 use Rattle.ms_dag.specs.Places.{AreAmong}
-use Rattle.ms_dag.specs.Shared.{IsMade}
+use Rattle.ms_dag.specs.inner.Shared.{IsMade}
 use Rattle.ms_dag.proofs.BinderLemmas.{bound_there, above_bound}
 use Rattle.ms_dag.proofs.Members.{All-map_of}
 use Rattle.ms_dag.proofs.Results.{if_ok}

@@ -1,5 +1,5 @@
 use Rattle.std.proofs.Common.{sym, subst, ◌∙◌, arith}
-use Rattle.ms_dag.specs.Binders.{EndsIn}
+use Rattle.ms_dag.specs.inner.Binders.{EndsIn}
 use Rattle.ms_dag.specs.Places.{AreBelow}
 use Rattle.ms_dag.proofs.BinderLemmas.{EndsIn-same, EndsIn-push, all_few}
 use Rattle.ms_dag.proofs.binders.with_bound.Goals as goal

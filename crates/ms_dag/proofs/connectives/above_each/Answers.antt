@@ -1,11 +1,11 @@
 use Rattle.std.proofs.Common.{◌≡◌, List, ℕ, sym, subst}
 use Rattle.ms_dag.specs.declared.node.Child.{Child}
 use Rattle.ms_dag.specs.declared.node.DagNode.{DagNode}
-use Rattle.ms_dag.specs.Connectives.{node_of_each}
+use Rattle.ms_dag.specs.inner.Connectives.{node_of_each}
 use Rattle.ms_dag.specs.Dag.{places_in_maps}
-use Rattle.ms_dag.specs.Maps.{AreTheSameIn}
+use Rattle.ms_dag.specs.inner.Maps.{AreTheSameIn}
 use Rattle.ms_dag.specs.Places.{AreAmong}
-use Rattle.ms_dag.specs.Shared.{IsMade}
+use Rattle.ms_dag.specs.inner.Shared.{IsMade}
 use Rattle.ms_dag.specs.declared.connectives.Nary.{Nary}
 use Rattle.ms_dag.specs.declared.connectives.Nary.TheVariants.{And, Or}
 use Rattle.ms_dag.specs.Dag.{children_of}

@@ -1,9 +1,9 @@
 use Rattle.std.proofs.Common.{◌≡◌, ◌∷◌, [], List, ℕ, Contains, sym, subst, arith}
 use Rattle.ms_dag.specs.declared.node.Child.{Child}
-use Rattle.ms_dag.specs.Connectives.{node_of_two}
-use Rattle.ms_dag.specs.Maps.{AreTheSameIn, IsPlaced}
+use Rattle.ms_dag.specs.inner.Connectives.{node_of_two}
+use Rattle.ms_dag.specs.inner.Maps.{AreTheSameIn, IsPlaced}
 use Rattle.ms_dag.specs.Places.{AreAmong}
-use Rattle.ms_dag.specs.Shared.{IsMade}
+use Rattle.ms_dag.specs.inner.Shared.{IsMade}
 use Rattle.ms_dag.specs.declared.connectives.Binary.{Binary}
 use Rattle.ms_dag.specs.declared.connectives.Binary.TheVariants.{Implies, Iff}
 use Rattle.ms_dag.specs.Dag.{children_of}

@@ -1,14 +1,15 @@
-use Rattle.std.proofs.Common.{◌≡◌, ℕ, zero, suc, ◌+◌, ◌<◌, [], ◌∷◌, length, slice_get, Contains, Some, refl, sym, ◌∙◌, ap, subst, inl, inr, arith}
+use Rattle.std.proofs.Common.{◌≡◌, ℕ, zero, suc, ◌+◌, ◌<◌, List, [], ◌∷◌, length, slice_get, Contains, Some, refl, sym, ◌∙◌, ap, subst, inl, inr, arith}
 use Rattle.std.proofs.lemmas.List.Elements.{All-nil, All-cons}
 use Rattle.std.proofs.lemmas.Option.{same_Some}
 use Rattle.std.specs.List.Sorted.{IsStrictlyIncreasing}
-use Rattle.ms_logic.specs.declared.mode.Order.TheVariants.{One}
+use Rattle.ms_logic.specs.declared.mode.Order.TheVariants.{One, Two}
 use Rattle.ms_logic.specs.Assignment.{Variable}
-use Rattle.ms_logic.specs.Steps.{variable}
+use Rattle.ms_logic_core.specs.Operands.{variable}
 use Rattle.ms_dag.specs.declared.node.Child.{Child}
+use Rattle.ms_dag.specs.declared.node.DagNode.TheVariants.{Import}
 use Rattle.ms_dag.specs.declared.node.Entry.{Entry}
 use Rattle.ms_dag.specs.Dag.{IsChild, IsNode, IsUsed}
-use Rattle.ms_dag.specs.Examples.{child, before, between, chain}
+use Rattle.ms_dag.specs.inner.Examples.{child, before, between, chain, import_at}
 use Rattle.ms_dag.proofs.examples.worked_graphs.Goals as goal
 
 two_rise : (a : ℕ) → IsStrictlyIncreasing (a ∷ (a + 1) ∷ [])
@@ -68,6 +69,11 @@ two_entries (suc zero) (suc zero) entry first second = refl
 two_entries (suc (suc i)) two entry first second = absurd (let never : ⊥ = cc in never)
 two_entries one (suc (suc j)) entry first second = absurd (let never : ⊥ = cc in never)
 
+no_import : (i : ℕ) (entry : Entry) (import : ℕ) (xs : List ℕ) → slice_get chain i ≡ Some entry → entry.node ≡ Import import xs → ⊥
+no_import zero entry import xs held is = let same : before.node ≡ Import import xs = ap (λ (e : Entry). e.node) (same_Some before entry held) ∙ is in cc
+no_import (suc zero) entry import xs held is = let same : between.node ≡ Import import xs = ap (λ (e : Entry). e.node) (same_Some between entry held) ∙ is in cc
+no_import (suc (suc i)) entry import xs held is = cc
+
 each_used : (i : ℕ) → i < 2 → IsUsed chain (child 1 (0 ∷ 4 ∷ 6 ∷ []) ∷ []) i
 each_used zero below = inr (1, between, refl, (0, omega arith, refl))
 each_used (suc zero) below = inl (0, omega arith, refl)
@@ -76,6 +82,7 @@ each_used (suc (suc i)) below = absurd (omega (arith, below))
 pub returns-clause-graph : goal.returns-clause-graph
 returns-clause-graph c = record {
   nodes = record { nodes = each_node; distinct = two_entries };
+  imports = λ i j one two import xs ys first second is also. absurd (no_import i one import xs first is);
   within = All-cons (λ (d : Child). d.node < 2) (child 1 (0 ∷ 4 ∷ 6 ∷ [])) [] (omega arith) (All-nil (λ (d : Child). d.node < 2));
   used = each_used;
   small = omega arith;
@@ -83,3 +90,8 @@ returns-clause-graph c = record {
 
 pub returns-clause-repeated : goal.returns-clause-repeated
 returns-clause-repeated c = λ graph. let same = graph.nodes.distinct 0 1 before refl refl in omega (arith, same)
+
+pub returns-clause-unlike : goal.returns-clause-unlike
+returns-clause-unlike c = λ graph.
+    let same : Some One ∷ [] ≡ Some Two ∷ [] = graph.imports 0 1 (import_at One) (import_at Two) 5 (0 ∷ []) (0 ∷ []) refl refl refl refl in
+    let never : ⊥ = cc in never

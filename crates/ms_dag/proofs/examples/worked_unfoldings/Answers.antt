@@ -1,7 +1,7 @@
 use Rattle.std.proofs.Common.{ℕ, ◌<◌, [], ◌∷◌, None, refl, arith}
 use Rattle.std.proofs.lemmas.List.Elements.{All-nil, All-cons}
-use Rattle.ms_logic.specs.declared.core_formula.Basic.TheVariants.{Less}
-use Rattle.ms_dag.specs.Examples.{child}
+use Rattle.ms_logic_core.specs.declared.core_formula.Basic.TheVariants.{Less}
+use Rattle.ms_dag.specs.inner.Examples.{child}
 use Rattle.ms_dag.specs.Places.{AreBelow}
 use Rattle.ms_dag.specs.Unfolds.{IsPartOf}
 use Rattle.ms_dag.proofs.examples.worked_unfoldings.Goals as goal

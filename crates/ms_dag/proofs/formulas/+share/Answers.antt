@@ -1,19 +1,32 @@
-use Rattle.std.proofs.Common.{◌≡◌, ◌+◌, [], ◌∷◌, take, get_or, Some, None, rules, sym, ap, subst, ◌∙◌}
-use Rattle.ms_logic.specs.declared.core_formula.Core.TheVariants as code
-use Rattle.ms_logic.specs.CoreForm.{core_form_of}
-use Rattle.ms_core.specs.Calls.{filled, filled_each}
-use Rattle.ms_dag.specs.declared.node.DagNode.TheVariants.{True, False}
-use Rattle.ms_dag.specs.Memo.{IsTold, child_for}
-use Rattle.ms_dag.specs.Scope.{IsInScope, forms_of}
-use Rattle.ms_dag.specs.Shared.{IsMade, IsShared, IsSharedNow, AreSharedNow}
+use Rattle.std.proofs.Common.{◌≡◌, List, [], ◌∷◌, ◌++◌, length, Option, MatchOption, Some, None, option_to_list, refl, rules, sym, ap, subst, ◌∙◌, arith}
+use Rattle.ms_logic_core.specs.Calls.{filled}
+use Rattle.std.proofs.lemmas.List.{map-append}
+use Rattle.ms_logic_core.specs.CoreForm.{core_form_of, imported}
+use Rattle.ms_dag.specs.declared.tasks.Task.{Task}
+use Rattle.ms_dag.specs.inner.Tasks.{IsUnderWay, CallsBelow, Todo, above, each, share, todo_of, todo_of_each}
+use Rattle.ms_dag.specs.inner.Scope.{IsInScope, forms_of}
+use Rattle.ms_dag.specs.inner.Memo.{child_for}
+use Rattle.ms_dag.specs.inner.Shared.{IsShared, IsSharedNow}
+use Rattle.ms_dag.proofs.AboveLemmas.{snoc_same}
 use Rattle.ms_dag.proofs.Growth.{Grown-none}
-use Rattle.ms_dag.proofs.ListSteps.{operand_scoped, step_operand}
-use Rattle.ms_dag.proofs.MemoLemmas.{AreCalled-made, AreCalled-told}
+use Rattle.ms_dag.proofs.MemoLemmas.{AreCalled-kept, AreCalled-made, AreCalled-told}
 use Rattle.ms_dag.proofs.Results.{if_ok, on_ok}
-use Rattle.ms_dag.proofs.ShareSteps.{form-Basic, form-Not, form-Restrict, form-And, form-Or, form-Implies, form-Iff, form-Bind-none, form-Bind-some, basic_ordered, body_greatest, both_greatest, step_negation, step_restrict, step_unrestricted, step_conjunction, step_disjunction, step_implication, step_equivalence, step_restricted}
-use Rattle.ms_dag.proofs.SharedRelations.{shared_truth, shared_falsity, shared_import, shared_basic}
-use Rattle.ms_logic.proofs.Views.{core_form_of-True, core_form_of-False}
+use Rattle.ms_dag.proofs.SharedRelations.{shared_import}
+use Rattle.ms_dag.proofs.TaskLemmas.{ends, nodes_now, parts_shared, step_above, step_plan, step_plan_each, step_shared, task_fit, turns_left-done, turns_left-plan, turns_left-plan_each}
 use Rattle.ms_dag.proofs.formulas.+share.Goals as goal
+
+in_none : (result : Option Task) (P : Type 0) (Q : Task → Type 0) → MatchOption result P Q → ((task : Task) → result ≡ Some task → ⊥) → P
+in_none None P Q holds never = holds
+in_none (Some task) P Q holds never = absurd (never task refl)
+
+no_items : (tasks : List Task) → length tasks ≡ 0 → tasks ≡ []
+no_items [] long = refl
+no_items (task ∷ tasks) long = absurd (omega (arith, long))
+
+-- the list before its last task was taken
+popped : (tasks left : List Task) (result : Option Task) (task : Task) (todo : Todo) → tasks ≡ left ++ option_to_list result → result ≡ Some task → todo_of task ≡ todo → todo_of_each tasks ≡ todo_of_each left ++ todo ∷ []
+popped tasks left result task todo is some same =
+    ap todo_of_each (is ∙ ap (λ one. left ++ option_to_list one) some) ∙ map-append todo_of left (task ∷ []) ∙ ap (λ one. todo_of_each left ++ one ∷ []) same
 
 pub share_call-returns-then-is_import-clause-called : goal.share_call-returns-then-is_import-clause-called
 share_call-returns-then-is_import-clause-called g t c =
@@ -29,18 +42,16 @@ share_call-returns-then-is_import-clause-shared g t c =
     let new = c.share_import.new.nodes.entries in
     if_ok c.share_import.result _ _
     (λ child made.
-    subst (λ f. IsSharedNow orders old new f child) (sym (c.is_import.ensures c.if-is_import.true variables)) (shared_import orders old new child c.requires.nodes import variables made))
+    subst (λ f. IsSharedNow orders old new f child) (sym (c.is_import.ensures.itself c.if-is_import.true variables)) (shared_import orders old new child c.requires.nodes import variables made))
     c.share_import.ensures.made
 
 pub share_call-returns-in-Some-clause-shared : goal.share_call-returns-in-Some-clause-shared
 share_call-returns-in-Some-clause-shared g t c =
-    let import = c.args.call.now.import in
-    let variables = c.args.call.now.variables.now in
     let child = c.in-Some.child in
-    let met : child_for c.args.called.now (import ∷ variables) ≡ Some child = ap (child_for c.args.called.now) (sym c.in_ok-key.ensures) ∙ sym c.in_ok-child.ensures ∙ c.in-Some.is in
+    let met : child_for c.args.called.now (c.args.call.now.import ∷ c.args.call.now.variables.now) ≡ Some child = sym c.in_ok-child.ensures ∙ c.in-Some.is in
     record {
       grown = Grown-none c.args.nodes.now.entries (child ∷ []) c.requires.nodes;
-      shared = c.requires.called import variables child met;
+      shared = c.requires.called c.args.call.now.import c.args.call.now.variables.now child met;
     }
 
 pub share_call-returns-clause-called : goal.share_call-returns-clause-called
@@ -50,279 +61,195 @@ share_call-returns-clause-called g t c =
     let import = c.args.call.now.import in
     let variables = c.args.call.now.variables.now in
     let entries = c.share_core.new.nodes.entries in
-    let old = c.share_core.new.called in
-    let new = c.tell.new.self in
-    let child = c.in_ok-child-2.child in
-    let is : filled calls (core_form_of c.get.result.now) ≡ calls import variables = ap (λ core. filled calls (core_form_of core)) c.get.ensures ∙ c.in_ok-body.ensures in
-    let told : IsTold old new (import ∷ variables) child = subst (λ call. IsTold old new call child) c.in_ok-key.ensures (subst (λ made. IsTold old new c.in_ok-key.key.items made) c.in_ok-copied_child.ensures c.in_ok-tell.ensures) in
-    AreCalled-told calls orders entries old new import variables child c.in_ok-child-2.ensures.called told (subst (λ f. IsShared orders entries f child) is c.in_ok-child-2.ensures.shared.shared)
+    let made = c.in_ok-child-2 in
+    let is : filled calls (core_form_of c.get.result.now) ≡ calls import variables = ap (λ core. filled calls (core_form_of core)) c.get.ensures ∙ c.in_ok-body.ensures.stands in
+    AreCalled-told calls orders entries c.share_core.new.called c.note_child.new.called import variables made.child made.ensures.called c.in_ok-note_child.ensures
+    (subst (λ f. IsShared orders entries f made.child) is made.ensures.shared.shared)
 
-pub share_core-above_body-requires-clause-greatest : goal.share_core-above_body-requires-clause-greatest
-share_core-above_body-requires-clause-greatest g t c =
-    let calls = g.B.Bodies.calls c.args.source.now.bodies.now in
-    let arm = c.in-Bind in
-    let inner = c.get-in-None.result.now in
-    let form = form-Bind-none calls c.args.core.now arm.quant arm.order arm.variable inner
-    (arm.is ∙ ap (λ d. code.Bind arm.quant arm.order arm.variable d arm.body) c.in-None.is ∙ ap (code.Bind arm.quant arm.order arm.variable None) (sym c.get-in-None.ensures)) in
-    let scope = c.requires.scoped.0 in
-    let scoped = subst (λ f. IsInScope c.args.source.now.orders.now scope f) form c.requires.scoped.1 in
-    body_greatest c.args.source.now.orders.now c.args.nodes.now.entries c.share_core-in-None.new.nodes.entries scope arm.quant arm.order arm.variable (filled calls (core_form_of inner)) c.in_ok-body-in-None.body scoped c.in_ok-body-in-None.ensures.shared
-
-pub share_core-above_restricted-requires-clause-greatest : goal.share_core-above_restricted-requires-clause-greatest
-share_core-above_restricted-requires-clause-greatest g t c =
-    let calls = g.B.Bodies.calls c.args.source.now.bodies.now in
-    let arm = c.in-Bind in
-    let outer = c.get-in-Some.result.now in
-    let inner = c.get-in-Some-2.result.now in
-    let form = form-Bind-some calls c.args.core.now arm.quant arm.order arm.variable outer inner
-    (arm.is ∙ ap (λ d. code.Bind arm.quant arm.order arm.variable d arm.body) c.in-Some.is
-    ∙ ap (λ d. code.Bind arm.quant arm.order arm.variable (Some d) arm.body) (sym c.get-in-Some.ensures)
-    ∙ ap (code.Bind arm.quant arm.order arm.variable (Some outer)) (sym c.get-in-Some-2.ensures)) in
-    let scope = c.requires.scoped.0 in
-    let scoped = subst (λ f. IsInScope c.args.source.now.orders.now scope f) form c.requires.scoped.1 in
-    both_greatest c.args.source.now.orders.now c.args.nodes.now.entries c.share_core-in-Some.new.nodes.entries c.share_core-in-Some-2.new.nodes.entries scope arm.quant arm.order arm.variable (filled calls (core_form_of outer)) (filled calls (core_form_of inner))
-    c.in_ok-domain-in-Some.domain c.in_ok-body-in-Some.body scoped c.in_ok-domain-in-Some.ensures.shared c.in_ok-body-in-Some.ensures.shared
-
-pub share_core-returns-in-True-clause-called : goal.share_core-returns-in-True-clause-called
-share_core-returns-in-True-clause-called g t c =
-    let calls = g.B.Bodies.calls c.args.source.now.bodies.now in
-    on_ok c.number_node.result _ _ (λ child made. AreCalled-made calls _ _ _ _ _ child c.args.called.now c.requires.called made) c.number_node.ensures.made
-
-pub share_core-returns-in-True-clause-shared : goal.share_core-returns-in-True-clause-shared
-share_core-returns-in-True-clause-shared g t c =
-    let calls = g.B.Bodies.calls c.args.source.now.bodies.now in
-    let form = ap (filled calls) (ap core_form_of c.in-True.is ∙ core_form_of-True) in
-    let new = c.number_node.new.nodes.entries in
-    if_ok c.number_node.result _ _
-    (λ child made.
-    subst (λ f. IsSharedNow c.args.source.now.orders.now c.args.nodes.now.entries new f child) (sym form)
-    (shared_truth c.args.source.now.orders.now c.args.nodes.now.entries new child c.requires.nodes (subst (λ names. IsMade c.args.source.now.orders.now c.args.nodes.now.entries new True names child) c.new.ensures made)))
-    c.number_node.ensures.made
-
-pub share_core-returns-in-False-clause-called : goal.share_core-returns-in-False-clause-called
-share_core-returns-in-False-clause-called g t c =
-    let calls = g.B.Bodies.calls c.args.source.now.bodies.now in
-    on_ok c.number_node-in-False.result _ _ (λ child made. AreCalled-made calls _ _ _ _ _ child c.args.called.now c.requires.called made) c.number_node-in-False.ensures.made
-
-pub share_core-returns-in-False-clause-shared : goal.share_core-returns-in-False-clause-shared
-share_core-returns-in-False-clause-shared g t c =
-    let calls = g.B.Bodies.calls c.args.source.now.bodies.now in
-    let form = ap (filled calls) (ap core_form_of c.in-False.is ∙ core_form_of-False) in
-    let new = c.number_node-in-False.new.nodes.entries in
-    if_ok c.number_node-in-False.result _ _
-    (λ child made.
-    subst (λ f. IsSharedNow c.args.source.now.orders.now c.args.nodes.now.entries new f child) (sym form)
-    (shared_falsity c.args.source.now.orders.now c.args.nodes.now.entries new child c.requires.nodes (subst (λ names. IsMade c.args.source.now.orders.now c.args.nodes.now.entries new False names child) c.new-in-False.ensures made)))
-    c.number_node-in-False.ensures.made
-
-pub share_core-returns-in-Basic-clause-called : goal.share_core-returns-in-Basic-clause-called
-share_core-returns-in-Basic-clause-called g t c =
-    let calls = g.B.Bodies.calls c.args.source.now.bodies.now in
-    on_ok c.share_basic.result _ _ (λ child made. AreCalled-made calls _ _ _ _ _ child c.args.called.now c.requires.called made.made) c.share_basic.ensures.made
-
-pub share_core-returns-in-Basic-clause-shared : goal.share_core-returns-in-Basic-clause-shared
-share_core-returns-in-Basic-clause-shared g t c =
-    let calls = g.B.Bodies.calls c.args.source.now.bodies.now in
-    let b = c.in-Basic.basic in
-    let form = form-Basic calls c.args.core.now b c.in-Basic.is in
-    let new = c.share_basic.new.nodes.entries in
-    let scope = c.requires.scoped.0 in
-    let scoped = subst (λ f. IsInScope c.args.source.now.orders.now scope f) form c.requires.scoped.1 in
-    if_ok c.share_basic.result _ _
-    (λ child made.
-    subst (λ f. IsSharedNow c.args.source.now.orders.now c.args.nodes.now.entries new f child) (sym form)
-    (shared_basic c.args.source.now.orders.now c.args.nodes.now.entries new child c.requires.nodes b (basic_ordered c.args.source.now.orders.now scope b scoped) made))
-    c.share_basic.ensures.made
-
-pub share_core-returns-in_ok-part-in-Not-clause-called : goal.share_core-returns-in_ok-part-in-Not-clause-called
-share_core-returns-in_ok-part-in-Not-clause-called g t c =
-    let calls = g.B.Bodies.calls c.args.source.now.bodies.now in
-    on_ok c.above_one.result _ _ (λ child made. AreCalled-made calls _ _ _ _ _ child c.share_core.new.called c.in_ok-part-in-Not.ensures.called made.1.made) c.above_one.ensures.above
-
-pub share_core-returns-in_ok-part-in-Not-clause-shared : goal.share_core-returns-in_ok-part-in-Not-clause-shared
-share_core-returns-in_ok-part-in-Not-clause-shared g t c =
-    let calls = g.B.Bodies.calls c.args.source.now.bodies.now in
-    let body = c.get.result.now in
-    let form = form-Not calls c.args.core.now body (c.in-Not.is ∙ ap code.Not (sym c.get.ensures)) in
-    let mid = c.share_core.new.nodes.entries in
-    let new = c.above_one.new.nodes.entries in
-    if_ok c.above_one.result _ _
-    (λ child above.
-    subst (λ f. IsSharedNow c.args.source.now.orders.now c.args.nodes.now.entries new f child) (sym form)
-    (step_negation c.args.source.now.orders.now c.args.nodes.now.entries mid new (filled calls (core_form_of body)) c.in_ok-part-in-Not.part above.0 child c.in_ok-part-in-Not.ensures.shared above.1))
-    c.above_one.ensures.above
-
-pub share_core-returns-in_ok-part-in-Restrict-clause-called : goal.share_core-returns-in_ok-part-in-Restrict-clause-called
-share_core-returns-in_ok-part-in-Restrict-clause-called g t c =
-    let calls = g.B.Bodies.calls c.args.source.now.bodies.now in
-    on_ok c.above_one-in-Restrict.result _ _ (λ child made. AreCalled-made calls _ _ _ _ _ child c.share_core-in-Restrict.new.called c.in_ok-part-in-Restrict.ensures.called made.1.made) c.above_one-in-Restrict.ensures.above
-
-pub share_core-returns-in_ok-part-in-Restrict-clause-shared : goal.share_core-returns-in_ok-part-in-Restrict-clause-shared
-share_core-returns-in_ok-part-in-Restrict-clause-shared g t c =
-    let calls = g.B.Bodies.calls c.args.source.now.bodies.now in
-    let body = c.get-in-Restrict.result.now in
-    let form = form-Restrict calls c.args.core.now body (c.in-Restrict.is ∙ ap code.Restrict (sym c.get-in-Restrict.ensures)) in
-    let mid = c.share_core-in-Restrict.new.nodes.entries in
-    let new = c.above_one-in-Restrict.new.nodes.entries in
-    if_ok c.above_one-in-Restrict.result _ _
-    (λ child above.
-    subst (λ f. IsSharedNow c.args.source.now.orders.now c.args.nodes.now.entries new f child) (sym form)
-    (step_restrict c.args.source.now.orders.now c.args.nodes.now.entries mid new (filled calls (core_form_of body)) c.in_ok-part-in-Restrict.part above.0 child c.in_ok-part-in-Restrict.ensures.shared above.1))
-    c.above_one-in-Restrict.ensures.above
-
-pub share_core-returns-in_ok-parts-in-And-clause-called : goal.share_core-returns-in_ok-parts-in-And-clause-called
-share_core-returns-in_ok-parts-in-And-clause-called g t c =
-    let calls = g.B.Bodies.calls c.args.source.now.bodies.now in
-    on_ok c.above_each.result _ _ (λ child made. AreCalled-made calls _ _ _ _ _ child c.share_each.new.called c.in_ok-parts-in-And.ensures.called made.1.made) c.above_each.ensures.above
-
-pub share_core-returns-in_ok-parts-in-And-clause-shared : goal.share_core-returns-in_ok-parts-in-And-clause-shared
-share_core-returns-in_ok-parts-in-And-clause-shared g t c =
-    let calls = g.B.Bodies.calls c.args.source.now.bodies.now in
-    let operands = c.slice.result.now in
-    let form = form-And calls c.args.core.now operands (c.in-And.is ∙ ap code.And (sym c.slice.ensures)) in
-    let mid = c.share_each.new.nodes.entries in
-    let new = c.above_each.new.nodes.entries in
-    let parts = c.slice-in-And.result.now in
-    let now : AreSharedNow c.args.source.now.orders.now c.args.nodes.now.entries mid (filled_each calls (forms_of operands)) parts = subst (λ list. AreSharedNow c.args.source.now.orders.now c.args.nodes.now.entries mid (filled_each calls (forms_of operands)) list) (sym c.slice-in-And.ensures) c.in_ok-parts-in-And.ensures.shared in
-    if_ok c.above_each.result _ _
-    (λ child above.
-    subst (λ f. IsSharedNow c.args.source.now.orders.now c.args.nodes.now.entries new f child) (sym form)
-    (step_conjunction c.args.source.now.orders.now c.args.nodes.now.entries mid new (filled_each calls (forms_of operands)) parts above.0 child now above.1))
-    c.above_each.ensures.above
-
-pub share_core-returns-in_ok-parts-in-Or-clause-called : goal.share_core-returns-in_ok-parts-in-Or-clause-called
-share_core-returns-in_ok-parts-in-Or-clause-called g t c =
-    let calls = g.B.Bodies.calls c.args.source.now.bodies.now in
-    on_ok c.above_each-in-Or.result _ _ (λ child made. AreCalled-made calls _ _ _ _ _ child c.share_each-in-Or.new.called c.in_ok-parts-in-Or.ensures.called made.1.made) c.above_each-in-Or.ensures.above
-
-pub share_core-returns-in_ok-parts-in-Or-clause-shared : goal.share_core-returns-in_ok-parts-in-Or-clause-shared
-share_core-returns-in_ok-parts-in-Or-clause-shared g t c =
-    let calls = g.B.Bodies.calls c.args.source.now.bodies.now in
-    let operands = c.slice-in-Or.result.now in
-    let form = form-Or calls c.args.core.now operands (c.in-Or.is ∙ ap code.Or (sym c.slice-in-Or.ensures)) in
-    let mid = c.share_each-in-Or.new.nodes.entries in
-    let new = c.above_each-in-Or.new.nodes.entries in
-    let parts = c.slice-in-Or-2.result.now in
-    let now : AreSharedNow c.args.source.now.orders.now c.args.nodes.now.entries mid (filled_each calls (forms_of operands)) parts = subst (λ list. AreSharedNow c.args.source.now.orders.now c.args.nodes.now.entries mid (filled_each calls (forms_of operands)) list) (sym c.slice-in-Or-2.ensures) c.in_ok-parts-in-Or.ensures.shared in
-    if_ok c.above_each-in-Or.result _ _
-    (λ child above.
-    subst (λ f. IsSharedNow c.args.source.now.orders.now c.args.nodes.now.entries new f child) (sym form)
-    (step_disjunction c.args.source.now.orders.now c.args.nodes.now.entries mid new (filled_each calls (forms_of operands)) parts above.0 child now above.1))
-    c.above_each-in-Or.ensures.above
-
-pub share_core-returns-in_ok-right-in-Implies-clause-called : goal.share_core-returns-in_ok-right-in-Implies-clause-called
-share_core-returns-in_ok-right-in-Implies-clause-called g t c =
-    let calls = g.B.Bodies.calls c.args.source.now.bodies.now in
-    on_ok c.above_two.result _ _ (λ child made. AreCalled-made calls _ _ _ _ _ child c.share_core-in-Implies-2.new.called c.in_ok-right-in-Implies.ensures.called made.2.made) c.above_two.ensures.above
-
-pub share_core-returns-in_ok-right-in-Implies-clause-shared : goal.share_core-returns-in_ok-right-in-Implies-clause-shared
-share_core-returns-in_ok-right-in-Implies-clause-shared g t c =
-    let calls = g.B.Bodies.calls c.args.source.now.bodies.now in
-    let left = c.get-in-Implies.result.now in
-    let right = c.get-in-Implies-2.result.now in
-    let form = form-Implies calls c.args.core.now left right (c.in-Implies.is ∙ ap (λ l. code.Implies l c.in-Implies.right) (sym c.get-in-Implies.ensures) ∙ ap (code.Implies left) (sym c.get-in-Implies-2.ensures)) in
-    let between = c.share_core-in-Implies.new.nodes.entries in
-    let mid = c.share_core-in-Implies-2.new.nodes.entries in
-    let new = c.above_two.new.nodes.entries in
-    if_ok c.above_two.result _ _
-    (λ child above.
-    subst (λ f. IsSharedNow c.args.source.now.orders.now c.args.nodes.now.entries new f child) (sym form)
-    (step_implication c.args.source.now.orders.now c.args.nodes.now.entries between mid new (filled calls (core_form_of left)) (filled calls (core_form_of right)) c.in_ok-left-in-Implies.left c.in_ok-right-in-Implies.right above.0 above.1 child
-    c.in_ok-left-in-Implies.ensures.shared c.in_ok-right-in-Implies.ensures.shared above.2))
-    c.above_two.ensures.above
-
-pub share_core-returns-in_ok-right-in-Iff-clause-called : goal.share_core-returns-in_ok-right-in-Iff-clause-called
-share_core-returns-in_ok-right-in-Iff-clause-called g t c =
-    let calls = g.B.Bodies.calls c.args.source.now.bodies.now in
-    on_ok c.above_two-in-Iff.result _ _ (λ child made. AreCalled-made calls _ _ _ _ _ child c.share_core-in-Iff-2.new.called c.in_ok-right-in-Iff.ensures.called made.2.made) c.above_two-in-Iff.ensures.above
-
-pub share_core-returns-in_ok-right-in-Iff-clause-shared : goal.share_core-returns-in_ok-right-in-Iff-clause-shared
-share_core-returns-in_ok-right-in-Iff-clause-shared g t c =
-    let calls = g.B.Bodies.calls c.args.source.now.bodies.now in
-    let left = c.get-in-Iff.result.now in
-    let right = c.get-in-Iff-2.result.now in
-    let form = form-Iff calls c.args.core.now left right (c.in-Iff.is ∙ ap (λ l. code.Iff l c.in-Iff.right) (sym c.get-in-Iff.ensures) ∙ ap (code.Iff left) (sym c.get-in-Iff-2.ensures)) in
-    let between = c.share_core-in-Iff.new.nodes.entries in
-    let mid = c.share_core-in-Iff-2.new.nodes.entries in
-    let new = c.above_two-in-Iff.new.nodes.entries in
-    if_ok c.above_two-in-Iff.result _ _
-    (λ child above.
-    subst (λ f. IsSharedNow c.args.source.now.orders.now c.args.nodes.now.entries new f child) (sym form)
-    (step_equivalence c.args.source.now.orders.now c.args.nodes.now.entries between mid new (filled calls (core_form_of left)) (filled calls (core_form_of right)) c.in_ok-left-in-Iff.left c.in_ok-right-in-Iff.right above.0 above.1 child
-    c.in_ok-left-in-Iff.ensures.shared c.in_ok-right-in-Iff.ensures.shared above.2))
-    c.above_two-in-Iff.ensures.above
-
-pub share_core-returns-in_ok-body-in-None-clause-called : goal.share_core-returns-in_ok-body-in-None-clause-called
-share_core-returns-in_ok-body-in-None-clause-called g t c =
-    let calls = g.B.Bodies.calls c.args.source.now.bodies.now in
-    on_ok c.above_body.result _ _ (λ child made. AreCalled-made calls _ _ _ _ _ child c.share_core-in-None.new.called c.in_ok-body-in-None.ensures.called made.1.made) c.above_body.ensures.above
-
-pub share_core-returns-in_ok-body-in-None-clause-shared : goal.share_core-returns-in_ok-body-in-None-clause-shared
-share_core-returns-in_ok-body-in-None-clause-shared g t c =
-    let calls = g.B.Bodies.calls c.args.source.now.bodies.now in
-    let arm = c.in-Bind in
-    let inner = c.get-in-None.result.now in
-    let form = form-Bind-none calls c.args.core.now arm.quant arm.order arm.variable inner
-    (arm.is ∙ ap (λ d. code.Bind arm.quant arm.order arm.variable d arm.body) c.in-None.is ∙ ap (code.Bind arm.quant arm.order arm.variable None) (sym c.get-in-None.ensures)) in
-    let scope = c.requires.scoped.0 in
-    let scoped = subst (λ f. IsInScope c.args.source.now.orders.now scope f) form c.requires.scoped.1 in
-    let mid = c.share_core-in-None.new.nodes.entries in
-    let new = c.above_body.new.nodes.entries in
-    if_ok c.above_body.result _ _
-    (λ child above.
-    subst (λ f. IsSharedNow c.args.source.now.orders.now c.args.nodes.now.entries new f child) (sym form)
-    (step_unrestricted c.args.source.now.orders.now c.args.nodes.now.entries mid new (filled calls (core_form_of inner)) c.in_ok-body-in-None.body above.0 child c.in_ok-body-in-None.ensures.shared arm.quant arm.order arm.variable scoped.1 above.1))
-    c.above_body.ensures.above
-
-pub share_core-returns-in_ok-body-in-Some-clause-called : goal.share_core-returns-in_ok-body-in-Some-clause-called
-share_core-returns-in_ok-body-in-Some-clause-called g t c =
-    let calls = g.B.Bodies.calls c.args.source.now.bodies.now in
-    on_ok c.above_restricted.result _ _ (λ child made. AreCalled-made calls _ _ _ _ _ child c.share_core-in-Some-2.new.called c.in_ok-body-in-Some.ensures.called made.2.made) c.above_restricted.ensures.above
-
-pub share_core-returns-in_ok-body-in-Some-clause-shared : goal.share_core-returns-in_ok-body-in-Some-clause-shared
-share_core-returns-in_ok-body-in-Some-clause-shared g t c =
-    let calls = g.B.Bodies.calls c.args.source.now.bodies.now in
-    let arm = c.in-Bind in
-    let outer = c.get-in-Some.result.now in
-    let inner = c.get-in-Some-2.result.now in
-    let form = form-Bind-some calls c.args.core.now arm.quant arm.order arm.variable outer inner
-    (arm.is ∙ ap (λ d. code.Bind arm.quant arm.order arm.variable d arm.body) c.in-Some.is
-    ∙ ap (λ d. code.Bind arm.quant arm.order arm.variable (Some d) arm.body) (sym c.get-in-Some.ensures)
-    ∙ ap (code.Bind arm.quant arm.order arm.variable (Some outer)) (sym c.get-in-Some-2.ensures)) in
-    let scope = c.requires.scoped.0 in
-    let scoped = subst (λ f. IsInScope c.args.source.now.orders.now scope f) form c.requires.scoped.1 in
-    let between = c.share_core-in-Some.new.nodes.entries in
-    let mid = c.share_core-in-Some-2.new.nodes.entries in
-    let new = c.above_restricted.new.nodes.entries in
-    if_ok c.above_restricted.result _ _
-    (λ child above.
-    subst (λ f. IsSharedNow c.args.source.now.orders.now c.args.nodes.now.entries new f child) (sym form)
-    (step_restricted c.args.source.now.orders.now c.args.nodes.now.entries between mid new (filled calls (core_form_of outer)) (filled calls (core_form_of inner)) c.in_ok-domain-in-Some.domain c.in_ok-body-in-Some.body above.0 above.1 child
-    c.in_ok-domain-in-Some.ensures.shared c.in_ok-body-in-Some.ensures.shared arm.quant arm.order arm.variable scoped.1 above.2))
-    c.above_restricted.ensures.above
-
-pub share_each-share_core-requires : goal.share_each-share_core-requires
-share_each-share_core-requires g t c κs within =
-    let calls = g.B.Bodies.calls c.args.source.now.bodies.now in
-    let orders = c.args.source.now.orders.now in
-    let all = c.args.operands.now in
-    let k = c.loop-operand.operand-index in
-    let core = c.operand-item.result in
-    let invariant = c.loop-operand.invariant in
-    let scope = c.requires.scoped.0 in
-    let is : core ≡ get_or all k core = c.operand-item.is in
-    let scoped = subst (λ one. IsInScope orders scope (filled calls (core_form_of one))) (sym is) (operand_scoped calls orders scope all k core c.loop-operand-test.true c.requires.scoped.1) in
-    (search (rules, c.decreases), (within, (c.requires.ready, (invariant.0, (invariant.2.grown.nodes, (invariant.1, (scope, scoped)))))))
-
-pub share_each-loop-operand-preserved : goal.share_each-loop-operand-preserved
-share_each-loop-operand-preserved g t c =
+pub share_core-share_call-requires : goal.share_core-share_call-requires
+share_core-share_call-requires g t c κs within =
     let calls = g.B.Bodies.calls c.args.source.now.bodies.now in
     let orders = c.args.source.now.orders.now in
     let old = c.args.nodes.now.entries in
-    let new = c.share_core.new.nodes.entries in
-    let next = step_operand calls orders old c.loop-operand.nodes.entries c.args.operands.now c.loop-operand.operand-index c.operand-item.result c.loop-operand.parts
-    c.loop-operand-test.true c.operand-item.is c.loop-operand.invariant.2 new c.in_ok-share_core.field-0 c.in_ok-share_core.ensures.shared in (
-      c.in_ok-share_core.ensures.keyed,
-      c.in_ok-share_core.ensures.called,
-      subst (λ list. AreSharedNow orders old new (filled_each calls (forms_of (take (c.loop-operand.operand-index + 1) c.args.operands.now))) list) (sym c.in_ok-push.ensures.ok) next,
-    )
+    let goal_form = filled calls (core_form_of c.args.core.now) in
+    let loop = c.loop-task in
+    let mid = loop.nodes.entries in
+    let all = todo_of_each loop.tasks.items in
+    let left = todo_of_each c.pop.new.self.items in
+    let f = core_form_of c.in-Share.core.now in
+    let is = popped c.loop-task.tasks.items c.pop.new.self.items c.pop.result c.in-Some.task (share f) c.pop.ensures.items c.in-Some.is (ap todo_of c.in-Share.is) in
+    let call = c.in-Some-call_of.call in
+    let same : f ≡ imported call.import call.variables.now = c.in-Some-call_of.ensures in
+    let fit = task_fit calls orders c.args.limit old goal_form mid all left loop.parts.items loop.invariant.under_way (share f) is in
+    let scoped : IsInScope orders fit.0.0 (calls call.import call.variables.now) = subst (λ form. IsInScope orders fit.0.0 (filled calls form)) same fit.0.1 in
+    let below : CallsBelow c.args.limit (imported call.import call.variables.now) = subst (CallsBelow c.args.limit) same fit.1 in
+    let nodes = nodes_now calls orders c.args.limit old goal_form mid all loop.parts.items c.requires.nodes loop.invariant.under_way in
+    (search (rules, c.decreases), (within, (c.requires.ready, (loop.invariant.keyed, (nodes, (loop.invariant.called, ((fit.0.0, scoped), below)))))))
+
+pub share_core-loop-task-smaller-in-Continue-branch-3 : goal.share_core-loop-task-smaller-in-Continue-branch-3
+share_core-loop-task-smaller-in-Continue-branch-3 g t c =
+    let all = todo_of_each c.loop-task.tasks.items in
+    let left = todo_of_each c.pop.new.self.items in
+    let f = core_form_of c.in-Share.core.now in
+    turns_left-done all left (share f) (popped c.loop-task.tasks.items c.pop.new.self.items c.pop.result c.in-Some.task (share f) c.pop.ensures.items c.in-Some.is (ap todo_of c.in-Share.is))
+
+pub share_core-loop-task-preserved-in-Continue-branch-3 : goal.share_core-loop-task-preserved-in-Continue-branch-3
+share_core-loop-task-preserved-in-Continue-branch-3 g t c =
+    let calls = g.B.Bodies.calls c.args.source.now.bodies.now in
+    let orders = c.args.source.now.orders.now in
+    let old = c.args.nodes.now.entries in
+    let goal_form = filled calls (core_form_of c.args.core.now) in
+    let loop = c.loop-task in
+    let mid = loop.nodes.entries in
+    let all = todo_of_each loop.tasks.items in
+    let left = todo_of_each c.pop.new.self.items in
+    let f = core_form_of c.in-Share.core.now in
+    let is = popped c.loop-task.tasks.items c.pop.new.self.items c.pop.result c.in-Some.task (share f) c.pop.ensures.items c.in-Some.is (ap todo_of c.in-Share.is) in
+    let made = c.in_ok-child-in-Some-call_of in
+    let new = c.share_call.new.nodes.entries in
+    let shared : IsSharedNow orders mid new (filled calls f) made.child = subst (λ form. IsSharedNow orders mid new (filled calls form) made.child) (sym c.in-Some-call_of.ensures) made.ensures.shared in
+    record {
+      keyed = made.ensures.keyed;
+      called = made.ensures.called;
+      under_way = step_shared calls orders c.args.limit old goal_form mid all left loop.parts.items loop.invariant.under_way new f made.child c.put-in-Some-call_of.new.items.items is c.in_ok-put-in-Some-call_of.ensures shared;
+    }
+
+pub share_core-loop-task-smaller-in-Continue-branch-4 : goal.share_core-loop-task-smaller-in-Continue-branch-4
+share_core-loop-task-smaller-in-Continue-branch-4 g t c =
+    let all = todo_of_each c.loop-task.tasks.items in
+    let left = todo_of_each c.pop.new.self.items in
+    let f = core_form_of c.in-Share.core.now in
+    turns_left-plan all (todo_of_each c.plan.new.tasks.items) left f (popped c.loop-task.tasks.items c.pop.new.self.items c.pop.result c.in-Some.task (share f) c.pop.ensures.items c.in-Some.is (ap todo_of c.in-Share.is)) c.in_ok-plan-in-None.ensures
+
+pub share_core-loop-task-preserved-in-Continue-branch-4 : goal.share_core-loop-task-preserved-in-Continue-branch-4
+share_core-loop-task-preserved-in-Continue-branch-4 g t c =
+    let calls = g.B.Bodies.calls c.args.source.now.bodies.now in
+    let orders = c.args.source.now.orders.now in
+    let old = c.args.nodes.now.entries in
+    let goal_form = filled calls (core_form_of c.args.core.now) in
+    let loop = c.loop-task in
+    let mid = loop.nodes.entries in
+    let all = todo_of_each loop.tasks.items in
+    let left = todo_of_each c.pop.new.self.items in
+    let f = core_form_of c.in-Share.core.now in
+    let is = popped c.loop-task.tasks.items c.pop.new.self.items c.pop.result c.in-Some.task (share f) c.pop.ensures.items c.in-Some.is (ap todo_of c.in-Share.is) in
+    record {
+      keyed = loop.invariant.keyed;
+      called = loop.invariant.called;
+      under_way = step_plan calls orders c.args.limit old goal_form mid all left loop.parts.items loop.invariant.under_way f (todo_of_each c.plan.new.tasks.items) is c.in_ok-plan-in-None.ensures c.in-None.ensures;
+    }
+
+pub share_core-loop-task-smaller-in-Continue-branch-5 : goal.share_core-loop-task-smaller-in-Continue-branch-5
+share_core-loop-task-smaller-in-Continue-branch-5 g t c =
+    let all = todo_of_each c.loop-task.tasks.items in
+    let left = todo_of_each c.pop.new.self.items in
+    let fs = forms_of c.in-Each.operands.now in
+    turns_left-plan_each all (todo_of_each c.plan_each.new.tasks.items) left fs (popped c.loop-task.tasks.items c.pop.new.self.items c.pop.result c.in-Some.task (each fs) c.pop.ensures.items c.in-Some.is (ap todo_of c.in-Each.is)) c.in_ok-plan_each-in-Each.ensures
+
+pub share_core-loop-task-preserved-in-Continue-branch-5 : goal.share_core-loop-task-preserved-in-Continue-branch-5
+share_core-loop-task-preserved-in-Continue-branch-5 g t c =
+    let calls = g.B.Bodies.calls c.args.source.now.bodies.now in
+    let orders = c.args.source.now.orders.now in
+    let old = c.args.nodes.now.entries in
+    let goal_form = filled calls (core_form_of c.args.core.now) in
+    let loop = c.loop-task in
+    let mid = loop.nodes.entries in
+    let all = todo_of_each loop.tasks.items in
+    let left = todo_of_each c.pop.new.self.items in
+    let fs = forms_of c.in-Each.operands.now in
+    let is = popped c.loop-task.tasks.items c.pop.new.self.items c.pop.result c.in-Some.task (each fs) c.pop.ensures.items c.in-Some.is (ap todo_of c.in-Each.is) in
+    record {
+      keyed = loop.invariant.keyed;
+      called = loop.invariant.called;
+      under_way = step_plan_each calls orders c.args.limit old goal_form mid all left loop.parts.items loop.invariant.under_way fs (todo_of_each c.plan_each.new.tasks.items) is c.in_ok-plan_each-in-Each.ensures;
+    }
+
+pub share_core-share_above-requires-clause-nodes : goal.share_core-share_above-requires-clause-nodes
+share_core-share_above-requires-clause-nodes g t c =
+    let calls = g.B.Bodies.calls c.args.source.now.bodies.now in
+    let loop = c.loop-task in
+    nodes_now calls c.args.source.now.orders.now c.args.limit c.args.nodes.now.entries (filled calls (core_form_of c.args.core.now)) loop.nodes.entries (todo_of_each loop.tasks.items) loop.parts.items c.requires.nodes loop.invariant.under_way
+
+pub share_core-share_above-requires-clause-other : goal.share_core-share_above-requires-clause-other
+share_core-share_above-requires-clause-other g t c =
+    let calls = g.B.Bodies.calls c.args.source.now.bodies.now in
+    let orders = c.args.source.now.orders.now in
+    let old = c.args.nodes.now.entries in
+    let goal_form = filled calls (core_form_of c.args.core.now) in
+    let loop = c.loop-task in
+    let mid = loop.nodes.entries in
+    let all = todo_of_each loop.tasks.items in
+    let left = todo_of_each c.pop.new.self.items in
+    let f = core_form_of c.in-Above.core.now in
+    let is = popped c.loop-task.tasks.items c.pop.new.self.items c.pop.result c.in-Some.task (above f) c.pop.ensures.items c.in-Some.is (ap todo_of c.in-Above.is) in
+    (task_fit calls orders c.args.limit old goal_form mid all left loop.parts.items loop.invariant.under_way (above f) is).1
+
+pub share_core-share_above-requires-clause-scoped : goal.share_core-share_above-requires-clause-scoped
+share_core-share_above-requires-clause-scoped g t c =
+    let calls = g.B.Bodies.calls c.args.source.now.bodies.now in
+    let orders = c.args.source.now.orders.now in
+    let old = c.args.nodes.now.entries in
+    let goal_form = filled calls (core_form_of c.args.core.now) in
+    let loop = c.loop-task in
+    let mid = loop.nodes.entries in
+    let all = todo_of_each loop.tasks.items in
+    let left = todo_of_each c.pop.new.self.items in
+    let f = core_form_of c.in-Above.core.now in
+    let is = popped c.loop-task.tasks.items c.pop.new.self.items c.pop.result c.in-Some.task (above f) c.pop.ensures.items c.in-Some.is (ap todo_of c.in-Above.is) in
+    (task_fit calls orders c.args.limit old goal_form mid all left loop.parts.items loop.invariant.under_way (above f) is).0
+
+pub share_core-share_above-requires-clause-shared : goal.share_core-share_above-requires-clause-shared
+share_core-share_above-requires-clause-shared g t c =
+    let calls = g.B.Bodies.calls c.args.source.now.bodies.now in
+    let orders = c.args.source.now.orders.now in
+    let old = c.args.nodes.now.entries in
+    let goal_form = filled calls (core_form_of c.args.core.now) in
+    let loop = c.loop-task in
+    let mid = loop.nodes.entries in
+    let all = todo_of_each loop.tasks.items in
+    let left = todo_of_each c.pop.new.self.items in
+    let f = core_form_of c.in-Above.core.now in
+    let is = popped c.loop-task.tasks.items c.pop.new.self.items c.pop.result c.in-Some.task (above f) c.pop.ensures.items c.in-Some.is (ap todo_of c.in-Above.is) in
+    parts_shared calls orders c.args.limit old goal_form mid all left loop.parts.items loop.invariant.under_way f is
+
+pub share_core-loop-task-smaller : goal.share_core-loop-task-smaller
+share_core-loop-task-smaller g t c =
+    let all = todo_of_each c.loop-task.tasks.items in
+    let left = todo_of_each c.pop.new.self.items in
+    let f = core_form_of c.in-Above.core.now in
+    turns_left-done all left (above f) (popped c.loop-task.tasks.items c.pop.new.self.items c.pop.result c.in-Some.task (above f) c.pop.ensures.items c.in-Some.is (ap todo_of c.in-Above.is))
+
+pub share_core-loop-task-preserved : goal.share_core-loop-task-preserved
+share_core-loop-task-preserved g t c =
+    let calls = g.B.Bodies.calls c.args.source.now.bodies.now in
+    let orders = c.args.source.now.orders.now in
+    let old = c.args.nodes.now.entries in
+    let goal_form = filled calls (core_form_of c.args.core.now) in
+    let loop = c.loop-task in
+    let mid = loop.nodes.entries in
+    let all = todo_of_each loop.tasks.items in
+    let left = todo_of_each c.pop.new.self.items in
+    let f = core_form_of c.in-Above.core.now in
+    let is = popped c.loop-task.tasks.items c.pop.new.self.items c.pop.result c.in-Some.task (above f) c.pop.ensures.items c.in-Some.is (ap todo_of c.in-Above.is) in
+    let done = c.in_ok-share_above-in-Above.ensures in
+    let new = c.share_above.new.nodes.entries in
+    record {
+      keyed = done.keyed;
+      called = AreCalled-kept calls orders mid new loop.called done.kept loop.invariant.called;
+      under_way = step_above calls orders c.args.limit old goal_form mid all left loop.parts.items loop.invariant.under_way f is new c.share_above.new.parts.items done.above;
+    }
+
+pub share_core-returns-clause-shared : goal.share_core-returns-clause-shared
+share_core-returns-clause-shared g t c =
+    let calls = g.B.Bodies.calls c.args.source.now.bodies.now in
+    let orders = c.args.source.now.orders.now in
+    let old = c.args.nodes.now.entries in
+    let mid = c.loop-task.nodes.entries in
+    let goal_form = filled calls (core_form_of c.args.core.now) in
+    let parts = c.loop-task.parts.items in
+    let none = in_none c.pop.result _ _ c.pop.ensures.cases c.in_default.not-Some in
+    let zero : length c.loop-task.tasks.items ≡ 0 = omega (arith, none.0) in
+    let now : IsUnderWay calls orders c.args.limit old mid goal_form [] parts = subst (λ list. IsUnderWay calls orders c.args.limit old mid goal_form (todo_of_each list) parts) (no_items c.loop-task.tasks.items zero) c.loop-task.invariant.under_way in
+    let end = ends calls orders c.args.limit old goal_form mid parts now in
+    let is : end.0 ≡ c.take_last.result = (snoc_same [] c.take_last.new.items.items end.0 c.take_last.result (sym end.1 ∙ c.take_last.ensures)).1 in
+    subst (IsSharedNow orders old mid goal_form) is end.2

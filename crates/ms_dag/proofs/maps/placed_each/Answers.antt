@@ -1,7 +1,7 @@
 use Rattle.std.proofs.Common.{Contains, All, sym, subst}
 use Rattle.std.proofs.lemmas.List.Elements.{all_zip_more}
 use Rattle.ms_dag.specs.declared.node.Child.{Child}
-use Rattle.ms_dag.specs.Maps.{IsPlaced}
+use Rattle.ms_dag.specs.inner.Maps.{IsPlaced}
 use Rattle.ms_dag.proofs.Members.{All-map_of}
 use Rattle.ms_dag.proofs.maps.placed_each.Goals as goal
 

@@ -1,5 +1,5 @@
 use Rattle.std.proofs.Common.{take}
-use Rattle.ms_dag.specs.Maps.{AreTheSameIn}
+use Rattle.ms_dag.specs.inner.Maps.{AreTheSameIn}
 use Rattle.ms_dag.proofs.maps.placed_each.Given as goal
 
 abbrev pub invariant-loop-child : goal.invariant-loop-child

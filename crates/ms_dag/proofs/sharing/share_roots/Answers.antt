@@ -1,5 +1,5 @@
 use Rattle.std.proofs.Common.{◌+◌, take, sym, subst}
-use Rattle.ms_dag.specs.Shared.{AreRootsNow}
+use Rattle.ms_dag.specs.inner.Shared.{AreRootsNow}
 use Rattle.ms_dag.proofs.RootSteps.{step_root}
 use Rattle.ms_dag.proofs.sharing.share_roots.Goals as goal
 

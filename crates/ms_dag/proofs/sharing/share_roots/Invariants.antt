@@ -1,7 +1,7 @@
 use Rattle.std.proofs.Common.{take}
-use Rattle.ms_dag.specs.Keys.{IsKeyed}
-use Rattle.ms_dag.specs.Memo.{AreCalled}
-use Rattle.ms_dag.specs.Shared.{AreRootsNow}
+use Rattle.ms_dag.specs.inner.Keys.{IsKeyed}
+use Rattle.ms_dag.specs.inner.Memo.{AreCalled}
+use Rattle.ms_dag.specs.inner.Shared.{AreRootsNow}
 use Rattle.ms_dag.proofs.sharing.share_roots.Given as goal
 
 abbrev pub invariant-loop-root : goal.invariant-loop-root

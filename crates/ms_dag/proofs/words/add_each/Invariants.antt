@@ -1,5 +1,5 @@
 use Rattle.std.proofs.Common.{◌≡◌, ◌++◌, ◌∷◌, length, drop}
-use Rattle.ms_dag.specs.Words.{words_of_each}
+use Rattle.ms_dag.specs.inner.Words.{words_of_each}
 use Rattle.ms_dag.proofs.words.add_each.Given as goal
 
 abbrev pub invariant-loop-child : goal.invariant-loop-child

@@ -1,5 +1,5 @@
 use Rattle.std.proofs.Common.{◌≡◌, ◌≤◌, take}
-use Rattle.ms_logic.specs.Content.{count_of}
+use Rattle.ms_logic_words.specs.Content.{count_of}
 use Rattle.ms_dfa.specs.Automaton.{variables_of}
 use Rattle.ms_dfa.specs.Part.{has_value}
 use Rattle.ms_dfa.proofs.count.count_in.Given as goal

@@ -1,6 +1,6 @@
 use Rattle.std.proofs.Common.{inl, inr}
 use Rattle.ms_text.proofs.Fronts.{run_passes}
-use Rattle.ms_dfafile.specs.Reading.{is_field_byte}
+use Rattle.ms_dfafile.specs.inner.Reading.{is_field_byte}
 use Rattle.ms_dfafile.proofs.FieldLemmas.{no_field}
 use Rattle.ms_dfafile.proofs.field.field.Goals as goal
 use Rattle.ms_dfafile.proofs.field.field.Goals.{else-length-bytes-via-then-length-bytes+else-bytes-length, else-length-bytes-via-else-length-bytes}

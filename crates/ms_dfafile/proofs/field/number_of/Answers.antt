@@ -2,7 +2,7 @@ use Rattle.std.proofs.Common.{IsUtf8, sym, subst, ◌∙◌}
 use Rattle.std.specs.Fmt.{decimal}
 use Rattle.std.specs.Str.Parse.{ParsesUnsigned}
 use Rattle.std.proofs.lemmas.Bool.{false≢true}
-use Rattle.ms_dfafile.specs.Reading.{BeginsNumber, Decodes, IsSmall}
+use Rattle.ms_dfafile.specs.inner.Reading.{BeginsNumber, Decodes, IsSmall}
 use Rattle.ms_dfafile.proofs.NumberLemmas.{decimal-begins, decimal-text, parsed}
 use Rattle.ms_dfafile.proofs.field.number_of.Goals as goal
 

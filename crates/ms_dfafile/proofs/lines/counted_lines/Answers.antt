@@ -1,6 +1,6 @@
 use Rattle.std.proofs.Common.{Err, ap, arith}
 use Rattle.std.specs.List.{flat_map}
-use Rattle.ms_dfafile.specs.Reading.{AreLines}
+use Rattle.ms_dfafile.specs.inner.Reading.{AreLines}
 use Rattle.ms_dfafile.proofs.ReadingLemmas.{Finds-fault, line_missing}
 use Rattle.ms_dfafile.proofs.lines.counted_lines.Goals as goal
 

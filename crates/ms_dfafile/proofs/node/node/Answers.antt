@@ -1,6 +1,6 @@
 use Rattle.std.proofs.Common.{ℕ, ◌++◌, append_assoc, ◌∙◌, refl}
 use Rattle.std.specs.Fmt.{decimal}
-use Rattle.ms_dfafile.specs.Reading.{IsSmall, IsSmallRef}
+use Rattle.ms_dfafile.specs.inner.Reading.{IsSmall, IsSmallRef}
 use Rattle.ms_dfafile.specs.Spelling.{field, line, ref_text}
 use Rattle.ms_dfafile.proofs.LineLemmas.{IsSmallFront, front-one_form, front_text}
 use Rattle.ms_dfafile.proofs.NumberLemmas.{number-one_form}

@@ -1,8 +1,8 @@
 use Rattle.std.proofs.Common.{◌≢◌, AllPairs, sym, subst, ◌∙◌}
 use Rattle.std.proofs.lemmas.Bool.{false≢true}
-use Rattle.ms_canonical.specs.Files.{content_of_file}
+use Rattle.ms_dfa.specs.Files.{content_of_file}
 use Rattle.ms_dfa.specs.declared.plain.Plain.{Plain}
-use Rattle.ms_logic.specs.Content.{IsContent}
+use Rattle.ms_logic_words.specs.Content.{IsContent}
 use Rattle.ms_dfafile.specs.File.{names_of}
 use Rattle.ms_dfafile.proofs.FileLemmas.{file-from, no_content, same_content}
 use Rattle.ms_dfafile.proofs.PartsLemmas.{content_text-spelled}

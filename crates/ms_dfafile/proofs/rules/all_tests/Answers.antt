@@ -2,9 +2,9 @@ use Rattle.std.proofs.Common.{◌≡◌, ℕ, ◌+◌, ◌<◌, List, length, ge
 use Rattle.std.proofs.lemmas.Option.{slice_get-get_or, slice_get_within}
 use Rattle.ms_arena.specs.declared.node.Node.{Node}
 use Rattle.ms_arena.specs.declared.node.Ref.TheVariants.{Leaf}
-use Rattle.ms_canonical.specs.Files.{content_of_file}
+use Rattle.ms_dfa.specs.Files.{content_of_file}
 use Rattle.ms_dfafile.specs.declared.tested.Tests.{Tests}
-use Rattle.ms_dfafile.specs.Rules.{FindsNodeTests, IsPlacedNode, KnowsTests}
+use Rattle.ms_dfafile.specs.inner.Rules.{FindsNodeTests, IsPlacedNode, KnowsTests}
 use Rattle.ms_dfafile.proofs.RulesLemmas.{HasTested, HasTested-more}
 use Rattle.ms_dfafile.proofs.rules.all_tests.Goals as goal
 

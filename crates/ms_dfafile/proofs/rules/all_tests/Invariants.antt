@@ -1,4 +1,4 @@
-use Rattle.ms_canonical.specs.Files.{content_of_file}
+use Rattle.ms_dfa.specs.Files.{content_of_file}
 use Rattle.ms_dfafile.proofs.RulesLemmas.{HasTested}
 use Rattle.ms_dfafile.proofs.rules.all_tests.Given as goal
 

@@ -1,7 +1,7 @@
 use Rattle.std.proofs.Common.{◌≡◌, ℕ, ◌<◌, slice_get, Some}
-use Rattle.ms_canonical.specs.Files.{content_of_file}
+use Rattle.ms_dfa.specs.Files.{content_of_file}
 use Rattle.ms_dfa.specs.declared.plain.FileState.{FileState}
-use Rattle.ms_dfafile.specs.Rules.{IsNext}
+use Rattle.ms_dfafile.specs.inner.Rules.{IsNext}
 use Rattle.ms_dfafile.proofs.rules.are_next.Given as goal
 
 -- the states so far have references as a content has them

@@ -1,5 +1,5 @@
 use Rattle.std.proofs.Common.{arith}
-use Rattle.ms_canonical.specs.Files.{content_of_file}
+use Rattle.ms_dfa.specs.Files.{content_of_file}
 use Rattle.ms_dfafile.proofs.RulesLemmas.{content-from, length-states, next-in_file, next-of, next-of_file, nonempty}
 use Rattle.ms_dfafile.proofs.rules.are_references.Goals as goal
 

@@ -1,7 +1,7 @@
 use Rattle.std.proofs.Common.{sym, subst}
 use Rattle.std.proofs.lemmas.Bool.{false≢true}
-use Rattle.ms_canonical.specs.Files.{content_of_file}
-use Rattle.ms_dfafile.specs.Rules.{FindsAllTests, KnowsTests}
+use Rattle.ms_dfa.specs.Files.{content_of_file}
+use Rattle.ms_dfafile.specs.inner.Rules.{FindsAllTests, KnowsTests}
 use Rattle.ms_dfafile.proofs.RulesLemmas.{nodes-of}
 use Rattle.ms_dfafile.proofs.rules.is_content.Goals as goal
 

@@ -1,5 +1,5 @@
 use Rattle.std.proofs.Common.{length}
-use Rattle.ms_canonical.specs.Files.{content_of_file}
+use Rattle.ms_dfa.specs.Files.{content_of_file}
 use Rattle.ms_dfafile.proofs.RulesLemmas.{start-told}
 use Rattle.ms_dfafile.proofs.rules.is_start.Goals as goal
 

@@ -1,7 +1,7 @@
 use Rattle.std.proofs.Common.{length, arith}
 use Rattle.std.proofs.lemmas.Option.{slice_get_within}
-use Rattle.ms_logic.specs.Content.{is_in_letters, is_truth_value}
-use Rattle.ms_canonical.specs.Files.{content_of_file}
+use Rattle.ms_logic_words.specs.Content.{is_in_letters, is_truth_value}
+use Rattle.ms_dfa.specs.Files.{content_of_file}
 use Rattle.ms_dfafile.proofs.RulesLemmas.{length-placed, node-tests, valid-named}
 use Rattle.ms_dfafile.proofs.rules.node_tests.Goals as goal
 

@@ -1,5 +1,5 @@
 use Rattle.std.proofs.Common.{◌≡◌, ◌∙◌, rules}
-use Rattle.ms_dfafile.specs.Parts.{content_text}
+use Rattle.ms_dfafile.specs.inner.Parts.{content_text}
 use Rattle.ms_dfafile.proofs.PartsLemmas.{content_text-spelled}
 use Rattle.ms_dfafile.proofs.writing.write.Goals as goal
 

@@ -1,8 +1,8 @@
 use Rattle.std.proofs.Common.{◌-◌, ℕ, nat_eq, List, set, None, Some, subst, ◌∙◌, arith}
 use Rattle.std.proofs.lemmas.List.{get_or-set_same}
 use Rattle.ms_arena.specs.declared.node.Ref.{Ref}
-use Rattle.ms_diagram.specs.Notes.{NotesOnly}
-use Rattle.ms_diagram.specs.Places.{place_entries}
+use Rattle.ms_diagram.specs.inner.Notes.{NotesOnly}
+use Rattle.ms_diagram.specs.inner.Places.{place_entries}
 use Rattle.ms_diagram.proofs.PlaceLemmas.{lookup-slot, NotesOnly-set}
 use Rattle.ms_diagram.proofs.places.put.Goals as goal
 

@@ -1,6 +1,6 @@
 use Rattle.std.proofs.Common.{[], ◌∷◌, inl, inr, refl, arith}
-use Rattle.ms_include.specs.Examples.{mark, include, plain}
-use Rattle.ms_include.specs.Examples as files
+use Rattle.ms_include.specs.inner.Examples.{mark, include, plain}
+use Rattle.ms_include.specs.inner.Examples as files
 use Rattle.ms_include.proofs.examples.example_loads.Goals as goal
 
 pub returns-clause-one_file : goal.returns-clause-one_file

@@ -1,6 +1,6 @@
 use Rattle.std.proofs.Common.{[], ◌∷◌, inl, inr, refl, arith}
-use Rattle.ms_include.specs.Examples.{mark, include, plain, headed}
-use Rattle.ms_include.specs.Examples as files
+use Rattle.ms_include.specs.inner.Examples.{mark, include, plain, headed}
+use Rattle.ms_include.specs.inner.Examples as files
 use Rattle.ms_include.proofs.examples.example_refused_loads.Goals as goal
 
 pub returns-clause-cycle : goal.returns-clause-cycle

@@ -1,7 +1,7 @@
 use Rattle.std.proofs.Common.{ℕ, List, ◌++◌, ◌∷◌, [], map, refl, sym, ap, ◌∙◌}
 use Rattle.std.proofs.lemmas.Result.{IfOk-weaker}
-use Rattle.ms_logic.specs.CoreForm.{CoreForm, core_form_of, restrict}
-use Rattle.ms_logic.specs.Spread.{conjunction_of, own_names, restrictions_of, spread_under}
+use Rattle.ms_logic_core.specs.CoreForm.{CoreForm, core_form_of, restrict}
+use Rattle.ms_logic_core.specs.Spread.{conjunction_of, own_names, restrictions_of, spread_under}
 use Rattle.ms_logic.specs.View.{declaration_of, formula_of}
 use Rattle.ms_logic.specs.declared.checked.Predicate.{Predicate}
 use Rattle.ms_lower.specs.declared.tables.Tables.{Tables}
@@ -9,7 +9,7 @@ use Rattle.ms_lower.specs.Bodies.{body_in, callees_before}
 use Rattle.ms_lower.specs.Callees.{callees_in, spread_in}
 use Rattle.ms_lower.specs.Calling.{free_at, names_at}
 use Rattle.ms_lower.specs.Numbering.{numbering_of, renumbered}
-use Rattle.ms_lower.specs.Scope.{all_named, names_in}
+use Rattle.ms_lower.specs.inner.Scope.{all_named, names_in}
 use Rattle.ms_lower.proofs.Callees.{before_same, numbering_same}
 use Rattle.ms_lower.proofs.Lowering.{body_lowered}
 use Rattle.ms_lower.proofs.NamedParams.{named_names}

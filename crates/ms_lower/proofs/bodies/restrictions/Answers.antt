@@ -1,9 +1,9 @@
 use Rattle.std.proofs.Common.{◌++◌, ◌∷◌, [], map, ap, ◌∙◌, arith}
 use Rattle.ms_logic.specs.View.{formula_of}
-use Rattle.ms_logic.specs.CoreForm.{core_form_of, restrict}
+use Rattle.ms_logic_core.specs.CoreForm.{core_form_of, restrict}
 use Rattle.ms_lower.specs.Callees.{callees_in, spread_in}
 use Rattle.ms_lower.specs.Numbering.{numbering_of}
-use Rattle.ms_lower.specs.Scope.{names_in}
+use Rattle.ms_lower.specs.inner.Scope.{names_in}
 use Rattle.ms_lower.proofs.Operands.{restriction-more, restriction-none}
 use Rattle.ms_lower.proofs.bodies.restrictions.Goals as goal
 use Rattle.ms_lower.proofs.bodies.restrictions.Goals.{in-Some+in_ok-core-in-Some+in_ok-restricted-in-Some+in_ok-push-in-Some, in-None}

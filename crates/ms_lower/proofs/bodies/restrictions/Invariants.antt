@@ -1,10 +1,10 @@
 use Rattle.std.proofs.Common.{◌≡◌, map, take}
-use Rattle.ms_logic.specs.CoreForm.{core_form_of}
-use Rattle.ms_logic.specs.Spread.{restrictions_of}
+use Rattle.ms_logic_core.specs.CoreForm.{core_form_of}
+use Rattle.ms_logic_core.specs.Spread.{restrictions_of}
 use Rattle.ms_logic.specs.View.{declaration_of}
 use Rattle.ms_lower.specs.Callees.{callees_in}
 use Rattle.ms_lower.specs.Numbering.{numbering_of, renumbered}
-use Rattle.ms_lower.specs.Scope.{names_in}
+use Rattle.ms_lower.specs.inner.Scope.{names_in}
 use Rattle.ms_lower.proofs.bodies.restrictions.Given as goal
 
 abbrev pub invariant-loop-param : goal.invariant-loop-param

@@ -1,9 +1,9 @@
 use Rattle.std.proofs.Common.{map, sym, ap, ◌∙◌}
 use Rattle.std.proofs.lemmas.Result.{IfOk-weaker}
-use Rattle.ms_logic.specs.CoreForm.{core_form_of, imported, restrict}
-use Rattle.ms_logic.proofs.Views.{core_form_of-Import}
+use Rattle.ms_logic_core.specs.CoreForm.{core_form_of, imported, restrict}
+use Rattle.ms_logic_core.proofs.CoreViews.{core_form_of-Import}
 use Rattle.ms_lower.specs.Numbering.{number_at, numbering_of, renumbered}
-use Rattle.ms_lower.specs.Scope.{names_in}
+use Rattle.ms_lower.specs.inner.Scope.{names_in}
 use Rattle.ms_lower.proofs.Callees.{call_numbered, callee_nowhere}
 use Rattle.ms_lower.proofs.calls.call.Goals as goal
 

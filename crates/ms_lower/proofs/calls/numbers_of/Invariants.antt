@@ -1,6 +1,6 @@
 use Rattle.std.proofs.Common.{◌≡◌, map, take}
 use Rattle.ms_lower.specs.Numbering.{number_at}
-use Rattle.ms_lower.specs.Scope.{names_in}
+use Rattle.ms_lower.specs.inner.Scope.{names_in}
 use Rattle.ms_lower.proofs.calls.numbers_of.Given as goal
 
 abbrev pub invariant-loop-param : goal.invariant-loop-param

@@ -1,6 +1,6 @@
 use Rattle.std.proofs.Common.{◌≡◌, [], min, refl, ap, ◌∙◌}
 use Rattle.ms_logic.specs.View.{formula_of}
-use Rattle.ms_logic.specs.CoreForm.{core_form_of}
+use Rattle.ms_logic_core.specs.CoreForm.{core_form_of}
 use Rattle.ms_lower.specs.declared.tables.Tables.{Tables}
 use Rattle.ms_lower.specs.NumberedRoots.{seen_over, with_orders}
 use Rattle.ms_lower.proofs.SeenVariables.{first_free_above, root_made}

@@ -1,11 +1,11 @@
 use Rattle.std.proofs.Common.{◌∷◌, [], ◌++◌, map, sym, ap, ◌∙◌, arith}
 use Rattle.std.specs.Option.{option_map}
-use Rattle.ms_logic.specs.Size.{extent_under, extents_of_arguments, extents_of_each, extents_of_restriction}
+use Rattle.ms_logic_core.specs.Size.{extent_under, extents_of_arguments, extents_of_each, extents_of_restriction}
 use Rattle.ms_logic.specs.View.{argument_of, arguments, binding_of, formula_of, forms, restriction}
 use Rattle.ms_logic.proofs.Views.{formula_of-And, formula_of-Or, formula_of-Implies, formula_of-Iff, formula_of-Let, formula_of-Call}
 use Rattle.ms_lower.proofs.Trees.{formula_of-Bind}
 use Rattle.ms_lower.specs.Counted.{counted}
-use Rattle.ms_lower.specs.Extents.{known_extents}
+use Rattle.ms_lower.specs.inner.Extents.{known_extents}
 use Rattle.ms_lower.proofs.Counting.{beyond, node, pair}
 use Rattle.ms_lower.proofs.Positive.{form_positive}
 use Rattle.ms_lower.proofs.extents.+formulas.Goals as goal

@@ -1,8 +1,8 @@
 use Rattle.std.proofs.Common.{◌≡◌, drop, map}
-use Rattle.ms_logic.specs.Size.{extents_of_arguments, extents_of_each}
+use Rattle.ms_logic_core.specs.Size.{extents_of_arguments, extents_of_each}
 use Rattle.ms_logic.specs.View.{argument_of, arguments, binding_of, formula_of, forms}
 use Rattle.ms_lower.specs.Counted.{both_counts, counted}
-use Rattle.ms_lower.specs.Extents.{known_extents}
+use Rattle.ms_lower.specs.inner.Extents.{known_extents}
 use Rattle.ms_lower.proofs.Counting.{IsCapped}
 use Rattle.ms_lower.proofs.extents.+formulas.Given as goal
 

@@ -1,8 +1,8 @@
-use Rattle.ms_logic.specs.Spread.{numbers_and_sets}
+use Rattle.ms_logic_core.specs.Spread.{numbers_and_sets}
 use Rattle.ms_logic.specs.View.{argument_of, arguments}
-use Rattle.ms_lower.specs.Given.{values_of, variables_of}
+use Rattle.ms_lower.specs.inner.Given.{values_of, variables_of}
 use Rattle.ms_lower.specs.Numbering.{numbering_of}
-use Rattle.ms_lower.specs.Scope.{names_in}
+use Rattle.ms_lower.specs.inner.Scope.{names_in}
 use Rattle.ms_lower.proofs.Entering.{number_entered}
 use Rattle.ms_lower.proofs.given.number_arguments.Goals as goal
 

@@ -1,9 +1,9 @@
 use Rattle.std.proofs.Common.{drop}
-use Rattle.ms_logic.specs.Spread.{numbers_and_sets}
+use Rattle.ms_logic_core.specs.Spread.{numbers_and_sets}
 use Rattle.ms_logic.specs.View.{arguments}
-use Rattle.ms_lower.specs.Given.{EntersBefore, values_of, variables_of}
+use Rattle.ms_lower.specs.inner.Given.{EntersBefore, values_of, variables_of}
 use Rattle.ms_lower.specs.Numbering.{numbering_of}
-use Rattle.ms_lower.specs.Scope.{names_in}
+use Rattle.ms_lower.specs.inner.Scope.{names_in}
 use Rattle.ms_lower.proofs.given.number_arguments.Given as goal
 
 abbrev pub invariant-loop-i : goal.invariant-loop-i

@@ -1,7 +1,7 @@
 use Rattle.std.proofs.Common.{◌++◌, ap, ◌∙◌}
 use Rattle.std.specs.Option.{option_to_list}
-use Rattle.ms_logic.specs.CoreForm.{core_form_of}
-use Rattle.ms_lower.specs.Given.{below_all}
+use Rattle.ms_logic_core.specs.CoreForm.{core_form_of}
+use Rattle.ms_lower.specs.inner.Given.{below_all}
 use Rattle.ms_lower.proofs.ValueLists.{below_last}
 use Rattle.ms_lower.proofs.given.over_all.Goals as goal
 

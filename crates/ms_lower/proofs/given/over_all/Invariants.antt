@@ -1,6 +1,6 @@
 use Rattle.std.proofs.Common.{◌≡◌, length}
-use Rattle.ms_logic.specs.CoreForm.{core_form_of}
-use Rattle.ms_lower.specs.Given.{below_all}
+use Rattle.ms_logic_core.specs.CoreForm.{core_form_of}
+use Rattle.ms_lower.specs.inner.Given.{below_all}
 use Rattle.ms_lower.proofs.given.over_all.Given as goal
 
 abbrev pub invariant-loop-last : goal.invariant-loop-last

@@ -1,9 +1,9 @@
 use Rattle.std.proofs.Common.{map, ap, ◌∙◌}
-use Rattle.ms_logic.specs.Spread.{own_names, restrictions_of, spread_each}
+use Rattle.ms_logic_core.specs.Spread.{own_names, restrictions_of, spread_each}
 use Rattle.ms_logic.specs.View.{formula_of, forms, globals_from}
 use Rattle.ms_lower.specs.Callees.{callees_in}
 use Rattle.ms_lower.specs.Numbering.{numbering_of, renumbered}
-use Rattle.ms_logic.specs.CoreForm.{core_form_of}
+use Rattle.ms_logic_core.specs.CoreForm.{core_form_of}
 use Rattle.ms_lower.proofs.MainRoot.{main_made}
 use Rattle.ms_lower.proofs.main_root.main_root.Goals as goal
 

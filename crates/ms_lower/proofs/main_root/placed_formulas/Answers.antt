@@ -1,9 +1,9 @@
 use Rattle.std.proofs.Common.{◌++◌, ◌∷◌, [], ap, ◌∙◌, arith}
-use Rattle.ms_logic.specs.Spread.{own_names}
+use Rattle.ms_logic_core.specs.Spread.{own_names}
 use Rattle.ms_logic.specs.View.{formula_of}
 use Rattle.ms_lower.specs.Callees.{callees_in, spread_in}
 use Rattle.ms_lower.specs.Numbering.{numbering_of}
-use Rattle.ms_lower.specs.Scope.{names_in}
+use Rattle.ms_lower.specs.inner.Scope.{names_in}
 use Rattle.ms_lower.proofs.MainRoot.{placed-more}
 use Rattle.ms_lower.proofs.main_root.placed_formulas.Goals as goal
 

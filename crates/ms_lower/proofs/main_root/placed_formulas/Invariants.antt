@@ -1,6 +1,6 @@
 use Rattle.std.proofs.Common.{◌≡◌, [], map, take}
-use Rattle.ms_logic.specs.CoreForm.{core_form_of}
-use Rattle.ms_logic.specs.Spread.{own_names, spread_each}
+use Rattle.ms_logic_core.specs.CoreForm.{core_form_of}
+use Rattle.ms_logic_core.specs.Spread.{own_names, spread_each}
 use Rattle.ms_logic.specs.View.{formula_of, forms}
 use Rattle.ms_lower.specs.Callees.{callees_in}
 use Rattle.ms_lower.specs.Numbering.{numbering_of, renumbered}

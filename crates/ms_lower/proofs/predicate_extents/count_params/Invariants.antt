@@ -1,8 +1,8 @@
 use Rattle.std.proofs.Common.{◌≡◌, drop, map}
-use Rattle.ms_logic.specs.Size.{extents_of_restrictions}
+use Rattle.ms_logic_core.specs.Size.{extents_of_restrictions}
 use Rattle.ms_logic.specs.View.{declaration_of}
 use Rattle.ms_lower.specs.Counted.{both_counts, counted, deepest}
-use Rattle.ms_lower.specs.Extents.{known_extents}
+use Rattle.ms_lower.specs.inner.Extents.{known_extents}
 use Rattle.ms_lower.proofs.Counting.{IsCapped}
 use Rattle.ms_lower.proofs.predicate_extents.count_params.Given as goal
 

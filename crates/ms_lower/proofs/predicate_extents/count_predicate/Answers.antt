@@ -1,11 +1,11 @@
 use Rattle.std.proofs.Common.{◌∷◌, [], ◌++◌, map, ap, ◌∙◌}
 use Rattle.std.specs.Prelude.{Option}
-use Rattle.ms_logic.specs.Size.{extent_under, extents_of_restrictions}
+use Rattle.ms_logic_core.specs.Size.{extent_under, extents_of_restrictions}
 use Rattle.ms_logic.specs.View.{declaration_of, formula_of}
 use Rattle.ms_lower.specs.declared.called.Called.{Called}
 use Rattle.ms_lower.specs.declared.counted.Counted.{Counted}
 use Rattle.ms_lower.specs.Counted.{counted, deepest}
-use Rattle.ms_lower.specs.Extents.{known_extents}
+use Rattle.ms_lower.specs.inner.Extents.{known_extents}
 use Rattle.ms_lower.proofs.Counting.{pair}
 use Rattle.ms_lower.proofs.predicate_extents.count_predicate.Goals as goal
 

@@ -1,8 +1,8 @@
 use Rattle.std.proofs.Common.{◌∷◌, [], ◌++◌, ◌+◌, length, map, take, sym, ap, subst, ◌∙◌}
 use Rattle.std.proofs.lemmas.List.{length-append}
-use Rattle.ms_logic.specs.Size.{extents_of}
+use Rattle.ms_logic_core.specs.Size.{extents_of}
 use Rattle.ms_logic.specs.View.{predicate_of}
-use Rattle.ms_lower.specs.Extents.{HasEntries}
+use Rattle.ms_lower.specs.inner.Extents.{HasEntries}
 use Rattle.ms_lower.proofs.Entries.{entries-more, extents-more}
 use Rattle.ms_lower.proofs.predicate_extents.count_predicates.Goals as goal
 

@@ -1,8 +1,8 @@
 use Rattle.std.proofs.Common.{ap, ◌∙◌}
-use Rattle.ms_logic.specs.CoreForm.{core_form_of, imported}
-use Rattle.ms_logic.proofs.Views.{core_form_of-Import}
+use Rattle.ms_logic_core.specs.CoreForm.{core_form_of, imported}
+use Rattle.ms_logic_core.proofs.CoreViews.{core_form_of-Import}
 use Rattle.ms_lower.specs.Callees.{callees_in}
-use Rattle.ms_lower.specs.Scope.{names_in}
+use Rattle.ms_lower.specs.inner.Scope.{names_in}
 use Rattle.ms_lower.proofs.Callees.{import_numbered, imported_in}
 use Rattle.ms_lower.proofs.relations.import.Goals as goal
 

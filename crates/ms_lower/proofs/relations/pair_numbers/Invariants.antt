@@ -1,6 +1,6 @@
 use Rattle.std.proofs.Common.{◌≡◌, map, take}
 use Rattle.ms_lower.specs.Numbering.{numbering_of}
-use Rattle.ms_lower.specs.Scope.{names_in}
+use Rattle.ms_lower.specs.inner.Scope.{names_in}
 use Rattle.ms_lower.proofs.relations.pair_numbers.Given as goal
 
 abbrev pub invariant-loop-pair : goal.invariant-loop-pair

@@ -1,5 +1,5 @@
 use Rattle.std.proofs.Common.{◌++◌, map, take}
-use Rattle.ms_lower.specs.Extents.{known_extents}
+use Rattle.ms_lower.specs.inner.Extents.{known_extents}
 use Rattle.ms_lower.specs.TooDeep.{IsFound, part_of_formula, part_of_global}
 use Rattle.ms_lower.proofs.source_extents.count_source.Given as goal
 

@@ -1,6 +1,6 @@
 use Rattle.std.proofs.Common.{◌∷◌, [], map, sym, ap, ◌∙◌, arith}
 use Rattle.std.proofs.lemmas.List.{drop_all}
-use Rattle.ms_logic.specs.Size.{extent_of_set, extents_of_elements}
+use Rattle.ms_logic_core.specs.Size.{extent_of_set, extents_of_elements}
 use Rattle.ms_logic.specs.View.{set_term_of, term_of, terms}
 use Rattle.ms_logic.proofs.Views.{set_term_of-Literal, set_term_of-Union, set_term_of-Inter, set_term_of-Minus}
 use Rattle.ms_lower.specs.Counted.{counted, both_counts}

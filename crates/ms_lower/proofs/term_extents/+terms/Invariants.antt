@@ -1,5 +1,5 @@
 use Rattle.std.proofs.Common.{◌≡◌, drop, map}
-use Rattle.ms_logic.specs.Size.{extents_of_elements}
+use Rattle.ms_logic_core.specs.Size.{extents_of_elements}
 use Rattle.ms_logic.specs.View.{term_of, terms}
 use Rattle.ms_lower.specs.Counted.{both_counts, counted}
 use Rattle.ms_lower.proofs.Counting.{IsCapped}

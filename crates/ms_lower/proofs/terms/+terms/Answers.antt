@@ -1,9 +1,27 @@
-use Rattle.std.proofs.Common.{◌≡◌, ◌+◌, ◌-◌, ◌/◌, length, take, drop, ap, ◌∙◌, arith}
+use Rattle.std.proofs.Common.{◌≡◌, ◌+◌, ◌-◌, ◌/◌, ◌<◌, length, take, drop, refl, ap, ◌∙◌, arith}
 use Rattle.std.proofs.lemmas.List.{length-drop, take_all}
 use Rattle.ms_lower.specs.Numbering.{numbering_of}
-use Rattle.ms_lower.specs.Scope.{names_in}
+use Rattle.ms_lower.specs.inner.Scope.{names_in}
+use Rattle.ms_lower.specs.inner.Left.{left_of_elements}
 use Rattle.ms_lower.proofs.Elements.{elements_defined, literal_defined}
+use Rattle.ms_lower.proofs.Left.{first_half_falls, second_half_falls}
 use Rattle.ms_lower.proofs.terms.+terms.Goals as goal
+
+pub define_elements-define_elements-requires : goal.define_elements-define_elements-requires
+define_elements-define_elements-requires t c =
+    let ts = c.args.elements.now in
+    let half = length ts - length ts / 2 in
+    let falls : left_of_elements (take half ts) < left_of_elements ts = first_half_falls ts (take half ts) half (omega arith) refl in
+    (omega arith, tt)
+
+pub define_elements-define_elements-requires-2 : goal.define_elements-define_elements-requires-2
+define_elements-define_elements-requires-2 t c =
+    let ts = c.args.elements.now in
+    let half = length ts - length ts / 2 in
+    let later = take (length ts - half) (drop half ts) in
+    let all : later ≡ drop half ts = take_all (length ts - half) (drop half ts) (let d = length-drop half ts in omega arith) in
+    let falls : left_of_elements later < left_of_elements ts = second_half_falls ts later half (omega arith) (omega arith) all in
+    (omega arith, tt)
 
 pub define_elements-returns : goal.define_elements-returns
 define_elements-returns t c = λ rounds enough.

@@ -1,7 +1,7 @@
 use Rattle.std.proofs.Common.{◌≡◌, map, take}
-use Rattle.ms_logic.specs.Spread.{Names}
+use Rattle.ms_logic_core.specs.Spread.{Names}
 use Rattle.ms_logic.specs.View.{declaration_of}
-use Rattle.ms_lower.specs.Scope.{all_named, default_over, names_in}
+use Rattle.ms_lower.specs.inner.Scope.{all_named, default_over, names_in}
 use Rattle.ms_lower.proofs.truths.default_names.Given as goal
 
 abbrev pub invariant-loop-param : goal.invariant-loop-param

@@ -1,5 +1,5 @@
 use Rattle.std.proofs.Common.{◌≡◌, ◌≤◌, drop, length, take}
-use Rattle.ms_lower.specs.Scope.{all_named, names_in}
+use Rattle.ms_lower.specs.inner.Scope.{all_named, names_in}
 use Rattle.ms_lower.proofs.truths.enter_named.Given as goal
 
 abbrev pub invariant-loop-i : goal.invariant-loop-i

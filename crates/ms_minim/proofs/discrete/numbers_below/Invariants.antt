@@ -1,4 +1,4 @@
-use Rattle.ms_minim.specs.Partition.{IsIdentity}
+use Rattle.ms_minim.specs.inner.Partition.{IsIdentity}
 use Rattle.ms_minim.proofs.discrete.numbers_below.Given as goal
 
 -- the numbers so far

@@ -1,4 +1,4 @@
-use Rattle.ms_minim.specs.Discrete.{AreOwnImages}
+use Rattle.ms_minim.specs.inner.Discrete.{AreOwnImages}
 use Rattle.ms_minim.proofs.discrete.own_images.Given as goal
 
 -- the references so far

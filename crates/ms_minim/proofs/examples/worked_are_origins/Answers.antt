@@ -1,5 +1,5 @@
 use Rattle.std.proofs.Common.{lit<}
-use Rattle.ms_minim.specs.Examples.{three_states}
+use Rattle.ms_minim.specs.inner.Examples.{three_states}
 use Rattle.ms_minim.proofs.ExampleOrigins.{comes_from_root, itself_origin, letter_leads, three_origins, wrong_origin}
 use Rattle.ms_minim.proofs.examples.worked_are_origins.Goals as goal
 

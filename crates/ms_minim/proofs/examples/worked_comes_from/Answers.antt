@@ -1,5 +1,5 @@
 use Rattle.std.proofs.Common.{arith}
-use Rattle.ms_minim.specs.Examples.{three_states}
+use Rattle.ms_minim.specs.inner.Examples.{three_states}
 use Rattle.ms_minim.proofs.ExampleOrigins.{comes_from_root, letter_leads, letters_lead, start_leads, start_leads_to_no_node}
 use Rattle.ms_minim.proofs.examples.worked_comes_from.Goals as goal
 

@@ -1,7 +1,7 @@
 use Rattle.std.proofs.Common.{◌<◌, ◌≡◌, ⊎_elim, length, slice_get, refl, sym, ap, subst, ◌∙◌, arith}
 use Rattle.std.proofs.lemmas.Bool.{cases_lt}
 use Rattle.std.proofs.lemmas.Option.{same_Some, slice_get_within}
-use Rattle.ms_minim.specs.Predecessors.{IsListed}
+use Rattle.ms_minim.specs.inner.Predecessors.{IsListed}
 use Rattle.ms_minim.proofs.GroupingLemmas.{item_at}
 use Rattle.ms_minim.proofs.grouping.grouped.Goals as goal
 

@@ -1,5 +1,5 @@
 use Rattle.std.proofs.Common.{◌≡◌, ◌<◌, ℕ, length, slice_get, Some}
-use Rattle.ms_minim.specs.Predecessors.{AreBelow, IsListed}
+use Rattle.ms_minim.specs.inner.Predecessors.{AreBelow, IsListed}
 use Rattle.ms_minim.proofs.grouping.grouped.Given as goal
 
 -- the states so far are listed

@@ -1,5 +1,5 @@
 use Rattle.std.proofs.Common.{[], ◌∷◌, length, length-append, sym, ap, subst, ◌∙◌, arith}
-use Rattle.ms_minim.specs.Predecessors.{AreBelow, IsListed}
+use Rattle.ms_minim.specs.inner.Predecessors.{AreBelow, IsListed}
 use Rattle.ms_minim.proofs.GroupingLemmas.{IsListed-more, AreBelow-more}
 use Rattle.ms_minim.proofs.grouping.make_room.Goals as goal
 

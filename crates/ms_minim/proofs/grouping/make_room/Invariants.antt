@@ -1,5 +1,5 @@
 use Rattle.std.proofs.Common.{◌≡◌, ◌+◌, ℕ, length}
-use Rattle.ms_minim.specs.Predecessors.{AreBelow, IsListed}
+use Rattle.ms_minim.specs.inner.Predecessors.{AreBelow, IsListed}
 use Rattle.ms_minim.proofs.grouping.make_room.Given as goal
 
 abbrev pub invariant-loop : goal.invariant-loop

@@ -1,6 +1,6 @@
 use Rattle.std.proofs.Common.{◌≡◌, length}
-use Rattle.ms_minim.specs.Grouping.{IsMoved}
-use Rattle.ms_minim.specs.Predecessors.{AreBelow}
+use Rattle.ms_minim.specs.inner.Grouping.{IsMoved}
+use Rattle.ms_minim.specs.inner.Predecessors.{AreBelow}
 use Rattle.ms_minim.proofs.grouping.settle.Given as goal
 
 abbrev pub invariant-loop-place : goal.invariant-loop-place

@@ -1,5 +1,5 @@
 use Rattle.std.proofs.Common.{◌<◌, length, slice_index, refl, subst, arith}
-use Rattle.ms_minim.specs.Origin.{nowhere}
+use Rattle.ms_minim.specs.inner.Origin.{nowhere}
 use Rattle.ms_minim.proofs.ImageLemmas.{IsImage-end, IsImage-node}
 use Rattle.ms_minim.proofs.OriginLemmas.{same_item}
 use Rattle.ms_minim.proofs.images.image_at.Goals as goal

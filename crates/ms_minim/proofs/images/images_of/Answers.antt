@@ -1,7 +1,7 @@
 use Rattle.std.proofs.Common.{◌+◌, ◌∷◌, [], length, ap, sym, subst, ◌∙◌, length-append, arith}
 use Rattle.ms_arena.specs.declared.node.Ref.TheVariants.{Inner}
-use Rattle.ms_minim.specs.Image.{IsImage, HaveImages}
-use Rattle.ms_minim.specs.Origin.{IsOn}
+use Rattle.ms_minim.specs.inner.Image.{IsImage, HaveImages}
+use Rattle.ms_minim.specs.inner.Origin.{IsOn}
 use Rattle.ms_minim.proofs.ImageLemmas.{HaveImages-more}
 use Rattle.ms_minim.proofs.images.images_of.Goals as goal
 

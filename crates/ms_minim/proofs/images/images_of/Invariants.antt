@@ -1,6 +1,6 @@
 use Rattle.std.proofs.Common.{◌≡◌, ◌≤◌, length}
 use Rattle.ms_diagram.specs.Store.{IsStore}
-use Rattle.ms_minim.specs.Image.{HaveImages}
+use Rattle.ms_minim.specs.inner.Image.{HaveImages}
 use Rattle.ms_minim.proofs.images.images_of.Given as goal
 
 -- the images of the nodes so far

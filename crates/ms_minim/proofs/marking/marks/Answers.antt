@@ -2,9 +2,9 @@ use Rattle.std.proofs.Common.{◌<◌, List, length, ◌+◌, refl, sym, subst, 
 use Rattle.ms_arena.specs.declared.node.Ref.{Ref}
 use Rattle.ms_arena.specs.Diagram.{IsBefore}
 use Rattle.ms_arena.proofs.Appending.{Extends-same}
-use Rattle.ms_logic.specs.Content.{is_in_letters}
-use Rattle.ms_minim.specs.Marks.{MarksSoFar}
-use Rattle.ms_minim.specs.Partition.{IsRoot}
+use Rattle.ms_logic_words.specs.Content.{is_in_letters}
+use Rattle.ms_minim.specs.inner.Marks.{MarksSoFar}
+use Rattle.ms_minim.specs.inner.Partition.{IsRoot}
 use Rattle.ms_minim.proofs.ImageLemmas.{IsImage-read, Meets-read, root_before}
 use Rattle.ms_minim.proofs.MarkLemmas.{MarksSoFar-more, AreMarks-all}
 use Rattle.ms_minim.proofs.OriginLemmas.{seen_next}

@@ -1,4 +1,4 @@
-use Rattle.ms_minim.specs.Marks.{MarksSoFar}
+use Rattle.ms_minim.specs.inner.Marks.{MarksSoFar}
 use Rattle.ms_minim.proofs.marking.marks.Given as goal
 
 -- the states so far have their marks

@@ -1,5 +1,5 @@
 use Rattle.std.proofs.Common.{◌≡◌, length}
-use Rattle.ms_minim.specs.Marks.{HaveSignMarks}
+use Rattle.ms_minim.specs.inner.Marks.{HaveSignMarks}
 use Rattle.ms_minim.proofs.marking.sign_marks.Given as goal
 
 -- the states so far have the marks of their signs

@@ -1,7 +1,7 @@
 use Rattle.std.proofs.Common.{◌≡◌, ◌<◌, false, true, List, length, slice_get, slice_index, Some, sym, subst, ◌∙◌, arith}
 use Rattle.ms_arena.specs.declared.node.Node.{Node}
 use Rattle.ms_arena.proofs.Lists.{slice_get-held}
-use Rattle.ms_minim.specs.Origin.{nowhere}
+use Rattle.ms_minim.specs.inner.Origin.{nowhere}
 use Rattle.ms_minim.proofs.OriginLemmas.{OriginsSoFar-ends, OriginsSoFar-unseen, same_item}
 use Rattle.ms_minim.proofs.origins.note_ends.Goals as goal
 

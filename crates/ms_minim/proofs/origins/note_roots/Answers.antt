@@ -1,6 +1,6 @@
 use Rattle.std.proofs.Common.{subst, arith}
 use Rattle.ms_arena.specs.declared.node.Ref.{Ref}
-use Rattle.ms_minim.specs.Origin.{IsNoted}
+use Rattle.ms_minim.specs.inner.Origin.{IsNoted}
 use Rattle.ms_minim.proofs.OriginLemmas.{OriginsSoFar-start, OriginsSoFar-next}
 use Rattle.ms_minim.proofs.origins.note_roots.Goals as goal
 

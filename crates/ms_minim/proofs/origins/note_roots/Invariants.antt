@@ -1,5 +1,5 @@
 use Rattle.std.proofs.Common.{length}
-use Rattle.ms_minim.specs.Origin.{OriginsSoFar}
+use Rattle.ms_minim.specs.inner.Origin.{OriginsSoFar}
 use Rattle.ms_minim.proofs.origins.note_roots.Given as goal
 
 -- the start and the states so far are origins

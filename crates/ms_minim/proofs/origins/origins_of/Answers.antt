@@ -1,5 +1,5 @@
 use Rattle.std.proofs.Common.{◌≡◌, length, subst, arith}
-use Rattle.ms_minim.specs.Origin.{OriginsSoFar}
+use Rattle.ms_minim.specs.inner.Origin.{OriginsSoFar}
 use Rattle.ms_minim.proofs.origins.origins_of.Goals as goal
 
 pub returns : goal.returns

@@ -1,5 +1,5 @@
 use Rattle.std.proofs.Common.{◌≤◌, length}
-use Rattle.ms_minim.specs.Origin.{OriginsSoFar}
+use Rattle.ms_minim.specs.inner.Origin.{OriginsSoFar}
 use Rattle.ms_minim.proofs.origins.origins_of.Given as goal
 
 -- the ends of the nodes from a place on are noted

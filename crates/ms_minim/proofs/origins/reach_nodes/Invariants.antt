@@ -1,5 +1,5 @@
 use Rattle.std.proofs.Common.{ℕ, ◌<◌, slice_index}
-use Rattle.ms_minim.specs.Origin.{nowhere}
+use Rattle.ms_minim.specs.inner.Origin.{nowhere}
 use Rattle.ms_minim.proofs.origins.reach_nodes.Given as goal
 
 -- the nodes so far are

@@ -1,5 +1,5 @@
 use Rattle.std.proofs.Common.{◌≡◌, replicate}
-use Rattle.ms_minim.specs.Origin.{nowhere}
+use Rattle.ms_minim.specs.inner.Origin.{nowhere}
 use Rattle.ms_minim.proofs.origins.unreached.Given as goal
 
 -- so many so far

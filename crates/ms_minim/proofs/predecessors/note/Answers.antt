@@ -1,7 +1,7 @@
 use Rattle.std.proofs.Common.{◌≡◌, ◌<◌, slice_index, ⊎_elim, ap, subst, ◌∙◌, arith}
 use Rattle.std.proofs.lemmas.Bool.{cases_lt}
 use Rattle.std.proofs.lemmas.Option.{slice_get_within, get_or_from_slice_get}
-use Rattle.ms_minim.specs.Predecessors.{IsListed}
+use Rattle.ms_minim.specs.inner.Predecessors.{IsListed}
 use Rattle.ms_minim.proofs.predecessors.note.Goals as goal
 
 pub loop-leaf-preserved : goal.loop-leaf-preserved

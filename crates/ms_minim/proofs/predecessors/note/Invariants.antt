@@ -1,5 +1,5 @@
 use Rattle.std.proofs.Common.{◌≡◌, ◌<◌, ℕ, length, slice_get, Some}
-use Rattle.ms_minim.specs.Predecessors.{IsListed, AreBelow}
+use Rattle.ms_minim.specs.inner.Predecessors.{IsListed, AreBelow}
 use Rattle.ms_minim.proofs.predecessors.note.Given as goal
 
 -- the lists of the states so far have the item

@@ -1,5 +1,5 @@
 use Rattle.std.proofs.Common.{◌<◌, [], ◌∷◌, ◌++◌, length, set, sym, ap, subst, ◌∙◌, arith}
-use Rattle.ms_minim.specs.Predecessors.{IsListed, AreBelow}
+use Rattle.ms_minim.specs.inner.Predecessors.{IsListed, AreBelow}
 use Rattle.ms_minim.proofs.PredecessorsLemmas.{item_is, IsListed-kept, IsListed-added, AreBelow-added}
 use Rattle.ms_minim.proofs.predecessors.note_one.Goals as goal
 

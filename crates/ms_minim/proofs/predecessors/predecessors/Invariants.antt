@@ -1,4 +1,4 @@
-use Rattle.ms_minim.specs.Predecessors.{PredecessorsSoFar}
+use Rattle.ms_minim.specs.inner.Predecessors.{PredecessorsSoFar}
 use Rattle.ms_minim.proofs.predecessors.predecessors.Given as goal
 
 abbrev pub invariant-loop-state : goal.invariant-loop-state

@@ -2,9 +2,9 @@ use Rattle.std.proofs.Common.{length, sym, subst}
 use Rattle.ms_diagram.proofs.Building.{Builds-memory}
 use Rattle.ms_diagram.specs.Table.{AreBrought}
 use Rattle.ms_minim.specs.declared.quotient.QuotientTables.{QuotientTables}
-use Rattle.ms_minim.specs.Lead.{AreNumbered}
-use Rattle.ms_minim.specs.Partition.{IsIdentity}
-use Rattle.ms_minim.specs.Quotient.{NumberBehind}
+use Rattle.ms_minim.specs.inner.Lead.{AreNumbered}
+use Rattle.ms_minim.specs.inner.Partition.{IsIdentity}
+use Rattle.ms_minim.specs.inner.Quotient.{NumberBehind}
 use Rattle.ms_minim.proofs.LeadLemmas.{AreNumbered-grown, OnOk-always}
 use Rattle.ms_minim.proofs.QuotientLemmas.{Renames-numbers, Builds-numbers}
 use Rattle.ms_minim.proofs.quotient.lead_to_numbers.Goals as goal

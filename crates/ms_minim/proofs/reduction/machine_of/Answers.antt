@@ -1,6 +1,6 @@
 use Rattle.std.proofs.Common.{length, sym, ap, subst, ◌∙◌}
-use Rattle.ms_explore.specs.Tracks.{places_among}
-use Rattle.ms_minim.specs.Partition.{IsIdentity}
+use Rattle.ms_dfa_explore.specs.Tracks.{places_among}
+use Rattle.ms_minim.specs.inner.Partition.{IsIdentity}
 use Rattle.ms_minim.proofs.LeadLemmas.{IsIdentity-places}
 use Rattle.ms_minim.proofs.reduction.machine_of.Goals as goal
 

@@ -1,10 +1,10 @@
 use Rattle.std.proofs.Common.{Ok, ap, arith, ◌∙◌}
 use Rattle.ms_diagram.specs.Store.{Contents}
-use Rattle.ms_logic.specs.declared.sign.Sign.{Sign}
-use Rattle.ms_logic.specs.Content.{Content}
+use Rattle.ms_logic_words.specs.declared.sign.Sign.{Sign}
+use Rattle.ms_logic_words.specs.Content.{Content}
 use Rattle.ms_minim.specs.declared.reduction.Reduced.{Reduced}
 use Rattle.ms_minim.specs.Reading.{read_content}
-use Rattle.ms_minim.specs.Quotient.{Quotienting}
+use Rattle.ms_minim.specs.inner.Quotient.{Quotienting}
 use Rattle.ms_minim.proofs.FewestLemmas.{quotient_of, explores_of, IsReducedOf-made}
 use Rattle.ms_minim.proofs.NodeLemmas.{few_nodes, refused_quotient}
 use Rattle.ms_minim.proofs.ReadingLemmas.{refused-read}

@@ -1,7 +1,7 @@
 use Rattle.std.proofs.Common.{◌≤◌, [], length, refl, sym, subst, arith}
 use Rattle.ms_diagram.specs.Store.{Contents}
-use Rattle.ms_minim.specs.Lead.{AreNumbered}
-use Rattle.ms_minim.specs.Quotient.{Quotienting}
+use Rattle.ms_minim.specs.inner.Lead.{AreNumbered}
+use Rattle.ms_minim.specs.inner.Quotient.{Quotienting}
 use Rattle.ms_minim.specs.Reduced.{IsReducedOf, content_over}
 use Rattle.ms_minim.proofs.FewestLemmas.{IsReducedOf-made, few_numbers}
 use Rattle.ms_minim.proofs.reduction.reduce_settled.Goals as goal

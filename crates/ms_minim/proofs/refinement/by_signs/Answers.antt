@@ -1,5 +1,5 @@
 use Rattle.std.proofs.Common.{sym, subst, ◌∙◌, arith}
-use Rattle.ms_minim.specs.Partition.{AreSignMarks}
+use Rattle.ms_minim.specs.inner.Partition.{AreSignMarks}
 use Rattle.ms_minim.proofs.PartitionLemmas.{some_state, IsPartition-split_by}
 use Rattle.ms_minim.proofs.refinement.by_signs.Goals as goal
 

@@ -1,6 +1,6 @@
 use Rattle.std.proofs.Common.{◌≡◌, ◌≤◌, ◌++◌, ◌∷◌, [], length, length-append, sym, ap, subst, ◌∙◌, arith}
-use Rattle.ms_minim.specs.Partition.{IsInhabited}
-use Rattle.ms_minim.specs.Split.{AreZeros}
+use Rattle.ms_minim.specs.inner.Partition.{IsInhabited}
+use Rattle.ms_minim.specs.inner.Split.{AreZeros}
 use Rattle.ms_minim.proofs.PartitionLemmas.{AreZeros-more, IsInhabited-zeros, HaveOneClass-zeros}
 use Rattle.ms_minim.proofs.refinement.one_class.Goals as goal
 

@@ -1,5 +1,5 @@
 use Rattle.std.proofs.Common.{◌≡◌, length}
-use Rattle.ms_minim.specs.Split.{AreZeros}
+use Rattle.ms_minim.specs.inner.Split.{AreZeros}
 use Rattle.ms_minim.proofs.refinement.one_class.Given as goal
 
 -- the states so far are in the class 0

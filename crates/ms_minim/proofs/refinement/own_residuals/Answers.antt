@@ -1,7 +1,7 @@
 use Rattle.std.proofs.Common.{length, ap, subst, ◌∙◌}
 use Rattle.ms_diagram.specs.Store.{Contents}
-use Rattle.ms_minim.specs.Discrete.{AreOwnImages}
-use Rattle.ms_minim.specs.Partition.{IsIdentity}
+use Rattle.ms_minim.specs.inner.Discrete.{AreOwnImages}
+use Rattle.ms_minim.specs.inner.Partition.{IsIdentity}
 use Rattle.ms_minim.proofs.DiscreteLemmas.{AreNerodeClasses-own, AreImages-own}
 use Rattle.ms_minim.proofs.refinement.own_residuals.Goals as goal
 
@@ -19,7 +19,7 @@ returns-clause-images c =
     let content = c.args.automaton.now in
     let made = c.in_ok-partition.partition in
     let images = c.in_ok-images.images in
-    let same = ap (λ (s : Contents). s.nodes) c.in_ok-images.ensures.store ∙ c.store.ensures in
+    let same = c.in_ok-images.ensures.store ∙ c.store.ensures in
     AreImages-own content c.states.ensures.automaton c.args.origins.now c.requires.origins made.classes
     (subst (λ count. IsIdentity count made.classes) c.states.ensures.states c.in_ok-partition.ensures.classes)
     images c.len.ensures.store same

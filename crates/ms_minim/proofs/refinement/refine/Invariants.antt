@@ -1,5 +1,5 @@
 use Rattle.std.proofs.Common.{◌-◌, length}
-use Rattle.ms_minim.specs.Partition.{IsPartition}
+use Rattle.ms_minim.specs.inner.Partition.{IsPartition}
 use Rattle.ms_minim.proofs.refinement.refine.Given as goal
 
 abbrev pub invariant-loop-partition : goal.invariant-loop-partition

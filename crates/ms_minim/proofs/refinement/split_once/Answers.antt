@@ -1,5 +1,5 @@
 use Rattle.std.proofs.Common.{sym, subst}
-use Rattle.ms_minim.specs.Partition.{AreMarks}
+use Rattle.ms_minim.specs.inner.Partition.{AreMarks}
 use Rattle.ms_minim.proofs.PartitionLemmas.{IsPassed-split}
 use Rattle.ms_minim.proofs.refinement.split_once.Goals as goal
 

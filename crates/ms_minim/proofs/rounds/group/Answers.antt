@@ -1,8 +1,8 @@
 use Rattle.std.proofs.Common.{length, sym, ap, subst, ◌∙◌, arith}
 use Rattle.std.proofs.lemmas.List.{length-replicate}
-use Rattle.ms_minim.specs.Grouping.{AreListed}
-use Rattle.ms_minim.specs.Partition.{IsPartition}
-use Rattle.ms_minim.specs.Predecessors.{AreBelow}
+use Rattle.ms_minim.specs.inner.Grouping.{AreListed}
+use Rattle.ms_minim.specs.inner.Partition.{IsPartition}
+use Rattle.ms_minim.specs.inner.Predecessors.{AreBelow}
 use Rattle.ms_minim.proofs.PartitionLemmas.{few_classes}
 use Rattle.ms_minim.proofs.SignatureLemmas.{AreGrouped-partition}
 use Rattle.ms_minim.proofs.rounds.group.Goals as goal

@@ -1,5 +1,5 @@
 use Rattle.std.proofs.Common.{◌≡◌, length}
-use Rattle.ms_minim.specs.Grouping.{AreGrouped, AreSplitters}
+use Rattle.ms_minim.specs.inner.Grouping.{AreGrouped, AreSplitters}
 use Rattle.ms_minim.proofs.rounds.group.Given as goal
 
 abbrev pub invariant-loop : goal.invariant-loop

@@ -1,8 +1,8 @@
 use Rattle.std.proofs.Common.{◌≡◌, length, slice_get, Some, sym, ap, subst, ◌∙◌, arith}
 use Rattle.std.proofs.lemmas.Option.{slice_get_within}
 use Rattle.ms_arena.proofs.Lists.{slice_get-held}
-use Rattle.ms_minim.specs.Grouping.{AreCovered, AreLabels, AreListed, AreWithin, IsMoved}
-use Rattle.ms_minim.specs.Predecessors.{AreBelow}
+use Rattle.ms_minim.specs.inner.Grouping.{AreCovered, AreLabels, AreListed, AreWithin, IsMoved}
+use Rattle.ms_minim.specs.inner.Predecessors.{AreBelow}
 use Rattle.ms_minim.proofs.GroupingLemmas.{AreWithin-listed, IsListed-within}
 use Rattle.ms_minim.proofs.SignatureLemmas.{AreGrouped-moved, label_below}
 use Rattle.ms_minim.proofs.rounds.round.Goals as goal

@@ -1,8 +1,8 @@
 use Rattle.std.proofs.Common.{sym, subst}
 use Rattle.ms_arena.specs.Target.{Meets}
-use Rattle.ms_logic.specs.Content.{is_truth_value}
-use Rattle.ms_minim.specs.Origin.{IsSeen}
-use Rattle.ms_minim.specs.Quotient.{NumberBehind}
+use Rattle.ms_logic_words.specs.Content.{is_truth_value}
+use Rattle.ms_minim.specs.inner.Origin.{IsSeen}
+use Rattle.ms_minim.specs.inner.Quotient.{NumberBehind}
 use Rattle.ms_minim.proofs.SettledLemmas.{own_image}
 use Rattle.ms_minim.proofs.settled.own_start.Goals as goal
 

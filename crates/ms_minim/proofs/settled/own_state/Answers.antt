@@ -1,7 +1,7 @@
 use Rattle.std.proofs.Common.{refl}
 use Rattle.ms_arena.proofs.Appending.{Extends-same}
-use Rattle.ms_logic.specs.Content.{is_in_letters}
-use Rattle.ms_minim.specs.Quotient.{Quotienting}
+use Rattle.ms_logic_words.specs.Content.{is_in_letters}
+use Rattle.ms_minim.specs.inner.Quotient.{Quotienting}
 use Rattle.ms_minim.proofs.OriginLemmas.{seen_next}
 use Rattle.ms_minim.proofs.QuotientLemmas.{class_within, state_within, sign_seen, LeadsOn-behind}
 use Rattle.ms_minim.proofs.SettledLemmas.{own_image}

@@ -1,7 +1,7 @@
 use Rattle.std.proofs.Common.{◌+◌, ◌∷◌, [], length, length-append, sym, ap, subst, ◌∙◌, arith}
-use Rattle.ms_explore.specs.Explored.{Findings, Follows}
-use Rattle.ms_explore.proofs.ExploredLemmas.{Follows-none}
-use Rattle.ms_minim.specs.Quotient.{quotient_findings}
+use Rattle.ms_dfa_explore.specs.Explored.{Findings, Follows}
+use Rattle.ms_dfa_explore.proofs.ExploredLemmas.{Follows-none}
+use Rattle.ms_minim.specs.inner.Quotient.{quotient_findings}
 use Rattle.ms_minim.proofs.SettledLemmas.{Follows-more}
 use Rattle.ms_minim.proofs.settled.own_states.Goals as goal
 

@@ -1,6 +1,6 @@
 use Rattle.std.proofs.Common.{◌≡◌, length}
-use Rattle.ms_explore.specs.Explored.{Follows}
-use Rattle.ms_minim.specs.Quotient.{quotient_findings}
+use Rattle.ms_dfa_explore.specs.Explored.{Follows}
+use Rattle.ms_minim.specs.inner.Quotient.{quotient_findings}
 use Rattle.ms_minim.proofs.settled.own_states.Given as goal
 
 -- the states so far

@@ -1,5 +1,5 @@
 use Rattle.std.proofs.Common.{◌+◌, refl, sym, subst}
-use Rattle.ms_minim.specs.Grouping.{AreLabels}
+use Rattle.ms_minim.specs.inner.Grouping.{AreLabels}
 use Rattle.ms_minim.proofs.SignatureLemmas.{AreLabels-more, IsLaterSeen-then}
 use Rattle.ms_minim.proofs.signatures.labels.Goals as goal
 

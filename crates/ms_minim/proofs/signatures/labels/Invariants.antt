@@ -1,5 +1,5 @@
-use Rattle.ms_minim.specs.Grouping.{AreLabels, IsLaterSeen, IsSeen}
-use Rattle.ms_minim.specs.Lead.{AreChosen}
+use Rattle.ms_minim.specs.inner.Grouping.{AreLabels, IsLaterSeen, IsSeen}
+use Rattle.ms_minim.specs.inner.Lead.{AreChosen}
 use Rattle.ms_minim.proofs.signatures.labels.Given as goal
 
 abbrev pub invariant-loop-place : goal.invariant-loop-place

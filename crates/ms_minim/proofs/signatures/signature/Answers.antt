@@ -2,7 +2,7 @@ use Rattle.std.proofs.Common.{slice_get, Some, ap, ◌∙◌}
 use Rattle.std.proofs.lemmas.Option.{get_or_from_slice_get}
 use Rattle.ms_arena.specs.Diagram.{leaf_of}
 use Rattle.ms_diagram.proofs.TableGrowth.{AreRelabelled-grow}
-use Rattle.ms_minim.specs.Grouping.{through}
+use Rattle.ms_minim.specs.inner.Grouping.{through}
 use Rattle.ms_minim.proofs.LeadLemmas.{AreLed-grow}
 use Rattle.ms_minim.proofs.MarkLemmas.{leads_by}
 use Rattle.ms_minim.proofs.SignatureLemmas.{through_at}

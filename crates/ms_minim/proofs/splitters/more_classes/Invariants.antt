@@ -1,5 +1,5 @@
 use Rattle.std.proofs.Common.{◌≡◌, ◌+◌, length}
-use Rattle.ms_minim.specs.Grouping.{AreSplitters}
+use Rattle.ms_minim.specs.inner.Grouping.{AreSplitters}
 use Rattle.ms_minim.proofs.splitters.more_classes.Given as goal
 
 abbrev pub invariant-loop : goal.invariant-loop

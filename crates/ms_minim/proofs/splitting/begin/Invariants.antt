@@ -1,5 +1,5 @@
 use Rattle.std.proofs.Common.{◌≡◌, length}
-use Rattle.ms_minim.specs.Split.{HaveBegun}
+use Rattle.ms_minim.specs.inner.Split.{HaveBegun}
 use Rattle.ms_minim.proofs.splitting.begin.Given as goal
 
 -- the old classes so far have their numbers

@@ -1,6 +1,6 @@
 use Rattle.std.proofs.Common.{◌≡◌, ◌<◌, [], ◌∷◌, length, length-append, slice_index, sym, ap, subst, ◌∙◌, arith}
 use Rattle.std.proofs.lemmas.Option.{get_or_from_slice_get}
-use Rattle.ms_minim.specs.Split.{AreSplit}
+use Rattle.ms_minim.specs.inner.Split.{AreSplit}
 use Rattle.ms_minim.proofs.PartitionLemmas.{few_classes}
 use Rattle.ms_minim.proofs.SplitLemmas.{AreSplit-more, IsSplit-all}
 use Rattle.ms_minim.proofs.splitting.split.Goals as goal

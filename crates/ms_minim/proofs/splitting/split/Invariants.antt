@@ -1,5 +1,5 @@
 use Rattle.std.proofs.Common.{◌≡◌, length}
-use Rattle.ms_minim.specs.Split.{AreSplit}
+use Rattle.ms_minim.specs.inner.Split.{AreSplit}
 use Rattle.ms_minim.proofs.splitting.split.Given as goal
 
 -- the states so far have their new classes

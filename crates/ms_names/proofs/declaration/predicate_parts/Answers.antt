@@ -1,8 +1,8 @@
 use Rattle.std.proofs.Common.{length, map, sym, ◌∙◌}
 use Rattle.std.specs.Option.{option_map}
 use Rattle.ms_logic.specs.View.{argument_of, declaration_of}
-use Rattle.ms_rules.specs.View.{bounds_of, expression_of}
-use Rattle.ms_rules.proofs.Lists.{count_of_bounds-length}
+use Rattle.ms_names_rules.specs.View.{bounds_of, expression_of}
+use Rattle.ms_names_rules.proofs.Lists.{count_of_bounds-length}
 use Rattle.ms_names.proofs.Declaring.{predicate-passed, predicate-typed}
 use Rattle.ms_names.proofs.declaration.predicate_parts.Goals as goal
 

@@ -1,4 +1,4 @@
-use Rattle.ms_rules.specs.View.{expression_of}
+use Rattle.ms_names_rules.specs.View.{expression_of}
 use Rattle.ms_names.proofs.Told.{formula-told}
 use Rattle.ms_names.proofs.declare.declare_formula.Goals as goal
 

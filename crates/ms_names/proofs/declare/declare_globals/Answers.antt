@@ -1,4 +1,4 @@
-use Rattle.ms_rules.specs.View.{bounds_of}
+use Rattle.ms_names_rules.specs.View.{bounds_of}
 use Rattle.ms_names.proofs.Told.{globals-told}
 use Rattle.ms_names.proofs.declare.declare_globals.Goals as goal
 

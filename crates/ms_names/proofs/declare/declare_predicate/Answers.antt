@@ -1,9 +1,9 @@
 use Rattle.std.proofs.Common.{refl, ap, ◌∙◌}
-use Rattle.ms_rules.specs.Declarations.{next_predicate, orders_of_bounds}
-use Rattle.ms_rules.specs.TypedSource.{typed_predicate}
-use Rattle.ms_rules.specs.View.{bounds_of, expression_of}
-use Rattle.ms_scopes.specs.Declaration.{read_through}
-use Rattle.ms_scopes.specs.State.{State}
+use Rattle.ms_names_rules.specs.Declarations.{next_predicate, orders_of_bounds}
+use Rattle.ms_names_rules.specs.TypedSource.{typed_predicate}
+use Rattle.ms_names_rules.specs.View.{bounds_of, expression_of}
+use Rattle.ms_names_scopes.specs.inner.Declaration.{read_through}
+use Rattle.ms_names_scopes.specs.inner.State.{State}
 use Rattle.ms_names.proofs.Told.{predicate-told}
 use Rattle.ms_names.proofs.declare.declare_predicate.Goals as goal
 

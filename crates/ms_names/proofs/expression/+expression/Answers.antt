@@ -8,25 +8,25 @@ use Rattle.ms_logic.specs.declared.source.Form.{the_lemmas}
 use Rattle.ms_logic.specs.declared.source.LetPart.{LetPart, out-LetPart}
 use Rattle.ms_logic.specs.Tree as tree
 use Rattle.ms_logic.specs.View.{argument_of, binding_of, declaration_of}
-use Rattle.ms_rules.specs.declared.wanted.Wanted.{Wanted}
-use Rattle.ms_rules.specs.Syntax.{restricted, call, conjunction, disjunction, literal, implication, equivalence, relation, union, intersection, difference, quantified, where_let, exported}
-use Rattle.ms_rules.specs.Before.{after, after_all, after_parts, with_names}
-use Rattle.ms_rules.specs.Binder.{restricted_variables, sides_of, typed_sides, with_front}
-use Rattle.ms_rules.specs.Lists.{arguments_of, expressions_of, forms_of, terms_of}
-use Rattle.ms_rules.specs.Occurrence.{occurrences, inside_operands, inside_arguments, inside_parts, formula_wanted, number_wanted, set_wanted}
-use Rattle.ms_rules.specs.Order.{order_of, later_parameters, wanted_on_the_left, wanted_on_the_right}
-use Rattle.ms_rules.specs.Reads.{readings_of_bounds, readings_of_call}
-use Rattle.ms_rules.specs.Rules.{faults_of_bounds, faults_of_call, faults_of_parts}
-use Rattle.ms_rules.specs.Scope.{count_of_bounds, meaning_of, under_parts}
-use Rattle.ms_rules.specs.Typed.{both, formula_in, set_in, typed, typed_arguments, typed_formulas, typed_numbers}
-use Rattle.ms_rules.specs.View.{bound_of, bounds_of, expression_of, part_of, parts_of}
-use Rattle.ms_rules.proofs.Lists.{arguments-end, arguments-short, count_of_bounds-length, count_of_parts-length, count-length, found-sides, found-variables, in_front, later-drop, made-arguments, made-sides, none-first, bounds-split, parts-split, sides_behind}
-use Rattle.ms_rules.proofs.Operands.{taken-more}
-use Rattle.ms_rules.proofs.Repeats.{next}
-use Rattle.ms_scopes.specs.State.{after_restrictions, State, with_faults, passed, noted, formed}
+use Rattle.ms_names_rules.specs.declared.wanted.Wanted.{Wanted}
+use Rattle.ms_names_rules.specs.Syntax.{restricted, call, conjunction, disjunction, literal, implication, equivalence, relation, union, intersection, difference, quantified, where_let, exported}
+use Rattle.ms_names_rules.specs.Before.{after, after_all, after_parts, with_names}
+use Rattle.ms_names_rules.specs.inner.Binder.{restricted_variables, sides_of, typed_sides, with_front}
+use Rattle.ms_names_rules.specs.inner.Lists.{arguments_of, expressions_of, forms_of, terms_of}
+use Rattle.ms_names_rules.specs.Occurrence.{occurrences, inside_operands, inside_arguments, inside_parts, formula_wanted, number_wanted, set_wanted}
+use Rattle.ms_names_rules.specs.Order.{order_of, later_parameters, wanted_on_the_left, wanted_on_the_right}
+use Rattle.ms_names_rules.specs.Reads.{readings_of_bounds, readings_of_call}
+use Rattle.ms_names_rules.specs.Rules.{faults_of_bounds, faults_of_call, faults_of_parts}
+use Rattle.ms_names_rules.specs.Scope.{count_of_bounds, meaning_of, under_parts}
+use Rattle.ms_names_rules.specs.Typed.{both, formula_in, set_in, typed, typed_arguments, typed_formulas, typed_numbers}
+use Rattle.ms_names_rules.specs.View.{bound_of, bounds_of, expression_of, part_of, parts_of}
+use Rattle.ms_names_rules.proofs.Lists.{arguments-end, arguments-short, count_of_bounds-length, count_of_parts-length, count-length, found-sides, found-variables, in_front, later-drop, made-arguments, made-sides, none-first, bounds-split, parts-split, sides_behind}
+use Rattle.ms_names_rules.proofs.Operands.{taken-more}
+use Rattle.ms_names_rules.proofs.Repeats.{next}
+use Rattle.ms_names_scopes.specs.inner.State.{after_restrictions, State, with_faults, passed, noted, formed}
 use Rattle.ms_names.proofs.Lists.{arguments-next, arguments-typed, parts-passed, parts-typed, restrictions-next, restrictions-typed}
 use Rattle.ms_names.proofs.Operands.{formulas-more, numbers-more, operands-more}
-use Rattle.ms_scopes.proofs.States.{passed-none, two-passed}
+use Rattle.ms_names_scopes.proofs.States.{passed-none, two-passed}
 use Rattle.ms_names.proofs.Values.{call-value, let-value, quantified-value, restriction-value}
 use Rattle.ms_names.proofs.Walk.{call-formed, export-formed, formed-passed, let-formed, on_ok, quantified-formed, two-made}
 use Rattle.ms_names.proofs.expression.+expression.Goals as goal

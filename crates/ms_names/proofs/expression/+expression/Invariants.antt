@@ -1,14 +1,14 @@
 use Rattle.std.proofs.Common.{◌≡◌, ◌++◌, drop, map, take}
 use Rattle.std.specs.Option.{option_map}
 use Rattle.ms_logic.specs.View.{argument_of, binding_of, declaration_of}
-use Rattle.ms_rules.specs.Before.{after_all, after_parts}
-use Rattle.ms_rules.specs.Binder.{restricted_variables, typed_sides}
-use Rattle.ms_rules.specs.Lists.{expressions_of, forms_of, terms_of}
-use Rattle.ms_rules.specs.Occurrence.{formula_wanted, inside_arguments, inside_operands, inside_parts, number_wanted}
-use Rattle.ms_rules.specs.Typed.{both, typed_arguments, typed_formulas, typed_numbers}
-use Rattle.ms_rules.specs.View.{bounds_of, parts_of}
-use Rattle.ms_rules.proofs.Lists.{in_front, sides_behind}
-use Rattle.ms_scopes.specs.State.{after_restrictions, passed}
+use Rattle.ms_names_rules.specs.Before.{after_all, after_parts}
+use Rattle.ms_names_rules.specs.inner.Binder.{restricted_variables, typed_sides}
+use Rattle.ms_names_rules.specs.inner.Lists.{expressions_of, forms_of, terms_of}
+use Rattle.ms_names_rules.specs.Occurrence.{formula_wanted, inside_arguments, inside_operands, inside_parts, number_wanted}
+use Rattle.ms_names_rules.specs.Typed.{both, typed_arguments, typed_formulas, typed_numbers}
+use Rattle.ms_names_rules.specs.View.{bounds_of, parts_of}
+use Rattle.ms_names_rules.proofs.Lists.{in_front, sides_behind}
+use Rattle.ms_names_scopes.specs.inner.State.{after_restrictions, passed}
 use Rattle.ms_names.proofs.expression.+expression.Given as goal
 
 -- what is found so far and what the rest gives is what all give

@@ -2,9 +2,9 @@ use Rattle.std.proofs.Common.{List, sym, ap, ◌∙◌}
 use Rattle.ms_logic.specs.declared.source.Bound.{Bound}
 use Rattle.ms_logic.specs.declared.source.Decl.{Decl}
 use Rattle.ms_logic.specs.declared.source.PlacedInt.{PlacedInt}
-use Rattle.ms_rules.specs.Syntax.{globals, constant, predicate}
-use Rattle.ms_rules.specs.View.{bounds_of, declaration_of, expression_of}
-use Rattle.ms_scopes.specs.Declaration.{known_at, told}
+use Rattle.ms_names_rules.specs.Syntax.{globals, constant, predicate}
+use Rattle.ms_names_rules.specs.View.{bounds_of, declaration_of, expression_of}
+use Rattle.ms_names_scopes.specs.inner.Declaration.{known_at, told}
 use Rattle.ms_names.proofs.outcome.kind.Goals as goal
 
 pub returns-in_ok-made-in-Vars-clause-state : goal.returns-in_ok-made-in-Vars-clause-state

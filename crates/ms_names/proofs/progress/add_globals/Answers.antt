@@ -2,8 +2,8 @@ use Rattle.std.proofs.Common.{◌++◌, map, sym, ap, ◌∙◌, arith}
 use Rattle.std.proofs.lemmas.List.{append-nil, drop_all}
 use Rattle.std.specs.Vec.Iter.{into_iter_items}
 use Rattle.ms_logic.specs.View.{declaration_of}
-use Rattle.ms_rules.specs.View.{bounds_of}
-use Rattle.ms_names.specs.Progress.{globals_with, kept_globals}
+use Rattle.ms_names_rules.specs.View.{bounds_of}
+use Rattle.ms_names.specs.inner.Progress.{globals_with, kept_globals}
 use Rattle.ms_names.proofs.Sources.{globals_with-none}
 use Rattle.ms_names.proofs.progress.add_globals.Goals as goal
 

@@ -1,8 +1,8 @@
 use Rattle.std.proofs.Common.{◌≡◌, ◌++◌, drop, map}
 use Rattle.std.specs.Vec.Iter.{into_iter_items}
 use Rattle.ms_logic.specs.View.{declaration_of}
-use Rattle.ms_rules.specs.View.{bounds_of}
-use Rattle.ms_names.specs.Progress.{globals_with, kept_globals}
+use Rattle.ms_names_rules.specs.View.{bounds_of}
+use Rattle.ms_names.specs.inner.Progress.{globals_with, kept_globals}
 use Rattle.ms_names.proofs.progress.add_globals.Given as goal
 
 -- the globals so far and those of the rest are all globals

@@ -1,6 +1,6 @@
 use Rattle.std.proofs.Common.{◌≡◌, ◌+◌, drop, map}
-use Rattle.ms_rules.specs.Declarations.{count_of_globals}
-use Rattle.ms_rules.specs.View.{placed_of}
+use Rattle.ms_names_rules.specs.Declarations.{count_of_globals}
+use Rattle.ms_names_rules.specs.View.{placed_of}
 use Rattle.ms_names.proofs.progress.count_globals.Given as goal
 
 -- the count so far and that of the rest is the count of all

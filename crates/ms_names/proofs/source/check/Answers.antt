@@ -1,10 +1,10 @@
 use Rattle.std.proofs.Common.{rules, ◌≡◌, map, None, arith}
 use Rattle.std.proofs.lemmas.Grind.{common_steps}
-use Rattle.ms_checked.proofs.CheckedSource.{meets-rules}
-use Rattle.ms_rules.specs.Declarations.{first_fault_of}
-use Rattle.ms_rules.specs.TypedSource.{IsTyped}
-use Rattle.ms_rules.specs.View.{placed_of}
-use Rattle.ms_rules.proofs.NumberedChecked.{well-numbered}
+use Rattle.ms_names_checked.proofs.CheckedSource.{meets-rules}
+use Rattle.ms_names_rules.specs.Declarations.{first_fault_of}
+use Rattle.ms_names_rules.specs.TypedSource.{IsTyped}
+use Rattle.ms_names_rules.specs.View.{placed_of}
+use Rattle.ms_names_rules.proofs.NumberedChecked.{well-numbered}
 use Rattle.ms_names.proofs.source.check.Goals as goal
 
 pub returns-clause-numbered : goal.returns-clause-numbered

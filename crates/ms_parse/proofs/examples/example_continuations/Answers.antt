@@ -1,10 +1,10 @@
 use Rattle.std.proofs.Common.{refl, true, [], ◌∷◌, codes}
 use Rattle.ms_logic.specs.declared.mode.Rel.TheVariants.{Equal}
-use Rattle.ms_grammar.specs.declared.operator.Binary.TheVariants.{Relation}
-use Rattle.ms_grammar.specs.Symbol.{name, infix_operator, sign, left_out, word_true, open_round, open_curly, close_curly, comma, placed}
-use Rattle.ms_parse.specs.Examples.{at, row, a, b, x, p, repeated}
+use Rattle.ms_parse_grammar.specs.declared.operator.Binary.TheVariants.{Relation}
+use Rattle.ms_parse_grammar.specs.Symbol.{name, infix_operator, sign, left_out, word_true, open_round, open_curly, close_curly, comma, placed}
+use Rattle.ms_parse.specs.inner.Examples.{at, row, a, b, x, p, repeated}
 use Rattle.ms_parse.proofs.Continuations.{follows_by_trial, misplaced_by_trial, too_deep_by_trial}
-use Rattle.ms_steps.proofs.Refusals.{word_follows, word_shuts}
+use Rattle.ms_parse_steps.proofs.Refusals.{word_follows, word_shuts}
 use Rattle.ms_parse.proofs.examples.example_continuations.Goals as goal
 
 pub returns-clause-at_the_beginning : goal.returns-clause-at_the_beginning

@@ -1,6 +1,6 @@
 use Rattle.std.proofs.Common.{arith}
 use Rattle.ms_parse.proofs.Faults.{end_not_deep, too_deep_at}
-use Rattle.ms_steps.proofs.Inputs.{at_end}
+use Rattle.ms_parse_steps.proofs.Inputs.{at_end}
 use Rattle.ms_parse.proofs.refuse.depth_at.Goals as goal
 
 pub returns-then-i-len : goal.returns-then-i-len

@@ -1,7 +1,7 @@
 use Rattle.std.proofs.Common.{◌≡◌, true, inl, inr, ◌∙◌, arith}
-use Rattle.ms_grammar.specs.Symbol.{left_out}
+use Rattle.ms_parse_grammar.specs.Symbol.{left_out}
 use Rattle.ms_parse.proofs.Faults.{misplaced_at, language_misplaced, ends_early, left_out_is_utf8, left_out_symbol}
-use Rattle.ms_steps.proofs.Inputs.{at_end, terminal_next}
+use Rattle.ms_parse_steps.proofs.Inputs.{at_end, terminal_next}
 use Rattle.ms_parse.proofs.refuse.fault_at.Goals as goal
 
 pub returns-in-Ok-new : goal.returns-in-Ok-new

@@ -1,11 +1,11 @@
-use Rattle.std.proofs.Common.{◌+◌, length, refl, sym, subst, ◌∙◌, arith}
+use Rattle.std.proofs.Common.{◌+◌, ◌≤◌, length, refl, sym, subst, ◌∙◌, arith}
 use Rattle.ms_dfa.specs.Automaton.{IsAutomaton, variables_of, states_of}
-use Rattle.ms_logic.specs.Content.{Content}
-use Rattle.ms_logic.specs.Roots.{AreRising}
-use Rattle.ms_logic.specs.declared.sign.Sign.{Sign}
-use Rattle.ms_theory.specs.Values.{HasValues, own_meaning}
-use Rattle.ms_explore.specs.Tracks.{IsAmong, joined}
-use Rattle.ms_explore.proofs.RunLemmas.{explored, length-states_of}
+use Rattle.ms_logic_words.specs.Content.{Content}
+use Rattle.ms_logic.specs.Lists.{AreRising}
+use Rattle.ms_logic_words.specs.declared.sign.Sign.{Sign}
+use Rattle.ms_dfa.specs.Values.{HasValues, own_meaning}
+use Rattle.ms_dfa_explore.specs.Tracks.{IsAmong, joined}
+use Rattle.ms_dfa_explore.proofs.RunLemmas.{explored, length-states_of}
 use Rattle.ms_product.specs.Combined.{combined}
 use Rattle.ms_product.specs.Pairing.{Operands, operands_of, product_findings, IsPairedIn, IsPairedStore, AreAtLeast}
 use Rattle.ms_product.proofs.ChangeLemmas.{content_is}
@@ -88,3 +88,10 @@ returns-clause-size c =
     let all = paired.all in
     subst (λ (content : Content Sign). AreAtLeast (length content.nodes + length content.states) c.args.op (operands_of a b)) (sym c.make.ensures)
     (AreAtLeast-held c.args.op (operands_of a b) c.args.limit made.pairs made.store held paired.numbering paired.are (length made.store.nodes + length (states_of made.states)) (omega (arith, counted, all)))
+
+pub returns-clause-within : goal.returns-clause-within
+returns-clause-within c =
+    let made = c.in-Ok-pair_up.paired in
+    let counted = length-states_of made.states in
+    let within = c.in-Ok-pair_up.ensures.within in
+    subst (λ (content : Content Sign). length content.nodes + length content.states ≤ c.args.limit) (sym c.make.ensures) (omega (arith, counted, within))

@@ -1,8 +1,8 @@
-use Rattle.std.proofs.Common.{Ok, sym, subst}
+use Rattle.std.proofs.Common.{Ok, sym, subst, arith}
 use Rattle.ms_dfa.specs.Automaton.{variables_of}
 use Rattle.ms_diagram.specs.Table.{AreBrought}
-use Rattle.ms_explore.specs.Explored.{Explores}
-use Rattle.ms_explore.specs.Tracks.{places_among}
+use Rattle.ms_dfa_explore.specs.Explored.{Explores}
+use Rattle.ms_dfa_explore.specs.Tracks.{places_among}
 use Rattle.ms_product.specs.declared.operand.Widened.{Widened}
 use Rattle.ms_product.specs.Widened.{widened_findings}
 use Rattle.ms_product.proofs.WidenedLemmas.{GrowsForSome-none, brought_by}
@@ -23,3 +23,9 @@ returns-clause-brought c =
     c.explore.new.store c.in-Ok-explore.start c.explore.new.states c.states.ensures.automaton.closed c.in-Ok.ensures.automaton c.in-Ok.ensures.map
     (subst (λ (w : Widened). Explores c.args.store.now c.explore.new.store (widened_findings w.automaton.now w.map) c.explore.new.states (Ok c.in-Ok-explore.start)) (sym c.in-Ok-explore.ensures.later)
     c.in-Ok-explore.ensures.explored)
+
+pub returns-clause-within : goal.returns-clause-within
+returns-clause-within c =
+    let explores = c.in-Ok-explore.ensures.explored in
+    let all = explores.all in
+    omega (arith, all, explores.grows.limit, explores.within)

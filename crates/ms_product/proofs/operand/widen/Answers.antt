@@ -1,5 +1,5 @@
 use Rattle.std.proofs.Common.{length, ap, sym, subst, ◌∙◌}
-use Rattle.ms_explore.specs.Tracks.{places_among}
+use Rattle.ms_dfa_explore.specs.Tracks.{places_among}
 use Rattle.ms_dfa.specs.Automaton.{variables_of}
 use Rattle.ms_product.specs.Widened.{IsRisingMap}
 use Rattle.ms_product.proofs.WidenedLemmas.{IsRisingMap-among}

@@ -1,4 +1,4 @@
-use Rattle.std.proofs.Common.{◌≡◌, Ok, Err, refl, sym, ap, subst}
+use Rattle.std.proofs.Common.{◌≡◌, Ok, Err, refl, sym, ap, subst, ◌∙◌, arith}
 use Rattle.ms_product.specs.declared.pairing.Paired.{Paired}
 use Rattle.ms_product.specs.Pairing.{Operands, Pairing, IsPairedIn, IsPairedStore}
 use Rattle.ms_product.proofs.CombineSteps.{AreStates-seen, Explores-seen, IsNumbering-seen}
@@ -37,3 +37,13 @@ returns-clause-store c =
     let pairs_are : c.product.inside.pairs ≡ seen.pairs = ap (λ (p : Pairing). p.pairs) c.product.view_is in
     subst (λ pairs. IsPairedStore c.explore-explored.new.store c.args.limit c.args.op operands pairs) (sym pairs_are)
     (IsPairedStore-grown c.args.op operands c.args.limit seen.pairs c.new-store.result c.explore-explored.new.store c.new-store.ensures.empty c.new-store.ensures.limit explores.grows)
+
+pub returns-clause-within : goal.returns-clause-within
+returns-clause-within c =
+    let operands : Operands = record { left = c.args.left.automaton.now; left_map = c.args.left.map; right = c.args.right.automaton.now; right_map = c.args.right.map } in
+    let seen = c.explore-explored.new.machine.product in
+    let explores = Explores-seen c.args.op operands _ _ seen refl refl c.explore-explored.ensures.later c.product.view_is c.new-store.result c.explore-explored.new.store c.explore-explored.new.states
+    (Ok c.in-Ok.start) (c.in-Ok.ensures.explored) in
+    let all = explores.all in
+    let at_limit = explores.grows.limit ∙ c.new-store.ensures.limit in
+    omega (arith, all, at_limit, explores.within)

@@ -1,8 +1,8 @@
 use Rattle.std.proofs.Common.{◌≡◌, IfOk, sym, subst}
 use Rattle.ms_dfa.specs.Automaton.{variables_of}
-use Rattle.ms_logic.specs.Roots.{AreRising}
-use Rattle.ms_explore.specs.Explored.{OnRefused}
-use Rattle.ms_explore.specs.Tracks.{IsAmong}
+use Rattle.ms_logic.specs.Lists.{AreRising}
+use Rattle.ms_dfa_explore.specs.Explored.{OnRefused}
+use Rattle.ms_dfa_explore.specs.Tracks.{IsAmong}
 use Rattle.ms_product.specs.declared.op.Op.TheVariants.{And}
 use Rattle.ms_product.specs.Pairing.{Operands, AreAtLeast, IsPairedIn, IsPairedStore}
 use Rattle.ms_product.proofs.CombineSteps.{operands_as}

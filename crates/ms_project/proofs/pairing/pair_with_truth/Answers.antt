@@ -1,8 +1,8 @@
 use Rattle.std.proofs.Common.{List, subst}
 use Rattle.ms_logic.specs.Assignment.{Variable}
 use Rattle.ms_diagram.specs.Numbering.{AreOwnPairs}
-use Rattle.ms_explore.specs.Explored.{GrowsForSome}
-use Rattle.ms_explore.specs.Tracks.{places_among}
+use Rattle.ms_dfa_explore.specs.Explored.{GrowsForSome}
+use Rattle.ms_dfa_explore.specs.Tracks.{places_among}
 use Rattle.ms_product.specs.declared.operand.Brought.{Brought}
 use Rattle.ms_product.specs.declared.pairing.Paired.{Paired}
 use Rattle.ms_product.specs.Widened.{widened_findings, IsBroughtIn}

@@ -1,7 +1,7 @@
-use Rattle.std.proofs.Common.{◌≡◌, ℕ, List, refl, sym, ap, subst, ◌∙◌}
+use Rattle.std.proofs.Common.{◌≡◌, ℕ, List, refl, sym, ap, subst, ◌∙◌, arith}
 use Rattle.ms_dfa.specs.Automaton.{variable_of, variables_of}
 use Rattle.ms_logic.specs.Assignment.{Variable}
-use Rattle.ms_explore.specs.Tracks.{place_of}
+use Rattle.ms_dfa_explore.specs.Tracks.{place_of}
 use Rattle.ms_project.specs.Paired.{places_left}
 use Rattle.ms_project.specs.Subsetting.{Subsetting, IsReadyForSets, IsLaterSubsetting, begun}
 use Rattle.ms_project.proofs.SearchLemmas.{ready_at_first, projection_found}
@@ -30,3 +30,9 @@ returns-clause-projection c =
     (subst (λ (back : List ℕ). IsLaterSubsetting (begun body made.store made.start made.states c.in-Ok-try_from.bound back) found.subsets) back_is c.in-Ok-find_sets.ensures.later) in
     projection_found body c.args.domain.now c.tracks.ensures.automaton c.tracks-2.ensures.automaton c.requires.domain (variable_of c.args.track) c.requires.bound made.store c.in-Ok-pair_up.ensures.store.store
     made.pairs made.start made.states c.in-Ok-pair_up.ensures.paired found.subsets later found.store found.start found.states c.in-Ok-find_sets.ensures.found c.in-Ok-marks_of_pairs.marks c.in-Ok-marks_of_pairs.ensures
+
+pub returns-clause-within : goal.returns-clause-within
+returns-clause-within c =
+    let within = c.in-Ok-find_sets.ensures.within in
+    let limited = c.in-Ok-pair_up.ensures.store.limited in
+    omega (arith, within, limited)

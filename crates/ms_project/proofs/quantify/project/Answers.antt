@@ -1,10 +1,10 @@
 use Rattle.std.proofs.Common.{◌≡◌, Option, None, IfOk, sym, ap, subst, ◌∙◌}
 use Rattle.std.specs.Option.{option_copied}
 use Rattle.ms_dfa.specs.Automaton.{variable_of}
-use Rattle.ms_logic.specs.declared.sign.Sign.{Sign}
-use Rattle.ms_logic.specs.declared.sign.Sign.TheVariants.{Yes}
-use Rattle.ms_logic.specs.Content.{Content}
-use Rattle.ms_theory.specs.Values.{HasValues, own_meaning}
+use Rattle.ms_logic_words.specs.declared.sign.Sign.{Sign}
+use Rattle.ms_logic_words.specs.declared.sign.Sign.TheVariants.{Yes}
+use Rattle.ms_logic_words.specs.Content.{Content}
+use Rattle.ms_dfa.specs.Values.{HasValues, own_meaning}
 use Rattle.ms_project.specs.Quantified.{IsMetBy, quantified}
 use Rattle.ms_project.proofs.AlwaysLemmas.{HasValues-all}
 use Rattle.ms_project.proofs.AssemblyLemmas.{IfOk-implies}

@@ -1,5 +1,8 @@
-use Rattle.std.proofs.Common.{subst}
+use Rattle.std.proofs.Common.{◌+◌, ◌≤◌, length, subst, sym, arith}
 use Rattle.ms_dfa.specs.Automaton.{variable_of, variables_of}
+use Rattle.ms_logic_words.specs.Content.{Content}
+use Rattle.ms_logic_words.specs.declared.sign.Sign.{Sign}
+use Rattle.ms_dfa_explore.proofs.RunLemmas.{length-states_of}
 use Rattle.ms_project.specs.Projection.{AreSignedSets}
 use Rattle.ms_project.proofs.AssemblyLemmas.{members_marked, states_test_below, zeros_within, automaton_made, values_made}
 use Rattle.ms_project.proofs.quantify.project_within.Goals as goal
@@ -39,3 +42,10 @@ returns-clause-values c =
     c.args.quantifier.quant c.in-Ok-sign_sets.states
     (subst (λ mode. AreSignedSets mode c.args.quantifier.quant (variables_of p.tracks) p.marks p.found.subsets.sets p.found.store.nodes p.found.states c.in-Ok-sign_sets.states) c.mode.ensures c.in-Ok-sign_sets.ensures)
     c.mode-2.result c.mode-2.ensures c.make.result c.make.ensures
+
+pub returns-clause-within : goal.returns-clause-within
+returns-clause-within c =
+    let counted = length-states_of c.in-Ok-sign_sets.states in
+    let long = c.in-Ok-sign_sets.ensures.signs.long in
+    let within = c.in-Ok.ensures.within in
+    subst (λ (content : Content Sign). length content.nodes + length content.states ≤ c.args.limit) (sym c.make.ensures) (omega (arith, counted, long, within))

@@ -1,7 +1,7 @@
 use Rattle.std.proofs.Common.{ℕ, zero, suc, IsTrue}
 use Rattle.std.proofs.lemmas.Bool.{false≢true}
 use Rattle.ms_quotient.specs.Closure.{marks_at, place_after}
-use Rattle.ms_quotient.specs.Examples.{marks_of_ring, way_into_ring}
+use Rattle.ms_quotient.specs.inner.Examples.{marks_of_ring, way_into_ring}
 use Rattle.ms_quotient.proofs.examples.worked_closures.Goals as goal
 
 -- Yes stands at no place of the ring

@@ -1,5 +1,5 @@
 use Rattle.std.proofs.Common.{◌++◌, ◌∷◌, [], ap, ◌∙◌}
-use Rattle.ms_rename.specs.Choice.{choice_of}
+use Rattle.ms_rename.specs.inner.Choice.{choice_of}
 use Rattle.ms_rename.proofs.ImageLemmas.{map-more}
 use Rattle.ms_rename.proofs.choose.choices.Goals as goal
 

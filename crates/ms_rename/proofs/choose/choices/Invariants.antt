@@ -1,5 +1,5 @@
 use Rattle.std.proofs.Common.{◌≡◌, map, take}
-use Rattle.ms_rename.specs.Choice.{choice_of}
+use Rattle.ms_rename.specs.inner.Choice.{choice_of}
 use Rattle.ms_rename.proofs.choose.choices.Given as goal
 
 -- the ends that are chosen so far

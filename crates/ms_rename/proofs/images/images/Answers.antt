@@ -2,7 +2,7 @@ use Rattle.std.proofs.Common.{◌≡◌, ◌+◌, ◌∷◌, [], if◌then◌els
 use Rattle.ms_arena.specs.declared.node.Ref.{Ref}
 use Rattle.ms_arena.specs.declared.node.Ref.TheVariants.{Inner}
 use Rattle.ms_arena.specs.Diagram.{Bits, IsBefore, leaf_of}
-use Rattle.ms_rename.specs.Image.{IsImage, AreImages, image_of}
+use Rattle.ms_rename.specs.inner.Image.{IsImage, AreImages, image_of}
 use Rattle.ms_rename.proofs.ImageLemmas.{IsImage-of, IsImage-node, AreImages-more}
 use Rattle.ms_rename.proofs.images.images.Goals as goal
 

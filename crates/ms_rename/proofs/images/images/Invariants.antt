@@ -1,6 +1,6 @@
 use Rattle.std.proofs.Common.{◌≡◌, length}
 use Rattle.ms_diagram.specs.Store.{IsStore}
-use Rattle.ms_rename.specs.Image.{AreImages}
+use Rattle.ms_rename.specs.inner.Image.{AreImages}
 use Rattle.ms_rename.proofs.images.images.Given as goal
 
 -- the images of the nodes so far

@@ -1,10 +1,10 @@
-use Rattle.std.proofs.Common.{refl, ap, sym, subst, ◌∙◌}
+use Rattle.std.proofs.Common.{refl, ap, sym, subst, ◌∙◌, ◌+◌, ◌≤◌, length, arith}
 use Rattle.ms_dfa.specs.Automaton.{IsAutomaton, variables_of}
-use Rattle.ms_logic.specs.declared.sign.Sign.{Sign}
-use Rattle.ms_logic.specs.Content.{Content, sign_of}
-use Rattle.ms_explore.specs.Explored.{GrowsForSome}
-use Rattle.ms_explore.specs.Tracks.{places_among}
-use Rattle.ms_explore.proofs.RunLemmas.{explored}
+use Rattle.ms_logic_words.specs.declared.sign.Sign.{Sign}
+use Rattle.ms_logic_words.specs.Content.{Content, sign_of}
+use Rattle.ms_dfa_explore.specs.Explored.{GrowsForSome}
+use Rattle.ms_dfa_explore.specs.Tracks.{places_among}
+use Rattle.ms_dfa_explore.proofs.RunLemmas.{explored, length-states_of}
 use Rattle.ms_product.specs.declared.operand.Brought.{Brought}
 use Rattle.ms_product.specs.Widened.{widened_findings, IsBroughtIn}
 use Rattle.ms_product.proofs.ChangeLemmas.{content_is}
@@ -42,3 +42,10 @@ returns-clause-signs c = λ word over.
     ap (λ (content : Content Sign). sign_of content word) (c.make.ensures ∙ is)
     ∙ sign_of-brought a c.tracks.ensures.automaton c.bring.new.store.nodes made.start made.states c.bring.ensures.grows.store.ordered c.bring.ensures.grows.store.reduced brought.starts brought.all
     brought.follows word over
+
+pub returns-clause-within : goal.returns-clause-within
+returns-clause-within c =
+    let counted = length-states_of c.in-Ok-bring.brought.states in
+    let within = c.in-Ok-bring.ensures.within in
+    let at_limit = c.new-store.ensures.limit in
+    subst (λ (content : Content Sign). length content.nodes + length content.states ≤ c.args.limit) (sym c.make.ensures) (omega (arith, counted, within, at_limit))

@@ -1,4 +1,4 @@
-use Rattle.ms_theory.specs.Values.{own_meaning}
+use Rattle.ms_dfa.specs.Values.{own_meaning}
 use Rattle.ms_rename.specs.Renamed.{renamed_meaning, renamed_places}
 use Rattle.ms_rename.proofs.RenamedLemmas.{HasValues-renamed, refused_renamed, values_same}
 use Rattle.ms_rename.proofs.renaming.rename.Goals as goal

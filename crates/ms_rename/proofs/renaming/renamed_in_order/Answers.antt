@@ -1,9 +1,9 @@
 use Rattle.std.proofs.Common.{ap, sym, subst, ◌∙◌}
 use Rattle.ms_diagram.specs.Store.{Contents}
 use Rattle.ms_dfa.specs.Automaton.{IsAutomaton}
-use Rattle.ms_logic.specs.declared.sign.Sign.{Sign}
-use Rattle.ms_logic.specs.Content.{Content}
-use Rattle.ms_theory.specs.Values.{HasValues, own_meaning}
+use Rattle.ms_logic_words.specs.declared.sign.Sign.{Sign}
+use Rattle.ms_logic_words.specs.Content.{Content}
+use Rattle.ms_dfa.specs.Values.{HasValues, own_meaning}
 use Rattle.ms_product.proofs.ChangeLemmas.{content_is}
 use Rattle.ms_rename.specs.Renamed.{renamed, renamed_meaning}
 use Rattle.ms_rename.proofs.OrderLemmas.{distinct-same, renamed-rising, HasValues-in_order, IsAutomaton-in_order}
@@ -14,7 +14,7 @@ make-requires c =
     let a = c.args.a.now in
     let names = c.args.map.now in
     let made : Content Sign = record a { variables = renamed names a.variables } in
-    let same = content_is c.in_ok-store.store.nodes c.mode.result c.in_ok-tracks.tracks c.start_ref.result c.in_ok-states.states made (ap (λ (s : Contents). s.nodes) c.in_ok-store.ensures ∙ c.store.ensures)
+    let same = content_is c.in_ok-store.store.nodes c.mode.result c.in_ok-tracks.tracks c.start_ref.result c.in_ok-states.states made (c.in_ok-store.ensures.nodes ∙ c.store.ensures)
     c.mode.ensures (c.in_ok-tracks.ensures ∙ ap (renamed names) c.tracks.ensures.variables) c.start_ref.ensures.start c.in_ok-states.ensures in
     subst IsAutomaton (sym same) (IsAutomaton-in_order names a c.tracks.ensures.automaton c.requires.long c.requires.rises)
 
@@ -30,7 +30,14 @@ returns-clause-values c =
     let a = c.args.a.now in
     let names = c.args.map.now in
     let made : Content Sign = record a { variables = renamed names a.variables } in
-    let same = content_is c.in_ok-store.store.nodes c.mode.result c.in_ok-tracks.tracks c.start_ref.result c.in_ok-states.states made (ap (λ (s : Contents). s.nodes) c.in_ok-store.ensures ∙ c.store.ensures)
+    let same = content_is c.in_ok-store.store.nodes c.mode.result c.in_ok-tracks.tracks c.start_ref.result c.in_ok-states.states made (c.in_ok-store.ensures.nodes ∙ c.store.ensures)
     c.mode.ensures (c.in_ok-tracks.ensures ∙ ap (renamed names) c.tracks.ensures.variables) c.start_ref.ensures.start c.in_ok-states.ensures in
     subst (HasValues (renamed_meaning names a.variables (own_meaning a))) (sym (c.make.ensures ∙ same))
     (HasValues-in_order names a c.tracks.ensures.automaton c.requires.long c.requires.rises)
+
+pub returns-clause-parts : goal.returns-clause-parts
+returns-clause-parts c = record {
+  start = ap (λ (content : Content Sign). content.start) c.make.ensures ∙ c.start_ref.ensures.start;
+  states = ap (λ (content : Content Sign). content.states) c.make.ensures ∙ c.in_ok-states.ensures;
+  nodes = ap (λ (content : Content Sign). content.nodes) c.make.ensures ∙ c.in_ok-store.ensures.nodes ∙ c.store.ensures;
+}

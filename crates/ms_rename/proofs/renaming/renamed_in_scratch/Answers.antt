@@ -2,8 +2,8 @@ use Rattle.std.proofs.Common.{length, List, map, ap, sym, subst, ◌∙◌}
 use Rattle.ms_arena.specs.declared.node.Ref.{Ref}
 use Rattle.ms_arena.specs.declared.node.Node.{Node}
 use Rattle.ms_dfa.specs.Automaton.{content_of, variables_of}
-use Rattle.ms_explore.specs.Tracks.{distinct, places_among}
-use Rattle.ms_rename.specs.Image.{AreImages, IsRenamedBy, image_of, with_image}
+use Rattle.ms_dfa_explore.specs.Tracks.{distinct, places_among}
+use Rattle.ms_rename.specs.inner.Image.{AreImages, IsRenamedBy, image_of, with_image}
 use Rattle.ms_rename.specs.Renamed.{renamed, renamed_places}
 use Rattle.ms_rename.proofs.ImageLemmas.{IsRenamedBy-made}
 use Rattle.ms_rename.proofs.RenamedLemmas.{IsAutomaton-renamed}

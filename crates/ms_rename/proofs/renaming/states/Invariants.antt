@@ -1,6 +1,6 @@
 use Rattle.std.proofs.Common.{◌≡◌, map, take}
 use Rattle.ms_dfa.specs.Automaton.{states_of}
-use Rattle.ms_rename.specs.Image.{with_image}
+use Rattle.ms_rename.specs.inner.Image.{with_image}
 use Rattle.ms_rename.proofs.renaming.states.Given as goal
 
 -- the states so far

@@ -1,6 +1,6 @@
 use Rattle.std.proofs.Common.{◌≡◌, take}
 use Rattle.ms_dfa.specs.Automaton.{variables_of}
-use Rattle.ms_explore.specs.Tracks.{places_among}
+use Rattle.ms_dfa_explore.specs.Tracks.{places_among}
 use Rattle.ms_rename.proofs.tracks.places.Given as goal
 
 -- the places so far

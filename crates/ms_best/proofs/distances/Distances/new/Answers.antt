@@ -1,6 +1,6 @@
 use Rattle.std.proofs.Common.{List, subst, sym, ◌∙◌}
 use Rattle.ms_best.specs.declared.graph.Vertex.{Vertex}
-use Rattle.ms_best.specs.Graph.{IsClosed}
+use Rattle.ms_best.specs.inner.Graph.{IsClosed}
 use Rattle.ms_best.proofs.Vertices.{graph_is_closed}
 use Rattle.ms_best.proofs.distances.Distances.new.Goals as goal
 

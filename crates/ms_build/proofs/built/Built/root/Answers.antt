@@ -34,8 +34,8 @@ over_variables-requires-clause-variables c =
     subst (λ variables. AreRootVariables c.root-child.result.now variables) root.3
     (subst (λ child. AreRootVariables child root.0.variables) root.2 (c.requires.read c.args.r root.0 root.1).1)
 
-pub returns : goal.returns
-returns c =
+pub returns-clause-root : goal.returns-clause-root
+returns-clause-root c =
     let plan = c.args.self.now.plan in
     let root = root_at plan.dag.now.roots c.args.r c.root-child.result.now c.variables-variables.result.now c.root-child.ensures c.variables-variables.ensures in
     let over = subst (λ variables. IsOverRoot plan root.0.child variables c.in_ok-over.over) (sym root.3)

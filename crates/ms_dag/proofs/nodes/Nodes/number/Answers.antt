@@ -1,7 +1,7 @@
 use Rattle.std.proofs.Common.{◌≡◌, ◌==◌, ◌++◌, ◌∷◌, [], if◌then◌else◌, length, slice_get, Some, IfOk, ap, ◌∙◌}
 use Rattle.ms_diagram.specs.Numbering.{Numbers}
-use Rattle.ms_dag.specs.Keys.{keys_of}
-use Rattle.ms_dag.specs.Words.{words_of_entry}
+use Rattle.ms_dag.specs.inner.Keys.{keys_of}
+use Rattle.ms_dag.specs.inner.Words.{words_of_entry}
 use Rattle.ms_dag.proofs.KeyLemmas.{Kept, kept, both_ok}
 use Rattle.ms_dag.proofs.Results.{if_ok}
 use Rattle.ms_dag.proofs.nodes.Nodes.number.Goals as goal

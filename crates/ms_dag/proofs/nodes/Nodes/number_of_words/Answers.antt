@@ -4,7 +4,7 @@ use Rattle.std.specs.Option.{option_map}
 use Rattle.std.proofs.lemmas.Option.{slice_get-map}
 use Rattle.ms_diagram.proofs.Keys.{numbered}
 use Rattle.ms_diagram.proofs.ListLemmas.{same_set, set_itself}
-use Rattle.ms_dag.specs.Words.{words_of_entry}
+use Rattle.ms_dag.specs.inner.Words.{words_of_entry}
 use Rattle.ms_dag.proofs.nodes.Nodes.number_of_words.Goals as goal
 
 pub returns-clause-numbers : goal.returns-clause-numbers

@@ -3,7 +3,7 @@ use Rattle.std.proofs.lemmas.List.{length-take-le}
 use Rattle.ms_arena.specs.declared.node.Ref.{Ref}
 use Rattle.ms_arena.specs.Diagram.{leaf_of}
 use Rattle.ms_arena.proofs.Paths.{leaf_of-leaf}
-use Rattle.ms_logic.specs.Content.{spread, bits_at}
+use Rattle.ms_logic_words.specs.Content.{spread, bits_at}
 use Rattle.ms_dfa.specs.Part.{has_value}
 use Rattle.ms_dfa.proofs.Following.{step_in, counted_in, length_in}
 use Rattle.ms_dfa.proofs.automaton.Automaton.follow.Goals as goal

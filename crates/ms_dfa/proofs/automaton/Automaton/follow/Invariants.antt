@@ -1,5 +1,5 @@
 use Rattle.ms_arena.specs.Halves.{size_of}
-use Rattle.ms_logic.specs.Content.{spread, bits_at, HasValueAt}
+use Rattle.ms_logic_words.specs.Content.{spread, bits_at, HasValueAt}
 use Rattle.ms_dfa.specs.Part.{has_value}
 use Rattle.ms_dfa.proofs.Following.{IsOnPath}
 use Rattle.ms_dfa.proofs.automaton.Automaton.follow.Given as goal

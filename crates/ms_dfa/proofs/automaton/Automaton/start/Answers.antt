@@ -1,6 +1,6 @@
 use Rattle.std.proofs.Common.{subst}
-use Rattle.ms_logic.specs.Content.{Content, IsFollowed, is_truth_value}
-use Rattle.ms_logic.specs.declared.sign.Sign.{Sign}
+use Rattle.ms_logic_words.specs.Content.{Content, IsFollowed, is_truth_value}
+use Rattle.ms_logic_words.specs.declared.sign.Sign.{Sign}
 use Rattle.ms_dfa.proofs.automaton.Automaton.start.Goals as goal
 
 pub follow-requires-clause-root : goal.follow-requires-clause-root

@@ -3,8 +3,8 @@ use Rattle.std.proofs.lemmas.Result.{err_from_is_err_and}
 use Rattle.ms_arena.specs.contracts.node.RefPartialEq.TheImpl as of_ref
 use Rattle.ms_arena.proofs.Equality.{same_ref}
 use Rattle.ms_diagram.specs.Across.{HasLeavesAcross, IsPairedAcross}
-use Rattle.ms_diagram.specs.Adding.{AddsOnly-same, AddsOnly-implies}
-use Rattle.ms_diagram.specs.Equal.{pair_eq, same_pair}
+use Rattle.ms_diagram.specs.inner.Adding.{AddsOnly-same, AddsOnly-implies}
+use Rattle.ms_diagram.specs.inner.Equal.{pair_eq, same_pair}
 use Rattle.ms_diagram.proofs.TableLemmas.{EachEntry-found}
 use Rattle.ms_diagram.proofs.AcrossLemmas.{has_alone, number_alone, lacks_alone, crossing_split}
 use Rattle.ms_diagram.proofs.across.CrossingWalk.visit.Goals as goal

@@ -2,9 +2,9 @@ use Rattle.std.proofs.Common.{◌≡◌, ℕ, Ok, sym, subst, refl}
 use Rattle.std.proofs.lemmas.Result.{err_from_is_err_and}
 use Rattle.ms_arena.specs.contracts.node.RefPartialEq.TheImpl as of_ref
 use Rattle.ms_arena.proofs.Equality.{same_ref}
-use Rattle.ms_diagram.specs.Adding.{AddsOnly-same, AddsOnly-implies}
+use Rattle.ms_diagram.specs.inner.Adding.{AddsOnly-same, AddsOnly-implies}
 use Rattle.ms_diagram.specs.Apply.{HasLeaves, IsPaired}
-use Rattle.ms_diagram.specs.Equal.{pair_eq, same_pair}
+use Rattle.ms_diagram.specs.inner.Equal.{pair_eq, same_pair}
 use Rattle.ms_diagram.proofs.TableLemmas.{EachEntry-found}
 use Rattle.ms_diagram.proofs.ApplyLemmas.{HasLeaves-leaf, Builds-leaf, leaves_lack, applying_split}
 use Rattle.ms_diagram.proofs.apply.PairsWalk.visit.Goals as goal

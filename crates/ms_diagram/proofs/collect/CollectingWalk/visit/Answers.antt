@@ -5,9 +5,9 @@ use Rattle.ms_arena.specs.contracts.node.RefPartialEq.TheImpl as of_ref
 use Rattle.ms_arena.specs.Halves.{IsLeaf}
 use Rattle.ms_arena.proofs.Equality.{same_ref}
 use Rattle.ms_cache.proofs.MemoLemmas.{EachEntry-passed}
-use Rattle.ms_diagram.specs.Adding.{AddsOnly-same, AddsOnly-implies}
+use Rattle.ms_diagram.specs.inner.Adding.{AddsOnly-same, AddsOnly-implies}
 use Rattle.ms_diagram.specs.Collect.{HasLeafSet, IsSetOf, IsCollected, AreHalves, AreBothHalves, IsSetLeaf, IsSetMissing, least_level, leaf_values}
-use Rattle.ms_diagram.specs.Equal.{same_list}
+use Rattle.ms_diagram.specs.inner.Equal.{same_list}
 use Rattle.ms_diagram.specs.Growth.{OnNodes}
 use Rattle.ms_diagram.specs.Numbering.{AddsOnly}
 use Rattle.ms_diagram.proofs.CollectLemmas.{HasLeafSet-leaves, Builds-set_leaf, set_lacks}

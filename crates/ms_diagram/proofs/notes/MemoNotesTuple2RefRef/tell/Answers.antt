@@ -1,6 +1,6 @@
 use Rattle.ms_arena.specs.contracts.node.RefPartialEq.TheImpl as of_ref
 use Rattle.ms_cache.proofs.MemoLemmas.{Contains-told, lookup-told}
-use Rattle.ms_diagram.specs.Equal.{pair_eq}
+use Rattle.ms_diagram.specs.inner.Equal.{pair_eq}
 use Rattle.ms_diagram.proofs.NotesLemmas.{key_of, NotesOnly-pair_entries, lookup-noted_pair}
 use Rattle.ms_diagram.proofs.notes.MemoNotesTuple2RefRef.tell.Goals as goal
 

@@ -1,6 +1,6 @@
 use Rattle.std.proofs.Common.{◌≡◌, None, Some, sym, ap, subst, ◌∙◌}
 use Rattle.std.specs.Map.{lookup}
-use Rattle.ms_diagram.specs.Short.{short_entries}
+use Rattle.ms_diagram.specs.inner.Short.{short_entries}
 use Rattle.ms_diagram.proofs.PairLemmas.{numbers_eq}
 use Rattle.ms_diagram.proofs.PlaceLemmas.{lookup-in_front, lookup-behind}
 use Rattle.ms_diagram.proofs.ShortLemmas.{refs_eq, lookup-short, lookup-long}

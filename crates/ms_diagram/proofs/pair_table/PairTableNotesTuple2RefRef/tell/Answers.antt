@@ -1,8 +1,8 @@
 use Rattle.std.proofs.Common.{◌≡◌, ◌++◌, Some, subst, ◌∙◌}
 use Rattle.std.proofs.lemmas.Result.{on_ok_weaker}
 use Rattle.std.specs.Map.{lookup}
-use Rattle.ms_diagram.specs.Notes.{NotesOnly}
-use Rattle.ms_diagram.specs.Short.{short_entries}
+use Rattle.ms_diagram.specs.inner.Notes.{NotesOnly}
+use Rattle.ms_diagram.specs.inner.Short.{short_entries}
 use Rattle.ms_diagram.proofs.PairLemmas.{numbers_eq}
 use Rattle.ms_diagram.proofs.PlaceLemmas.{lookup-in_front, lookup-behind, NotesOnly-in_front, NotesOnly-behind}
 use Rattle.ms_diagram.proofs.ShortLemmas.{refs_eq, lookup-short, lookup-long, NotesOnly-short, AreShort-noted}

@@ -1,7 +1,7 @@
 use Rattle.std.proofs.Common.{◌≡◌, nat_eq, List, Option, sym, ap, subst, ◌∙◌}
 use Rattle.std.specs.Map.{lookup}
 use Rattle.ms_arena.specs.declared.node.Ref.{Ref}
-use Rattle.ms_diagram.specs.Places.{place_entries}
+use Rattle.ms_diagram.specs.inner.Places.{place_entries}
 use Rattle.ms_diagram.proofs.PlaceLemmas.{lookup-in_front, lookup-behind}
 use Rattle.ms_diagram.proofs.places.PlaceTableNotesU32.ask.Goals as goal
 use Rattle.ms_diagram.proofs.places.PlaceTableNotesU32.ask.Goals.{in-Some, in-None}

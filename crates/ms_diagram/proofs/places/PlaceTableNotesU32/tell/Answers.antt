@@ -2,8 +2,8 @@ use Rattle.std.proofs.Common.{◌≡◌, ◌++◌, ℕ, nat_eq, List, Option, No
 use Rattle.std.proofs.lemmas.Result.{on_ok_weaker}
 use Rattle.std.specs.Map.{lookup}
 use Rattle.ms_arena.specs.declared.node.Ref.{Ref}
-use Rattle.ms_diagram.specs.Notes.{NotesOnly}
-use Rattle.ms_diagram.specs.Places.{place_entries}
+use Rattle.ms_diagram.specs.inner.Notes.{NotesOnly}
+use Rattle.ms_diagram.specs.inner.Places.{place_entries}
 use Rattle.ms_diagram.proofs.PlaceLemmas.{lookup-in_front, lookup-behind, NotesOnly-in_front, NotesOnly-behind}
 use Rattle.ms_diagram.proofs.places.PlaceTableNotesU32.tell.Goals as goal
 

@@ -1,7 +1,7 @@
 use Rattle.std.proofs.Common.{sym, subst, arith}
 use Rattle.std.proofs.lemmas.List.{nil_from_length}
 use Rattle.std.proofs.lemmas.Result.{err_from_is_err_and}
-use Rattle.ms_edge.specs.declared.fault.StepFault.TheVariants.{Memory}
+use Rattle.ms_list.specs.declared.fault.StepFault.TheVariants.{Memory}
 use Rattle.ms_diagram.specs.declared.walk.Turn.TheVariants.{Down}
 use Rattle.ms_diagram.proofs.Walking.{IsWalking}
 use Rattle.ms_diagram.proofs.WalkLemmas.{walk_begun, visit_instead, walk_done, fits_down, visit_made, visit_split, visit_refused, walk_high, end_valid_low, end_above_low, end_above_high, node_refused, walk_node, node_forgotten}

@@ -3,7 +3,7 @@ use Rattle.ms_logic.specs.declared.source.Item.{Item}
 use Rattle.ms_include.specs.Include.{AllBecome, Loads}
 use Rattle.ms_include.specs.Load.{files_of}
 use Rattle.ms_edge.specs.Files.{OnlyRead, Seen, between}
-use Rattle.ms_include.specs.Seen.{IsPart}
+use Rattle.ms_include.specs.inner.Seen.{IsPart}
 use Rattle.ms_include.proofs.loader.Loader.+includes.Given as goal
 
 abbrev pub decreases-include : goal.decreases-include

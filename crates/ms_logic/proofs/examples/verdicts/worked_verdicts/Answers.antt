@@ -5,7 +5,7 @@ use Rattle.ms_logic.specs.declared.mode.Order.TheVariants.{One}
 use Rattle.ms_logic.specs.declared.mode.Quant.TheVariants.{Ex}
 use Rattle.ms_logic.specs.declared.mode.Rel.TheVariants.{Less}
 use Rattle.ms_logic.specs.Assignment.{Universe, Env, IsWithin, IsValueOf, assign}
-use Rattle.ms_logic.specs.Examples.{naturals, string, nothing_given}
+use Rattle.ms_logic.specs.inner.Examples.{naturals, string, nothing_given}
 use Rattle.ms_logic.specs.Tree.{number_variable, comparison, quantified, unrestricted}
 use Rattle.ms_logic.specs.Truth.{No}
 use Rattle.ms_logic.proofs.Values.{each_value}

@@ -1,5 +1,5 @@
 use Rattle.std.proofs.Common.{◌-◌, cond, take, sym, ap, ◌∙◌, arith}
-use Rattle.ms_lower.specs.Scope.{names_in}
+use Rattle.ms_lower.specs.inner.Scope.{names_in}
 use Rattle.ms_lower.proofs.Scopes.{name_before}
 use Rattle.ms_lower.proofs.scope.Scope.name_of.Goals as goal
 

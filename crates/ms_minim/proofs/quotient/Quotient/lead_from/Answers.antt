@@ -1,6 +1,6 @@
 use Rattle.std.proofs.Common.{sym, subst}
-use Rattle.ms_minim.specs.Origin.{AreOrigins}
-use Rattle.ms_minim.specs.Quotient.{Quotienting}
+use Rattle.ms_minim.specs.inner.Origin.{AreOrigins}
+use Rattle.ms_minim.specs.inner.Quotient.{Quotienting}
 use Rattle.ms_minim.proofs.OriginLemmas.{seen_next}
 use Rattle.ms_minim.proofs.QuotientLemmas.{class_within, state_within, IsQuotient-next, Builds-leads_on}
 use Rattle.ms_minim.proofs.quotient.Quotient.lead_from.Goals as goal

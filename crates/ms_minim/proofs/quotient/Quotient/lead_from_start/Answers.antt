@@ -1,7 +1,7 @@
 use Rattle.std.proofs.Common.{sym, ap, subst, ◌∙◌}
 use Rattle.ms_diagram.specs.Numbering.{AddsOnly}
-use Rattle.ms_minim.specs.Origin.{IsSeen}
-use Rattle.ms_minim.specs.Quotient.{IsClassBehind, Quotienting}
+use Rattle.ms_minim.specs.inner.Origin.{IsSeen}
+use Rattle.ms_minim.specs.inner.Quotient.{IsClassBehind, Quotienting}
 use Rattle.ms_minim.proofs.QuotientLemmas.{IsQuotient-start}
 use Rattle.ms_minim.proofs.quotient.Quotient.lead_from_start.Goals as goal
 

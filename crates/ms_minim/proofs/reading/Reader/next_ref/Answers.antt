@@ -1,4 +1,4 @@
-use Rattle.ms_logic.specs.Content.{is_in_letters}
+use Rattle.ms_logic_words.specs.Content.{is_in_letters}
 use Rattle.ms_minim.proofs.ReadingLemmas.{read-followed}
 use Rattle.ms_minim.proofs.reading.Reader.next_ref.Goals as goal
 

@@ -1,7 +1,7 @@
 use Rattle.std.proofs.Common.{sym, subst, ap, ◌∙◌}
-use Rattle.ms_rules.specs.View.{declaration_of}
-use Rattle.ms_names.specs.Progress.{IsMade, known}
-use Rattle.ms_scopes.specs.State.{State}
+use Rattle.ms_names_rules.specs.View.{declaration_of}
+use Rattle.ms_names.specs.inner.Progress.{IsMade, known}
+use Rattle.ms_names_scopes.specs.inner.State.{State}
 use Rattle.ms_names.proofs.Makes.{made-there}
 use Rattle.ms_names.proofs.progress.Progress.declare.Goals as goal
 

@@ -1,8 +1,8 @@
 use Rattle.std.proofs.Common.{◌+◌, List, map, drop, subst, ap, arith}
 use Rattle.std.proofs.lemmas.Result.{err_from_is_err_and}
-use Rattle.ms_rules.specs.Syntax.{Placed}
-use Rattle.ms_rules.specs.View.{placed_of}
-use Rattle.ms_rules.proofs.Repeats.{next}
+use Rattle.ms_names_rules.specs.Syntax.{Placed}
+use Rattle.ms_names_rules.specs.View.{placed_of}
+use Rattle.ms_names_rules.proofs.Repeats.{next}
 use Rattle.ms_names.proofs.Sources.{Goes, goes-refused}
 use Rattle.ms_names.proofs.progress.Progress.declare_all.Goals as goal
 

@@ -1,5 +1,5 @@
 use Rattle.std.proofs.Common.{drop, map}
-use Rattle.ms_rules.specs.View.{placed_of}
+use Rattle.ms_names_rules.specs.View.{placed_of}
 use Rattle.ms_names.proofs.Sources.{Goes}
 use Rattle.ms_names.proofs.progress.Progress.declare_all.Given as goal
 

@@ -2,12 +2,12 @@ use Rattle.std.proofs.Common.{◌++◌, ◌∷◌, [], map, Some, refl, sym, sub
 use Rattle.std.proofs.lemmas.List.{map-append}
 use Rattle.std.proofs.lemmas.Result.{on_ok_weaker}
 use Rattle.ms_logic.specs.View.{declaration_of as parameter_of, formula_of, predicate_of}
-use Rattle.ms_rules.specs.TypedSource.{placed_formula_of}
-use Rattle.ms_rules.specs.View.{placed_of}
+use Rattle.ms_names_rules.specs.TypedSource.{placed_formula_of}
+use Rattle.ms_names_rules.specs.View.{placed_of}
 use Rattle.ms_names.specs.declared.outcome.Outcome.TheVariants.{Formula, Globals, Predicate}
 use Rattle.ms_names.specs.declared.progress.Progress.{Progress}
-use Rattle.ms_names.specs.Outcome.{Made, outcome_of}
-use Rattle.ms_names.specs.Progress.{Keeps, globals_with, kept_formulas, kept_globals, kept_predicates}
+use Rattle.ms_names.specs.inner.Outcome.{Made, outcome_of}
+use Rattle.ms_names.specs.inner.Progress.{Keeps, globals_with, kept_formulas, kept_globals, kept_predicates}
 use Rattle.ms_names.proofs.Sources.{keeps-formula, keeps-globals, keeps-nothing, keeps-predicate}
 use Rattle.ms_names.proofs.progress.Progress.keep.Goals as goal
 

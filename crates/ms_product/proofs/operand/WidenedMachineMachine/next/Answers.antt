@@ -1,7 +1,7 @@
 use Rattle.std.proofs.Common.{length, sym, subst}
 use Rattle.ms_diagram.specs.Bring.{RenamedLeaf}
 use Rattle.ms_diagram.specs.Growth.{Builds}
-use Rattle.ms_logic.specs.Content.{is_in_letters}
+use Rattle.ms_logic_words.specs.Content.{is_in_letters}
 use Rattle.ms_product.specs.Widened.{IsRisingMap}
 use Rattle.ms_product.proofs.WidenedLemmas.{Renames-followed, Builds-next}
 use Rattle.ms_product.proofs.operand.WidenedMachineMachine.next.Goals as goal

@@ -1,5 +1,5 @@
 use Rattle.std.proofs.Common.{length, sym, subst}
-use Rattle.ms_logic.specs.Content.{is_truth_value}
+use Rattle.ms_logic_words.specs.Content.{is_truth_value}
 use Rattle.ms_product.specs.Widened.{IsRisingMap}
 use Rattle.ms_product.proofs.WidenedLemmas.{Renames-followed}
 use Rattle.ms_product.proofs.operand.WidenedMachineMachine.start.Goals as goal

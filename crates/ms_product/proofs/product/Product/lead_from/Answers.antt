@@ -4,7 +4,7 @@ use Rattle.ms_diagram.specs.declared.sides.Sides.{Sides}
 use Rattle.ms_diagram.specs.Across.{AreOn, HasLeavesAcross, NumberAcross, LacksAcross}
 use Rattle.ms_diagram.specs.Growth.{Builds}
 use Rattle.ms_diagram.specs.Numbering.{AddsOnly}
-use Rattle.ms_logic.specs.Content.{is_in_letters}
+use Rattle.ms_logic_words.specs.Content.{is_in_letters}
 use Rattle.ms_product.specs.Pairing.{Operands, Pairing, HaveRisingMaps}
 use Rattle.ms_product.proofs.ProductLemmas.{AreOn-followed, AreStates-added, Builds-next_pair, next_leads}
 use Rattle.ms_product.proofs.product.Product.lead_from.Goals as goal

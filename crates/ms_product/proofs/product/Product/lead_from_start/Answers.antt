@@ -3,7 +3,7 @@ use Rattle.ms_arena.specs.declared.node.Ref.{Ref}
 use Rattle.ms_diagram.specs.declared.sides.Sides.{Sides}
 use Rattle.ms_diagram.specs.Across.{AreOn, HasLeavesAcross}
 use Rattle.ms_diagram.specs.Numbering.{AddsOnly}
-use Rattle.ms_logic.specs.Content.{is_truth_value}
+use Rattle.ms_logic_words.specs.Content.{is_truth_value}
 use Rattle.ms_product.specs.Pairing.{Operands, Pairing, HaveRisingMaps}
 use Rattle.ms_product.proofs.ProductLemmas.{AreOn-followed, AreStates-added}
 use Rattle.ms_product.proofs.product.Product.lead_from_start.Goals as goal

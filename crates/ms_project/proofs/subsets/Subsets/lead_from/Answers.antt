@@ -3,7 +3,7 @@ use Rattle.std.specs.Prelude.{map as map_list}
 use Rattle.ms_dfa.specs.Automaton.{states_of}
 use Rattle.ms_dfa.specs.declared.state.State.{State}
 use Rattle.ms_project.specs.Subsets.{next_in}
-use Rattle.ms_project.specs.Later.{subsetting_later_itself}
+use Rattle.ms_project.specs.inner.Later.{subsetting_later_itself}
 use Rattle.ms_project.proofs.SubsetSteps.{places_later, next_members, next_valid, next_handable, next_later, next_builds, memory_builds}
 use Rattle.ms_project.proofs.subsets.Subsets.lead_from.Goals as goal
 

@@ -1,8 +1,0 @@
-use Rattle.ms_accepted.proofs.Worked.{one, unclosed}
-use Rattle.ms_accepted.proofs.examples.worked_texts.Goals as goal
-
-pub returns-clause-one : goal.returns-clause-one
-returns-clause-one c = one
-
-pub returns-clause-unclosed : goal.returns-clause-unclosed
-returns-clause-unclosed c = unclosed

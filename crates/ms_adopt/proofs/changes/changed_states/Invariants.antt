@@ -1,7 +1,0 @@
-use Rattle.std.proofs.Common.{◌≡◌, length}
-use Rattle.ms_adopt.specs.Open.{ChangesEach}
-use Rattle.ms_adopt.proofs.changes.changed_states.Given as goal
-
--- the states so far
-abbrev pub invariant-loop-state : goal.invariant-loop-state
-invariant-loop-state l = (length l.made ≡ l.state) × ChangesEach l.a l.made

@@ -1,5 +1,0 @@
-use Rattle.ms_adopt.proofs.LawLemmas.{answers_as_file}
-use Rattle.ms_adopt.proofs.laws.laws_of_imports.Goals as goal
-
-pub returns : goal.returns
-returns c = answers_as_file

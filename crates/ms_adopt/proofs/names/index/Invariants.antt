@@ -1,7 +1,0 @@
-use Rattle.std.proofs.Common.{◌≡◌, take}
-use Rattle.ms_adopt.specs.Map.{IsIndex}
-use Rattle.ms_adopt.proofs.names.index.Given as goal
-
--- a table of the names so far
-abbrev pub invariant-loop-name : goal.invariant-loop-name
-invariant-loop-name l = IsIndex (take l.name-index l.names) l.made × (l.place ≡ l.name-index)

@@ -1,7 +1,0 @@
-use Rattle.ms_dfa.specs.Automaton.{variables_of}
-use Rattle.ms_adopt.specs.Checked.{TellsNumbers}
-use Rattle.ms_adopt.proofs.numbers.numbers.Given as goal
-
--- the numbers among the tracks so far
-abbrev pub invariant-loop-track : goal.invariant-loop-track
-invariant-loop-track l = TellsNumbers (variables_of l.tracks) l.track-index l.made

@@ -1,6 +1,0 @@
-ghost use Rattle.ms_adopt.specs.Laws.{AnswersAsFile};
-
-/// An adopted file answers as an import what it says.
-pub fn laws_of_imports()
-    ensures { AnswersAsFile }
-{}

@@ -1,0 +1,79 @@
+ghost use Rattle.std.specs.Prelude.{◌≡◌, false, IfOk};
+ghost use Rattle.clap.specs.Words.{app_of, new_app, rule_of};
+ghost use Rattle.ms_app_words.specs.Command.{app_for, command, decide_app, flag, gen_app, option, required, same_app};
+
+use crate::command::Verb;
+use clap::{Arg, ArgAction, Command};
+use std::alloc::{AllocError, Global};
+
+/// A command without a flag for help.
+fn command<'a>(alloc: Global, name: &'a str) -> Command<'a>
+    ensures { app_of result ≡ command name.entry.now }
+{
+    Command::new(alloc, name).disable_help_flag(true)
+}
+
+/// A value by its position, which must be there.
+fn required<'a>(alloc: Global, id: &'a str) -> Arg<'a>
+    ensures rule { rule_of result ≡ required id.entry.now }
+    ensures local { result.global ≡ false }
+{
+    Arg::new(alloc, id).required(true)
+}
+
+/// `--NAME VALUE`: an option with a value.
+fn option<'a>(alloc: Global, name: &'a str) -> Arg<'a>
+    ensures rule { rule_of result ≡ option name.entry.now }
+    ensures local { result.global ≡ false }
+{
+    Arg::new(alloc, name).long(name)
+}
+
+/// `--NAME`: a flag.
+fn flag<'a>(alloc: Global, name: &'a str) -> Arg<'a>
+    ensures rule { rule_of result ≡ flag name.entry.now }
+    ensures local { result.global ≡ false }
+{
+    Arg::new(alloc, name).long(name).action(ArgAction::SetTrue)
+}
+
+/// The command `decide FILE [--out NAME] [--max-nodes N] [--stats]`.
+fn decide_app<'a>(alloc: Global) -> Result<Command<'a>, AllocError>
+    ensures { IfOk result (λ made. app_of made ≡ decide_app) }
+{
+    let with_file = command(alloc, "decide").arg(required(alloc, "FILE"))?;
+    let with_out = with_file.arg(option(alloc, "out"))?;
+    let with_limit = with_out.arg(option(alloc, "max-nodes"))?;
+    let whole = with_limit.arg(flag(alloc, "stats"))?;
+    Ok(whole)
+}
+
+/// The command `same LEFT RIGHT [--max-nodes N]`.
+fn same_app<'a>(alloc: Global) -> Result<Command<'a>, AllocError>
+    ensures { IfOk result (λ made. app_of made ≡ same_app) }
+{
+    let with_left = command(alloc, "same").arg(required(alloc, "LEFT"))?;
+    let with_right = with_left.arg(required(alloc, "RIGHT"))?;
+    let whole = with_right.arg(option(alloc, "max-nodes"))?;
+    Ok(whole)
+}
+
+/// The command `gen K [--decide]`.
+fn gen_app<'a>(alloc: Global) -> Result<Command<'a>, AllocError>
+    ensures { IfOk result (λ made. app_of made ≡ gen_app) }
+{
+    let with_number = command(alloc, "gen").arg(required(alloc, "K"))?;
+    let whole = with_number.arg(flag(alloc, "decide"))?;
+    Ok(whole)
+}
+
+/// The command with this first word, as `clap` is told of it.
+pub(crate) fn app<'a>(alloc: Global, verb: Verb) -> Result<Command<'a>, AllocError>
+    ensures { IfOk result (λ made. app_of made ≡ app_for verb) }
+{
+    match verb {
+        Verb::Decide => decide_app(alloc),
+        Verb::Same => same_app(alloc),
+        Verb::Gen => gen_app(alloc),
+    }
+}

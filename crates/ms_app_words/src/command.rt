@@ -1,0 +1,42 @@
+use ms_list::Text;
+
+/// The word that says which command it is.
+#[derive(Clone, Copy, PartialEq, Eq)]
+pub enum Verb {
+    Decide,
+    Same,
+    Gen,
+}
+
+/// What the words of a command line ask for.
+#[derive(Drop)]
+pub enum Command {
+    /// To decide a source, where nodes and states of a step are together at most `max_nodes`, and to report on it, with
+    /// counts where `stats` holds. The automaton of its main value is written to the file `out`, where one is named.
+    Decide {
+        file: Text,
+        out: Option<Text>,
+        max_nodes: u64,
+        stats: bool,
+    },
+
+    /// To compare the main values of two sources, where nodes and states of a step are together at most `max_nodes`.
+    Same {
+        left: Text,
+        right: Text,
+        max_nodes: u64,
+    },
+
+    /// To generate the source with this number, and to decide it where `decide` holds.
+    Gen {
+        number: u64,
+        decide: bool,
+    },
+}
+
+/// Why words ask for nothing: they are no command, or there is no memory to read them.
+#[derive(Clone, Copy, PartialEq, Eq)]
+pub enum WordsFault {
+    Usage,
+    NoMemory,
+}

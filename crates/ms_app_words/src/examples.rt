@@ -1,0 +1,59 @@
+//! Worked examples of words. The functions have empty bodies, and their contracts state the examples.
+
+ghost use Rattle.std.specs.Prelude.{◌≡◌, [], codes, false, true, None, Some};
+ghost use Rattle.clap.specs.Words.{fault_of, first_of, matches_of};
+ghost use Rattle.ms_app_words.specs.Command.{HasLimit, HasNumber, decide_app, first_verb, gen_app, is_given, same_app};
+ghost use Rattle.ms_app_words.specs.inner.Examples.{for_help, gen_and_decide, gen_by_number, no_file, one_file, only_left, two_files, two_to_compare, with_counts, with_limit, with_out};
+ghost use Rattle.ms_app_words.specs.declared.command.Verb.TheVariants.{Decide, Gen, Same};
+
+/// The first word says which command it is.
+pub fn worked_verbs()
+    ensures decide { first_verb one_file ≡ Some Decide }
+    ensures compare { first_verb two_to_compare ≡ Some Same }
+    ensures generate { first_verb gen_by_number ≡ Some Gen }
+    ensures none { first_verb [] ≡ None }
+{}
+
+/// What is taken after `decide`, and what the matches are.
+pub fn worked_words()
+    ensures one_file { fault_of decide_app one_file ≡ [] }
+    ensures the_file { first_of (codes "FILE") (matches_of decide_app one_file) ≡ Some (codes "t.mona") }
+    ensures no_limit { first_of (codes "max-nodes") (matches_of decide_app one_file) ≡ None }
+    ensures no_counts { is_given (codes "stats") (matches_of decide_app one_file) ≡ false }
+    ensures no_file { ¬ (fault_of decide_app no_file ≡ []) }
+    ensures two_files { ¬ (fault_of decide_app two_files ≡ []) }
+    ensures with_limit { fault_of decide_app with_limit ≡ [] }
+    ensures the_limit { first_of (codes "max-nodes") (matches_of decide_app with_limit) ≡ Some (codes "5") }
+    ensures same_file { first_of (codes "FILE") (matches_of decide_app with_limit) ≡ Some (codes "t.mona") }
+    ensures no_out { first_of (codes "out") (matches_of decide_app one_file) ≡ None }
+    ensures with_out { fault_of decide_app with_out ≡ [] }
+    ensures the_out { first_of (codes "out") (matches_of decide_app with_out) ≡ Some (codes "t.dfa") }
+    ensures with_counts { fault_of decide_app with_counts ≡ [] }
+    ensures counts { is_given (codes "stats") (matches_of decide_app with_counts) ≡ true }
+    ensures for_help { ¬ (fault_of decide_app for_help ≡ []) }
+{}
+
+/// What is taken after `same`.
+pub fn worked_comparisons()
+    ensures two { fault_of same_app two_to_compare ≡ [] }
+    ensures left { first_of (codes "LEFT") (matches_of same_app two_to_compare) ≡ Some (codes "a.mona") }
+    ensures right { first_of (codes "RIGHT") (matches_of same_app two_to_compare) ≡ Some (codes "b.mona") }
+    ensures one { ¬ (fault_of same_app only_left ≡ []) }
+{}
+
+/// What is taken after `gen`.
+pub fn worked_generations()
+    ensures number { fault_of gen_app gen_by_number ≡ [] }
+    ensures the_number { first_of (codes "K") (matches_of gen_app gen_by_number) ≡ Some (codes "3") }
+    ensures not_decided { is_given (codes "decide") (matches_of gen_app gen_by_number) ≡ false }
+    ensures and_decide { fault_of gen_app gen_and_decide ≡ [] }
+    ensures decided { is_given (codes "decide") (matches_of gen_app gen_and_decide) ≡ true }
+{}
+
+/// Limits and numbers.
+pub fn worked_limits()
+    ensures none_named { HasLimit None 16777216 }
+    ensures zero { ¬ HasLimit (Some (codes "0")) 0 }
+    ensures too_great { ¬ HasLimit (Some (codes "4000000001")) 4000000001 }
+    ensures no_number { ¬ HasNumber (Some (codes "three")) 3 }
+{}

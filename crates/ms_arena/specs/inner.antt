@@ -1,0 +1,5 @@
+pub mod Bucket
+pub mod Chain
+pub mod Code
+pub mod Packing
+pub mod Table

@@ -1,0 +1,13 @@
+pub mod Examples
+pub mod Greatest
+pub mod Least
+pub mod Less
+pub mod Member
+pub mod Number
+pub mod Plus
+pub mod Reading
+pub mod Relation
+pub mod Repeated
+pub mod Tally
+pub mod Truth
+pub mod Windows

@@ -1,0 +1,4 @@
+pub mod Examples
+pub mod Lacked
+pub mod Uses
+pub mod Wider

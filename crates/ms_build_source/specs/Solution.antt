@@ -1,0 +1,37 @@
+-- What is made of a source that can be solved.
+use Rattle.std.specs.Prelude.{◌≡◌, ℕ, ◌+◌, ◌≤◌, Bool, true, false, List, [], ◌∷◌, length, map}
+use Rattle.ms_dfa.specs.declared.plain.Plain.{Plain}
+use Rattle.ms_logic.specs.declared.checked.ExportUse.{ExportUse}
+use Rattle.ms_logic_words.specs.Content.{variables_by_place}
+use Rattle.ms_logic_core.specs.Size.{depth_of_source, size_of_source}
+use Rattle.ms_logic.specs.Verdict.{Problem}
+use Rattle.ms_build_source.specs.declared.solution.Solution.{Solution}
+use Rattle.ms_build_source.specs.Values.{HasMainValue, IsExportFile}
+
+-- the variables of its automaton go by their places, and each has a name
+pub record IsNamed (solution : Solution) : Type 0 where
+  pub one_each : length solution.names ≡ length solution.automaton.variables
+  pub by_place : solution.automaton.variables ≡ variables_by_place (map (λ v. v.order) solution.automaton.variables)
+
+-- the files of exports, numbered on from a first number
+abbrev pub AreExportFiles : Problem → ℕ → List ExportUse → List Plain → Type 0
+AreExportFiles problem i [] [] = Unit {0}
+AreExportFiles problem i [] (plain ∷ plains) = ⊥
+AreExportFiles problem i (used ∷ uses) [] = ⊥
+AreExportFiles problem i (used ∷ uses) (plain ∷ plains) = IsExportFile problem i used plain × AreExportFiles problem (i + 1) uses plains
+
+-- the files of all exports, where they are asked for
+abbrev pub HasExports : Bool → Problem → List ExportUse → List Plain → Type 0
+HasExports false problem uses plains = plains ≡ []
+HasExports true problem uses plains = AreExportFiles problem 0 uses plains
+
+-- the states and the nodes of a content have numbers of 32 bits
+abbrev pub IsSmall : Plain → Type 0
+IsSmall plain = length plain.nodes + length plain.states ≤ 4000000000
+
+-- an automaton with the main value over the globals, which have these names, the source's measures, and the files of its exports
+pub record IsSolution (problem : Problem) (names : List (List ℕ)) (solution : Solution) : Type 0 where
+  pub value : HasMainValue problem solution.automaton
+  pub names_are : solution.names ≡ names
+  pub size : solution.size ≡ size_of_source problem
+  pub depth : solution.depth ≡ depth_of_source problem

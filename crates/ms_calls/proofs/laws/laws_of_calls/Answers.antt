@@ -1,5 +1,0 @@
-use Rattle.ms_calls.proofs.FilledSources.{bodies_filled, spreads_filled}
-use Rattle.ms_calls.proofs.laws.laws_of_calls.Goals as goal
-
-pub returns : goal.returns
-returns c = record { spreads = spreads_filled; bodies = bodies_filled }

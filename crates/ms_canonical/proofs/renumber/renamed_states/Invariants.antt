@@ -1,7 +1,0 @@
-use Rattle.std.proofs.Common.{take}
-use Rattle.ms_canonical.specs.Renumbering.{ArePaired, IsStateOf}
-use Rattle.ms_canonical.proofs.renumber.renamed_states.Given as goal
-
--- the states so far
-abbrev pub invariant-loop-number : goal.invariant-loop-number
-invariant-loop-number l = ArePaired (IsStateOf l.states l.seen.states.keys l.seen.places.keys) (take l.number-index l.seen.states.keys) l.made

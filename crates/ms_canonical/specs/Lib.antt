@@ -1,4 +1,0 @@
-pub mod Examples
-pub mod Files
-pub mod Laws
-pub mod Renumbering

@@ -1,4 +1,0 @@
-pub mod Calls
-pub mod Examples
-pub mod Orders
-pub mod Stands

@@ -1,0 +1,11 @@
+pub mod Binders
+pub mod Connectives
+pub mod Examples
+pub mod Keys
+pub mod Maps
+pub mod Memo
+pub mod Relations
+pub mod Scope
+pub mod Shared
+pub mod Tasks
+pub mod Words

@@ -1,0 +1,4 @@
+pub mod Explored
+pub mod Small
+pub mod Tracks
+pub mod inner

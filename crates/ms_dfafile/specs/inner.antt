@@ -1,0 +1,4 @@
+pub mod Examples
+pub mod Parts
+pub mod Reading
+pub mod Rules

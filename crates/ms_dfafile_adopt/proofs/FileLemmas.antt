@@ -1,0 +1,103 @@
+-- What shows that an automaton of a file is open shows it of the file.
+use Rattle.std.proofs.Common.{◌≡◌, ℕ, map, Err, Option, Some, None, refl, sym, ap, subst, ◌∙◌}
+use Rattle.std.specs.Option.{option_map}
+use Rattle.std.proofs.lemmas.Option.{none-some, same_Some}
+use Rattle.ms_list.specs.declared.fault.StepFault.{StepFault}
+use Rattle.ms_list.specs.declared.fault.StepFault.TheVariants.{Nodes, Memory}
+use Rattle.ms_list.specs.declared.word.Word.{Word}
+use Rattle.ms_dfa_explore.specs.Explored.{OnRefused}
+use Rattle.ms_logic.specs.declared.checked.ImportUse.{ImportUse}
+use Rattle.ms_logic.specs.declared.mode.Mode.{Mode}
+use Rattle.ms_logic.specs.declared.mode.Mode.TheVariants.{Ws1s, M2lStr}
+use Rattle.ms_logic_words.specs.declared.sign.Sign.{Sign}
+use Rattle.ms_logic_words.specs.Content.{Content, IsOpen, sign_of, with_zero_letter}
+use Rattle.ms_logic.specs.Lists.{AreRising}
+use Rattle.ms_logic_words.specs.Word.{IsEncoding}
+use Rattle.ms_logic_words.proofs.WordLaws.{zero_letter_keeps}
+use Rattle.ms_dfa.specs.declared.plain.FileSign.{FileSign}
+use Rattle.ms_dfa.specs.declared.plain.FileSign.TheVariants.{Plus, Minus, Zero}
+use Rattle.ms_dfa.specs.declared.plain.Plain.{Plain}
+use Rattle.ms_dfa.specs.Files.{content_of_file}
+use Rattle.ms_dfafile_adopt.specs.Import.{Fits, IsFirstOpen, IsNotImportable, ShowsOpen}
+use Rattle.ms_dfafile_adopt.specs.inner.Open.{IsFirstChange, IsSettledIn, ShowsChange, ShowsNoChange}
+use Rattle.ms_dfafile_adopt.specs.inner.Said.{HasSignsOf, own_sign, refusal_of}
+use Rattle.ms_dfafile_adopt.proofs.ModeLemmas.{encoding_in}
+use Rattle.ms_dfafile_adopt.proofs.VariableLemmas.{rising-by_place}
+
+-- signs of a file that become one are one
+one_file_sign : (one other : FileSign) → own_sign one ≡ own_sign other → one ≡ other
+one_file_sign Plus Plus same = refl
+one_file_sign Plus Minus same = let never : ⊥ = cc in absurd never
+one_file_sign Plus Zero same = let never : ⊥ = cc in absurd never
+one_file_sign Minus Plus same = let never : ⊥ = cc in absurd never
+one_file_sign Minus Minus same = refl
+one_file_sign Minus Zero same = let never : ⊥ = cc in absurd never
+one_file_sign Zero Plus same = let never : ⊥ = cc in absurd never
+one_file_sign Zero Minus same = let never : ⊥ = cc in absurd never
+one_file_sign Zero Zero same = refl
+
+one_of_both : (one other : Option FileSign) → option_map own_sign one ≡ option_map own_sign other → one ≡ other
+one_of_both None None same = refl
+one_of_both None (Some sign) same = absurd (none-some (own_sign sign) same)
+one_of_both (Some sign) None same = absurd (none-some (own_sign sign) (sym same))
+one_of_both (Some one) (Some other) same = ap Some (one_file_sign one other (same_Some (own_sign one) (own_sign other) same))
+
+module _ (plain : Plain) (own : Content Sign) (signs_are : HasSignsOf plain M2lStr own) (numbers : plain.mode ≡ Ws1s) where
+  abbrev file : Content FileSign
+  file = content_of_file plain
+
+  rising : AreRising file.variables
+  rising = rising-by_place 0 (map (λ variable. variable.order) plain.variables)
+
+  -- one zero letter more
+  more_encodes : (word : Word) → IsEncoding M2lStr file.variables word → IsEncoding M2lStr file.variables (with_zero_letter file.variables word)
+  more_encodes word encoding =
+      let over_numbers = encoding_in M2lStr Ws1s file.variables word rising encoding in
+      encoding_in Ws1s M2lStr file.variables (with_zero_letter file.variables word) rising
+      (over_numbers.0, over_numbers.1, zero_letter_keeps file.variables word over_numbers.0 over_numbers.1.universe over_numbers.2)
+
+  -- both signs
+  own_signs : (word : Word) → IsEncoding M2lStr file.variables word
+      → (sign_of own word ≡ option_map own_sign (sign_of file word))
+      × (sign_of own (with_zero_letter own.variables word) ≡ option_map own_sign (sign_of file (with_zero_letter file.variables word)))
+  own_signs word encoding = (
+    signs_are.signs word encoding,
+    ap (λ vs. sign_of own (with_zero_letter vs word)) signs_are.variables_are ∙ signs_are.signs (with_zero_letter file.variables word) (more_encodes word encoding),
+  )
+
+  pub open-change : (word : Word) → ShowsChange own word → ShowsOpen file word
+  open-change word shows =
+      let encoding = subst (λ vs. IsEncoding M2lStr vs word) signs_are.variables_are shows.0 in
+      let in_file = encoding_in M2lStr plain.mode file.variables word rising encoding in
+      let are = own_signs word encoding in
+      (in_file.0, in_file.1, in_file.2, λ same. shows.1 (are.0 ∙ ap (option_map own_sign) same ∙ sym are.1))
+
+  pub change-open : (word : Word) → ShowsOpen file word → ShowsChange own word
+  change-open word shows =
+      let encoding = encoding_in plain.mode M2lStr file.variables word rising (shows.0, shows.1, shows.2) in
+      let are = own_signs word encoding in (
+        subst (λ vs. IsEncoding M2lStr vs word) (sym signs_are.variables_are) encoding,
+        λ same. shows.3 (one_of_both (sign_of file word) (sign_of file (with_zero_letter file.variables word)) (sym are.0 ∙ same ∙ are.1)),
+      )
+
+  pub first_open : (word : Word) → IsFirstChange own word → IsFirstOpen file word
+  first_open word first = record { shows = open-change word first.shows; none_before = λ other shows. first.none_before other (change-open other shows) }
+
+  pub never_open : ShowsNoChange own → ¬ IsOpen file
+  never_open none is = none is.word (change-open is.word (is.e, is.assignment, is.encodes, is.changes))
+
+-- a settled automaton has the signs of the file in its mode
+pub settled_signs : (plain : Plain) (mode : Mode) (own made : Content Sign) → HasSignsOf plain M2lStr own → IsSettledIn mode own made → HasSignsOf plain mode made
+settled_signs plain mode own made signs_are settled =
+    subst (HasSignsOf plain mode) (sym settled.same) (record { mode_is = refl; variables_are = signs_are.variables_are; signs = signs_are.signs })
+
+-- where an automaton of the file is settled in its mode, the file is not open
+pub settled_file : (plain : Plain) (mode : Mode) (own made : Content Sign) → plain.mode ≡ mode → HasSignsOf plain M2lStr own → IsSettledIn mode own made → ¬ IsOpen (content_of_file plain)
+settled_file plain mode own made mode_is signs_are settled is =
+    never_open plain own signs_are is.numbers (settled.none (sym mode_is ∙ is.numbers)) is
+
+-- a step that was refused at the limit is why the file is not imported
+pub refused_by : (A : Type 0) (P : ℕ → Type 0) (plain : Plain) (used : ImportUse) (mode : Mode) (limit : ℕ) (fault : StepFault) → Fits plain used mode
+    → OnRefused {A = A} (Err fault) (λ refused. (refused ≡ limit) × P refused) → IsNotImportable plain used mode limit (refusal_of fault)
+refused_by A P plain used mode limit Memory fits cause = tt
+refused_by A P plain used mode limit (Nodes refused) fits cause = (cause.0, fits)

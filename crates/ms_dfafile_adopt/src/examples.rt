@@ -1,0 +1,24 @@
+ghost use Rattle.std.specs.Prelude.{◌≡◌, [], ◌∷◌, codes, None};
+ghost use Rattle.ms_logic.specs.declared.assignment.Value.TheVariants.{Set};
+ghost use Rattle.ms_logic_words.specs.Content.{IsOpen};
+ghost use Rattle.ms_logic.specs.Truth.{answer_no, answer_yes};
+ghost use Rattle.ms_dfa.specs.Files.{content_of_file};
+ghost use Rattle.ms_dfafile_adopt.specs.inner.Examples.{empty_word, number_pair, open_file, set_pair, subset};
+ghost use Rattle.ms_dfafile_adopt.specs.Import.{HasVariables, IsFirstOpen, answer_of_file};
+
+/// What a file says at values: P = {0} and Q = {0, 1}, and with the names turned round.
+#[tactic(auto, unfolding(ms_arena::specs::Diagram::leaf_of))]
+pub fn worked_answers()
+    ensures in_order { answer_of_file subset (codes "P" ∷ codes "Q" ∷ []) None (Set (0 ∷ []) ∷ Set (0 ∷ 1 ∷ []) ∷ []) ≡ answer_yes }
+    ensures turned_round { answer_of_file subset (codes "Q" ∷ codes "P" ∷ []) None (Set (0 ∷ []) ∷ Set (0 ∷ 1 ∷ []) ∷ []) ≡ answer_no }
+{}
+
+/// Pairs that name the variables of a file, and pairs that do not; and a file that zeros at the end change.
+pub fn worked_imports()
+    ensures turned_round { HasVariables subset (set_pair (codes "Q") ∷ set_pair (codes "P") ∷ []) }
+    ensures too_few { ¬ HasVariables subset (set_pair (codes "P") ∷ []) }
+    ensures too_many { ¬ HasVariables open_file (set_pair (codes "P") ∷ set_pair (codes "Q") ∷ []) }
+    ensures other_order { ¬ HasVariables open_file (number_pair (codes "P") ∷ []) }
+    ensures is_open { IsOpen (content_of_file open_file) }
+    ensures first_word { IsFirstOpen (content_of_file open_file) empty_word }
+{}

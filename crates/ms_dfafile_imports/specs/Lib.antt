@@ -1,0 +1,4 @@
+pub mod Adopted
+pub mod Imports
+pub mod Laws
+pub mod inner

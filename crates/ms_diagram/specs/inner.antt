@@ -1,0 +1,12 @@
+pub mod Adding
+pub mod Applying
+pub mod Bringing
+pub mod Collecting
+pub mod Crossing
+pub mod Equal
+pub mod Examples
+pub mod Notes
+pub mod Places
+pub mod Relabelling
+pub mod Short
+pub mod Walk

@@ -1,0 +1,51 @@
+ghost use Rattle.std.specs.Prelude.{◌≡◌, [], ◌∷◌, false, true};
+ghost use Rattle.ms_arena.specs.declared.node.Ref.TheVariants.{Inner, Leaf};
+ghost use Rattle.ms_diagram.specs.Across.{AreOn, HasLeavesAcross, IsHalf, IsOn, LacksAcross, NumberAcross, leaves_across};
+ghost use Rattle.ms_diagram.specs.Store.{IsNewest};
+ghost use Rattle.ms_diagram.specs.inner.Short.{AreShort, IsLong, short_entries};
+ghost use Rattle.ms_diagram.specs.inner.Examples.{both_roots, crossed, only, without_map};
+
+/// Two diagrams of other stores, each read through a map: the pairs of their leaves, and the numbers of these.
+pub fn worked_sides()
+    // the left diagram reads variable 1, and the right one variable 0
+    ensures left { leaves_across crossed both_roots (only 1) ≡ (1, 0) }
+    ensures right { leaves_across crossed both_roots (only 0) ≡ (0, 1) }
+    ensures met { HasLeavesAcross crossed both_roots (1, 0) }
+    ensures never_met { ¬ HasLeavesAcross crossed both_roots (2, 0) }
+
+    // the number of a pair is its place
+    ensures number { NumberAcross crossed ((0, 1) ∷ (1, 0) ∷ []) both_roots (only 1) 1 }
+    ensures other_number { ¬ NumberAcross crossed ((0, 1) ∷ (1, 0) ∷ []) both_roots (only 1) 0 }
+    ensures room_for_numbers { ¬ LacksAcross crossed ((0, 1) ∷ []) both_roots }
+
+    // a map has a variable for each that a diagram tests
+    ensures on { AreOn crossed both_roots }
+    ensures no_place { ¬ IsOn crossed.left (Inner 1) }
+    ensures no_variable { ¬ IsOn without_map (Inner 0) }
+{}
+
+/// Codes of references, which have four bytes up to 2^32 - 1.
+pub fn worked_codes()
+    ensures entries { short_entries (((6, 7), Leaf 1) ∷ ((0, 1), Inner 4) ∷ []) ≡ ((Leaf 3, Inner 3), Leaf 1) ∷ ((Leaf 0, Inner 0), Inner 4) ∷ [] }
+    ensures greatest { AreShort (((4294967295, 0), Leaf 1) ∷ []) }
+    ensures too_great { ¬ AreShort (((0, 4294967296), Leaf 1) ∷ []) }
+    ensures long_node { IsLong (Inner 2147483648, Leaf 0) }
+    ensures long_leaf { IsLong (Inner 0, Leaf 2147483648) }
+    ensures short_pair { ¬ IsLong (Inner 2147483647, Leaf 2147483647) }
+{}
+
+/// What is left of each diagram once variable 0 has a bit: the right one reads it, and the left one reads variable 1 alone.
+pub fn worked_halves()
+    ensures low_end { IsHalf crossed.right 0 false (Inner 0) (Leaf 0) }
+    ensures high_end { IsHalf crossed.right 0 true (Inner 0) (Leaf 1) }
+    ensures other_end { ¬ IsHalf crossed.right 0 true (Inner 0) (Leaf 0) }
+    ensures as_it_is { IsHalf crossed.left 0 true (Inner 0) (Inner 0) }
+    ensures too_late { ¬ IsHalf crossed.left 1 true (Inner 0) (Inner 0) }
+{}
+
+/// The node at the last of three places.
+pub fn worked_newest()
+    ensures last { IsNewest 3 (Inner 2) }
+    ensures earlier { ¬ IsNewest 3 (Inner 1) }
+    ensures leaf { ¬ IsNewest 3 (Leaf 2) }
+{}

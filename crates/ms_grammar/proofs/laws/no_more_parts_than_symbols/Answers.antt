@@ -1,5 +1,0 @@
-use Rattle.ms_grammar.proofs.Sizes.{document_fits}
-use Rattle.ms_grammar.proofs.laws.no_more_parts_than_symbols.Goals as goal
-
-pub returns : goal.returns
-returns c = document_fits

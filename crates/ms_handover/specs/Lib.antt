@@ -1,2 +1,0 @@
-pub mod CallsOfSources
-pub mod Laws

@@ -1,5 +1,0 @@
-pub mod Adopted
-pub mod Examples
-pub mod Imports
-pub mod Laws
-pub mod Taken

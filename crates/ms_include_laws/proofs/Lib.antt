@@ -1,0 +1,4 @@
+pub mod of_loads
+pub mod of_places
+pub mod of_spellings
+pub mod of_trees

@@ -1,0 +1,10 @@
+pub mod Back
+pub mod Files
+pub mod Loading
+pub mod Loads
+pub mod Names
+pub mod Refusals
+pub mod Stops
+pub mod Typing
+pub mod Verdicts
+pub mod Worked

@@ -1,0 +1,4 @@
+pub mod loads
+pub mod places
+pub mod spellings
+pub mod trees

@@ -1,0 +1,4 @@
+pub mod Checks
+pub mod Examples
+pub mod Loads
+pub mod Reading

@@ -1,5 +1,0 @@
-pub mod Checks
-pub mod Examples
-pub mod Loads
-pub mod Reading
-pub mod Told

@@ -1,7 +1,0 @@
-use Rattle.std.proofs.Common.{◌≤◌}
-use Rattle.ms_logic.proofs.core_formula.Core.TheLaws.{the_size}
-use Rattle.ms_logic.proofs.core_formula.Core.+core_drop.Given as goal
-
--- what is left is no larger than the whole
-abbrev pub invariant-loop-self : goal.invariant-loop-self
-invariant-loop-self l = the_size l.self ≤ the_size l.fn.self

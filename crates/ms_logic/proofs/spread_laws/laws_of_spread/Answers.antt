@@ -1,5 +1,0 @@
-use Rattle.ms_logic.proofs.SpreadFormulas.{spread_keeps_value}
-use Rattle.ms_logic.proofs.spread_laws.laws_of_spread.Goals as goal
-
-pub returns : goal.returns
-returns c = record { keeps_value = spread_keeps_value }

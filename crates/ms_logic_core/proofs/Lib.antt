@@ -1,0 +1,10 @@
+pub mod CoreConsistent
+pub mod CoreViews
+pub mod Saying
+pub mod SayingLiterals
+pub mod SayingParts
+pub mod SayingTerms
+pub mod SpreadAtoms
+pub mod SpreadFormulas
+pub mod SpreadKeeps
+pub mod SpreadTerms

@@ -1,0 +1,10 @@
+pub mod Calls
+pub mod CoreForm
+pub mod Operands
+pub mod Orders
+pub mod Roots
+pub mod SameUpToBound
+pub mod Size
+pub mod Spread
+pub mod Stands
+pub mod inner

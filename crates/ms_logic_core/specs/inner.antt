@@ -1,0 +1,4 @@
+pub mod CallExamples
+pub mod SpreadCount
+pub mod SpreadExamples
+pub mod SpreadLaws

@@ -1,0 +1,17 @@
+pub mod Counting
+pub mod FullContents
+pub mod FullOverNone
+pub mod FullTruths
+pub mod FullZero
+pub mod OnlyDiagrams
+pub mod OnlySubset
+pub mod OrderedStarts
+pub mod Pigeonhole
+pub mod ProjectStarts
+pub mod Runs
+pub mod SameRuns
+pub mod ShortContents
+pub mod SubsetBudgets
+pub mod SubsetStarts
+pub mod TruthStarts
+pub mod TurnedStarts

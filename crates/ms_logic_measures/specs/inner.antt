@@ -1,0 +1,3 @@
+pub mod BudgetExamples
+pub mod MeasureExamples
+pub mod MeasuredContents

@@ -1,0 +1,5 @@
+pub mod Canonical
+pub mod Content
+pub mod Word
+pub mod WordSign
+pub mod inner

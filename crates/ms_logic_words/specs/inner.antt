@@ -1,0 +1,3 @@
+pub mod ContentExamples
+pub mod Decoding
+pub mod WordLaws

@@ -1,0 +1,12 @@
+pub mod Discrete
+pub mod Examples
+pub mod Grouping
+pub mod Image
+pub mod Later
+pub mod Lead
+pub mod Marks
+pub mod Origin
+pub mod Partition
+pub mod Predecessors
+pub mod Quotient
+pub mod Split

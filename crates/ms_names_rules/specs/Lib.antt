@@ -1,0 +1,17 @@
+pub mod Before
+pub mod Checking
+pub mod Constant
+pub mod Declarations
+pub mod Fault
+pub mod Numbers
+pub mod Occurrence
+pub mod Order
+pub mod Reads
+pub mod Rules
+pub mod Scope
+pub mod Syntax
+pub mod Typed
+pub mod TypedSource
+pub mod Uses
+pub mod View
+pub mod inner

@@ -1,0 +1,4 @@
+pub mod Binder
+pub mod Examples
+pub mod Free
+pub mod Lists

@@ -1,0 +1,73 @@
+ghost use Rattle.ms_names_rules.specs.Declarations.{declared_names};
+ghost use Rattle.ms_names_rules.specs.Rules.{faults_of_bounds, faults_of_parts, faults_of_repeat};
+ghost use Rattle.ms_names_rules.specs.View.{bounds_of, parts_of};
+ghost use Rattle.ms_names_rules.specs.declared.fault.Fault.TheVariants.{NamedTwice};
+ghost use Rattle.ms_names_scopes.specs.inner.State.{with_faults};
+ghost use Rattle.std.specs.Prelude.{◌≡◌, ◌∷◌, [], OnOk};
+
+use crate::checker::Checker;
+use crate::memory::name_text;
+use crate::seen::Seen;
+use ms_list::{At, Name, NoMemory};
+use ms_logic::{Bound, LetPart};
+use ms_names_rules::Fault;
+
+impl Checker {
+    /// Reports a name that stands twice.
+    pub(crate) fn report_twice(&mut self, at: At, name: &Name) -> Result<(), NoMemory>
+        ensures { OnOk result (self.new ≡ with_faults self.old (NamedTwice at name.now ∷ [])) }
+    {
+        let text = name_text(self.alloc, name)?;
+        self.report(Fault::NamedTwice(at, text));
+        Ok(())
+    }
+
+    /// Reports a name that is declared before.
+    pub fn check_declared(&mut self, at: At, name: &Name) -> Result<(), NoMemory>
+        ensures { OnOk result (self.new ≡ with_faults self.old (faults_of_repeat at name.now (declared_names self.old.scope))) }
+    {
+        if self.meaning(name).is_some() {
+            self.report_twice(at, name)?;
+        }
+        Ok(())
+    }
+
+    /// Reports a name that stands before in its list, and notes it.
+    pub(crate) fn check_repeat(
+        &mut self,
+        at: At,
+        name: &Name,
+        seen: &mut Seen,
+    ) -> Result<(), NoMemory>
+        ensures state { OnOk result (self.new ≡ with_faults self.old (faults_of_repeat at name.now seen.old)) }
+        ensures seen { OnOk result (seen.new ≡ name.now ∷ seen.old) }
+    {
+        if seen.contains(name) {
+            self.report_twice(at, name)?;
+        }
+        seen.add(name)
+    }
+
+    /// Reports the names that stand twice in a list of variables or parameters.
+    pub fn check_bounds(&mut self, bounds: &[Bound]) -> Result<(), NoMemory>
+        ensures { OnOk result (self.new ≡ with_faults self.old (faults_of_bounds [] (bounds_of bounds.now))) }
+    {
+        let mut seen = Seen::new(self.alloc);
+        for bound in bounds {
+            self.check_repeat(bound.at, &bound.name, &mut seen)?;
+        }
+        Ok(())
+    }
+
+    /// Reports the names that stand twice in a `let`.
+    #[inline(never)]
+    pub fn check_parts(&mut self, parts: &[LetPart]) -> Result<(), NoMemory>
+        ensures { OnOk result (self.new ≡ with_faults self.old (faults_of_parts [] (parts_of parts.now))) }
+    {
+        let mut seen = Seen::new(self.alloc);
+        for part in parts {
+            self.check_repeat(part.at, &part.name, &mut seen)?;
+        }
+        Ok(())
+    }
+}

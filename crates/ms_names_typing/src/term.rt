@@ -1,0 +1,180 @@
+//! What numbers and sets become that are put together of others.
+
+ghost use Rattle.ms_logic.specs.Tree as tree;
+ghost use Rattle.ms_logic.specs.View.{argument_of, set_term_of};
+ghost use Rattle.ms_names_rules.specs.inner.Lists.{number_behind, terms_of};
+ghost use Rattle.ms_names_rules.specs.Typed.{both, number_in, number_of_set, set_in, shifted, typed_shift};
+ghost use Rattle.std.specs.Option.{option_map};
+ghost use Rattle.std.specs.Prelude.{◌≡◌, IfOk};
+
+use crate::order::{number_in, set_in};
+use ms_list::{Boxed, List, NoMemory, on_heap, push};
+use ms_logic::{Arg, Term1, Term2};
+use std::alloc::Global;
+
+// A set on the heap.
+fn boxed_set(alloc: Global, value: Option<Arg>) -> Result<Option<Boxed<Term2>>, NoMemory>
+    ensures { IfOk result (λ made. option_map set_term_of made ≡ set_in (option_map argument_of value)) }
+{
+    match set_in(value) {
+        None => Ok(None),
+        Some(set) => Ok(Some(on_heap(alloc, set)?)),
+    }
+}
+
+#[inline(never)]
+pub fn minimum(alloc: Global, body: Option<Arg>) -> Result<Option<Arg>, NoMemory>
+    ensures { IfOk result (λ made. option_map argument_of made ≡ number_of_set (λ s. tree.minimum s) (option_map argument_of body)) }
+{
+    let Some(body) = set_in(body) else {
+        return Ok(None);
+    };
+    Ok(Some(Arg::One(Term1::Min(on_heap(alloc, body)?))))
+}
+
+#[inline(never)]
+pub fn maximum(alloc: Global, body: Option<Arg>) -> Result<Option<Arg>, NoMemory>
+    ensures { IfOk result (λ made. option_map argument_of made ≡ number_of_set (λ s. tree.maximum s) (option_map argument_of body)) }
+{
+    let Some(body) = set_in(body) else {
+        return Ok(None);
+    };
+    Ok(Some(Arg::One(Term1::Max(on_heap(alloc, body)?))))
+}
+
+#[inline(never)]
+pub fn union(alloc: Global, left: Option<Arg>, right: Option<Arg>) -> Result<Option<Arg>, NoMemory>
+    ensures { IfOk result (λ made. option_map argument_of made ≡ both (λ s t. tree.set_argument (tree.union s t)) (set_in (option_map argument_of left)) (set_in (option_map argument_of right))) }
+{
+    let left = boxed_set(alloc, left)?;
+    let right = boxed_set(alloc, right)?;
+    Ok(union_of(left, right))
+}
+
+fn union_of(left: Option<Boxed<Term2>>, right: Option<Boxed<Term2>>) -> Option<Arg>
+    ensures { option_map argument_of result ≡ both (λ s t. tree.set_argument (tree.union s t)) (option_map set_term_of left) (option_map set_term_of right) }
+{
+    let left = left?;
+    let right = right?;
+    Some(Arg::Two(Term2::Union(left, right)))
+}
+
+#[inline(never)]
+pub fn intersection(
+    alloc: Global,
+    left: Option<Arg>,
+    right: Option<Arg>,
+) -> Result<Option<Arg>, NoMemory>
+    ensures { IfOk result (λ made. option_map argument_of made ≡ both (λ s t. tree.set_argument (tree.intersection s t)) (set_in (option_map argument_of left)) (set_in (option_map argument_of right))) }
+{
+    let left = boxed_set(alloc, left)?;
+    let right = boxed_set(alloc, right)?;
+    Ok(intersection_of(left, right))
+}
+
+fn intersection_of(left: Option<Boxed<Term2>>, right: Option<Boxed<Term2>>) -> Option<Arg>
+    ensures { option_map argument_of result ≡ both (λ s t. tree.set_argument (tree.intersection s t)) (option_map set_term_of left) (option_map set_term_of right) }
+{
+    let left = left?;
+    let right = right?;
+    Some(Arg::Two(Term2::Inter(left, right)))
+}
+
+#[inline(never)]
+pub fn difference(
+    alloc: Global,
+    left: Option<Arg>,
+    right: Option<Arg>,
+) -> Result<Option<Arg>, NoMemory>
+    ensures { IfOk result (λ made. option_map argument_of made ≡ both (λ s t. tree.set_argument (tree.difference s t)) (set_in (option_map argument_of left)) (set_in (option_map argument_of right))) }
+{
+    let left = boxed_set(alloc, left)?;
+    let right = boxed_set(alloc, right)?;
+    Ok(difference_of(left, right))
+}
+
+fn difference_of(left: Option<Boxed<Term2>>, right: Option<Boxed<Term2>>) -> Option<Arg>
+    ensures { option_map argument_of result ≡ both (λ s t. tree.set_argument (tree.difference s t)) (option_map set_term_of left) (option_map set_term_of right) }
+{
+    let left = left?;
+    let right = right?;
+    Some(Arg::Two(Term2::Minus(left, right)))
+}
+
+/// A number behind those before it, if all are numbers.
+#[inline(never)]
+pub fn more_numbers(
+    made: Option<List<Term1>>,
+    value: Option<Arg>,
+) -> Result<Option<List<Term1>>, NoMemory>
+    ensures { IfOk result (λ list. option_map terms_of list ≡ both number_behind (option_map terms_of made) (number_in (option_map argument_of value))) }
+{
+    let Some(mut list) = made else {
+        return Ok(None);
+    };
+    let Some(number) = number_in(value) else {
+        return Ok(None);
+    };
+    push(&mut list, number)?;
+    Ok(Some(list))
+}
+
+#[inline(never)]
+pub fn literal(elements: Option<List<Term1>>) -> Option<Arg>
+    ensures { option_map argument_of result ≡ option_map (λ ts. tree.set_argument (tree.literal ts)) (option_map terms_of elements) }
+{
+    let elements = elements?;
+    Some(Arg::Two(Term2::Literal(elements)))
+}
+
+/// The set of the places of the one bits of a constant, if it has a value.
+#[inline(never)]
+pub fn pconst(value: Option<u64>) -> Option<Arg>
+    ensures { option_map argument_of result ≡ option_map (λ n. tree.set_argument (tree.pconst n)) value }
+{
+    let value = value?;
+    Some(Arg::Two(Term2::Pconst(value)))
+}
+
+// A number or a set, moved up or down.
+fn shifted(alloc: Global, minus: bool, by: u64, body: Arg) -> Result<Option<Arg>, NoMemory>
+    ensures { IfOk result (λ made. option_map argument_of made ≡ shifted minus by (argument_of body)) }
+{
+    match body {
+        Arg::Zero(_) => Ok(None),
+        Arg::One(number) => {
+            let number = on_heap(alloc, number)?;
+            if minus {
+                Ok(Some(Arg::One(Term1::Minus(number, by))))
+            } else {
+                Ok(Some(Arg::One(Term1::Plus(number, by))))
+            }
+        }
+        Arg::Two(set) => {
+            let set = on_heap(alloc, set)?;
+            if minus {
+                Ok(Some(Arg::Two(Term2::Down(set, by))))
+            } else {
+                Ok(Some(Arg::Two(Term2::Up(set, by))))
+            }
+        }
+    }
+}
+
+#[inline(never)]
+pub fn shift(
+    alloc: Global,
+    minus: bool,
+    by: Option<u64>,
+    body: Option<Arg>,
+) -> Result<Option<Arg>, NoMemory>
+    ensures { IfOk result (λ made. option_map argument_of made ≡ typed_shift minus by (option_map argument_of body)) }
+{
+    let Some(by) = by else {
+        return Ok(None);
+    };
+    let Some(body) = body else {
+        return Ok(None);
+    };
+    shifted(alloc, minus, by, body)
+}

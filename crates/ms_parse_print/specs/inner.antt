@@ -1,0 +1,4 @@
+pub mod Header
+pub mod Passes
+pub mod Printable
+pub mod Printed

@@ -1,0 +1,13 @@
+pub mod Ends
+pub mod Followed
+pub mod Frames
+pub mod Headers
+pub mod Kinds
+pub mod Links
+pub mod Machine
+pub mod Outcomes
+pub mod Punctuations
+pub mod Stack
+pub mod States
+pub mod Stops
+pub mod Terminals

@@ -1,0 +1,173 @@
+ghost use Rattle.std.specs.Prelude.{◌<◌, List, ◌-◌};
+ghost use Rattle.ms_parse_grammar.specs.Grammar.{greatest_depth};
+ghost use Rattle.ms_parse_steps.specs.inner.Machine.{Context, begin_name, begin_empty, begin_literal, begin_restrict, begin_export, begin_import, begin_pconst, with_room};
+ghost use Rattle.ms_parse_steps.specs.inner.Outcomes.{ActsAs};
+ghost use Rattle.ms_parse_steps.specs.inner.Terminals.{behind};
+ghost use Rattle.ms_parse_steps.specs.inner.Stack.{stack_of};
+
+use crate::complete::finish;
+use crate::enter::{enter, has_room};
+use crate::form::listed;
+use crate::frame::Frame;
+use crate::input::Input;
+use crate::operand::{Entries, Operands};
+use crate::outcome::Outcome;
+use crate::punctuation::Punctuation;
+use crate::stop::Stop;
+use ms_list::{At, List, Name};
+use ms_logic::Form;
+use ms_parse_grammar::{Bracket, Listing};
+
+impl Input<'_> {
+    /// A name begins an expression: a call, where a bracket follows.
+    pub fn begin_name(
+        self,
+        stack: &mut Vec<Frame>,
+        at: At,
+        name: Name,
+        i: u32,
+    ) -> Result<(Outcome, u32), Stop>
+        ensures { (c : Context) →
+            ActsAs c self.entry.file self.entry.tokens.now (begin_name greatest_depth c (stack_of stack.old.items) at name (behind self.entry.file self.entry.tokens.now i)) stack.new.items result }
+    {
+        let Some(inside) = self.behind_mark(i, Punctuation::OpenRound) else {
+            let operand = finish(at, Form::Name(name), 0, i)?;
+            return Ok((Outcome::Holding(operand), i));
+        };
+        let list = List::new(self.alloc);
+        if let Some(next) = self.behind_mark(inside, Punctuation::CloseRound) {
+            let operand = finish(at, listed(Listing::Call(name), list), 0, i)?;
+            return Ok((Outcome::Holding(operand), next));
+        }
+        let frame = Frame::Listed(Entries {
+            at,
+            listing: Listing::Call(name),
+            operands: Operands { list, height: 0 },
+        });
+        enter(stack, frame, inside, self.stop_inside(inside))
+    }
+
+    /// `restrict` begins an expression.
+    pub fn begin_restrict(
+        self,
+        stack: &mut Vec<Frame>,
+        at: At,
+        i: u32,
+    ) -> Result<(Outcome, u32), Stop>
+        ensures { (c : Context) →
+            ActsAs c self.entry.file self.entry.tokens.now (with_room greatest_depth (stack_of stack.old.items) (behind self.entry.file self.entry.tokens.now (i - 1)) (begin_restrict c (stack_of stack.old.items) at (behind self.entry.file self.entry.tokens.now i))) stack.new.items result }
+    {
+        if !has_room(stack) {
+            return Err(Stop::TooDeep(i.saturating_sub(1)));
+        }
+        let Some(next) = self.behind_mark(i, Punctuation::OpenRound) else {
+            return Err(Stop::Refused(i));
+        };
+        let frame = Frame::Bracket(at, Bracket::Restriction);
+        enter(stack, frame, next, Stop::TooDeep(i.saturating_sub(1)))
+    }
+
+    /// `empty` begins an expression: the formula, where a bracket follows.
+    pub fn begin_empty(self, stack: &mut Vec<Frame>, at: At, i: u32) -> Result<(Outcome, u32), Stop>
+        ensures { (c : Context) →
+            ActsAs c self.entry.file self.entry.tokens.now (begin_empty greatest_depth c (stack_of stack.old.items) at (behind self.entry.file self.entry.tokens.now i)) stack.new.items result }
+    {
+        let Some(next) = self.behind_mark(i, Punctuation::OpenRound) else {
+            let operand = finish(at, Form::EmptySet, 0, i)?;
+            return Ok((Outcome::Holding(operand), i));
+        };
+        let frame = Frame::Bracket(at, Bracket::Emptiness);
+        enter(stack, frame, next, Stop::TooDeep(i))
+    }
+
+    /// `{` begins an expression.
+    pub fn begin_literal(
+        self,
+        stack: &mut Vec<Frame>,
+        at: At,
+        i: u32,
+    ) -> Result<(Outcome, u32), Stop>
+        ensures { (c : Context) →
+            ActsAs c self.entry.file self.entry.tokens.now (begin_literal greatest_depth c (stack_of stack.old.items) at (behind self.entry.file self.entry.tokens.now i)) stack.new.items result }
+    {
+        let list = List::new(self.alloc);
+        if let Some(next) = self.behind_mark(i, Punctuation::CloseCurly) {
+            let operand = finish(at, listed(Listing::Literal, list), 0, i)?;
+            return Ok((Outcome::Holding(operand), next));
+        }
+        let frame = Frame::Listed(Entries {
+            at,
+            listing: Listing::Literal,
+            operands: Operands { list, height: 0 },
+        });
+        enter(stack, frame, i, self.stop_inside(i))
+    }
+
+    /// `export` begins an expression.
+    pub fn begin_export(
+        self,
+        stack: &mut Vec<Frame>,
+        at: At,
+        i: u32,
+    ) -> Result<(Outcome, u32), Stop>
+        ensures { (c : Context) →
+            ActsAs c self.entry.file self.entry.tokens.now (with_room greatest_depth (stack_of stack.old.items) (behind self.entry.file self.entry.tokens.now (i - 1)) (begin_export c (stack_of stack.old.items) at (behind self.entry.file self.entry.tokens.now i))) stack.new.items result }
+    {
+        if !has_room(stack) {
+            return Err(Stop::TooDeep(i.saturating_sub(1)));
+        }
+        let Some(inside) = self.behind_mark(i, Punctuation::OpenRound) else {
+            return Err(Stop::Refused(i));
+        };
+        let Some((text, at_text)) = self.text_at(inside)? else {
+            return Err(Stop::Refused(inside));
+        };
+        let Some(next) = self.behind_mark(inside + 1, Punctuation::Comma) else {
+            return Err(Stop::Refused(inside + 1));
+        };
+        let frame = Frame::Bracket(at, Bracket::Export(at_text, text));
+        enter(stack, frame, next, Stop::TooDeep(i.saturating_sub(1)))
+    }
+
+    /// `import` begins an expression.
+    pub fn begin_import(
+        self,
+        stack: &mut Vec<Frame>,
+        at: At,
+        i: u32,
+    ) -> Result<(Outcome, u32), Stop>
+        ensures { (c : Context) →
+            ActsAs c self.entry.file self.entry.tokens.now (begin_import c (stack_of stack.old.items) at (behind self.entry.file self.entry.tokens.now i)) stack.new.items result }
+    {
+        let Some(inside) = self.behind_mark(i, Punctuation::OpenRound) else {
+            return Err(Stop::Refused(i));
+        };
+        let Some((text, _)) = self.text_at(inside)? else {
+            return Err(Stop::Refused(inside));
+        };
+        Ok((Outcome::Pair(at, text, List::new(self.alloc)), inside + 1))
+    }
+
+    /// `pconst` begins an expression.
+    pub fn begin_pconst(
+        self,
+        stack: &mut Vec<Frame>,
+        at: At,
+        i: u32,
+    ) -> Result<(Outcome, u32), Stop>
+        ensures { (c : Context) →
+            ActsAs c self.entry.file self.entry.tokens.now (begin_pconst c (stack_of stack.old.items) at (behind self.entry.file self.entry.tokens.now i)) stack.new.items result }
+    {
+        let Some(inside) = self.behind_mark(i, Punctuation::OpenRound) else {
+            return Err(Stop::Refused(i));
+        };
+        let Some((number, end)) = self.int_at(inside, false)? else {
+            return Err(Stop::Refused(inside));
+        };
+        let Some(next) = self.behind_mark(end, Punctuation::CloseRound) else {
+            return Err(Stop::Refused(end));
+        };
+        let operand = finish(at, Form::Pconst(number), 0, i)?;
+        Ok((Outcome::Holding(operand), next))
+    }
+}

@@ -1,5 +1,0 @@
-pub mod Header
-pub mod Passes
-pub mod Printable
-pub mod Printed
-pub mod Text

@@ -1,8 +1,0 @@
-use Rattle.ms_solve.proofs.ExampleLimits.{always_yes, never_no}
-use Rattle.ms_solve.proofs.examples.worked_imports.Goals as goal
-
-pub returns-clause-always : goal.returns-clause-always
-returns-clause-always c = always_yes
-
-pub returns-clause-never : goal.returns-clause-never
-returns-clause-never c = never_no

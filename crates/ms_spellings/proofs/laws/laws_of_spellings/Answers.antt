@@ -1,8 +1,0 @@
-use Rattle.ms_spellings.proofs.Loads.{loaded-sources, loaded-texts}
-use Rattle.ms_spellings.proofs.laws.laws_of_spellings.Goals as goal
-
-pub returns-clause-sources : goal.returns-clause-sources
-returns-clause-sources c = loaded-sources
-
-pub returns-clause-texts : goal.returns-clause-texts
-returns-clause-texts c = loaded-texts

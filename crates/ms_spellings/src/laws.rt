@@ -1,9 +1,0 @@
-//! Laws of the definitions. The function has an empty body, and its contract states the laws.
-
-ghost use Rattle.ms_spellings.specs.Laws.{LoadedSourcesDeclareNames, LoadedTextsDeclareNames};
-
-/// What a source that is loaded declares and binds has names of the language.
-pub fn laws_of_spellings()
-    ensures sources { LoadedSourcesDeclareNames }
-    ensures texts { LoadedTextsDeclareNames }
-{}

@@ -1,4 +1,0 @@
-pub mod Examples
-pub mod RootLaws
-pub mod SameRootLaws
-pub mod SpreadLaws

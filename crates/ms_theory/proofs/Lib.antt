@@ -1,9 +1,0 @@
-pub mod CoveredLemmas
-pub mod EncodingLemmas
-pub mod FunctionLemmas
-pub mod GatheredLemmas
-pub mod HasValueAtLemmas
-pub mod MachineLemmas
-pub mod NarrowLemmas
-pub mod OwnMeaningLemmas
-pub mod ValuesLemmas

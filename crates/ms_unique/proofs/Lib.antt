@@ -1,4 +1,0 @@
-pub mod ChainLemmas
-pub mod CodeLemmas
-pub mod PackingLemmas
-pub mod UniqueLemmas

@@ -1,7 +1,0 @@
-use Rattle.std.proofs.Common.{◌≡◌}
-use Rattle.ms_unique.specs.Chain.{nodes_of, IsLinked}
-use Rattle.ms_unique.proofs.chain.link_all.Given as goal
-
-abbrev pub invariant-loop-place : goal.invariant-loop-place
-invariant-loop-place l =
-    IsLinked l.cells.cells l.heads l.place × (nodes_of l.cells.cells ≡ nodes_of l.initial.cells.cells) × (l.cells.spare ≡ l.initial.cells.spare)

@@ -1,7 +1,0 @@
-use Rattle.std.proofs.Common.{rules}
-use Rattle.ms_unique.specs.Bucket.{hash_of}
-use Rattle.ms_unique.proofs.hash.hash.Goals as goal
-
-pub returns : goal.returns
-unfolding hash_of
-returns c = search rules

@@ -1,5 +1,0 @@
-pub mod Arena
-pub mod Bucket
-pub mod Chain
-pub mod Code
-pub mod Packing

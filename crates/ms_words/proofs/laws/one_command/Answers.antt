@@ -1,5 +1,0 @@
-use Rattle.ms_words.proofs.OneCommand.{one_command}
-use Rattle.ms_words.proofs.laws.one_command.Goals as goal
-
-pub returns : goal.returns
-returns c = one_command

@@ -1,5 +1,0 @@
-use Rattle.ms_worked.proofs.ZeroLetters.{subset_is_not_open}
-use Rattle.ms_worked.proofs.contents.worked_words_over.Goals as goal
-
-pub returns-clause-not_open : goal.returns-clause-not_open
-returns-clause-not_open c = subset_is_not_open

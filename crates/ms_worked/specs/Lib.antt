@@ -1,3 +1,0 @@
-pub mod WorkedContents
-pub mod WorkedForms
-pub mod WorkedDiagrams

@@ -1,7 +1,0 @@
-use Rattle.std.proofs.Common.{drop}
-use Rattle.signs.proofs.OrdersLemmas.{AgreesWith}
-use Rattle.signs.proofs.orders.agrees.Given as goal
-
--- the track agrees with all where it agrees with the others
-abbrev pub invariant-loop-other : goal.invariant-loop-other
-invariant-loop-other l = AgreesWith l.track (drop l.other-index l.tracks) → AgreesWith l.track l.tracks

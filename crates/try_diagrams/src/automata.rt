@@ -1,0 +1,104 @@
+//! An automaton over no variables, of the strings that have a position, and its first words.
+ghost use Rattle.std.specs.Prelude.{◌≡◌, IfOk};
+ghost use Rattle.ms_dfa.specs.Automaton.{states_of};
+ghost use Rattle.try_diagrams.specs.Lengths.{lengths_content};
+
+use crate::plains::ref_word;
+use anyhow::Result;
+use ms_arena::Ref;
+use ms_best::first;
+use ms_dfa::{Automaton, State};
+use ms_diagram::Store;
+use ms_list::{List, NoMemory, Word};
+use ms_logic::Mode;
+use ms_logic_words::Sign;
+use std::alloc::Global;
+
+pub fn tell(rt: &HostRuntime) -> Result<()> {
+    println!(rt; "An automaton")?;
+    let automaton = lengths(rt.alloc())?;
+    print_automaton(rt, &automaton)?;
+    print_first(rt, &automaton, Sign::No)?;
+    print_first(rt, &automaton, Sign::Yes)?;
+    print_first(rt, &automaton, Sign::Undefined)
+}
+
+/// The two states: at the empty string, and at any other.
+fn states(alloc: Global) -> Result<List<State>, NoMemory>
+    ensures { IfOk result (λ states. states_of states ≡ lengths_content.states) }
+{
+    let empty = State {
+        sign: Sign::No,
+        next: Ref::Leaf(1),
+    };
+    let longer = State {
+        sign: Sign::Yes,
+        next: Ref::Leaf(1),
+    };
+    match vec![in alloc; empty, longer] {
+        Ok(states) => Ok(List::from(states)),
+        Err(_) => Err(NoMemory),
+    }
+}
+
+fn lengths(alloc: Global) -> Result<Automaton, NoMemory>
+    ensures { IfOk result (λ made. made ≡ lengths_content) }
+{
+    let store = Store::new(alloc, 1);
+    let tracks = List::new(alloc);
+    let Ok(states) = states(alloc) else {
+        return Err(NoMemory);
+    };
+    let automaton = Automaton::make(store, Mode::M2lStr, tracks, Ref::Leaf(0), states);
+    Ok(automaton)
+}
+
+fn print_automaton(rt: &HostRuntime, automaton: &Automaton) -> Result<()>
+    requires { automaton.now ≡ lengths_content }
+{
+    println!(rt; "over strings: {}", automaton.mode() == Mode::M2lStr)?;
+    println!(rt; "{} tracks", automaton.tracks().len())?;
+    println!(rt; "{} nodes", automaton.store().len())?;
+    println!(rt;
+        "it starts at {}",
+        ref_word(rt.alloc(), automaton.start_ref())?
+    )?;
+    println!(rt; "which is state {}", automaton.start(&[]))?;
+    for state in 0..automaton.states() {
+        let sign = sign_word(automaton.sign(state));
+        let next = ref_word(rt.alloc(), automaton.next_ref(state))?;
+        println!(rt;
+            "state {state}: {sign}, then {next}, which is state {}",
+            automaton.step(state, &[])
+        )?;
+    }
+    Ok(())
+}
+
+fn sign_word(sign: Sign) -> &'static str {
+    match sign {
+        Sign::Yes => "yes",
+        Sign::No => "no",
+        Sign::Undefined => "undefined",
+        Sign::Outside => "outside",
+    }
+}
+
+/// The first word with a sign.
+fn print_first(rt: &HostRuntime, automaton: &Automaton, sign: Sign) -> Result<()> {
+    let word = sign_word(sign);
+    match first(rt.alloc(), automaton, sign)? {
+        Some(found) => println!(rt;
+            "the first word with {word} has {}",
+            size_of(rt.alloc(), &found)?
+        )?,
+        None => println!(rt; "no word has {word}")?,
+    }
+    Ok(())
+}
+
+fn size_of(alloc: Global, word: &Word) -> Result<String> {
+    let truth = word.truth.len();
+    let letters = word.letters.len();
+    Ok(format!(in alloc; "{truth} truth values and {letters} letters")?)
+}

@@ -1,0 +1,120 @@
+//! What lowering answers at its limits: the size and the depth of sources, on both sides of what is let through; and what a call
+//! becomes.
+#![tactic(auto)]
+
+use anyhow::Result;
+use ms_edge::Refusal;
+use ms_list::{At, List, NoMemory, on_heap, push};
+use ms_logic::{Checked, Formula, Mode, Order, Param, Placed, Predicate, Rel, Term1};
+use ms_logic_core::{Basic, Core};
+use ms_lower::{Tables, lower, lower_call};
+use std::alloc::Global;
+
+fn main(rt: HostRuntime) -> Result<()> {
+    println!(rt; "Depth")?;
+    tell(&rt, &source(rt.alloc(), 20, 1)?)?;
+    tell(&rt, &source(rt.alloc(), 1, 298)?)?;
+    tell(&rt, &source(rt.alloc(), 1, 299)?)?;
+    println!(rt; "Size")?;
+    tell(&rt, &source(rt.alloc(), 999_999, 0)?)?;
+    tell(&rt, &source(rt.alloc(), 1_000_000, 0)?)?;
+    println!(rt; "Both")?;
+    tell(&rt, &source(rt.alloc(), 4_000, 299)?)?;
+    println!(rt; "Calls")?;
+    tell_calls(&rt, &with_less(rt.alloc())?)
+}
+
+/// A source of so many formulas, each `true` under so many negations, at the places from 5 on.
+fn source(alloc: Global, formulas: u32, negations: u32) -> Result<Checked, NoMemory> {
+    let mut placed = List::new(alloc);
+    for item in 0..formulas {
+        let formula = negated(alloc, negations)?;
+        let at = At {
+            file: 0,
+            place: u64::from(item) + 5,
+        };
+        push(&mut placed, Placed { at, item, formula })?;
+    }
+    Ok(Checked {
+        mode: Mode::Ws1s,
+        globals: List::new(alloc),
+        predicates: List::new(alloc),
+        imports: List::new(alloc),
+        exports: List::new(alloc),
+        formulas: placed,
+        files: List::new(alloc),
+    })
+}
+
+/// A source with the predicate `less(var1 x, y) = x < y` alone.
+fn with_less(alloc: Global) -> Result<Checked, NoMemory> {
+    let mut predicates = List::new(alloc);
+    push(&mut predicates, less(alloc)?)?;
+    Ok(Checked {
+        mode: Mode::Ws1s,
+        globals: List::new(alloc),
+        predicates,
+        imports: List::new(alloc),
+        exports: List::new(alloc),
+        formulas: List::new(alloc),
+        files: List::new(alloc),
+    })
+}
+
+/// `x < y`, of parameters with the numbers 0 and 1.
+fn less(alloc: Global) -> Result<Predicate, NoMemory> {
+    let mut params = List::new(alloc);
+    push(&mut params, number(0))?;
+    push(&mut params, number(1))?;
+    let body = Formula::Compare(Rel::Less, Term1::Var(0), Term1::Var(1));
+    Ok(Predicate { params, body })
+}
+
+/// A parameter that is a number.
+fn number(variable: u32) -> Param {
+    Param {
+        order: Order::One,
+        variable,
+        domain: None,
+    }
+}
+
+fn negated(alloc: Global, negations: u32) -> Result<Formula, NoMemory> {
+    let mut made = Formula::True;
+    for _ in 0..negations {
+        made = Formula::Not(on_heap(alloc, made)?);
+    }
+    Ok(made)
+}
+
+fn tell(rt: &HostRuntime, checked: &Checked) -> Result<()> {
+    let answer = lower(rt.alloc(), checked);
+    match &answer {
+        Ok(lowered) => println!(rt;
+            "size {}, depth {}, roots {}, globals {}",
+            lowered.size,
+            lowered.depth,
+            lowered.roots.len(),
+            lowered.orders.len()
+        )?,
+        Err(Refusal::Depth { at }) => println!(rt; "too deep at {}", at.place)?,
+        Err(Refusal::CoreSize) => println!(rt; "too large")?,
+        Err(_) => println!(rt; "another refusal")?,
+    }
+    Ok(())
+}
+
+/// What calls of the first predicate become, at variables of which the last is free.
+fn tell_calls(rt: &HostRuntime, checked: &Checked) -> Result<()> {
+    let tables = Tables::of(rt.alloc(), checked)?;
+    tell_formula(rt, lower_call(&tables, 0, &[1, 4, 7])?.get())?;
+    tell_formula(rt, lower_call(&tables, 0, &[4, 1, 7])?.get())
+}
+
+fn tell_formula(rt: &HostRuntime, core: &Core) -> Result<()> {
+    match core {
+        Core::Basic(Basic::Less(x, y)) => println!(rt; "{} < {}", x, y)?,
+        _ => println!(rt; "another formula")?,
+    }
+    Ok(())
+}
