@@ -1,5 +1,6 @@
 pub mod CoreConsistent
 pub mod CoreViews
+pub mod Letting
 pub mod Saying
 pub mod SayingLiterals
 pub mod SayingParts

@@ -1,3 +1,5 @@
+ghost use Rattle.std.specs.Prelude.{◌≡◌, ◌++◌, ◌∷◌, [], MatchOption};
+
 use ms_list::{Boxed, List};
 use ms_logic::{Mode, Order, Quant};
 
@@ -69,9 +71,19 @@ pub struct Lowered {
     pub orders: List<Order>,
 }
 
-// What is last in a formula is let go in the same call, so a list of variables takes no stack.
+// A list without its last item, and that item, where it has one.
+fn split_last<T>(items: List<T>) -> (List<T>, Option<T>)
+    ensures { MatchOption result.1 ((items ≡ []) × (result.0 ≡ [])) (λ last. items ≡ result.0 ++ last ∷ []) }
+{
+    let mut items = items.into_vec();
+    let last = items.pop();
+    (List::from(items), last)
+}
+
+// What is last in a formula is let go in the same call, so a list of variables takes no stack, nor do the names of a `let`.
 impl Drop for Core {
     #[cycle(core_drop)]
+    #[tactic(auto, using(crate::proofs::Letting::fewer))]
     fn drop(mut self) {
         loop {
             match self {
@@ -89,8 +101,22 @@ impl Drop for Core {
                     drop(domain);
                     self = body.into_inner();
                 }
-                Core::And(operands) => return drop(operands),
-                Core::Or(operands) => return drop(operands),
+                Core::And(operands) => {
+                    let (others, last) = split_last(operands);
+                    drop(others);
+                    match last {
+                        None => return,
+                        Some(last) => self = last,
+                    }
+                }
+                Core::Or(operands) => {
+                    let (others, last) = split_last(operands);
+                    drop(others);
+                    match last {
+                        None => return,
+                        Some(last) => self = last,
+                    }
+                }
                 Core::Import(_, variables) => return drop(variables),
                 Core::Basic(_) => return,
                 Core::True => return,
