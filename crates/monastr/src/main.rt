@@ -6,7 +6,7 @@ ghost use Rattle.monastr.specs.Exit.{exit_of, exit_without_words};
 ghost use Rattle.std.specs.Prelude.{◌≡◌, ◌⊎◌, IfErr};
 
 use ms_app::run;
-use ms_edge::{DiskFiles, Status, StdSink, Words};
+use ms_edge::{CommandLine, DiskFiles, Status, StdSink};
 use std::env::{self, Env};
 use std::io::ErrorKind;
 use std::process::ExitCode;
@@ -29,7 +29,7 @@ fn main(rt: HostRuntime) -> ExitCode {
 }
 
 /// The words after the program's name, or the exit status where there are none to be had.
-fn words(rt: &(impl Env + AllocGlobal)) -> Result<Words, u8>
+fn words(rt: &(impl Env + AllocGlobal)) -> Result<CommandLine, u8>
     ensures { IfErr result (λ status. (status ≡ exit_of statuses.NoMemory) ⊎ (status ≡ exit_without_words)) }
 {
     let arguments = match env::args(rt) {
@@ -37,7 +37,7 @@ fn words(rt: &(impl Env + AllocGlobal)) -> Result<Words, u8>
         Err(error) if error.kind() == ErrorKind::OutOfMemory => return Err(NO_MEMORY),
         Err(_) => return Err(NO_WORDS),
     };
-    let mut words = Words::new(rt.alloc());
+    let mut words = CommandLine::new(rt.alloc());
     for word in arguments.skip(1) {
         if words.push(word.as_str()).is_err() {
             return Err(NO_MEMORY);

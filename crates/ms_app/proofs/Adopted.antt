@@ -1,9 +1,7 @@
 -- The automata that imports have become are lent to a source, and give the answers of its imports.
-use Rattle.std.proofs.Common.{◌≡◌, ℕ, ◌+◌, List, [], ◌∷◌, map, refl, sym, ap, subst, ◌∙◌}
+use Rattle.std.proofs.Common.{◌≡◌, ℕ, ◌+◌, List, [], ◌∷◌, map, sym, subst}
 use Rattle.ms_dfafile_adopt.specs.Import.{adopted_meaning, answer_of_file}
-use Rattle.ms_dfafile_adopt.specs.Laws as law
 use Rattle.ms_dfafile_adopt.proofs.LawLemmas.{answers_as_file}
-use Rattle.ms_build.specs.Built.{answer_for}
 use Rattle.ms_build.proofs.WholeLemmas.{rising-by_place}
 use Rattle.ms_dfa.specs.declared.plain.Plain.{Plain}
 use Rattle.ms_dfafile_imports.specs.Adopted.{AreAdopted, IsAdopted}
@@ -13,11 +11,9 @@ use Rattle.ms_logic.specs.declared.checked.ImportUse.{ImportUse}
 use Rattle.ms_logic.specs.declared.mode.Mode.{Mode}
 use Rattle.ms_logic.specs.declared.mode.Order.{Order}
 use Rattle.ms_logic_words.specs.declared.sign.Sign.{Sign}
-use Rattle.ms_logic_words.specs.declared.sign.Sign.TheVariants.{Yes, No, Undefined, Outside}
 use Rattle.ms_logic.specs.Assignment.{Universe, AreValuesOf, Variable, IsUniverseOf}
-use Rattle.ms_logic_words.specs.Content.{Content, answer_of, variables_by_place, variables_from}
+use Rattle.ms_logic_words.specs.Content.{Content, variables_by_place, variables_from}
 use Rattle.ms_logic.specs.Lists.{AreRising}
-use Rattle.ms_logic.specs.Truth.{Answer}
 use Rattle.ms_build_source.specs.Imported.{AreAnswersOf, AreLentFor, IsAnswerOf, orders_of_pairs}
 use Rattle.ms_dfa.specs.Values.{HasValues}
 
@@ -28,12 +24,6 @@ are_lent mode [] (plain ∷ plains) contents are = absurd are
 are_lent mode (used ∷ uses) [] contents are = absurd are
 are_lent mode (used ∷ uses) (plain ∷ plains) [] are = absurd are
 are_lent mode (used ∷ uses) (plain ∷ plains) (content ∷ contents) are = (record { mode_is = are.0.mode_is; variables = are.0.variables_are }, are_lent mode uses plains contents are.1)
-
-same_answer : (sign : Sign) → law.answer_for sign ≡ answer_for sign
-same_answer Yes = refl
-same_answer No = refl
-same_answer Undefined = refl
-same_answer Outside = refl
 
 values_over : (universe : Universe) (k : ℕ) (orders : List Order) (values : List Value) → AreValuesOf universe orders values → AreValuesOf universe (map (λ v. v.order) (variables_from k orders)) values
 values_over universe k [] [] are = tt
@@ -53,7 +43,7 @@ module _ (mode : Mode) (used : ImportUse) (plain : Plain) (content : Content Sig
       let said =
       answers_as_file plain names content (subst AreRising (sym over) (rising-by_place 0 (orders_of_pairs used))) (subst M (sym over) is.values) universe values
       (subst (λ m. IsUniverseOf m universe) (sym is.mode_is) is_universe) (subst V (sym over) (values_over universe 0 (orders_of_pairs used) values are)) in
-      sym said ∙ ap (λ (read : Sign → Answer). answer_of read content universe values) (λ i sign. same_answer sign i)
+      sym said
 
 pub are_answers : (mode : Mode) (uses : List ImportUse) (plains : List Plain) (contents : List (Content Sign)) → AreAdopted mode uses plains contents → AreAnswersOf mode uses (answers_by uses plains) contents
 are_answers mode [] [] [] are = tt

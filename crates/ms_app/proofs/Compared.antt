@@ -118,5 +118,4 @@ comparable holding left right limit seen one two told works are globals refusal 
     None are.right_loaded two.checked two.plains are.is_right limit refusal read (subst (λ (l : Loaded). IsRefused (file_of rest (length l.files) right) None limit refusal read) (sym left_same) why)
 comparable holding left right limit seen one two told works are globals refusal files (comparisons.not_comparable one' two' are' differ is) =
     absurd (differ (same_globals holding left right seen one two one' two' told are are' globals))
-comparable holding left right limit seen one two told works are globals refusal files (comparisons.lacks_nodes one' two' are' same step is) = inr (step, is)
 comparable holding left right limit seen one two told works are globals refusal files (comparisons.no_memory why) = inl why

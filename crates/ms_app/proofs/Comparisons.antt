@@ -3,12 +3,15 @@ use Rattle.std.proofs.Common.{◌≡◌, ◌⊎◌, inl, inr, ℕ, List, [], ◌
 use Rattle.ms_dfa.specs.declared.plain.Plain.{Plain}
 use Rattle.ms_edge.specs.Files.{FilesTold, OnlyRead, Seen, between}
 use Rattle.ms_edge.specs.declared.refusal.Refusal.{Refusal}
-use Rattle.ms_edge.specs.declared.refusal.Refusal.TheVariants.{Memory, Nodes}
+use Rattle.ms_edge.specs.declared.refusal.Refusal.TheVariants.{Memory}
 use Rattle.ms_dfafile_imports.specs.Imports.{answers_by}
 use Rattle.ms_logic.specs.declared.checked.Checked.{Checked}
 use Rattle.ms_logic.specs.declared.source.Loaded.{Loaded}
+use Rattle.ms_build_source.specs.Imported.{AreAnswersOf}
 use Rattle.ms_build_source.specs.Limits.{IsUnsolved}
-use Rattle.ms_app.specs.Comparison.{AreParts, AreSolved, HaveSameGlobals, IsRefusedComparison, Taken, lacks_nodes, left_refused, no_memory, right_refused}
+use Rattle.ms_logic_words.specs.Content.{Content}
+use Rattle.ms_logic_words.specs.declared.sign.Sign.{Sign}
+use Rattle.ms_app.specs.Comparison.{AreParts, AreSolved, IsRefusedComparison, Taken, left_refused, no_memory, right_refused}
 use Rattle.ms_app.specs.Source as sources
 use Rattle.ms_app.specs.Source.{IsRefused, IsSolved, IsTaken, Origin, file_of, unsolved}
 
@@ -21,10 +24,11 @@ more_refused old new refusal more (inl memory) = inl memory
 more_refused old new refusal more (inr (read, grown, why)) = inr (read, grown, more read why)
 
 pub unsolved_refused : (origin : Origin) (out : Option (List ℕ)) (limit : ℕ) (refusal : Refusal) (old new : List (List ℕ)) (loaded : Loaded) (checked : Checked) (plains : List Plain)
-    → IsTaken origin out loaded checked plains → new ≡ old ++ loaded.files → (refusal ≡ Memory) ⊎ IsUnsolved checked (answers_by checked.imports plains) limit refusal
+    → IsTaken origin out loaded checked plains → new ≡ old ++ loaded.files → (contents : List (Content Sign)) → AreAnswersOf checked.mode checked.imports (answers_by checked.imports plains) contents
+    → (refusal ≡ Memory) ⊎ IsUnsolved checked (answers_by checked.imports plains) contents limit refusal
     → RefusedWith old new (IsRefused origin out limit refusal) refusal
-unsolved_refused origin out limit refusal old new loaded checked plains is grown (inl memory) = inl memory
-unsolved_refused origin out limit refusal old new loaded checked plains is grown (inr why) = inr (loaded.files, grown, unsolved loaded checked plains is refl why)
+unsolved_refused origin out limit refusal old new loaded checked plains is grown contents answer (inl memory) = inl memory
+unsolved_refused origin out limit refusal old new loaded checked plains is grown contents answer (inr why) = inr (loaded.files, grown, unsolved loaded checked plains is refl contents answer why)
 
 -- the files of the first source are all that were read
 pub first_refused : (name : List ℕ) (out : Option (List ℕ)) (limit : ℕ) (seen : Seen) (old new : List (List ℕ)) (refusal : Refusal) → old ≡ [] → RefusedWith old new (IsRefused (file_of seen (length old) name) out limit refusal) refusal
@@ -70,8 +74,3 @@ module _ (left right : List ℕ) (limit : ℕ) where
           is_left = left_solved;
           is_right = subst P all_read also;
         }
-
-pub agreement_refused : (left right : List ℕ) (limit : ℕ) (seen : Seen) (one two : Taken) → AreSolved left right seen one two → HaveSameGlobals one.checked two.checked → (files : List (List ℕ)) (refusal : Refusal)
-    → (refusal ≡ Memory) ⊎ ((step : ℕ) × (refusal ≡ Nodes step limit)) → IsRefusedComparison left right limit seen refusal files
-agreement_refused left right limit seen one two solved same files refusal (inl memory) = no_memory memory
-agreement_refused left right limit seen one two solved same files refusal (inr (step, is)) = lacks_nodes one two solved same step is

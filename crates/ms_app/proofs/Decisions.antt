@@ -14,8 +14,7 @@ use Rattle.ms_logic.specs.declared.checked.Global.{Global}
 use Rattle.ms_logic_words.specs.declared.sign.Sign.{Sign}
 use Rattle.ms_logic.specs.declared.source.Loaded.{Loaded}
 use Rattle.ms_logic_words.specs.Content.{Content}
-use Rattle.ms_logic.specs.View.{problem_of}
-use Rattle.ms_lower.specs.Measure.{Answers}
+use Rattle.ms_logic.specs.View.{problem_of, Answers}
 use Rattle.ms_report.specs.declared.found.Found.{Found}
 use Rattle.ms_logic.specs.Lists.{Each}
 use Rattle.ms_build_source.specs.Imported.{AreAnswersOf, AreLentFor}
@@ -77,9 +76,9 @@ module _ (checked : Checked) where
       own_names_of right stats count found files by = own_names (problem_with checked plains) global_names checked.exports out files right.meets_rules.names.files taken.free (by answers are).2
 
       pub unsolved_of : (limit : ℕ) (refusal : Refusal) (old new : List (List ℕ)) → new ≡ old ++ loaded.files
-          → ((answers : Answers) → length answers ≡ length checked.imports → (refusal ≡ Memory) ⊎ IsUnsolved checked answers limit refusal)
+          → ((answers : Answers) → length answers ≡ length checked.imports → (refusal ≡ Memory) ⊎ IsUnsolved checked answers contents limit refusal)
           → RefusedWith old new (IsRefused origin out limit refusal) refusal
-      unsolved_of limit refusal old new grown why = unsolved_refused origin out limit refusal old new loaded checked plains taken grown (why answers counted)
+      unsolved_of limit refusal old new grown why = unsolved_refused origin out limit refusal old new loaded checked plains taken grown contents are (why answers counted)
 
   -- what is made of automata that are lent can be written
   module _ (right : IsRight checked) (contents : List (Content Sign)) (lent : AreLentFor checked.mode checked.imports contents) (solution : Solution) where

@@ -99,9 +99,10 @@ module _ (number : ℕ) (is_number : IsNumber number) (bytes : List ℕ) (is_tex
     taken : IsTaken (text_of generated_name bytes) None loaded checked []
     taken = record { is = is; free = tt; imported = (alone.0, refl) }
 
-    pub text_unsolved : (refusal : Refusal) → (refusal ≡ Memory) ⊎ IsUnsolved checked (answers_by checked.imports []) node_limit refusal → IsRefusedGeneration number refusal
-    text_unsolved refusal (inl memory) = inl memory
-    text_unsolved refusal (inr why) = wanting number is_number refusal new (text_refused grown refusal (unsolved loaded checked [] taken (sym is.is_loaded.files) why))
+    pub text_unsolved : (contents : List (Content Sign)) → AreAnswersOf checked.mode checked.imports (answers_by checked.imports []) contents → (refusal : Refusal)
+        → (refusal ≡ Memory) ⊎ IsUnsolved checked (answers_by checked.imports []) contents node_limit refusal → IsRefusedGeneration number refusal
+    text_unsolved contents answer refusal (inl memory) = inl memory
+    text_unsolved contents answer refusal (inr why) = wanting number is_number refusal new (text_refused grown refusal (unsolved loaded checked [] taken (sym is.is_loaded.files) contents answer why))
 
     pub text_decided : (found : Found) (files : List File) → IsFound (problem_with checked []) (map (λ g. g.name) checked.globals) found → IsWithinLimits (problem_with checked [])
         → HasStats true (problem_with checked []) (length loaded.files) found.stats → AreFilesOf (problem_with checked []) (map (λ g. g.name) checked.globals) checked.exports None files

@@ -6,8 +6,7 @@ use Rattle.ms_logic.specs.declared.checked.Checked.{Checked}
 use Rattle.ms_logic.specs.declared.checked.Global.{Global}
 use Rattle.ms_logic_words.specs.Content.{variables_from}
 use Rattle.ms_logic.specs.Verdict.{variables_of}
-use Rattle.ms_logic.specs.View.{problem_of}
-use Rattle.ms_lower.specs.Measure.{Answers}
+use Rattle.ms_logic.specs.View.{problem_of, Answers}
 use Rattle.ms_build_source.proofs.GlobalLemmas.{globals_by_place}
 use Rattle.ms_app.specs.Comparison.{HaveSameGlobals}
 

@@ -79,6 +79,6 @@ module _ (first middle last : FilesTold) (reads : OnlyRead first middle) where
     taken = subst (λ held. AreImported held mode (take is.place uses) is.earlier) reads.held is.taken;
     why = ⊎_elim (λ unread. inl (unread_before is.used refusal unread))
         (λ other. ⊎_elim (λ none. inr (inl (subst (λ held. IsNoAutomaton held is.used refusal) reads.held none)))
-        (λ misfit. inr (inr (subst (λ held. IsMisfit held mode limit is.used refusal) reads.held misfit))) other)
+        (λ misfit. inr (inr (subst (λ held. IsMisfit held mode limit is.place is.used refusal) reads.held misfit))) other)
         is.why;
   }

@@ -9,12 +9,13 @@ use Rattle.ms_edge.specs.declared.refusal.Refusal.TheVariants.{Memory, Nodes}
 use Rattle.ms_dfafile_imports.specs.Imports.{AreImported, answers_by}
 use Rattle.ms_dfafile_imports.proofs.Told.{imported-once, imported-refused}
 use Rattle.ms_logic.specs.declared.checked.Checked.{Checked}
+use Rattle.ms_logic_words.specs.Content.{Content}
+use Rattle.ms_logic_words.specs.declared.sign.Sign.{Sign}
 use Rattle.ms_logic.specs.declared.checked.ExportUse.{ExportUse}
 use Rattle.ms_logic.specs.declared.checked.ImportUse.{ImportUse}
 use Rattle.ms_logic.specs.declared.mode.Mode.{Mode}
 use Rattle.ms_logic.specs.declared.source.Loaded.{Loaded}
-use Rattle.ms_logic.specs.View.{problem_of}
-use Rattle.ms_lower.specs.Measure.{Answers}
+use Rattle.ms_logic.specs.View.{problem_of, Answers}
 use Rattle.ms_names_rules.specs.Checking.{IsFirstFault}
 use Rattle.ms_names_rules.specs.TypedSource.{IsTyped}
 use Rattle.ms_include_laws.specs.Told.{IsFromOutside, TellSame}
@@ -24,7 +25,7 @@ use Rattle.ms_include_laws.proofs.of_loads.Verdicts.{no_first_fault, not_too_dee
 use Rattle.ms_build_source.specs.Limits as limits
 use Rattle.ms_build_source.specs.Limits.{IsTooLarge, IsUnsolved, IsWithinLimits}
 use Rattle.ms_app.specs.Source as sources
-use Rattle.ms_app.specs.Source.{IsAccepted, IsOutFree, IsOutTaken, IsRefused, IsSolved, IsTaken, IsUnaccepted, Origin, file_of, problem_with, text_of}
+use Rattle.ms_app.specs.Source.{IsAccepted, IsOutFree, IsOutTaken, IsRefused, IsSolved, IsUnaccepted, Origin, file_of, text_of}
 
 -- want of memory, or of nodes in a step
 abbrev pub IsWant : ℕ → Refusal → Type 0
@@ -111,9 +112,9 @@ module _ (origin other : Origin) (settles : Settles origin other) (out : Option 
   too_large checked' answers refusal within (limits.too_deep deep) = not_too_deep checked' answers refusal within.depth deep
   too_large checked' answers refusal within (limits.too_large large) = not_too_large checked' answers refusal within.size large
 
-  unsolved : (limit : ℕ) (checked' : Checked) (answers : Answers) (refusal : Refusal) → IsWithinLimits (problem_of checked' answers) → IsUnsolved checked' answers limit refusal → IsWant limit refusal
-  unsolved limit checked' answers refusal within (limits.not_made why) = absurd (too_large checked' answers refusal within why)
-  unsolved limit checked' answers refusal within (limits.lacks_nodes within' step lacks) = inr (step, lacks)
+  unsolved : (limit : ℕ) (checked' : Checked) (answers : Answers) (contents : List (Content Sign)) (refusal : Refusal) → IsWithinLimits (problem_of checked' answers) → IsUnsolved checked' answers contents limit refusal → IsWant limit refusal
+  unsolved limit checked' answers contents refusal within (limits.not_made why) = absurd (too_large checked' answers refusal within why)
+  unsolved limit checked' answers contents refusal within (limits.lacks_nodes within' step there lacks) = inr (step, lacks)
 
   pub solvable : (limit : ℕ) (refusal : Refusal) (read : List (List ℕ)) → IsRefused other out limit refusal read → IsWant limit refusal
   solvable limit refusal read (sources.unaccepted why) = inl (unaccepted refusal read why)
@@ -121,12 +122,12 @@ module _ (origin other : Origin) (settles : Settles origin other) (out : Option 
       absurd (free_or_taken out checked'.exports refusal (subst (IsOutFree out) (exports_are loaded' checked' is') is.is.free) why)
   solvable limit refusal read (sources.unimported loaded' checked' is' free all why) =
       settles.imports checked'.mode limit checked'.imports plains refusal (imported loaded' checked' is') why
-  solvable limit refusal read (sources.unsolved loaded' checked' plains' taken all why) =
+  solvable limit refusal read (sources.unsolved loaded' checked' plains' taken all contents answer why) =
       let is' = taken.is in
-      let contents : plains ≡ plains' = settles.one_content checked'.mode checked'.imports plains plains' (imported loaded' checked' is') taken.imported in
+      let one : plains ≡ plains' = settles.one_content checked'.mode checked'.imports plains plains' (imported loaded' checked' is') taken.imported in
       let answers = answers_by checked'.imports plains' in
-      let same_answers : answers_by checked.imports plains ≡ answers = ap (λ uses. answers_by uses plains) (imports_are loaded' checked' is') ∙ ap (answers_by checked'.imports) contents in
+      let same_answers : answers_by checked.imports plains ≡ answers = ap (λ uses. answers_by uses plains) (imports_are loaded' checked' is') ∙ ap (answers_by checked'.imports) one in
       let problem : problem_of checked answers ≡ problem_of checked' answers = one_problem loaded checked checked' answers accepted.typed (typed' loaded' checked' is') in
       let within : IsWithinLimits (problem_of checked' answers) = subst IsWithinLimits problem (subst (λ list. IsWithinLimits (problem_of checked list)) same_answers is.within) in
-      unsolved limit checked' answers refusal within why
+      unsolved limit checked' answers contents refusal within why
   solvable limit refusal read (sources.no_memory why) = inl why

@@ -2,7 +2,6 @@
 use Rattle.std.proofs.Common.{◌≡◌, inl, inr, ⊎_elim, ℕ, zero, suc, true, false, List, [], ◌∷◌, ◌++◌, Contains, Option, None, Some, length, map, slice_get, sym, subst}
 use Rattle.std.proofs.lemmas.List.Elements.{All-contains}
 use Rattle.std.proofs.lemmas.Option.{none-some, same_Some}
-use Rattle.ms_dfafile_adopt.specs.Import.{IsNotImportable}
 use Rattle.ms_dfa.specs.declared.plain.Plain.{Plain}
 use Rattle.ms_edge.specs.Files.{Seen}
 use Rattle.ms_list.specs.declared.at.At.{At}
@@ -10,17 +9,19 @@ use Rattle.ms_edge.specs.declared.refusal.Refusal.{Refusal}
 use Rattle.ms_edge.specs.declared.refusal.Refusal.TheVariants.{Memory}
 use Rattle.ms_edge.specs.declared.refusal.Refusal.TheVariants as refusals
 use Rattle.ms_build_source.proofs.SharedRoots.{each_all}
-use Rattle.ms_dfafile_imports.specs.Imports.{IsNoAutomaton, IsUnimported, IsUnread, answers_by}
+use Rattle.ms_dfafile_imports.specs.Imports.{IsNoAutomaton, IsNotTaken, IsUnimported, IsUnread, answers_by}
 use Rattle.ms_logic_core.specs.Size.{Extents, extents_of}
-use Rattle.ms_logic.specs.View.{predicate_of}
+use Rattle.ms_logic.specs.View.{predicate_of, Answers}
 use Rattle.ms_logic.specs.declared.checked.Checked.{Checked}
+use Rattle.ms_logic_words.specs.Content.{Content}
+use Rattle.ms_logic_words.specs.declared.sign.Sign.{Sign}
 use Rattle.ms_logic.specs.declared.checked.ExportUse.{ExportUse}
 use Rattle.ms_logic.specs.declared.checked.Global.{Global}
 use Rattle.ms_logic.specs.declared.checked.ImportUse.{ImportUse}
 use Rattle.ms_logic.specs.declared.checked.Placed.{Placed}
 use Rattle.ms_logic.specs.declared.source.Loaded.{Loaded}
 use Rattle.ms_logic.specs.declared.mode.Mode.{Mode}
-use Rattle.ms_lower.specs.Measure.{Answers, IsDepthRefusal}
+use Rattle.ms_lower.specs.Measure.{IsDepthRefusal}
 use Rattle.ms_lower.specs.TooDeep.{HasTooDeep, Part, part_of_formula, part_of_global, parts_of}
 use Rattle.ms_include_laws.specs.inner.places.Places.{HasPlacesInFiles, IsAmongFiles, IsToldOver, KeepsPlacesInFiles}
 use Rattle.ms_include_laws.proofs.of_places.FirstFaults.{first-faults}
@@ -32,7 +33,7 @@ use Rattle.ms_names_rules.proofs.Fitting.{each-append}
 use Rattle.ms_app_words.specs.declared.command.Command.{Command}
 use Rattle.ms_app_words.specs.declared.command.Command.TheVariants.{Decide, Same, Gen}
 use Rattle.ms_app.specs.Answer.{IsRefusedFor}
-use Rattle.ms_app.specs.Comparison.{IsRefusedComparison, left_refused, right_refused, not_comparable, lacks_nodes}
+use Rattle.ms_app.specs.Comparison.{IsRefusedComparison, left_refused, right_refused, not_comparable}
 use Rattle.ms_app.specs.Comparison as comparisons
 use Rattle.ms_build_source.specs.Limits.{IsUnsolved, not_made, too_deep, too_large}
 use Rattle.ms_build_source.specs.Limits as limits
@@ -89,19 +90,19 @@ module _ (P : At → Type 0) (seen : Seen) (mode : Mode) (limit : ℕ) (used : I
   none-told (refusals.ImportText place name) why = (tt, subst P (sym why.0) at)
   none-told refusal why = absurd why
 
-  misfit-told : (plain : Plain) (refusal : Refusal) → IsNotImportable plain used mode limit refusal → IsToldAt P refusal
-  misfit-told plain (refusals.ImportMode place name) why = (tt, subst P (sym why.0) at)
-  misfit-told plain (refusals.ImportVars place name) why = (tt, subst P (sym why.0) at)
-  misfit-told plain (refusals.ImportOpen place name count word) why = (tt, subst P (sym why.0) at)
-  misfit-told plain (refusals.Nodes step named) why = (tt, tt)
-  misfit-told plain refusals.Memory why = (tt, tt)
-  misfit-told plain refusal why = absurd why
+  misfit-told : (item : ℕ) (plain : Plain) (refusal : Refusal) → IsNotTaken plain used mode limit item refusal → IsToldAt P refusal
+  misfit-told item plain (refusals.ImportMode place name) why = (tt, subst P (sym why.0) at)
+  misfit-told item plain (refusals.ImportVars place name) why = (tt, subst P (sym why.0) at)
+  misfit-told item plain (refusals.ImportOpen place name count word) why = (tt, subst P (sym why.0) at)
+  misfit-told item plain (refusals.Nodes step named) why = (tt, tt)
+  misfit-told item plain refusals.Memory why = (tt, tt)
+  misfit-told item plain refusal why = absurd why
 
 import-told : (P : At → Type 0) (seen : Seen) (mode : Mode) (limit : ℕ) (uses : List ImportUse) (refusal : Refusal) → Each (λ (used : ImportUse). P used.at) uses → IsUnimported seen mode limit uses refusal → IsToldAt P refusal
 import-told P seen mode limit uses refusal h is =
     let at = import-at P uses h is.place is.used is.here in
     ⊎_elim (unread-told P seen mode limit is.used at refusal)
-    (λ other. ⊎_elim (none-told P seen mode limit is.used at refusal) (λ misfit. misfit-told P seen mode limit is.used at misfit.0 refusal misfit.2) other) is.why
+    (λ other. ⊎_elim (none-told P seen mode limit is.used at refusal) (λ misfit. misfit-told P seen mode limit is.used at is.place misfit.0 refusal misfit.2) other) is.why
 
 -- of an origin whose files are numbered from those before on
 pub record Tells (before : List (List ℕ)) (origin : Origin) : Type 1 where
@@ -139,13 +140,13 @@ module _ (before : List (List ℕ)) (origin : Origin) (tells : Tells before orig
   unaccepted-told refusal read (faulty loaded is all why) =
       subst (λ files. IsToldOver (before ++ files) refusal) (sym all) (first-faults before loaded refusal (tells.loaded loaded is) why)
 
-  unsolved-told : (loaded : Loaded) (checked : Checked) (answers : Answers) (read : List (List ℕ)) (limit : ℕ) (refusal : Refusal) → IsAccepted origin loaded checked → read ≡ loaded.files →
-      IsUnsolved checked answers limit refusal → IsToldOver (before ++ read) refusal
-  unsolved-told loaded checked answers read limit refusal is all (not_made (too_deep deep)) =
+  unsolved-told : (loaded : Loaded) (checked : Checked) (answers : Answers) (contents : List (Content Sign)) (read : List (List ℕ)) (limit : ℕ) (refusal : Refusal) → IsAccepted origin loaded checked → read ≡ loaded.files →
+      IsUnsolved checked answers contents limit refusal → IsToldOver (before ++ read) refusal
+  unsolved-told loaded checked answers contents read limit refusal is all (not_made (too_deep deep)) =
       let places = kept loaded checked is in
       over loaded checked read refusal is all (depth-told (IsAmongFiles (length before) (length checked.files)) checked answers refusal places.globals places.formulas deep)
-  unsolved-told loaded checked answers read limit refusal is all (not_made (too_large large)) = subst (IsToldOver (before ++ read)) (sym large.is) (tt, tt)
-  unsolved-told loaded checked answers read limit refusal is all (limits.lacks_nodes within step lacks) = subst (IsToldOver (before ++ read)) (sym lacks) (tt, tt)
+  unsolved-told loaded checked answers contents read limit refusal is all (not_made (too_large large)) = subst (IsToldOver (before ++ read)) (sym large.is) (tt, tt)
+  unsolved-told loaded checked answers contents read limit refusal is all (limits.lacks_nodes within step there lacks) = subst (IsToldOver (before ++ read)) (sym lacks) (tt, tt)
 
   out-told : (loaded : Loaded) (checked : Checked) (out : Option (List ℕ)) (read : List (List ℕ)) (refusal : Refusal) → IsAccepted origin loaded checked → read ≡ loaded.files → IsOutTaken out checked.exports refusal
       → IsToldOver (before ++ read) refusal
@@ -165,7 +166,7 @@ module _ (before : List (List ℕ)) (origin : Origin) (tells : Tells before orig
   refused-told out limit refusal read (unaccepted why) = unaccepted-told refusal read why
   refused-told out limit refusal read (out_taken loaded checked is all why) = out-told loaded checked out read refusal is all why
   refused-told out limit refusal read (unimported loaded checked is free all why) = imports-told loaded checked read limit refusal is all why
-  refused-told out limit refusal read (unsolved loaded checked plains is all why) = unsolved-told loaded checked (answers_by checked.imports plains) read limit refusal is.is all why
+  refused-told out limit refusal read (unsolved loaded checked plains is all contents answer why) = unsolved-told loaded checked (answers_by checked.imports plains) contents read limit refusal is.is all why
   refused-told out limit refusal read (sources.no_memory why) = memory-told (before ++ read) refusal why
 
 comparison-told : (left right : List ℕ) (limit : ℕ) (seen : Seen) (refusal : Refusal) (files : List (List ℕ)) → IsRefusedComparison left right limit seen refusal files → IsToldOver files refusal
@@ -173,7 +174,6 @@ comparison-told left right limit seen refusal files (left_refused why) = refused
 comparison-told left right limit seen refusal files (right_refused first rest are_parts loaded one is_left read all why) =
     subst (λ names. IsToldOver names refusal) (sym all) (refused-told loaded.files (file_of rest (length loaded.files) right) (file-tells rest loaded.files right) None limit refusal read why)
 comparison-told left right limit seen refusal files (not_comparable one two are_solved differ is) = subst (IsToldOver files) (sym is) (tt, tt)
-comparison-told left right limit seen refusal files (lacks_nodes one two are_solved same step is) = subst (IsToldOver files) (sym is) (tt, tt)
 comparison-told left right limit seen refusal files (comparisons.no_memory why) = memory-told files refusal why
 
 pub command-told : (command : Command) (seen : Seen) (refusal : Refusal) (files : List (List ℕ)) → IsRefusedFor command seen refusal files → IsToldOver files refusal

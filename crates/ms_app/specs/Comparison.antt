@@ -2,7 +2,7 @@
 use Rattle.std.specs.Prelude.{◌≡◌, ◌↔◌, ℕ, Bool, true, false, IsTrue, List, [], ◌∷◌, ◌++◌, codes, length, map, None}
 use Rattle.ms_dfa.specs.declared.plain.Plain.{Plain}
 use Rattle.ms_edge.specs.declared.refusal.Refusal.{Refusal}
-use Rattle.ms_edge.specs.declared.refusal.Refusal.TheVariants.{Memory, Nodes, VarsDiffer}
+use Rattle.ms_edge.specs.declared.refusal.Refusal.TheVariants.{Memory, VarsDiffer}
 use Rattle.ms_edge.specs.Files.{OnlyRead, Seen}
 use Rattle.ms_logic.specs.Verdict.{Agree, Problem}
 use Rattle.ms_logic.specs.declared.checked.Checked.{Checked}
@@ -57,9 +57,6 @@ pub data IsRefusedComparison (left right : List ℕ) (limit : ℕ) (seen : Seen)
       → IsRefusedComparison left right limit seen refusal files
   -- both can be solved, and their modes or globals differ
   not_comparable : (one two : Taken) (are_solved : AreSolved left right seen one two) (differ : ¬ HaveSameGlobals one.checked two.checked) (is : refusal ≡ VarsDiffer)
-      → IsRefusedComparison left right limit seen refusal files
-  -- they have the same globals, and a canonical automaton was refused under the limit
-  lacks_nodes : (one two : Taken) (are_solved : AreSolved left right seen one two) (same : HaveSameGlobals one.checked two.checked) (step : ℕ) (is : refusal ≡ Nodes step limit)
       → IsRefusedComparison left right limit seen refusal files
   no_memory : (why : refusal ≡ Memory) → IsRefusedComparison left right limit seen refusal files
 

@@ -17,7 +17,10 @@ use Rattle.ms_names_rules.specs.Checking.{IsFirstFault}
 use Rattle.ms_names_rules.specs.Declarations.{first_fault_of}
 use Rattle.ms_names_rules.specs.TypedSource.{IsTyped}
 use Rattle.ms_names_rules.specs.View.{placed_of}
+use Rattle.ms_build_source.specs.Imported.{AreAnswersOf}
 use Rattle.ms_build_source.specs.Limits.{IsUnsolved, IsWithinLimits}
+use Rattle.ms_logic_words.specs.Content.{Content}
+use Rattle.ms_logic_words.specs.declared.sign.Sign.{Sign}
 
 -- What a text loads as, and how it is refused, with the files of its own that were read by then; and what the files hold that it imports, and
 -- why one of them is not taken under a limit on nodes and states.
@@ -92,8 +95,9 @@ pub data IsRefused (origin : Origin) (out : Option (List ℕ)) (limit : ℕ) (re
   -- a file that it imports cannot be taken
   unimported : (loaded : Loaded) (checked : Checked) (is : IsAccepted origin loaded checked) (free : IsOutFree out checked.exports) (all : read ≡ loaded.files)
       (why : origin.IsUnimported checked.mode limit checked.imports refusal) → IsRefused origin out limit refusal read
-  -- all are taken, and it is not solved
+  -- all are taken, and it is not solved over automata that answer what the files say
   unsolved : (loaded : Loaded) (checked : Checked) (plains : List Plain) (is : IsTaken origin out loaded checked plains) (all : read ≡ loaded.files)
-      (why : IsUnsolved checked (answers_by checked.imports plains) limit refusal) → IsRefused origin out limit refusal read
+      (contents : List (Content Sign)) (answer : AreAnswersOf checked.mode checked.imports (answers_by checked.imports plains) contents)
+      (why : IsUnsolved checked (answers_by checked.imports plains) contents limit refusal) → IsRefused origin out limit refusal read
   -- want of memory needs no cause
   no_memory : (why : refusal ≡ Memory) → IsRefused origin out limit refusal read

@@ -1,4 +1,4 @@
-ghost use Rattle.std.specs.Prelude.{◌≡◌, ◌⊎◌, ◌↔◌, ℕ, List, IsTrue, IfErr, IfOk};
+ghost use Rattle.std.specs.Prelude.{◌≡◌, ◌↔◌, ◌+◌, ◌≤◌, ℕ, List, length, IsTrue, IfErr, IfOk};
 ghost use Rattle.ms_logic.specs.Verdict.{Agree, Problem, variables_of};
 ghost use Rattle.ms_build.specs.Built.{IsLimit};
 ghost use Rattle.ms_build_source.specs.Solution.{IsNamed, IsSolution};
@@ -34,21 +34,23 @@ fn is_same_content(left: &Plain, right: &Plain) -> bool
 }
 
 /// Whether the main values of two sources with the same globals are the same at each assignment, by their canonical
-/// automata, where nodes and states of a step are together at most `limit`.
+/// contents. Their automata have at most `limit` nodes and states each.
 pub fn agree(alloc: Global, left: &Solution, right: &Solution, limit: u64) -> Result<bool, Refusal>
     requires left { IsNamed left.now }
     requires right { IsNamed right.now }
     requires limit { IsLimit limit }
+    requires left_fits { length left.now.automaton.nodes + length left.now.automaton.states ≤ limit }
+    requires right_fits { length right.now.automaton.nodes + length right.now.automaton.states ≤ limit }
     ensures agree { IfOk result (λ agree. (one two : Problem) (names others : List (List ℕ)) → IsSolution one names left.now → IsSolution two others right.now
         → one.mode ≡ two.mode → variables_of one.globals ≡ variables_of two.globals → IsTrue agree ↔ Agree one two) }
-    ensures refused { IfErr result (λ refusal. (refusal ≡ Refusal.Memory) ⊎ ((step : ℕ) × (refusal ≡ Refusal.Nodes step limit))) }
+    ensures refused { IfErr result (λ refusal. refusal ≡ Refusal.Memory) }
 {
     let one = match canonical_of(alloc, left, limit) {
         Ok(content) => content,
-        Err(refusal) => return Err(refusal),
+        Err(_) => return Err(Refusal::Memory),
     };
     match canonical_of(alloc, right, limit) {
         Ok(other) => Ok(is_same_content(&one, &other)),
-        Err(refusal) => Err(refusal),
+        Err(_) => Err(Refusal::Memory),
     }
 }

@@ -1,4 +1,4 @@
-ghost use Rattle.std.specs.Prelude.{◌≡◌, ◌≤◌, ◌⊎◌, ◌++◌, ℕ, [], List, None, length, map, IfErr, IfOk};
+ghost use Rattle.std.specs.Prelude.{◌≡◌, ◌≤◌, ◌⊎◌, ◌+◌, ◌++◌, ℕ, [], List, None, length, map, IfErr, IfOk};
 ghost use Rattle.ms_build.specs.Built.{IsLimit};
 ghost use Rattle.ms_dfa.specs.declared.plain.Plain.{Plain};
 ghost use Rattle.ms_edge.specs.Files.{OnlyRead, between};
@@ -52,6 +52,7 @@ fn solve_file<F: Files>(
         × IsSolved (file_of (between (F.told files.old) (F.told files.new)) (length names.old) name.now) None loaded made.source.checked plains
         × IsSolution (problem_with made.source.checked plains) (map (λ g. g.name) made.source.checked.globals) made.solution
         × (length loaded.files ≤ 64) × (names.new ≡ names.old ++ loaded.files)) }
+    ensures fits { IfOk result (λ made. length made.solution.automaton.nodes + length made.solution.automaton.states ≤ limit) }
     ensures named { IfOk result (λ made. IsNamed made.solution) }
     ensures refused { IfErr result (λ refusal. (refusal ≡ Refusal.Memory) ⊎ ((read : List (List ℕ)) × (names.new ≡ names.old ++ read)
         × IsRefused (file_of (between (F.told files.old) (F.told files.new)) (length names.old) name.now) None limit refusal read)) }

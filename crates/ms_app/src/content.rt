@@ -1,4 +1,4 @@
-ghost use Rattle.std.specs.Prelude.{◌≡◌, ◌⊎◌, ◌≤◌, ◌+◌, ℕ, List, length, IfErr, IfOk};
+ghost use Rattle.std.specs.Prelude.{◌≡◌, ◌≤◌, ◌+◌, ℕ, List, length, IfOk};
 ghost use Rattle.ms_build.specs.Built.{IsLimit};
 ghost use Rattle.ms_dfa.specs.Files.{content_of_file};
 ghost use Rattle.ms_dfafile.specs.File.{names_of};
@@ -11,31 +11,27 @@ ghost use Rattle.ms_app.specs.Counts.{IsCanonicalOf};
 
 use ms_build_source::Solution;
 use ms_dfa::Plain;
-use ms_edge::Refusal;
-use ms_list::StepFault;
+use ms_list::{NoMemory, StepFault};
 use ms_minim_canonical::canonical;
 use std::alloc::Global;
 
-/// The canonical content of the main value of a source over its globals, where nodes and states of a step are together at
-/// most `limit`.
-pub fn canonical_of(alloc: Global, solution: &Solution, limit: u64) -> Result<Plain, Refusal>
+/// The canonical content of the main value of a source over its globals. Its automaton has at most `limit` nodes and states, and
+/// so has the content.
+pub fn canonical_of(alloc: Global, solution: &Solution, limit: u64) -> Result<Plain, NoMemory>
     requires named { IsNamed solution.now }
     requires limit { IsLimit limit }
+    requires fits { length solution.now.automaton.nodes + length solution.now.automaton.states ≤ limit }
     ensures copy { IfOk result (IsCanonicalCopy solution.now.automaton solution.now.names) }
     ensures content { IfOk result (λ made. (problem : Problem) (names : List (List ℕ)) → IsSolution problem names solution.now → IsCanonicalOf problem (content_of_file made)) }
     ensures file { IfOk result (λ made. (problem : Problem) (names : List (List ℕ)) → IsSolution problem names solution.now → IsMainFile problem names made) }
     ensures canonical { IfOk result (λ made. IsCanonical (content_of_file made)) }
     ensures names { IfOk result (λ made. names_of made ≡ solution.now.names) }
     ensures small { IfOk result (λ made. length made.nodes + length made.states ≤ 4000000000) }
-    ensures refused { IfErr result (λ refusal. (refusal ≡ Refusal.Memory) ⊎ ((step : ℕ) × (refusal ≡ Refusal.Nodes step limit))) }
 {
     match canonical(alloc, &solution.automaton, &solution.names, limit) {
         Ok(content) => Ok(content),
-        Err(StepFault::Memory) => Err(Refusal::Memory),
-        // It comes after all steps that have a number.
-        Err(StepFault::Nodes { .. }) => Err(Refusal::Nodes {
-            step: u32::MAX,
-            limit,
-        }),
+        Err(StepFault::Memory) => Err(NoMemory),
+        // An automaton within the limit has a canonical content within it.
+        Err(StepFault::Nodes { .. }) => unreachable!(),
     }
 }

@@ -1,9 +1,8 @@
-ghost use Rattle.std.specs.Prelude.{◌≡◌, ◌⊎◌, ℕ, List, [], length, map, IfErr, IfOk};
+ghost use Rattle.std.specs.Prelude.{◌≡◌, ◌⊎◌, ◌+◌, ◌≤◌, ℕ, List, [], length, map, IfErr, IfOk};
 ghost use Rattle.std.specs.Option.{option_copied};
 ghost use Rattle.ms_build.specs.Built.{IsLimit};
 ghost use Rattle.ms_logic.specs.Verdict.{Problem};
-ghost use Rattle.ms_logic.specs.View.{problem_of};
-ghost use Rattle.ms_lower.specs.Measure.{Answers};
+ghost use Rattle.ms_logic.specs.View.{problem_of, Answers};
 ghost use Rattle.ms_build_source.specs.Imported.{AreAnswersOf, AreLentFor};
 ghost use Rattle.ms_build_source.specs.Limits.{IsUnsolved, IsWithinLimits};
 ghost use Rattle.ms_build_source.specs.Solution.{AreExportFiles, IsNamed, IsSolution};
@@ -22,7 +21,7 @@ use crate::taken::Taken;
 use ms_build_source::{Solution, solve};
 use ms_dfa::Plain;
 use ms_edge::Refusal;
-use ms_list::{List, Text};
+use ms_list::{List, NoMemory, Text};
 use ms_report::{Found, Stats};
 use std::alloc::Global;
 
@@ -46,18 +45,14 @@ fn with_main(
     files: List<AutomatonFile>,
     out: Option<&Text>,
     content: &Plain,
-) -> Result<List<AutomatonFile>, Refusal>
+) -> Result<List<AutomatonFile>, NoMemory>
     requires { IsWritable content.now }
-    ensures files { IfOk result (λ more. IsWithMain (pairs_of files) (option_copied out.entry) content.now (pairs_of more)) }
-    ensures refused { IfErr result (λ refusal. refusal ≡ Refusal.Memory) }
+    ensures { IfOk result (λ more. IsWithMain (pairs_of files) (option_copied out.entry) content.now (pairs_of more)) }
 {
     let Some(name) = out else {
         return Ok(files);
     };
-    match add_file(alloc, files, name, content) {
-        Ok(files) => Ok(files),
-        Err(_) => Err(Refusal::Memory),
-    }
+    add_file(alloc, files, name, content)
 }
 
 /// What is made of a solution: counts, where they are asked for, and the automaton files of the exports and of the main value.
@@ -66,24 +61,25 @@ fn made_of(
     source: &Accepted,
     solution: &Solution,
     options: Options,
-) -> Result<Made, Refusal>
+) -> Result<Made, NoMemory>
     requires named { IsNamed solution.now }
     requires names { AreNames solution.now.names }
     requires long { length source.now.checked.exports ≡ length solution.now.exports }
     requires writable { AreWritable solution.now.exports }
     requires limit { IsLimit options.max_nodes }
+    requires fits { length solution.now.automaton.nodes + length solution.now.automaton.states ≤ options.max_nodes }
     ensures stats { IfOk result (λ made. (problem : Problem) (names : List (List ℕ)) → IsSolution problem names solution.now → HasStats options.entry.stats problem source.now.files made.stats) }
     ensures files { IfOk result (λ made. (problem : Problem) (names : List (List ℕ)) → IsSolution problem names solution.now →
         AreExportFiles problem 0 source.now.checked.exports solution.now.exports →
         AreFilesOf problem names source.now.checked.exports (option_copied options.entry.out) (pairs_of made.files)) }
-    ensures refused { IfErr result (λ refusal. (refusal ≡ Refusal.Memory) ⊎ ((step : ℕ) × (refusal ≡ Refusal.Nodes step options.entry.max_nodes))) }
 {
-    let Ok(files) = export_files(
+    let files = match export_files(
         alloc,
         source.checked.exports.slice(),
         solution.exports.slice(),
-    ) else {
-        return Err(Refusal::Memory);
+    ) {
+        Ok(files) => files,
+        Err(fault) => return Err(fault),
     };
     if !options.stats {
         match options.out {
@@ -93,11 +89,11 @@ fn made_of(
     }
     let content = match canonical_of(alloc, solution, options.max_nodes) {
         Ok(content) => content,
-        Err(refusal) => return Err(refusal),
+        Err(fault) => return Err(fault),
     };
     let files = match with_main(alloc, files, options.out, &content) {
         Ok(files) => files,
-        Err(refusal) => return Err(refusal),
+        Err(fault) => return Err(fault),
     };
     let stats = asked_counts(options.stats, solution, &content, source.files);
     Ok(Made { stats, files })
@@ -115,16 +111,15 @@ pub fn decide(alloc: Global, taken: &Taken, options: Options) -> Result<Decided,
         (option_copied options.entry.out) (pairs_of made.files)) }
     ensures within { IfOk result (λ made. (answers : Answers) → IsWithinLimits (problem_of taken.now.source.checked answers)) }
     ensures refused { IfErr result (λ refusal. (answers : Answers) → length answers ≡ length taken.now.source.checked.imports →
-        (refusal ≡ Refusal.Memory) ⊎ IsUnsolved taken.now.source.checked answers options.entry.max_nodes refusal) }
+        (refusal ≡ Refusal.Memory) ⊎ IsUnsolved taken.now.source.checked answers taken.now.imports options.entry.max_nodes refusal) }
 {
     let checked = &taken.source.checked;
     let solution = match solve(alloc, checked, &taken.imports, options.max_nodes, true) {
         Ok(solution) => solution,
         Err(refusal) => return Err(refusal),
     };
-    let made = match made_of(alloc, &taken.source, &solution, options) {
-        Ok(made) => made,
-        Err(refusal) => return Err(refusal),
+    let Ok(made) = made_of(alloc, &taken.source, &solution, options) else {
+        return Err(Refusal::Memory);
     };
     match found(alloc, solution, made.stats) {
         Ok(found) => Ok(Decided {

@@ -1,5 +1,4 @@
-ghost use Rattle.std.specs.Prelude.{◌≡◌, ◌≤◌, ◌+◌, ◌∷◌, ◌++◌, ℕ, [], List, Some, length, map, slice_get, IfErr, IfOk};
-ghost use Rattle.ms_dfa.specs.declared.plain.Plain.{Plain as Content};
+ghost use Rattle.std.specs.Prelude.{◌≡◌, ◌≤◌, ◌+◌, ◌∷◌, ◌++◌, ℕ, [], List, length, IfOk};
 ghost use Rattle.ms_dfafile.specs.File.{IsSpelled};
 ghost use Rattle.ms_app.specs.inner.Files.{AreSpelled, AreWritable, IsWritable, pairs_of};
 

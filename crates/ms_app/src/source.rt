@@ -1,7 +1,6 @@
 ghost use Rattle.std.specs.Prelude.{◌≡◌, ◌≤◌, ◌⊎◌, ◌++◌, ◌∷◌, ℕ, [], List, None, length, map, IfErr, IfOk, OnOk};
 ghost use Rattle.ms_names_checked.specs.Checked.{MeetsRules};
 ghost use Rattle.ms_edge.specs.Files.{OnlyRead, between};
-ghost use Rattle.ms_include.specs.Load.{IsLoadedText};
 ghost use Rattle.ms_logic.specs.declared.source.Loaded.{Loaded as Declarations};
 ghost use Rattle.ms_names_rules.specs.Checking.{IsFirstFault};
 ghost use Rattle.ms_names_rules.specs.Declarations.{first_fault_of};

@@ -15,7 +15,7 @@ use crate::print::{out_of_memory, print, print_unwritten, refuse};
 use crate::text::{Given, comparison, decision, generation};
 use crate::write::write_each;
 use ms_app_words::{Command, WordsFault, options};
-use ms_edge::{Files, Refusal, Sink, Status, Words};
+use ms_edge::{CommandLine, Files, Refusal, Sink, Status};
 use ms_list::{List, Text};
 use std::alloc::Global;
 
@@ -94,7 +94,12 @@ fn answer<F: Files, S: Sink>(alloc: Global, command: &Command, files: &mut F, ou
 /// two files agree; `gen K [--decide]` prints the generated source with this number, or decides it. The words are those after the
 /// program's name. What is printed goes to the sink: the text, or one line where the request is refused or a file is not written
 /// (docs/FORMATS.md).
-pub fn run<F: Files, S: Sink>(alloc: Global, words: &Words, files: &mut F, out: &mut S) -> Status
+pub fn run<F: Files, S: Sink>(
+    alloc: Global,
+    words: &CommandLine,
+    files: &mut F,
+    out: &mut S,
+) -> Status
     // Words that are no command are answered so. A file is decided, its automata are written, and the report on it is printed; two files
     // are compared; a source is generated, and decided; or the request is refused for a cause, with nothing written, or one of the files
     // is not, and the line of this is printed.

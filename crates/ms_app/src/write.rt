@@ -1,6 +1,5 @@
-ghost use Rattle.std.specs.Prelude.{◌≡◌, ◌<◌, ℕ, IfErr, OnOk, length, map, slice_get, []};
+ghost use Rattle.std.specs.Prelude.{◌≡◌, ◌<◌, ℕ, IfErr, OnOk, length, []};
 ghost use Rattle.ms_edge.specs.Counts.{Rose};
-ghost use Rattle.ms_edge.specs.Files.{NoCountFell};
 ghost use Rattle.ms_app.specs.inner.Files.{HaveOwnNames, pairs_of};
 ghost use Rattle.ms_app.specs.Written.{AreHeld, AreHeldUpTo};
 

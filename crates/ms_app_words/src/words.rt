@@ -7,7 +7,7 @@ use crate::apps::app;
 use crate::command::{Command, Verb, WordsFault};
 use clap::ArgMatches;
 use clap::error::ErrorKind;
-use ms_edge::Words;
+use ms_edge::CommandLine;
 use ms_list::{NoMemory, Text};
 use std::alloc::{AllocError, Global};
 
@@ -232,7 +232,7 @@ fn first_verb(words: &[Text]) -> Option<Verb>
 }
 
 /// What the words ask for: the first says which command it is, and `clap` reads the others.
-pub fn options(alloc: Global, words: &Words) -> Result<Command, WordsFault>
+pub fn options(alloc: Global, words: &CommandLine) -> Result<Command, WordsFault>
     ensures command { IfOk result (IsCommand words.now) }
     ensures usage { IfErr result (λ fault. fault ≡ WordsFault.Usage → (command : Asked) → ¬ IsCommand words.now command) }
 {

@@ -5,10 +5,10 @@ use Rattle.std.proofs.lemmas.Bool.Decides.{nat_tests}
 use Rattle.std.proofs.lemmas.Option.{none-some, same_Some}
 use Rattle.ms_logic.specs.declared.mode.Mode.{Mode}
 use Rattle.ms_logic.specs.Assignment.{Env, Variable, GivesEach, IsAssignment, IsValueOf, value_at}
-use Rattle.ms_logic.specs.Lists.{AreRising}
+use Rattle.ms_logic.specs.Lists.{AreRising, IsAmong}
 use Rattle.ms_logic.specs.Letters.{bound_at, bound_of}
-use Rattle.ms_dfa_explore.specs.Tracks.{before, from, without_first, joined, gathered_with, distinct, place_of, IsAmong}
-use Rattle.ms_dfa_explore.proofs.TracksLemmas.{AreAbove, joined-left, joined-right}
+use Rattle.ms_dfa_explore.specs.Tracks.{before, from, without_first, merged, gathered_with, distinct, place_of}
+use Rattle.ms_dfa_explore.proofs.TracksLemmas.{AreAbove, merged-left, merged-right}
 use Rattle.ms_basic.specs.Operands.{HaveOneOrder}
 
 -- what is before a number, from it on or behind its variable is in the list
@@ -38,23 +38,23 @@ append-either [] ys w among = inr among
 append-either (x ∷ xs) ys w among =
     ⊎_elim (λ here. inl (inl here)) (λ there. ⊎_elim (λ left. inl (inr left)) (λ right. inr right) (append-either xs ys w there)) among
 
--- the join has the variables of its lists alone
-joined-either : (left right : List Variable) (w : Variable) → IsAmong (joined left right) w → IsAmong left w ⊎ IsAmong right w
-joined-either [] right w among = inr among
-joined-either (v ∷ vs) right w among =
+-- the merge has the variables of its lists alone
+merged-either : (left right : List Variable) (w : Variable) → IsAmong (merged left right) w → IsAmong left w ⊎ IsAmong right w
+merged-either [] right w among = inr among
+merged-either (v ∷ vs) right w among =
     let rest = without_first v.name (from v.name right) in
     ⊎_elim (λ early. inr (before-among v.name right w early))
     (λ late. ⊎_elim (λ here. inl (inl here))
-    (λ there. ⊎_elim (λ on_left. inl (inr on_left)) (λ on_right. inr (from-among v.name right w (without-among v.name (from v.name right) w on_right))) (joined-either vs rest w there)) late)
-    (append-either (before v.name right) (v ∷ joined vs rest) w among)
+    (λ there. ⊎_elim (λ on_left. inl (inr on_left)) (λ on_right. inr (from-among v.name right w (without-among v.name (from v.name right) w on_right))) (merged-either vs rest w there)) late)
+    (append-either (before v.name right) (v ∷ merged vs rest) w among)
 
 gathered-either : (there vs : List Variable) (w : Variable) → IsAmong (gathered_with there vs) w → IsAmong there w ⊎ IsAmong vs w
 gathered-either there [] w among = inl among
 gathered-either there (v ∷ vs) w among =
     ⊎_elim
-    (λ early. ⊎_elim (λ was. inl was) (λ new. inr (⊎_elim inl (λ never. absurd never) new)) (joined-either there (v ∷ []) w early))
+    (λ early. ⊎_elim (λ was. inl was) (λ new. inr (⊎_elim inl (λ never. absurd never) new)) (merged-either there (v ∷ []) w early))
     (λ later. inr (inr later))
-    (gathered-either (joined there (v ∷ [])) vs w among)
+    (gathered-either (merged there (v ∷ [])) vs w among)
 
 pub distinct-among : (vs : List Variable) (w : Variable) → IsAmong (distinct vs) w → IsAmong vs w
 distinct-among vs w among = ⊎_elim (λ never. absurd never) (λ there. there) (gathered-either [] vs w among)
@@ -62,18 +62,18 @@ distinct-among vs w among = ⊎_elim (λ never. absurd never) (λ there. there) 
 -- and all of them, where variables of one number are of one order
 gathered-there : (there vs : List Variable) (w : Variable) → IsAmong there w → IsAmong (gathered_with there vs) w
 gathered-there there [] w among = among
-gathered-there there (v ∷ vs) w among = gathered-there (joined there (v ∷ [])) vs w (joined-left there (v ∷ []) w among)
+gathered-there there (v ∷ vs) w among = gathered-there (merged there (v ∷ [])) vs w (merged-left there (v ∷ []) w among)
 
 gathered-new : (there vs : List Variable) (w : Variable) → ((v : Variable) → IsAmong there v ⊎ IsAmong vs v → v.name ≡ w.name → v ≡ w) → IsAmong vs w
     → IsAmong (gathered_with there vs) w
 gathered-new there [] w same among = absurd among
 gathered-new there (v ∷ vs) w same among = ⊎_elim
-    (λ here. gathered-there (joined there (v ∷ [])) vs w (joined-right there (v ∷ []) w (λ u was. same u (inl was)) (inl here)))
-    (λ later. gathered-new (joined there (v ∷ [])) vs w (λ u either. same u (sorted u either)) later)
+    (λ here. gathered-there (merged there (v ∷ [])) vs w (merged-right there (v ∷ []) w (λ u was. same u (inl was)) (inl here)))
+    (λ later. gathered-new (merged there (v ∷ [])) vs w (λ u either. same u (sorted u either)) later)
     among
   where
-    sorted : (u : Variable) → IsAmong (joined there (v ∷ [])) u ⊎ IsAmong vs u → IsAmong there u ⊎ IsAmong (v ∷ vs) u
-    sorted u (inl early) = ⊎_elim (λ was. inl was) (λ new. inr (⊎_elim inl (λ never. absurd never) new)) (joined-either there (v ∷ []) u early)
+    sorted : (u : Variable) → IsAmong (merged there (v ∷ [])) u ⊎ IsAmong vs u → IsAmong there u ⊎ IsAmong (v ∷ vs) u
+    sorted u (inl early) = ⊎_elim (λ was. inl was) (λ new. inr (⊎_elim inl (λ never. absurd never) new)) (merged-either there (v ∷ []) u early)
     sorted u (inr later) = inr (inr later)
 
 pub among-distinct : (vs : List Variable) (w : Variable) → HaveOneOrder vs → IsAmong vs w → IsAmong (distinct vs) w
@@ -94,15 +94,15 @@ length-without name [] = omega arith
 length-without name (v ∷ vs) =
     elim (nat_eq v.name name) as (λ test. length (if test then vs else v ∷ vs) ≤ length (v ∷ vs)) [ true ↦ omega arith | false ↦ omega arith ]
 
-length-joined : (left right : List Variable) → length (joined left right) ≤ length left + length right
-length-joined [] right = omega arith
-length-joined (v ∷ vs) right =
+length-merged : (left right : List Variable) → length (merged left right) ≤ length left + length right
+length-merged [] right = omega arith
+length-merged (v ∷ vs) right =
     let rest = without_first v.name (from v.name right) in
-    omega (arith, length-append (before v.name right) (v ∷ joined vs rest), length-joined vs rest, length-without v.name (from v.name right), length-parts v.name right)
+    omega (arith, length-append (before v.name right) (v ∷ merged vs rest), length-merged vs rest, length-without v.name (from v.name right), length-parts v.name right)
 
 length-gathered : (there vs : List Variable) → length (gathered_with there vs) ≤ length there + length vs
 length-gathered there [] = omega arith
-length-gathered there (v ∷ vs) = omega (arith, length-gathered (joined there (v ∷ [])) vs, length-joined there (v ∷ []))
+length-gathered there (v ∷ vs) = omega (arith, length-gathered (merged there (v ∷ [])) vs, length-merged there (v ∷ []))
 
 pub length-distinct : (vs : List Variable) → length (distinct vs) ≤ length vs
 length-distinct vs = omega (arith, length-gathered [] vs)

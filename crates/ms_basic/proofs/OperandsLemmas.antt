@@ -6,7 +6,8 @@ use Rattle.ms_logic_core.specs.declared.core_formula.Basic.TheVariants.{Truth, N
 use Rattle.ms_logic.specs.Assignment.{Variable}
 use Rattle.ms_dfa.specs.declared.track.Track.{Track}
 use Rattle.ms_dfa.specs.Automaton.{variable_of, variables_of}
-use Rattle.ms_dfa_explore.specs.Tracks.{IsAmong, distinct}
+use Rattle.ms_dfa_explore.specs.Tracks.{distinct}
+use Rattle.ms_logic.specs.Lists.{IsAmong}
 use Rattle.ms_basic.specs.declared.reading.Wiring.{Wiring}
 use Rattle.ms_basic.specs.Operands.{HaveOneOrder}
 use Rattle.ms_logic_core.specs.Operands.{variables_of_basic}

@@ -7,15 +7,15 @@ use Rattle.ms_logic.specs.declared.mode.Order.{Order}
 use Rattle.ms_logic.specs.declared.mode.Order.TheVariants.{Zero, One, Two}
 use Rattle.ms_logic.specs.Assignment.{Env, Variable}
 use Rattle.ms_logic_words.specs.Content.{letter_bits, truth_bits}
-use Rattle.ms_logic.specs.Lists.{AreRising}
+use Rattle.ms_logic.specs.Lists.{AreRising, IsAmong}
 use Rattle.ms_logic_words.specs.Word.{Encodes}
 use Rattle.ms_logic.specs.Letters.{letter_at, truth_values_of, with_bit, with_truth_value}
 use Rattle.ms_dfa.specs.Machine.{end_of, IsScan}
 use Rattle.ms_dfa.proofs.MachineLemmas.{scanned}
 use Rattle.ms_dfa.specs.declared.track.Track.{Track}
 use Rattle.ms_dfa.specs.Automaton.{variables_of}
-use Rattle.ms_dfa_explore.specs.Small.{Table, bit_at, machine_of, track_bits}
-use Rattle.ms_dfa_explore.specs.Tracks.{IsAmong, place_of}
+use Rattle.ms_dfa_explore.specs.Small.{TransitionTable, bit_at, machine_of, track_bits}
+use Rattle.ms_dfa_explore.specs.Tracks.{place_of}
 use Rattle.ms_dfa_explore.proofs.TracksLemmas.{place_of-among}
 use Rattle.ms_basic.specs.inner.Reading.{bit_of, operand_bits, operand_bit, operand_truth, read_at, state_behind, track_at, operand_truths, truth_of, wired, wiring_of}
 
@@ -107,7 +107,7 @@ module _ (tracks : List Variable) (e : Env) (rising : AreRising tracks) (few : l
     }
 
     -- a word that encodes the assignment ends in the state behind its positions
-    pub state_at_end : (table : Table) (word : Word) → Encodes tracks word e
+    pub state_at_end : (table : TransitionTable) (word : Word) → Encodes tracks word e
         → end_of (machine_of (wired (wiring_of operands tracks) table) tracks) word ≡ state_behind table operands e (length word.letters)
     state_at_end table word encodes =
         scanned (machine_of (wired (wiring_of operands tracks) table) tracks) tracks e (length word.letters) (λ position state. state ≡ state_behind table operands e position) scan word encodes refl
@@ -145,7 +145,7 @@ place_of-most name (v ∷ vs) =
     elim (nat_eq v.name name) as (λ test. (if test then 0 else suc (place_of name vs)) ≤ length (v ∷ vs)) [ true ↦ omega arith | false ↦ omega (arith, others) ]
 
 -- what is kept by the start and by each position is true behind all of them
-pub kept : (table : Table) (operands : List Variable) (e : Env) (count : ℕ) (IsAt : ℕ → ℕ → Type 0) → IsAt 0 (table.start (operand_truths operands e))
+pub kept : (table : TransitionTable) (operands : List Variable) (e : Env) (count : ℕ) (IsAt : ℕ → ℕ → Type 0) → IsAt 0 (table.start (operand_truths operands e))
     → ((position state : ℕ) → IsAt position state → IsAt (suc position) (table.step state (operand_bits operands e position)))
     → IsAt count (state_behind table operands e count)
 kept table operands e zero IsAt start next = start

@@ -13,8 +13,9 @@ use Rattle.ms_logic_words.specs.Word.{Encodes, IsEncoding}
 use Rattle.ms_logic_words.specs.WordSign.{IsOutside}
 use Rattle.ms_logic_words.proofs.WordLaws.{encoding_is_over, zero_letter_keeps}
 use Rattle.ms_dfa.specs.Values.{HasValues, core_meaning}
-use Rattle.ms_dfa_explore.specs.Small.{Table, sign_by, TellsWords}
-use Rattle.ms_dfa_explore.specs.Tracks.{IsAmong, distinct}
+use Rattle.ms_dfa_explore.specs.Small.{TransitionTable, sign_by, TellsWords}
+use Rattle.ms_dfa_explore.specs.Tracks.{distinct}
+use Rattle.ms_logic.specs.Lists.{IsAmong}
 use Rattle.ms_dfa_explore.proofs.TracksLemmas.{distinct-rising}
 use Rattle.ms_basic.specs.declared.reading.Wiring.{Wiring}
 use Rattle.ms_basic.specs.Operands.{HaveOneOrder}
@@ -58,13 +59,13 @@ outside_or_not No never = absurd (never (λ same. cc))
 outside_or_not Undefined never = absurd (never (λ same. cc))
 outside_or_not Outside never = refl
 
-module _ (mode : Mode) (operands : List Variable) (form : Basic) (table : Table) (orders : HaveOneOrder operands) (few : length operands ≤ 3)
+module _ (mode : Mode) (operands : List Variable) (form : Basic) (table : TransitionTable) (orders : HaveOneOrder operands) (few : length operands ≤ 3)
     (decides : DecidesRelation mode operands form table) where
   abbrev tracks : List Variable
   tracks = distinct operands
 
   -- the machine over the tracks
-  abbrev whole : Table
+  abbrev whole : TransitionTable
   whole = wired (wiring_of operands tracks) table
 
   few_tracks : length tracks ≤ 3
@@ -119,7 +120,7 @@ module _ (mode : Mode) (operands : List Variable) (form : Basic) (table : Table)
   }
 
 -- the same of what was built
-pub relation_built : (mode : Mode) (operands over : List Variable) (wiring : Wiring) (form : Basic) (table : Table) (result : Result (Content Sign) StepFault) → HaveOneOrder operands
+pub relation_built : (mode : Mode) (operands over : List Variable) (wiring : Wiring) (form : Basic) (table : TransitionTable) (result : Result (Content Sign) StepFault) → HaveOneOrder operands
     → length operands ≤ 3 → DecidesRelation mode operands form table → over ≡ distinct operands → wiring ≡ wiring_of operands (distinct operands)
     → distinct operands ≡ distinct (variables_of_basic form) → IfOk result (λ made. made.mode ≡ mode) → IfOk result (λ made. made.variables ≡ over)
     → IfOk result (λ made. (word : Word) → IsWordOver over word → sign_of made word ≡ Some (sign_by (wired wiring table) over word))
@@ -134,7 +135,7 @@ relation_built mode operands over wiring form table (Ok made) orders few decides
 relation_built mode operands over wiring form table (Err fault) orders few decides are wires same of_mode variables signs = tt
 
 -- and of what is to be built
-pub tells_wired : (mode : Mode) (operands over : List Variable) (wiring : Wiring) (form : Basic) (table : Table) → HaveOneOrder operands → length operands ≤ 3
+pub tells_wired : (mode : Mode) (operands over : List Variable) (wiring : Wiring) (form : Basic) (table : TransitionTable) → HaveOneOrder operands → length operands ≤ 3
     → DecidesRelation mode operands form table → over ≡ distinct operands → wiring ≡ wiring_of operands (distinct operands) → TellsWords mode over (wired wiring table)
 tells_wired mode operands over wiring form table orders few decides are wires =
     subst (λ w. TellsWords mode over (wired w table)) (sym wires)

@@ -13,7 +13,7 @@ use Rattle.ms_logic.specs.Terms.{part_within}
 use Rattle.ms_logic.proofs.Members.{IsRising-filter, IsRising-moved_down, IsRising-moved_up, is_member-filter, is_member-moved_down, is_member-moved_up, member_cases}
 use Rattle.ms_logic.proofs.SetLaws.{greatest_law, least_law, moved_up_law}
 use Rattle.ms_logic.proofs.Within.{is_within-of}
-use Rattle.ms_dfa_explore.specs.Small.{Table}
+use Rattle.ms_dfa_explore.specs.Small.{TransitionTable}
 use Rattle.ms_basic.specs.Bits.{bits_table}
 use Rattle.ms_basic.specs.Operands.{set}
 use Rattle.ms_basic.specs.inner.Relation.{DecidesRelation, IsRight}
@@ -85,7 +85,7 @@ right_along One Other No there back right = λ other. right (back other)
 right_along One Other Undefined there back right = right
 right_along One Other Outside there back right = right
 
-decides_along : (mode : Mode) (operands : List Variable) (one other : Basic) (table : Table)
+decides_along : (mode : Mode) (operands : List Variable) (one other : Basic) (table : TransitionTable)
     → ((e : Env) → IsAssignment mode operands e → Holds one e ↔ Holds other e) → DecidesRelation mode operands one table → DecidesRelation mode operands other table
 decides_along mode operands one other table same decides = record {
   closed = decides.closed;

@@ -9,15 +9,14 @@ use Rattle.ms_logic_words.specs.declared.sign.Sign.TheVariants.{Outside}
 use Rattle.ms_logic.specs.Assignment.{Variable}
 use Rattle.ms_logic_words.specs.Content.{AreLetters, IsWordOver, letter_bits, truth_bits}
 use Rattle.ms_logic_words.specs.inner.Decoding.{bit_in, positions_of}
-use Rattle.ms_logic.specs.Lists.{AreRising}
+use Rattle.ms_logic.specs.Lists.{AreRising, IsAmong}
 use Rattle.ms_logic_words.specs.Word.{IsEncoding}
 use Rattle.ms_logic_words.proofs.DecodedWords.{encodings_are}
 use Rattle.ms_dfa.specs.Machine.{after}
 use Rattle.ms_dfa.specs.Narrow.{IsCovered, narrowed}
 use Rattle.ms_dfa.proofs.CoveredLemmas.{covered_encodes}
 use Rattle.ms_dfa_explore.specs.declared.small.TrackBits.{TrackBits}
-use Rattle.ms_dfa_explore.specs.Small.{Table, bit_at, machine_of, sign_by, track_bits}
-use Rattle.ms_dfa_explore.specs.Tracks.{IsAmong}
+use Rattle.ms_dfa_explore.specs.Small.{TransitionTable, bit_at, machine_of, sign_by, track_bits}
 use Rattle.ms_basic.specs.Operands.{number}
 use Rattle.ms_basic.specs.inner.Reading.{read_at, track_at, wired, wiring_of}
 use Rattle.ms_basic.specs.inner.Tally.{HasTally, IsTally, OnNumber, OnNumbers}
@@ -79,9 +78,9 @@ one_covers mode tracks word track one = record {
   leads = refl;
 }
 
-module _ (table : Table) (tracks operands : List Variable) (operand : ℕ) (count : ℕ → ℕ) (tally : IsTally table operand count) where
+module _ (table : TransitionTable) (tracks operands : List Variable) (operand : ℕ) (count : ℕ → ℕ) (tally : IsTally table operand count) where
   -- the machine over the tracks
-  abbrev whole : Table
+  abbrev whole : TransitionTable
   whole = wired (wiring_of operands tracks) table
 
   abbrev bits_read : List Bool → TrackBits
@@ -141,7 +140,7 @@ bit_at-read operands tracks letter (suc (suc zero)) small = refl
 bit_at-read operands tracks letter (suc (suc (suc operand))) small = absurd (omega (arith, small))
 
 -- a word with another sign than Outside encodes an assignment
-pub inside_encodes : (mode : Mode) (table : Table) (tracks operands : List Variable) (word : Word) → AreRising tracks → length tracks ≤ 3 → length operands ≤ 3
+pub inside_encodes : (mode : Mode) (table : TransitionTable) (tracks operands : List Variable) (word : Word) → AreRising tracks → length tracks ≤ 3 → length operands ≤ 3
     → ((v : Variable) → IsAmong tracks v → IsAmong operands v) → OnNumbers (HasTally table) operands → IsWordOver tracks word
     → sign_by (wired (wiring_of operands tracks) table) tracks word ≢ Outside → IsEncoding mode tracks word
 inside_encodes mode table tracks operands word rising few_tracks few_operands among tallies over inside =

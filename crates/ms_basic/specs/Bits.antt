@@ -8,7 +8,7 @@ use Rattle.ms_logic_words.specs.declared.sign.Sign.{Sign}
 use Rattle.ms_logic_words.specs.declared.sign.Sign.TheVariants.{Yes, No}
 use Rattle.ms_logic.specs.FiniteSet.{one_bits}
 use Rattle.ms_logic.specs.Letters.{bound_of_set}
-use Rattle.ms_dfa_explore.specs.Small.{Table}
+use Rattle.ms_dfa_explore.specs.Small.{TransitionTable}
 use Rattle.ms_basic.specs.Sets.{is_same}
 
 -- the least number above each place of a one bit
@@ -29,5 +29,5 @@ bits_sign mode digits zero = No
 bits_sign Ws1s digits (suc k) = if k == digits then Yes else No
 bits_sign M2lStr digits (suc k) = Yes
 
-abbrev pub bits_table : Mode → ℕ → ℕ → Table
+abbrev pub bits_table : Mode → ℕ → ℕ → TransitionTable
 bits_table mode n digits = record { states = digits + 2; start = λ bits. 1; step = λ state bits. bits_step n digits state bits.first; sign = bits_sign mode digits }

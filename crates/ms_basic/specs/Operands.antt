@@ -2,7 +2,7 @@
 use Rattle.std.specs.Prelude.{◌≡◌, ℕ, List}
 use Rattle.ms_logic.specs.declared.mode.Order.TheVariants.{Zero, One, Two}
 use Rattle.ms_logic.specs.Assignment.{Variable}
-use Rattle.ms_dfa_explore.specs.Tracks.{IsAmong}
+use Rattle.ms_logic.specs.Lists.{IsAmong}
 
 -- a variable of each order
 abbrev pub truth_value : ℕ → Variable

@@ -1,7 +1,7 @@
 -- The machine of a relation between sets that is tested position by position.
 use Rattle.std.specs.Prelude.{ℕ, zero, suc, Bool, true, false, not, ◌&&◌, ◌||◌, if◌then◌else◌}
 use Rattle.ms_dfa_explore.specs.declared.small.TrackBits.{TrackBits}
-use Rattle.ms_dfa_explore.specs.Small.{Table}
+use Rattle.ms_dfa_explore.specs.Small.{TransitionTable}
 use Rattle.ms_basic.specs.declared.sets.SetRelation.TheVariants.{Sub, Union, Inter, Diff}
 use Rattle.ms_basic.specs.declared.sets.SetRelation.{SetRelation}
 use Rattle.ms_basic.specs.Verdict.{sign_by_contradiction}
@@ -23,5 +23,5 @@ abbrev pub tested_step : Bool → ℕ → ℕ
 tested_step agree zero = 0
 tested_step agree (suc more) = if agree then 1 else 0
 
-abbrev pub sets_table : SetRelation → Table
+abbrev pub sets_table : SetRelation → TransitionTable
 sets_table relation = record { states = 2; start = λ bits. 1; step = λ state bits. tested_step (agrees relation bits) state; sign = sign_by_contradiction }

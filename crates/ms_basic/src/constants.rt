@@ -4,7 +4,7 @@ ghost use Rattle.ms_dfa.specs.Values.{HasValues, core_meaning};
 
 use crate::repeated::ConstantMachine;
 use ms_dfa::Automaton;
-use ms_dfa_explore::build;
+use ms_dfa_explore::from_machine;
 use ms_list::{List, NoMemory, StepFault};
 use ms_logic::Mode;
 use std::alloc::Global;
@@ -16,7 +16,7 @@ pub fn constant(alloc: Global, holds: bool, mode: Mode) -> Result<Automaton, NoM
     ensures few { IfOk result (λ made. length made.nodes + length made.states ≤ 16) }
     ensures values { IfOk result (λ made. HasValues (core_meaning [] (if holds then truth else falsity)) made) }
 {
-    match build(alloc, ConstantMachine { holds }, mode, List::new(alloc), 16) {
+    match from_machine(alloc, ConstantMachine { holds }, mode, List::new(alloc), 16) {
         Ok(made) => Ok(made),
         Err(StepFault::Memory) => Err(NoMemory),
         Err(StepFault::Nodes { .. }) => unreachable!(),

@@ -8,7 +8,7 @@ use crate::operands::operands;
 use crate::reading::{Wired, wiring_of};
 use crate::setting::Setting;
 use ms_dfa::Automaton;
-use ms_dfa_explore::{SmallMachine, build, distinct};
+use ms_dfa_explore::{SmallMachine, distinct, from_machine};
 use ms_list::StepFault;
 use ms_logic_core::Basic;
 use std::alloc::Global;
@@ -35,7 +35,7 @@ pub(crate) fn made<M: SmallMachine + Drop>(
         return Err(StepFault::Memory);
     };
     let wiring = wiring_of(operands, tracks.slice());
-    build(
+    from_machine(
         alloc,
         Wired { machine, wiring },
         setting.mode,

@@ -8,7 +8,7 @@ use Rattle.ms_arena.proofs.BitsLemmas.{same_bits}
 use Rattle.ms_arena.proofs.Lists.{slice_get-held}
 use Rattle.ms_logic.specs.declared.mode.Order.{Order}
 use Rattle.ms_logic.specs.First.{IsLower}
-use Rattle.ms_logic_words.specs.Content.{StateOf, Content, AreLetters, IsFollowed, is_truth_value, is_in_letters, count_of, spread, bits_at, truth_bits, first_state, next_state, state_after, sign_at}
+use Rattle.ms_logic_words.specs.Content.{StateOf, Content, AreLetters, IsFollowed, is_truth_value, is_in_letters, count_of, padded, bits_at, truth_bits, first_state, next_state, state_after, sign_at}
 use Rattle.ms_logic_words.specs.declared.sign.Sign.{Sign}
 use Rattle.ms_dfa.specs.Automaton.{IsAutomaton}
 use Rattle.ms_best.specs.inner.Automaton.{is_sign, distance_of, AreDistancesFrom}
@@ -46,11 +46,11 @@ module _ (content : Content Sign) (sign : Sign) (distances : List ℕ) (right : 
 
   -- the leaf to which the values lead
   abbrev pub led_by : (Order → Bool) → List Bool → Ref → Ref
-  led_by has_value values reference = Leaf (leaf_of content.nodes reference (bits_at (spread has_value content.variables values)))
+  led_by has_value values reference = Leaf (leaf_of content.nodes reference (bits_at (padded has_value content.variables values)))
 
   led_by-first : (has_value : Order → Bool) (values : List Bool) (reference : Ref)
       → led_by has_value values reference ≡ leaf_by content sign distances right automaton.ordered has_value 0 content.variables values reference
-  led_by-first has_value values reference = ap (λ bits. Leaf (leaf_of content.nodes reference bits)) (bits_from-first (spread has_value content.variables values))
+  led_by-first has_value values reference = ap (λ bits. Leaf (leaf_of content.nodes reference bits)) (bits_from-first (padded has_value content.variables values))
 
   -- the values that are taken lead as near as the reference is
   taken_lead : (has_value : Order → Bool) (reference : Ref) → IsFollowed content has_value reference
@@ -72,7 +72,7 @@ module _ (content : Content Sign) (sign : Sign) (distances : List ℕ) (right : 
   led_no_nearer : (has_value : Order → Bool) (reference : Ref) (values : List Bool) → IsFollowed content has_value reference
       → distance_of content distances reference ≤ distance_of content distances (led_by has_value values reference)
   led_no_nearer has_value reference values followed =
-      no_nearer content sign distances right automaton.ordered (bits_at (spread has_value content.variables values)) (length content.nodes) reference (omega arith) followed.valid
+      no_nearer content sign distances right automaton.ordered (bits_at (padded has_value content.variables values)) (length content.nodes) reference (omega arith) followed.valid
 
   -- a state at 0 has the sign
   is_at_sign : (state : ℕ) → state < length content.states → distance_of content distances (Leaf state) ≡ 0 → sign_at content state ≡ Some sign

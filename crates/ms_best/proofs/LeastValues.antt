@@ -19,7 +19,7 @@ use Rattle.ms_arena.proofs.ReachLemmas.{IsTested-own, IsTested-end}
 use Rattle.ms_logic.specs.declared.mode.Order.{Order}
 use Rattle.ms_logic.specs.Assignment.{Variable}
 use Rattle.ms_logic.specs.First.{IsLower}
-use Rattle.ms_logic_words.specs.Content.{Content, IsFollowed, HasValueAt, count_of, spread}
+use Rattle.ms_logic_words.specs.Content.{Content, IsFollowed, HasValueAt, count_of, padded}
 use Rattle.ms_logic_words.specs.declared.sign.Sign.{Sign}
 use Rattle.ms_best.specs.inner.Automaton.{distance_of, AreDistancesFrom}
 use Rattle.ms_best.specs.inner.Least.{needs_one, least_values}
@@ -156,22 +156,22 @@ module _ (content : Content Sign) (sign : Sign) (distances : List ℕ) (right : 
 
   -- the leaf to which bits lead from a reference, by the variables from a place on
   abbrev pub leaf_by : ℕ → List Variable → List Bool → Ref → Ref
-  leaf_by place vs values reference = Leaf (leaf_of content.nodes reference (bits_from place (spread has_value vs values)))
+  leaf_by place vs values reference = Leaf (leaf_of content.nodes reference (bits_from place (padded has_value vs values)))
 
   -- by a first value, the leaf is that of the half
   leaf_by-value : (place : ℕ) (v : Variable) (vs : List Variable) (bit : Bool) (values : List Bool) (reference : Ref) → has_value v.order ≡ true
       → IsRead content has_value place (v ∷ vs) reference
       → leaf_by place (v ∷ vs) (bit ∷ values) reference ≡ leaf_by (place + 1) vs values (half_of content.nodes place bit reference)
   leaf_by-value place v vs bit values reference with_value read =
-      rw with_value (ap Leaf (leaf_of-first content.nodes ordered place bit (spread has_value vs values) reference read.valid read.from))
+      rw with_value (ap Leaf (leaf_of-first content.nodes ordered place bit (padded has_value vs values) reference read.valid read.from))
 
   -- and past a variable without a value it stays
   leaf_by-none : (place : ℕ) (v : Variable) (vs : List Variable) (values : List Bool) (reference : Ref) → has_value v.order ≡ false
       → IsRead content has_value place (v ∷ vs) reference
       → leaf_by place (v ∷ vs) values reference ≡ leaf_by (place + 1) vs values reference
   leaf_by-none place v vs values reference without read =
-      rw without (ap Leaf (leaf_of-above content.nodes ordered place reference (bits_from place (false ∷ spread has_value vs values)) (bits_from (place + 1) (spread has_value vs values))
-      read.valid (passes content ordered has_value place v vs reference without read) (agree_later place false (spread has_value vs values))))
+      rw without (ap Leaf (leaf_of-above content.nodes ordered place reference (bits_from place (false ∷ padded has_value vs values)) (bits_from (place + 1) (padded has_value vs values))
+      read.valid (passes content ordered has_value place v vs reference without read) (agree_later place false (padded has_value vs values))))
 
   -- the bits that are taken, by whether the first variable has a value
   least-value : (place : ℕ) (v : Variable) (vs : List Variable) (reference : Ref) → has_value v.order ≡ true
@@ -209,7 +209,7 @@ module _ (content : Content Sign) (sign : Sign) (distances : List ℕ) (right : 
       → distance_of content distances (leaf_by (place + 1) vs values (half_of content.nodes place bit reference)) ≡ distance_of content distances reference
       → distance_of content distances (half_of content.nodes place bit reference) ≡ distance_of content distances reference
   half_is_as_near place vs bit values reference valid from leads =
-      let lower = no_nearer content sign distances right ordered (bits_from (place + 1) (spread has_value vs values)) (length content.nodes) (half_of content.nodes place bit reference) (omega arith)
+      let lower = no_nearer content sign distances right ordered (bits_from (place + 1) (padded has_value vs values)) (length content.nodes) (half_of content.nodes place bit reference) (omega arith)
       (IsValid-half content.nodes ordered place bit reference valid from) in
       let halves = distance_of-halves content sign distances right place reference valid in
       (elim bit as (λ b. distance_of content distances (half_of content.nodes place b reference) ≤ distance_of content distances reference

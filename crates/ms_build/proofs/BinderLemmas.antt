@@ -7,7 +7,7 @@ use Rattle.ms_dag.specs.declared.node.Entry.{Entry}
 use Rattle.ms_dag.specs.Values.{IsMetBy, NodeYes}
 use Rattle.ms_dfa.specs.Automaton.{IsAutomaton}
 use Rattle.ms_list.specs.declared.fault.StepFault.{StepFault}
-use Rattle.ms_dfa_explore.specs.Tracks.{IsAmong}
+use Rattle.ms_logic.specs.Lists.{IsAmong, without}
 use Rattle.ms_logic.specs.declared.mode.Mode.{Mode}
 use Rattle.ms_logic.specs.declared.mode.Order.{Order}
 use Rattle.ms_logic.specs.declared.mode.Quant.{Quant}
@@ -17,7 +17,7 @@ use Rattle.ms_logic.specs.Assignment.{Env, Variable, IsAssignment}
 use Rattle.ms_logic_words.specs.Content.{Content, variables_from, variables_by_place}
 use Rattle.ms_logic.specs.Truth.{Import}
 use Rattle.ms_project.specs.Paired.{IsDomainFor}
-use Rattle.ms_project.specs.Quantified.{quantified, without}
+use Rattle.ms_project.specs.Quantified.{quantified}
 use Rattle.ms_project.specs.Quantified.{IsMetBy as IsMetByOwn}
 use Rattle.ms_dfa.specs.Values.{HasValues, own_meaning}
 use Rattle.ms_build.specs.Built.{IsOver, IsPart, child_meaning}

@@ -1,5 +1,5 @@
 -- The automaton of a child, read at the variables of the node above it.
-use Rattle.std.proofs.Common.{◌≡◌, ℕ, zero, suc, ◌+◌, inl, inr, ⊎_elim, Result, Ok, Err, IfOk, List, [], ◌∷◌, Contains, length, slice_get, slice_index, Some, refl, sym, ap, subst, ◌∙◌, arith}
+use Rattle.std.proofs.Common.{◌≡◌, ℕ, zero, suc, ◌+◌, inl, inr, ⊎_elim, List, [], ◌∷◌, Contains, length, slice_get, slice_index, Some, refl, sym, ap, subst, ◌∙◌, arith}
 use Rattle.std.proofs.lemmas.Option.{none-some, same_Some, slice_get_within, get_or_from_slice_get}
 use Rattle.ms_arena.proofs.Lists.{slice_get-held}
 use Rattle.ms_dfa.specs.Automaton.{IsAutomaton}
@@ -7,24 +7,27 @@ use Rattle.ms_basic.specs.Operands.{HaveOneOrder}
 use Rattle.ms_basic.proofs.DistinctLemmas.{among-distinct, distinct-among}
 use Rattle.ms_dag.specs.Places.{AreAt}
 use Rattle.ms_dag.specs.Values.{read_through}
-use Rattle.ms_dfa_explore.specs.Tracks.{IsAmong, distinct}
+use Rattle.ms_dfa_explore.specs.Tracks.{distinct}
+use Rattle.ms_logic.specs.Lists.{IsAmong}
 use Rattle.ms_logic.specs.declared.mode.Mode.{Mode}
 use Rattle.ms_logic.specs.declared.mode.Order.{Order}
 use Rattle.ms_logic.specs.declared.mode.Order.TheVariants.{Zero, One, Two}
 use Rattle.ms_logic_words.specs.declared.sign.Sign.{Sign}
 use Rattle.ms_logic.specs.Assignment.{Env, Variable, IsAssignment, IsUniverseOf, IsValueOf, value_at}
-use Rattle.ms_logic_words.specs.Content.{Content, variables_by_place, variables_from}
-use Rattle.ms_rename.specs.Renamed.{read_by, renamed, renamed_meaning}
+use Rattle.ms_logic_words.specs.Content.{Content, variables_by_place, variables_from, StateOf}
+use Rattle.ms_rename.specs.Renamed.{read_by, renamed, renamed_meaning, HasPartsOf}
 use Rattle.ms_dfa.specs.Values.{HasValues, Meaning, own_meaning}
-use Rattle.ms_build.specs.Built.{AreBuilt, HasOnly, IsPart, IsReadAt, IsUsedFrom, child_meaning, node_meaning}
+use Rattle.ms_build.specs.Built.{AreBuilt, HasOnly, IsPart, IsReadAt, IsUsedFrom, child_meaning, node_meaning, IsWithin}
 use Rattle.ms_dag.specs.declared.node.Child.{Child}
 use Rattle.ms_dag.specs.declared.node.Entry.{Entry}
-use Rattle.ms_list.specs.declared.fault.StepFault.{StepFault}
 use Rattle.ms_logic.specs.Truth.{Import}
 use Rattle.ms_logic_words.specs.declared.sign.Sign.TheVariants.{Yes, No, Undefined, Outside}
 use Rattle.ms_build.proofs.AgreementLemmas.{Agree, IsAssignment-agree, own_meaning-agree}
 use Rattle.ms_build.proofs.MeaningLemmas.{HasValues-to, own_means}
 use Rattle.ms_build.proofs.PlaceLemmas.{Agree-by, Agree-read, AreAt-length, AreAt-one, contains_place, length-by_place, gives_all, gives_among, own-among, among-own, renamed-at_place}
+use Rattle.ms_product.specs.Combined.{with_sign, with_signs}
+use Rattle.ms_arena.specs.declared.node.Node.{Node}
+use Rattle.std.proofs.lemmas.List.{length-map}
 
 pub same_variable : (v w : Variable) → v.name ≡ w.name → v.order ≡ w.order → v ≡ w
 same_variable v w names orders = ap (λ (n : ℕ). record { name = n; order = v.order }) names ∙ ap (λ (o : Order). record { name = w.name; order = o }) orders
@@ -127,7 +130,7 @@ child_is imports entries child e No is = is
 child_is imports entries child e Undefined is = is
 child_is imports entries child e Outside is = is
 
-module _ (imports : List Import) (mode : Mode) (entries : List Entry) (roots : List Child) (contents : List (Content Sign)) (are : AreBuilt imports mode entries roots contents) (child : Child) (content : Content Sign)
+module _ (limit : ℕ) (imports : List Import) (mode : Mode) (entries : List Entry) (roots : List Child) (contents : List (Content Sign)) (are : AreBuilt limit imports mode entries roots contents) (child : Child) (content : Content Sign)
     (held : slice_get contents child.node ≡ Some content) (used : IsUsedFrom entries roots (length contents) child.node) (automaton : IsAutomaton content) where
   -- the orders of the child's own variables
   module _ (orders : List Order) (read : IsReadAt entries orders child) where
@@ -152,14 +155,13 @@ module _ (imports : List Import) (mode : Mode) (entries : List Entry) (roots : L
               (λ word e sign assigned encodes right. child_is imports entries child e sign right) part.values;
         }
 
-  -- the same of a renaming that may be refused
-  pub brought_by : (map : List ℕ) → map ≡ child.map → (result : Result (Content Sign) StepFault) → IfOk result (λ made. made.mode ≡ content.mode)
-      → IfOk result (λ made. made.variables ≡ distinct (renamed map content.variables)) → IfOk result (HasValues (renamed_meaning map content.variables (own_meaning content)))
-      → IfOk result (λ made. (orders : List Order) → IsReadAt entries orders child → IsPart mode orders child.map (child_meaning imports entries child) made)
-  brought_by map same (Ok made) mode_is variables values = λ orders read.
+  -- the same of a list that is the child's map
+  pub brought_by : (map : List ℕ) → map ≡ child.map → (made : Content Sign) → made.mode ≡ content.mode → made.variables ≡ distinct (renamed map content.variables)
+      → HasValues (renamed_meaning map content.variables (own_meaning content)) made
+      → (orders : List Order) → IsReadAt entries orders child → IsPart mode orders child.map (child_meaning imports entries child) made
+  brought_by map same made mode_is variables values orders read =
       IsPart-brought orders read made mode_is (subst (λ list. made.variables ≡ distinct (renamed list content.variables)) same variables)
       (subst (λ list. HasValues (renamed_meaning list content.variables (own_meaning content)) made) same values)
-  brought_by map same (Err fault) mode_is variables values = tt
 
 -- a renamed variable has a number of the map
 renamed-named : (names : List ℕ) (vs : List Variable) (w : Variable) → IsAmong (renamed names vs) w → Contains names w.name
@@ -170,7 +172,18 @@ renamed-named (name ∷ names) (v ∷ vs) w among = ⊎_elim
     (λ there. let later = renamed-named names vs w there in (suc later.0, (let less = later.1 in omega (arith, less)), later.2))
     among
 
-pub only_by : (names map : List ℕ) → map ≡ names → (vs : List Variable) (result : Result (Content Sign) StepFault) → IfOk result (λ made. made.variables ≡ distinct (renamed map vs)) → IfOk result (HasOnly names)
-only_by names map same vs (Ok made) variables_are = λ v among.
+pub only_by : (names map : List ℕ) → map ≡ names → (vs : List Variable) (made : Content Sign) → made.variables ≡ distinct (renamed map vs) → HasOnly names made
+only_by names map same vs made variables_are v among =
     subst (λ list. Contains list v.name) same (renamed-named map vs v (distinct-among (renamed map vs) v (subst (λ list. IsAmong list v) variables_are among)))
-only_by names map same vs (Err fault) variables_are = tt
+
+-- what has the nodes and states of another is within its limit
+pub within_parts : (limit : ℕ) (content made : Content Sign) → HasPartsOf content made → IsWithin limit content → IsWithin limit made
+within_parts limit content made parts within =
+    let nodes = ap (λ (list : List Node). length list) parts.nodes in
+    let states = ap (λ (list : List (StateOf Sign)). length list) parts.states in
+    omega (arith, nodes, states, within)
+
+-- so is what has other signs
+pub within_signs : (limit : ℕ) (change : Sign → Sign) (content made : Content Sign) → made ≡ with_signs change content → IsWithin limit content → IsWithin limit made
+within_signs limit change content made same within =
+    subst (IsWithin limit) (sym same) (let states = length-map content.states (with_sign change) in omega (arith, states, within))

@@ -1,5 +1,5 @@
 -- What has been made of a node by its form has the value of the node, over the node's own variables.
-use Rattle.std.proofs.Common.{◌≡◌, ℕ, ◌<◌, ◌≤◌, inl, inr, ⊎_elim, Result, Ok, Err, IfOk, OnOk, List, [], ◌∷◌, ◌++◌, ◌+◌, All, Contains, length, length-append, map, slice_get, Some, None, Option, refl, sym, ap, subst, ◌∙◌, arith}
+use Rattle.std.proofs.Common.{◌≡◌, ℕ, ◌<◌, ◌≤◌, inl, inr, ⊎_elim, Result, Ok, Err, IfOk, OnOk, List, [], ◌∷◌, ◌++◌, ◌+◌, All, Contains, length, length-append, map, slice_get, Some, None, Option, refl, sym, ap, subst, ◌∙◌, arith, ◌⊎◌}
 use Rattle.std.specs.Option.{option_map}
 use Rattle.std.proofs.lemmas.Option.{none-some, same_Some, slice_get_within, slice_get-map, get_or_from_slice_get}
 use Rattle.std.proofs.lemmas.List.Elements.{Contains-append_cases, Contains-append_left, Contains-append_right}
@@ -15,11 +15,11 @@ use Rattle.ms_dag.specs.Laws.{ChildrenComeFirst}
 use Rattle.ms_dag.specs.Values.{IsMetBy, NoAt, NodeNo, NodeYes, Verdict, YesAt}
 use Rattle.ms_dfa.specs.Automaton.{IsAutomaton}
 use Rattle.ms_list.specs.declared.fault.StepFault.{StepFault}
-use Rattle.ms_dfa_explore.specs.Tracks.{IsAmong, distinct}
+use Rattle.ms_dfa_explore.specs.Tracks.{distinct}
+use Rattle.ms_logic.specs.Lists.{IsAmong}
 use Rattle.ms_dfa_explore.proofs.AmongLemmas.{among_at, held_among}
 use Rattle.ms_dfa_explore.proofs.TracksLemmas.{distinct-rising}
 use Rattle.ms_logic_core.specs.declared.core_formula.Basic.{Basic as Relation}
-use Rattle.ms_logic_core.specs.declared.core_formula.Basic.TheVariants.{Truth, Number, Plus, Less, Member, Sub, Union, Inter, Diff, Up, Down, Min, Max, Bits}
 use Rattle.ms_logic.specs.declared.mode.Mode.{Mode}
 use Rattle.ms_logic.specs.declared.mode.Order.{Order}
 use Rattle.ms_logic.specs.declared.mode.Quant.{Quant}
@@ -34,18 +34,20 @@ use Rattle.ms_product.specs.declared.op.Op.TheVariants as Op
 use Rattle.ms_project.specs.Quantified.{QuantifiedYes, QuantifiedNo}
 use Rattle.ms_build.specs.Connectives.{NoOf, YesOf}
 use Rattle.ms_build.specs.declared.plan.Many.TheVariants as Many
-use Rattle.ms_minim.specs.Residual.{HasFewestStates, HaveEqualSigns}
+use Rattle.ms_minim.specs.Residual.{AreReached, HaveDifferentResiduals, HasFewestStates, HaveEqualSigns}
 use Rattle.ms_project.proofs.AlwaysLemmas.{sign_moves}
 use Rattle.ms_rename.proofs.RenamedLemmas.{HasValues-same}
 use Rattle.ms_dfa.specs.Values.{Meaning, meaning_by}
 use Rattle.ms_build.specs.declared.nodes.Binder.{Binder}
 use Rattle.ms_build.specs.declared.plan.Plan.{Plan}
-use Rattle.ms_build.specs.Built.{AreBuiltFor, AreReadable, IsThere, IsUsedFrom, ChildNo, ChildYes, IsBinderOf, IsBuiltAt, IsDomainRead, IsLeastOf, IsMadeOf, IsOver, IsReadAt, ManyNo, ManyYes, child_meaning, entries_of, import_meaning, imports_for, many_meaning, node_meaning, pair_meaning, roots_of}
+use Rattle.ms_build.specs.Built.{AreBuiltFor, AreReadable, IsThere, IsUsedFrom, ChildNo, ChildYes, IsBinderOf, IsBuiltAt, IsDomainRead, IsLeastOf, IsMadeOf, IsOver, IsReadAt, ManyNo, ManyYes, child_meaning, entries_of, import_meaning, imports_for, many_meaning, node_meaning, pair_meaning, roots_of, IsWithin}
 use Rattle.ms_build.proofs.ChildLemmas.{same_variable}
 use Rattle.ms_build.proofs.MeaningLemmas.{HasValues-to}
 use Rattle.ms_build.proofs.NodeLemmas.{node_from_children}
-use Rattle.ms_build.proofs.PlaceLemmas.{among-own, contains_at, contains_place, own-among}
+use Rattle.ms_build.proofs.PlaceLemmas.{among-own, contains_place, own-among}
+use Rattle.ms_logic.proofs.Items.{contains_at}
 use Rattle.ms_build.proofs.WholeLemmas.{IsOver-part, rising-by_place, rising_equal}
+use Rattle.std.specs.List.Sorted.{IsStrictlyIncreasing}
 
 -- a fact of each item of a list holds of an item at a place
 pub all_at : {X : Type 0} (P : X → Type 0) (xs : List X) → All P xs → (place : ℕ) (x : X) → slice_get xs place ≡ Some x → P x
@@ -77,18 +79,30 @@ child_there plan count entry held is node same place child at =
       ),
     )
 
+-- the map of a child of the next node rises
+pub child_rises : (plan : Plan) (count : ℕ) (entry : Entry) → IsNode (entries_of plan) count entry → (node : DagNode) → entry.node ≡ node → (place : ℕ) (child : Child) → slice_get (children_of node) place ≡ Some child
+    → IsStrictlyIncreasing child.map
+child_rises plan count entry is node same place child at =
+    let children = subst (λ n. All (IsChild (entries_of plan) count (orders_inside n entry.orders)) (children_of n)) same is.children in
+    (all_at (IsChild (entries_of plan) count (orders_inside node entry.orders)) (children_of node) children place child at).rising
+
+-- and so do those of all
+pub each_rises : (entries : List Entry) (i : ℕ) (orders : List Order) (children : List Child) → All (IsChild entries i orders) children → All (λ child. IsStrictlyIncreasing child.map) children
+each_rises entries i orders children all place d within = (all place d within).rising
+
 -- the children of a quantifier have theirs
 module _ (plan : Plan) (count : ℕ) (entry : Entry) (held : slice_get (entries_of plan) count ≡ Some entry) (is : IsNode (entries_of plan) count entry) (q : Quant) (o : Order) (k : ℕ) (body : Child) where
   read_inside : (d : Option Child) → entry.node ≡ Bind q o k d body → (place : ℕ) (child : Child) → slice_get (children_of (Bind q o k d body)) place ≡ Some child
-      → IsThere plan count child.node × IsReadAt (entries_of plan) (entry.orders ++ o ∷ []) child
+      → IsThere plan count child.node × IsReadAt (entries_of plan) (entry.orders ++ o ∷ []) child × IsStrictlyIncreasing child.map
   read_inside d same place child at = (
     child_there plan count entry held is (Bind q o k d body) same place child at,
     (read_child (entries_of plan) count (entry.orders ++ o ∷ []) (children_of (Bind q o k d body))
         (subst (λ n. All (IsChild (entries_of plan) count (orders_inside n entry.orders)) (children_of n)) same is.children) place child at).1,
+    child_rises plan count entry is (Bind q o k d body) same place child at,
   )
 
   in_binder : (d : Option Child) → entry.node ≡ Bind q o k d body
-      → (IsThere plan count body.node × IsReadAt (entries_of plan) (entry.orders ++ o ∷ []) body) × IsDomainRead plan (entry.orders ++ o ∷ []) count d
+      → (IsThere plan count body.node × IsReadAt (entries_of plan) (entry.orders ++ o ∷ []) body × IsStrictlyIncreasing body.map) × IsDomainRead plan (entry.orders ++ o ∷ []) count d
   in_binder None same = (read_inside None same 0 body refl, tt)
   in_binder (Some domain) same = (read_inside (Some domain) same 1 body refl, read_inside (Some domain) same 0 domain refl)
 
@@ -103,6 +117,7 @@ binder_read plan count entry held is q binder orders orders_are same =
       bound = subst (λ n. HasOwnOrders n entry.orders) same is.own;
       body = both.0.0;
       read = both.0.1;
+      rising = both.0.2;
       domain = both.1;
     })
 
@@ -256,24 +271,42 @@ module _ (plan : Plan) (are : AreNodes (entries_of plan)) (i : ℕ) (entry : Ent
       (QuantifiedNo quant.All (record { name = k; order = o }) (λ there. IsMetBy Y d there) (child_meaning imports entries c)) (λ e h. h) (λ e h. h) (λ e h. h) (λ e h. h) made
 
 -- and then with fewest states
-pub least_by : (mode : Mode) (variables : List Variable) (meaning : Meaning) (part : Content Sign) → IsOver mode variables meaning part → (result : Result (Content Sign) StepFault)
-    → IfOk result (λ made. made.mode ≡ part.mode) → IfOk result (λ made. made.variables ≡ part.variables) → IfOk result (HaveEqualSigns part) → IfOk result HasFewestStates
-    → IfOk result (IsLeastOf mode variables meaning)
-least_by mode variables meaning part over (Ok made) mode_is variables_are signs fewest = record {
-  mode_is = mode_is ∙ over.mode_is;
-  variables_are = variables_are ∙ over.variables_are;
-  values = HasValues-same meaning part made mode_is variables_are signs over.values;
-  fewest = fewest;
+pub record IsLeastFrom (part made : Content Sign) : Type 0 where
+  pub mode_is : made.mode ≡ part.mode
+  pub variables_are : made.variables ≡ part.variables
+  pub signs : HaveEqualSigns part made
+  pub fewest : HasFewestStates made
+  pub reached : AreReached made
+  pub differ : HaveDifferentResiduals made
+
+pub least_by : (mode : Mode) (variables : List Variable) (meaning : Meaning) (part : Content Sign) → IsOver mode variables meaning part → (made : Content Sign) → IsLeastFrom part made → IsLeastOf mode variables meaning made
+least_by mode variables meaning part over made least = record {
+  mode_is = least.mode_is ∙ over.mode_is;
+  variables_are = least.variables_are ∙ over.variables_are;
+  values = HasValues-same meaning part made least.mode_is least.variables_are least.signs over.values;
+  fewest = least.fewest;
+  reached = least.reached;
+  differ = least.differ;
 }
-least_by mode variables meaning part over (Err fault) mode_is variables_are signs fewest = tt
 
 pub built_by : (plan : Plan) (i : ℕ) (entry : Entry) → slice_get (entries_of plan) i ≡ Some entry → (part : Content Sign)
+    → IsOver plan.mode (variables_by_place entry.orders) (node_meaning (imports_for plan) (entries_of plan) i) part → (made : Content Sign) → IsLeastFrom part made → IsWithin plan.limit made
+    → IsBuiltAt plan i made
+built_by plan i entry held part over made least within =
+    (entry, held, least_by plan.mode (variables_by_place entry.orders) (node_meaning (imports_for plan) (entries_of plan) i) part over made least, within)
+
+pub node_by : (plan : Plan) (i : ℕ) (entry : Entry) → slice_get (entries_of plan) i ≡ Some entry → (part : Content Sign)
     → IsOver plan.mode (variables_by_place entry.orders) (node_meaning (imports_for plan) (entries_of plan) i) part → (result : Result (Content Sign) StepFault)
-    → IfOk result (λ made. made.mode ≡ part.mode) → IfOk result (λ made. made.variables ≡ part.variables) → IfOk result (HaveEqualSigns part) → IfOk result HasFewestStates
-    → IfOk result (IsBuiltAt plan i)
-built_by plan i entry held part over (Ok made) mode_is variables_are signs fewest =
-    (entry, held, least_by plan.mode (variables_by_place entry.orders) (node_meaning (imports_for plan) (entries_of plan) i) part over (Ok made) mode_is variables_are signs fewest)
-built_by plan i entry held part over (Err fault) mode_is variables_are signs fewest = tt
+    → IfOk result (λ made. made.mode ≡ part.mode) → IfOk result (λ made. made.variables ≡ part.variables) → IfOk result (HaveEqualSigns part) → IfOk result HasFewestStates → IfOk result AreReached
+    → IfOk result HaveDifferentResiduals → IfOk result (IsWithin plan.limit) → IfOk result (IsBuiltAt plan i)
+node_by plan i entry held part over (Ok made) mode_is variables_are signs fewest reached differ within =
+    built_by plan i entry held part over made (record { mode_is = mode_is; variables_are = variables_are; signs = signs; fewest = fewest; reached = reached; differ = differ }) within
+node_by plan i entry held part over (Err fault) mode_is variables_are signs fewest reached differ within = tt
+
+-- what is within the limit, or is small, and is more than the limit: so the limit is small
+pub too_small : (limit : ℕ) (part : Content Sign) → IsWithin limit part ⊎ IsWithin 16 part → limit < length part.nodes + length part.states → limit < 16
+too_small limit part (inl within) more = absurd (omega (arith, within, more))
+too_small limit part (inr few) more = omega (arith, few, more)
 
 -- what is used from a later node on is used from an earlier one on
 pub used_before : (plan : Plan) (late early i : ℕ) → early ≤ late → IsUsedFrom (entries_of plan) (roots_of plan) late i → IsUsedFrom (entries_of plan) (roots_of plan) early i

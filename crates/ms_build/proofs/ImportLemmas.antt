@@ -8,7 +8,8 @@ use Rattle.ms_dag.specs.Values.{read_through}
 use Rattle.ms_dag.specs.Places.{AreAt}
 use Rattle.ms_dfa.specs.Automaton.{IsAutomaton}
 use Rattle.ms_list.specs.declared.fault.StepFault.{StepFault}
-use Rattle.ms_dfa_explore.specs.Tracks.{IsAmong, distinct}
+use Rattle.ms_dfa_explore.specs.Tracks.{distinct}
+use Rattle.ms_logic.specs.Lists.{IsAmong}
 use Rattle.ms_logic.specs.declared.mode.Mode.{Mode}
 use Rattle.ms_logic.specs.declared.mode.Order.{Order}
 use Rattle.ms_logic.specs.declared.mode.Order.TheVariants.{Zero, One, Two}
@@ -18,6 +19,7 @@ use Rattle.ms_logic_words.specs.declared.sign.Sign.TheVariants.{Yes, No, Undefin
 use Rattle.ms_logic.specs.declared.assignment.Value.{Value}
 use Rattle.ms_logic.specs.Assignment.{Env, Variable, IsAssignment, assign, assign_all, value_at}
 use Rattle.ms_logic_words.specs.Content.{Content, answer_by, env_of, variables_from, variables_by_place}
+use Rattle.ms_logic_words.specs.Signs.{answer_for}
 use Rattle.ms_logic_core.specs.CoreForm.{answer_over}
 use Rattle.ms_logic.specs.Truth.{answer_yes, answer_no, answer_undefined}
 use Rattle.ms_logic.proofs.Agreement.{universe-assign_all}
@@ -25,7 +27,9 @@ use Rattle.ms_logic.proofs.AssignedValues.{value_at-assign_other}
 use Rattle.ms_rename.specs.Renamed.{renamed, renamed_meaning}
 use Rattle.ms_dfa.specs.Values.{HasValues, own_meaning}
 use Rattle.ms_dfa.proofs.OwnMeaningLemmas.{HasValues-own, IsMeaning-own}
-use Rattle.ms_build.specs.Built.{IsPart, answer_for, import_meaning, imports_of, import_of}
+use Rattle.ms_minim.specs.Residual.{HaveEqualSigns}
+use Rattle.ms_rename.proofs.RenamedLemmas.{HasValues-same}
+use Rattle.ms_build.specs.Built.{IsPart, import_meaning, imports_of, import_of}
 use Rattle.ms_build.proofs.AgreementLemmas.{Agree, own_meaning-agree}
 use Rattle.ms_build.proofs.ChildLemmas.{IsPart-read, assigned_through, value_through}
 use Rattle.ms_build.proofs.MeaningLemmas.{HasValues-to}
@@ -95,22 +99,26 @@ module _ (contents : List (Content Sign)) (i : ℕ) (content : Content Sign) (he
   import_right Undefined own = ((λ also. differ (sym (answer_is Undefined own) ∙ also)), (λ also. differ_too (sym (answer_is Undefined own) ∙ also)))
   import_right Outside own = (IsMeaning-own content automaton).inside (read_through xs e) assigned own
 
--- so the renamed automaton of an import has its value
+-- so the automaton of an import has its value, once it has fewest states and is renamed
 pub imported_by : (contents : List (Content Sign)) (mode : Mode) (orders : List Order) (i : ℕ) (content : Content Sign) → slice_get contents i ≡ Some content → IsAutomaton content → content.mode ≡ mode
-    → (given : List Order) → content.variables ≡ variables_by_place given → (xs : List ℕ) → AreAt orders xs given → (names : List ℕ) → names ≡ xs → (result : Result (Content Sign) StepFault)
-    → IfOk result (λ made. made.mode ≡ content.mode) → IfOk result (λ made. made.variables ≡ distinct (renamed names content.variables))
-    → IfOk result (HasValues (renamed_meaning names content.variables (own_meaning content))) → IfOk result (IsPart mode orders xs (import_meaning (imports_of contents) i xs))
-imported_by contents mode orders i content held automaton own_mode given variables_are xs at names same (Ok made) mode_is made_variables values =
-    let there = subst (λ list. made.variables ≡ distinct (renamed list content.variables)) same made_variables in
-    let renamed_values = subst (λ list. HasValues (renamed_meaning list content.variables (own_meaning content)) made) same values in
-    let part = IsPart-read mode orders xs given at content variables_are automaton (own_meaning content) (HasValues-own content automaton) made mode_is there renamed_values own_mode in
+    → (given : List Order) → content.variables ≡ variables_by_place given → (few : Content Sign) → IsAutomaton few → few.mode ≡ content.mode → few.variables ≡ content.variables → HaveEqualSigns content few
+    → (xs : List ℕ) → AreAt orders xs given → (names : List ℕ) → names ≡ xs → (result : Result (Content Sign) StepFault)
+    → IfOk result (λ made. made.mode ≡ few.mode) → IfOk result (λ made. made.variables ≡ distinct (renamed names few.variables))
+    → IfOk result (HasValues (renamed_meaning names few.variables (own_meaning few))) → IfOk result (IsPart mode orders xs (import_meaning (imports_of contents) i xs))
+imported_by contents mode orders i content held automaton own_mode given variables_are few few_is few_mode few_variables signs xs at names same (Ok made) mode_is made_variables values =
+    let there = subst (λ list. made.variables ≡ distinct (renamed list few.variables)) same made_variables in
+    let renamed_values = subst (λ list. HasValues (renamed_meaning list few.variables (own_meaning few)) made) same values in
+    let own = HasValues-same (own_meaning content) content few few_mode few_variables signs (HasValues-own content automaton) in
+    let given_few = few_variables ∙ variables_are in
+    let part = IsPart-read mode orders xs given at few given_few few_is (own_meaning content) own made mode_is there renamed_values (few_mode ∙ own_mode) in
     record {
       mode_is = part.mode_is;
       among = part.among;
       covers = part.covers;
       values = HasValues-to (λ e sign. own_meaning content (read_through xs e) sign) (import_meaning (imports_of contents) i xs) made
           (λ word e sign assigned encodes right.
+          let read = assigned_through orders xs given at few given_few few_is (own_meaning content) own made mode_is there renamed_values e assigned in
           import_right contents i content held automaton given variables_are xs (AreAt-length orders xs given at) e
-          (assigned_through orders xs given at content variables_are automaton (own_meaning content) (HasValues-own content automaton) made mode_is there renamed_values e assigned) sign right) part.values;
+          (subst (λ m. IsAssignment m content.variables (read_through xs e)) few_mode (subst (λ vs. IsAssignment few.mode vs (read_through xs e)) few_variables read)) sign right) part.values;
     }
-imported_by contents mode orders i content held automaton own_mode given variables_are xs at names same (Err fault) mode_is made_variables values = tt
+imported_by contents mode orders i content held automaton own_mode given variables_are few few_is few_mode few_variables signs xs at names same (Err fault) mode_is made_variables values = tt

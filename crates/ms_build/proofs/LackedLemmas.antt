@@ -4,16 +4,15 @@ use Rattle.std.proofs.lemmas.List.{map_push}
 use Rattle.std.proofs.lemmas.Bool.{eqb-true}
 use Rattle.ms_dfa.specs.declared.track.Track.{Track}
 use Rattle.ms_dfa.specs.Automaton.{variable_of, variables_of}
-use Rattle.ms_dfa_explore.specs.Tracks.{IsAmong}
-use Rattle.ms_dfa_explore.proofs.AmongLemmas.{among_at}
+use Rattle.ms_dfa_explore.proofs.AmongLemmas.{among_at, among_either}
 use Rattle.ms_dfa_explore.proofs.TracksLemmas.{among-left, among-right}
 use Rattle.ms_logic.specs.declared.mode.Order.{Order}
 use Rattle.ms_logic.specs.declared.mode.Order.TheVariants.{Zero, One, Two}
 use Rattle.ms_logic.specs.Assignment.{Variable}
-use Rattle.ms_logic.specs.Lists.{AreRising}
+use Rattle.ms_logic.specs.Lists.{AreRising, IsAmong}
 use Rattle.ms_build.specs.declared.lacked.Lacked.{Lacked}
 use Rattle.ms_build.specs.inner.Lacked.{HasNumber, IsLacked, with_track, with_track_of}
-use Rattle.ms_build.proofs.VariableLemmas.{among_either, rising-more, variable_at_place}
+use Rattle.ms_build.proofs.VariableLemmas.{rising-more, variable_at_place}
 
 -- a track at a place has its number there
 pub HasNumber-at : (tracks : List Track) (place name : ℕ) (default : Track) → place < length tracks → IsTrue (nat_eq (get_or tracks place default).variable name) → HasNumber (variables_of tracks) name

@@ -6,7 +6,8 @@ use Rattle.std.proofs.lemmas.Option.{get_or_from_slice_get, none-some, slice_get
 use Rattle.ms_arena.proofs.Lists.{slice_get-append_some, slice_get-push}
 use Rattle.ms_dag.specs.Dag.{places_in_maps}
 use Rattle.ms_dfa.specs.Automaton.{IsAutomaton}
-use Rattle.ms_dfa_explore.specs.Tracks.{IsAmong, joined}
+use Rattle.ms_dfa_explore.specs.Tracks.{merged}
+use Rattle.ms_logic.specs.Lists.{IsAmong}
 use Rattle.ms_logic.specs.declared.mode.Order.{Order}
 use Rattle.ms_logic_words.specs.Content.{Content}
 use Rattle.ms_minim.specs.Residual.{HaveEqualSigns}
@@ -183,7 +184,7 @@ module _ (plan : Plan) (many : Many) where
           equal_orders plan.mode orders (places_in_maps cs) c.map (ManyYes many imports entries cs) (ManyNo many imports entries cs) (ChildYes imports entries c) (ChildNo imports entries c) made next made_is
           next_is left_part right_part
 
-      pub IsPart-more : (result : Content Sign) → result.mode ≡ made.mode → result.variables ≡ joined made.variables next.variables
+      pub IsPart-more : (result : Content Sign) → result.mode ≡ made.mode → result.variables ≡ merged made.variables next.variables
           → HasValues (combined (op_of many) (own_meaning made) (own_meaning next)) result
           → IsPart plan.mode orders (places_in_maps (cs ++ c ∷ [])) (many_meaning many imports entries (cs ++ c ∷ [])) result
       IsPart-more result mode_is variables_are values =

@@ -4,9 +4,10 @@ use Rattle.std.proofs.lemmas.Option.{same_Some}
 use Rattle.std.proofs.lemmas.List.Elements.{Contains-append_cases}
 use Rattle.ms_dfa.specs.Automaton.{IsAutomaton}
 use Rattle.ms_list.specs.declared.fault.StepFault.{StepFault}
-use Rattle.ms_dfa_explore.specs.Tracks.{IsAmong, joined}
-use Rattle.ms_dfa_explore.proofs.AmongLemmas.{joined-either}
-use Rattle.ms_dfa_explore.proofs.TracksLemmas.{joined-left, joined-right}
+use Rattle.ms_dfa_explore.specs.Tracks.{merged}
+use Rattle.ms_logic.specs.Lists.{IsAmong}
+use Rattle.ms_dfa_explore.proofs.AmongLemmas.{merged-either}
+use Rattle.ms_dfa_explore.proofs.TracksLemmas.{merged-left, merged-right}
 use Rattle.ms_logic.specs.declared.mode.Mode.{Mode}
 use Rattle.ms_logic.specs.declared.mode.Order.{Order}
 use Rattle.ms_logic_words.specs.declared.sign.Sign.{Sign}
@@ -37,19 +38,19 @@ module _ (mode : Mode) (orders : List Order) (left_covered right_covered : List 
   pub equal_orders : HaveEqualOrders left.variables right.variables
   equal_orders = one_by_place orders left.variables right.variables left_part.among right_part.among
 
-  module _ (made : Content Sign) (mode_is : made.mode ≡ left.mode) (variables_are : made.variables ≡ joined left.variables right.variables) where
+  module _ (made : Content Sign) (mode_is : made.mode ≡ left.mode) (variables_are : made.variables ≡ merged left.variables right.variables) where
     left_there : (v : Variable) → IsAmong left.variables v → IsAmong made.variables v
-    left_there v among = subst (λ vs. IsAmong vs v) (sym variables_are) (joined-left left.variables right.variables v among)
+    left_there v among = subst (λ vs. IsAmong vs v) (sym variables_are) (merged-left left.variables right.variables v among)
 
     right_there : (v : Variable) → IsAmong right.variables v → IsAmong made.variables v
     right_there v among =
-        subst (λ vs. IsAmong vs v) (sym variables_are) (joined-right left.variables right.variables v (λ u there same. equal_orders u v there among same) among)
+        subst (λ vs. IsAmong vs v) (sym variables_are) (merged-right left.variables right.variables v (λ u there same. equal_orders u v there among same) among)
 
     pub IsPart-combined : (op : Op) → HasValues (combined op (own_meaning left) (own_meaning right)) made
         → IsPart mode orders (left_covered ++ right_covered) (meaning_by (YesOf LeftYes LeftNo RightYes RightNo op) (NoOf LeftYes LeftNo RightYes RightNo op)) made
     IsPart-combined op values = record {
       mode_is = mode_is ∙ left_part.mode_is;
-      among = λ v is. ⊎_elim (λ there. left_part.among v there) (λ there. right_part.among v there) (joined-either left.variables right.variables v (subst (λ vs. IsAmong vs v) variables_are is));
+      among = λ v is. ⊎_elim (λ there. left_part.among v there) (λ there. right_part.among v there) (merged-either left.variables right.variables v (subst (λ vs. IsAmong vs v) variables_are is));
       covers = λ j o covered there. ⊎_elim (λ first. left_there _ (left_part.covers j o first there)) (λ second. right_there _ (right_part.covers j o second there))
           (Contains-append_cases left_covered right_covered j covered);
       values = HasValues-to (combined op (own_meaning left) (own_meaning right)) (meaning_by (YesOf LeftYes LeftNo RightYes RightNo op) (NoOf LeftYes LeftNo RightYes RightNo op)) made
@@ -69,7 +70,7 @@ module _ (mode : Mode) (orders : List Order) (left_covered right_covered : List 
 -- the same where a connective may be refused
 pub combined_by : (mode : Mode) (orders : List Order) (left_covered right_covered : List ℕ) (LeftYes LeftNo RightYes RightNo : Env → Type 0) (left right : Content Sign) → IsAutomaton left → IsAutomaton right
     → IsPart mode orders left_covered (meaning_by LeftYes LeftNo) left → IsPart mode orders right_covered (meaning_by RightYes RightNo) right → (op : Op) (result : Result (Content Sign) StepFault)
-    → IfOk result (λ made. made.mode ≡ left.mode) → IfOk result (λ made. made.variables ≡ joined left.variables right.variables)
+    → IfOk result (λ made. made.mode ≡ left.mode) → IfOk result (λ made. made.variables ≡ merged left.variables right.variables)
     → IfOk result (HasValues (combined op (own_meaning left) (own_meaning right)))
     → IfOk result (IsPart mode orders (left_covered ++ right_covered) (meaning_by (YesOf LeftYes LeftNo RightYes RightNo op) (NoOf LeftYes LeftNo RightYes RightNo op)))
 combined_by mode orders left_covered right_covered LeftYes LeftNo RightYes RightNo left right left_is right_is left_part right_part op (Ok made) mode_is variables_are values =

@@ -1,7 +1,7 @@
 -- Variables that stand at their own places, and where a map leads them.
 use Rattle.std.proofs.Common.{◌≡◌, ℕ, zero, suc, ◌+◌, ◌<◌, nat_eq, inl, inr, ⊎_elim, false, if◌then◌else◌, List, [], ◌∷◌, ◌++◌, Contains, drop, get_or, length, map, slice_get, slice_index, Some, refl, sym, ap, subst, ◌∙◌, arith, add-one, append_assoc, drop-cons}
 use Rattle.std.proofs.lemmas.Bool.{cases_Bool, eqb-true, eq-eqb}
-use Rattle.std.proofs.lemmas.Option.{none-some, same_Some, slice_get_within, slice_get-map, slice_get-get_or, get_or_from_slice_get}
+use Rattle.std.proofs.lemmas.Option.{none-some, same_Some, slice_get_within, slice_get-map, slice_get-get_or}
 use Rattle.std.specs.Option.{option_map}
 use Rattle.std.proofs.lemmas.List.{length-map, map_push}
 use Rattle.ms_dfa.specs.declared.track.Track.{Track}
@@ -14,7 +14,8 @@ use Rattle.ms_logic.specs.declared.mode.Order.TheVariants.{Zero, One, Two}
 use Rattle.ms_logic.specs.declared.assignment.Value.TheVariants.{Truth, Number, Set}
 use Rattle.ms_logic.specs.Assignment.{Env, Variable, GivesEach, IsAssignment, IsValueOf, value_at}
 use Rattle.ms_logic_words.specs.Content.{variables_from, variables_by_place}
-use Rattle.ms_dfa_explore.specs.Tracks.{IsAmong, place_of}
+use Rattle.ms_dfa_explore.specs.Tracks.{place_of}
+use Rattle.ms_logic.specs.Lists.{IsAmong}
 use Rattle.ms_rename.specs.Renamed.{read_by, renamed}
 use Rattle.ms_build.proofs.AgreementLemmas.{Agree, AgreeOn}
 
@@ -148,10 +149,6 @@ AreAt-one items places given at place j x held there =
 -- where an item of a list stands
 pub contains_place : (list : List ℕ) (j : ℕ) → Contains list j → (place : ℕ) × (slice_get list place ≡ Some j)
 contains_place list j is = (is.0, slice_get-get_or list is.0 j is.1 ∙ ap Some is.2)
-
--- the item at a place stands in the list
-pub contains_at : {X : Type 0} (items : List X) (place : ℕ) (x : X) → slice_get items place ≡ Some x → Contains items x
-contains_at items place x held = (place, slice_get_within items place x held, get_or_from_slice_get items place x x held)
 
 -- tracks of the first of these variables, and one more
 pub first_tracks : (orders behind : List Order) (made : List Track) (i : ℕ) (default : Order) → i < length orders

@@ -12,9 +12,10 @@ use Rattle.ms_logic_words.specs.Content.{Content, shortest_word}
 use Rattle.ms_logic_words.specs.Word.{Encodes}
 use Rattle.ms_dfa.specs.Values.{HasValues, IsMeaning, Meaning, own_meaning}
 use Rattle.ms_dfa.proofs.EncodingLemmas.{shortest}
-use Rattle.ms_dfa_explore.specs.Tracks.{IsAmong, places_among}
+use Rattle.ms_dfa_explore.specs.Tracks.{places_among}
+use Rattle.ms_logic.specs.Lists.{IsAmong, without}
 use Rattle.ms_project.specs.Paired.{places_left}
-use Rattle.ms_project.specs.Quantified.{RangeOf, BodyAt, QuantifiedYes, QuantifiedNo, quantified, without}
+use Rattle.ms_project.specs.Quantified.{RangeOf, BodyAt, QuantifiedYes, QuantifiedNo, quantified}
 use Rattle.ms_project.proofs.AlwaysLemmas.{some_yes, some_no, none_yes, none_no, yes_or_empty, no_or_empty, sign_moves}
 use Rattle.ms_project.proofs.LeaveLemmas.{bound, own_there, IsLeftOut-rest, without-rising, without-names}
 use Rattle.ms_project.proofs.ValueLemmas.{there_assigned}

@@ -1,5 +1,5 @@
 -- The automaton of a root, and its variables.
-use Rattle.std.proofs.Common.{◌≡◌, ℕ, zero, suc, ◌+◌, ◌<◌, inl, inr, Result, Ok, Err, IfOk, Option, None, List, [], ◌∷◌, ◌++◌, Contains, length, map, take, slice_get, slice_index, Some, refl, sym, ap, ap₂, subst, ◌∙◌, arith}
+use Rattle.std.proofs.Common.{◌≡◌, ℕ, zero, suc, ◌+◌, ◌<◌, inl, inr, Option, None, List, [], ◌∷◌, ◌++◌, Contains, length, map, take, slice_get, slice_index, Some, refl, sym, ap, ap₂, subst, ◌∙◌, arith}
 use Rattle.std.specs.List.Sorted.{IsStrictlyIncreasing}
 use Rattle.std.proofs.lemmas.Option.{none-some, same_Some, slice_get_within, slice_get-map, slice_get-get_or}
 use Rattle.std.specs.List.{AllZip, range_with_len, sum}
@@ -13,15 +13,12 @@ use Rattle.ms_dag.specs.declared.node.Entry.{Entry}
 use Rattle.ms_dag.specs.Places.{AreAt}
 use Rattle.ms_dag.specs.Lowered.{IsLowered, IsLoweredRoot}
 use Rattle.ms_logic.specs.Truth.{Import}
-use Rattle.ms_logic.specs.Lists.{Each, AreRising}
+use Rattle.ms_logic.specs.Lists.{Each, AreRising, IsAmong}
 use Rattle.ms_dag.specs.Share.{AreRootsOf, IsDagOf, IsRootOf, children_of_roots, variables_of_roots}
 use Rattle.ms_logic_core.specs.declared.core_formula.Lowered.{Lowered}
-use Rattle.ms_list.specs.declared.fault.StepFault.{StepFault}
-use Rattle.ms_minim.specs.Residual.{HasFewestStates, HaveEqualSigns}
 use Rattle.ms_build.specs.declared.plan.Plan.{Plan}
-use Rattle.ms_build.proofs.FormLemmas.{least_by}
+use Rattle.ms_build.proofs.FormLemmas.{least_by, IsLeastFrom}
 use Rattle.ms_dag.specs.declared.node.Child.{Child}
-use Rattle.ms_dfa_explore.specs.Tracks.{IsAmong}
 use Rattle.ms_logic.specs.declared.mode.Mode.{Mode}
 use Rattle.ms_logic.specs.declared.mode.Order.{Order}
 use Rattle.ms_logic.specs.declared.mode.Order.TheVariants.{Zero}
@@ -130,12 +127,9 @@ root_at roots r child variables of_child of_variables = by (slice_get roots r) r
 
 -- the automaton of a root, once it has fewest states
 pub root_by : (plan : Plan) (r : ℕ) (root : SharedRoot) → slice_get plan.dag.now.roots r ≡ Some root → (over : Content Sign)
-    → IsOver plan.mode (named plan.dag.now.orders root.variables) (child_meaning (imports_for plan) (entries_of plan) root.child) over → (result : Result (Content Sign) StepFault)
-    → IfOk result (λ made. made.mode ≡ over.mode) → IfOk result (λ made. made.variables ≡ over.variables) → IfOk result (HaveEqualSigns over) → IfOk result HasFewestStates
-    → IfOk result (IsRootAt plan r)
-root_by plan r root held over is (Ok made) mode_is variables_are signs fewest =
-    (root, held, least_by plan.mode (named plan.dag.now.orders root.variables) (child_meaning (imports_for plan) (entries_of plan) root.child) over is (Ok made) mode_is variables_are signs fewest)
-root_by plan r root held over is (Err fault) mode_is variables_are signs fewest = tt
+    → IsOver plan.mode (named plan.dag.now.orders root.variables) (child_meaning (imports_for plan) (entries_of plan) root.child) over → (made : Content Sign) → IsLeastFrom over made → IsRootAt plan r made
+root_by plan r root held over is made least =
+    (root, held, least_by plan.mode (named plan.dag.now.orders root.variables) (child_meaning (imports_for plan) (entries_of plan) root.child) over is made least)
 
 -- an item beside another in two lists
 zipped : {A B : Type 0} (R : A → B → Type 0) (xs : List A) (ys : List B) → AllZip R xs ys → (place : ℕ) (y : B) → slice_get ys place ≡ Some y → (x : A) × (slice_get xs place ≡ Some x) × R x y
@@ -155,6 +149,7 @@ roots_read imports calls lowered dag is of r root held =
         rising = subst IsStrictlyIncreasing (sym both.2.variables) lowered_root.rising;
         among = λ j is_in. subst (λ (list : List ℕ). Contains list j) (sym both.2.variables) (All-contains (Contains both.0.variables) root.child.map j both.2.among is_in);
       },
+      both.2.rising,
     )
   where
     each_at : {X : Type 0} (P : X → Type 0) (xs : List X) → Each P xs → (place : ℕ) (x : X) → slice_get xs place ≡ Some x → P x

@@ -1,20 +1,14 @@
 -- Lists of variables, and of tracks that have them.
-use Rattle.std.proofs.Common.{◌≡◌, ℕ, zero, suc, ◌+◌, ◌<◌, inl, inr, ⊎_elim, ◌⊎◌, List, [], ◌∷◌, ◌++◌, get_or, length, take, slice_get, Some, refl, ap, subst, ◌∙◌}
+use Rattle.std.proofs.Common.{◌≡◌, ℕ, zero, suc, ◌+◌, ◌<◌, inl, inr, ⊎_elim, List, [], ◌∷◌, ◌++◌, get_or, length, take, slice_get, Some, refl, ap, subst, ◌∙◌}
 use Rattle.std.specs.Option.{option_map}
 use Rattle.std.proofs.lemmas.List.{take_more}
 use Rattle.std.proofs.lemmas.Option.{none-some, slice_get_within, slice_get-map, slice_get-get_or, get_or_from_slice_get}
 use Rattle.ms_dfa.specs.declared.track.Track.{Track}
 use Rattle.ms_dfa.specs.Automaton.{variable_of, variables_of}
-use Rattle.ms_dfa_explore.specs.Tracks.{IsAmong}
 use Rattle.ms_dfa_explore.proofs.AmongLemmas.{among_at}
 use Rattle.ms_logic.specs.Assignment.{Variable}
-use Rattle.ms_logic.specs.Lists.{AreRising}
+use Rattle.ms_logic.specs.Lists.{AreRising, IsAmong}
 use Rattle.ms_build.proofs.WholeLemmas.{rising_above}
-
--- a variable of two lists is one of the first or of the second
-pub among_either : (xs ys : List Variable) (v : Variable) → IsAmong (xs ++ ys) v → IsAmong xs v ⊎ IsAmong ys v
-among_either [] ys v among = inr among
-among_either (x ∷ xs) ys v among = ⊎_elim (λ here. inl (inl here)) (λ there. ⊎_elim (λ first. inl (inr first)) inr (among_either xs ys v there)) among
 
 -- the variables of a list up to a place are some of it
 pub taken-among : (i : ℕ) (vs : List Variable) (v : Variable) → IsAmong (take i vs) v → IsAmong vs v

@@ -2,14 +2,13 @@
 use Rattle.std.proofs.Common.{◌≡◌, ℕ, ◌+◌, ◌<◌, inl, inr, ⊎_elim, List, [], ◌∷◌, Contains, length, refl, sym, ap, subst, ◌∙◌, arith}
 use Rattle.std.proofs.lemmas.Option.{slice_get_within}
 use Rattle.ms_dfa.specs.Automaton.{IsAutomaton}
-use Rattle.ms_dfa_explore.specs.Tracks.{IsAmong}
 use Rattle.ms_basic.specs.Operands.{HaveOneOrder}
 use Rattle.ms_logic.specs.declared.mode.Mode.{Mode}
 use Rattle.ms_logic.specs.declared.mode.Order.{Order}
 use Rattle.ms_logic_words.specs.declared.sign.Sign.{Sign}
 use Rattle.ms_logic.specs.Assignment.{Variable, IsAssignment}
 use Rattle.ms_logic_words.specs.Content.{Content, variables_from, variables_by_place}
-use Rattle.ms_logic.specs.Lists.{AreRising, IsBelowFirst}
+use Rattle.ms_logic.specs.Lists.{AreRising, IsBelowFirst, IsAmong}
 use Rattle.ms_dfa.specs.Values.{HasValues, Meaning, own_meaning}
 use Rattle.ms_build.specs.Built.{HasFirst, IsOver, IsPart}
 use Rattle.ms_build.proofs.MeaningLemmas.{HasValues-to, own_means}

@@ -1,27 +1,28 @@
 -- Automata over more variables.
-use Rattle.std.proofs.Common.{◌≡◌, ℕ, inl, inr, ⊎_elim, Result, Ok, Err, IfOk, List, [], ◌∷◌, ◌++◌, take, slice_get, Some, refl, sym, subst, ◌∙◌}
+use Rattle.std.proofs.Common.{◌≡◌, ℕ, inl, inr, ⊎_elim, Result, Ok, Err, IfOk, List, [], ◌∷◌, ◌++◌, take, slice_get, Some, refl, sym, subst, ◌∙◌, ◌⊎◌}
 use Rattle.ms_dfa.specs.Automaton.{IsAutomaton, variables_of}
 use Rattle.ms_list.specs.declared.fault.StepFault.{StepFault}
-use Rattle.ms_dfa_explore.specs.Tracks.{IsAmong, joined}
-use Rattle.ms_dfa_explore.proofs.AmongLemmas.{among_at, joined-either}
-use Rattle.ms_dfa_explore.proofs.TracksLemmas.{among-left, among-right, joined-left, joined-right}
+use Rattle.ms_dfa_explore.specs.Tracks.{merged}
+use Rattle.ms_dfa_explore.proofs.AmongLemmas.{among_at, merged-either, among_either}
+use Rattle.ms_dfa_explore.proofs.TracksLemmas.{among-left, among-right, merged-left, merged-right}
 use Rattle.ms_basic.specs.Operands.{HaveOneOrder}
 use Rattle.ms_product.specs.Combined.{HaveEqualOrders}
-use Rattle.ms_rename.proofs.RenamedLemmas.{values_same}
-use Rattle.ms_minim.specs.Residual.{HaveEqualSigns}
+use Rattle.ms_rename.proofs.RenamedLemmas.{HasValues-same}
+use Rattle.ms_minim.specs.Residual.{HaveEqualSigns, HasFewestStates}
 use Rattle.ms_logic.specs.declared.mode.Mode.{Mode}
 use Rattle.ms_logic_words.specs.declared.sign.Sign.{Sign}
 use Rattle.ms_logic.specs.Assignment.{Variable}
 use Rattle.ms_logic_words.specs.Content.{Content}
-use Rattle.ms_logic.specs.Lists.{AreRising}
+use Rattle.ms_logic.specs.Lists.{AreRising, IsAmong}
 use Rattle.ms_dfa.specs.Values.{HasValues, Meaning, own_meaning}
 use Rattle.ms_dfa.proofs.OwnMeaningLemmas.{HasValues-own}
 use Rattle.ms_build.specs.Built.{IsOver}
 use Rattle.ms_build.specs.declared.lacked.Lacked.{Lacked}
 use Rattle.ms_build.specs.inner.Lacked.{IsLacked}
-use Rattle.ms_build.specs.inner.Wider.{IsWider}
-use Rattle.ms_build.proofs.VariableLemmas.{among_either, taken-among}
+use Rattle.ms_build.specs.Wider.{IsWider}
+use Rattle.ms_build.proofs.VariableLemmas.{taken-among}
 use Rattle.ms_build.proofs.WholeLemmas.{HasValues-more, HaveOneOrder-rising, rising_equal}
+use Rattle.ms_build.specs.Short.{WideningLacks}
 
 -- over no more variables
 pub IsWider-none : (content : Content Sign) → IsAutomaton content → IsWider content [] content
@@ -45,19 +46,18 @@ IsWider-then content between made first second automaton one two = record {
 }
 
 -- what was widened, once it has fewest states
-pub wider_by : (content wide : Content Sign) (more : List Variable) (result : Result (Content Sign) StepFault) → HaveEqualOrders content.variables more → wide.mode ≡ content.mode
-    → wide.variables ≡ joined content.variables more → HasValues (own_meaning content) wide → IfOk result (λ least. least.mode ≡ wide.mode) → IfOk result (λ least. least.variables ≡ wide.variables)
-    → IfOk result (HaveEqualSigns wide) → IfOk result (IsWider content more)
-wider_by content wide more (Ok least) orders mode_is variables_are values least_mode least_variables signs = record {
+pub wider_by : (content wide : Content Sign) (more : List Variable) (least : Content Sign) → HaveEqualOrders content.variables more → wide.mode ≡ content.mode
+    → wide.variables ≡ merged content.variables more → HasValues (own_meaning content) wide → least.mode ≡ wide.mode → least.variables ≡ wide.variables → HaveEqualSigns wide least
+    → IsWider content more least
+wider_by content wide more least orders mode_is variables_are values least_mode least_variables signs = record {
   mode_is = least_mode ∙ mode_is;
   variables = λ v. (
-    λ there. joined-either content.variables more v (subst (λ vs. IsAmong vs v) (least_variables ∙ variables_are) there),
+    λ there. merged-either content.variables more v (subst (λ vs. IsAmong vs v) (least_variables ∙ variables_are) there),
     λ either. subst (λ vs. IsAmong vs v) (sym (least_variables ∙ variables_are))
-        (⊎_elim (λ own. joined-left content.variables more v own) (λ new. joined-right content.variables more v (λ u there name. orders u v there new name) new) either),
+        (⊎_elim (λ own. merged-left content.variables more v own) (λ new. merged-right content.variables more v (λ u there name. orders u v there new name) new) either),
   );
-  values = values_same (own_meaning content) wide (Ok least) least_mode least_variables signs values;
+  values = HasValues-same (own_meaning content) wide least least_mode least_variables signs values;
 }
-wider_by content wide more (Err fault) orders mode_is variables_are values least_mode least_variables signs = tt
 
 -- over the first ones of some variables, the next one has its order
 pub next_orders : (content made : Content Sign) (vs : List Variable) (i : ℕ) (v : Variable) → HaveOneOrder vs → HaveEqualOrders content.variables vs → IsWider content (take i vs) made
@@ -113,3 +113,18 @@ over_by mode over meaning part tracks (Ok made) automaton mode_is values tracks_
   values = HasValues-more meaning part made automaton is.mode_is (λ v there. subst (λ vs. IsAmong vs v) (sym (is.variables_are ∙ tracks_are)) (among v there)) values is.values;
 }
 over_by mode over meaning part tracks (Err fault) automaton mode_is values tracks_are among is = tt
+
+-- what is short of nodes once some variables were added is so from the beginning
+pub widening_then : (limit : ℕ) (part wide : Content Sign) (wanted first second : List Variable) → IsAutomaton wide → IsWider part first wide → (wide ≡ part) ⊎ HasFewestStates wide
+    → ((v : Variable) → IsAmong first v → IsAmong wanted v) → ((v : Variable) → IsAmong second v → IsAmong wanted v) → WideningLacks limit wide second → WideningLacks limit part wanted
+widening_then limit part wide wanted first second automaton wider fewest first_among second_among lacks = record {
+  wide = lacks.wide;
+  added = first ++ lacks.added;
+  is_wide = IsWider-then part wide lacks.wide first lacks.added automaton wider lacks.is_wide;
+  fewest = ⊎_elim (λ same. ⊎_elim (λ own. inl (same ∙ own)) (λ few. inr (subst HasFewestStates (sym same) few)) fewest) inr lacks.fewest;
+  next = lacks.next;
+  among = λ v. ⊎_elim
+      (λ added. ⊎_elim (first_among v) (λ later. second_among v (lacks.among v (inl later))) (among_either first lacks.added v added))
+      (λ next. second_among v (lacks.among v (inr next)));
+  short = lacks.short;
+}

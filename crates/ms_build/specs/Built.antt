@@ -1,9 +1,8 @@
 -- What the automata of the nodes of a graph are.
-use Rattle.std.specs.Prelude.{◌≡◌, ◌<◌, ◌≤◌, ◌⊎◌, ℕ, ◌++◌, List, [], ◌∷◌, length, map, slice_get, Contains, Some, None, Option}
+use Rattle.std.specs.Prelude.{◌≡◌, ◌<◌, ◌≤◌, ◌⊎◌, ◌+◌, ℕ, ◌++◌, List, [], ◌∷◌, length, map, slice_get, Contains, Some, None, Option}
 use Rattle.ms_logic.specs.declared.mode.Mode.{Mode}
 use Rattle.ms_logic.specs.declared.mode.Order.{Order}
 use Rattle.ms_logic_words.specs.declared.sign.Sign.{Sign}
-use Rattle.ms_logic_words.specs.declared.sign.Sign.TheVariants.{Yes, No, Undefined, Outside}
 use Rattle.ms_logic.specs.Assignment.{Env, Variable}
 use Rattle.ms_logic_core.specs.CoreForm.{Holds, answer_over}
 use Rattle.ms_logic_core.specs.declared.core_formula.Basic.{Basic as Relation}
@@ -11,7 +10,7 @@ use Rattle.ms_logic_core.specs.Operands.{variables_of_basic}
 use Rattle.ms_dag.specs.declared.node.DagNode.{DagNode}
 use Rattle.ms_dag.specs.declared.node.DagNode.TheVariants.{True, False, Basic, Not, And, Or, Implies, Iff, Restrict, Import, Bind}
 use Rattle.ms_logic_words.specs.Content.{Content, answer_of, variables_by_place}
-use Rattle.ms_logic.specs.Truth.{Answer, Import as Imported, answer_yes, answer_no, answer_undefined}
+use Rattle.ms_logic.specs.Truth.{Import as Imported, answer_yes, answer_no}
 use Rattle.ms_dag.specs.declared.dag.Dag.{Dag}
 use Rattle.ms_dag.specs.declared.node.Child.{Child}
 use Rattle.ms_dag.specs.declared.node.Entry.{Entry}
@@ -30,19 +29,15 @@ use Rattle.ms_edge.specs.declared.refusal.Refusal.TheVariants.{Nodes, Memory}
 use Rattle.ms_build.specs.declared.nodes.Binder.{Binder}
 use Rattle.ms_build.specs.Connectives.{NoOf, YesOf}
 use Rattle.ms_product.specs.declared.op.Op.{Op}
-use Rattle.ms_dfa_explore.specs.Tracks.{IsAmong, distinct}
+use Rattle.ms_dfa_explore.specs.Tracks.{distinct}
+use Rattle.ms_logic.specs.Lists.{IsAmong}
 use Rattle.ms_dfa.specs.Automaton.{variable_of}
-use Rattle.ms_minim.specs.Residual.{HasFewestStates}
+use Rattle.ms_minim.specs.Residual.{AreReached, HasFewestStates, HaveDifferentResiduals}
 use Rattle.ms_project.specs.declared.quantifier.Quantifier.{Quantifier}
 use Rattle.ms_project.specs.Quantified.{quantified}
 use Rattle.ms_dfa.specs.Values.{Meaning, meaning_by, HasValues}
-
--- a sign as an answer
-abbrev pub answer_for : Sign → Answer
-answer_for Yes = answer_yes
-answer_for No = answer_no
-answer_for Undefined = answer_undefined
-answer_for Outside = answer_undefined
+use Rattle.ms_logic_words.specs.Signs.{answer_for}
+use Rattle.std.specs.List.Sorted.{IsStrictlyIncreasing}
 
 -- what automata answer as imports
 abbrev pub import_of : Content Sign → Imported
@@ -102,23 +97,31 @@ pub record IsPart (mode : Mode) (orders : List Order) (covered : List ℕ) (mean
   pub covers : (j : ℕ) (o : Order) → Contains covered j → slice_get orders j ≡ Some o → IsAmong content.variables (record { name = j; order = o })
   pub values : HasValues meaning content
 
--- an automaton over just these variables with the values of a meaning, and with fewest states
+-- an automaton over just these variables with the values of a meaning, and with fewest states: each is reached, and no two have equal
+-- residuals
 pub record IsLeastOf (mode : Mode) (variables : List Variable) (meaning : Meaning) (content : Content Sign) : Type 0 where
   pub mode_is : content.mode ≡ mode
   pub variables_are : content.variables ≡ variables
   pub values : HasValues meaning content
   pub fewest : HasFewestStates content
+  pub reached : AreReached content
+  pub differ : HaveDifferentResiduals content
+
+-- the nodes and states of a content are together within a limit
+abbrev pub IsWithin : ℕ → Content Sign → Type 0
+IsWithin limit content = length content.nodes + length content.states ≤ limit
 
 -- the node of a root, or a child of a node from this number on
 abbrev pub IsUsedFrom : List Entry → List Child → ℕ → ℕ → Type 0
 IsUsedFrom entries roots from i =
     IsNodeOf roots i ⊎ ((k : ℕ) × (entry : Entry) × (from ≤ k) × (slice_get entries k ≡ Some entry) × IsNodeOf (children_of entry.node) i)
 
--- each that is used from here on is the automaton of the node at its place, over the node's own variables
-abbrev pub AreBuilt : List Imported → Mode → List Entry → List Child → List (Content Sign) → Type 0
-AreBuilt imports mode entries roots contents =
+-- each that is used from here on is the automaton of the node at its place, over the node's own variables, and within the limit
+abbrev pub AreBuilt : ℕ → List Imported → Mode → List Entry → List Child → List (Content Sign) → Type 0
+AreBuilt limit imports mode entries roots contents =
     (i : ℕ) (content : Content Sign) → slice_get contents i ≡ Some content → IsUsedFrom entries roots (length contents) i
     → (entry : Entry) × (slice_get entries i ≡ Some entry) × IsLeastOf mode (variables_by_place entry.orders) (node_meaning imports entries i) content
+    × IsWithin limit content
 
 -- the parts of what is being built
 abbrev pub entries_of : Plan → List Entry
@@ -131,7 +134,7 @@ abbrev pub roots_of : Plan → List Child
 roots_of plan = children_of_roots plan.dag.now.roots
 
 abbrev pub AreBuiltFor : Plan → List (Content Sign) → Type 0
-AreBuiltFor plan contents = AreBuilt (imports_for plan) plan.mode (entries_of plan) (roots_of plan) contents
+AreBuiltFor plan contents = AreBuilt plan.limit (imports_for plan) plan.mode (entries_of plan) (roots_of plan) contents
 
 -- a node has its automaton among the first so many: it is one of these, and is used from there on
 abbrev pub IsThere : Plan → ℕ → ℕ → Type 0
@@ -252,20 +255,21 @@ IsImported plan entry = (i : ℕ) (xs : List ℕ) → entry.node ≡ Import i xs
 -- a restriction, if there is one, has an automaton, and is read at variables of these orders
 abbrev pub IsDomainRead : Plan → List Order → ℕ → Option Child → Type 0
 IsDomainRead plan inside count None = Unit {0}
-IsDomainRead plan inside count (Some child) = IsThere plan count child.node × IsReadAt (entries_of plan) inside child
+IsDomainRead plan inside count (Some child) = IsThere plan count child.node × IsReadAt (entries_of plan) inside child × IsStrictlyIncreasing child.map
 
 -- a quantifier of a node with variables of these orders, whose restriction and body have automata
 pub record IsBinderOf (plan : Plan) (orders : List Order) (count : ℕ) (binder : Binder) : Type 0 where
   pub bound : binder.quantifier.track.variable ≡ length orders
   pub body : IsThere plan count binder.body.now.node
   pub read : IsReadAt (entries_of plan) (orders ++ binder.quantifier.track.order ∷ []) binder.body.now
+  pub rising : IsStrictlyIncreasing binder.body.now.map
   pub domain : IsDomainRead plan (orders ++ binder.quantifier.track.order ∷ []) count binder.domain.now
 
--- the automaton of a node by its number
+-- the automaton of a node by its number, within the limit
 abbrev pub IsBuiltAt : Plan → ℕ → Content Sign → Type 0
 IsBuiltAt plan i content =
     (entry : Entry) × (slice_get (entries_of plan) i ≡ Some entry)
-    × IsLeastOf plan.mode (variables_by_place entry.orders) (node_meaning (imports_for plan) (entries_of plan) i) content
+    × IsLeastOf plan.mode (variables_by_place entry.orders) (node_meaning (imports_for plan) (entries_of plan) i) content × IsWithin plan.limit content
 
 -- the automata of all nodes of a graph that are roots
 pub record IsBuiltOver (imports : List (Content Sign)) (mode : Mode) (dag : Dag) (built : Built) : Type 0 where
@@ -279,9 +283,3 @@ pub record IsBuiltOver (imports : List (Content Sign)) (mode : Mode) (dag : Dag)
 abbrev pub refusal_of : ℕ → ℕ → StepFault → Refusal
 refusal_of step limit fault.Memory = Memory
 refusal_of step limit (fault.Nodes named) = Nodes step limit
-
--- one of so many steps was refused by its number, or memory was
-abbrev pub IsStepRefused : ℕ → ℕ → Refusal → Type 0
-IsStepRefused count limit (Nodes step named) = (step < count) × (named ≡ limit)
-IsStepRefused count limit Memory = Unit {0}
-IsStepRefused count limit other = ⊥

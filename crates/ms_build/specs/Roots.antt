@@ -32,11 +32,11 @@ abbrev pub IsOverRoot : Plan → Child → List ℕ → Content Sign → Type 0
 IsOverRoot plan child variables content =
     IsOver plan.mode (named plan.dag.now.orders variables) (child_meaning (imports_for plan) (entries_of plan) child) content
 
--- each root is read at variables of the source, those of its list
+-- each root is read at variables of the source, those of its list, in rising order
 abbrev pub AreRootsRead : Dag → Type 0
 AreRootsRead dag =
     (r : ℕ) (root : SharedRoot) → slice_get dag.roots r ≡ Some root
-    → IsReadInSource dag.entries dag.orders root.child × AreRootVariables root.child root.variables
+    → IsReadInSource dag.entries dag.orders root.child × AreRootVariables root.child root.variables × IsStrictlyIncreasing root.child.map
 
 -- the automaton of a root by its number
 abbrev pub IsRootAt : Plan → ℕ → Content Sign → Type 0

@@ -1,4 +1,3 @@
 pub mod Examples
 pub mod Lacked
 pub mod Uses
-pub mod Wider

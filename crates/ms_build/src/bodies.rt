@@ -1,7 +1,10 @@
 ghost use Rattle.std.specs.Prelude.{◌≡◌, ◌++◌, ◌∷◌, [], length, IfOk};
 ghost use Rattle.ms_dfa.specs.Automaton.{variables_of};
 ghost use Rattle.ms_logic_words.specs.Content.{variables_by_place};
+ghost use Rattle.std.specs.List.Sorted.{IsStrictlyIncreasing};
+ghost use Rattle.ms_dfa_explore.specs.Explored.{OnRefused};
 ghost use Rattle.ms_build.specs.Built.{AreBuiltFor, IsBodyOf, IsLimit, IsReadAt, IsThere, entries_of};
+ghost use Rattle.ms_build.specs.Short.{ChildLacks, IsLeastBody};
 
 use crate::children::brought;
 use crate::plan::Plan;
@@ -39,9 +42,14 @@ pub(crate) fn whole_body(
     requires there { IsThere plan.now (length built.now) body.now.node }
     requires bound { bound.variable ≡ length orders.now }
     requires read { IsReadAt (entries_of plan.now) (orders.now ++ bound.order ∷ []) body.now }
-    ensures { IfOk result (IsBodyOf plan.now (orders.now ++ bound.order ∷ []) body.now) }
+    requires rising { IsStrictlyIncreasing body.now.map }
+    ensures body { IfOk result (IsBodyOf plan.now (orders.now ++ bound.order ∷ []) body.now) }
+    ensures least { IfOk result (IsLeastBody plan.now body.now) }
+    ensures nodes { OnRefused result (λ refused. ChildLacks plan.now body.now (variables_by_place (orders.now ++ bound.order ∷ []))) }
 {
-    let part = brought(plan, built, body)?;
+    let Ok(part) = brought(plan, built, body) else {
+        return Err(StepFault::Memory);
+    };
     // The states tell that it is an automaton.
     let _ = part.states();
     let Ok(tracks) = body_tracks(plan.alloc, orders, bound) else {

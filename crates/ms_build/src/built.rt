@@ -1,7 +1,9 @@
 ghost use Rattle.std.specs.Prelude.{◌≡◌, ◌<◌, ◌≤◌, ◌+◌, ◌++◌, [], ◌∷◌, length, IfOk, IfErr, OnOk};
 ghost use Rattle.ms_build.specs.Roots.{AreRootsRead, IsRootAt};
 ghost use Rattle.ms_dag.specs.Dag.{AreNodes};
-ghost use Rattle.ms_build.specs.Built.{AreBuiltFor, AreImportsOf, IsBuiltOver, IsLimit, IsStepRefused, entries_of, refusal_of, roots_of};
+ghost use Rattle.ms_build.specs.Built.{AreBuiltFor, AreImportsOf, IsBuiltOver, IsLimit, IsWithin, entries_of, refusal_of, roots_of};
+ghost use Rattle.ms_build.specs.Short.{IsStepRefused, IsUnbuilt, NodeLacks, RootLacks};
+ghost use Rattle.ms_dfa_explore.specs.Explored.{OnRefused};
 ghost use Rattle.ms_build.specs.inner.Uses.{AreLastUses};
 
 use crate::children::least;
@@ -36,7 +38,8 @@ fn refusal(step: u32, limit: u64, fault: StepFault) -> Refusal
 
 /// One automaton more in a list.
 fn push_automaton(automata: &mut Vec<Automaton>, made: Automaton) -> Result<(), StepFault>
-    ensures { IfOk result (λ done. automata.new.items ≡ automata.old.items ++ made ∷ []) }
+    ensures pushed { IfOk result (λ done. automata.new.items ≡ automata.old.items ++ made ∷ []) }
+    ensures nodes { OnRefused result (λ refused. ⊥) }
 {
     match automata.push(made) {
         Ok(()) => Ok(()),
@@ -52,7 +55,8 @@ fn build_next(plan: &Plan, automata: &mut Vec<Automaton>) -> Result<(), StepFaul
     requires imports { AreImportsOf plan.now.imports.now plan.now.mode (entries_of plan.now) }
     requires built { AreBuiltFor plan.now automata.old.items }
     requires next { length automata.old.items < length (entries_of plan.now) }
-    ensures { OnOk result (AreBuiltFor plan.now automata.new.items × (length automata.new.items ≡ length automata.old.items + 1)) }
+    ensures built { OnOk result (AreBuiltFor plan.now automata.new.items × (length automata.new.items ≡ length automata.old.items + 1)) }
+    ensures nodes { OnRefused result (λ refused. NodeLacks plan.now (length automata.old.items)) }
 {
     let made = node(plan, automata.as_slice())?;
     push_automaton(automata, made)
@@ -69,6 +73,7 @@ fn build_step(plan: &Plan, last: &[u32], automata: &mut Vec<Automaton>) -> Resul
     requires next { length automata.old.items < length (entries_of plan.now) }
     ensures built { OnOk result (AreBuiltFor plan.now automata.new.items) }
     ensures count { OnOk result (length automata.new.items ≡ length automata.old.items + 1) }
+    ensures nodes { OnRefused result (λ refused. NodeLacks plan.now (length automata.old.items)) }
 {
     build_next(plan, automata)?;
     match release(plan, last, automata) {
@@ -85,7 +90,7 @@ fn build_each(plan: &Plan) -> Result<List<Automaton>, Refusal>
     requires imports { AreImportsOf plan.now.imports.now plan.now.mode (entries_of plan.now) }
     ensures built { IfOk result (AreBuiltFor plan.now) }
     ensures all { IfOk result (λ made. length made ≡ length (entries_of plan.now)) }
-    ensures refused { IfErr result (IsStepRefused (length (entries_of plan.now)) plan.now.limit) }
+    ensures refused { IfErr result (IsStepRefused plan.now) }
 {
     let Ok(last) = last_uses(plan) else {
         return Err(Refusal::Memory);
@@ -116,7 +121,7 @@ pub fn build<'a>(
     requires imports { AreImportsOf imports.now mode dag.now.entries }
     ensures built { IfOk result (IsBuiltOver imports.entry.now mode dag.entry.now) }
     ensures limit { IfOk result (λ built. built.plan.limit ≡ limit) }
-    ensures refused { IfErr result (IsStepRefused (length dag.entry.now.entries) limit) }
+    ensures refused { IfErr result (IsUnbuilt imports.entry.now mode dag.entry.now limit) }
 {
     let plan = Plan {
         alloc,
@@ -146,11 +151,15 @@ impl<'a> Built<'a> {
         requires root { r < length self.now.plan.dag.now.roots }
         requires read { AreRootsRead self.now.plan.dag.now }
         ensures root { IfOk result (IsRootAt self.now.plan r) }
-        ensures within { IfOk result (λ least. length least.nodes + length least.states ≤ self.now.plan.limit) }
+        ensures within { IfOk result (IsWithin self.now.plan.limit) }
+        ensures nodes { OnRefused result (λ refused. RootLacks self.now.plan r) }
     {
         let child = self.plan.dag.root(r);
         let variables = self.plan.dag.variables(r);
         let over = over_variables(&self.plan, self.automata.slice(), child, variables)?;
-        least(&self.plan, &over)
+        match least(&self.plan, &over) {
+            Ok(made) => Ok(made),
+            Err(NoMemory) => Err(StepFault::Memory),
+        }
     }
 }

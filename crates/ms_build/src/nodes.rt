@@ -1,8 +1,10 @@
-ghost use Rattle.std.specs.Prelude.{◌≡◌, ◌<◌, ◌≤◌, length, slice_get, Some, IfOk};
+ghost use Rattle.std.specs.Prelude.{◌≡◌, ◌<◌, ◌≤◌, ◌⊎◌, length, slice_get, Some, IfOk};
 ghost use Rattle.ms_dag.specs.Dag.{AreNodes, IsNode};
-ghost use Rattle.ms_build.specs.Built.{AreBuiltFor, AreImportsOf, IsBuiltAt, IsImported, IsLimit, IsMadeOf, IsQuantifiedOf, IsBinderOf, entries_of};
+ghost use Rattle.ms_build.specs.Built.{AreBuiltFor, AreImportsOf, IsBuiltAt, IsImported, IsLimit, IsMadeOf, IsQuantifiedOf, IsBinderOf, IsWithin, entries_of};
+ghost use Rattle.ms_build.specs.Short.{FormLacks, NodeLacks, QuantifierLacks};
+ghost use Rattle.ms_dfa.specs.Automaton.{variable_of};
+ghost use Rattle.ms_dfa_explore.specs.Explored.{OnRefused};
 
-use crate::children::least;
 use crate::connectives::{many, negation, pair, restriction};
 use crate::leaves::{falsity, imported, relation, truth};
 use crate::plan::{Many, Plan};
@@ -11,6 +13,7 @@ use ms_dag::{Child, DagNode, Entry};
 use ms_dfa::{Automaton, Track};
 use ms_list::StepFault;
 use ms_logic::Order;
+use ms_minim::minimise;
 use ms_product::Op;
 use ms_project::Quantifier;
 
@@ -31,7 +34,9 @@ fn quantified(
     requires limit { IsLimit plan.now.limit }
     requires built { AreBuiltFor plan.now built.now }
     requires binder { IsBinderOf plan.now orders.now (length built.now) binder }
-    ensures { IfOk result (IsQuantifiedOf plan.now orders.now binder.entry.quantifier binder.entry.domain.now binder.entry.body.now) }
+    ensures quantified { IfOk result (IsQuantifiedOf plan.now orders.now binder.entry.quantifier binder.entry.domain.now binder.entry.body.now) }
+    ensures within { IfOk result (IsWithin plan.now.limit) }
+    ensures nodes { OnRefused result (λ refused. QuantifierLacks plan.now orders.now (variable_of binder.entry.quantifier.track) binder.entry.domain.now binder.entry.body.now) }
 {
     match binder.domain {
         None => over_all(plan, built, binder.quantifier, binder.body, orders),
@@ -52,7 +57,9 @@ fn of_form(plan: &Plan, built: &[Automaton], entry: &Entry) -> Result<Automaton,
     requires held { slice_get (entries_of plan.now) (length built.now) ≡ Some entry.now }
     requires node { IsNode (entries_of plan.now) (length built.now) entry.now }
     requires imports { IsImported plan.now entry.now }
-    ensures { IfOk result (IsMadeOf plan.now entry.now entry.now.node) }
+    ensures made { IfOk result (IsMadeOf plan.now entry.now entry.now.node) }
+    ensures within { IfOk result (λ made. IsWithin plan.now.limit made ⊎ IsWithin 16 made) }
+    ensures nodes { OnRefused result (λ refused. FormLacks plan.now entry.now.orders entry.now.node) }
 {
     let orders = entry.orders.slice();
     match &entry.node {
@@ -93,11 +100,12 @@ pub(crate) fn node(plan: &Plan, built: &[Automaton]) -> Result<Automaton, StepFa
     requires built { AreBuiltFor plan.now built.now }
     requires next { length built.now < length (entries_of plan.now) }
     requires few { length (entries_of plan.now) ≤ 4294967295 }
-    ensures { IfOk result (IsBuiltAt plan.now (length built.now)) }
+    ensures built { IfOk result (IsBuiltAt plan.now (length built.now)) }
+    ensures nodes { OnRefused result (λ refused. NodeLacks plan.now (length built.now)) }
 {
     let entry = plan.dag.entry(built.len() as u32);
     let part = of_form(plan, built, entry)?;
     // The states tell that it is an automaton.
     let _ = part.states();
-    least(plan, &part)
+    minimise(plan.alloc, &part, plan.limit)
 }

@@ -1,6 +1,9 @@
 ghost use Rattle.std.specs.Prelude.{◌≡◌, ◌++◌, ◌∷◌, [], length, IfOk, Some, None};
 ghost use Rattle.ms_dfa.specs.Automaton.{variable_of};
-ghost use Rattle.ms_build.specs.Built.{AreBuiltFor, IsLimit, IsQuantifiedOf, IsReadAt, IsThere, entries_of};
+ghost use Rattle.std.specs.List.Sorted.{IsStrictlyIncreasing};
+ghost use Rattle.ms_dfa_explore.specs.Explored.{OnRefused};
+ghost use Rattle.ms_build.specs.Built.{AreBuiltFor, IsLimit, IsQuantifiedOf, IsReadAt, IsThere, IsWithin, entries_of};
+ghost use Rattle.ms_build.specs.Short.{QuantifierLacks};
 
 use crate::bodies::whole_body;
 use crate::children::brought;
@@ -24,7 +27,10 @@ pub(crate) fn over_all(
     requires there { IsThere plan.now (length built.now) body.now.node }
     requires bound { quantifier.track.variable ≡ length orders.now }
     requires read { IsReadAt (entries_of plan.now) (orders.now ++ quantifier.track.order ∷ []) body.now }
-    ensures { IfOk result (IsQuantifiedOf plan.now orders.now quantifier None body.now) }
+    requires rising { IsStrictlyIncreasing body.now.map }
+    ensures quantified { IfOk result (IsQuantifiedOf plan.now orders.now quantifier None body.now) }
+    ensures within { IfOk result (IsWithin plan.now.limit) }
+    ensures nodes { OnRefused result (λ refused. QuantifierLacks plan.now orders.now (variable_of quantifier.track) None body.now) }
 {
     let whole = whole_body(plan, built, body, orders, quantifier.track)?;
     // The states tell that it is an automaton.
@@ -54,10 +60,16 @@ pub(crate) fn within(
     requires bound { quantifier.track.variable ≡ length orders.now }
     requires read { IsReadAt (entries_of plan.now) (orders.now ++ quantifier.track.order ∷ []) scope.body.now }
     requires domain_read { IsReadAt (entries_of plan.now) (orders.now ++ quantifier.track.order ∷ []) scope.domain.now }
-    ensures { IfOk result (IsQuantifiedOf plan.now orders.now quantifier (Some scope.entry.domain.now) scope.entry.body.now) }
+    requires rising { IsStrictlyIncreasing scope.body.now.map }
+    requires domain_rises { IsStrictlyIncreasing scope.domain.now.map }
+    ensures quantified { IfOk result (IsQuantifiedOf plan.now orders.now quantifier (Some scope.entry.domain.now) scope.entry.body.now) }
+    ensures within { IfOk result (IsWithin plan.now.limit) }
+    ensures nodes { OnRefused result (λ refused. QuantifierLacks plan.now orders.now (variable_of quantifier.track) (Some scope.entry.domain.now) scope.entry.body.now) }
 {
     let whole = whole_body(plan, built, scope.body, orders, quantifier.track)?;
-    let domain = brought(plan, built, scope.domain)?;
+    let Ok(domain) = brought(plan, built, scope.domain) else {
+        return Err(StepFault::Memory);
+    };
     // The states tell that these are automata.
     let _ = whole.states();
     let _ = domain.states();

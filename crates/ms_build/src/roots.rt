@@ -1,6 +1,9 @@
 ghost use Rattle.std.specs.Prelude.{◌≡◌, length, IfOk};
 ghost use Rattle.ms_dfa.specs.Automaton.{variables_of};
-ghost use Rattle.ms_build.specs.Built.{AreBuiltFor, IsLimit, IsThere, entries_of};
+ghost use Rattle.std.specs.List.Sorted.{IsStrictlyIncreasing};
+ghost use Rattle.ms_dfa_explore.specs.Explored.{OnRefused};
+ghost use Rattle.ms_build.specs.Built.{AreBuiltFor, IsLimit, IsThere, IsWithin, entries_of};
+ghost use Rattle.ms_build.specs.Short.{ChildLacks};
 ghost use Rattle.ms_build.specs.Roots.{AreRootVariables, IsOverRoot, IsReadInSource, named};
 
 use crate::children::brought;
@@ -37,9 +40,14 @@ pub(crate) fn over_variables(
     requires there { IsThere plan.now (length built.now) child.now.node }
     requires read { IsReadInSource (entries_of plan.now) plan.now.dag.now.orders child.now }
     requires variables { AreRootVariables child.now variables.now }
-    ensures { IfOk result (IsOverRoot plan.now child.now variables.now) }
+    requires rising { IsStrictlyIncreasing child.now.map }
+    ensures root { IfOk result (IsOverRoot plan.now child.now variables.now) }
+    ensures within { IfOk result (IsWithin plan.now.limit) }
+    ensures nodes { OnRefused result (λ refused. ChildLacks plan.now child.now (named plan.now.dag.now.orders variables.now)) }
 {
-    let part = brought(plan, built, child)?;
+    let Ok(part) = brought(plan, built, child) else {
+        return Err(StepFault::Memory);
+    };
     // The states tell that it is an automaton.
     let _ = part.states();
     let Ok(tracks) = root_tracks(plan, variables) else {

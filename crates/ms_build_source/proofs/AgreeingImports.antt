@@ -13,22 +13,22 @@ use Rattle.ms_logic.specs.Truth.{Import}
 use Rattle.ms_logic.proofs.Agreement.{universe-assign}
 use Rattle.ms_logic.proofs.AssignedValues.{value_at-assign, value_at-assign_other}
 use Rattle.ms_logic_core.specs.Stands.{Stands, EachStands, RestrictionStands}
-use Rattle.ms_logic.specs.Lists.{Among, Each}
+use Rattle.ms_logic.specs.Lists.{Each, IsAmong}
 use Rattle.ms_logic_spread.proofs.Equivalences.{iff_both, iff_either, iff_itself, iff_three, kept_none_or, kept_some}
 use Rattle.ms_build_source.specs.inner.Asked.{AnswerAlike, HasValueIn}
 
 -- an environment that has a universe of the mode, and values of the variables in scope
 pub record IsIn (mode : Mode) (scope : List Variable) (e : Env) : Type 0 where
   pub universe : IsUniverseOf mode e.universe
-  pub values : (v : Variable) → Among scope v → HasValueIn e v
+  pub values : (v : Variable) → IsAmong scope v → HasValueIn e v
 
 -- what stands in scope has a value
-values_among : (scope : List Variable) (e : Env) (vs : List Variable) → ((v : Variable) → Among scope v → HasValueIn e v) → Each (Among scope) vs → Each (HasValueIn e) vs
+values_among : (scope : List Variable) (e : Env) (vs : List Variable) → ((v : Variable) → IsAmong scope v → HasValueIn e v) → Each (IsAmong scope) vs → Each (HasValueIn e) vs
 values_among scope e [] have among = tt
 values_among scope e (v ∷ vs) have among = (have v among.0, values_among scope e vs have among.1)
 
 -- each variable in scope has the property
-among_each : (P : Variable → Type 0) (scope : List Variable) → Each P scope → (v : Variable) → Among scope v → P v
+among_each : (P : Variable → Type 0) (scope : List Variable) → Each P scope → (v : Variable) → IsAmong scope v → P v
 among_each P [] each v among = absurd among
 among_each P (w ∷ ws) each v among = ⊎_elim (λ here. subst P here each.0) (λ later. among_each P ws each.1 v later) among
 

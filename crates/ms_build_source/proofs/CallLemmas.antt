@@ -13,12 +13,11 @@ use Rattle.ms_logic_core.specs.CoreForm.{CoreForm, falsity, imported, restrict}
 use Rattle.ms_logic_core.specs.Spread.{Callees, callees_with_all, variables_of_import}
 use Rattle.ms_logic.specs.Tree.{Predicate}
 use Rattle.ms_logic.specs.Truth.{Given}
-use Rattle.ms_logic.specs.View.{predicate_of, problem_of}
+use Rattle.ms_logic.specs.View.{predicate_of, problem_of, Answers}
 use Rattle.ms_lower.specs.declared.tables.Tables.{Tables}
 use Rattle.ms_lower.specs.Bodies.{body_in, called_in}
 use Rattle.ms_lower.specs.Callees.{IsTablesOf}
 use Rattle.ms_lower.specs.Calling.{called_at, calls_of, free_at, names_at}
-use Rattle.ms_lower.specs.Measure.{Answers}
 use Rattle.ms_lower.specs.Numbering.{Numbering, number_at, renumbered}
 use Rattle.ms_lower.proofs.SourceTables.{all_callable, body_same, same_count, same_variables}
 use Rattle.ms_names_rules.specs.Numbers.{IsWellNumbered, globals_seen, tables_of}

@@ -1,10 +1,10 @@
 -- The worked examples: what an automaton says that is lent.
 use Rattle.std.proofs.Common.{[], ◌∷◌, None, refl, sym, ap}
-use Rattle.ms_build.specs.Built.{answer_for}
 use Rattle.ms_logic.specs.declared.assignment.Value.TheVariants.{Set}
 use Rattle.ms_logic.specs.declared.mode.Mode.TheVariants.{Ws1s}
 use Rattle.ms_logic_words.specs.inner.ContentExamples.{encodings_content}
 use Rattle.ms_logic_words.specs.Content.{answer_by, env_of, shortest_word, sign_at}
+use Rattle.ms_logic_words.specs.Signs.{answer_for}
 use Rattle.ms_logic.specs.Truth.{answer_no, answer_yes}
 use Rattle.ms_logic_words.proofs.SubsetRuns.{last_of_true}
 use Rattle.ms_build_source.specs.inner.Examples.{import_of_sets}

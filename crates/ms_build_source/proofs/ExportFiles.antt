@@ -14,12 +14,11 @@ use Rattle.ms_logic.specs.declared.checked.ExportUse.{ExportUse}
 use Rattle.ms_logic.specs.declared.mode.Mode.{Mode}
 use Rattle.ms_logic_words.specs.declared.sign.Sign.{Sign}
 use Rattle.ms_logic_words.specs.Content.{Content}
-use Rattle.ms_logic.specs.View.{problem_of}
-use Rattle.ms_lower.specs.Measure.{Answers}
+use Rattle.ms_logic.specs.View.{problem_of, Answers}
 use Rattle.ms_logic.specs.Lists.{Each}
 use Rattle.ms_names_rules.specs.Numbers.{IsWellNumbered}
 use Rattle.ms_build_source.specs.inner.Copies.{AreRootCopies, HaveRoots, IsRootCopy}
-use Rattle.ms_build_source.specs.inner.Graph.{IsGraphOf}
+use Rattle.ms_build_source.specs.Graph.{IsGraphOf}
 use Rattle.ms_build_source.specs.Imported.{AreAnswersOf, AreLentFor}
 use Rattle.ms_build_source.specs.Solution.{AreExportFiles, IsSmall}
 use Rattle.ms_build_source.specs.Values.{HasMainValue, IsExportFile, IsFileOf, form_meaning}

@@ -3,7 +3,6 @@ use Rattle.std.proofs.Common.{◌≡◌, ℕ, inl, inr, ⊎_elim, List, [], ◌�
 use Rattle.std.proofs.lemmas.List.Elements.{All-contains}
 use Rattle.ms_build.proofs.WholeLemmas.{rising_equal}
 use Rattle.ms_names_checked.specs.Exports.{ExportListsFree, ListsFree, ListsFreeVariables}
-use Rattle.ms_dfa_explore.specs.Tracks.{IsAmong}
 use Rattle.ms_build_source.proofs.SharedRoots.{each_all}
 use Rattle.ms_build_source.proofs.Unexported.{forms_numbered}
 use Rattle.ms_logic.specs.declared.checked.Checked.{Checked}
@@ -14,10 +13,9 @@ use Rattle.ms_logic.specs.FreeVariables.{IsListed}
 use Rattle.ms_logic_core.specs.Roots.{AreFreeVariables, Export, exports_among, exports_in}
 use Rattle.ms_logic.specs.Tree.{Form, truth, falsity, truth_variable, negation, conjunction, disjunction, implication, equivalence, comparison, set_comparison, membership, emptiness, quantified, where_let, call, restrict, imported, exported, default_at, Forms, no_forms, more_forms}
 use Rattle.ms_logic.specs.Truth.{Given}
-use Rattle.ms_logic.specs.View.{problem_of}
-use Rattle.ms_lower.specs.Measure.{Answers}
+use Rattle.ms_logic.specs.View.{problem_of, Answers}
 use Rattle.ms_names_rules.specs.Numbers.{AreNumbered, ExportSees, IsNumbered, IsWellNumbered, Tables, globals_seen, tables_of}
-use Rattle.ms_logic.specs.Lists.{Each}
+use Rattle.ms_logic.specs.Lists.{Each, IsAmong}
 use Rattle.ms_names_rules.proofs.Fitting.{each-append}
 use Rattle.ms_logic_spread.specs.RootLaws.{IsExported}
 

@@ -17,7 +17,7 @@ use Rattle.ms_logic.specs.View.{formula_of, forms, globals_from, problem_of}
 use Rattle.ms_lower.specs.Lowered.{ExportsFit, ExportsFitEach, reads_of}
 use Rattle.ms_lower.specs.NumberedRoots.{globals_over, order_seen, variables_of_export, with_orders}
 use Rattle.ms_names_rules.specs.Numbers as numbers
-use Rattle.ms_names_rules.specs.Numbers.{AreNumbered, CountUp, IsNew, IsNumbered, IsWellNumbered, Tables, globals_seen, tables_of}
+use Rattle.ms_names_rules.specs.Numbers.{AreNumbered, CountUp, IsNew, IsNumbered, Tables, globals_seen, tables_of}
 use Rattle.ms_logic.specs.Lists.{Each}
 use Rattle.ms_names_rules.proofs.Fitting.{each-back, each-front}
 use Rattle.ms_logic_spread.proofs.Seen.{IsWithin, ReadSeen, forms_seen, free_seen}

@@ -11,10 +11,9 @@ use Rattle.ms_logic_core.specs.Roots.{IsRoot, Root, exports_among, export_root, 
 use Rattle.ms_logic_core.specs.Spread.{Callees, Names, callees_of, own_names, restrictions_of, spread_each}
 use Rattle.ms_logic.specs.Tree.{Declaration}
 use Rattle.ms_logic.specs.Truth.{Given}
-use Rattle.ms_logic.specs.View.{problem_of}
+use Rattle.ms_logic.specs.View.{problem_of, Answers}
 use Rattle.ms_lower.specs.Calling.{calling, calling_numbers, calls_of, plain_numbers}
 use Rattle.ms_lower.specs.Lowered.{IsCallingRootFor, IsRootFor, IsRootOver, ListsVariables, reads_of}
-use Rattle.ms_lower.specs.Measure.{Answers}
 use Rattle.ms_lower.specs.NumberLaws.{numbering_in}
 use Rattle.ms_lower.specs.Numbering.{number_at, renumbered, renumbered_variable, with_new_numbers}
 use Rattle.ms_lower.proofs.KeptScopes.{keep_scopes}

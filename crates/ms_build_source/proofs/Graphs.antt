@@ -11,11 +11,11 @@ use Rattle.ms_build_source.proofs.FilledRoots.{sources_have_roots}
 use Rattle.ms_build_source.proofs.SharedRoots.{sources_are_shared}
 use Rattle.ms_logic.specs.declared.checked.Checked.{Checked}
 use Rattle.ms_logic_core.specs.declared.core_formula.Lowered.{Lowered}
-use Rattle.ms_logic.specs.View.{problem_of}
+use Rattle.ms_logic.specs.View.{problem_of, Answers}
 use Rattle.ms_lower.specs.Lowered.{HasCallingRoots, HasRoots, ListsVariables}
-use Rattle.ms_lower.specs.Measure.{Answers, IsMeasure}
+use Rattle.ms_lower.specs.Measure.{IsMeasure}
 use Rattle.ms_names_rules.specs.Numbers.{IsWellNumbered}
-use Rattle.ms_build_source.specs.inner.Graph.{IsGraphOf, calls_in}
+use Rattle.ms_build_source.specs.Graph.{IsGraphOf, calls_in}
 use Rattle.ms_build_source.specs.Limits.{IsWithinLimits}
 
 module _ (checked : Checked) (well : IsWellNumbered checked) (exports : ListsFreeVariables checked) (lowered : Lowered)

@@ -26,8 +26,7 @@ use Rattle.ms_logic_core.specs.CoreForm.{CoreForm, truth, falsity, basic, negati
 use Rattle.ms_logic_core.specs.Spread.{variables_of_import}
 use Rattle.ms_logic_core.specs.Operands.{variables_at}
 use Rattle.ms_logic.specs.Truth.{Answer, Import as Imported}
-use Rattle.ms_logic.specs.View.{import_of, problem_of}
-use Rattle.ms_lower.specs.Measure.{Answers}
+use Rattle.ms_logic.specs.View.{import_of, problem_of, Answers}
 use Rattle.ms_logic.specs.Lists.{Each}
 use Rattle.ms_build_source.specs.inner.Asked.{AnswerAlike, HasValueIn}
 use Rattle.ms_build_source.specs.Imported.{AreAnswersOf, AreLentFor, IsAnswerOf, IsLentFor, orders_of_pairs}

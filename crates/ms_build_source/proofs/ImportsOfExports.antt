@@ -8,10 +8,9 @@ use Rattle.ms_logic_core.specs.CoreForm.{core_form_of}
 use Rattle.ms_logic_core.specs.Roots.{Export, Root, IsRoot, exports_among, exports_in, first_free}
 use Rattle.ms_logic_core.specs.Spread.{callees_of, own_names}
 use Rattle.ms_logic.specs.Tree.{Form, truth, falsity, truth_variable, negation, conjunction, disjunction, implication, equivalence, comparison, set_comparison, membership, emptiness, quantified, where_let, call, restrict, imported, exported, default_at, Forms, no_forms, more_forms}
-use Rattle.ms_logic.specs.View.{problem_of}
+use Rattle.ms_logic.specs.View.{problem_of, Answers}
 use Rattle.ms_logic_core.specs.Calls.{filled}
 use Rattle.ms_lower.specs.Calling.{calls_of}
-use Rattle.ms_lower.specs.Measure.{Answers}
 use Rattle.ms_lower.specs.NumberLaws.{numbering_in}
 use Rattle.ms_lower.specs.Numbering.{renumbered}
 use Rattle.ms_names_rules.specs.Numbers.{AreNumbered, IsNumbered, IsWellNumbered, Tables, globals_seen, tables_of}

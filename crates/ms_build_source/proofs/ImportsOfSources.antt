@@ -5,8 +5,7 @@ use Rattle.ms_logic_core.specs.CoreForm.{CoreForm, truth, falsity, basic, negati
 use Rattle.ms_logic_core.specs.Roots.{first_free, main_root}
 use Rattle.ms_logic_core.specs.Spread.{callees_of, own_names, restrictions_of, spread_each}
 use Rattle.ms_logic.specs.Verdict.{variables_of}
-use Rattle.ms_logic.specs.View.{problem_of}
-use Rattle.ms_lower.specs.Measure.{Answers}
+use Rattle.ms_logic.specs.View.{problem_of, Answers}
 use Rattle.ms_lower.specs.Numbering.{Numbering, renumbered, renumbered_each, renumbered_in}
 use Rattle.ms_names_rules.specs.Numbers.{IsWellNumbered, globals_seen, tables_of}
 use Rattle.ms_dag.specs.Imports.{EachImportsBelow, ImportsBelow, RestrictionImportsBelow}

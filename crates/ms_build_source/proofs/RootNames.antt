@@ -14,10 +14,10 @@ use Rattle.ms_logic_words.specs.declared.sign.Sign.{Sign}
 use Rattle.ms_logic.specs.Assignment.{Variable}
 use Rattle.ms_logic_words.specs.Content.{Content}
 use Rattle.ms_logic_core.specs.Roots.{Root}
-use Rattle.ms_lower.specs.Measure.{Answers}
+use Rattle.ms_logic.specs.View.{Answers}
 use Rattle.ms_names_rules.specs.Numbers.{IsWellNumbered}
 use Rattle.ms_build_source.specs.inner.Copies.{HaveRoots}
-use Rattle.ms_build_source.specs.inner.Graph.{IsGraphOf, calls_in}
+use Rattle.ms_build_source.specs.Graph.{IsGraphOf, calls_in}
 use Rattle.ms_build_source.proofs.ExportNames.{entry_lists, entry_named}
 use Rattle.ms_build_source.specs.Moved.{HaveSameOrders}
 use Rattle.ms_build_source.proofs.RootValues.{answer_orders, root_beside, roots_counted}

@@ -22,17 +22,16 @@ use Rattle.ms_logic.specs.Assignment.{Env, Variable, GivesEach, IsAssignment}
 use Rattle.ms_logic_words.specs.Content.{Content}
 use Rattle.ms_logic_core.specs.CoreForm.{CoreNo, CoreYes, core_form_of}
 use Rattle.ms_logic_core.specs.Roots.{AreFreeVariables, Root}
-use Rattle.ms_logic.specs.Lists.{AreRising, Among, Each}
+use Rattle.ms_logic.specs.Lists.{AreRising, Each, IsAmong}
 use Rattle.ms_logic_core.specs.SameUpToBound.{AnswerToEachOther, SameRoot}
 use Rattle.ms_logic.specs.Tree.{Form}
 use Rattle.ms_logic.specs.Truth as truth
 use Rattle.ms_logic.specs.Verdict.{Problem, variables_of}
-use Rattle.ms_logic.specs.View.{problem_of}
+use Rattle.ms_logic.specs.View.{problem_of, Answers}
 use Rattle.ms_logic_words.specs.Word.{Encodes}
 use Rattle.ms_dfa.proofs.OrdersLemmas.{orders_of, over-same}
 use Rattle.ms_dfa.specs.Automaton.{IsAutomaton}
 use Rattle.ms_lower.specs.Lowered.{IsRootFor}
-use Rattle.ms_lower.specs.Measure.{Answers}
 use Rattle.ms_project.proofs.AlwaysLemmas.{sign_moves}
 use Rattle.ms_names_rules.specs.Numbers.{IsWellNumbered}
 use Rattle.ms_logic_spread.specs.RootLaws.{IsExported, RootNo, RootYes}
@@ -41,7 +40,7 @@ use Rattle.ms_logic_spread.proofs.Roots.{roots_keep_values}
 use Rattle.ms_logic_spread.proofs.SameRoots.{same_main_root_keeps_value, same_roots_have_one_value}
 use Rattle.ms_dfa.specs.Values.{HasValues, core_meaning, main_meaning, meaning_by}
 use Rattle.ms_build_source.specs.inner.Asked.{HasValueIn}
-use Rattle.ms_build_source.specs.inner.Graph.{IsGraphOf, calls_in}
+use Rattle.ms_build_source.specs.Graph.{IsGraphOf, calls_in}
 use Rattle.ms_build_source.specs.Imported.{AreAnswersOf, AreLentFor}
 use Rattle.ms_build_source.specs.Values.{HasMainValue, form_meaning}
 use Rattle.ms_build_source.proofs.AgreeingImports.{IsIn, one_value}
@@ -76,7 +75,7 @@ named_again orders [] each = refl
 named_again orders (v ∷ vs) each = ap₂ (λ (u : Variable) us. u ∷ us) (ap (λ o. record { name = v.name; order = o }) each.0) (named_again orders vs each.1)
 
 -- each variable of an assignment has a value
-value_among : (vs : List Variable) (e : Env) → GivesEach vs e → (v : Variable) → Among vs v → HasValueIn e v
+value_among : (vs : List Variable) (e : Env) → GivesEach vs e → (v : Variable) → IsAmong vs v → HasValueIn e v
 value_among [] e gives v among = absurd among
 value_among (w ∷ vs) e gives v among = ⊎_elim (λ here. subst (HasValueIn e) here gives.0) (λ later. value_among vs e gives.1 v later) among
 

@@ -6,7 +6,7 @@ use Rattle.std.specs.List.Sorted.{IsStrictlyIncreasing}
 use Rattle.ms_logic.specs.declared.mode.Order.{Order}
 use Rattle.ms_logic.specs.Assignment.{Variable}
 use Rattle.ms_logic_core.specs.CoreForm.{CoreForm, truth, falsity, basic, negation, conjunction, disjunction, implication, equivalence, restrict, imported, quantified, CoreForms, no_forms, more_forms, CoreRestriction, unrestricted, restricted}
-use Rattle.ms_logic.specs.Lists.{AreRising, Among, Each}
+use Rattle.ms_logic.specs.Lists.{AreRising, Each, IsAmong}
 use Rattle.ms_logic_core.specs.Spread.{variables_of_import}
 use Rattle.ms_logic_core.specs.Operands.{variables_at, variables_of_basic}
 use Rattle.ms_logic.specs.Truth.{Import}
@@ -16,11 +16,11 @@ use Rattle.ms_logic_core.specs.Stands.{EachStands, RestrictionStands, Stands}
 use Rattle.ms_dag.specs.Laws.{EachHasItsOrders, HasOrder, HaveTheirOrders, RestrictionHasItsOrders}
 
 -- what holds of all in a scope holds of what is among them
-among_has : (P : Variable → Type 0) (scope : List Variable) (v : Variable) → Each P scope → Among scope v → P v
+among_has : (P : Variable → Type 0) (scope : List Variable) (v : Variable) → Each P scope → IsAmong scope v → P v
 among_has P [] v each among = absurd among
 among_has P (w ∷ ws) v each among = ⊎_elim (λ here. subst P here each.0) (λ later. among_has P ws v each.1 later) among
 
-all_among : (P : Variable → Type 0) (scope vs : List Variable) → Each P scope → Each (Among scope) vs → All P vs
+all_among : (P : Variable → Type 0) (scope vs : List Variable) → Each P scope → Each (IsAmong scope) vs → All P vs
 all_among P scope [] each among = All-nil P
 all_among P scope (v ∷ vs) each among = All-cons P v vs (among_has P scope v each among.0) (all_among P scope vs each among.1)
 

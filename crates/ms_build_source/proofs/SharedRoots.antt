@@ -21,10 +21,9 @@ use Rattle.ms_logic.specs.FreeVariables.{FreeUnder, IsListed}
 use Rattle.ms_logic_core.specs.Roots.{Export, IsRoot, Root, exports_among, exports_in, first_free}
 use Rattle.ms_logic.specs.Tree.{Form, truth, falsity, truth_variable, negation, conjunction, disjunction, implication, equivalence, comparison, set_comparison, membership, emptiness, quantified, where_let, call, restrict, imported, exported, default_at, Forms, no_forms, more_forms}
 use Rattle.ms_logic.specs.Truth.{Given}
-use Rattle.ms_logic.specs.View.{globals_from, problem_of}
+use Rattle.ms_logic.specs.View.{globals_from, problem_of, Answers}
 use Rattle.ms_lower.specs.Calling.{calls_of}
 use Rattle.ms_lower.specs.Lowered.{IsRootFor, ListsVariables, reads_of}
-use Rattle.ms_lower.specs.Measure.{Answers}
 use Rattle.ms_lower.specs.NumberLaws.{numbering_in}
 use Rattle.ms_lower.specs.Numbering.{number_at, renumbered}
 use Rattle.ms_lower.specs.inner.Orders.{BoundHaveOrders}

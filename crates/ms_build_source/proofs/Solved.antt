@@ -2,7 +2,8 @@
 use Rattle.std.proofs.Common.{◌≡◌, ◌⊎◌, inl, inr, ℕ, suc, ◌+◌, Bool, true, false, ◌<◌, ◌≤◌, List, [], ◌∷◌, length, map, refl, sym, ap, subst, ◌∙◌, arith}
 use Rattle.std.proofs.lemmas.List.{length-map}
 use Rattle.ms_build.specs.declared.built.Built.{Built}
-use Rattle.ms_build.specs.Built.{AreImportsOf, IsBuiltOver, IsLimit, IsStepRefused, answer_for}
+use Rattle.ms_build.specs.Built.{AreImportsOf, IsBuiltOver, IsLimit}
+use Rattle.ms_build.specs.Short.{IsPlanOf, IsStepRefused, IsUnbuilt, NodeLacks, RootLacks}
 use Rattle.ms_build.specs.declared.plan.Plan.{Plan}
 use Rattle.ms_build.specs.Roots.{AreRootsRead, IsRootAt}
 use Rattle.ms_build.proofs.RootLemmas.{roots_read}
@@ -21,15 +22,15 @@ use Rattle.ms_logic.specs.declared.checked.ImportUse.{ImportUse}
 use Rattle.ms_logic.specs.declared.mode.Mode.{Mode}
 use Rattle.ms_logic_words.specs.declared.sign.Sign.{Sign}
 use Rattle.ms_logic_words.specs.Content.{Content, answer_of}
+use Rattle.ms_logic_words.specs.Signs.{answer_for}
 use Rattle.ms_logic_core.specs.Size.{depth_of_source, size_of_source}
-use Rattle.ms_logic.specs.View.{problem_of}
-use Rattle.ms_lower.specs.Measure.{Answers}
+use Rattle.ms_logic.specs.View.{problem_of, Answers}
 use Rattle.ms_logic.specs.Lists.{Each}
 use Rattle.ms_names_rules.specs.Numbers.{IsWellNumbered}
 use Rattle.ms_build_source.specs.CallsOfSources.{silent_answers}
 use Rattle.ms_build_source.proofs.CallLemmas.{silent_counted}
 use Rattle.ms_build_source.specs.inner.Copies.{AreAskedCopies, HaveRoots, IsReady, IsRootRefused}
-use Rattle.ms_build_source.specs.inner.Graph.{IsGraphOf, calls_in}
+use Rattle.ms_build_source.specs.Graph.{IsGraphOf, calls_in}
 use Rattle.ms_build_source.specs.Imported.{AreAnswersOf, AreLentFor}
 use Rattle.ms_build_source.specs.Limits.{IsUnsolved, IsWithinLimits, lacks_nodes}
 use Rattle.ms_build_source.specs.Solution.{HasExports, IsSmall}
@@ -58,11 +59,22 @@ are_own_answers mode [] (content ∷ contents) lent = absurd lent
 are_own_answers mode (used ∷ uses) [] lent = absurd lent
 are_own_answers mode (used ∷ uses) (content ∷ contents) lent = (λ universe values is are. refl, are_own_answers mode uses contents lent.1)
 
--- a step that was refused
-pub step_refused : (count limit : ℕ) (refusal : Refusal) → IsStepRefused count limit refusal → (refusal ≡ Memory) ⊎ ((step : ℕ) × (refusal ≡ Nodes step limit))
-step_refused count limit (Nodes step named) is = inr (step, ap (Nodes step) is.1)
-step_refused count limit Memory is = inl refl
-step_refused count limit refusal is = absurd is
+-- memory was refused, or a step of a graph lacks nodes
+abbrev pub Lacks : List (Content Sign) → Mode → Dag → ℕ → Refusal → Type 0
+Lacks contents mode dag limit refusal =
+    (refusal ≡ Memory)
+    ⊎ ((step : ℕ) × (refusal ≡ Nodes step limit)
+    × ((plan : Plan) × IsPlanOf contents mode dag limit plan × (NodeLacks plan step ⊎ ((root : ℕ) × (step ≡ length dag.entries + root) × RootLacks plan root))))
+
+-- work on a node is a step
+node_refused : (contents : List (Content Sign)) (mode : Mode) (dag : Dag) (limit : ℕ) (plan : Plan) (refusal : Refusal) → IsPlanOf contents mode dag limit plan → IsStepRefused plan refusal
+    → Lacks contents mode dag limit refusal
+node_refused contents mode dag limit plan (Nodes step named) is refused = inr (step, ap (Nodes step) (refused.0 ∙ is.limit_is), (plan, is, inl refused.1))
+node_refused contents mode dag limit plan Memory is refused = inl refl
+node_refused contents mode dag limit plan refusal is refused = absurd refused
+
+pub step_of_node : (contents : List (Content Sign)) (mode : Mode) (dag : Dag) (limit : ℕ) (refusal : Refusal) → IsUnbuilt contents mode dag limit refusal → Lacks contents mode dag limit refusal
+step_of_node contents mode dag limit refusal (plan, is, refused) = node_refused contents mode dag limit plan refusal is refused
 
 module _ (checked : Checked) (well : IsWellNumbered checked) (exports : ListsFreeVariables checked) (contents : List (Content Sign)) (lent : AreLentFor checked.mode checked.imports contents) (dag : Dag)
     (graphs : (answers : Answers) → length answers ≡ length checked.imports → IsGraphOf checked answers dag) where
@@ -131,16 +143,23 @@ pub small_asked : (asked : Bool) (plan : Plan) (uses : List ExportUse) (plains :
 small_asked false plan uses plains none = subst (Each IsSmall) (sym none) tt
 small_asked true plan uses plains copies = all_small plan 1 uses plains copies
 
--- work on a root is a step
-pub step_of_root : (built : Built) (root limit : ℕ) (refusal : Refusal) → IsRootRefused built root limit refusal → (refusal ≡ Memory) ⊎ ((step : ℕ) × (refusal ≡ Nodes step limit))
-step_of_root built root limit refusal (inl memory) = inl memory
-step_of_root built root limit refusal (inr is) = inr (length built.automata + root, is)
+-- what is built is built by the plan
+built_by_plan : (contents : List (Content Sign)) (mode : Mode) (dag : Dag) (limit : ℕ) (built : Built) → IsBuiltOver contents mode dag built → built.plan.limit ≡ limit → IsPlanOf contents mode dag limit built.plan
+built_by_plan contents mode dag limit built over limited = record { imports_are = over.imports_are; mode_is = over.mode_is; dag_is = over.dag_is; limit_is = limited }
 
--- after the graph was made, what is refused is a step
-pub unsolved : (checked : Checked) (dag : Dag) → ((answers : Answers) → length answers ≡ length checked.imports → IsGraphOf checked answers dag) → (limit : ℕ) (refusal : Refusal)
-    → (refusal ≡ Memory) ⊎ ((step : ℕ) × (refusal ≡ Nodes step limit)) → (answers : Answers) → length answers ≡ length checked.imports → (refusal ≡ Memory) ⊎ IsUnsolved checked answers limit refusal
-unsolved checked dag graphs limit refusal (inl memory) answers long = inl memory
-unsolved checked dag graphs limit refusal (inr (step, is)) answers long = inr (lacks_nodes (graph_within checked answers dag (graphs answers long)) step is)
+-- work on a root is a step
+pub step_of_root : (contents : List (Content Sign)) (mode : Mode) (dag : Dag) (limit : ℕ) (built : Built) (root : ℕ) (refusal : Refusal) → IsBuiltOver contents mode dag built → built.plan.limit ≡ limit
+    → IsRootRefused built root limit refusal → Lacks contents mode dag limit refusal
+step_of_root contents mode dag limit built root refusal over limited (inl memory) = inl memory
+step_of_root contents mode dag limit built root refusal over limited (inr (is, lacks)) =
+    inr (length built.automata + root, is, (built.plan, built_by_plan contents mode dag limit built over limited, inr (root, ap (λ n. n + root) over.all, lacks)))
+
+-- after the graph was made, what is refused is a step that lacks nodes
+pub unsolved : (checked : Checked) (dag : Dag) → ((answers : Answers) → length answers ≡ length checked.imports → IsGraphOf checked answers dag) → (contents : List (Content Sign)) (limit : ℕ) (refusal : Refusal)
+    → Lacks contents checked.mode dag limit refusal → (answers : Answers) → length answers ≡ length checked.imports → (refusal ≡ Memory) ⊎ IsUnsolved checked answers contents limit refusal
+unsolved checked dag graphs contents limit refusal (inl memory) answers long = inl memory
+unsolved checked dag graphs contents limit refusal (inr (step, is, (plan, is_plan, lacks))) answers long =
+    inr (lacks_nodes (graph_within checked answers dag (graphs answers long)) step (record { dag = dag; is_graph = graphs answers long; plan = plan; is_plan = is_plan; lacks = lacks }) is)
 
 -- the size and the depth of a source are within the limits, whatever its imports answer
 pub all_within : (checked : Checked) (dag : Dag) → ((answers : Answers) → length answers ≡ length checked.imports → IsGraphOf checked answers dag) → (size depth : ℕ)

@@ -1,27 +1,25 @@
 -- A checked source, with the answers of its imports, is one whose calls are filled in.
 use Rattle.std.proofs.Common.{◌≡◌, ℕ, zero, suc, ◌+◌, ◌<◌, List, [], ◌∷◌, length, map, slice_get, inl, inr, refl, ap, subst, arith}
 use Rattle.std.specs.List.{zip}
-use Rattle.ms_logic.specs.declared.assignment.Value.{Value}
 use Rattle.ms_logic.specs.declared.checked.Checked.{Checked}
 use Rattle.ms_logic.specs.declared.checked.Global.{Global}
 use Rattle.ms_logic.specs.declared.checked.ImportUse.{ImportUse}
 use Rattle.ms_logic.specs.declared.mode.Order.{Order}
-use Rattle.ms_logic.specs.Assignment.{Universe, Variable}
+use Rattle.ms_logic.specs.Assignment.{Variable}
 use Rattle.ms_logic.specs.FreeVariables.{IsListed}
 use Rattle.ms_logic_core.specs.Spread.{variables_of_import}
-use Rattle.ms_logic.specs.Truth.{Answer}
-use Rattle.ms_logic.specs.View.{globals_from, import_of, problem_of}
+use Rattle.ms_logic.specs.View.{globals_from, import_of, problem_of, Answers}
 use Rattle.ms_names_rules.specs.Numbers.{IsWellNumbered, globals_seen, tables_of}
 use Rattle.ms_lower.specs.Numbering.{variables_of_use}
 use Rattle.ms_lower.proofs.TermScopes.{variable}
 use Rattle.ms_build_source.specs.inner.Filling.{IsSource}
 
-imports_counted : (uses : List ImportUse) (answers : List (Universe → List Value → Answer)) → length answers ≡ length uses → length uses ≡ length (map (λ p. import_of p.0 p.1) (zip uses answers))
+imports_counted : (uses : List ImportUse) (answers : Answers) → length answers ≡ length uses → length uses ≡ length (map (λ p. import_of p.0 p.1) (zip uses answers))
 imports_counted [] answers count = refl
 imports_counted (u ∷ uses) [] count = absurd (omega (arith, count))
 imports_counted (u ∷ uses) (answer ∷ answers) count = ap (λ k. suc k) (imports_counted uses answers (omega (arith, count)))
 
-imports_named : (uses : List ImportUse) (answers : List (Universe → List Value → Answer)) (i : ℕ) → length answers ≡ length uses →
+imports_named : (uses : List ImportUse) (answers : Answers) (i : ℕ) → length answers ≡ length uses →
     variables_of_import (slice_get (map (λ p. import_of p.0 p.1) (zip uses answers)) i) ≡ variables_of_use (slice_get uses i)
 imports_named [] answers zero count = refl
 imports_named [] answers (suc i) count = refl
@@ -45,7 +43,7 @@ globals_within first [] w listed = absurd listed
 globals_within first (g ∷ gs) w (inl here) = let is = here.0 in omega (arith, is)
 globals_within first (g ∷ gs) w (inr later) = let below = globals_within (first + 1) gs w later in omega (arith, below)
 
-pub source_is : (checked : Checked) (answers : List (Universe → List Value → Answer)) → length answers ≡ length checked.imports → IsWellNumbered checked →
+pub source_is : (checked : Checked) (answers : Answers) → length answers ≡ length checked.imports → IsWellNumbered checked →
     IsSource (problem_of checked answers).given (tables_of checked) (length checked.globals) (globals_seen checked)
 source_is checked answers count well = record {
   predicates_are = refl;

@@ -6,13 +6,11 @@ use Rattle.ms_logic.specs.declared.checked.ExportUse.{ExportUse}
 use Rattle.ms_logic.specs.declared.checked.Placed.{Placed}
 use Rattle.ms_logic.specs.Assignment.{Variable}
 use Rattle.ms_logic.specs.FreeVariables.{FreeInRestrictions, IsListed}
-use Rattle.ms_logic_core.specs.Roots.{Export}
 use Rattle.ms_logic_core.specs.Roots as roots
 use Rattle.ms_logic.specs.Tree.{Form, truth, falsity, truth_variable, negation, conjunction, disjunction, implication, equivalence, comparison, set_comparison, membership, emptiness, quantified, where_let, call, restrict, imported, exported, default_at, Forms, no_forms, more_forms, Declaration}
 use Rattle.ms_logic.specs.Truth.{Given}
-use Rattle.ms_logic.specs.View.{formula_of, forms, globals_from, problem_of}
+use Rattle.ms_logic.specs.View.{formula_of, forms, globals_from, problem_of, Answers}
 use Rattle.ms_lower.specs.Lowered.{ExportsFit, ExportsFitEach, reads_of}
-use Rattle.ms_lower.specs.Measure.{Answers}
 use Rattle.ms_names_rules.specs.Numbers as numbers
 use Rattle.ms_names_rules.specs.Numbers.{AreNumbered, CountUp, IsNumbered, IsNumberedRestriction, IsWellNumbered, globals_seen, tables_of}
 use Rattle.ms_logic.specs.Lists.{Each}

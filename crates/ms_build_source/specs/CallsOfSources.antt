@@ -6,9 +6,8 @@ use Rattle.ms_logic.specs.declared.checked.Checked.{Checked}
 use Rattle.ms_logic.specs.declared.checked.ImportUse.{ImportUse}
 use Rattle.ms_logic.specs.Assignment.{Universe}
 use Rattle.ms_logic.specs.Truth.{Answer, answer_undefined}
-use Rattle.ms_logic.specs.View.{problem_of}
+use Rattle.ms_logic.specs.View.{problem_of, Answers}
 use Rattle.ms_lower.specs.Calling.{calls_of}
-use Rattle.ms_lower.specs.Measure.{Answers}
 
 -- an import that answers nothing
 abbrev pub silent : ImportUse → Universe → List Value → Answer

@@ -1,6 +1,5 @@
 -- The automata that are lent for the imports of a source, and the answers that they stand for.
 use Rattle.std.specs.Prelude.{◌≡◌, List, [], ◌∷◌, map}
-use Rattle.ms_build.specs.Built.{answer_for}
 use Rattle.ms_logic.specs.declared.assignment.Value.{Value}
 use Rattle.ms_logic.specs.declared.checked.ImportUse.{ImportUse}
 use Rattle.ms_logic.specs.declared.mode.Mode.{Mode}
@@ -8,8 +7,9 @@ use Rattle.ms_logic.specs.declared.mode.Order.{Order}
 use Rattle.ms_logic_words.specs.declared.sign.Sign.{Sign}
 use Rattle.ms_logic.specs.Assignment.{Universe, AreValuesOf, IsUniverseOf}
 use Rattle.ms_logic_words.specs.Content.{Content, answer_of, variables_by_place}
+use Rattle.ms_logic_words.specs.Signs.{answer_for}
 use Rattle.ms_logic.specs.Truth.{Answer}
-use Rattle.ms_lower.specs.Measure.{Answers}
+use Rattle.ms_logic.specs.View.{Answers}
 
 -- the orders of the variables that an import names, in the order of its pairs
 abbrev pub orders_of_pairs : ImportUse → List Order

@@ -1,5 +1,6 @@
 pub mod CallsOfSources
 pub mod ExportLaws
+pub mod Graph
 pub mod Imported
 pub mod Limits
 pub mod Moved

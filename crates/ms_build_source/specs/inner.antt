@@ -4,5 +4,4 @@ pub mod CallLaws
 pub mod Copies
 pub mod Examples
 pub mod Filling
-pub mod Graph
 pub mod HandoverLaws

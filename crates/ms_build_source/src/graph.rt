@@ -1,10 +1,9 @@
 ghost use Rattle.std.specs.Prelude.{◌≡◌, ◌⊎◌, length, IfOk, IfErr};
 ghost use Rattle.ms_names_checked.specs.Exports.{ListsFreeVariables};
 ghost use Rattle.ms_logic_core.specs.Size.{depth_of_source, size_of_source};
-ghost use Rattle.ms_logic.specs.View.{problem_of};
-ghost use Rattle.ms_lower.specs.Measure.{Answers};
+ghost use Rattle.ms_logic.specs.View.{problem_of, Answers};
 ghost use Rattle.ms_names_rules.specs.Numbers.{IsWellNumbered};
-ghost use Rattle.ms_build_source.specs.inner.Graph.{IsGraphOf};
+ghost use Rattle.ms_build_source.specs.Graph.{IsGraphOf};
 ghost use Rattle.ms_build_source.specs.Limits.{IsTooLarge};
 
 use crate::source_calls::SourceCalls;

@@ -1,4 +1,4 @@
-ghost use Rattle.std.specs.Prelude.{◌≡◌, ◌<◌, length, slice_get, IfOk, IfErr, Some};
+ghost use Rattle.std.specs.Prelude.{◌≡◌, ◌+◌, ◌<◌, ◌≤◌, length, slice_get, IfOk, IfErr, Some};
 ghost use Rattle.ms_build.specs.Roots.{IsRootAt};
 ghost use Rattle.ms_dag.specs.declared.dag.SharedRoot.{SharedRoot};
 ghost use Rattle.ms_build_source.specs.inner.Copies.{AreAskedCopies, AreRootCopies, HaveRoots, IsExportRefused, IsReady, IsRootCopy, IsRootRefused};
@@ -16,6 +16,7 @@ pub fn root_of(built: &Built, root: u32, limit: u64) -> Result<Automaton, Refusa
     requires ready { IsReady limit built.now }
     requires root { root < length built.now.plan.dag.now.roots }
     ensures root { IfOk result (IsRootAt built.now.plan root) }
+    ensures within { IfOk result (λ made. length made.nodes + length made.states ≤ limit) }
     ensures refused { IfErr result (IsRootRefused built.now root limit) }
 {
     match built.root(root) {
@@ -48,10 +49,8 @@ fn root_copy(
     match canonical(alloc, &automaton, names, limit) {
         Ok(content) => Ok(content),
         Err(StepFault::Memory) => Err(Refusal::Memory),
-        Err(StepFault::Nodes { .. }) => Err(Refusal::Nodes {
-            step: built.len() + root,
-            limit,
-        }),
+        // An automaton within the limit has a canonical content within it.
+        Err(StepFault::Nodes { .. }) => unreachable!(),
     }
 }
 

@@ -1,8 +1,7 @@
-ghost use Rattle.std.specs.Prelude.{◌≡◌, ◌⊎◌, length, map, IfOk, IfErr};
+ghost use Rattle.std.specs.Prelude.{◌≡◌, ◌⊎◌, ◌+◌, ◌≤◌, length, map, IfOk, IfErr};
 ghost use Rattle.ms_build.specs.Built.{IsLimit};
 ghost use Rattle.ms_names_checked.specs.Exports.{ListsFreeVariables};
-ghost use Rattle.ms_logic.specs.View.{problem_of};
-ghost use Rattle.ms_lower.specs.Measure.{Answers};
+ghost use Rattle.ms_logic.specs.View.{problem_of, Answers};
 ghost use Rattle.ms_logic.specs.Lists.{Each};
 ghost use Rattle.ms_names_rules.specs.Numbers.{IsWellNumbered};
 ghost use Rattle.ms_build_source.specs.Imported.{AreAnswersOf, AreLentFor};
@@ -60,9 +59,10 @@ pub fn solve(
         HasExports exports (problem_of checked.now answers) checked.now.exports made.exports) }
     ensures small { IfOk result (λ made. Each IsSmall made.exports) }
     ensures named { IfOk result IsNamed }
+    ensures fits { IfOk result (λ made. length made.automaton.nodes + length made.automaton.states ≤ limit) }
     ensures within { IfOk result (λ made. (answers : Answers) → IsWithinLimits (problem_of checked.now answers)) }
     ensures refused { IfErr result (λ refusal. (answers : Answers) → length answers ≡ length checked.now.imports →
-        (refusal ≡ Refusal.Memory) ⊎ IsUnsolved checked.now answers limit refusal) }
+        (refusal ≡ Refusal.Memory) ⊎ IsUnsolved checked.now answers imports.now limit refusal) }
 {
     let graph = graph_of(alloc, checked)?;
     let Ok(names) = names(alloc, checked.globals.slice()) else {

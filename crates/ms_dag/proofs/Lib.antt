@@ -1,5 +1,6 @@
 pub mod AboveLemmas
 pub mod BinderLemmas
+pub mod CodeLemmas
 pub mod Growth
 pub mod ImportLemmas
 pub mod ImportOrders
@@ -22,4 +23,3 @@ pub mod StandsLemmas
 pub mod TaskLemmas
 pub mod TurnLemmas
 pub mod UnionLemmas
-pub mod WordLemmas

@@ -9,7 +9,7 @@ use Rattle.ms_logic_core.specs.CoreForm.{CoreForm, truth, falsity, basic, negati
 use Rattle.ms_logic_core.specs.Spread.{variables_of_import}
 use Rattle.ms_logic_core.specs.Operands.{variable, variables_of_basic, variables_at}
 use Rattle.ms_logic.specs.Truth.{Import}
-use Rattle.ms_logic.specs.Lists.{Among, Each}
+use Rattle.ms_logic.specs.Lists.{Each, IsAmong}
 use Rattle.ms_logic_core.specs.Calls.{Calls, filled}
 use Rattle.ms_logic_core.specs.Stands.{Stands, EachStands, RestrictionStands}
 use Rattle.ms_dag.specs.Laws.{HasOrder, HaveTheirOrders, EachHasItsOrders, RestrictionHasItsOrders}
@@ -20,18 +20,18 @@ use Rattle.ms_dag.specs.inner.Scope.{IsInScope, AreInScope, IsRestrictionInScope
 abbrev names : List Variable → List ℕ
 names vs = map (λ v. v.name) vs
 
-name_among : (scope : List Variable) (v : Variable) → Among scope v → Contains (names scope) v.name
+name_among : (scope : List Variable) (v : Variable) → IsAmong scope v → Contains (names scope) v.name
 name_among [] v among = absurd among
 name_among (w ∷ ws) v among =
     ⊎_elim (λ here. subst (λ (one : Variable). Contains (w.name ∷ names ws) one.name) here (Contains-first w.name (names ws)))
     (λ later. Contains-rest w.name (names ws) v.name (name_among ws v later)) among
 
-basic_in : (orders : List Order) (scope vs : List Variable) → Each (Among scope) vs → All (HasOrder orders) vs → All (λ (v : Variable). Contains (names scope) v.name × HasOrder orders v) vs
+basic_in : (orders : List Order) (scope vs : List Variable) → Each (IsAmong scope) vs → All (HasOrder orders) vs → All (λ (v : Variable). Contains (names scope) v.name × HasOrder orders v) vs
 basic_in orders scope [] stand ordered = All-nil (λ (v : Variable). Contains (names scope) v.name × HasOrder orders v)
 basic_in orders scope (v ∷ vs) stand ordered =
     All-cons (λ (w : Variable). Contains (names scope) w.name × HasOrder orders w) v vs (name_among scope v stand.0, All-head (HasOrder orders) v vs ordered) (basic_in orders scope vs stand.1 (All-tail (HasOrder orders) v vs ordered))
 
-import_in : (scope : List Variable) (xs : List ℕ) (vs : List Variable) → length xs ≡ length vs → Each (Among scope) (variables_at xs vs) → All (Contains (names scope)) xs
+import_in : (scope : List Variable) (xs : List ℕ) (vs : List Variable) → length xs ≡ length vs → Each (IsAmong scope) (variables_at xs vs) → All (Contains (names scope)) xs
 import_in scope [] vs long stand = All-nil (Contains (names scope))
 import_in scope (x ∷ xs) [] long stand = absurd (omega (arith, long))
 import_in scope (x ∷ xs) (v ∷ vs) long stand =

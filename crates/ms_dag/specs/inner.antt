@@ -1,4 +1,5 @@
 pub mod Binders
+pub mod Codes
 pub mod Connectives
 pub mod Examples
 pub mod Keys
@@ -8,4 +9,3 @@ pub mod Relations
 pub mod Scope
 pub mod Shared
 pub mod Tasks
-pub mod Words

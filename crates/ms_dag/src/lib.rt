@@ -5,6 +5,7 @@ mod above;
 mod binders;
 mod bodies;
 mod call;
+mod codes;
 mod connectives;
 mod dag;
 mod examples;
@@ -18,7 +19,6 @@ mod relations;
 mod rising;
 mod sharing;
 mod tasks;
-mod words;
 
 pub use bodies::Bodies;
 pub use dag::{Dag, SharedRoot};

@@ -1,15 +1,15 @@
 ghost use Rattle.ms_dag.specs.inner.Keys.{IsKeyed, keys_of};
-ghost use Rattle.ms_dag.specs.inner.Words.{words_of_entry};
+ghost use Rattle.ms_dag.specs.inner.Codes.{codes_of_entry};
 ghost use Rattle.ms_diagram.specs.Numbering.{Numbers};
 ghost use Rattle.std.specs.Prelude.{◌≡◌, ◌==◌, ◌∷◌, ◌++◌, [], if◌then◌else◌, length, slice_get, IfOk, OnOk, Ok};
 
+use crate::codes::codes_of;
 use crate::node::Entry;
-use crate::words::words_of;
 use indexmap::IndexSet;
 use ms_list::{List, NoMemory, push};
 use std::alloc::Global;
 
-/// The nodes of a graph while it grows, and their words, by which each gets one number.
+/// The nodes of a graph while it grows, and their codes, by which each gets one number.
 #[derive(Drop)]
 pub(crate) struct Nodes {
     pub(crate) alloc: Global,
@@ -47,14 +47,14 @@ impl Nodes {
         }
     }
 
-    // The number of the words of a node. Where numbers run out, memory has long run out.
-    fn number_of_words(&mut self, entry: &Entry) -> Result<u32, NoMemory>
+    // The number of the codes of a node. Where numbers run out, memory has long run out.
+    fn number_of_codes(&mut self, entry: &Entry) -> Result<u32, NoMemory>
         ensures entries { self.new.entries ≡ self.old.entries }
-        ensures numbers { OnOk result (Numbers (keys_of self.old) (keys_of self.new) (words_of_entry entry.now)) }
-        ensures number { IfOk result (λ number. slice_get (keys_of self.new) number ≡ Some (words_of_entry entry.now)) }
+        ensures numbers { OnOk result (Numbers (keys_of self.old) (keys_of self.new) (codes_of_entry entry.now)) }
+        ensures number { IfOk result (λ number. slice_get (keys_of self.new) number ≡ Some (codes_of_entry entry.now)) }
     {
-        let words = words_of(self.alloc, entry)?;
-        let Ok((number, _)) = self.keys.insert_full(words.into_vec()) else {
+        let codes = codes_of(self.alloc, entry)?;
+        let Ok((number, _)) = self.keys.insert_full(codes.into_vec()) else {
             return Err(NoMemory);
         };
         let Ok(number) = u32::try_from(number) else {
@@ -70,11 +70,11 @@ impl Nodes {
         ensures numbers { OnOk result (Numbers self.old.entries self.new.entries entry) }
         ensures number { IfOk result (λ number. slice_get self.new.entries number ≡ Some entry) }
     {
-        let number = self.number_of_words(&entry);
+        let number = self.number_of_codes(&entry);
         keep(&mut self.entries, entry, number)
     }
 
-    /// The nodes, without the words.
+    /// The nodes, without the codes.
     pub(crate) fn into_entries(self) -> List<Entry>
         ensures { result ≡ self.entries }
     {

@@ -9,7 +9,7 @@ use Rattle.ms_arena.specs.Reach.{here, through_low, through_high, TestsOnly}
 use Rattle.ms_arena.proofs.Paths.{IsBefore-later, IsBefore-end_at, leaf_of-node}
 use Rattle.ms_logic.specs.declared.mode.Order.{Order}
 use Rattle.ms_logic.specs.Assignment.{Variable}
-use Rattle.ms_logic_words.specs.Content.{count_of, spread, head_bit, tail_bits, bits_at, HasValueAt}
+use Rattle.ms_logic_words.specs.Content.{count_of, padded, head_bit, tail_bits, bits_at, HasValueAt}
 use Rattle.std.proofs.lemmas.List.{take-map, length-map}
 use Rattle.ms_logic_words.specs.Content.{Content}
 use Rattle.ms_logic_words.specs.declared.sign.Sign.{Sign}
@@ -51,14 +51,14 @@ tested_on_path nodes P bits root place node held path = path.tests node.var (pla
 -- the place of a variable with a value, and its value among the values
 pub record StandsAt (has_value : Order → Bool) (variables : List Variable) (values : List Bool) (place : ℕ) : Type 0 where
   pub within : count_of has_value (take place variables) < length values
-  pub value : slice_index_or (spread has_value variables values) place false ≡ slice_index_or values (count_of has_value (take place variables)) false
+  pub value : slice_index_or (padded has_value variables values) place false ≡ slice_index_or values (count_of has_value (take place variables)) false
 
 -- behind one variable more, which has a value or none
 stands_behind : (has_value : Order → Bool) (variables : List Variable) (place : ℕ) (test : Bool) (values : List Bool)
     → length values ≡ counted test (count_of has_value variables)
     → ((fewer : List Bool) → length fewer ≡ count_of has_value variables → StandsAt has_value variables fewer place)
     → (counted test (count_of has_value (take place variables)) < length values)
-    × (slice_index_or (if test then head_bit values ∷ spread has_value variables (tail_bits values) else false ∷ spread has_value variables values) (suc place) false
+    × (slice_index_or (if test then head_bit values ∷ padded has_value variables (tail_bits values) else false ∷ padded has_value variables values) (suc place) false
     ≡ slice_index_or values (counted test (count_of has_value (take place variables))) false)
 stands_behind has_value variables place false values count behind = ((behind values count).within, (behind values count).value)
 stands_behind has_value variables place true [] count behind = absurd (omega (arith, count))
@@ -75,7 +75,7 @@ first_value (first ∷ more) = refl
 stands_first : (has_value : Order → Bool) (variables : List Variable) (test : Bool) (values : List Bool) → IsTrue test
     → length values ≡ counted test (count_of has_value variables)
     → (0 < length values)
-    × (slice_index_or (if test then head_bit values ∷ spread has_value variables (tail_bits values) else false ∷ spread has_value variables values) 0 false ≡ slice_index_or values 0 false)
+    × (slice_index_or (if test then head_bit values ∷ padded has_value variables (tail_bits values) else false ∷ padded has_value variables values) 0 false ≡ slice_index_or values 0 false)
 stands_first has_value variables true values with_value count = (omega (arith, count), first_value values)
 stands_first has_value variables false values with_value count = let never : ⊥ = cc in absurd never
 
@@ -97,28 +97,28 @@ pub record StepAlong (nodes : List Node) (has_value : Order → Bool) (variables
   pub variable : node.var < length variables
   pub within : count_of has_value (take node.var variables) < length values
   pub next : (value : Bool) → slice_index_or values (count_of has_value (take node.var variables)) false ≡ value
-      → IsOnPath nodes (HasValueAt variables has_value) (bits_at (spread has_value variables values)) root (if value then node.high else node.low)
+      → IsOnPath nodes (HasValueAt variables has_value) (bits_at (padded has_value variables values)) root (if value then node.high else node.low)
 
 pub step_along : (nodes : List Node) (has_value : Order → Bool) (variables : List Variable) (values : List Bool) (root reference : Ref) (place : ℕ) (node : Node)
     → IsOrdered nodes → length values ≡ count_of has_value variables
-    → IsOnPath nodes (HasValueAt variables has_value) (bits_at (spread has_value variables values)) root reference
+    → IsOnPath nodes (HasValueAt variables has_value) (bits_at (padded has_value variables values)) root reference
     → reference ≡ Inner place → slice_get nodes place ≡ Some node → StepAlong nodes has_value variables values root node
 step_along nodes has_value variables values root reference place node ordered count path named held =
-    let on_path : IsOnPath nodes (HasValueAt variables has_value) (bits_at (spread has_value variables values)) root (Inner place)
-    = subst (λ (r : Ref). IsOnPath nodes (HasValueAt variables has_value) (bits_at (spread has_value variables values)) root r) named path in
-    let tested = tested_on_path nodes (HasValueAt variables has_value) (bits_at (spread has_value variables values)) root place node held on_path in
+    let on_path : IsOnPath nodes (HasValueAt variables has_value) (bits_at (padded has_value variables values)) root (Inner place)
+    = subst (λ (r : Ref). IsOnPath nodes (HasValueAt variables has_value) (bits_at (padded has_value variables values)) root r) named path in
+    let tested = tested_on_path nodes (HasValueAt variables has_value) (bits_at (padded has_value variables values)) root place node held on_path in
     let stands = stands_at has_value variables values node.var tested.0 tested.1 tested.2 count in
     record {
       variable = slice_get_within variables node.var tested.0 tested.1;
       within = stands.within;
-      next = λ value found. IsOnPath-end nodes (HasValueAt variables has_value) (bits_at (spread has_value variables values)) root place node value ordered held (stands.value ∙ found) on_path;
+      next = λ value found. IsOnPath-end nodes (HasValueAt variables has_value) (bits_at (padded has_value variables values)) root place node value ordered held (stands.value ∙ found) on_path;
     }
 
 -- the same, where the node was found in what is seen as the content
 pub step_in : (inside content : Content Sign) → inside ≡ content → IsOrdered inside.nodes
     → (has_value : Order → Bool) (values : List Bool) (root reference : Ref) (place : ℕ) (node : Node)
     → length values ≡ count_of has_value content.variables
-    → IsOnPath content.nodes (HasValueAt content.variables has_value) (bits_at (spread has_value content.variables values)) root reference
+    → IsOnPath content.nodes (HasValueAt content.variables has_value) (bits_at (padded has_value content.variables values)) root reference
     → reference ≡ Inner place → slice_get inside.nodes place ≡ Some node → StepAlong content.nodes has_value content.variables values root node
 step_in inside content same ordered has_value values root reference place node count path named held =
     step_along content.nodes has_value content.variables values root reference place node

@@ -1,4 +1,4 @@
--- Bits that are gathered from a letter and spread again, and the bits that an assignment gives.
+-- Bits that are gathered from a letter and padded again, and the bits that an assignment gives.
 use Rattle.std.proofs.Common.{◌≡◌, ℕ, zero, suc, ◌+◌, ◌==◌, Bool, true, false, IsTrue, if◌then◌else◌, List, [], ◌∷◌, length, slice_get, slice_index_or, Some, refl, sym, ap, subst, ◌∙◌, arith}
 use Rattle.std.proofs.lemmas.Option.{none-some, same_Some}
 use Rattle.ms_arena.specs.Diagram.{Bits}
@@ -7,7 +7,7 @@ use Rattle.ms_logic.specs.declared.mode.Order.TheVariants.{Zero, One, Two}
 use Rattle.ms_logic.specs.declared.assignment.Value.{Value}
 use Rattle.ms_logic.specs.declared.assignment.Value.TheVariants.{Truth, Number, Set}
 use Rattle.ms_logic.specs.Assignment.{Env, Variable, value_at}
-use Rattle.ms_logic_words.specs.Content.{count_of, is_truth_value, is_in_letters, spread, bits_at, head_bit, tail_bits}
+use Rattle.ms_logic_words.specs.Content.{count_of, is_truth_value, is_in_letters, padded, bits_at, head_bit, tail_bits}
 use Rattle.ms_logic.specs.FiniteSet.{is_member}
 use Rattle.ms_logic.specs.Letters.{with_truth_value, truth_values_of, with_bit, letter_at}
 use Rattle.ms_dfa.specs.Narrow.{gathered}
@@ -45,9 +45,9 @@ letter_given (v ∷ vs) e position = first v.order v.name (letter_at vs e positi
     first Two x more given same = ap (λ list. is_member position (e.set x) ∷ list) same
 
 module _ (has_value : Order → Bool) where
-  -- spread over the places, the given bit of a variable stands at its place
+  -- padded over the places, the given bit of a variable stands at its place
   pub given_at : (vs : List Variable) (e : Env) (position place : ℕ) (v : Variable) → slice_get vs place ≡ Some v → IsTrue (has_value v.order)
-      → bits_at (spread has_value vs (given_bits has_value vs e position)) place ≡ bit_of position (value_at v.order v.name e)
+      → bits_at (padded has_value vs (given_bits has_value vs e position)) place ≡ bit_of position (value_at v.order v.name e)
   given_at [] e position place v there with_value = absurd (none-some v there)
   given_at (first ∷ vs) e position zero v there with_value =
       let same : first ≡ v = same_Some first v there in
@@ -56,7 +56,7 @@ module _ (has_value : Order → Bool) where
       ∙ ap (λ (u : Variable). bit_of position (value_at u.order u.name e)) same
     where
       at_first : (test : Bool) (own : Bool) (more : List Bool) → IsTrue test
-          → slice_index_or (if test then head_bit (if test then own ∷ more else more) ∷ spread has_value vs (tail_bits (if test then own ∷ more else more)) else false ∷ spread has_value vs (if test then own ∷ more else more)) 0 false ≡ own
+          → slice_index_or (if test then head_bit (if test then own ∷ more else more) ∷ padded has_value vs (tail_bits (if test then own ∷ more else more)) else false ∷ padded has_value vs (if test then own ∷ more else more)) 0 false ≡ own
       at_first true own more holds = refl
       at_first false own more holds = let never : ⊥ = cc in absurd never
   given_at (first ∷ vs) e position (suc place) v there with_value =
@@ -64,14 +64,14 @@ module _ (has_value : Order → Bool) where
       ∙ given_at vs e position place v there with_value
     where
       behind : (test : Bool) (own : Bool) (more : List Bool)
-          → slice_index_or (if test then head_bit (if test then own ∷ more else more) ∷ spread has_value vs (tail_bits (if test then own ∷ more else more)) else false ∷ spread has_value vs (if test then own ∷ more else more)) (suc place) false
-          ≡ slice_index_or (spread has_value vs more) place false
+          → slice_index_or (if test then head_bit (if test then own ∷ more else more) ∷ padded has_value vs (tail_bits (if test then own ∷ more else more)) else false ∷ padded has_value vs (if test then own ∷ more else more)) (suc place) false
+          ≡ slice_index_or (padded has_value vs more) place false
       behind true own more = refl
       behind false own more = refl
 
-  -- spread over the places, gathered bits stand at their places
+  -- padded over the places, gathered bits stand at their places
   pub gathered_at : (vs : List Variable) (bits : Bits) (from place : ℕ) (v : Variable) → slice_get vs place ≡ Some v → IsTrue (has_value v.order)
-      → bits_at (spread has_value vs (gathered has_value from vs bits)) place ≡ bits (from + place)
+      → bits_at (padded has_value vs (gathered has_value from vs bits)) place ≡ bits (from + place)
   gathered_at [] bits from place v there with_value = absurd (none-some v there)
   gathered_at (first ∷ vs) bits from zero v there with_value =
       let same : first ≡ v = same_Some first v there in
@@ -80,7 +80,7 @@ module _ (has_value : Order → Bool) where
       ∙ ap bits here
     where
       at_first : (test : Bool) (own : Bool) (more : List Bool) → IsTrue test
-          → slice_index_or (if test then head_bit (if test then own ∷ more else more) ∷ spread has_value vs (tail_bits (if test then own ∷ more else more)) else false ∷ spread has_value vs (if test then own ∷ more else more)) 0 false ≡ own
+          → slice_index_or (if test then head_bit (if test then own ∷ more else more) ∷ padded has_value vs (tail_bits (if test then own ∷ more else more)) else false ∷ padded has_value vs (if test then own ∷ more else more)) 0 false ≡ own
       at_first true own more holds = refl
       at_first false own more holds = let never : ⊥ = cc in absurd never
   gathered_at (first ∷ vs) bits from (suc place) v there with_value =
@@ -90,8 +90,8 @@ module _ (has_value : Order → Bool) where
       ∙ ap bits later
     where
       behind : (test : Bool) (own : Bool) (more : List Bool)
-          → slice_index_or (if test then head_bit (if test then own ∷ more else more) ∷ spread has_value vs (tail_bits (if test then own ∷ more else more)) else false ∷ spread has_value vs (if test then own ∷ more else more)) (suc place) false
-          ≡ slice_index_or (spread has_value vs more) place false
+          → slice_index_or (if test then head_bit (if test then own ∷ more else more) ∷ padded has_value vs (tail_bits (if test then own ∷ more else more)) else false ∷ padded has_value vs (if test then own ∷ more else more)) (suc place) false
+          ≡ slice_index_or (padded has_value vs more) place false
       behind true own more = refl
       behind false own more = refl
 

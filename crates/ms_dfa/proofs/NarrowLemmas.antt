@@ -16,7 +16,7 @@ use Rattle.ms_logic.specs.declared.mode.Order.TheVariants.{Zero, One, Two}
 use Rattle.ms_logic.specs.declared.assignment.Value.{Value}
 use Rattle.ms_logic.specs.declared.assignment.Value.TheVariants.{Truth, Number, Set}
 use Rattle.ms_logic.specs.Assignment.{Env, Variable, IsAssignment, IsUniverseOf, IsValueOf, GivesEach, value_at}
-use Rattle.ms_logic_words.specs.Content.{HasValueAt, IsWordOver, AreLetters, bits_at, spread, truth_bits, letter_bits, is_truth_value, is_in_letters}
+use Rattle.ms_logic_words.specs.Content.{HasValueAt, IsWordOver, AreLetters, bits_at, padded, truth_bits, letter_bits, is_truth_value, is_in_letters}
 use Rattle.ms_logic.specs.FiniteSet.{numbers_below}
 use Rattle.ms_logic_words.specs.Word.{Encodes, HasLength}
 use Rattle.ms_logic.specs.Letters.{truth_values_of, letter_at, letters_below, bound_at, bound_of, bound_of_set}
@@ -70,18 +70,18 @@ map-below narrow_letter one other (p ∷ positions) same =
 module _ (map : List ℕ) (narrow wide : List Variable) (f e : Env) (reads : ReadsThrough map narrow wide f e) where
   -- the bit at the place of a narrow variable is the one that its value has
   bit_through : (has_value : Order → Bool) (position place : ℕ) (v : Variable) → slice_get narrow place ≡ Some v → IsTrue (has_value v.order)
-      → read_through map (bits_at (spread has_value wide (given_bits has_value wide e position))) (0 + place) ≡ bit_of position (value_at v.order v.name f)
+      → read_through map (bits_at (padded has_value wide (given_bits has_value wide e position))) (0 + place) ≡ bit_of position (value_at v.order v.name f)
   bit_through has_value position place v there with_value =
       let at = reads.values place v there in
       let here : 0 + place ≡ place = omega arith in
-      ap (read_through map (bits_at (spread has_value wide (given_bits has_value wide e position)))) here
+      ap (read_through map (bits_at (padded has_value wide (given_bits has_value wide e position)))) here
       ∙ given_at has_value wide e position (slice_index map place) at.0 at.1 (subst (λ o. IsTrue (has_value o)) (sym at.2) with_value)
       ∙ ap (bit_of position) (sym at.3)
 
   narrowed_given : (has_value : Order → Bool) (position : ℕ)
-      → gathered has_value 0 narrow (read_through map (bits_at (spread has_value wide (given_bits has_value wide e position)))) ≡ given_bits has_value narrow f position
+      → gathered has_value 0 narrow (read_through map (bits_at (padded has_value wide (given_bits has_value wide e position)))) ≡ given_bits has_value narrow f position
   narrowed_given has_value position =
-      gathered_given has_value narrow (read_through map (bits_at (spread has_value wide (given_bits has_value wide e position)))) 0 f position
+      gathered_given has_value narrow (read_through map (bits_at (padded has_value wide (given_bits has_value wide e position)))) 0 f position
       (λ place v there with_value. bit_through has_value position place v there with_value)
 
   narrowed_truth_values : narrowed_truth map narrow wide (truth_values_of wide e) ≡ truth_values_of narrow f
@@ -129,9 +129,9 @@ module _ (map : List ℕ) (narrow wide : List Variable) (f e : Env) (reads : Rea
 
 -- a diagram that tests narrow variables with a value leads by the gathered bits where it leads by all
 pub leaf_of-gathered : (nodes : List Node) (has_value : Order → Bool) (vs : List Variable) (root : Ref) (bits : Bits) → IsOrdered nodes → IsValid nodes root
-    → TestsOnly nodes (HasValueAt vs has_value) root → leaf_of nodes root (bits_at (spread has_value vs (gathered has_value 0 vs bits))) ≡ leaf_of nodes root bits
+    → TestsOnly nodes (HasValueAt vs has_value) root → leaf_of nodes root (bits_at (padded has_value vs (gathered has_value 0 vs bits))) ≡ leaf_of nodes root bits
 leaf_of-gathered nodes has_value vs root bits ordered valid tests =
-    leaf_of-tested nodes ordered root (bits_at (spread has_value vs (gathered has_value 0 vs bits))) bits valid (λ var tested.
+    leaf_of-tested nodes ordered root (bits_at (padded has_value vs (gathered has_value 0 vs bits))) bits valid (λ var tested.
     let at = tests var tested in
     let same : 0 + var ≡ var = omega arith in
     gathered_at has_value vs bits 0 var at.0 at.1 at.2 ∙ ap bits same)

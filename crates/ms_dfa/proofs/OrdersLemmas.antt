@@ -7,7 +7,7 @@ use Rattle.ms_dfa.specs.Automaton.{variables_of}
 use Rattle.ms_dfa.specs.declared.track.Track.{Track}
 use Rattle.ms_logic.specs.declared.mode.Order.{Order}
 use Rattle.ms_logic.specs.Assignment.{Variable}
-use Rattle.ms_logic_words.specs.Content.{AreLetters, HasValueAt, IsWordOver, count_of, head_bit, tail_bits, is_in_letters, is_truth_value, spread, variables_from, variables_by_place}
+use Rattle.ms_logic_words.specs.Content.{AreLetters, HasValueAt, IsWordOver, count_of, head_bit, tail_bits, is_in_letters, is_truth_value, padded, variables_from, variables_by_place}
 
 abbrev pub orders_of : List Variable → List Order
 orders_of variables = map (λ v. v.order) variables
@@ -28,7 +28,7 @@ module _ (has_value : Order → Bool) where
   count_is [] = refl
   count_is (v ∷ vs) = ap (λ n. if has_value v.order then n + 1 else n) (count_is vs)
 
-  spread_is : (vs : List Variable) (values : List Bool) → spread has_value vs values ≡ spread_by has_value (orders_of vs) values
+  spread_is : (vs : List Variable) (values : List Bool) → padded has_value vs values ≡ spread_by has_value (orders_of vs) values
   unfolding spread_by
   spread_is [] values = refl
   spread_is (v ∷ vs) values =
@@ -40,8 +40,8 @@ module _ (has_value : Order → Bool) where
     pub count-same : count_of has_value vs ≡ count_of has_value ws
     count-same = count_is vs ∙ ap (count_by has_value) same ∙ sym (count_is ws)
 
-    pub spread-same : (values : List Bool) → spread has_value vs values ≡ spread has_value ws values
-    spread-same values = spread_is vs values ∙ ap (λ orders. spread_by has_value orders values) same ∙ sym (spread_is ws values)
+    pub padded-same : (values : List Bool) → padded has_value vs values ≡ padded has_value ws values
+    padded-same values = spread_is vs values ∙ ap (λ orders. spread_by has_value orders values) same ∙ sym (spread_is ws values)
 
 -- the variable at a place, by its order
 order_at : (vs : List Variable) (place : ℕ) (v : Variable) → slice_get vs place ≡ Some v → slice_get (orders_of vs) place ≡ Some v.order

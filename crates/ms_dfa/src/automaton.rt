@@ -1,6 +1,6 @@
 ghost use Rattle.std.specs.Prelude.{◌≡◌, ◌<◌, ℕ, length, slice_get, IfSome, Some};
 ghost use Rattle.ms_arena.specs.Diagram.{leaf_of};
-ghost use Rattle.ms_logic_words.specs.Content.{count_of, is_truth_value, is_in_letters, spread, bits_at, first_state, next_state, sign_at, IsFollowed};
+ghost use Rattle.ms_logic_words.specs.Content.{count_of, is_truth_value, is_in_letters, padded, bits_at, first_state, next_state, sign_at, IsFollowed};
 ghost use Rattle.ms_dfa.specs.Automaton.{variables_of, content_of, IsAutomaton};
 ghost use Rattle.ms_dfa.specs.Part.{has_value};
 
@@ -136,7 +136,7 @@ impl Automaton {
     fn follow(&self, root: Ref, part: Part, values: &[bool]) -> u32
         requires root { IsFollowed self.now (has_value part) root }
         requires values { length values.now ≡ count_of (has_value part) self.now.variables }
-        ensures { result ≡ leaf_of self.now.nodes root (bits_at (spread (has_value part) self.now.variables values.now)) }
+        ensures { result ≡ leaf_of self.now.nodes root (bits_at (padded (has_value part) self.now.variables values.now)) }
     {
         let mut reference = root;
         loop {

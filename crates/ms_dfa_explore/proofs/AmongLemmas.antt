@@ -1,13 +1,13 @@
--- Where the variables of one rising list stand among those of another, and of which list a variable of a join is.
+-- Where the variables of one rising list stand among those of another, and of which list a variable of a merge is.
 use Rattle.std.proofs.Common.{◌≡◌, ℕ, zero, suc, ◌<◌, ◌≤◌, nat_lt, nat_eq, ◌⊎◌, inl, inr, ⊎_elim, Bool, true, false, if◌then◌else◌, List, [], ◌∷◌, ◌++◌, length, slice_get, slice_index, Some, refl, sym, ap, subst, ◌∙◌, arith}
 use Rattle.std.specs.Option.{option_map}
 use Rattle.std.proofs.lemmas.Bool.{cases_lt}
 use Rattle.std.proofs.lemmas.Option.{none-some, same_Some, slice_get-map, slice_get_within, get_or_from_slice_get}
 use Rattle.ms_arena.proofs.Lists.{slice_get-held}
 use Rattle.ms_logic.specs.Assignment.{Env, Variable}
-use Rattle.ms_logic.specs.Lists.{AreRising}
+use Rattle.ms_logic.specs.Lists.{AreRising, IsAmong}
 use Rattle.ms_dfa.specs.Narrow.{ReadsThrough}
-use Rattle.ms_dfa_explore.specs.Tracks.{before, from, without_first, joined, place_of, places_among, IsAmong}
+use Rattle.ms_dfa_explore.specs.Tracks.{before, from, without_first, merged, place_of, places_among}
 use Rattle.ms_dfa_explore.proofs.TracksLemmas.{above-first, among-above, place_of-among, place_of-behind}
 
 -- a variable at a place is one of the list
@@ -73,7 +73,8 @@ module _ (narrow wide : List Variable) (rising_n : AreRising narrow) (rising_w :
   pub reads_through_places : (e : Env) → ReadsThrough (places_among narrow wide) narrow wide e e
   reads_through_places e = record { universe = refl; values = λ place v held. (v, leads_to place v held, refl, refl) }
 
-among_either : (xs ys : List Variable) (w : Variable) → IsAmong (xs ++ ys) w → IsAmong xs w ⊎ IsAmong ys w
+-- a variable of two lists is one of the first or of the second
+pub among_either : (xs ys : List Variable) (w : Variable) → IsAmong (xs ++ ys) w → IsAmong xs w ⊎ IsAmong ys w
 among_either [] ys w among = inr among
 among_either (x ∷ xs) ys w among = ⊎_elim (λ same. inl (inl same)) (λ there. ⊎_elim (λ first. inl (inr first)) (λ second. inr second) (among_either xs ys w there)) among
 
@@ -101,10 +102,10 @@ among_without name (v ∷ vs) w =
       | false ↦ (λ there. there)
     ]
 
--- a variable of a join is one of the left list or one of the right
-pub joined-either : (left right : List Variable) (w : Variable) → IsAmong (joined left right) w → IsAmong left w ⊎ IsAmong right w
-joined-either [] right w among = inr among
-joined-either (v ∷ vs) right w among =
+-- a variable of a merge is one of the left list or one of the right
+pub merged-either : (left right : List Variable) (w : Variable) → IsAmong (merged left right) w → IsAmong left w ⊎ IsAmong right w
+merged-either [] right w among = inr among
+merged-either (v ∷ vs) right w among =
     let rest = without_first v.name (from v.name right) in
     ⊎_elim
     (λ first. inr (among_before v.name right w first))
@@ -113,6 +114,6 @@ joined-either (v ∷ vs) right w among =
     (λ there. ⊎_elim
     (λ left. inl (inr left))
     (λ behind. inr (among_from v.name right w (among_without v.name (from v.name right) w behind)))
-    (joined-either vs rest w there))
+    (merged-either vs rest w there))
     second)
-    (among_either (before v.name right) (v ∷ joined vs rest) w among)
+    (among_either (before v.name right) (v ∷ merged vs rest) w among)

@@ -7,7 +7,7 @@ use Rattle.ms_arena.specs.Diagram.{Bits}
 use Rattle.ms_arena.proofs.BitsLemmas.{with_bit-other}
 use Rattle.ms_logic.specs.declared.mode.Order.{Order}
 use Rattle.ms_logic.specs.Assignment.{Variable}
-use Rattle.ms_logic_words.specs.Content.{HasValueAt, bits_at, spread, head_bit, tail_bits}
+use Rattle.ms_logic_words.specs.Content.{HasValueAt, bits_at, padded, head_bit, tail_bits}
 use Rattle.ms_logic.specs.FiniteSet.{IsRising, IsBelowFirst}
 use Rattle.ms_dfa_explore.specs.declared.small.TrackBits.{TrackBits}
 use Rattle.ms_dfa_explore.specs.Small.{zero_bits, with_bit_at, read_tracks, track_bits, places_of}
@@ -31,16 +31,16 @@ module _ (has_value : Order → Bool) where
       ]
 
   -- where no variable with a value stands, the bit is 0
-  pub spread_absent : (vs : List Variable) (values : List Bool) (place : ℕ) → ¬ HasValueAt vs has_value place → bits_at (spread has_value vs values) place ≡ false
+  pub spread_absent : (vs : List Variable) (values : List Bool) (place : ℕ) → ¬ HasValueAt vs has_value place → bits_at (padded has_value vs values) place ≡ false
   spread_absent [] values place absent = refl
   spread_absent (v ∷ vs) values zero absent = by_test (has_value v.order) refl
     where
       by_test : (test : Bool) → has_value v.order ≡ test
-          → slice_index_or (if test then head_bit values ∷ spread has_value vs (tail_bits values) else false ∷ spread has_value vs values) 0 false ≡ false
+          → slice_index_or (if test then head_bit values ∷ padded has_value vs (tail_bits values) else false ∷ padded has_value vs values) 0 false ≡ false
       by_test true is = absurd (absent (v, refl, subst IsTrue (sym is) refl))
       by_test false is = refl
   spread_absent (v ∷ vs) values (suc place) absent =
-      elim (has_value v.order) as (λ test. slice_index_or (if test then head_bit values ∷ spread has_value vs (tail_bits values) else false ∷ spread has_value vs values) (suc place) false ≡ false) [
+      elim (has_value v.order) as (λ test. slice_index_or (if test then head_bit values ∷ padded has_value vs (tail_bits values) else false ∷ padded has_value vs values) (suc place) false ≡ false) [
         | true ↦ spread_absent vs (tail_bits values) place absent
         | false ↦ spread_absent vs values place absent
       ]
@@ -81,27 +81,27 @@ read_placed false false false bits one two three = λ i. record { first = sym (o
 
 module _ (has_value : Order → Bool) (values : List Bool) where
   -- a variable without a value has the bit 0
-  without : (vs : List Variable) (place : ℕ) (v : Variable) → slice_get vs place ≡ Some v → has_value v.order ≡ false → bits_at (spread has_value vs values) place ≡ false
+  without : (vs : List Variable) (place : ℕ) (v : Variable) → slice_get vs place ≡ Some v → has_value v.order ≡ false → bits_at (padded has_value vs values) place ≡ false
   without vs place v there is = spread_absent has_value vs values place (λ found.
       let same : found.0 ≡ v = same_Some found.0 v (sym found.1 ∙ there) in
       let holds : IsTrue (has_value v.order) = subst (λ (u : Variable). IsTrue (has_value u.order)) same found.2 in
       let never : IsTrue false = subst IsTrue is holds in false≢true never)
 
   -- and so has a place past the end
-  past : (vs : List Variable) (place : ℕ) → length vs ≤ place → bits_at (spread has_value vs values) place ≡ false
+  past : (vs : List Variable) (place : ℕ) → length vs ≤ place → bits_at (padded has_value vs values) place ≡ false
   past vs place end = spread_absent has_value vs values place (λ found. let within = slice_get_within vs place found.0 found.1 in omega (arith, within, end))
 
   -- over three variables at most, what is read at the places of a word are its bits
   pub read_word : (vs : List Variable) → length vs ≤ 3
-      → read_tracks (places_of has_value 0 vs) zero_bits (bits_at (spread has_value vs values)) ≡ track_bits (bits_at (spread has_value vs values))
+      → read_tracks (places_of has_value 0 vs) zero_bits (bits_at (padded has_value vs values)) ≡ track_bits (bits_at (padded has_value vs values))
   read_word [] few = refl
   read_word (u ∷ []) few =
-      read_placed (has_value u.order) false false (bits_at (spread has_value (u ∷ []) values)) (without (u ∷ []) 0 u refl)
+      read_placed (has_value u.order) false false (bits_at (padded has_value (u ∷ []) values)) (without (u ∷ []) 0 u refl)
       (λ is. past (u ∷ []) 1 (omega arith)) (λ is. past (u ∷ []) 2 (omega arith))
   read_word (u ∷ v ∷ []) few =
-      read_placed (has_value u.order) (has_value v.order) false (bits_at (spread has_value (u ∷ v ∷ []) values)) (without (u ∷ v ∷ []) 0 u refl)
+      read_placed (has_value u.order) (has_value v.order) false (bits_at (padded has_value (u ∷ v ∷ []) values)) (without (u ∷ v ∷ []) 0 u refl)
       (without (u ∷ v ∷ []) 1 v refl) (λ is. past (u ∷ v ∷ []) 2 (omega arith))
   read_word (u ∷ v ∷ w ∷ []) few =
-      read_placed (has_value u.order) (has_value v.order) (has_value w.order) (bits_at (spread has_value (u ∷ v ∷ w ∷ []) values)) (without (u ∷ v ∷ w ∷ []) 0 u refl)
+      read_placed (has_value u.order) (has_value v.order) (has_value w.order) (bits_at (padded has_value (u ∷ v ∷ w ∷ []) values)) (without (u ∷ v ∷ w ∷ []) 0 u refl)
       (without (u ∷ v ∷ w ∷ []) 1 v refl) (without (u ∷ v ∷ w ∷ []) 2 w refl)
   read_word (u ∷ v ∷ w ∷ x ∷ vs) few = absurd (omega (arith, few))

@@ -24,7 +24,7 @@ use Rattle.ms_dfa.proofs.EncodingLemmas.{zero_letter_over}
 use Rattle.ms_dfa_explore.specs.declared.small.TrackBits.{TrackBits}
 use Rattle.ms_dfa_explore.specs.Explored.{Findings, Leads, Follows, OnRefused, Explores}
 use Rattle.ms_dfa_explore.specs.inner.Run.{ReadsOnly, IsOver, AreNames}
-use Rattle.ms_dfa_explore.specs.Small.{Tabulated, most_nodes, read_tracks, zero_bits, track_bits, places_of, Table, findings_of, machine_of, sign_by, IsClosedTable, TellsWords}
+use Rattle.ms_dfa_explore.specs.Small.{Tabulated, most_nodes, read_tracks, zero_bits, track_bits, places_of, TransitionTable, findings_of, machine_of, sign_by, IsClosedTable, TellsWords}
 use Rattle.ms_dfa_explore.proofs.PlacesLemmas.{placed, read_tracks-absent, read_word}
 use Rattle.ms_dfa_explore.proofs.RunLemmas.{explored, length-states_of, IsClosed-explored, sign_of_explored}
 
@@ -35,7 +35,7 @@ ReadsOnly-tabulated lead has_value vs var absent bits one other first second =
     = λ bit. read_tracks-absent has_value 0 vs zero_bits bits var bit (λ i is there. absent (subst (HasValueAt vs has_value) (let same : i ≡ var = omega (arith, is) in same) there)) in
     first ∙ ap lead (not_read false) ∙ sym (ap lead (not_read true)) ∙ sym second
 
-module _ (table : Table) (variables : List Variable) (closed : IsClosedTable table) (few : length variables ≤ 3) where
+module _ (table : TransitionTable) (variables : List Variable) (closed : IsClosedTable table) (few : length variables ≤ 3) where
   -- what is found of the table over these variables
   abbrev pub all : Findings
   all = findings_of table (places_of is_truth_value 0 variables) (places_of is_in_letters 0 variables)
@@ -130,11 +130,11 @@ abbrev pub places_over : List Variable → List ℕ × List ℕ
 places_over variables = (places_of is_truth_value 0 variables, places_of is_in_letters 0 variables)
 
 -- a table with what it reads
-abbrev pub found_of : Table → List ℕ × List ℕ → Findings
+abbrev pub found_of : TransitionTable → List ℕ × List ℕ → Findings
 found_of table reads = findings_of table reads.0 reads.1
 
 -- what was explored, said of the table and the variables
-pub Explores-known : {K : Type 0} (table : K → Table) (reads : K → List ℕ × List ℕ) (early late : K) (variables : List Variable) (old new : Contents) (states : List State)
+pub Explores-known : {K : Type 0} (table : K → TransitionTable) (reads : K → List ℕ × List ℕ) (early late : K) (variables : List Variable) (old new : Contents) (states : List State)
     (result : Result Ref StepFault) → early ≡ late → reads early ≡ places_over variables → Explores old new (found_of (table late) (reads late)) states result
     → Explores old new (found_of (table early) (places_over variables)) states result
 Explores-known table reads early late variables old new states result same read explores =
@@ -142,7 +142,7 @@ Explores-known table reads early late variables old new states result same read 
     (subst (λ known. Explores old new (found_of (table known) (reads known)) states result) (sym same) explores)
 
 -- a machine of known states adds seven nodes at most for each and for the start
-pub few_nodes : (table : Table) (variables : List Variable) (old new : Contents) (states : List State) (result : Result Ref StepFault) → length variables ≤ 3 → length old.nodes ≡ 0
+pub few_nodes : (table : TransitionTable) (variables : List Variable) (old new : Contents) (states : List State) (result : Result Ref StepFault) → length variables ≤ 3 → length old.nodes ≡ 0
     → Explores old new (found_of table (places_over variables)) states result → length new.nodes ≤ 7 + table.states * 7
 few_nodes table variables old new states result few empty explores =
     let most = max (most_nodes (places_of is_truth_value 0 variables)) (most_nodes (places_of is_in_letters 0 variables)) in

@@ -1,12 +1,12 @@
--- The join of two rising lists of variables rises, and has the variables of both.
+-- The merge of two rising lists of variables rises, and has the variables of both.
 use Rattle.std.proofs.Common.{◌≡◌, ℕ, zero, suc, ◌+◌, ◌<◌, ◌≤◌, nat_lt, nat_eq, ◌⊎◌, inl, inr, ⊎_elim, Bool, true, false, if◌then◌else◌, List, [], ◌∷◌, ◌++◌, drop, slice_get, Some, refl, sym, ap, subst, ◌∙◌, arith}
 use Rattle.std.proofs.lemmas.Bool.{eqb-true}
 use Rattle.std.proofs.lemmas.Bool.Decides.{nat_tests}
 use Rattle.ms_dfa.specs.declared.track.Track.{Track}
 use Rattle.ms_dfa.specs.Automaton.{variable_of, variables_of}
 use Rattle.ms_logic.specs.Assignment.{Variable}
-use Rattle.ms_logic.specs.Lists.{AreRising, IsBelowFirst}
-use Rattle.ms_dfa_explore.specs.Tracks.{before, from, without_first, joined, gathered_with, distinct, place_of, IsAmong}
+use Rattle.ms_logic.specs.Lists.{AreRising, IsBelowFirst, IsAmong}
+use Rattle.ms_dfa_explore.specs.Tracks.{before, from, without_first, merged, gathered_with, distinct, place_of}
 
 -- each variable of the list has a number above this one, or below it
 abbrev pub AreAbove : ℕ → List Variable → Type 0
@@ -99,20 +99,20 @@ append-rising [] v ys rising_x below rising = rising
 append-rising (x ∷ []) v ys rising_x below rising = (below.0, rising)
 append-rising (x ∷ y ∷ xs) v ys rising_x below rising = (rising_x.0, append-rising (y ∷ xs) v ys rising_x.1 below.1 rising)
 
-joined-above : (low : ℕ) (left right : List Variable) → AreAbove low left → AreAbove low right → AreAbove low (joined left right)
-joined-above low [] right above_l above_r = above_r
-joined-above low (v ∷ vs) right above_l above_r =
-    append-above low (before v.name right) (v ∷ joined vs (without_first v.name (from v.name right))) (before-above low v.name right above_r)
-    (above_l.0, joined-above low vs (without_first v.name (from v.name right)) above_l.1 (without-above low v.name (from v.name right) (from-above low v.name right above_r)))
+merged-above : (low : ℕ) (left right : List Variable) → AreAbove low left → AreAbove low right → AreAbove low (merged left right)
+merged-above low [] right above_l above_r = above_r
+merged-above low (v ∷ vs) right above_l above_r =
+    append-above low (before v.name right) (v ∷ merged vs (without_first v.name (from v.name right))) (before-above low v.name right above_r)
+    (above_l.0, merged-above low vs (without_first v.name (from v.name right)) above_l.1 (without-above low v.name (from v.name right) (from-above low v.name right above_r)))
 
--- the join rises
-pub joined-rising : (left right : List Variable) → AreRising left → AreRising right → AreRising (joined left right)
-joined-rising [] right rising_l rising_r = rising_r
-joined-rising (v ∷ vs) right rising_l rising_r =
+-- the merge rises
+pub merged-rising : (left right : List Variable) → AreRising left → AreRising right → AreRising (merged left right)
+merged-rising [] right rising_l rising_r = rising_r
+merged-rising (v ∷ vs) right rising_l rising_r =
     let rest = without_first v.name (from v.name right) in
-    append-rising (before v.name right) v (joined vs rest) (before-rising v.name right rising_r) (before-below v.name right) (
-      first-above v.name (joined vs rest) (joined-above v.name vs rest (above-first v vs rising_l) (rest-above v.name right rising_r)),
-      joined-rising vs rest rising_l.1 (without-rising v.name (from v.name right) (from-rising v.name right rising_r)),
+    append-rising (before v.name right) v (merged vs rest) (before-rising v.name right rising_r) (before-below v.name right) (
+      first-above v.name (merged vs rest) (merged-above v.name vs rest (above-first v vs rising_l) (rest-above v.name right rising_r)),
+      merged-rising vs rest rising_l.1 (without-rising v.name (from v.name right) (from-rising v.name right rising_r)),
     )
 
 pub among-left : (xs ys : List Variable) (w : Variable) → IsAmong xs w → IsAmong (xs ++ ys) w
@@ -141,26 +141,26 @@ among-rest name (v ∷ vs) w among = by_test (nat_eq v.name name) refl
     by_test true is = ⊎_elim (λ here. inl (ap (λ (u : Variable). u.name) (sym here) ∙ eqb-true v.name name is)) (λ there. inr there) among
     by_test false is = inr among
 
--- the variables of the left list are in the join, and those of the right one, where equal numbers have equal orders
-pub joined-left : (left right : List Variable) (w : Variable) → IsAmong left w → IsAmong (joined left right) w
-joined-left [] right w among = absurd among
-joined-left (v ∷ vs) right w among =
-    among-right (before v.name right) (v ∷ joined vs (without_first v.name (from v.name right))) w
-    (⊎_elim inl (λ there. inr (joined-left vs (without_first v.name (from v.name right)) w there)) among)
+-- the variables of the left list are in the merge, and those of the right one, where equal numbers have equal orders
+pub merged-left : (left right : List Variable) (w : Variable) → IsAmong left w → IsAmong (merged left right) w
+merged-left [] right w among = absurd among
+merged-left (v ∷ vs) right w among =
+    among-right (before v.name right) (v ∷ merged vs (without_first v.name (from v.name right))) w
+    (⊎_elim inl (λ there. inr (merged-left vs (without_first v.name (from v.name right)) w there)) among)
 
-pub joined-right : (left right : List Variable) (w : Variable) → ((v : Variable) → IsAmong left v → v.name ≡ w.name → v ≡ w) → IsAmong right w → IsAmong (joined left right) w
-joined-right [] right w same among = among
-joined-right (v ∷ vs) right w same among =
+pub merged-right : (left right : List Variable) (w : Variable) → ((v : Variable) → IsAmong left v → v.name ≡ w.name → v ≡ w) → IsAmong right w → IsAmong (merged left right) w
+merged-right [] right w same among = among
+merged-right (v ∷ vs) right w same among =
     let rest = without_first v.name (from v.name right) in
-    ⊎_elim (λ b. among-left (before v.name right) (v ∷ joined vs rest) w b)
-    (λ f. among-right (before v.name right) (v ∷ joined vs rest) w (⊎_elim (λ is. inl (same v (inl refl) (sym is)))
-    (λ r. inr (joined-right vs rest w (λ u there. same u (inr there)) r)) (among-rest v.name (from v.name right) w f)))
+    ⊎_elim (λ b. among-left (before v.name right) (v ∷ merged vs rest) w b)
+    (λ f. among-right (before v.name right) (v ∷ merged vs rest) w (⊎_elim (λ is. inl (same v (inl refl) (sym is)))
+    (λ r. inr (merged-right vs rest w (λ u there. same u (inr there)) r)) (among-rest v.name (from v.name right) w f)))
     (among-split v.name right w among)
 
 -- the distinct variables of a list rise
 gathered-rising : (there vs : List Variable) → AreRising there → AreRising (gathered_with there vs)
 gathered-rising there [] rising = rising
-gathered-rising there (v ∷ vs) rising = gathered-rising (joined there (v ∷ [])) vs (joined-rising there (v ∷ []) rising (tt, tt))
+gathered-rising there (v ∷ vs) rising = gathered-rising (merged there (v ∷ [])) vs (merged-rising there (v ∷ []) rising (tt, tt))
 
 pub distinct-rising : (vs : List Variable) → AreRising (distinct vs)
 distinct-rising vs = gathered-rising [] vs tt

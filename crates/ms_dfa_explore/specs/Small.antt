@@ -66,14 +66,14 @@ abbrev pub track_bits : Bits → TrackBits
 track_bits bits = record { first = bits 0; second = bits 1; third = bits 2 }
 
 -- a machine of known states, without its code
-pub record Table : Type 0 where
+pub record TransitionTable : Type 0 where
   pub states : ℕ
   pub start : TrackBits → ℕ
   pub step : ℕ → TrackBits → ℕ
   pub sign : ℕ → Sign
 
 -- what is found of it: all of its states, by the bits of these tracks
-abbrev pub findings_of : Table → List ℕ → List ℕ → Findings
+abbrev pub findings_of : TransitionTable → List ℕ → List ℕ → Findings
 findings_of table truth letters = record {
   count = table.states;
   starts = Tabulated (lead_by table.start table.step None) truth zero_bits;
@@ -84,24 +84,24 @@ findings_of table truth letters = record {
 }
 
 -- as a machine over words, whose variables are those of the tracks
-abbrev pub machine_of : Table → List Variable → Machine ℕ
+abbrev pub machine_of : TransitionTable → List Variable → Machine ℕ
 machine_of table variables = record {
   start = λ truth. table.start (track_bits (truth_bits variables truth));
   step = λ state letter. table.step state (track_bits (letter_bits variables letter));
 }
 
 -- the sign of a word
-abbrev pub sign_by : Table → List Variable → Word → Sign
+abbrev pub sign_by : TransitionTable → List Variable → Word → Sign
 sign_by table variables word = table.sign (end_of (machine_of table variables) word)
 
 -- the start and each step lead to a state
-pub record IsClosedTable (table : Table) : Type 0 where
+pub record IsClosedTable (table : TransitionTable) : Type 0 where
   pub start : (bits : TrackBits) → table.start bits < table.states
   pub step : (state : ℕ) (bits : TrackBits) → state < table.states → table.step state bits < table.states
 
 -- the machine has the sign Outside at the words that encode no assignment alone, and in WS1S zeros at the end of another
 -- word do not change its sign
-pub record TellsWords (mode : Mode) (variables : List Variable) (table : Table) : Type 0 where
+pub record TellsWords (mode : Mode) (variables : List Variable) (table : TransitionTable) : Type 0 where
   pub encodings : (word : Word) → IsWordOver variables word → IsEncoding mode variables word ↔ (sign_by table variables word ≢ Outside)
   pub settled :
       mode ≡ Ws1s → (word : Word) → IsWordOver variables word → IsEncoding Ws1s variables word

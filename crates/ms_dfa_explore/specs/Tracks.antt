@@ -17,14 +17,14 @@ without_first name [] = []
 without_first name (v ∷ vs) = if nat_eq v.name name then vs else v ∷ vs
 
 -- the variables of both lists, each once, in rising order where both lists rise
-abbrev pub joined : List Variable → List Variable → List Variable
-joined [] right = right
-joined (v ∷ vs) right = before v.name right ++ v ∷ joined vs (without_first v.name (from v.name right))
+abbrev pub merged : List Variable → List Variable → List Variable
+merged [] right = right
+merged (v ∷ vs) right = before v.name right ++ v ∷ merged vs (without_first v.name (from v.name right))
 
 -- the variables of a list, each once, in rising order, with those that are there already
 abbrev pub gathered_with : List Variable → List Variable → List Variable
 gathered_with there [] = there
-gathered_with there (v ∷ vs) = gathered_with (joined there (v ∷ [])) vs
+gathered_with there (v ∷ vs) = gathered_with (merged there (v ∷ [])) vs
 
 abbrev pub distinct : List Variable → List Variable
 distinct vs = gathered_with [] vs
@@ -33,11 +33,6 @@ distinct vs = gathered_with [] vs
 abbrev pub place_of : ℕ → List Variable → ℕ
 place_of name [] = 0
 place_of name (v ∷ vs) = if nat_eq v.name name then 0 else suc (place_of name vs)
-
--- the variable is one of the list
-abbrev pub IsAmong : List Variable → Variable → Type 0
-IsAmong [] w = ⊥
-IsAmong (v ∷ vs) w = (v ≡ w) ⊎ IsAmong vs w
 
 -- the places of variables in a list
 abbrev pub places_among : List Variable → List Variable → List ℕ

@@ -113,7 +113,7 @@ impl<M: SmallMachine + Drop> Machine for Known<M> {
 
 /// The automaton over these tracks that gives each word the sign of the machine. Nodes and states are together at most
 /// `limit`, and no more than eight for each state and for the start.
-pub fn build<M: SmallMachine + Drop>(
+pub fn from_machine<M: SmallMachine + Drop>(
     alloc: Global,
     machine: M,
     mode: Mode,

@@ -2,7 +2,7 @@ ghost use Rattle.std.specs.Prelude.{◌≡◌, true, false, [], ◌∷◌, None,
 ghost use Rattle.ms_logic_words.specs.declared.sign.Sign.TheVariants.{Yes, No};
 ghost use Rattle.ms_logic_words.specs.Content.{is_truth_value, is_in_letters};
 ghost use Rattle.ms_dfa_explore.specs.inner.Examples.{flips, one_of_each, set, word};
-ghost use Rattle.ms_dfa_explore.specs.Tracks.{distinct, joined, place_of, places_among};
+ghost use Rattle.ms_dfa_explore.specs.Tracks.{distinct, merged, place_of, places_among};
 ghost use Rattle.ms_dfa_explore.specs.Small.{bit_at, lead_by, most_nodes, places_of, read_tracks, sign_by, with_bit_at, zero_bits};
 
 /// The bits of tracks, and where a table leads by them.
@@ -33,9 +33,9 @@ pub fn worked_table_signs()
 
 /// The variables of two lists in one, and those of one list, each once.
 pub fn worked_joins()
-    ensures both { joined (set 1 ∷ set 3 ∷ []) (set 2 ∷ set 3 ∷ set 4 ∷ []) ≡ set 1 ∷ set 2 ∷ set 3 ∷ set 4 ∷ [] }
-    ensures nothing_on_the_right { joined (set 1 ∷ []) [] ≡ set 1 ∷ [] }
-    ensures one_behind { joined (set 5 ∷ []) (set 7 ∷ []) ≡ set 5 ∷ set 7 ∷ [] }
+    ensures both { merged (set 1 ∷ set 3 ∷ []) (set 2 ∷ set 3 ∷ set 4 ∷ []) ≡ set 1 ∷ set 2 ∷ set 3 ∷ set 4 ∷ [] }
+    ensures nothing_on_the_right { merged (set 1 ∷ []) [] ≡ set 1 ∷ [] }
+    ensures one_behind { merged (set 5 ∷ []) (set 7 ∷ []) ≡ set 5 ∷ set 7 ∷ [] }
     ensures falling { distinct (set 7 ∷ set 5 ∷ set 7 ∷ []) ≡ set 5 ∷ set 7 ∷ [] }
     ensures place { place_of 7 (set 5 ∷ set 7 ∷ []) ≡ 1 }
     ensures places { places_among (set 5 ∷ set 9 ∷ []) (set 3 ∷ set 5 ∷ set 7 ∷ set 9 ∷ []) ≡ 1 ∷ 3 ∷ [] }

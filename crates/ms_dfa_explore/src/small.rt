@@ -53,11 +53,11 @@ impl TrackBits {
 
 /// A deterministic machine over the bits of at most three tracks, all of whose states are known by their numbers.
 pub trait SmallMachine {
-    ghost use Rattle.ms_dfa_explore.specs.Small.{Table};
+    ghost use Rattle.ms_dfa_explore.specs.Small.{TransitionTable};
 
     /// Its states, where the truth values of the tracks lead from the start and their bits from a state, and the signs of the
     /// words that end in a state.
-    ghost table: { Self → Table };
+    ghost table: { Self → TransitionTable };
 
     fn states(&self) -> u32
         ensures { result ≡ (table self.now).states };

@@ -1,8 +1,8 @@
 ghost use Rattle.std.specs.Prelude.{◌≡◌, ◌≤◌, ◌+◌, ◌++◌, ◌∷◌, drop, length, IfOk, OnOk};
 ghost use Rattle.ms_dfa.specs.Automaton.{variables_of};
-ghost use Rattle.ms_dfa_explore.specs.Tracks.{IsAmong, before, distinct, from, joined, place_of, places_among, without_first};
+ghost use Rattle.ms_dfa_explore.specs.Tracks.{before, distinct, from, merged, place_of, places_among, without_first};
 ghost use Rattle.ms_logic.specs.Assignment.{Variable};
-ghost use Rattle.ms_logic.specs.Lists.{AreRising};
+ghost use Rattle.ms_logic.specs.Lists.{AreRising, IsAmong};
 
 use ms_dfa::Track;
 use ms_list::{List, NoMemory, push};
@@ -42,8 +42,8 @@ fn pass(tracks: &[Track], place: usize, variable: u32) -> usize
 }
 
 /// The tracks of both lists, each variable once; they rise where those of both lists do.
-pub fn join(alloc: Global, left: &[Track], right: &[Track]) -> Result<List<Track>, NoMemory>
-    ensures { IfOk result (λ made. variables_of made ≡ joined (variables_of left.now) (variables_of right.now)) }
+pub fn merge(alloc: Global, left: &[Track], right: &[Track]) -> Result<List<Track>, NoMemory>
+    ensures { IfOk result (λ made. variables_of made ≡ merged (variables_of left.now) (variables_of right.now)) }
 {
     let mut made = List::new(alloc);
     let mut place = 0;
@@ -64,7 +64,7 @@ pub fn distinct(alloc: Global, places: &[Track]) -> Result<List<Track>, NoMemory
 {
     let mut made = List::new(alloc);
     for place in places {
-        made = join(alloc, made.slice(), &[*place])?;
+        made = merge(alloc, made.slice(), &[*place])?;
     }
     Ok(made)
 }

@@ -19,8 +19,8 @@ use Rattle.ms_dfa.specs.declared.plain.FileSign.TheVariants.{Plus, Minus, Zero}
 use Rattle.ms_dfa.specs.declared.plain.Plain.{Plain}
 use Rattle.ms_dfa.specs.Files.{content_of_file}
 use Rattle.ms_dfafile_adopt.specs.Import.{Fits, IsFirstOpen, IsNotImportable, ShowsOpen}
-use Rattle.ms_dfafile_adopt.specs.inner.Open.{IsFirstChange, IsSettledIn, ShowsChange, ShowsNoChange}
-use Rattle.ms_dfafile_adopt.specs.inner.Said.{HasSignsOf, own_sign, refusal_of}
+use Rattle.ms_dfafile_adopt.specs.inner.Open.{IsFirstChange, IsInMode, ShowsChange, ShowsNoChange}
+use Rattle.ms_dfafile_adopt.specs.inner.OverSets.{HasSignsOf, own_sign, refusal_of}
 use Rattle.ms_dfafile_adopt.proofs.ModeLemmas.{encoding_in}
 use Rattle.ms_dfafile_adopt.proofs.VariableLemmas.{rising-by_place}
 
@@ -87,12 +87,12 @@ module _ (plain : Plain) (own : Content Sign) (signs_are : HasSignsOf plain M2lS
   never_open none is = none is.word (change-open is.word (is.e, is.assignment, is.encodes, is.changes))
 
 -- a settled automaton has the signs of the file in its mode
-pub settled_signs : (plain : Plain) (mode : Mode) (own made : Content Sign) → HasSignsOf plain M2lStr own → IsSettledIn mode own made → HasSignsOf plain mode made
+pub settled_signs : (plain : Plain) (mode : Mode) (own made : Content Sign) → HasSignsOf plain M2lStr own → IsInMode mode own made → HasSignsOf plain mode made
 settled_signs plain mode own made signs_are settled =
     subst (HasSignsOf plain mode) (sym settled.same) (record { mode_is = refl; variables_are = signs_are.variables_are; signs = signs_are.signs })
 
 -- where an automaton of the file is settled in its mode, the file is not open
-pub settled_file : (plain : Plain) (mode : Mode) (own made : Content Sign) → plain.mode ≡ mode → HasSignsOf plain M2lStr own → IsSettledIn mode own made → ¬ IsOpen (content_of_file plain)
+pub settled_file : (plain : Plain) (mode : Mode) (own made : Content Sign) → plain.mode ≡ mode → HasSignsOf plain M2lStr own → IsInMode mode own made → ¬ IsOpen (content_of_file plain)
 settled_file plain mode own made mode_is signs_are settled is =
     never_open plain own signs_are is.numbers (settled.none (sym mode_is ∙ is.numbers)) is
 
@@ -100,4 +100,4 @@ settled_file plain mode own made mode_is signs_are settled is =
 pub refused_by : (A : Type 0) (P : ℕ → Type 0) (plain : Plain) (used : ImportUse) (mode : Mode) (limit : ℕ) (fault : StepFault) → Fits plain used mode
     → OnRefused {A = A} (Err fault) (λ refused. (refused ≡ limit) × P refused) → IsNotImportable plain used mode limit (refusal_of fault)
 refused_by A P plain used mode limit Memory fits cause = tt
-refused_by A P plain used mode limit (Nodes refused) fits cause = (cause.0, fits)
+refused_by A P plain used mode limit (Nodes refused) fits cause = (refl, cause.0, fits)

@@ -4,12 +4,13 @@ use Rattle.ms_logic_words.specs.declared.sign.Sign.{Sign}
 use Rattle.ms_logic_words.specs.declared.sign.Sign.TheVariants.{Yes, No, Undefined, Outside}
 use Rattle.ms_logic.specs.Assignment.{Env, Variable, IsAssignment, IsUniverseOf, value_at}
 use Rattle.ms_logic_words.specs.Content.{answer_by, env_of, shortest_word}
+use Rattle.ms_logic_words.specs.Signs.{answer_for}
 use Rattle.ms_logic.specs.Truth.{Answer, answer_yes, answer_no, answer_undefined}
 use Rattle.ms_logic_words.proofs.WordLaws.{length_is_least}
 use Rattle.ms_logic.proofs.Agreement.{universe-assign_all}
 use Rattle.ms_dfa.specs.declared.plain.Plain.{Plain}
 use Rattle.ms_dfafile_adopt.specs.Import.{adopted_meaning, answer_of_file}
-use Rattle.ms_dfafile_adopt.specs.Laws.{AnswersAsFile, answer_for}
+use Rattle.ms_dfafile_adopt.specs.Laws.{AnswersAsFile}
 use Rattle.ms_dfafile_adopt.proofs.ValueLemmas.{given_each, given_values}
 
 -- an answer that is neither yes nor no

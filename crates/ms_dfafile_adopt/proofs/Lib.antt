@@ -1,5 +1,4 @@
 pub mod AgreeLemmas
-pub mod CheckedLemmas
 pub mod ExampleLemmas
 pub mod FileLemmas
 pub mod LawLemmas
@@ -8,9 +7,10 @@ pub mod MapLemmas
 pub mod ModeLemmas
 pub mod NumberLemmas
 pub mod OpenLemmas
+pub mod OverNumbersLemmas
+pub mod OverSetsLemmas
 pub mod PairLemmas
 pub mod RunLemmas
-pub mod SaidLemmas
 pub mod SetLemmas
 pub mod ValueLemmas
 pub mod VariableLemmas

@@ -15,6 +15,7 @@ use Rattle.ms_dfa.specs.declared.plain.Plain.{Plain}
 use Rattle.ms_dfafile_adopt.proofs.ListLemmas.{taken_more}
 use Rattle.ms_dfafile_adopt.specs.Import.{HasVariables, Named, variables_named, variables_of_file}
 use Rattle.ms_dfafile_adopt.specs.inner.Map.{ArePlacesOf, FindsName, HaveOrdersAt, IsEachThere, IsIndex, IsNaming, file_names, pair_names}
+use Rattle.ms_logic.proofs.Items.{contains_at}
 
 -- the equality of borrowed names
 abbrev pub same_bytes : Bor (List ℕ) → Bor (List ℕ) → Bool
@@ -95,9 +96,6 @@ is_item f items place x held = slice_get-map f items place ∙ ap (option_map f)
 -- an item that a list contains stands at a place
 contained_at : {X : Type 0} (items : List X) (x : X) → Contains items x → (place : ℕ) × (slice_get items place ≡ Some x)
 contained_at items x is = (is.0, slice_get-get_or items is.0 x is.1 ∙ ap Some is.2)
-
-contains_at : {X : Type 0} (items : List X) (place : ℕ) (x : X) → slice_get items place ≡ Some x → Contains items x
-contains_at items place x held = (place, slice_get_within items place x held, get_or_from_slice_get items place x x held)
 
 all_contained : {X : Type 0} (some items : List X) → ((place : ℕ) (x : X) → slice_get items place ≡ Some x → Contains some x) → All (Contains some) items
 all_contained some items each place d within =

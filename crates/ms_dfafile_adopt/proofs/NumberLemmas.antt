@@ -8,16 +8,16 @@ use Rattle.ms_logic_words.specs.declared.sign.Sign.TheVariants.{Yes, No, Undefin
 use Rattle.ms_logic.specs.Assignment.{Env, Variable, IsAssignment}
 use Rattle.ms_logic_words.specs.Content.{Content, shortest_word}
 use Rattle.ms_logic_core.specs.CoreForm.{truth}
-use Rattle.ms_logic.specs.Lists.{AreRising}
+use Rattle.ms_logic.specs.Lists.{AreRising, IsAmong}
 use Rattle.ms_dfa.specs.Automaton.{IsAutomaton}
 use Rattle.ms_dfa.specs.Values.{HasValues, core_meaning, own_meaning}
 use Rattle.ms_dfa.proofs.EncodingLemmas.{shortest}
-use Rattle.ms_dfa_explore.specs.Tracks.{IsAmong, joined}
-use Rattle.ms_dfa_explore.proofs.AmongLemmas.{among_at, joined-either}
-use Rattle.ms_dfa_explore.proofs.TracksLemmas.{joined-left, joined-right}
+use Rattle.ms_dfa_explore.specs.Tracks.{merged}
+use Rattle.ms_dfa_explore.proofs.AmongLemmas.{among_at, merged-either}
+use Rattle.ms_dfa_explore.proofs.TracksLemmas.{merged-left, merged-right}
 use Rattle.ms_product.specs.Combined.{HaveEqualOrders}
 use Rattle.ms_rename.specs.Whole.{always}
-use Rattle.ms_dfafile_adopt.specs.inner.Checked.{TellsNumbers}
+use Rattle.ms_dfafile_adopt.specs.inner.OverNumbers.{TellsNumbers}
 use Rattle.ms_dfafile_adopt.proofs.VariableLemmas.{IsAssignment-among, one_named}
 
 always_true : (e : Env) (sign : Sign) → core_meaning [] truth e sign → always e sign
@@ -54,13 +54,13 @@ module _ (vs : List Variable) (rising : AreRising vs) (count : ℕ) (v : Variabl
     values = tells.values;
   }
 
-  module _ (automaton : IsAutomaton content) (made : Content Sign) (mode_is : made.mode ≡ content.mode) (variables_are : made.variables ≡ joined content.variables (v ∷ []))
+  module _ (automaton : IsAutomaton content) (made : Content Sign) (mode_is : made.mode ≡ content.mode) (variables_are : made.variables ≡ merged content.variables (v ∷ []))
       (values : HasValues (own_meaning content) made) where
     was_among : (w : Variable) → IsAmong content.variables w → IsAmong made.variables w
-    was_among w there = subst (λ ws. IsAmong ws w) (sym variables_are) (joined-left content.variables (v ∷ []) w there)
+    was_among w there = subst (λ ws. IsAmong ws w) (sym variables_are) (merged-left content.variables (v ∷ []) w there)
 
     now_among : IsAmong made.variables v
-    now_among = subst (λ ws. IsAmong ws v) (sym variables_are) (joined-right content.variables (v ∷ []) v (λ u there name. equal_orders u v there (inl refl) name) (inl refl))
+    now_among = subst (λ ws. IsAmong ws v) (sym variables_are) (merged-right content.variables (v ∷ []) v (λ u there name. equal_orders u v there (inl refl) name) (inl refl))
 
     -- it is Yes at each assignment still
     still : (e : Env) → IsAssignment made.mode made.variables e → (sign : Sign) → own_meaning content e sign → always e sign
@@ -73,7 +73,7 @@ module _ (vs : List Variable) (rising : AreRising vs) (count : ℕ) (v : Variabl
     TellsNumbers-more = record {
       mode_is = mode_is ∙ tells.mode_is;
       among = λ w there. ⊎_elim (tells.among w) (λ own. subst (IsAmong vs) (only_own w own) own_among)
-          (joined-either content.variables (v ∷ []) w (subst (λ ws. IsAmong ws w) variables_are there));
+          (merged-either content.variables (v ∷ []) w (subst (λ ws. IsAmong ws w) variables_are there));
       numbers = λ place w less there number. ⊎_elim
           (λ before. was_among w (tells.numbers place w before there number))
           (λ past. subst (IsAmong made.variables) (is_last place w less there (omega (arith, past))) now_among)

@@ -13,7 +13,7 @@ use Rattle.ms_logic.specs.declared.mode.Order.TheVariants.{Zero, One, Two}
 use Rattle.ms_logic_words.specs.declared.sign.Sign.{Sign}
 use Rattle.ms_logic.specs.Assignment.{Universe, Env, Variable, IsAssignment, IsValueOf, value_at, AreValuesOf}
 use Rattle.ms_logic_words.specs.Content.{Content, answer_by, env_of, shortest_word, sign_of, variables_by_place}
-use Rattle.ms_logic.specs.Lists.{AreRising}
+use Rattle.ms_logic.specs.Lists.{AreRising, IsAmong}
 use Rattle.ms_logic.proofs.Agreement.{universe-assign_all}
 use Rattle.ms_logic_words.proofs.WordLaws.{length_is_least}
 use Rattle.ms_dfa.specs.Automaton.{IsAutomaton}
@@ -25,7 +25,7 @@ use Rattle.ms_dfa.specs.Narrow.{ReadsThrough}
 use Rattle.ms_dfa.specs.Values.{HasValues, own_meaning}
 use Rattle.ms_dfa.proofs.NarrowLemmas.{narrowed_assigned}
 use Rattle.ms_dfa.proofs.OwnMeaningLemmas.{word_has_sign}
-use Rattle.ms_dfa_explore.specs.Tracks.{IsAmong, distinct, place_of}
+use Rattle.ms_dfa_explore.specs.Tracks.{distinct, place_of}
 use Rattle.ms_dfa_explore.proofs.AmongLemmas.{among_at, held_among, one_place}
 use Rattle.ms_dfa_explore.proofs.TracksLemmas.{distinct-rising, place_of-among}
 use Rattle.ms_basic.specs.Operands.{HaveOneOrder}
@@ -37,7 +37,7 @@ use Rattle.ms_rename.specs.Renamed.{read_by, renamed, renamed_meaning}
 use Rattle.ms_rename.proofs.RenamedLemmas.{renamed-at, renamed-of}
 use Rattle.ms_dfafile_adopt.specs.Import.{adopted_meaning, answer_for_file, answer_of_file, value_named}
 use Rattle.ms_dfafile_adopt.specs.inner.Map.{IsNaming, pair_names}
-use Rattle.ms_dfafile_adopt.specs.inner.Said.{HasSignsOf, own_sign, own_variables}
+use Rattle.ms_dfafile_adopt.specs.inner.OverSets.{HasSignsOf, own_sign, own_variables}
 use Rattle.ms_dfafile_adopt.proofs.AgreeLemmas.{Agrees, shortest-agreeing}
 use Rattle.ms_dfafile_adopt.proofs.MapLemmas.{is_item, one_place_of, was_item}
 use Rattle.ms_dfafile_adopt.proofs.ModeLemmas.{encoding_in}

@@ -6,8 +6,7 @@ use Rattle.ms_logic.specs.declared.mode.Mode.{Mode}
 use Rattle.ms_logic.specs.declared.mode.Order.{Order}
 use Rattle.ms_logic.specs.Assignment.{Env, Variable, GivesEach, IsAssignment, IsValueOf, value_at}
 use Rattle.ms_logic_words.specs.Content.{variables_from}
-use Rattle.ms_logic.specs.Lists.{AreRising, IsBelowFirst}
-use Rattle.ms_dfa_explore.specs.Tracks.{IsAmong}
+use Rattle.ms_logic.specs.Lists.{AreRising, IsBelowFirst, IsAmong}
 use Rattle.ms_dfa_explore.proofs.AmongLemmas.{held_among, names_rise}
 
 below_first : (base : ℕ) (orders : List Order) (name : ℕ) → name < base → IsBelowFirst name (variables_from base orders)

@@ -2,21 +2,13 @@
 use Rattle.std.specs.Prelude.{◌≡◌, ℕ, List, map}
 use Rattle.ms_logic.specs.declared.assignment.Value.{Value}
 use Rattle.ms_logic_words.specs.declared.sign.Sign.{Sign}
-use Rattle.ms_logic_words.specs.declared.sign.Sign.TheVariants.{Yes, No, Undefined, Outside}
 use Rattle.ms_logic.specs.Assignment.{Universe, AreValuesOf, IsUniverseOf}
 use Rattle.ms_logic_words.specs.Content.{Content, answer_of}
 use Rattle.ms_logic.specs.Lists.{AreRising}
-use Rattle.ms_logic.specs.Truth.{Answer, answer_yes, answer_no, answer_undefined}
 use Rattle.ms_dfa.specs.declared.plain.Plain.{Plain}
 use Rattle.ms_dfa.specs.Values.{HasValues}
 use Rattle.ms_dfafile_adopt.specs.Import.{adopted_meaning, answer_of_file}
-
--- a sign as an answer
-abbrev pub answer_for : Sign → Answer
-answer_for Yes = answer_yes
-answer_for No = answer_no
-answer_for Undefined = answer_undefined
-answer_for Outside = answer_undefined
+use Rattle.ms_logic_words.specs.Signs.{answer_for}
 
 -- a content over rising variables with the values of a file answers what the file says, at all values of its variables
 abbrev pub AnswersAsFile : Type 0

@@ -1,6 +1,6 @@
-pub mod Checked
 pub mod Examples
 pub mod Map
 pub mod Open
-pub mod Said
+pub mod OverNumbers
+pub mod OverSets
 pub mod Sets

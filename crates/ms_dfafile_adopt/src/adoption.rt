@@ -1,15 +1,15 @@
-ghost use Rattle.std.specs.Prelude.{◌≡◌, ◌≢◌, ◌≤◌, ℕ, AllPairs, map, IfOk, IfErr};
+ghost use Rattle.std.specs.Prelude.{◌≡◌, ◌≢◌, ◌≤◌, ◌+◌, ℕ, AllPairs, length, map, IfOk, IfErr};
 ghost use Rattle.ms_dfafile.specs.File.{IsFile};
 ghost use Rattle.ms_logic_words.specs.Content.{IsOpen, variables_by_place};
 ghost use Rattle.ms_dfa.specs.Values.{HasValues};
 ghost use Rattle.ms_dfa.specs.Files.{content_of_file};
 ghost use Rattle.ms_dfafile_adopt.specs.Import.{Fits, IsImportable, IsNotImportable, adopted_meaning};
 ghost use Rattle.ms_dfafile_adopt.specs.inner.Map.{IsNaming};
-ghost use Rattle.ms_dfafile_adopt.specs.inner.Said.{HasSignsOf, refusal_of};
+ghost use Rattle.ms_dfafile_adopt.specs.inner.OverSets.{HasSignsOf, refusal_of};
 
+use crate::in_mode::{NotInMode, in_mode};
 use crate::naming::naming;
-use crate::own::own;
-use crate::settle::{Unsettled, settle};
+use crate::over_strings::over_strings;
 use ms_dfa::{Automaton, Plain};
 use ms_edge::Refusal;
 use ms_list::{List, StepFault, Text};
@@ -66,17 +66,18 @@ fn own_in_mode(
     requires small { limit ≤ 4000000000 }
     ensures signs { IfOk result (HasSignsOf plain.now mode) }
     ensures settled { IfOk result (λ made. ¬ IsOpen (content_of_file plain.now)) }
+    ensures within { IfOk result (λ made. length made.nodes + length made.states ≤ limit) }
     ensures refused { IfErr result (IsNotImportable plain.now used.now mode limit) }
 {
-    let own = match own(alloc, plain, limit) {
+    let own = match over_strings(alloc, plain, limit) {
         Ok(own) => own,
         Err(fault) => return Err(refused(fault)),
     };
     let at = used.at;
-    match settle(alloc, own, mode) {
+    match in_mode(alloc, own, mode) {
         Ok(made) => Ok(made),
-        Err(Unsettled::Memory) => Err(Refusal::Memory),
-        Err(Unsettled::Open(word)) => match Text::new(alloc, used.name.text()) {
+        Err(NotInMode::Memory) => Err(Refusal::Memory),
+        Err(NotInMode::Open(word)) => match Text::new(alloc, used.name.text()) {
             Ok(name) => {
                 let length = word.letters.len() as u64;
                 Err(Refusal::ImportOpen {
@@ -92,7 +93,8 @@ fn own_in_mode(
 }
 
 /// The automaton of a file over the variables of an import: variable `j` is the one that pair `j` names. It answers at all
-/// values of these variables what the file says there. Nodes and states of a step are together at most `limit`.
+/// values of these variables what the file says there. Nodes and states of a step are together at most `limit`. It knows of
+/// one import, so a refusal for nodes names step 0.
 pub fn adopt(
     alloc: Global,
     plain: &Plain,
@@ -109,6 +111,7 @@ pub fn adopt(
     ensures values { IfOk result (HasValues
         (adopted_meaning plain.now (map (λ pair. pair.name) used.now.pairs) (variables_by_place (map (λ pair. pair.order) used.now.pairs)))) }
     ensures importable { IfOk result (λ made. IsImportable plain.now mode used.now.pairs) }
+    ensures within { IfOk result (λ made. length made.nodes + length made.states ≤ limit) }
     ensures refused { IfErr result (IsNotImportable plain.now used.now mode limit) }
 {
     let places = match fitting(alloc, plain, used, mode) {

@@ -1,6 +1,6 @@
 ghost use Rattle.std.specs.Prelude.{◌≡◌, length, IfOk, IfErr};
 ghost use Rattle.ms_arena.specs.Diagram.{IsOrdered};
-ghost use Rattle.ms_dfafile_adopt.specs.inner.Said.{HaveBecome, IsAtLimit};
+ghost use Rattle.ms_dfafile_adopt.specs.inner.OverSets.{HaveBecome, IsAtLimit};
 
 use crate::states::image;
 use ms_arena::{Node, Ref};

@@ -3,16 +3,16 @@
 
 mod adoption;
 mod changes;
-mod checked;
 mod examples;
 mod images;
+mod in_mode;
 mod laws;
 mod names;
 mod naming;
 mod numbers;
-mod own;
-mod said;
-mod settle;
+mod over_numbers;
+mod over_sets;
+mod over_strings;
 mod states;
 mod tracks;
 

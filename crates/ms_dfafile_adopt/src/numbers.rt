@@ -1,11 +1,11 @@
 ghost use Rattle.std.specs.Prelude.{◌≡◌, ◌≤◌, ◌∷◌, [], length, IfOk, IfErr};
 ghost use Rattle.ms_dfa.specs.Automaton.{variable_of, variables_of};
-ghost use Rattle.ms_dfa_explore.specs.Tracks.{joined};
+ghost use Rattle.ms_dfa_explore.specs.Tracks.{merged};
 ghost use Rattle.ms_logic.specs.Lists.{AreRising};
 ghost use Rattle.ms_product.specs.Combined.{HaveEqualOrders};
 ghost use Rattle.ms_dfa.specs.Values.{HasValues, own_meaning};
-ghost use Rattle.ms_dfafile_adopt.specs.inner.Checked.{TellsNumbers};
-ghost use Rattle.ms_dfafile_adopt.specs.inner.Said.{IsAtLimit};
+ghost use Rattle.ms_dfafile_adopt.specs.inner.OverNumbers.{TellsNumbers};
+ghost use Rattle.ms_dfafile_adopt.specs.inner.OverSets.{IsAtLimit};
 
 use ms_basic::constant;
 use ms_dfa::{Automaton, Track};
@@ -26,7 +26,7 @@ fn with_track(
     requires some { 1 ≤ limit }
     requires small { limit ≤ 4000000000 }
     ensures mode { IfOk result (λ made. made.mode ≡ content.now.mode) }
-    ensures variables { IfOk result (λ made. made.variables ≡ joined content.now.variables (variable_of track ∷ [])) }
+    ensures variables { IfOk result (λ made. made.variables ≡ merged content.now.variables (variable_of track ∷ [])) }
     ensures values { IfOk result (HasValues (own_meaning content.now)) }
     ensures limit { IfErr result (IsAtLimit limit) }
 {

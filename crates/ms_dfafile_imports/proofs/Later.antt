@@ -36,8 +36,8 @@ unread-later start one two used (FileSize name limit) read h =
 unread-later start one two used (ReadFault name) read h = (h.0, rose-before start.faults one.faults two.faults read.counts.faults h.1)
 unread-later start one two used refusal read h = absurd h
 
-pub refused-later : (start one two : FilesTold) (mode : Mode) (limit : ℕ) (used : ImportUse) (refusal : Refusal) → OnlyRead start one → IsRefusedAt (between one two) mode limit used refusal
-    → IsRefusedAt (between start two) mode limit used refusal
-refused-later start one two mode limit used refusal read (inl unread) = inl (unread-later start one two used refusal read unread)
-refused-later start one two mode limit used refusal read (inr (inl none)) = inr (inl (subst (λ held. IsNoAutomaton held used refusal) read.held none))
-refused-later start one two mode limit used refusal read (inr (inr misfit)) = inr (inr (subst (λ held. IsMisfit held mode limit used refusal) read.held misfit))
+pub refused-later : (start one two : FilesTold) (mode : Mode) (limit place : ℕ) (used : ImportUse) (refusal : Refusal) → OnlyRead start one → IsRefusedAt (between one two) mode limit place used refusal
+    → IsRefusedAt (between start two) mode limit place used refusal
+refused-later start one two mode limit place used refusal read (inl unread) = inl (unread-later start one two used refusal read unread)
+refused-later start one two mode limit place used refusal read (inr (inl none)) = inr (inl (subst (λ held. IsNoAutomaton held used refusal) read.held none))
+refused-later start one two mode limit place used refusal read (inr (inr misfit)) = inr (inr (subst (λ held. IsMisfit held mode limit place used refusal) read.held misfit))

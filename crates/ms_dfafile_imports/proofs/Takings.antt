@@ -1,14 +1,15 @@
 -- Imports that are taken one after the other.
-use Rattle.std.proofs.Common.{◌≡◌, ◌⊎◌, inl, inr, ℕ, zero, suc, ◌+◌, ◌<◌, length, get_or, slice_get, take, List, [], ◌∷◌, ◌++◌, Option, Some, refl, sym, ap, ◌∙◌, subst}
-use Rattle.std.proofs.lemmas.List.{take_more}
+use Rattle.std.proofs.Common.{◌≡◌, ◌⊎◌, inl, inr, ℕ, zero, suc, ◌+◌, ◌<◌, length, get_or, slice_get, take, List, [], ◌∷◌, ◌++◌, Option, Some, refl, sym, ap, ◌∙◌, subst, arith}
+use Rattle.std.proofs.lemmas.List.{length-take-le, take_more}
 use Rattle.std.proofs.lemmas.Option.{slice_get_read}
 use Rattle.ms_edge.specs.declared.refusal.Refusal.{Refusal}
-use Rattle.ms_edge.specs.declared.refusal.Refusal.TheVariants.{Memory}
+use Rattle.ms_edge.specs.declared.refusal.Refusal.TheVariants.{Memory, Nodes}
 use Rattle.ms_dfa.specs.declared.plain.Plain.{Plain}
 use Rattle.ms_edge.specs.Files.{FilesTold, Holding, OnlyRead, between}
+use Rattle.ms_dfafile_adopt.specs.Import.{IsNotImportable}
 use Rattle.ms_dfafile_imports.specs.Adopted.{AreAdopted}
-use Rattle.ms_dfafile_imports.specs.Imports.{AreImported, EachImported, HaveOneContent, IsUnimported}
-use Rattle.ms_dfafile_imports.specs.inner.Taken.{AreHeld, AreKept, AreNoted, AreTaken, IsRefusedAt, IsTaken, OneIsTaken, Table}
+use Rattle.ms_dfafile_imports.specs.Imports.{AreImported, EachImported, HaveOneContent, IsNotTaken, IsUnimported}
+use Rattle.ms_dfafile_imports.specs.inner.Taken.{AreHeld, AreKept, AreNoted, AreTaken, IsRefusedAt, IsTaken, OneIsTaken, Table, refused_at}
 use Rattle.ms_dfafile_imports.proofs.Later.{refused-later}
 use Rattle.ms_logic.specs.declared.checked.ImportUse.{ImportUse}
 use Rattle.ms_logic.specs.declared.mode.Mode.{Mode}
@@ -80,19 +81,37 @@ taken-imported held mode table uses contents each h =
     let all = contents-are held mode table uses contents each h in
     (all.0, record { each = all.1; once = one-content table uses all.0 all.2 }, all.3)
 
+-- each import that is taken has an automaton
+taken-long : (mode : Mode) (table : Table) (uses : List ImportUse) (contents : List (Content Sign)) → AreTaken mode table uses contents → length contents ≡ length uses
+taken-long mode table [] [] h = refl
+taken-long mode table [] (content ∷ contents) h = absurd h
+taken-long mode table (used ∷ uses) [] h = absurd h
+taken-long mode table (used ∷ uses) (content ∷ contents) h = ap suc (taken-long mode table uses contents h.1)
+
+-- why a file is not imported, with the number of the import in the place of 0
+at-place : (plain : Plain) (used : ImportUse) (mode : Mode) (limit place : ℕ) (refusal : Refusal) → IsNotImportable plain used mode limit refusal → IsNotTaken plain used mode limit place (refused_at place refusal)
+at-place plain used mode limit place (Nodes step named) why = (refl, (refl, why.1, why.2))
+at-place plain used mode limit place refusal why = why
+
+pub not-taken : (plain : Plain) (used : ImportUse) (mode : Mode) (limit place : ℕ) (refusal made : Refusal) → IsNotImportable plain used mode limit refusal → (made ≡ Memory) ⊎ (made ≡ refused_at place refusal)
+    → (made ≡ Memory) ⊎ IsNotTaken plain used mode limit place made
+not-taken plain used mode limit place refusal made why (inl memory) = inl memory
+not-taken plain used mode limit place refusal made why (inr is) = inr (subst (IsNotTaken plain used mode limit place) (sym is) (at-place plain used mode limit place refusal why))
+
 -- an import that fails, behind those that are taken
 pub refused-at : (start one two : FilesTold) (mode kept_mode : Mode) (limit kept_limit : ℕ) (table : Table) (imports uses : List ImportUse) (i : ℕ) (used : ImportUse) (contents : List (Content Sign)) (refusal : Refusal)
     → uses ≡ imports → kept_mode ≡ mode → kept_limit ≡ limit → OnlyRead start one → AreHeld start.held table → i < length uses → used ≡ get_or uses i used → AreTaken mode table (take i uses) contents
-    → (refusal ≡ Memory) ⊎ IsRefusedAt (between one two) kept_mode kept_limit used refusal → (refusal ≡ Memory) ⊎ IsUnimported (between start two) mode limit imports refusal
+    → (refusal ≡ Memory) ⊎ IsRefusedAt (between one two) kept_mode kept_limit (length contents) used refusal → (refusal ≡ Memory) ⊎ IsUnimported (between start two) mode limit imports refusal
 refused-at start one two mode kept_mode limit kept_limit table imports uses i used contents refusal are mode_is limit_is read each within is h (inl memory) = inl memory
 refused-at start one two mode kept_mode limit kept_limit table imports uses i used contents refusal are mode_is limit_is read each within is h (inr why) =
     let before = taken-imported start.held mode table (take i uses) contents each h in
-    let here = subst (λ m. IsRefusedAt (between one two) m limit used refusal) mode_is (subst (λ n. IsRefusedAt (between one two) kept_mode n used refusal) limit_is why) in
+    let long : length contents ≡ i = taken-long mode table (take i uses) contents h ∙ length-take-le i uses (omega (arith, within)) in
+    let here = subst (λ m. IsRefusedAt (between one two) m limit i used refusal) mode_is (subst (λ n. IsRefusedAt (between one two) kept_mode n i used refusal) limit_is (subst (λ p. IsRefusedAt (between one two) kept_mode kept_limit p used refusal) long why)) in
     inr (subst (λ us. IsUnimported (between start two) mode limit us refusal) are (record {
       place = i;
       used = used;
       here = slice_get_read uses (length uses) i used refl within is;
       earlier = before.0;
       taken = before.1;
-      why = refused-later start one two mode limit used refusal read here;
+      why = refused-later start one two mode limit i used refusal read here;
     }))

@@ -1,7 +1,7 @@
 -- Where files are told, the contents of imports are fixed, and an import that can be taken is refused for its nodes alone, or
 -- for want of memory.
 use Rattle.std.proofs.Common.{◌≡◌, ℕ, zero, suc, ◌⊎◌, inl, inr, length, slice_get, List, [], ◌∷◌, Option, Some, None, refl, ap, ◌∙◌, subst, arith}
-use Rattle.ms_dfafile_adopt.specs.Import.{IsImportable, IsNotImportable, ShowsOpen}
+use Rattle.ms_dfafile_adopt.specs.Import.{IsImportable, ShowsOpen}
 use Rattle.ms_dfa.specs.Files.{content_of_file}
 use Rattle.ms_dfa.specs.declared.plain.FileSign.{FileSign}
 use Rattle.ms_dfa.specs.declared.plain.Plain.{Plain}
@@ -12,7 +12,7 @@ use Rattle.ms_edge.specs.declared.refusal.Refusal.{Refusal}
 use Rattle.ms_edge.specs.declared.refusal.Refusal.TheVariants.{FileSize, ImportMissing, ImportMode, ImportOpen, ImportText, ImportVars, Memory, Nodes, ReadFault}
 use Rattle.ms_list.specs.declared.word.Word.{Word}
 use Rattle.ms_edge.specs.Files.{Holding, HoldsMoreThan, Lacks, Seen}
-use Rattle.ms_dfafile_imports.specs.Imports.{EachImported, IsHeld, IsImported, IsMisfit, IsNoAutomaton, IsUnread, automaton_limit}
+use Rattle.ms_dfafile_imports.specs.Imports.{EachImported, IsHeld, IsImported, IsMisfit, IsNoAutomaton, IsNotTaken, IsUnread, automaton_limit}
 use Rattle.ms_dfafile_imports.specs.Laws.{IsWantOfRoom, ToldImportsHaveOneContent, ToldImportsWantRoom}
 use Rattle.ms_logic.specs.declared.checked.ImportUse.{ImportUse}
 use Rattle.ms_logic.specs.declared.mode.Mode.{Mode}
@@ -75,28 +75,28 @@ spelled-never holding mode used plain (ImportText at name) h (at_is, name_is, (b
     none plain (subst (λ b. IsSpelled b plain) (same-bytes (holding used.name) h.is_held.bytes bytes h.is_held.holds holds) h.is_held.spelled)
 spelled-never holding mode used plain refusal h why = absurd why
 
-fitting : (mode : Mode) (limit : ℕ) (used : ImportUse) (plain : Plain) (refusal : Refusal) → IsImportable plain mode used.pairs → IsNotImportable plain used mode limit refusal → IsWantOfRoom limit refusal
-fitting mode limit used plain (ImportMode at name) h why = absurd (why.2 h.mode_is)
-fitting mode limit used plain (ImportVars at name) h why = absurd (why.3 h.variables)
-fitting mode limit used plain (ImportOpen at name count word) h why =
+fitting : (mode : Mode) (limit place : ℕ) (used : ImportUse) (plain : Plain) (refusal : Refusal) → IsImportable plain mode used.pairs → IsNotTaken plain used mode limit place refusal → IsWantOfRoom limit refusal
+fitting mode limit place used plain (ImportMode at name) h why = absurd (why.2 h.mode_is)
+fitting mode limit place used plain (ImportVars at name) h why = absurd (why.3 h.variables)
+fitting mode limit place used plain (ImportOpen at name count word) h why =
     absurd (h.settled (shown-open (content_of_file plain) word (why.2.0 ∙ why.3) why.4.shows))
-fitting mode limit used plain (Nodes step named) h why = inr (step, ap (Nodes step) why.0)
-fitting mode limit used plain Memory h why = inl refl
-fitting mode limit used plain refusal h why = absurd why
+fitting mode limit place used plain (Nodes step named) h why = inr (step, ap (Nodes step) why.1.1)
+fitting mode limit place used plain Memory h why = inl refl
+fitting mode limit place used plain refusal h why = absurd why
 
-refused-for-room : (seen : Seen) (holding : Holding) (mode : Mode) (limit : ℕ) (used : ImportUse) (plain : Plain) (refusal : Refusal) → seen.before.held ≡ Some holding
+refused-for-room : (seen : Seen) (holding : Holding) (mode : Mode) (limit place : ℕ) (used : ImportUse) (plain : Plain) (refusal : Refusal) → seen.before.held ≡ Some holding
     → (Rose seen.before.faults seen.after.faults → ⊥) → IsImported (Some holding) mode used plain
-    → IsUnread seen used refusal ⊎ IsNoAutomaton seen.before.held used refusal ⊎ IsMisfit seen.before.held mode limit used refusal → IsWantOfRoom limit refusal
-refused-for-room seen holding mode limit used plain refusal told calm h (inl unread) = absurd (unread-never seen holding mode used plain refusal told calm h unread)
-refused-for-room seen holding mode limit used plain refusal told calm h (inr (inl none)) =
+    → IsUnread seen used refusal ⊎ IsNoAutomaton seen.before.held used refusal ⊎ IsMisfit seen.before.held mode limit place used refusal → IsWantOfRoom limit refusal
+refused-for-room seen holding mode limit place used plain refusal told calm h (inl unread) = absurd (unread-never seen holding mode used plain refusal told calm h unread)
+refused-for-room seen holding mode limit place used plain refusal told calm h (inr (inl none)) =
     absurd (spelled-never holding mode used plain refusal h (subst (λ held. IsNoAutomaton held used refusal) told none))
-refused-for-room seen holding mode limit used plain refusal told calm h (inr (inr misfit)) =
-    let known = subst (λ held. IsMisfit held mode limit used refusal) told misfit in
+refused-for-room seen holding mode limit place used plain refusal told calm h (inr (inr misfit)) =
+    let known = subst (λ held. IsMisfit held mode limit place used refusal) told misfit in
     let same = held-once holding used.name known.0 plain known.1 h.is_held in
-    fitting mode limit used plain refusal h.importable (subst (λ p. IsNotImportable p used mode limit refusal) same known.2)
+    fitting mode limit place used plain refusal h.importable (subst (λ p. IsNotTaken p used mode limit place refusal) same known.2)
 
 -- where files are told and no read failed, imports that can be taken are refused for want of room alone
 pub imported-refused : ToldImportsWantRoom
 imported-refused seen holding mode limit uses plains refusal told calm h why =
     let one = imported-at seen.before.held mode uses plains why.place why.used h.each why.here in
-    refused-for-room seen holding mode limit why.used one.0 refusal told calm (subst (λ held. IsImported held mode why.used one.0) told one.1) why.why
+    refused-for-room seen holding mode limit why.place why.used one.0 refusal told calm (subst (λ held. IsImported held mode why.used one.0) told one.1) why.why

@@ -38,27 +38,27 @@ missing = record {
 
 -- why one import is refused
 
-missing-as : (used : ImportUse) (name : List ℕ) → IsUnread one_absence used (ImportMissing nowhere name) ⊎ IsNoAutomaton one_absence.before.held used (ImportMissing nowhere name)
-    ⊎ IsMisfit one_absence.before.held Ws1s 100 used (ImportMissing nowhere name) → name ≡ used.name
-missing-as used name (inl unread) = unread.1
-missing-as used name (inr (inl none)) = absurd none
-missing-as used name (inr (inr misfit)) = absurd misfit.2
+missing-as : (place : ℕ) (used : ImportUse) (name : List ℕ) → IsUnread one_absence used (ImportMissing nowhere name) ⊎ IsNoAutomaton one_absence.before.held used (ImportMissing nowhere name)
+    ⊎ IsMisfit one_absence.before.held Ws1s 100 place used (ImportMissing nowhere name) → name ≡ used.name
+missing-as place used name (inl unread) = unread.1
+missing-as place used name (inr (inl none)) = absurd none
+missing-as place used name (inr (inr misfit)) = absurd misfit.2
 
 pub other-name : IsUnimported one_absence Ws1s 100 (import_of (codes "a") ∷ []) (ImportMissing nowhere (codes "b")) → ⊥
-other-name h = names-differ (ap (λ (u : ImportUse). u.name) (only-one (import_of (codes "a")) h.used h.place h.here) ∙ sym (missing-as h.used (codes "b") h.why))
+other-name h = names-differ (ap (λ (u : ImportUse). u.name) (only-one (import_of (codes "a")) h.used h.place h.here) ∙ sym (missing-as h.place h.used (codes "b") h.why))
 
 none-rose : Rose 0 0 → ⊥
 none-rose (inl less) = omega (arith, less)
 none-rose (inr last) = omega (arith, last)
 
-fault-as : (used : ImportUse) (name : List ℕ) → IsUnread one_absence used (ReadFault name) ⊎ IsNoAutomaton one_absence.before.held used (ReadFault name)
-    ⊎ IsMisfit one_absence.before.held Ws1s 100 used (ReadFault name) → ⊥
-fault-as used name (inl unread) = none-rose unread.1
-fault-as used name (inr (inl none)) = none
-fault-as used name (inr (inr misfit)) = misfit.2
+fault-as : (place : ℕ) (used : ImportUse) (name : List ℕ) → IsUnread one_absence used (ReadFault name) ⊎ IsNoAutomaton one_absence.before.held used (ReadFault name)
+    ⊎ IsMisfit one_absence.before.held Ws1s 100 place used (ReadFault name) → ⊥
+fault-as place used name (inl unread) = none-rose unread.1
+fault-as place used name (inr (inl none)) = none
+fault-as place used name (inr (inr misfit)) = misfit.2
 
 pub no-fault : IsUnimported one_absence Ws1s 100 (import_of (codes "a") ∷ []) (ReadFault (codes "a")) → ⊥
-no-fault h = fault-as h.used (codes "a") h.why
+no-fault h = fault-as h.place h.used (codes "a") h.why
 
 -- the second of two, where the first is not taken
 not-taken : (one : ImportUse) (earlier : List Plain) → EachImported one_absence.before.held Ws1s (one ∷ []) earlier → ⊥
@@ -73,7 +73,7 @@ first-or-later one two used (suc (suc i)) earlier at h = absurd (omega (arith, s
 pub not-first : IsUnimported one_absence Ws1s 100 (import_of (codes "a") ∷ import_of (codes "b") ∷ []) (ImportMissing nowhere (codes "b")) → ⊥
 not-first h =
     let first = first-or-later (import_of (codes "a")) (import_of (codes "b")) h.used h.place h.earlier h.here h.taken.each in
-    names-differ (ap (λ (u : ImportUse). u.name) first ∙ sym (missing-as h.used (codes "b") h.why))
+    names-differ (ap (λ (u : ImportUse). u.name) first ∙ sym (missing-as h.place h.used (codes "b") h.why))
 
 -- contents
 

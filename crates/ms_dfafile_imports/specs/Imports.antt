@@ -5,14 +5,12 @@ use Rattle.ms_dfafile_adopt.specs.Import.{IsImportable, IsNotImportable, answer_
 use Rattle.ms_dfa.specs.declared.plain.Plain.{Plain}
 use Rattle.ms_dfafile.specs.File.{IsSpelled}
 use Rattle.ms_edge.specs.declared.refusal.Refusal.{Refusal}
-use Rattle.ms_edge.specs.declared.refusal.Refusal.TheVariants.{FileSize, ImportMissing, ImportText, ReadFault}
+use Rattle.ms_edge.specs.declared.refusal.Refusal.TheVariants.{FileSize, ImportMissing, ImportText, Nodes, ReadFault}
 use Rattle.ms_edge.specs.Counts.{Rose}
 use Rattle.ms_edge.specs.Files.{Holding, Holds, HoldsMoreThan, Lacks, Seen}
-use Rattle.ms_logic.specs.declared.assignment.Value.{Value}
 use Rattle.ms_logic.specs.declared.checked.ImportUse.{ImportUse}
 use Rattle.ms_logic.specs.declared.mode.Mode.{Mode}
-use Rattle.ms_logic.specs.Assignment.{Universe}
-use Rattle.ms_logic.specs.Truth.{Answer}
+use Rattle.ms_logic.specs.View.{Answers}
 
 -- the most bytes of an automaton file that is read
 abbrev pub automaton_limit : ℕ
@@ -48,7 +46,7 @@ pub record AreImported (held : Option Holding) (mode : Mode) (uses : List Import
   pub once : HaveOneContent uses plains
 
 -- the answers of imports with these contents: their files' variables go by the names in the pairs
-abbrev pub answers_by : List ImportUse → List Plain → List (Universe → List Value → Answer)
+abbrev pub answers_by : List ImportUse → List Plain → Answers
 answers_by uses plains = map (λ p. answer_of_file p.1 (map (λ pair. pair.name) p.0.pairs)) (zip uses plains)
 
 -- the file of an import was not read
@@ -66,9 +64,15 @@ IsNoAutomaton held used (ImportText at name) =
     × ((bytes : List ℕ) × Holds held used.name bytes × (length bytes ≤ automaton_limit) × ((plain : Plain) → ¬ IsSpelled bytes plain))
 IsNoAutomaton held used refusal = ⊥
 
+-- why a file cannot be taken for the import at a place: where its step would have more nodes and states than the limit, the refusal
+-- names the step by the place of the import
+abbrev pub IsNotTaken : Plain → ImportUse → Mode → ℕ → ℕ → Refusal → Type 0
+IsNotTaken plain used mode limit place (Nodes step named) = (step ≡ place) × IsNotImportable plain used mode limit (Nodes 0 named)
+IsNotTaken plain used mode limit place refusal = IsNotImportable plain used mode limit refusal
+
 -- it is one, and cannot be imported there under a limit on nodes and states
-abbrev pub IsMisfit : Option Holding → Mode → ℕ → ImportUse → Refusal → Type 0
-IsMisfit held mode limit used refusal = (plain : Plain) × IsHeld held used.name plain × IsNotImportable plain used mode limit refusal
+abbrev pub IsMisfit : Option Holding → Mode → ℕ → ℕ → ImportUse → Refusal → Type 0
+IsMisfit held mode limit place used refusal = (plain : Plain) × IsHeld held used.name plain × IsNotTaken plain used mode limit place refusal
 
 -- The first import that fails: those before it are taken, and it is not.
 pub record IsUnimported (seen : Seen) (mode : Mode) (limit : ℕ) (uses : List ImportUse) (refusal : Refusal) : Type 0 where
@@ -77,4 +81,4 @@ pub record IsUnimported (seen : Seen) (mode : Mode) (limit : ℕ) (uses : List I
   pub here : slice_get uses place ≡ Some used
   pub earlier : List Plain
   pub taken : AreImported seen.before.held mode (take place uses) earlier
-  pub why : IsUnread seen used refusal ⊎ IsNoAutomaton seen.before.held used refusal ⊎ IsMisfit seen.before.held mode limit used refusal
+  pub why : IsUnread seen used refusal ⊎ IsNoAutomaton seen.before.held used refusal ⊎ IsMisfit seen.before.held mode limit place used refusal

@@ -1,11 +1,11 @@
-ghost use Rattle.std.specs.Prelude.{◌≡◌, ◌≤◌, ◌⊎◌, ◌++◌, ◌∷◌, [], ℕ, map, IfErr, IfOk, IsSome, OnOk};
+ghost use Rattle.std.specs.Prelude.{◌≡◌, ◌≤◌, ◌⊎◌, ◌++◌, ◌∷◌, [], ℕ, length, map, IfErr, IfOk, IsSome, OnOk};
 ghost use Rattle.indexmap.specs.IndexMap.{get_by_text};
 ghost use Rattle.ms_names_checked.specs.Names.{AreDifferent};
 ghost use Rattle.ms_dfa.specs.declared.plain.Plain.{Plain as Content};
-ghost use Rattle.ms_dfafile_adopt.specs.Import.{IsNotImportable};
 ghost use Rattle.ms_dfafile.specs.File.{IsFile};
 ghost use Rattle.ms_edge.specs.Files.{OnlyRead, between};
-ghost use Rattle.ms_dfafile_imports.specs.inner.Taken.{AreHeld, AreKept, IsRefusedAt, IsTaken, OneIsTaken};
+ghost use Rattle.ms_dfafile_imports.specs.Imports.{IsNotTaken};
+ghost use Rattle.ms_dfafile_imports.specs.inner.Taken.{AreHeld, AreKept, IsRefusedAt, IsTaken, OneIsTaken, refused_at};
 
 use crate::contents::{content_of, know};
 use indexmap::IndexMap;
@@ -28,6 +28,20 @@ pub(crate) struct Taking {
     pub(crate) automata: List<Automaton>,
 }
 
+/// The refusal of the import at a place: a step that lacks nodes has the number of the import.
+fn at_import(refusal: Refusal, place: usize) -> Refusal
+    ensures { (result ≡ Refusal.Memory) ⊎ (result ≡ refused_at place refusal) }
+{
+    match refusal {
+        Refusal::Nodes { limit, .. } => match u32::try_from(place) {
+            Ok(step) => Refusal::Nodes { step, limit },
+            // So many imports have long taken all memory.
+            Err(_) => Refusal::Memory,
+        },
+        other => other,
+    }
+}
+
 impl Taking {
     /// The automaton of an import, the content of whose file is known.
     fn adopted(&self, used: &ImportUse) -> Result<Automaton, Refusal>
@@ -37,11 +51,14 @@ impl Taking {
         requires some { 1 ≤ self.now.limit }
         requires small { self.now.limit ≤ 4000000000 }
         ensures taken { IfOk result (IsTaken self.now.mode (λ n. get_by_text self.now.contents n) used.now) }
-        ensures refused { IfErr result (λ refusal. (plain : Content) × (get_by_text self.now.contents used.now.name ≡ Some plain)
-            × IsNotImportable plain used.now self.now.mode self.now.limit refusal) }
+        ensures refused { IfErr result (λ refusal. (refusal ≡ Refusal.Memory) ⊎ ((plain : Content) × (get_by_text self.now.contents used.now.name ≡ Some plain)
+            × IsNotTaken plain used.now self.now.mode self.now.limit (length self.now.automata) refusal)) }
     {
         match content_of(&self.contents, &used.name) {
-            Some(plain) => adopt(self.alloc, plain, used, self.mode, self.limit),
+            Some(plain) => match adopt(self.alloc, plain, used, self.mode, self.limit) {
+                Ok(automaton) => Ok(automaton),
+                Err(refusal) => Err(at_import(refusal, self.automata.len())),
+            },
             None => unreachable!(),
         }
     }
@@ -58,7 +75,7 @@ impl Taking {
         ensures held { OnOk result (AreHeld (F.told files.old).held (λ n. get_by_text self.new.contents n)) }
         ensures taken { OnOk result (OneIsTaken self.old.mode (λ n. get_by_text self.new.contents n) used.now self.old.automata self.new.automata) }
         ensures refused { IfErr result (λ refusal. (refusal ≡ Refusal.Memory)
-            ⊎ IsRefusedAt (between (F.told files.old) (F.told files.new)) self.old.mode self.old.limit used.now refusal) }
+            ⊎ IsRefusedAt (between (F.told files.old) (F.told files.new)) self.old.mode self.old.limit (length self.old.automata) used.now refusal) }
 
         ensures only_read { OnlyRead (F.told files.old) (F.told files.new) }
     {

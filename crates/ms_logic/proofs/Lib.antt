@@ -3,6 +3,7 @@ pub mod AssignedValues
 pub mod BitOrder
 pub mod Consistent
 pub mod FreeVariables
+pub mod Items
 pub mod Members
 pub mod OrderLaws
 pub mod SetLaws

@@ -129,8 +129,12 @@ globals_from count (g ∷ more) =
 abbrev pub import_of : ImportUse → (Universe → List Value → Answer) → Import
 import_of used answer = record { variables = map (λ p. record { name = p.variable; order = p.order }) used.pairs; answer = answer }
 
+-- the answers of imported automata, one after the other
+abbrev pub Answers : Type 0
+Answers = List (Universe → List Value → Answer)
+
 -- the source that a checked one stands for, where its imported automata have these answers
-abbrev pub problem_of : Checked → List (Universe → List Value → Answer) → Problem
+abbrev pub problem_of : Checked → Answers → Problem
 problem_of checked answers = record {
   mode = checked.mode;
   globals = globals_from 0 checked.globals;

@@ -6,13 +6,13 @@ use Rattle.ms_logic_core.specs.CoreForm.{CoreForm, truth, falsity, basic, negati
 use Rattle.ms_logic_core.specs.Spread.{variables_of_import}
 use Rattle.ms_logic_core.specs.Operands.{variables_of_basic, variables_at}
 use Rattle.ms_logic.specs.Truth.{Import}
-use Rattle.ms_logic.specs.Lists.{Among, Each}
+use Rattle.ms_logic.specs.Lists.{Each, IsAmong}
 
 abbrev mutual
   pub Stands : List Import → List Variable → CoreForm → Type 0
   Stands imports scope truth = Unit {0}
   Stands imports scope falsity = Unit {0}
-  Stands imports scope (basic b) = Each (Among scope) (variables_of_basic b)
+  Stands imports scope (basic b) = Each (IsAmong scope) (variables_of_basic b)
   Stands imports scope (negation f) = Stands imports scope f
   Stands imports scope (conjunction fs) = EachStands imports scope fs
   Stands imports scope (disjunction fs) = EachStands imports scope fs
@@ -21,7 +21,7 @@ abbrev mutual
   Stands imports scope (restrict f) = Stands imports scope f
   Stands imports scope (imported i xs) =
       (length xs ≡ length (variables_of_import (slice_get imports i)))
-      × Each (Among scope) (variables_at xs (variables_of_import (slice_get imports i)))
+      × Each (IsAmong scope) (variables_at xs (variables_of_import (slice_get imports i)))
   Stands imports scope (quantified q o x d f) =
       Each (λ v. v.name < x) scope
       × RestrictionStands imports (record { name = x; order = o } ∷ scope) d

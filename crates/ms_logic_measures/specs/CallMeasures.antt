@@ -14,7 +14,8 @@ use Rattle.ms_logic_words.specs.Content.{Content, variables_by_place}
 use Rattle.ms_logic_core.specs.CoreForm.{basic}
 use Rattle.ms_logic_measures.specs.FullContent.{HasPartCount, part_count}
 use Rattle.ms_logic_measures.specs.Starts.{Start, some_truth_values, whole_word, part_of_letter, IsStartOver, left_by}
-use Rattle.ms_logic_measures.specs.Steps.{joined, without}
+use Rattle.ms_logic_measures.specs.Steps.{joined}
+use Rattle.ms_logic.specs.Lists.{without}
 use Rattle.ms_logic_core.specs.Operands.{variables_of_basic, at_places}
 
 -- there are n items, if alike ones are counted once: n of them are pairwise different, and each item is like one of these

@@ -8,6 +8,7 @@ use Rattle.ms_logic_core.specs.Spread.{variables_of_import}
 use Rattle.ms_logic.specs.Truth.{Import}
 use Rattle.ms_logic.specs.Verdict.{Problem}
 use Rattle.ms_logic_core.specs.Operands.{variable, variables_of_basic, variables_at}
+use Rattle.ms_logic.specs.Lists.{without}
 
 -- one more variable in a list by rising numbers, where it stands once
 abbrev pub with_variable : Variable → List Variable → List Variable
@@ -19,9 +20,6 @@ with_variable v (w ∷ ws) =
 abbrev pub joined : List Variable → List Variable → List Variable
 joined [] ws = ws
 joined (v ∷ vs) ws = with_variable v (joined vs ws)
-
-abbrev pub without : ℕ → List Variable → List Variable
-without x vs = filter (λ v. not (v.name == x)) vs
 
 -- the free variables of a core formula, by rising numbers: globals come first, then bound variables, outer ones before inner ones
 abbrev mutual

@@ -11,7 +11,7 @@ use Rattle.ms_logic_core.specs.Spread.{callees_of, own_names, spread_each}
 use Rattle.ms_logic.specs.Tree.{Declaration, Form}
 use Rattle.ms_logic.specs.Truth.{Answer, meanings_of, Yes, No}
 use Rattle.ms_logic.specs.Verdict.{Problem, variables_of, MainYes, MainNo}
-use Rattle.ms_logic.specs.View.{formula_of, forms, globals_from, problem_of}
+use Rattle.ms_logic.specs.View.{formula_of, forms, globals_from, problem_of, Answers}
 use Rattle.ms_logic_core.proofs.Saying.{reading-weaker}
 use Rattle.ms_names_rules.specs.Numbers.{Tables, IsNumbered, AreNumbered, IsNumberedRestriction, IsWellNumbered, tables_of, globals_seen}
 use Rattle.ms_logic.specs.Lists.{Each}
@@ -64,7 +64,7 @@ forms_numbered : (tables : Tables) (bound : ℕ) (seen : List Variable) (placed 
 forms_numbered tables bound seen [] each = tt
 forms_numbered tables bound seen (p ∷ placed) each = (each.0, forms_numbered tables bound seen placed each.1)
 
-module _ (checked : Checked) (answers : List (Universe → List Value → Answer)) (well : IsWellNumbered checked) where
+module _ (checked : Checked) (answers : Answers) (well : IsWellNumbered checked) where
   globals_read : (ds : List Declaration) → Each (λ d. IsNumberedRestriction (tables_of checked) (length (tables_of checked).predicates) (globals_seen checked) d.restriction) ds →
       (w : Variable) → FreeInRestrictions (reads_of (problem_of checked answers).given) ds w → IsListed (globals_seen checked) w
   globals_read [] each w free = absurd free

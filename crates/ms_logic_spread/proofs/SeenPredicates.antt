@@ -10,7 +10,7 @@ use Rattle.ms_logic.specs.Assignment.{Universe, Variable}
 use Rattle.ms_logic.specs.FreeVariables.{IsVariable, IsBound, IsListed, IsReadBy, IsReadFor, Reads, names_of, parameter_orders_of, FreeUnder, FreeInRestrictions, reads_of_imports, reads_with_predicate, reads_with_predicates}
 use Rattle.ms_logic.specs.Tree.{Declaration, Predicate}
 use Rattle.ms_logic.specs.Truth.{Answer}
-use Rattle.ms_logic.specs.View.{import_of}
+use Rattle.ms_logic.specs.View.{import_of, Answers}
 use Rattle.ms_names_rules.specs.Numbers.{Tables, Sees, parameter_orders, HasParameters, IsOnePlain, IsDefault, ImportSees, AreNumberedParameters, AreNumberedPredicates}
 use Rattle.ms_logic.specs.Lists.{Each}
 use Rattle.ms_logic_spread.proofs.Seen.{ReadSeen, listed-sees, parameters_seen}
@@ -84,7 +84,7 @@ pairs_seen [] seen w each listed = absurd listed
 pairs_seen (pair ∷ pairs) seen w each listed =
     ⊎_elim (λ is. listed-sees seen pair.variable pair.order w each.0 is) (λ later. pairs_seen pairs seen w each.1 later) listed
 
-imports_seen : (used : List ImportUse) (answers : List (Universe → List Value → Answer)) (i : ℕ) (seen : List Variable) (w : Variable) → IsSomeAnd (slice_get used i) (ImportSees seen) →
+imports_seen : (used : List ImportUse) (answers : Answers) (i : ℕ) (seen : List Variable) (w : Variable) → IsSomeAnd (slice_get used i) (ImportSees seen) →
     IsReadBy (slice_get (map (λ p. import_of p.0 p.1) (zip used answers)) i) w → IsListed seen w
 imports_seen [] answers i seen w sees read = absurd read
 imports_seen (u ∷ used) [] i seen w sees read = absurd read
@@ -92,7 +92,7 @@ imports_seen (u ∷ used) (answer ∷ answers) zero seen w sees read = pairs_see
 imports_seen (u ∷ used) (answer ∷ answers) (suc i) seen w sees read = imports_seen used answers i seen w sees read
 
 -- what the predicates and imports of a source read
-pub all_seen : (tables : Tables) (globals : List Variable) (answers : List (Universe → List Value → Answer)) → AreNumberedPredicates tables 0 globals tables.predicates →
+pub all_seen : (tables : Tables) (globals : List Variable) (answers : Answers) → AreNumberedPredicates tables 0 globals tables.predicates →
     ReadSeen tables (reads_with_predicates (reads_of_imports (map (λ p. import_of p.0 p.1) (zip tables.imports answers))) 0 tables.predicates) (length tables.predicates) globals
 all_seen tables globals answers numbered =
     seen_with_predicates tables (reads_of_imports (map (λ p. import_of p.0 p.1) (zip tables.imports answers))) 0 (length tables.predicates) globals tables.predicates (omega arith)

@@ -10,21 +10,21 @@ use Rattle.ms_logic_core.specs.Spread.{Names, spread}
 use Rattle.ms_logic.specs.Tree.{Form}
 use Rattle.ms_logic.specs.Truth.{Answer, Yes, No}
 use Rattle.ms_logic.specs.Verdict.{Problem, MainYes, MainNo}
-use Rattle.ms_logic.specs.View.{problem_of}
+use Rattle.ms_logic.specs.View.{problem_of, Answers}
 use Rattle.ms_names_rules.specs.Numbers.{IsWellNumbered, IsNumbered, tables_of, globals_seen}
 use Rattle.ms_logic_spread.specs.SpreadLaws.{AreNamed, HaveOneValue}
 
 -- the free variables of a formula whose numbers are in order are among those that it sees, if all globals are
 abbrev pub FreeVariablesAreSeen : Type 0
 FreeVariablesAreSeen =
-    (checked : Checked) (answers : List (Universe → List Value → Answer)) (seen : List Variable) (f : Form) (w : Variable)
+    (checked : Checked) (answers : Answers) (seen : List Variable) (f : Form) (w : Variable)
     → IsWellNumbered checked → ((v : Variable) → IsListed (globals_seen checked) v → IsListed seen v)
     → IsNumbered (tables_of checked) (length (tables_of checked).predicates) seen f → IsFree (problem_of checked answers).given f w → IsListed seen w
 
 -- so a formula whose numbers are in order has the value of its spread, whatever the variables that it sees are named
 abbrev pub NumberedFormulasKeepValue : Type 0
 NumberedFormulasKeepValue =
-    (checked : Checked) (answers : List (Universe → List Value → Answer)) (seen : List Variable) (f : Form) (names : Names) (free : ℕ) (e c : Env)
+    (checked : Checked) (answers : Answers) (seen : List Variable) (f : Form) (names : Names) (free : ℕ) (e c : Env)
     → IsWellNumbered checked → ((v : Variable) → IsListed (globals_seen checked) v → IsListed seen v)
     → IsNumbered (tables_of checked) (length (tables_of checked).predicates) seen f → AreNamed (IsListed seen) names free e c
     → HaveOneValue (problem_of checked answers).given f e (spread (problem_of checked answers).given f names free) c
@@ -50,11 +50,11 @@ HasRootValue problem i root =
 
 abbrev pub RootsKeepValues : Type 0
 RootsKeepValues =
-    (checked : Checked) (answers : List (Universe → List Value → Answer)) (i : ℕ) (root : Root)
+    (checked : Checked) (answers : Answers) (i : ℕ) (root : Root)
     → IsWellNumbered checked → IsRoot (problem_of checked answers) i root → HasRootValue (problem_of checked answers) i root
 
 -- a number exports one formula
 abbrev pub ExportsStandOnce : Type 0
 ExportsStandOnce =
-    (checked : Checked) (answers : List (Universe → List Value → Answer)) (i : ℕ) (f g : Form)
+    (checked : Checked) (answers : Answers) (i : ℕ) (f g : Form)
     → IsWellNumbered checked → IsExported (problem_of checked answers) i f → IsExported (problem_of checked answers) i g → f ≡ g

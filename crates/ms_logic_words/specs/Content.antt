@@ -55,10 +55,10 @@ abbrev pub is_in_letters : Order → Bool
 is_in_letters order = not (is_truth_value order)
 
 -- values that are given, one after the other, for some of the variables, by the place of the variable; 0 elsewhere
-abbrev pub spread : (Order → Bool) → List Variable → List Bool → List Bool
-spread has_value [] values = []
-spread has_value (v ∷ vs) values =
-    if has_value v.order then head_bit values ∷ spread has_value vs (tail_bits values) else false ∷ spread has_value vs values
+abbrev pub padded : (Order → Bool) → List Variable → List Bool → List Bool
+padded has_value [] values = []
+padded has_value (v ∷ vs) values =
+    if has_value v.order then head_bit values ∷ padded has_value vs (tail_bits values) else false ∷ padded has_value vs values
 
 -- the bit at each place of a list, and 0 past its end
 abbrev pub bits_at : List Bool → Bits
@@ -66,10 +66,10 @@ bits_at values = λ place. slice_index_or values place false
 
 -- truth values, and a letter, as the bits that a diagram is followed by
 abbrev pub truth_bits : List Variable → List Bool → Bits
-truth_bits variables values = bits_at (spread is_truth_value variables values)
+truth_bits variables values = bits_at (padded is_truth_value variables values)
 
 abbrev pub letter_bits : List Variable → List Bool → Bits
-letter_bits variables letter = bits_at (spread is_in_letters variables letter)
+letter_bits variables letter = bits_at (padded is_in_letters variables letter)
 
 -- how many of the variables have a value
 abbrev pub count_of : (Order → Bool) → List Variable → ℕ

@@ -16,7 +16,7 @@ use Rattle.ms_logic_core.specs.Spread.{Callees, Names, conjunction_of, is_order,
 use Rattle.ms_logic_core.specs.Operands.{variables_at}
 use Rattle.ms_logic.specs.Tree.{Form, truth, falsity, truth_variable, negation, conjunction, disjunction, implication, equivalence, comparison, set_comparison, membership, emptiness, quantified, where_let, call, restrict, imported, exported, default_at, Forms, no_forms, more_forms, Restriction, unrestricted, restricted, truth_argument, number_argument, set_argument, Arguments, no_arguments, more_arguments}
 use Rattle.ms_logic.specs.Truth.{Import}
-use Rattle.ms_logic.specs.Lists.{Among, Each}
+use Rattle.ms_logic.specs.Lists.{Each, IsAmong}
 use Rattle.ms_lower.specs.inner.Given.{Inner}
 use Rattle.ms_logic_core.specs.Stands.{EachStands, RestrictionStands, Stands}
 use Rattle.ms_lower.proofs.TermScopes.{Below, Covers, SaysWell, Wider, at, below_new, number_well, set_well, variable}
@@ -69,7 +69,7 @@ named_or o x y names w false is =
 
 -- inner names give some variables names in a scope, and the others keep those that they had
 Extends : (Variable → Type 0) → Names → Names → List Variable → Type 0
-Extends B inner made scope = (w : Variable) → (B w × Among scope (at made w)) ⊎ ((¬ B w) × (at made w ≡ at inner w))
+Extends B inner made scope = (w : Variable) → (B w × IsAmong scope (at made w)) ⊎ ((¬ B w) × (at made w ≡ at inner w))
 
 -- a number or a set, and a truth value, is given to the variable
 
@@ -99,24 +99,24 @@ given_either (x ∷ xs) (more_arguments (set_argument s) more) w (inl here) = in
 given_either (x ∷ xs) (more_arguments (set_argument s) more) w (inr later) = elim (given_either xs more w later) [ inl n ↦ inl (inr n) | inr v ↦ inr v ]
 
 -- one name more
-extended : (B : Variable → Type 0) (o : Order) (x y : ℕ) (inner made : Names) (scope : List Variable) → Among scope (variable y o) → Extends B inner made scope →
+extended : (B : Variable → Type 0) (o : Order) (x y : ℕ) (inner made : Names) (scope : List Variable) → IsAmong scope (variable y o) → Extends B inner made scope →
     Extends (λ w. IsVariable x o w ⊎ B w) inner (named o x y made) scope
 unfolding Extends
 extended B o x y inner made scope there extends w =
     elim (named_or o x y made w (is_order o w.order) refl) [
-      | inl here ↦ inl (inl here.0, subst (Among scope) (sym here.1) there)
+      | inl here ↦ inl (inl here.0, subst (IsAmong scope) (sym here.1) there)
       | inr other ↦
           elim (extends w) [
-            | inl given ↦ inl (inr given.0, subst (Among scope) (sym other.1) given.1)
+            | inl given ↦ inl (inr given.0, subst (IsAmong scope) (sym other.1) given.1)
             | inr kept ↦ inr ((λ e. ⊎_elim other.0 kept.0 e), other.1 ∙ kept.1)
           ]
     ]
 
 -- what predicates, default restrictions and imports stand for fits what is read of them
 pub record Fits (imports : List Import) (r : Reads) (c : Callees) : Type 1 where
-  pub called : (p : ℕ) (orders : List Order) (inner : Names) (scope : List Variable) (free : ℕ) → ((w : Variable) → IsBound (c.parameters p) orders w → Among scope (at inner w)) →
-      ((w : Variable) → r.called p orders w → Among scope (at inner w)) → Below free scope → Stands imports scope (c.body p inner free)
-  pub default : (p x : ℕ) (names : Names) (scope : List Variable) (free : ℕ) → ((w : Variable) → r.default p x w → Among scope (at names w)) → Below free scope → Stands imports scope (c.default p x names free)
+  pub called : (p : ℕ) (orders : List Order) (inner : Names) (scope : List Variable) (free : ℕ) → ((w : Variable) → IsBound (c.parameters p) orders w → IsAmong scope (at inner w)) →
+      ((w : Variable) → r.called p orders w → IsAmong scope (at inner w)) → Below free scope → Stands imports scope (c.body p inner free)
+  pub default : (p x : ℕ) (names : Names) (scope : List Variable) (free : ℕ) → ((w : Variable) → r.default p x w → IsAmong scope (at names w)) → Below free scope → Stands imports scope (c.default p x names free)
   pub imported : (i : ℕ) → c.imported i ≡ variables_of_import (slice_get imports i)
   pub reads : (i : ℕ) (w : Variable) → IsListed (c.imported i) w → r.imported i w
 
@@ -125,7 +125,7 @@ conjunction_stands imports scope [] all = tt
 conjunction_stands imports scope (f ∷ []) all = all.0
 conjunction_stands imports scope (f ∷ g ∷ fs) all = all
 
-numbers_stand : (imports : List Import) (scope : List Variable) (rel : Rel) (x y : ℕ) → Among scope (variable x One) → Among scope (variable y One) → Stands imports scope (numbers_relate rel x y)
+numbers_stand : (imports : List Import) (scope : List Variable) (rel : Rel) (x y : ℕ) → IsAmong scope (variable x One) → IsAmong scope (variable y One) → Stands imports scope (numbers_relate rel x y)
 numbers_stand imports scope Equal x y a b = (a, (b, tt))
 numbers_stand imports scope Differs x y a b = (a, (b, tt))
 numbers_stand imports scope Less x y a b = (a, (b, tt))
@@ -136,7 +136,7 @@ numbers_stand imports scope Member x y a b = tt
 numbers_stand imports scope NotMember x y a b = tt
 numbers_stand imports scope Sub x y a b = tt
 
-sets_stand : (imports : List Import) (scope : List Variable) (rel : Rel) (s t : ℕ) → Among scope (variable s Two) → Among scope (variable t Two) → Stands imports scope (sets_relate rel s t)
+sets_stand : (imports : List Import) (scope : List Variable) (rel : Rel) (s t : ℕ) → IsAmong scope (variable s Two) → IsAmong scope (variable t Two) → Stands imports scope (sets_relate rel s t)
 sets_stand imports scope Equal s t a b = (a, (b, (b, tt)))
 sets_stand imports scope Differs s t a b = (a, (b, (b, tt)))
 sets_stand imports scope Sub s t a b = (a, (b, tt))
@@ -147,11 +147,11 @@ sets_stand imports scope AtMost s t a b = tt
 sets_stand imports scope Member s t a b = tt
 sets_stand imports scope NotMember s t a b = tt
 
-member_stands : (imports : List Import) (scope : List Variable) (positive : Bool) (x s : ℕ) → Among scope (variable x One) → Among scope (variable s Two) → Stands imports scope (is_member_or_not positive x s)
+member_stands : (imports : List Import) (scope : List Variable) (positive : Bool) (x s : ℕ) → IsAmong scope (variable x One) → IsAmong scope (variable s Two) → Stands imports scope (is_member_or_not positive x s)
 member_stands imports scope true x s a b = (a, (b, tt))
 member_stands imports scope false x s a b = (a, (b, tt))
 
-imported_among : (scope : List Variable) (names : Names) (vs : List Variable) → ((w : Variable) → IsListed vs w → Among scope (at names w)) → Each (Among scope) (variables_at (map (λ v. names v.order v.name) vs) vs)
+imported_among : (scope : List Variable) (names : Names) (vs : List Variable) → ((w : Variable) → IsListed vs w → IsAmong scope (at names w)) → Each (IsAmong scope) (variables_at (map (λ v. names v.order v.name) vs) vs)
 imported_among scope names [] covers = tt
 imported_among scope names (v ∷ vs) covers = (covers v (inl (refl, refl)), imported_among scope names vs (λ w l. covers w (inr l)))
 
@@ -207,7 +207,7 @@ module _ (imports : List Import) where
       well last most (named Two x y made) (λ v h. m v (w v h)) k (extended (GivenNumber xs more) Two x y inner made most (m (variable y Two) there) extends)))
 
   -- a truth value among the arguments
-  truth_given : (names : Names) (f : Form) (F : ℕ → CoreForm) (o : Option ℕ) → variable_of_form f ≡ o → (free : ℕ) (scope : List Variable) (Said : ℕ → ℕ → CoreForm) → ((x : ℕ) → variable_of_form f ≡ Some x → Among scope (variable (names Zero x) Zero)) →
+  truth_given : (names : Names) (f : Form) (F : ℕ → CoreForm) (o : Option ℕ) → variable_of_form f ≡ o → (free : ℕ) (scope : List Variable) (Said : ℕ → ℕ → CoreForm) → ((x : ℕ) → variable_of_form f ≡ Some x → IsAmong scope (variable (names Zero x) Zero)) →
       ((next : ℕ) (wide : List Variable) → Wider scope wide → Below next wide → Stands imports wide (F next)) → Below free scope → SaysWell imports scope Zero Said → Stands imports scope (truth_value (option_map (names Zero) o) F free Said)
   truth_given names f F (Some x) is free scope Said own stands below says = says free (names Zero x) scope (λ v h. h) below (own x is)
   truth_given names f F None is free scope Said own stands below says =
@@ -222,19 +222,19 @@ module _ (imports : List Import) where
 
 -- inner names read what a formula reads, where the variables that are given are known
 inner_covers : (xs : List ℕ) (args : Arguments) (names one both : Names) (scope wide most : List Variable) (w : Variable) → Wider scope wide → Wider wide most → Extends (GivenNumber xs args) names one wide → Extends (GivenTruth xs args) one both most →
-    (IsBound xs (orders_of args) w ⊎ ((¬ IsBound xs (orders_of args) w) → Among scope (at names w))) → Among most (at both w)
+    (IsBound xs (orders_of args) w ⊎ ((¬ IsBound xs (orders_of args) w) → IsAmong scope (at names w))) → IsAmong most (at both w)
 unfolding Extends
 inner_covers xs args names one both scope wide most w wider widest numbers truths known =
     elim (truths w) [
       | inl given ↦ given.1
       | inr kept ↦
           elim (numbers w) [
-            | inl given ↦ subst (Among most) (sym kept.1) (widest (at one w) given.1)
+            | inl given ↦ subst (IsAmong most) (sym kept.1) (widest (at one w) given.1)
             | inr still ↦
                 let free : IsBound xs (orders_of args) w → ⊥ = λ b. ⊎_elim still.0 kept.0 (given_either xs args w b) in
                 elim known [
                   | inl bound ↦ absurd (free bound)
-                  | inr outside ↦ subst (Among most) (sym (kept.1 ∙ still.1)) (widest (at names w) (wider (at names w) (outside free)))
+                  | inr outside ↦ subst (IsAmong most) (sym (kept.1 ∙ still.1)) (widest (at names w) (wider (at names w) (outside free)))
                 ]
           ]
     ]
@@ -268,11 +268,11 @@ module _ (imports : List Import) (r : Reads) (c : Callees) (fits : Fits imports 
           below,
           restriction_stands d (named o x free names) wide (free + 1) (λ w e. elim (named_or o x free names w (is_order o w.order) refl) [
             | inl here ↦ inl (sym here.1)
-            | inr other ↦ inr (subst (Among scope) (sym other.1) (covers w (other.0, inl e)))
+            | inr other ↦ inr (subst (IsAmong scope) (sym other.1) (covers w (other.0, inl e)))
           ]) (below_new free o scope below),
           form_stands f (named o x free names) wide (free + 1) (λ w e. elim (named_or o x free names w (is_order o w.order) refl) [
             | inl here ↦ inl (sym here.1)
-            | inr other ↦ inr (subst (Among scope) (sym other.1) (covers w (other.0, inr e)))
+            | inr other ↦ inr (subst (IsAmong scope) (sym other.1) (covers w (other.0, inr e)))
           ]) (below_new free o scope below),
         )
     form_stands (where_let xs sides f) names scope free covers below =
@@ -290,7 +290,7 @@ module _ (imports : List Import) (r : Reads) (c : Callees) (fits : Fits imports 
         let vs = c.imported i in
         let among = imported_among scope names vs (λ w l. covers w (fits.reads i w l)) in (
           length-map vs (λ v. names v.order v.name) ∙ ap (λ l. length l) (fits.imported i),
-          subst (λ l. Each (Among scope) (variables_at (map (λ v. names v.order v.name) vs) l)) (fits.imported i) among,
+          subst (λ l. Each (IsAmong scope) (variables_at (map (λ v. names v.order v.name) vs) l)) (fits.imported i) among,
         )
     form_stands (exported i f) names scope free covers below = form_stands f names scope free covers below
     form_stands (default_at p x) names scope free covers below = fits.default p x names scope free covers below

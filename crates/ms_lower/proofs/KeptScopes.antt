@@ -10,19 +10,19 @@ use Rattle.ms_logic_core.specs.Roots.{Root, first_free}
 use Rattle.ms_logic_core.specs.Spread.{variables_of_import}
 use Rattle.ms_logic_core.specs.Operands.{variables_at, variables_of_basic}
 use Rattle.ms_logic.specs.Truth.{Import}
-use Rattle.ms_logic.specs.Lists.{Among, Each}
+use Rattle.ms_logic.specs.Lists.{Each, IsAmong}
 use Rattle.ms_lower.specs.NumberLaws.{numbering_in}
 use Rattle.ms_lower.specs.Numbering.{Numbering, number_at, rank, renumbered, renumbered_each, renumbered_in, renumbered_variable, with_new_numbers}
 use Rattle.ms_logic_core.specs.Orders.{order_of_rank}
 use Rattle.ms_logic_core.specs.Stands.{EachStands, RestrictionStands, Stands}
 use Rattle.ms_lower.proofs.SameNumbers.{Rises, basic_variables, import_length, import_variables, numbers_rise}
 
-among_renumbered : (n : Numbering) (scope : List Variable) (v : Variable) → Among scope v → Among (map (renumbered_variable n) scope) (renumbered_variable n v)
+among_renumbered : (n : Numbering) (scope : List Variable) (v : Variable) → IsAmong scope v → IsAmong (map (renumbered_variable n) scope) (renumbered_variable n v)
 among_renumbered n [] v here = absurd here
 among_renumbered n (w ∷ scope) v (inl here) = inl (ap (renumbered_variable n) here)
 among_renumbered n (w ∷ scope) v (inr later) = inr (among_renumbered n scope v later)
 
-each_among_renumbered : (n : Numbering) (scope vs : List Variable) → Each (Among scope) vs → Each (Among (map (renumbered_variable n) scope)) (map (renumbered_variable n) vs)
+each_among_renumbered : (n : Numbering) (scope vs : List Variable) → Each (IsAmong scope) vs → Each (IsAmong (map (renumbered_variable n) scope)) (map (renumbered_variable n) vs)
 each_among_renumbered n scope [] all = tt
 each_among_renumbered n scope (v ∷ vs) all = (among_renumbered n scope v all.0, each_among_renumbered n scope vs all.1)
 
@@ -37,7 +37,7 @@ module _ (n : Numbering) (rises : Rises n) where
     stands_renumbered imports scope truth known stands = tt
     stands_renumbered imports scope falsity known stands = tt
     stands_renumbered imports scope (basic b) known stands =
-        subst (Each (Among (map (renumbered_variable n) scope))) (sym (basic_variables n rises b)) (each_among_renumbered n scope (variables_of_basic b) stands)
+        subst (Each (IsAmong (map (renumbered_variable n) scope))) (sym (basic_variables n rises b)) (each_among_renumbered n scope (variables_of_basic b) stands)
     stands_renumbered imports scope (negation f) known stands = stands_renumbered imports scope f known stands
     stands_renumbered imports scope (conjunction fs) known stands = all_renumbered imports scope fs known stands
     stands_renumbered imports scope (disjunction fs) known stands = all_renumbered imports scope fs known stands
@@ -48,7 +48,7 @@ module _ (n : Numbering) (rises : Rises n) where
         let vs = variables_of_import (slice_get imports i) in
         let same : map (λ p. n.number p.1.order p.0) (zip xs (n.imported i)) ≡ map (λ p. n.number p.1.order p.0) (zip xs vs) = ap (λ l. map (λ p. n.number p.1.order p.0) (zip xs l)) (known i) in (
           ap (λ l. length l) same ∙ (sym (import_length n rises xs vs stands.0) ∙ stands.0),
-          subst (Each (Among (map (renumbered_variable n) scope))) (sym (ap (λ l. variables_at l vs) same ∙ import_variables n rises xs vs)) (each_among_renumbered n scope (variables_at xs vs) stands.1),
+          subst (Each (IsAmong (map (renumbered_variable n) scope))) (sym (ap (λ l. variables_at l vs) same ∙ import_variables n rises xs vs)) (each_among_renumbered n scope (variables_at xs vs) stands.1),
         )
     stands_renumbered imports scope (quantified q o x d f) known stands = (
       below_renumbered scope o x stands.0,

@@ -9,10 +9,10 @@ use Rattle.ms_logic.specs.declared.checked.Placed.{Placed}
 use Rattle.ms_logic.specs.declared.checked.Predicate as code
 use Rattle.ms_lower.specs.declared.source_extents.Deep.{Deep}
 use Rattle.ms_logic_core.specs.Size.{Extents, extents_of, extents_of_each, extents_of_restrictions, total_size, greatest_depth, parts_of_source}
-use Rattle.ms_logic.specs.View.{formula_of, forms, globals_from, predicate_of, problem_of}
+use Rattle.ms_logic.specs.View.{formula_of, forms, globals_from, predicate_of, problem_of, Answers}
 use Rattle.ms_lower.specs.declared.counted.Counted.{Counted}
 use Rattle.ms_lower.specs.Counted.{counted, deepest, too_large, whole_count}
-use Rattle.ms_lower.specs.Measure.{Answers, IsDepthRefusal, IsMeasure, IsSizeRefusal}
+use Rattle.ms_lower.specs.Measure.{IsDepthRefusal, IsMeasure, IsSizeRefusal}
 use Rattle.ms_lower.specs.TooDeep.{Part, HasTooDeep, NoneBefore, IsFound, parts_under, extents_of_parts, part_of_formula, part_of_global, parts_of}
 use Rattle.std.proofs.lemmas.Option.{same_Some}
 use Rattle.ms_lower.proofs.Counting.{within, beyond}

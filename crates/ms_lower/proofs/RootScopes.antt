@@ -6,9 +6,8 @@ use Rattle.ms_logic.specs.Lists.{AreRising}
 use Rattle.ms_logic_core.specs.Roots.{IsRoot, Root, first_free, main_root}
 use Rattle.ms_logic_core.specs.Spread.{callees_of, own_names, restrictions_of, spread_each}
 use Rattle.ms_logic.specs.Verdict.{Problem, variables_of}
-use Rattle.ms_logic.specs.View.{globals_from, problem_of}
+use Rattle.ms_logic.specs.View.{globals_from, problem_of, Answers}
 use Rattle.ms_lower.specs.Lowered.{ListsVariables, reads_of}
-use Rattle.ms_lower.specs.Measure.{Answers}
 use Rattle.ms_logic_core.specs.Stands.{Stands}
 use Rattle.ms_lower.proofs.FormScopes.{conjunction_stands, forms_stand}
 use Rattle.ms_lower.proofs.SameNumbers.{below_first_free}

@@ -9,7 +9,7 @@ use Rattle.ms_logic.specs.declared.mode.Order.TheVariants.{Zero, One, Two}
 use Rattle.ms_logic.specs.Assignment.{Variable}
 use Rattle.ms_logic_core.specs.Operands.{at_places, variables_at, variables_of_basic}
 use Rattle.ms_logic_core.specs.CoreForm.{CoreForm, truth, falsity, basic, negation, conjunction, disjunction, implication, equivalence, restrict, imported, quantified, CoreForms, no_forms, more_forms, CoreRestriction, unrestricted, restricted}
-use Rattle.ms_logic.specs.Lists.{AreRising, IsBelowFirst, Among, Each}
+use Rattle.ms_logic.specs.Lists.{AreRising, IsBelowFirst, Each, IsAmong}
 use Rattle.ms_logic_core.specs.Roots.{Root, first_free}
 use Rattle.ms_logic_core.specs.SameUpToBound.{AnswerToEachOther, BoundPair, SameEach, SameRestriction, SameRoot, SameUnder, SameVariable, SameVariables, pairs_of}
 use Rattle.ms_logic_core.specs.Spread.{is_order, variables_of_import}
@@ -51,9 +51,9 @@ Rises n = (p o : Order) (x y : ℕ) → x < y → n.number p x < n.number o y
 
 -- each variable in scope and its number of the answer are the same variable below these binders
 pub Agrees : Numbering → List BoundPair → List Variable → Type 0
-Agrees n pairs scope = (v : Variable) → Among scope v → SameVariable pairs v.order v.name (n.number v.order v.name)
+Agrees n pairs scope = (v : Variable) → IsAmong scope v → SameVariable pairs v.order v.name (n.number v.order v.name)
 
-each_among : (P : Variable → Type 0) (scope : List Variable) (v : Variable) → Each P scope → Among scope v → P v
+each_among : (P : Variable → Type 0) (scope : List Variable) (v : Variable) → Each P scope → IsAmong scope v → P v
 each_among P [] v all here = absurd here
 each_among P (w ∷ scope) v all (inl here) = subst P here all.0
 each_among P (w ∷ scope) v all (inr later) = each_among P scope v all.1 later
@@ -81,7 +81,7 @@ module _ (n : Numbering) (rises : Rises n) where
       let lower = rises v.order o v.name x smaller in
       under (record { order = o; left = x; right = n.number o x }) pairs v (is_order o v.order) refl (λ e. omega (arith, smaller, e)) (λ e. omega (arith, lower, e)) (agrees v later)
 
-  same_variables : (pairs : List BoundPair) (scope vs : List Variable) → Agrees n pairs scope → Each (Among scope) vs → SameVariables pairs vs (map (renumbered_variable n) vs)
+  same_variables : (pairs : List BoundPair) (scope vs : List Variable) → Agrees n pairs scope → Each (IsAmong scope) vs → SameVariables pairs vs (map (renumbered_variable n) vs)
   unfolding Agrees
   same_variables pairs scope [] agrees all = tt
   same_variables pairs scope (v ∷ vs) agrees all = (refl, agrees v all.0, same_variables pairs scope vs agrees all.1)

@@ -12,15 +12,15 @@ use Rattle.ms_lower.specs.Calling.{calling}
 use Rattle.ms_logic.specs.Tree as tree
 use Rattle.ms_logic.specs.Tree.{Form, Forms, no_forms, more_forms, truth, falsity as false_form, truth_variable, negation, conjunction, disjunction, implication, equivalence, comparison, set_comparison, membership, emptiness, quantified, where_let, call, imported, exported, default_at}
 use Rattle.ms_logic.specs.Truth.{Given}
-use Rattle.ms_logic.specs.View.{formula_of, forms, globals_from, problem_of}
+use Rattle.ms_logic.specs.View.{formula_of, forms, globals_from, problem_of, Answers}
 use Rattle.ms_names_rules.specs.Numbers.{CountUp}
 use Rattle.ms_lower.specs.declared.tables.Tables.{Tables}
 use Rattle.ms_lower.specs.Callees.{IsTablesOf, callees_in}
 use Rattle.ms_lower.specs.Lowered.{ExportsFit, ExportsFitEach, HasCallingRoots, IsRootOver, ListsVariables, export_root_over, main_root_over}
-use Rattle.ms_lower.specs.Measure.{Answers}
 use Rattle.ms_lower.specs.NumberedRoots.{all_roots, globals_over, main_over, renumbered_root, root_of, root_over, roots_among, roots_in, variables_of_export, with_orders}
 use Rattle.ms_lower.proofs.SourceTables.{callees_same, numbers_same}
 use Rattle.ms_lower.specs.Numbering.{Numbering, renumbered}
+use Rattle.ms_logic.proofs.Items.{contains_at}
 
 -- each export has its root
 Match : Given → List Export → List Root → Type 0
@@ -107,9 +107,6 @@ mapped : {A B : Type 0} (f : A → B) (xs : List A) (k : ℕ) (x : A) → slice_
 mapped f [] k x is = absurd (none-some x is)
 mapped f (y ∷ xs) zero x is = ap (λ z. Some (f z)) (same_Some y x is)
 mapped f (y ∷ xs) (suc k) x is = mapped f xs k x is
-
-contains_at : {A : Type 0} (xs : List A) (k : ℕ) (x : A) → slice_get xs k ≡ Some x → Contains xs x
-contains_at xs k x is = (k, slice_get_within xs k x is, get_or_from_slice_get xs k x x is)
 
 main_is : (checked : Checked) (answers : Answers) (tables : Tables) → callees_in tables ≡ calling (problem_of checked answers).given → main_over tables checked.globals checked.formulas ≡ main_root_over (calling (problem_of checked answers).given) (problem_of checked answers)
 main_is checked answers tables same =

@@ -10,7 +10,7 @@ use Rattle.ms_logic_core.specs.Roots.{AreFreeVariables, export_root, first_free}
 use Rattle.ms_logic_core.specs.Spread.{Callees, Names, callees_of, callees_of_imports, callees_with, callees_with_all, conjunction_of, default_names, is_order, own_names, restriction_before, restrictions_of, spread_under, variables_of_import}
 use Rattle.ms_logic.specs.Tree.{Form, Declaration, Predicate, Restriction, unrestricted, restricted}
 use Rattle.ms_logic.specs.Truth.{Given, Import}
-use Rattle.ms_logic.specs.Lists.{Among}
+use Rattle.ms_logic.specs.Lists.{IsAmong}
 use Rattle.ms_logic_core.specs.Stands.{EachStands, Stands}
 use Rattle.ms_lower.proofs.FormScopes.{Fits, conjunction_stands, form_stands, named_or}
 use Rattle.ms_lower.proofs.TermScopes.{Below, Covers, at, variable}
@@ -87,25 +87,25 @@ default_or (d ∷ ds) x names w =
 
 module _ (imports : List Import) (r : Reads) (c : Callees) (fits : Fits imports r c) (q : Predicate) where
   called_with : (p : ℕ) (b : Bool) (orders : List Order) (inner : Names) (scope : List Variable) (free : ℕ) →
-      ((w : Variable) → IsBound (cond b (map (λ declared. declared.variable.name) q.parameters) (c.parameters p)) orders w → Among scope (at inner w)) →
-      ((w : Variable) → MatchBool b ((¬ IsBound (map (λ declared. declared.variable.name) q.parameters) orders w) × (FreeInRestrictions r q.parameters w ⊎ FreeUnder r q.body w)) (r.called p orders w) → Among scope (at inner w)) →
+      ((w : Variable) → IsBound (cond b (map (λ declared. declared.variable.name) q.parameters) (c.parameters p)) orders w → IsAmong scope (at inner w)) →
+      ((w : Variable) → MatchBool b ((¬ IsBound (map (λ declared. declared.variable.name) q.parameters) orders w) × (FreeInRestrictions r q.parameters w ⊎ FreeUnder r q.body w)) (r.called p orders w) → IsAmong scope (at inner w)) →
       Below free scope →
       Stands imports scope ((cond b (λ names free. conjunction_of (restrictions_of c q.parameters names free ++ spread_under c q.body names free ∷ [])) (c.body p)) inner free)
   called_with p true orders inner scope free bound reads below =
-      let covers : (w : Variable) → (FreeInRestrictions r q.parameters w ⊎ FreeUnder r q.body w) → Among scope (at inner w) =
+      let covers : (w : Variable) → (FreeInRestrictions r q.parameters w ⊎ FreeUnder r q.body w) → IsAmong scope (at inner w) =
       λ w e. elim (bound_or_not (map (λ declared. declared.variable.name) q.parameters) orders w) [ inl here ↦ bound w here | inr none ↦ reads w (none, e) ] in
       conjunction_stands imports scope (restrictions_of c q.parameters inner free ++ spread_under c q.body inner free ∷ [])
       (restrictions_stand imports r c fits q.parameters inner scope free (spread_under c q.body inner free ∷ []) (λ w e. covers w (inl e)) below (form_stands imports r c fits q.body inner scope free (λ w e. covers w (inr e)) below, tt))
   called_with p false orders inner scope free bound reads below = fits.called p orders inner scope free bound reads below
 
   default_with : (p x : ℕ) (b : Bool) (names : Names) (scope : List Variable) (free : ℕ) →
-      ((w : Variable) → MatchBool b (IsReadFor q.parameters x w ⊎ ((¬ IsBound (map (λ declared. declared.variable.name) q.parameters) (map (λ declared. declared.variable.order) q.parameters) w) × FreeUnder r q.body w)) (r.default p x w) → Among scope (at names w)) →
+      ((w : Variable) → MatchBool b (IsReadFor q.parameters x w ⊎ ((¬ IsBound (map (λ declared. declared.variable.name) q.parameters) (map (λ declared. declared.variable.order) q.parameters) w) × FreeUnder r q.body w)) (r.default p x w) → IsAmong scope (at names w)) →
       Below free scope → Stands imports scope ((cond b (λ x names free. spread_under c q.body (default_names q.parameters x names) free) (c.default p)) x names free)
   unfolding DefaultOr
   default_with p x true names scope free reads below =
       form_stands imports r c fits q.body (default_names q.parameters x names) scope free (λ w e. elim (default_or q.parameters x names w) [
-        | inl found ↦ subst (Among scope) (sym found.2) (reads (variable x found.0) (inl found.1))
-        | inr kept ↦ subst (Among scope) (sym kept.1) (reads w (inr (kept.0, e)))
+        | inl found ↦ subst (IsAmong scope) (sym found.2) (reads (variable x found.0) (inl found.1))
+        | inr kept ↦ subst (IsAmong scope) (sym kept.1) (reads w (inr (kept.0, e)))
       ]) below
   default_with p x false names scope free reads below = fits.default p x names scope free reads below
 
@@ -121,7 +121,7 @@ fits_all : (imports : List Import) (r : Reads) (c : Callees) (count : ℕ) (ps :
 fits_all imports r c count [] fits = fits
 fits_all imports r c count (q ∷ ps) fits = fits_all imports (reads_with_predicate r count q) (callees_with c count q) (count + 1) ps (fits_with imports r c fits q count)
 
-pub listed_among : (vs : List Variable) (w : Variable) → IsListed vs w → Among vs (at own_names w)
+pub listed_among : (vs : List Variable) (w : Variable) → IsListed vs w → IsAmong vs (at own_names w)
 listed_among [] w listed = absurd listed
 listed_among (v ∷ vs) w (inl here) = inl (ap (λ k. variable k v.order) (sym here.0) ∙ ap (λ o. variable w.name o) (sym here.1))
 listed_among (v ∷ vs) w (inr later) = inr (listed_among vs w later)

@@ -15,12 +15,11 @@ use Rattle.ms_logic_core.specs.Roots.{first_free}
 use Rattle.ms_logic_core.specs.Spread.{Callees, callees_of_imports, conjunction_of, restrictions_of, spread_under, variables_of_import}
 use Rattle.ms_logic.specs.Tree.{Predicate}
 use Rattle.ms_logic.specs.Truth.{Given}
-use Rattle.ms_logic.specs.View.{declaration_of, formula_of, import_of, predicate_of, problem_of}
+use Rattle.ms_logic.specs.View.{declaration_of, formula_of, import_of, predicate_of, problem_of, Answers}
 use Rattle.ms_lower.specs.declared.tables.Tables.{Tables}
 use Rattle.ms_lower.specs.Bodies.{body_in, callees_before}
 use Rattle.ms_lower.specs.Callees.{IsTablesOf, callable, callees_in, callees_of_uses}
 use Rattle.ms_lower.specs.Calling.{body_at, calling, calling_before, calling_numbers, free_at, names_at}
-use Rattle.ms_lower.specs.Measure.{Answers}
 use Rattle.ms_lower.specs.NumberedRoots.{numbering_over}
 use Rattle.ms_lower.specs.Numbering.{Numbering, number_at, numbering_of, renumbered, variables_at, variables_of_call, variables_of_use}
 

@@ -9,7 +9,7 @@ use Rattle.ms_logic.specs.FreeVariables.{TermReads, SetTermReads, TermsRead}
 use Rattle.ms_logic_core.specs.Spread.{Names, Saying, TermSpread, first_half, second_half, is_minus, is_only_member, is_whole, new_variable, set_of_elements, spread_elements, spread_number, spread_set}
 use Rattle.ms_logic.specs.Tree.{Term, number_variable, numeral, plus, minus, minimum, maximum, SetTerm, set_variable, empty_set, whole, literal, pconst, union, intersection, difference, shift_up, shift_down, Terms, no_terms, more_terms}
 use Rattle.ms_logic.specs.Truth.{Import}
-use Rattle.ms_logic.specs.Lists.{Among, Each}
+use Rattle.ms_logic.specs.Lists.{Each, IsAmong}
 use Rattle.ms_logic_core.specs.Stands.{Stands}
 
 abbrev pub variable : ℕ → Order → Variable
@@ -21,10 +21,10 @@ at names w = record { name = names w.order w.name; order = w.order }
 
 -- each variable that is read stands in a scope by its name
 abbrev pub Covers : (Variable → Type 0) → Names → List Variable → Type 0
-Covers R names scope = (w : Variable) → R w → Among scope (at names w)
+Covers R names scope = (w : Variable) → R w → IsAmong scope (at names w)
 
 abbrev pub Wider : List Variable → List Variable → Type 0
-Wider scope wide = (v : Variable) → Among scope v → Among wide v
+Wider scope wide = (v : Variable) → IsAmong scope v → IsAmong wide v
 
 abbrev pub Below : ℕ → List Variable → Type 0
 Below free scope = Each (λ v. v.name < free) scope
@@ -39,16 +39,16 @@ below_new free o scope below = (omega arith, each_below free (free + 1) scope (o
 module _ (imports : List Import) where
   -- what is said of a variable stands in each scope that has it
   abbrev pub SaysWell : List Variable → Order → Saying → Type 0
-  SaysWell scope o Said = (next y : ℕ) (wide : List Variable) → Wider scope wide → Below next wide → Among wide (variable y o) → Stands imports wide (Said next y)
+  SaysWell scope o Said = (next y : ℕ) (wide : List Variable) → Wider scope wide → Below next wide → IsAmong wide (variable y o) → Stands imports wide (Said next y)
 
   -- a term stands in each scope that has some variables
   abbrev pub StandsWell : List Variable → Order → TermSpread → Type 0
   StandsWell base o T = (free : ℕ) (scope : List Variable) (Said : Saying) → Wider base scope → Below free scope → SaysWell scope o Said → Stands imports scope (T free Said)
 
-  pub known_well : (base : List Variable) (o : Order) (x : ℕ) → Among base (variable x o) → StandsWell base o (λ free Said. Said free x)
+  pub known_well : (base : List Variable) (o : Order) (x : ℕ) → IsAmong base (variable x o) → StandsWell base o (λ free Said. Said free x)
   known_well base o x there free scope Said wider below says = says free x scope (λ v h. h) below (wider (variable x o) there)
 
-  pub new_well : (base : List Variable) (o : Order) (Is : Saying) → ((free : ℕ) (scope : List Variable) → Wider base scope → Below (free + 1) scope → Among scope (variable free o) → Stands imports scope (Is (free + 1) free)) →
+  pub new_well : (base : List Variable) (o : Order) (Is : Saying) → ((free : ℕ) (scope : List Variable) → Wider base scope → Below (free + 1) scope → IsAmong scope (variable free o) → Stands imports scope (Is (free + 1) free)) →
       StandsWell base o (new_variable o Is)
   new_well base o Is is free scope Said wider below says = (
     below,

@@ -16,9 +16,8 @@ use Rattle.ms_logic_core.specs.Roots.{AreFreeVariables, first_free, IsRoot, Root
 use Rattle.ms_logic.specs.Tree.{Form, truth, falsity, truth_variable, negation, conjunction, disjunction, implication, equivalence, comparison, set_comparison, membership, emptiness, quantified, where_let, call, restrict, imported, exported, default_at, Forms, no_forms, more_forms}
 use Rattle.ms_logic.specs.Truth.{Given}
 use Rattle.ms_logic.specs.Verdict.{Problem, variables_of}
-use Rattle.ms_logic.specs.View.{problem_of}
+use Rattle.ms_logic.specs.View.{problem_of, Answers}
 use Rattle.ms_names_rules.specs.Numbers.{CountUp}
-use Rattle.ms_lower.specs.Measure.{Answers}
 use Rattle.ms_lower.specs.NumberedRoots.{globals_over, variables_of_export, with_orders}
 use Rattle.ms_lower.specs.Numbering.{number_at, renumbered, with_new_numbers}
 

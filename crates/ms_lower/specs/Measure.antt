@@ -9,12 +9,8 @@ use Rattle.ms_logic.specs.Assignment.{Universe}
 use Rattle.ms_logic_core.specs.Size.{size_of_source, depth_of_source}
 use Rattle.ms_logic.specs.Truth.{Answer}
 use Rattle.ms_logic.specs.Verdict.{Problem}
-use Rattle.ms_logic.specs.View.{problem_of}
+use Rattle.ms_logic.specs.View.{problem_of, Answers}
 use Rattle.ms_lower.specs.TooDeep.{IsFirstTooDeep, parts_of}
-
--- the answers of imported automata, one after the other
-abbrev pub Answers : Type 0
-Answers = List (Universe → List Value → Answer)
 
 -- the size and the depth of a source, which are within the limits
 pub record IsMeasure (problem : Problem) (size depth : ℕ) : Type 0 where

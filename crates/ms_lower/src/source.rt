@@ -1,6 +1,6 @@
 ghost use Rattle.ms_lower.specs.Lowered.{HasCallingRoots, ListsVariables};
-ghost use Rattle.ms_lower.specs.Measure.{Answers, IsDepthRefusal, IsMeasure, IsSizeRefusal};
-ghost use Rattle.ms_logic.specs.View.{problem_of};
+ghost use Rattle.ms_lower.specs.Measure.{IsDepthRefusal, IsMeasure, IsSizeRefusal};
+ghost use Rattle.ms_logic.specs.View.{problem_of, Answers};
 ghost use Rattle.std.specs.Prelude.{◌≡◌, ◌⊎◌, length, map, IfErr, IfOk};
 
 use crate::all_roots::all_roots;

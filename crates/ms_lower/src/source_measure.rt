@@ -1,6 +1,6 @@
 ghost use Rattle.ms_lower.specs.Counted.{deepest, whole_count};
-ghost use Rattle.ms_lower.specs.Measure.{Answers, IsDepthRefusal, IsMeasure, IsSizeRefusal};
-ghost use Rattle.ms_logic.specs.View.{problem_of};
+ghost use Rattle.ms_lower.specs.Measure.{IsDepthRefusal, IsMeasure, IsSizeRefusal};
+ghost use Rattle.ms_logic.specs.View.{problem_of, Answers};
 ghost use Rattle.std.specs.Prelude.{◌≡◌, ◌≤◌, ◌⊎◌, IfErr, IfOk};
 
 use crate::called::Extents;

@@ -15,7 +15,7 @@ use Rattle.ms_minim.specs.inner.Discrete.{AreOwnImages}
 use Rattle.ms_minim.specs.inner.Image.{IsImage, AreImages}
 use Rattle.ms_minim.specs.inner.Origin.{AreOrigins}
 use Rattle.ms_minim.specs.inner.Partition.{IsIdentity, HaveOneClass, IsInhabited, IsPartition, AreNerodeClasses, next_by}
-use Rattle.ms_minim.specs.Reading.{IsRead}
+use Rattle.ms_minim.specs.SignReading.{IsRead}
 use Rattle.ms_minim.proofs.OriginLemmas.{comes_leaves}
 use Rattle.ms_minim.proofs.Pigeonhole.{pigeonhole}
 

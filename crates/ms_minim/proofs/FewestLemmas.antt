@@ -19,6 +19,7 @@ use Rattle.ms_dfa.specs.declared.state.State.{State}
 use Rattle.ms_logic.specs.declared.mode.Order.{Order}
 use Rattle.ms_logic_words.specs.declared.sign.Sign.{Sign}
 use Rattle.ms_logic_words.specs.Content.{Content, HasValueAt, AreLetters, IsWordOver, IsClosed, IsFollowed, is_in_letters, is_truth_value, first_state, state_after, last_state, sign_at, sign_of, truth_bits, letter_bits}
+use Rattle.ms_logic_words.specs.Signs.{sign_or_outside}
 use Rattle.ms_logic_words.proofs.WordLaws.{encoding_is_over}
 use Rattle.ms_dfa.specs.Machine.{machine_of}
 use Rattle.ms_dfa.specs.Values.{own_meaning}
@@ -30,7 +31,7 @@ use Rattle.ms_dfa_explore.specs.inner.Run.{IsOver, AreNames}
 use Rattle.ms_dfa_explore.proofs.RunLemmas.{explored, length-states_of, IsClosed-explored, IsSimulation-explored, sign_of_explored}
 use Rattle.ms_minim.specs.Residual.{HaveEqualResiduals, HaveEqualSigns, HasFewestStates}
 use Rattle.ms_minim.specs.inner.Partition.{HaveOneClass, behind, next_by}
-use Rattle.ms_minim.specs.inner.Quotient.{Quotienting, IsNumberOf, IsMemberOf, IsQuotient, sign_or_outside, sign_of_number, quotient_findings}
+use Rattle.ms_minim.specs.inner.Quotient.{Quotienting, IsNumberOf, IsMemberOf, IsQuotient, sign_of_number, quotient_findings}
 use Rattle.ms_minim.specs.Reduced.{IsReducedOf, content_over}
 use Rattle.ms_minim.proofs.LettersLemmas.{over-with_letters, sign_of-with_letters, with_letters}
 use Rattle.ms_minim.proofs.Pigeonhole.{counted}

@@ -21,7 +21,7 @@ use Rattle.ms_dfa.proofs.NarrowLemmas.{leaf_of-gathered}
 use Rattle.ms_minim.specs.declared.origins.Origins.{Origins}
 use Rattle.ms_minim.specs.inner.Origin.{nowhere, next_of, root_at, ComesFrom, origin_at, HasPlace, IsSeen, IsNoted, OriginsSoFar, AreOrigins, IsReachedState}
 use Rattle.ms_minim.specs.inner.Partition.{behind, next_by}
-use Rattle.ms_minim.specs.Reading.{IsRead}
+use Rattle.ms_minim.specs.SignReading.{IsRead}
 use Rattle.ms_minim.proofs.LettersLemmas.{AreLetters-append, state_after-append}
 use Rattle.ms_minim.proofs.PartitionLemmas.{some_state}
 use Rattle.ms_minim.proofs.ResidualLemmas.{letter_for, length-letter_for, next_state-letter_for, state_followed}

@@ -4,7 +4,7 @@ use Rattle.std.proofs.lemmas.Bool.{cases_lt}
 use Rattle.std.proofs.lemmas.Option.{slice_get_within, same_Some, none-some}
 use Rattle.ms_arena.proofs.Lists.{slice_get-held, slice_get-append_left, slice_get-push, slice_get-pushed}
 use Rattle.ms_arena.specs.Diagram.{Bits}
-use Rattle.ms_minim.specs.Reading.{IsRead}
+use Rattle.ms_minim.specs.SignReading.{IsRead}
 use Rattle.ms_logic_words.specs.declared.sign.Sign.{Sign}
 use Rattle.ms_logic_words.specs.Content.{Content}
 use Rattle.ms_list.specs.declared.fault.NoMemory.{NoMemory}

@@ -13,7 +13,7 @@ use Rattle.ms_arena.proofs.Lists.{slice_get-held, slice_get-append_some, slice_g
 use Rattle.ms_arena.proofs.Paths.{IsBefore-later, IsBefore-end_at, leaf_of-leaf, leaf_of-node}
 use Rattle.ms_diagram.specs.Leaves.{noted, leaves_of, KnowsAll}
 use Rattle.ms_diagram.proofs.LeavesLemmas.{leaves_within-leaf, leaves_within-node, KnowsAll-noted}
-use Rattle.ms_minim.specs.Reading.{IsRead}
+use Rattle.ms_minim.specs.SignReading.{IsRead}
 use Rattle.ms_logic_words.specs.declared.sign.Sign.{Sign}
 use Rattle.ms_logic_words.specs.Content.{StateOf, Content}
 use Rattle.ms_minim.specs.inner.Partition.{next_by}

@@ -24,6 +24,7 @@ use Rattle.ms_diagram.proofs.Building.{Builds-implies}
 use Rattle.ms_diagram.proofs.NumberingLemmas.{AddsOnly-implies}
 use Rattle.ms_logic_words.specs.declared.sign.Sign.{Sign}
 use Rattle.ms_logic_words.specs.Content.{StateOf, Content, is_truth_value, first_state, state_after, last_state, sign_at}
+use Rattle.ms_logic_words.specs.Signs.{sign_or_outside}
 use Rattle.ms_dfa.specs.Narrow.{gathered}
 use Rattle.ms_dfa.proofs.FunctionLemmas.{TestsOnly-by_function}
 use Rattle.ms_dfa.proofs.GatheredLemmas.{length-gathered}
@@ -31,7 +32,7 @@ use Rattle.ms_dfa.proofs.NarrowLemmas.{leaf_of-gathered}
 use Rattle.ms_dfa.proofs.OwnMeaningLemmas.{last_within}
 use Rattle.ms_minim.specs.inner.Origin.{IsReachedState}
 use Rattle.ms_minim.specs.inner.Partition.{IsIdentity, IsPartition, IsRoot, HaveOneClass, next_by}
-use Rattle.ms_minim.specs.inner.Quotient.{Quotienting, sign_or_outside, sign_of_number, IsNumberOf, NumberBehind, HaveOwnNumbers, IsClassBehind, LeadsOn, IsReached, AreReached, IsQuotient}
+use Rattle.ms_minim.specs.inner.Quotient.{Quotienting, sign_of_number, IsNumberOf, NumberBehind, HaveOwnNumbers, IsClassBehind, LeadsOn, IsReached, AreReached, IsQuotient}
 use Rattle.ms_minim.proofs.LeadLemmas.{Renames-identity, tested_within, identity_leaf}
 use Rattle.ms_minim.proofs.MarkLemmas.{leads_by}
 use Rattle.ms_minim.proofs.LettersLemmas.{AreLetters-append, state_after-append}

@@ -13,15 +13,15 @@ use Rattle.ms_logic.specs.declared.mode.Order.{Order}
 use Rattle.ms_logic_words.specs.declared.sign.Sign.{Sign}
 use Rattle.ms_logic_words.specs.Content.{StateOf, Content, IsClosed, IsFollowed, is_in_letters, next_from, next_state, state_after, first_state, last_state, sign_at, sign_of}
 use Rattle.ms_dfa_explore.specs.Explored.{OnRefused}
-use Rattle.ms_minim.specs.declared.reading.Reading.{Reading}
-use Rattle.ms_minim.specs.declared.reading.Reading.TheVariants.{AsTheyAre}
-use Rattle.ms_minim.specs.Reading.{IsRead, read_content, read_sign, read_state}
+use Rattle.ms_minim.specs.declared.reading.SignReading.{SignReading}
+use Rattle.ms_minim.specs.declared.reading.SignReading.TheVariants.{AsTheyAre}
+use Rattle.ms_minim.specs.SignReading.{IsRead, read_content, read_sign, read_state}
 
 -- signs that are read as they are
 pub read-own : (content : Content Sign) → read_content AsTheyAre content ≡ content
 read-own content = λ i. record { mode = content.mode; variables = content.variables; start = content.start; states = map-id content.states i; nodes = content.nodes }
 
-module _ (reading : Reading) (content : Content Sign) where
+module _ (reading : SignReading) (content : Content Sign) where
   abbrev read : Content Sign
   read = read_content reading content
 
@@ -81,7 +81,7 @@ module _ (reading : Reading) (content : Content Sign) where
       by (Some there) = refl
 
 -- it has as many states, so a refusal for their number is one for that of the automaton's
-pub refused-read : (A : Type 0) (reading : Reading) (content : Content Sign) (limit : ℕ) (fault : StepFault)
+pub refused-read : (A : Type 0) (reading : SignReading) (content : Content Sign) (limit : ℕ) (fault : StepFault)
     → OnRefused {A = Content Sign} (Err fault) (λ refused. (refused ≡ limit) × (limit < length content.nodes + length (read_content reading content).states))
     → OnRefused {A = A} (Err fault) (λ refused. (refused ≡ limit) × (limit < length content.nodes + length content.states))
 refused-read A reading content limit Memory refused = tt

@@ -10,7 +10,7 @@ use Rattle.ms_arena.proofs.Canonicity.{same_reference}
 use Rattle.ms_arena.proofs.Lists.{slice_get-held, slice_get-pushed}
 use Rattle.ms_arena.proofs.Paths.{leaf_of-leaf}
 use Rattle.ms_diagram.specs.Numbering.{IsNumbering}
-use Rattle.ms_minim.specs.Reading.{IsRead}
+use Rattle.ms_minim.specs.SignReading.{IsRead}
 use Rattle.ms_logic_words.specs.declared.sign.Sign.{Sign}
 use Rattle.ms_logic_words.specs.Content.{Content}
 use Rattle.ms_minim.specs.declared.signatures.Seen.{Seen}

@@ -1,4 +1,4 @@
-pub mod Reading
 pub mod Reduced
 pub mod Residual
+pub mod SignReading
 pub mod inner

@@ -2,7 +2,7 @@ ghost use Rattle.std.specs.Prelude.{◌≡◌, ◌≤◌, ◌<◌, ◌+◌, leng
 ghost use Rattle.ms_dfa_explore.specs.Explored.{OnRefused};
 ghost use Rattle.ms_minim.specs.Residual.{AreReached, HasFewestStates, HaveDifferentResiduals, HaveEqualSigns};
 
-use crate::reading::Reading;
+use crate::reading::SignReading;
 use crate::reduction::reduce;
 use ms_dfa::{Automaton, Track};
 use ms_list::{List, NoMemory, StepFault};
@@ -36,7 +36,7 @@ pub fn minimise(alloc: Global, a: &Automaton, limit: u64) -> Result<Automaton, S
         Ok(tracks) => tracks,
         Err(_) => return Err(StepFault::Memory),
     };
-    let made = match reduce(alloc, a, Reading::AsTheyAre, limit) {
+    let made = match reduce(alloc, a, SignReading::AsTheyAre, limit) {
         Ok(made) => made,
         Err(fault) => return Err(fault),
     };

@@ -28,5 +28,5 @@ pub use examples::{
     worked_residuals,
 };
 pub use fewest::minimise;
-pub use reading::Reading;
+pub use reading::SignReading;
 pub use reduction::{Reduced, reduce};

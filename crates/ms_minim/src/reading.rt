@@ -1,7 +1,7 @@
 ghost use Rattle.std.specs.Prelude.{◌≡◌, ◌<◌, length, slice_get, IfSome, Some};
 ghost use Rattle.ms_logic_words.specs.Content.{is_truth_value, is_in_letters, sign_at, IsFollowed};
 ghost use Rattle.ms_dfa.specs.Automaton.{variables_of};
-ghost use Rattle.ms_minim.specs.Reading.{IsRead, read_content, read_sign, without_undefined};
+ghost use Rattle.ms_minim.specs.SignReading.{IsRead, read_content, read_sign, without_undefined};
 
 use ms_arena::Ref;
 use ms_dfa::{Automaton, Track};
@@ -11,7 +11,7 @@ use std::marker::Model;
 
 /// How signs are read: each as it is, or as files tell them, which have one sign for Undefined and Outside.
 #[derive(Clone, Copy, PartialEq, Eq)]
-pub enum Reading {
+pub enum SignReading {
     AsTheyAre,
     AsInFiles,
 }
@@ -27,12 +27,12 @@ fn without_undefined(sign: Sign) -> Sign
     }
 }
 
-fn read_sign(reading: Reading, sign: Sign) -> Sign
+fn read_sign(reading: SignReading, sign: Sign) -> Sign
     ensures { result ≡ read_sign reading sign }
 {
     match reading {
-        Reading::AsTheyAre => sign,
-        Reading::AsInFiles => without_undefined(sign),
+        SignReading::AsTheyAre => sign,
+        SignReading::AsInFiles => without_undefined(sign),
     }
 }
 
@@ -40,13 +40,13 @@ fn read_sign(reading: Reading, sign: Sign) -> Sign
 #[derive(Drop)]
 pub(crate) struct Reader<'a> {
     automaton: &'a Automaton,
-    reading: Reading,
+    reading: SignReading,
 }
 
 impl<'a> Model for Reader<'a> {
     ghost use Rattle.ms_logic_words.specs.Content.{Content};
     ghost use Rattle.ms_logic_words.specs.declared.sign.Sign.{Sign};
-    ghost use Rattle.ms_minim.specs.Reading.{IsRead, read_content};
+    ghost use Rattle.ms_minim.specs.SignReading.{IsRead, read_content};
 
     ghost Value = { Content Sign };
 
@@ -56,7 +56,7 @@ impl<'a> Model for Reader<'a> {
 }
 
 impl<'a> Reader<'a> {
-    pub(crate) fn new(automaton: &'a Automaton, reading: Reading) -> Reader<'a>
+    pub(crate) fn new(automaton: &'a Automaton, reading: SignReading) -> Reader<'a>
         ensures { result ≡ read_content reading automaton.now }
     {
         // The states tell that it is an automaton.

@@ -2,13 +2,13 @@ ghost use Rattle.std.specs.Prelude.{◌≡◌, ◌≤◌, ◌<◌, ◌+◌, List
 ghost use Rattle.ms_arena.specs.declared.node.Node.{Node};
 ghost use Rattle.ms_dfa_explore.specs.Explored.{OnRefused};
 ghost use Rattle.ms_minim.specs.inner.Lead.{AreNoted};
-ghost use Rattle.ms_minim.specs.Reading.{read_content};
+ghost use Rattle.ms_minim.specs.SignReading.{read_content};
 ghost use Rattle.ms_minim.specs.Reduced.{IsReducedOf, content_over};
 
 use crate::numbers::{Numbered, first_numbers};
 use crate::origins::origins_of;
 use crate::quotient::{Quotient, QuotientMachine, QuotientTables, Source};
-use crate::reading::{Reader, Reading};
+use crate::reading::{Reader, SignReading};
 use crate::refinement::{Residuals, refine};
 use crate::settled::{own_start, own_states};
 use ms_arena::Ref;
@@ -94,7 +94,7 @@ fn is_nearly_reduced(tables: &QuotientTables, nodes: u64) -> bool
 pub fn reduce(
     alloc: Global,
     a: &Automaton,
-    reading: Reading,
+    reading: SignReading,
     limit: u64,
 ) -> Result<Reduced, StepFault>
     requires some { 1 ≤ limit }

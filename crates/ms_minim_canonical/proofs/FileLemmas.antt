@@ -13,8 +13,8 @@ use Rattle.ms_logic_words.specs.declared.sign.Sign.{Sign}
 use Rattle.ms_logic.specs.Assignment.{Variable}
 use Rattle.ms_logic_words.specs.Canonical.{HaveSameSigns, IsCanonical}
 use Rattle.ms_logic_words.specs.Content.{Content, AreLetters, IsClosed, IsWordOver, last_state, sign_at, sign_of, state_after}
-use Rattle.ms_minim.specs.declared.reading.Reading.TheVariants.{AsInFiles}
-use Rattle.ms_minim.specs.Reading.{read_content, without_undefined}
+use Rattle.ms_minim.specs.declared.reading.SignReading.TheVariants.{AsInFiles}
+use Rattle.ms_minim.specs.SignReading.{read_content, without_undefined}
 use Rattle.ms_minim.specs.Reduced.{IsReducedOf, content_over}
 use Rattle.ms_minim.proofs.ReadingLemmas.{sign_of-read}
 use Rattle.ms_dfa.specs.Files.{file_sign, file_states_of}

@@ -18,9 +18,9 @@ use Rattle.ms_logic_words.specs.declared.sign.Sign.{Sign}
 use Rattle.ms_logic_words.specs.declared.sign.Sign.TheVariants.{Yes, No, Undefined, Outside}
 use Rattle.ms_logic.specs.Assignment.{Variable}
 use Rattle.ms_logic_words.specs.Content.{StateOf, Content, IsClosed, IsFollowed, bits_at, is_in_letters, is_truth_value, next_from, next_state, state_after, first_state, last_state, sign_at, sign_of, letter_bits}
-use Rattle.ms_minim.specs.Reading.{without_undefined}
+use Rattle.ms_minim.specs.SignReading.{without_undefined}
 use Rattle.ms_dfa.specs.Files.{file_sign}
-use Rattle.ms_dfa.proofs.OrdersLemmas.{has_value-same, orders_of, spread-same}
+use Rattle.ms_dfa.proofs.OrdersLemmas.{has_value-same, orders_of, padded-same}
 use Rattle.ms_minim_canonical.proofs.RenumberedLemmas.{filed, filed_state, filed_states}
 
 -- signs without Undefined follow from those of files
@@ -62,10 +62,10 @@ module _ (mode : Mode) (vs ws : List Variable) (same : orders_of vs ≡ orders_o
   made = filed mode ws nodes start states
 
   first-filed : (truth : List Bool) → first_state made truth ≡ first_state plain truth
-  first-filed truth = ap (λ values. leaf_of nodes start (bits_at values)) (sym (spread-same is_truth_value vs ws same truth))
+  first-filed truth = ap (λ values. leaf_of nodes start (bits_at values)) (sym (padded-same is_truth_value vs ws same truth))
 
   letter-filed : (letter : List Bool) → letter_bits ws letter ≡ letter_bits vs letter
-  letter-filed letter = ap bits_at (sym (spread-same is_in_letters vs ws same letter))
+  letter-filed letter = ap bits_at (sym (padded-same is_in_letters vs ws same letter))
 
   next-filed : (state : ℕ) (letter : List Bool) → next_state made state letter ≡ next_state plain state letter
   next-filed state letter =

@@ -9,7 +9,7 @@ ghost use Rattle.ms_dfa.specs.Files.{content_of_file, file_sign};
 use crate::renumber::renumbered;
 use ms_dfa::{Automaton, FileVar, Plain, Track};
 use ms_list::{List, Name, NoMemory, StepFault, push};
-use ms_minim::{Reading, reduce};
+use ms_minim::{SignReading, reduce};
 use std::alloc::Global;
 
 /// Variables of a file with the orders of tracks, and with names.
@@ -55,7 +55,7 @@ pub fn canonical(
         Ok(variables) => variables,
         Err(_) => return Err(StepFault::Memory),
     };
-    let reduced = match reduce(alloc, a, Reading::AsInFiles, limit) {
+    let reduced = match reduce(alloc, a, SignReading::AsInFiles, limit) {
         Ok(reduced) => reduced,
         Err(fault) => return Err(fault),
     };

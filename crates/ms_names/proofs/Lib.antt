@@ -3,6 +3,7 @@ pub mod FewParameters
 pub mod Lists
 pub mod Makes
 pub mod Operands
+pub mod Operations
 pub mod Sources
 pub mod Told
 pub mod Values

@@ -15,10 +15,10 @@ use Rattle.ms_names_rules.specs.Order.{later_parameters, wanted_by}
 use Rattle.ms_names_rules.specs.Scope.{bind, under_bounds, without_exports}
 use Rattle.ms_names_rules.specs.Typed.{both, numbers_of_parts, of_order, typed, typed_arguments, typed_parts}
 use Rattle.ms_names_rules.proofs.Lists.{argument-typed, front-wanted, in_front, side-behind, sides_behind, variable-behind}
-use Rattle.ms_names_scopes.specs.inner.State.{after_restriction, after_restrictions, State, passed}
-use Rattle.ms_names_scopes.proofs.States.{passed-passed}
+use Rattle.ms_names_scopes.specs.inner.Found.{after_restriction, after_restrictions, Found, passed}
+use Rattle.ms_names_scopes.proofs.Findings.{passed-passed}
 
-pub arguments-next : (t u : State) (ps rest : List Order) (o : Option Order) (e : Expression) (es : Expressions) →
+pub arguments-next : (t u : Found) (ps rest : List Order) (o : Option Order) (e : Expression) (es : Expressions) →
     ps ≡ with_front o (later_parameters ps) → rest ≡ later_parameters ps →
     u ≡ passed t (occurrences t.scope t.before (wanted_by (with_front o [])) e) (after t.before e) →
     passed u (inside_arguments u.scope u.before rest es) (after_all u.before es)
@@ -30,7 +30,7 @@ arguments-next t u ps rest o e es split later here =
     ∙ (ap (λ w. passed t (occurrences t.scope t.before w e ++ inside_arguments t.scope (after t.before e) rest es) end) (front-wanted o ps split)
     ∙ ap (λ qs. passed t (occurrences t.scope t.before (wanted_by ps) e ++ inside_arguments t.scope (after t.before e) qs es) end) later))
 
-pub arguments-typed : (t u : State) (ps rest : List Order) (o : Option Order) (e : Expression) (es : Expressions)
+pub arguments-typed : (t u : Found) (ps rest : List Order) (o : Option Order) (e : Expression) (es : Expressions)
     (found more : Option (List Argument)) (value : Option Argument) →
     ps ≡ with_front o (later_parameters ps) → rest ≡ later_parameters ps →
     u ≡ passed t (occurrences t.scope t.before (wanted_by (with_front o [])) e) (after t.before e) →
@@ -43,7 +43,7 @@ arguments-typed t u ps rest o e es found more value split later here is added =
     ∙ (ap (λ qs. both in_front (both (λ front a. front ++ a ∷ []) found (argument_for o (typed t.scope t.before e))) (typed_arguments t.scope (after t.before e) qs es)) later
     ∙ argument-typed t.scope t.before ps (later_parameters ps) o e es found split))
 
-pub parts-passed : (t u : State) (o : Order) (at : At) (n : Bytes) (e : Expression) (ps : Parts) →
+pub parts-passed : (t u : Found) (o : Order) (at : At) (n : Bytes) (e : Expression) (ps : Parts) →
     u ≡ passed t (occurrences t.scope t.before (Exactly o) e) (after t.before e) →
     passed u (inside_parts u.scope u.before o ps) (after_parts u.before ps)
     ≡ passed t (inside_parts t.scope t.before o (more_parts at n e ps)) (after_parts t.before (more_parts at n e ps))
@@ -51,7 +51,7 @@ parts-passed t u o at n e ps here =
     ap (λ there. passed there (inside_parts there.scope there.before o ps) (after_parts there.before ps)) here
     ∙ passed-passed t (occurrences t.scope t.before (Exactly o) e) (inside_parts t.scope (after t.before e) o ps) (after t.before e) (after_parts (after t.before e) ps)
 
-pub parts-typed : (t u : State) (x : ℕ) (o : Order) (at : At) (n : Bytes) (e : Expression) (ps : Parts)
+pub parts-typed : (t u : Found) (x : ℕ) (o : Order) (at : At) (n : Bytes) (e : Expression) (ps : Parts)
     (found more : Option (List (ℕ × Argument))) (value : Option Argument) →
     u ≡ passed t (occurrences t.scope t.before (Exactly o) e) (after t.before e) →
     value ≡ typed t.scope t.before e →
@@ -65,27 +65,27 @@ parts-typed t u x o at n e ps found more value here is added =
     ∙ (ap (λ front. both sides_behind front (option_map (λ sides. (ns, sides)) rest)) (added ∙ ap (λ a. both (λ front b. front ++ (x, b) ∷ []) found (option_and_then (of_order o) a)) is)
     ∙ side-behind found x (option_and_then (of_order o) (typed t.scope t.before e)) ns rest)
 
-pub restrictions-next : (t u : State) (x : ℕ) (at : At) (o : Order) (n : Bytes) (d : Domain) (vs : Bounds) →
+pub restrictions-next : (t u : Found) (x : ℕ) (at : At) (o : Order) (n : Bytes) (d : Domain) (vs : Bounds) →
     u ≡ after_restriction t x o n d →
     after_restrictions u (x + 1) vs ≡ after_restrictions t x (more_bounds at o n d vs)
 restrictions-next t u x at o n d vs here =
     let inner = bind n (Variable x o) t.scope in
-    let F : State → State = λ there. record there { scope = under_bounds inner (x + 1) vs } in
+    let F : Found → Found = λ there. record there { scope = under_bounds inner (x + 1) vs } in
     ap (λ there. after_restrictions there (x + 1) vs) here
     ∙ ap F
     (passed-passed t (inside_domain (without_exports inner) t.before d) (inside_bounds inner (x + 1) (after_domain t.before d) vs)
     (after_domain t.before d) (after_bounds (after_domain t.before d) vs))
 
-pub restrictions-typed : (t u : State) (takes_defaults : Bool) (x : ℕ) (at : At) (o : Order) (n : Bytes) (d : Domain) (vs : Bounds)
-    (found more : Option (List tree.Declaration)) (value : Option tree.Declaration) →
+pub restrictions-typed : (t u : Found) (takes_defaults : Bool) (x : ℕ) (at : At) (o : Order) (n : Bytes) (d : Domain) (vs : Bounds)
+    (found more : Option (List tree.Declaration)) →
     u ≡ after_restriction t x o n d →
-    value ≡ option_map (restricted_variable x o) (restriction_in takes_defaults (bind n (Variable x o) t.scope) t.before o x d) →
-    more ≡ both (λ front v. front ++ v ∷ []) found value →
+    more ≡ both (λ front v. front ++ v ∷ []) found
+    (option_map (restricted_variable x o) (restriction_in takes_defaults (bind n (Variable x o) t.scope) t.before o x d)) →
     both (λ front later. front ++ later) more (restricted_variables takes_defaults u.scope (x + 1) u.before vs)
     ≡ both (λ front later. front ++ later) found (restricted_variables takes_defaults t.scope x t.before (more_bounds at o n d vs))
-restrictions-typed t u takes_defaults x at o n d vs found more value here is added =
+restrictions-typed t u takes_defaults x at o n d vs found more here added =
     let inner = bind n (Variable x o) t.scope in
     let rest = restricted_variables takes_defaults inner (x + 1) (after_domain t.before d) vs in
     ap (λ there. both (λ front later. front ++ later) more (restricted_variables takes_defaults there.scope (x + 1) there.before vs)) here
-    ∙ (ap (λ front. both (λ front later. front ++ later) front rest) (added ∙ ap (λ v. both (λ front w. front ++ w ∷ []) found v) is)
+    ∙ (ap (λ front. both (λ front later. front ++ later) front rest) added
     ∙ variable-behind found x o (restriction_in takes_defaults inner t.before o x d) rest)

@@ -19,32 +19,32 @@ use Rattle.ms_names_rules.specs.Reads.{readings_at}
 use Rattle.ms_names_rules.specs.Rules.{faults_at, faults_of_bounds, faults_of_exports, faults_of_placed, faults_of_repeat}
 use Rattle.ms_names_rules.specs.Scope.{bind, count_of_bounds, under_bounds, with_default}
 use Rattle.ms_names_rules.specs.Uses.{import_at, export_at, with_files}
-use Rattle.ms_names_scopes.specs.inner.State.{after_restrictions, State, with_faults, passed}
+use Rattle.ms_names_scopes.specs.inner.Found.{after_restrictions, Found, with_faults, passed}
 use Rattle.ms_names_scopes.specs.inner.Declaration.{Files, known_at, read_through, told}
 use Rattle.ms_names.specs.inner.Outcome.{declared_in}
-use Rattle.ms_names_scopes.proofs.States.{first_with-append}
+use Rattle.ms_names_scopes.proofs.Findings.{first_with-append}
 
-kept-reads : (u v : State) → u ≡ v → u ≡ record v { reads = u.reads }
-kept-reads u v same = let P : State → Type 0 = λ there. u ≡ record there { reads = u.reads } in subst P same refl
+kept-reads : (u v : Found) → u ≡ v → u ≡ record v { reads = u.reads }
+kept-reads u v same = let P : Found → Type 0 = λ there. u ≡ record there { reads = u.reads } in subst P same refl
 
-pub formula-told : (s u : State) (count : ℕ) (files : Files) (e : Expression) →
+pub formula-told : (s u : Found) (count : ℕ) (files : Files) (e : Expression) →
     u ≡ passed s (occurrences s.scope s.before formula_wanted e) (after s.before e) →
     u ≡ told s (known_at s count files) (formula e) u.reads
 formula-told s u count files e within = kept-reads u (passed s (occurrences s.scope s.before formula_wanted e) (after s.before e)) within
 
-pub globals-told : (s r u : State) (first : ℕ) (files : Files) (vs : Bounds) →
+pub globals-told : (s r u : Found) (first : ℕ) (files : Files) (vs : Bounds) →
     r ≡ with_faults s (faults_of_bounds (declared_names s.scope) vs) →
     u ≡ after_restrictions r first vs →
     u ≡ told s (known_at s first files) (globals vs) u.reads
 globals-told s r u first files vs checked restricted_are =
     let fs = faults_of_bounds (declared_names s.scope) vs in
     let os = inside_bounds s.scope first s.before vs in
-    let end : State = record (passed s os (after_bounds s.before vs)) { scope = under_bounds s.scope first vs } in
+    let end : Found = record (passed s os (after_bounds s.before vs)) { scope = under_bounds s.scope first vs } in
     kept-reads u (record end { first = first_with s.first (fs ++ flat_map faults_at os) })
-    (restricted_are ∙ (ap (λ (there : State). after_restrictions there first vs) checked
+    (restricted_are ∙ (ap (λ (there : Found). after_restrictions there first vs) checked
     ∙ ap (λ known. record end { first = known }) (sym (first_with-append s.first fs (flat_map faults_at os)))))
 
-pub constant-told : (s r u : State) (count : ℕ) (files : Files) (at : At) (n : Bytes) (is : List PlacedInt) (value : ℕ) →
+pub constant-told : (s r u : Found) (count : ℕ) (files : Files) (at : At) (n : Bytes) (is : List PlacedInt) (value : ℕ) →
     r ≡ with_faults s (faults_of_repeat at n (declared_names s.scope) ++ (faults_of_sum at (sum_from s.scope 0 is) ++ flat_map (faults_of_placed s.scope) is)) →
     value ≡ value_of_sum (sum_from s.scope 0 is) →
     u ≡ record r { scope = bind n (Constant value) r.scope } →
@@ -52,8 +52,8 @@ pub constant-told : (s r u : State) (count : ℕ) (files : Files) (at : At) (n :
 constant-told s r u count files at n is value checked valued bound =
     let fs = faults_of_repeat at n (declared_names s.scope) ++ (faults_of_sum at (sum_from s.scope 0 is) ++ flat_map (faults_of_placed s.scope) is) in
     let m = Constant (value_of_sum (sum_from s.scope 0 is)) in
-    let plain : State = record (with_faults s fs) { scope = bind n m s.scope } in
-    let all : State = record {
+    let plain : Found = record (with_faults s fs) { scope = bind n m s.scope } in
+    let all : Found = record {
       scope = bind n m s.scope;
       before = s.before;
       first = first_with s.first (fs ++ []);
@@ -71,9 +71,9 @@ constant-told s r u count files at n is value checked valued bound =
     } in
     kept-reads u all
     (bound ∙ (ap (λ v. record r { scope = bind n (Constant v) r.scope }) valued
-    ∙ (ap (λ (there : State). record there { scope = bind n m there.scope }) checked ∙ padded)))
+    ∙ (ap (λ (there : Found). record there { scope = bind n m there.scope }) checked ∙ padded)))
 
-pub predicate-told : (s r p t u v : State) (count : ℕ) (files : Files) (at : At) (n : Bytes) (vs : Bounds) (e : Expression) (number : ℕ) (orders : List Order) →
+pub predicate-told : (s r p t u v : Found) (count : ℕ) (files : Files) (at : At) (n : Bytes) (vs : Bounds) (e : Expression) (number : ℕ) (orders : List Order) →
     s.reads ≡ [] →
     r ≡ with_faults s (faults_of_repeat at n (declared_names s.scope)) →
     p ≡ with_faults r (faults_of_bounds [] vs) →
@@ -87,11 +87,11 @@ predicate-told s r p t u v count files at n vs e number orders empty declared_on
     let gs = faults_of_bounds [] vs in
     let os = occurrences_in_predicate s.scope s.before vs e in
     let end = after (after_bounds (with_names s.before (count_of_bounds vs)) vs) e in
-    let G : State → State = λ there. passed there (occurrences_in_predicate there.scope there.before vs e) (after (after_bounds (with_names there.before (count_of_bounds vs)) vs) e) in
+    let G : Found → Found = λ there. passed there (occurrences_in_predicate there.scope there.before vs e) (after (after_bounds (with_names there.before (count_of_bounds vs)) vs) e) in
     let known : p ≡ record s { first = first_with (first_with s.first fs) gs } = different ∙ ap (λ there. with_faults there gs) declared_once in
-    let N : State → State = λ there. record (read_through there) { scope = bind n (Predicate (next_predicate there.scope) (orders_of_bounds vs)) (read_through there).scope } in
+    let N : Found → Found = λ there. record (read_through there) { scope = bind n (Predicate (next_predicate there.scope) (orders_of_bounds vs)) (read_through there).scope } in
     let begun = record s { first = first_with (first_with s.first fs) gs } in
-    let F : List Reading → List Fault → State = λ reads found. record {
+    let F : List Reading → List Fault → Found = λ reads found. record {
       scope = bind n (Predicate (length s.scope.readings) (orders_of_bounds vs)) (record s.scope { readings = (reads ++ flat_map readings_at os) ∷ s.scope.readings });
       before = end;
       first = first_with s.first found;
@@ -103,14 +103,14 @@ predicate-told s r p t u v count files at n vs e number orders empty declared_on
     ap (λ known. first_with known (flat_map faults_at os)) (sym (first_with-append s.first fs gs)) ∙ sym (first_with-append s.first (fs ++ gs) (flat_map faults_at os)) in
     kept-reads v (F [] ((fs ++ gs) ++ flat_map faults_at os))
     (bound
-    ∙ (ap (λ (there : State). record there { scope = bind n (Predicate number orders) there.scope }) noted_as
+    ∙ (ap (λ (there : Found). record there { scope = bind n (Predicate number orders) there.scope }) noted_as
     ∙ (ap (λ k. record (read_through t) { scope = bind n (Predicate k orders) (read_through t).scope }) numbered
     ∙ (ap (λ qs. record (read_through t) { scope = bind n (Predicate (next_predicate t.scope) qs) (read_through t).scope }) ordered
     ∙ (ap N (within ∙ ap G known)
     ∙ (ap (λ first. record (N (passed begun os end)) { first = first }) found
     ∙ ap (λ reads. F reads ((fs ++ gs) ++ flat_map faults_at os)) empty))))))
 
-pub default-told : (s t u v : State) (count : ℕ) (files : Files) (o : Order) (n : Bytes) (e : Expression) (number : ℕ) →
+pub default-told : (s t u v : Found) (count : ℕ) (files : Files) (o : Order) (n : Bytes) (e : Expression) (number : ℕ) →
     s.reads ≡ [] →
     t ≡ passed s (occurrences_in_default s.scope s.before o n e) (after (with_names s.before 1) e) →
     number ≡ next_predicate t.scope → u ≡ read_through t →
@@ -119,7 +119,7 @@ pub default-told : (s t u v : State) (count : ℕ) (files : Files) (o : Order) (
 default-told s t u v count files o n e number empty within numbered noted_as held =
     let os = occurrences_in_default s.scope s.before o n e in
     let end = after (with_names s.before 1) e in
-    let F : List Reading → State = λ reads. record {
+    let F : List Reading → Found = λ reads. record {
       scope = with_default o (length s.scope.readings) (record s.scope { readings = (reads ++ flat_map readings_at os) ∷ s.scope.readings });
       before = end;
       first = first_with s.first (flat_map faults_at os);
@@ -127,22 +127,22 @@ default-told s t u v count files o n e number empty within numbered noted_as hel
       imports = s.imports ++ flat_map import_at os;
       exports = s.exports ++ flat_map export_at os;
     } in
-    let N : State → State = λ there. record (read_through there) { scope = with_default o (next_predicate there.scope) (read_through there).scope } in
+    let N : Found → Found = λ there. record (read_through there) { scope = with_default o (next_predicate there.scope) (read_through there).scope } in
     kept-reads v (F [])
     (held
-    ∙ (ap (λ (there : State). record there { scope = with_default o number there.scope }) noted_as
+    ∙ (ap (λ (there : Found). record there { scope = with_default o number there.scope }) noted_as
     ∙ (ap (λ k. record (read_through t) { scope = with_default o k (read_through t).scope }) numbered
     ∙ (ap N within ∙ ap F empty))))
 
 -- a declaration with its exports
 
-exports-here : (s t : State) (k : Known) (d : Declaration) (from : ℕ) (reads : List Reading) →
+exports-here : (s t : Found) (k : Known) (d : Declaration) (from : ℕ) (reads : List Reading) →
     t ≡ told s k d reads → from ≡ length s.exports → drop from t.exports ≡ exports_in k d
 exports-here s t k d from reads found from_is =
-    ap (λ (there : State). drop from there.exports) found
+    ap (λ (there : Found). drop from there.exports) found
     ∙ (ap (λ n. drop n (s.exports ++ exports_in k d)) from_is ∙ drop-append_seam s.exports (exports_in k d))
 
-pub declared-files : (s r t : State) (count : ℕ) (files more : Files) (d : Declaration) (from : ℕ) →
+pub declared-files : (s r t : Found) (count : ℕ) (files more : Files) (d : Declaration) (from : ℕ) →
     r ≡ record s { first = None; reads = [] } →
     from ≡ length r.exports →
     t ≡ told r (known_at r count files) d t.reads →
@@ -150,9 +150,9 @@ pub declared-files : (s r t : State) (count : ℕ) (files more : Files) (d : Dec
     more ≡ (after_declaration (known_at s count files) d).files
 declared-files s r t count files more d from begun from_is found checked =
     checked ∙ (ap (with_files files) (exports-here r t (known_at r count files) d from t.reads found from_is)
-    ∙ ap (λ (there : State). with_files files (exports_in (known_at there count files) d)) begun)
+    ∙ ap (λ (there : Found). with_files files (exports_in (known_at there count files) d)) begun)
 
-pub declared-all : (s r t u : State) (count : ℕ) (files : Files) (d : Declaration) (from : ℕ) →
+pub declared-all : (s r t u : Found) (count : ℕ) (files : Files) (d : Declaration) (from : ℕ) →
     r ≡ record s { first = None; reads = [] } →
     from ≡ length r.exports →
     t ≡ told r (known_at r count files) d t.reads →
@@ -163,9 +163,9 @@ declared-all s r t u count files d from begun from_is found checked =
     let fs = faults_of_declaration k d in
     let gs = flat_map faults_at (occurrences_in k d) in
     let hs = faults_of_exports files (exports_in k d) in
-    let start : State = record s { first = None; reads = [] } in
-    let end : State = told start k d t.reads in
-    let F : State → State = λ there. with_faults (told there (known_at there count files) d t.reads) (faults_of_exports files (exports_in (known_at there count files) d)) in
+    let start : Found = record s { first = None; reads = [] } in
+    let end : Found = told start k d t.reads in
+    let F : Found → Found = λ there. with_faults (told there (known_at there count files) d t.reads) (faults_of_exports files (exports_in (known_at there count files) d)) in
     kept-reads u (record end { first = first_with None (fs ++ (gs ++ hs)) })
     (checked
     ∙ (ap (λ xs. with_faults t (faults_of_exports files xs)) (exports-here r t (known_at r count files) d from t.reads found from_is)
@@ -173,10 +173,10 @@ declared-all s r t u count files d from begun from_is found checked =
     ∙ (ap F begun
     ∙ ap (λ known. record end { first = known }) (sym (first_with-append None (fs ++ gs) hs) ∙ ap (first_with None) (append_assoc fs gs hs))))))
 
-pub from-within : (s t : State) (k : Known) (d : Declaration) (from : ℕ) (reads : List Reading) →
+pub from-within : (s t : Found) (k : Known) (d : Declaration) (from : ℕ) (reads : List Reading) →
     t ≡ told s k d reads → from ≡ length s.exports → from ≤ length t.exports
 from-within s t k d from reads found is =
-    let P : State → Type 0 = λ there. from ≤ length there.exports in
+    let P : Found → Type 0 = λ there. from ≤ length there.exports in
     let e = length-append s.exports (exports_in k d) in
     let within : from ≤ length (s.exports ++ exports_in k d) = omega (arith, e) in
     subst P (sym found) within

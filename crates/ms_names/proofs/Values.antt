@@ -20,9 +20,9 @@ use Rattle.ms_names_rules.specs.Typed.{both, formula_in, numbers_of_parts, typed
 use Rattle.ms_names_rules.proofs.Exports.{arguments-same, parts-same, typed-same, under_parts-same}
 use Rattle.ms_names_rules.proofs.Lists.{call-typed, quantifiers-all, restriction-own}
 use Rattle.ms_names.proofs.FewParameters.{arguments-typed-few}
-use Rattle.ms_names_scopes.specs.inner.State.{after_restrictions, State, with_faults, passed, noted}
+use Rattle.ms_names_scopes.specs.inner.Found.{after_restrictions, Found, with_faults, passed, noted}
 
-pub call-value : (s r q u v : State) (fs : List Fault) (rs : List Reading) (os : List Occurrence) (b : Before) (at : At) (n : Bytes) (es : Expressions)
+pub call-value : (s r q u v : Found) (fs : List Fault) (rs : List Reading) (os : List Occurrence) (b : Before) (at : At) (n : Bytes) (es : Expressions)
     (given : ℕ) (parameters : List Order) (allowed : Bool) (made : Option Arguments) (value : Option Argument) →
     given ≡ count es → parameters ≡ take (given + 1) (parameters_of (meaning_of s.scope n)) →
     r ≡ noted s fs rs → q ≡ record r { scope = without_exports r.scope } → u ≡ passed q os b →
@@ -34,55 +34,54 @@ call-value s r q u v fs rs os b at n es given parameters allowed made value coun
     let outer = without_exports s.scope in
     let m = meaning_of s.scope n in
     let meant : meaning_of v.scope n ≡ m =
-    ap (λ (there : State). meaning_of there.scope n) last ∙ (ap (λ (there : State). meaning_of there.scope n) within
-    ∙ (ap (λ (there : State). meaning_of there.scope n) without ∙ ap (λ (there : State). meaning_of there.scope n) named)) in
+    ap (λ (there : Found). meaning_of there.scope n) last ∙ (ap (λ (there : Found). meaning_of there.scope n) within
+    ∙ (ap (λ (there : Found). meaning_of there.scope n) without ∙ ap (λ (there : Found). meaning_of there.scope n) named)) in
     let given_is : made ≡ typed_arguments s.scope s.before (parameters_of m) es =
-    typed_so ∙ (ap (λ (there : State). typed_arguments there.scope there.before parameters es) without
-    ∙ (ap (λ (there : State). typed_arguments (without_exports there.scope) there.before parameters es) named
+    typed_so ∙ (ap (λ (there : Found). typed_arguments there.scope there.before parameters es) without
+    ∙ (ap (λ (there : Found). typed_arguments (without_exports there.scope) there.before parameters es) named
     ∙ (ap (λ orders. typed_arguments outer s.before orders es) known
     ∙ (arguments-typed-few outer s.before (parameters_of m) es (given + 1) (omega (arith, counted))
     ∙ arguments-same outer s.scope s.before (parameters_of m) es refl)))) in
     called ∙ (ap (λ there. typed_call there (λ orders. made)) meant
     ∙ (ap (λ there. typed_call m (λ orders. there)) given_is ∙ call-typed s.scope s.before es m))
 
--- the restriction of a variable
-pub restriction-value : (s r q : State) (takes_defaults : Bool) (x : ℕ) (o p : Order) (n m : Bytes) (e : Expression) (d : Domain)
-    (value : Option Argument) (made : Option tree.Declaration) →
+-- a variable with the restriction of its own
+pub restriction-value : (s r q : Found) (takes_defaults : Bool) (x : ℕ) (o p : Order) (n m : Bytes) (e : Expression) (d : Domain) (value : Option Argument) →
     o ≡ p → n ≡ m → restricted e ≡ d →
     r ≡ record s { scope = bind n (Variable x o) s.scope } →
     q ≡ record r { scope = without_exports r.scope } →
     value ≡ typed q.scope q.before e →
-    made ≡ option_map (restricted_variable x o) (typed_restriction value) →
-    made ≡ option_map (restricted_variable x p) (restriction_in takes_defaults (bind m (Variable x p) s.scope) s.before p x d)
-restriction-value s r q takes_defaults x o p n m e d value made order named own bound without is built =
+    option_map (restricted_variable x o) (typed_restriction value)
+    ≡ option_map (restricted_variable x p) (restriction_in takes_defaults (bind m (Variable x p) s.scope) s.before p x d)
+restriction-value s r q takes_defaults x o p n m e d value order named own bound without is =
     let here = bind n (Variable x o) s.scope in
     let value_is : value ≡ typed here s.before e =
-    is ∙ (ap (λ (there : State). typed there.scope there.before e) without
-    ∙ (ap (λ (there : State). typed (without_exports there.scope) there.before e) bound
+    is ∙ (ap (λ (there : Found). typed there.scope there.before e) without
+    ∙ (ap (λ (there : Found). typed (without_exports there.scope) there.before e) bound
     ∙ typed-same (without_exports here) here s.before e refl)) in
-    built ∙ (ap (λ a. option_map (restricted_variable x o) (typed_restriction a)) value_is
+    ap (λ a. option_map (restricted_variable x o) (typed_restriction a)) value_is
     ∙ (ap (option_map (restricted_variable x o)) (restriction-own takes_defaults here s.before o x e)
     ∙ (ap (λ there. option_map (restricted_variable x o) (restriction_in takes_defaults here s.before o x there)) own
     ∙ (ap (λ there. option_map (restricted_variable x o) (restriction_in takes_defaults (bind there (Variable x o) s.scope) s.before o x d)) named
-    ∙ ap (λ there. option_map (restricted_variable x there) (restriction_in takes_defaults (bind m (Variable x there) s.scope) s.before there x d)) order))))
+    ∙ ap (λ there. option_map (restricted_variable x there) (restriction_in takes_defaults (bind m (Variable x there) s.scope) s.before there x d)) order)))
 
-pub quantified-value : (s r t : State) (fs : List Fault) (rs : List Reading) (at : At) (q : Quant) (vs : Bounds) (e : Expression) (x : ℕ)
-    (made : Option (List tree.Declaration)) (body : Option Argument) →
+pub quantified-value : (s r t : Found) (fs : List Fault) (rs : List Reading) (at : At) (q : Quant) (vs : Bounds) (e : Expression) (x : ℕ)
+    (made : Option (List tree.Declaration)) →
     x ≡ s.before.next →
     r ≡ record (noted s fs rs) { before = with_names s.before (count_of_bounds vs) } →
     t ≡ after_restrictions r x vs →
     made ≡ restricted_variables true r.scope x r.before vs →
-    body ≡ typed t.scope t.before e →
-    option_map (λ f. tree.truth_argument f) (both (quantified_over q) made (formula_in body)) ≡ typed s.scope s.before (quantified at q vs e)
-quantified-value s r t fs rs at q vs e x made body first begun restricted_are made_are is =
+    option_map (λ f. tree.truth_argument f) (both (quantified_over q) made (formula_in (typed t.scope t.before e))) ≡ typed s.scope s.before (quantified at q vs e)
+quantified-value s r t fs rs at q vs e x made first begun restricted_are made_are =
     let here = with_names s.before (count_of_bounds vs) in
+    let body = typed t.scope t.before e in
     let inside = typed (under_bounds s.scope s.before.next vs) (after_bounds here vs) e in
     let all : made ≡ restricted_variables true s.scope s.before.next here vs =
-    made_are ∙ (ap (λ (there : State). restricted_variables true there.scope x there.before vs) begun ∙ ap (λ y. restricted_variables true s.scope y here vs) first) in
+    made_are ∙ (ap (λ (there : Found). restricted_variables true there.scope x there.before vs) begun ∙ ap (λ y. restricted_variables true s.scope y here vs) first) in
     let body_is : body ≡ inside =
-    is ∙ (ap (λ (there : State). typed there.scope there.before e) restricted_are
-    ∙ (ap (λ (there : State). typed (under_bounds there.scope x vs) (after_bounds there.before vs) e) begun
-    ∙ ap (λ y. typed (under_bounds s.scope y vs) (after_bounds here vs) e) first)) in
+    ap (λ (there : Found). typed there.scope there.before e) restricted_are
+    ∙ (ap (λ (there : Found). typed (under_bounds there.scope x vs) (after_bounds there.before vs) e) begun
+    ∙ ap (λ y. typed (under_bounds s.scope y vs) (after_bounds here vs) e) first) in
     ap (λ there. option_map (λ f. tree.truth_argument f) (both (quantified_over q) there (formula_in body))) all
     ∙ (ap (λ there. option_map (λ f. tree.truth_argument f) (both (quantified_over q) (restricted_variables true s.scope s.before.next here vs) (formula_in there))) body_is
     ∙ ap (option_map (λ f. tree.truth_argument f)) (sym (quantifiers-all s.scope s.before.next here q vs (formula_in inside))))
@@ -94,8 +93,8 @@ let-sides ns None f = refl
 let-sides ns (Some sides) None = refl
 let-sides ns (Some sides) (Some f) = refl
 
-pub let-value : (s r p q t w : State) (fs : List Fault) (os : List Occurrence) (at : At) (o : Order) (ps : Parts) (e : Expression) (x n : ℕ)
-    (made : Option (List ℕ × Arguments)) (body : Option Argument) →
+pub let-value : (s r p q t w : Found) (fs : List Fault) (os : List Occurrence) (at : At) (o : Order) (ps : Parts) (e : Expression) (x n : ℕ)
+    (made : Option (List ℕ × Arguments)) →
     x ≡ r.before.next → n ≡ count_of_parts ps →
     r ≡ with_faults s fs →
     p ≡ record r { before = with_names r.before n } →
@@ -103,26 +102,27 @@ pub let-value : (s r p q t w : State) (fs : List Fault) (os : List Occurrence) (
     t ≡ passed q os (after_parts q.before ps) →
     w ≡ record t { scope = under_parts t.scope x o ps } →
     made ≡ typed_sides q.scope x q.before o ps →
-    body ≡ typed w.scope w.before e →
-    both (λ (there : List ℕ × Arguments) (g : Form). tree.truth_argument (tree.where_let there.0 there.1 g)) made (formula_in body) ≡ typed s.scope s.before (where_let at o ps e)
-let-value s r p q t w fs os at o ps e x n made body first counted checked numbered without right_sides named made_are is =
+    both (λ (there : List ℕ × Arguments) (g : Form). tree.truth_argument (tree.where_let there.0 there.1 g)) made (formula_in (typed w.scope w.before e))
+    ≡ typed s.scope s.before (where_let at o ps e)
+let-value s r p q t w fs os at o ps e x n made first counted checked numbered without right_sides named made_are =
     let here = with_names s.before (count_of_parts ps) in
+    let body = typed w.scope w.before e in
     let outer = without_exports s.scope in
     let y = s.before.next in
     let begun : p ≡ record (with_faults s fs) { before = here } =
-    numbered ∙ (ap (λ k. record r { before = with_names r.before k }) counted ∙ ap (λ (there : State). record there { before = with_names there.before (count_of_parts ps) }) checked) in
-    let start : q ≡ record (with_faults s fs) { before = here; scope = outer } = without ∙ ap (λ (there : State). record there { scope = without_exports there.scope }) begun in
-    let first_is : x ≡ y = first ∙ ap (λ (there : State). there.before.next) checked in
+    numbered ∙ (ap (λ k. record r { before = with_names r.before k }) counted ∙ ap (λ (there : Found). record there { before = with_names there.before (count_of_parts ps) }) checked) in
+    let start : q ≡ record (with_faults s fs) { before = here; scope = outer } = without ∙ ap (λ (there : Found). record there { scope = without_exports there.scope }) begun in
+    let first_is : x ≡ y = first ∙ ap (λ (there : Found). there.before.next) checked in
     let sides_are : made ≡ option_map (λ there. (numbers_of_parts y ps, there)) (typed_parts s.scope here o ps) =
-    made_are ∙ (ap (λ (there : State). typed_sides there.scope x there.before o ps) start
+    made_are ∙ (ap (λ (there : Found). typed_sides there.scope x there.before o ps) start
     ∙ (ap (λ z. typed_sides outer z here o ps) first_is
     ∙ ap (option_map (λ there. (numbers_of_parts y ps, there))) (parts-same outer s.scope here o ps refl))) in
     let body_is : body ≡ typed (under_parts s.scope y o ps) (after_parts here ps) e =
-    is ∙ (ap (λ (there : State). typed there.scope there.before e) named
-    ∙ (ap (λ (there : State). typed (under_parts there.scope x o ps) there.before e) right_sides
-    ∙ (ap (λ (there : State). typed (under_parts there.scope x o ps) (after_parts there.before ps) e) start
+    ap (λ (there : Found). typed there.scope there.before e) named
+    ∙ (ap (λ (there : Found). typed (under_parts there.scope x o ps) there.before e) right_sides
+    ∙ (ap (λ (there : Found). typed (under_parts there.scope x o ps) (after_parts there.before ps) e) start
     ∙ (ap (λ z. typed (under_parts outer z o ps) (after_parts here ps) e) first_is
-    ∙ typed-same (under_parts outer y o ps) (under_parts s.scope y o ps) (after_parts here ps) e (under_parts-same outer s.scope y o ps refl))))) in
+    ∙ typed-same (under_parts outer y o ps) (under_parts s.scope y o ps) (after_parts here ps) e (under_parts-same outer s.scope y o ps refl)))) in
     ap (λ there. both (λ (sides : List ℕ × Arguments) (g : Form). tree.truth_argument (tree.where_let sides.0 sides.1 g)) there (formula_in body)) sides_are
     ∙ (let-sides (numbers_of_parts y ps) (typed_parts s.scope here o ps) (formula_in body)
     ∙ ap (λ there. both (λ sides g. tree.truth_argument (tree.where_let (numbers_of_parts y ps) sides g)) (typed_parts s.scope here o ps) (formula_in there)) body_is)

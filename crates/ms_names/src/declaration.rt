@@ -4,7 +4,7 @@ ghost use Rattle.ms_names_rules.specs.Declarations.{occurrences_in_default, occu
 ghost use Rattle.ms_names_rules.specs.Scope.{count_of_bounds};
 ghost use Rattle.ms_names_rules.specs.TypedSource.{typed_default, typed_predicate};
 ghost use Rattle.ms_names_rules.specs.View.{bounds_of, expression_of};
-ghost use Rattle.ms_names_scopes.specs.inner.State.{passed};
+ghost use Rattle.ms_names_scopes.specs.inner.Found.{passed};
 ghost use Rattle.std.specs.Option.{option_map};
 ghost use Rattle.std.specs.Prelude.{◌≡◌, IfOk, OnOk};
 

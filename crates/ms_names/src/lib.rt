@@ -6,8 +6,10 @@ mod declaration;
 mod declare;
 mod expression;
 mod name;
+mod operation;
 mod outcome;
 mod progress;
 mod source;
+mod variable;
 
 pub use source::check;

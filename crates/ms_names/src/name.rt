@@ -1,17 +1,19 @@
+ghost use Rattle.ms_list.specs.declared.at.At.{At};
 ghost use Rattle.ms_logic.specs.View.{argument_of};
 ghost use Rattle.ms_names_rules.specs.Reads.{readings_of_name};
 ghost use Rattle.ms_names_rules.specs.Rules.{faults_of_name};
 ghost use Rattle.ms_names_rules.specs.Scope.{meaning_of};
-ghost use Rattle.ms_names_rules.specs.Typed.{typed_name};
-ghost use Rattle.ms_names_scopes.specs.inner.State.{noted};
+ghost use Rattle.ms_names_rules.specs.Syntax.{pconst};
+ghost use Rattle.ms_names_rules.specs.Typed.{typed, typed_name};
+ghost use Rattle.ms_names_scopes.specs.inner.Found.{formed, noted};
 ghost use Rattle.std.specs.Option.{option_map};
 ghost use Rattle.std.specs.Prelude.{◌≡◌, IfOk, OnOk};
 
 use ms_list::{At, List, Name, NoMemory};
-use ms_logic::{Arg, Formula, Term1};
+use ms_logic::{Arg, Formula, PlacedInt, Term1};
 use ms_names_rules::{Fault, Meaning, Reading};
 use ms_names_scopes::{Checker, copy_name, small};
-use ms_names_typing::variable;
+use ms_names_typing::{pconst, variable};
 
 /// A name by itself: what is wrong with it, what it reads and what it becomes.
 #[inline(never)]
@@ -49,4 +51,14 @@ pub(crate) fn lone_name(checker: &mut Checker, at: At, name: &Name) -> Result<Op
             Ok(None)
         }
     }
+}
+
+/// `pconst` of a number or of the name of a constant, likewise.
+#[inline(never)]
+pub(crate) fn lone_pconst(checker: &mut Checker, int: &PlacedInt) -> Result<Option<Arg>, NoMemory>
+    ensures state { (at : At) → OnOk result (checker.new ≡ formed checker.old (pconst at int.now)) }
+    ensures value { (at : At) → IfOk result (λ value. option_map argument_of value ≡ typed checker.old.scope checker.old.before (pconst at int.now)) }
+{
+    checker.check_int(int)?;
+    Ok(pconst(checker.value(int)))
 }

@@ -13,7 +13,7 @@ use Rattle.ms_logic.specs.Assignment.{Universe, Variable}
 use Rattle.ms_logic.specs.FreeVariables.{IsListed, IsReadBy, reads_of_imports, reads_with_predicates}
 use Rattle.ms_logic_core.specs.Roots.{Export, exports_among, exports_in}
 use Rattle.ms_logic.specs.Truth.{Answer}
-use Rattle.ms_logic.specs.View.{formula_of, forms, import_of, predicate_of, problem_of}
+use Rattle.ms_logic.specs.View.{formula_of, forms, import_of, predicate_of, problem_of, Answers}
 use Rattle.ms_names_rules.specs.Declarations.{at_the_beginning, count_of_globals}
 use Rattle.ms_logic.specs.Lists.{Each}
 use Rattle.ms_names_rules.specs.Numbers.{tables_of}
@@ -25,9 +25,6 @@ use Rattle.ms_names_rules.proofs.Standing.{stand-all}
 use Rattle.ms_names_checked.specs.Exports.{ExportListsFree, ListsFree}
 use Rattle.ms_names_checked.proofs.Stages.{ListsIn, Rest, Stage, lists-from}
 use Rattle.ms_names_checked.proofs.Told.{ExportLists, IsPaired, ListsFreeUnder}
-
-abbrev Answers : Type 0
-Answers = List (Universe → List Value → Answer)
 
 -- what imports read
 

@@ -8,7 +8,7 @@ use Rattle.ms_logic.specs.Assignment.{Universe, Variable}
 use Rattle.ms_logic_core.specs.Roots.{AreFreeVariables, Export, exports_among}
 use Rattle.ms_logic.specs.Tree.{Form, truth, falsity, truth_variable, negation, conjunction, disjunction, implication, equivalence, comparison, set_comparison, membership, emptiness, quantified, where_let, call, restrict, imported, exported, default_at, Forms, no_forms, more_forms}
 use Rattle.ms_logic.specs.Truth.{Answer, Given}
-use Rattle.ms_logic.specs.View.{formula_of, problem_of}
+use Rattle.ms_logic.specs.View.{formula_of, problem_of, Answers}
 use Rattle.ms_logic.specs.Lists.{Each}
 use Rattle.ms_names_rules.specs.Numbers.{exports_in, exports_in_arguments, exports_in_restriction}
 
@@ -52,5 +52,5 @@ ExportListsFree given exports e = IsSomeAnd (slice_get exports e.number) (ListsF
 -- the restriction of a global, and each of the table in one formula, is a matter of numbers.)
 pub record ListsFreeVariables (checked : Checked) : Type 0 where
   pub in_place : Each (λ placed. HasExportsInPlace (formula_of placed.formula)) checked.formulas
-  pub variables : (answers : List (Universe → List Value → Answer)) → length answers ≡ length checked.imports
+  pub variables : (answers : Answers) → length answers ≡ length checked.imports
       → Each (ExportListsFree (problem_of checked answers).given checked.exports) (exports_among (problem_of checked answers).formulas)

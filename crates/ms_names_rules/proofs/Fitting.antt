@@ -8,7 +8,7 @@ use Rattle.ms_logic.specs.Assignment.{Variable}
 use Rattle.ms_names_rules.specs.declared.meaning.Meaning.{Meaning}
 use Rattle.ms_names_rules.specs.declared.meaning.Meaning.TheVariants as meaning
 use Rattle.ms_names_rules.specs.Numbers.{Tables, HasParameters, IsDefault, IsNew, Sees, seeing}
-use Rattle.ms_logic.specs.Lists.{Each, Among}
+use Rattle.ms_logic.specs.Lists.{Each, IsAmong}
 use Rattle.ms_names_rules.specs.Scope.{Scope, bind, count_of_bounds, count_of_parts, meaning_among, under_bounds, under_parts, without_exports}
 use Rattle.ms_names_rules.specs.Syntax.{Bytes, Bounds, no_bounds, more_bounds, Parts, no_parts, more_parts}
 
@@ -113,7 +113,7 @@ pub record Fits (tables : Tables) (bound : ℕ) (seen : List Variable) (s : Scop
   pub sets : If (λ p. IsDefault tables bound p Two) s.default_of_sets
   pub falls : Falls s.names
 
-sees-below : (seen : List Variable) (v : Variable) (x : ℕ) → Among seen v → IsNew seen x → v.name < x
+sees-below : (seen : List Variable) (v : Variable) (x : ℕ) → IsAmong seen v → IsNew seen x → v.name < x
 sees-below [] v x h new = absurd h
 sees-below (w ∷ seen) v x (inl is) new = subst (λ (u : Variable). u.name < x) is new.0
 sees-below (w ∷ seen) v x (inr h) new = sees-below seen v x h new.1

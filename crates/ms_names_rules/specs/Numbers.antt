@@ -11,11 +11,11 @@ use Rattle.ms_logic.specs.Assignment.{Variable}
 use Rattle.ms_logic.specs.FiniteSet.{IsRising}
 use Rattle.ms_logic.specs.Tree.{Term, number_variable, numeral, plus, minus, minimum, maximum, SetTerm, set_variable, empty_set, whole, literal, pconst, union, intersection, difference, shift_up, shift_down, Terms, no_terms, more_terms, Form, truth, falsity, truth_variable, negation, conjunction, disjunction, implication, equivalence, comparison, set_comparison, membership, emptiness, quantified, where_let, call, restrict, imported, exported, default_at, Forms, no_forms, more_forms, Restriction, unrestricted, restricted, Argument, truth_argument, number_argument, set_argument, Arguments, no_arguments, more_arguments, Declaration, Predicate}
 use Rattle.ms_logic.specs.View.{formula_of, globals_from, predicate_of}
-use Rattle.ms_logic.specs.Lists.{Each, Among}
+use Rattle.ms_logic.specs.Lists.{Each, IsAmong}
 
 -- the variable x of an order is seen
 abbrev pub Sees : List Variable → ℕ → Order → Type 0
-Sees seen x o = Among seen (record { name = x; order = o })
+Sees seen x o = IsAmong seen (record { name = x; order = o })
 
 -- the variable x is new: those that are seen have smaller numbers
 abbrev pub IsNew : List Variable → ℕ → Type 0

@@ -15,15 +15,15 @@ use Rattle.ms_names_rules.specs.Syntax.{Bytes, Bounds, more_bounds, Parts, more_
 use Rattle.ms_names_rules.specs.Uses.{pair_of, pairs_of}
 use Rattle.ms_names_rules.specs.View.{OneBound, OnePart, bound_of, bounds_of, part_of, parts_of}
 use Rattle.ms_names_rules.proofs.Repeats.{bound_at-out, bound_name-out, next, part_at-out, part_name-out}
-use Rattle.ms_names_scopes.specs.inner.State.{State, with_faults, noted}
-use Rattle.ms_names_scopes.proofs.States.{first_with-append}
+use Rattle.ms_names_scopes.specs.inner.Found.{Found, with_faults, noted}
+use Rattle.ms_names_scopes.proofs.Findings.{first_with-append}
 
 -- some faults and then some more
-pub faults-faults : (s : State) (fs gs : List Fault) → with_faults (with_faults s fs) gs ≡ with_faults s (fs ++ gs)
+pub faults-faults : (s : Found) (fs gs : List Fault) → with_faults (with_faults s fs) gs ≡ with_faults s (fs ++ gs)
 faults-faults s fs gs = ap (λ known. record s { first = known }) (sym (first_with-append s.first fs gs))
 
 -- after a variable of a list, the faults of the others are left
-after-bound : (s t : State) (at : At) (n : Bytes) (earlier : List Bytes) (v : OneBound) (vs : Bounds) → v.at ≡ at → v.name ≡ n →
+after-bound : (s t : Found) (at : At) (n : Bytes) (earlier : List Bytes) (v : OneBound) (vs : Bounds) → v.at ≡ at → v.name ≡ n →
     t ≡ with_faults s (faults_of_repeat at n earlier) →
     with_faults t (faults_of_bounds (n ∷ earlier) vs) ≡ with_faults s (faults_of_bounds earlier (more_bounds v.at v.order v.name v.domain vs))
 after-bound s t at n earlier v vs there named checked =
@@ -32,7 +32,7 @@ after-bound s t at n earlier v vs there named checked =
     ∙ (ap (λ m. with_faults s (faults_of_repeat at m earlier ++ faults_of_bounds (m ∷ earlier) vs)) (sym named)
     ∙ ap (λ a. with_faults s (faults_of_repeat a v.name earlier ++ faults_of_bounds (v.name ∷ earlier) vs)) (sym there)))
 
-pub bounds-next : (s t : State) (earlier : List Bytes) (vs : List Bound) (i : ℕ) (v : Bound) → i < length vs → v ≡ get_or vs i v →
+pub bounds-next : (s t : Found) (earlier : List Bytes) (vs : List Bound) (i : ℕ) (v : Bound) → i < length vs → v ≡ get_or vs i v →
     t ≡ with_faults s (faults_of_repeat (out-Bound v).at (out-Bound v).name earlier) →
     with_faults t (faults_of_bounds ((out-Bound v).name ∷ earlier) (bounds_of (drop (i + 1) vs))) ≡ with_faults s (faults_of_bounds earlier (bounds_of (drop i vs)))
 bounds-next s t earlier vs i v below is checked =
@@ -40,7 +40,7 @@ bounds-next s t earlier vs i v below is checked =
     ∙ ap (λ rest. with_faults s (faults_of_bounds earlier (bounds_of rest))) (sym (next vs i v below is))
 
 -- the same in a `let`
-after-part : (s t : State) (at : At) (n : Bytes) (earlier : List Bytes) (p : OnePart) (ps : Parts) → p.at ≡ at → p.name ≡ n →
+after-part : (s t : Found) (at : At) (n : Bytes) (earlier : List Bytes) (p : OnePart) (ps : Parts) → p.at ≡ at → p.name ≡ n →
     t ≡ with_faults s (faults_of_repeat at n earlier) →
     with_faults t (faults_of_parts (n ∷ earlier) ps) ≡ with_faults s (faults_of_parts earlier (more_parts p.at p.name p.value ps))
 after-part s t at n earlier p ps there named checked =
@@ -49,7 +49,7 @@ after-part s t at n earlier p ps there named checked =
     ∙ (ap (λ m. with_faults s (faults_of_repeat at m earlier ++ faults_of_parts (m ∷ earlier) ps)) (sym named)
     ∙ ap (λ a. with_faults s (faults_of_repeat a p.name earlier ++ faults_of_parts (p.name ∷ earlier) ps)) (sym there)))
 
-pub parts-next : (s t : State) (earlier : List Bytes) (ps : List LetPart) (i : ℕ) (p : LetPart) → i < length ps → p ≡ get_or ps i p →
+pub parts-next : (s t : Found) (earlier : List Bytes) (ps : List LetPart) (i : ℕ) (p : LetPart) → i < length ps → p ≡ get_or ps i p →
     t ≡ with_faults s (faults_of_repeat (out-LetPart p).at (out-LetPart p).name earlier) →
     with_faults t (faults_of_parts ((out-LetPart p).name ∷ earlier) (parts_of (drop (i + 1) ps))) ≡ with_faults s (faults_of_parts earlier (parts_of (drop i ps)))
 parts-next s t earlier ps i p below is checked =
@@ -57,22 +57,22 @@ parts-next s t earlier ps i p below is checked =
     ∙ ap (λ rest. with_faults s (faults_of_parts earlier (parts_of rest))) (sym (next ps i p below is))
 
 -- some faults and readings, and then some more
-pub noted-noted : (s : State) (fs gs : List Fault) (rs more : List Reading) → noted (noted s fs rs) gs more ≡ noted s (fs ++ gs) (rs ++ more)
+pub noted-noted : (s : Found) (fs gs : List Fault) (rs more : List Reading) → noted (noted s fs rs) gs more ≡ noted s (fs ++ gs) (rs ++ more)
 noted-noted s fs gs rs more = λ i. record s {
   first = sym (first_with-append s.first fs gs) i;
   reads = append_assoc s.reads rs more i;
 }
 
 -- faults alone
-faults-noted : (s : State) (fs gs : List Fault) (rs : List Reading) → noted (with_faults s fs) gs rs ≡ noted s (fs ++ gs) rs
+faults-noted : (s : Found) (fs gs : List Fault) (rs : List Reading) → noted (with_faults s fs) gs rs ≡ noted s (fs ++ gs) rs
 faults-noted s fs gs rs = ap (λ known. record s { first = known; reads = s.reads ++ rs }) (sym (first_with-append s.first fs gs))
 
 -- nothing more
-pub noted-none : (s : State) → s ≡ noted s [] []
+pub noted-none : (s : Found) → s ≡ noted s [] []
 noted-none s = λ i. record s { reads = sym (append-nil s.reads) i }
 
 -- after a pair of an import, the faults and the readings of the others are left
-pub renames-next : (s t u v : State) (lefts rights : List Bytes) (rs : List Rename) (i : ℕ) (r : Rename) → i < length rs → r ≡ get_or rs i r →
+pub renames-next : (s t u v : Found) (lefts rights : List Bytes) (rs : List Rename) (i : ℕ) (r : Rename) → i < length rs → r ≡ get_or rs i r →
     t ≡ with_faults s (faults_of_repeat r.at r.left lefts) →
     u ≡ noted t (faults_of_variable r.at_right r.right (meaning_of t.scope r.right)) (readings_of_variable (meaning_of t.scope r.right)) →
     v ≡ with_faults u (faults_of_repeat r.at_right r.right rights) →
@@ -85,8 +85,8 @@ renames-next s t u v lefts rights rs i r below is left variable right =
     let hs = faults_of_repeat r.at_right r.right rights in
     let more = faults_of_renames s.scope (r.left ∷ lefts) (r.right ∷ rights) (drop (i + 1) rs) in
     let reads = readings_of_renames s.scope (drop (i + 1) rs) in
-    let P : State → Type 0 = λ there. u ≡ noted there (faults_of_variable r.at_right r.right (meaning_of there.scope r.right)) (readings_of_variable (meaning_of there.scope r.right)) in
-    let Q : State → Type 0 = λ there. v ≡ with_faults there hs in
+    let P : Found → Type 0 = λ there. u ≡ noted there (faults_of_variable r.at_right r.right (meaning_of there.scope r.right)) (readings_of_variable (meaning_of there.scope r.right)) in
+    let Q : Found → Type 0 = λ there. v ≡ with_faults there hs in
     let found : v ≡ with_faults (noted (with_faults s fs) gs (readings_of_variable m)) hs = subst Q (subst P left variable) right in
     ap (λ there. noted there more reads) found
     ∙ (faults-noted (noted (with_faults s fs) gs (readings_of_variable m)) hs more reads
@@ -95,7 +95,7 @@ renames-next s t u v lefts rights rs i r below is left variable right =
     ∙ ap (λ rest. noted s (faults_of_renames s.scope lefts rights rest) (readings_of_renames s.scope rest)) (sym (next rs i r below is)))))
 
 -- after a pair of an import, the pairs of the others are left
-pub pairs-next : (a : Scope) (t : State) (before after : List MapPair) (rs : List Rename) (i : ℕ) (r : Rename) → i < length rs → r ≡ get_or rs i r →
+pub pairs-next : (a : Scope) (t : Found) (before after : List MapPair) (rs : List Rename) (i : ℕ) (r : Rename) → i < length rs → r ≡ get_or rs i r →
     t.scope ≡ a → after ≡ before ++ pair_of r.left (meaning_of t.scope r.right) →
     after ++ pairs_of a (drop (i + 1) rs) ≡ before ++ pairs_of a (drop i rs)
 pairs-next a t before after rs i r below is same added =

@@ -1,5 +1,5 @@
 pub mod Declaration
+pub mod Found
 pub mod Numbers
 pub mod Read
-pub mod State
 pub mod Table

@@ -2,7 +2,7 @@ ghost use Rattle.ms_names_rules.specs.Order.{parameters_of};
 ghost use Rattle.ms_names_rules.specs.Reads.{readings_of_call};
 ghost use Rattle.ms_names_rules.specs.Rules.{faults_of_call};
 ghost use Rattle.ms_names_rules.specs.Scope.{meaning_of};
-ghost use Rattle.ms_names_scopes.specs.inner.State.{noted};
+ghost use Rattle.ms_names_scopes.specs.inner.Found.{noted};
 ghost use Rattle.std.specs.Prelude.{◌≡◌, ◌+◌, take, IfOk, OnOk};
 
 use crate::checker::Checker;

@@ -1,6 +1,6 @@
 ghost use Rattle.ms_names_rules.specs.Fault.{first_of_two};
 ghost use Rattle.ms_names_rules.specs.Scope.{meaning_of};
-ghost use Rattle.ms_names_scopes.specs.inner.State.{beginning, noted};
+ghost use Rattle.ms_names_scopes.specs.inner.Found.{beginning, noted};
 ghost use Rattle.std.specs.Prelude.{◌≡◌, ◌∷◌, [], None, length, option_copied, OnOk};
 
 use crate::names::Names;
@@ -31,10 +31,10 @@ pub struct Checker {
 }
 
 impl Model for Checker {
-    ghost use Rattle.ms_names_scopes.specs.inner.State.{State};
+    ghost use Rattle.ms_names_scopes.specs.inner.Found.{Found};
     ghost use Rattle.std.specs.Prelude.{reverse};
 
-    ghost Value = { State };
+    ghost Value = { Found };
 
     ghost view = { λ c. record {
       scope = record {

@@ -6,7 +6,7 @@ ghost use Rattle.ms_names_rules.specs.Rules.{faults_of_bounds};
 ghost use Rattle.ms_names_rules.specs.Scope.{count_of_bounds, default_of};
 ghost use Rattle.ms_names_rules.specs.Syntax.{unrestricted};
 ghost use Rattle.ms_names_rules.specs.View.{bound_of, bounds_of};
-ghost use Rattle.ms_names_scopes.specs.inner.State.{noted};
+ghost use Rattle.ms_names_scopes.specs.inner.Found.{noted};
 ghost use Rattle.std.specs.Option.{option_map};
 ghost use Rattle.std.specs.Prelude.{◌≡◌, [], Some, IfOk, OnOk};
 

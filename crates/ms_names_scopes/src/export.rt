@@ -5,7 +5,7 @@ ghost use Rattle.ms_names_rules.specs.Rules.{faults_of_export, faults_of_exports
 ghost use Rattle.ms_names_rules.specs.Uses.{with_files};
 ghost use Rattle.ms_names_rules.specs.declared.fault.Fault.TheVariants.{NotHere};
 ghost use Rattle.ms_names_scopes.specs.inner.Read.{Tells};
-ghost use Rattle.ms_names_scopes.specs.inner.State.{with_faults};
+ghost use Rattle.ms_names_scopes.specs.inner.Found.{with_faults};
 ghost use Rattle.std.specs.List.{insert};
 ghost use Rattle.std.specs.Option.{option_copied};
 ghost use Rattle.std.specs.Prelude.{◌≡◌, ◌≤◌, ◌∷◌, drop, length, not, IfOk, OnOk};

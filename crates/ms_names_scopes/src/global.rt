@@ -1,7 +1,7 @@
 ghost use Rattle.ms_names_rules.specs.Declarations.{declared_names};
 ghost use Rattle.ms_names_rules.specs.Rules.{faults_of_bounds, faults_of_repeat, is_name_among};
 ghost use Rattle.ms_names_rules.specs.View.{bounds_of};
-ghost use Rattle.ms_names_scopes.specs.inner.State.{with_faults};
+ghost use Rattle.ms_names_scopes.specs.inner.Found.{with_faults};
 ghost use Rattle.std.specs.Prelude.{◌≡◌, ◌∷◌, ◌++◌, OnOk};
 
 use crate::checker::Checker;

@@ -5,7 +5,7 @@ ghost use Rattle.ms_names_rules.specs.Scope.{meaning_of};
 ghost use Rattle.ms_names_rules.specs.Syntax.{imported};
 ghost use Rattle.ms_names_rules.specs.Typed.{typed};
 ghost use Rattle.ms_names_rules.specs.Uses.{pair_of, pairs_of};
-ghost use Rattle.ms_names_scopes.specs.inner.State.{formed, noted, with_faults};
+ghost use Rattle.ms_names_scopes.specs.inner.Found.{formed, noted, with_faults};
 ghost use Rattle.std.specs.Option.{option_map};
 ghost use Rattle.std.specs.Prelude.{◌≡◌, ◌∷◌, ◌++◌, [], IfOk, OnOk};
 

@@ -1,7 +1,7 @@
 ghost use Rattle.ms_names_rules.specs.Reads.{readings_of_call};
 ghost use Rattle.ms_names_rules.specs.Rules.{faults_of_call, faults_of_whole};
 ghost use Rattle.ms_names_rules.specs.Scope.{meaning_of};
-ghost use Rattle.ms_names_scopes.specs.inner.State.{noted, with_faults};
+ghost use Rattle.ms_names_scopes.specs.inner.Found.{noted, with_faults};
 ghost use Rattle.std.specs.Prelude.{◌≡◌, IfOk, OnOk};
 
 use crate::checker::Checker;

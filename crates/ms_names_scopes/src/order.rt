@@ -1,7 +1,7 @@
 ghost use Rattle.ms_names_rules.specs.Order.{order_of};
 ghost use Rattle.ms_names_rules.specs.Rules.{faults_of_order};
 ghost use Rattle.ms_names_rules.specs.View.{expression_of};
-ghost use Rattle.ms_names_scopes.specs.inner.State.{with_faults};
+ghost use Rattle.ms_names_scopes.specs.inner.Found.{with_faults};
 ghost use Rattle.std.specs.Prelude.{◌≡◌};
 
 use crate::checker::Checker;

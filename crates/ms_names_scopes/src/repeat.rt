@@ -2,7 +2,7 @@ ghost use Rattle.ms_names_rules.specs.Declarations.{declared_names};
 ghost use Rattle.ms_names_rules.specs.Rules.{faults_of_bounds, faults_of_parts, faults_of_repeat};
 ghost use Rattle.ms_names_rules.specs.View.{bounds_of, parts_of};
 ghost use Rattle.ms_names_rules.specs.declared.fault.Fault.TheVariants.{NamedTwice};
-ghost use Rattle.ms_names_scopes.specs.inner.State.{with_faults};
+ghost use Rattle.ms_names_scopes.specs.inner.Found.{with_faults};
 ghost use Rattle.std.specs.Prelude.{◌≡◌, ◌∷◌, [], OnOk};
 
 use crate::checker::Checker;

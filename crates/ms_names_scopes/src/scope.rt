@@ -1,7 +1,7 @@
 ghost use Rattle.ms_names_rules.specs.Before.{with_names};
 ghost use Rattle.ms_names_rules.specs.Scope.{bind, without_exports, under_parts};
 ghost use Rattle.ms_names_rules.specs.View.{parts_of};
-ghost use Rattle.ms_names_scopes.specs.inner.State.{unbound};
+ghost use Rattle.ms_names_scopes.specs.inner.Found.{unbound};
 ghost use Rattle.std.specs.Prelude.{◌≡◌, IfOk, OnOk};
 
 use crate::checker::Checker;

@@ -2,7 +2,7 @@ ghost use Rattle.ms_names_rules.specs.Constant.{next_sum, sum_from, value_of_sum
 ghost use Rattle.ms_names_rules.specs.Declarations.{declared_names, faults_of_sum};
 ghost use Rattle.ms_names_rules.specs.Rules.{faults_of_placed, faults_of_repeat};
 ghost use Rattle.ms_names_scopes.specs.inner.Declaration.{sum_of};
-ghost use Rattle.ms_names_scopes.specs.inner.State.{with_faults};
+ghost use Rattle.ms_names_scopes.specs.inner.Found.{with_faults};
 ghost use Rattle.std.specs.Prelude.{◌≡◌, ◌++◌, flat_map, IfOk, OnOk};
 
 use crate::checker::Checker;

@@ -1,7 +1,7 @@
 ghost use Rattle.ms_names_rules.specs.Constant.{value_of};
 ghost use Rattle.ms_names_rules.specs.Rules.{faults_of_offset, faults_of_placed, in_case};
 ghost use Rattle.ms_names_rules.specs.declared.fault.Fault.TheVariants.{OutOfRange};
-ghost use Rattle.ms_names_scopes.specs.inner.State.{with_faults};
+ghost use Rattle.ms_names_scopes.specs.inner.Found.{with_faults};
 ghost use Rattle.std.specs.Prelude.{◌≡◌, nat_lt, OnOk};
 
 use crate::checker::Checker;

@@ -1,4 +1,4 @@
--- How each state that fits the depth can be led to the end: what is open is closed, frame by frame.
+-- How each configuration that fits the depth can be led to the end: what is open is closed, frame by frame.
 use Rattle.std.proofs.Common.{◌≡◌, ℕ, suc, ◌+◌, ◌≤◌, Bool, true, false, List, [], ◌∷◌, length, refl, sym, subst, arith}
 use Rattle.std.proofs.lemmas.Bool.{le-leb}
 use Rattle.ms_list.specs.declared.at.At.{At}
@@ -11,7 +11,7 @@ use Rattle.ms_parse_grammar.specs.Tree.{Expression, atom, prefixed, binary, join
 use Rattle.ms_parse_grammar.specs.Grammar.{right_level, operand_level, junction_level, depth}
 use Rattle.ms_parse_grammar.specs.Reads.{place}
 use Rattle.ms_parse_grammar.specs.Symbol.{Symbol, infix_operator, word_true, open_round, close_round, close_curly, colon, semicolon, Placed, placed}
-use Rattle.ms_parse_steps.specs.inner.Machine.{Frame, prefix_frame, left_frame, joined_frame, bracket_frame, list_frame, domain_frame, body_frame, part_frame, let_frame, Context, in_formula, in_global, in_parameter, in_predicate, in_default, State, wanted, holding, in_part, frame_depth, ends, completed, bound, step, Runs, took, too_deep}
+use Rattle.ms_parse_steps.specs.inner.Machine.{Frame, prefix_frame, left_frame, joined_frame, bracket_frame, list_frame, domain_frame, body_frame, part_frame, let_frame, Context, in_formula, in_global, in_parameter, in_predicate, in_default, Configuration, wanted, holding, in_part, frame_depth, ends, completed, bound, step, Runs, took, too_deep}
 use Rattle.ms_parse_steps.proofs.Frames.{chosen_yes}
 use Rattle.ms_parse_steps.proofs.Lookahead.{lacks}
 use Rattle.ms_parse_steps.proofs.Moves.{depth_positive}
@@ -86,7 +86,7 @@ FramesFit limit [] = Unit {0}
 FramesFit limit (f ∷ st) = FramesFit limit st × (suc (length st) + frame_depth f ≤ limit)
 
 -- some document is read
-abbrev pub RunsToEnd : ℕ → State → List Placed → Type 0
+abbrev pub RunsToEnd : ℕ → Configuration → List Placed → Type 0
 RunsToEnd limit s ts = (d : Document) × Runs limit s ts d
 
 -- a frame that its operand ends
@@ -100,7 +100,7 @@ frame_ends limit c f e st ends_with deep same (d, runs) =
           (subst (λ ts. Runs limit (holding c (completed f e) st) ts d) end.split runs)),
     )
 
-pub further : (limit : ℕ) (s s' : State) (ts ts' : List Placed) → step limit s ts ≡ took s' ts' → RunsToEnd limit s' ts' → RunsToEnd limit s ts
+pub further : (limit : ℕ) (s s' : Configuration) (ts ts' : List Placed) → step limit s ts ≡ took s' ts' → RunsToEnd limit s' ts' → RunsToEnd limit s ts
 further limit s s' ts ts' stepped (d, runs) = (d, by_step limit s ts ts s' ts' d refl stepped runs)
 
 -- a frame whose operand is `true`

@@ -20,7 +20,7 @@ use Rattle.ms_parse_grammar.specs.Tree.{Atom, truth, falsity, whole, empty_set, 
 use Rattle.ms_parse_grammar.specs.Tree.{Expression, atom, prefixed, binary, joined, shifted, enclosed, listed, quantified, let_in, Expressions, no_expressions, and_expression, Variables, no_variables, and_variable, Domain, unrestricted, restricted, Parts, no_parts, and_part, Document}
 use Rattle.ms_parse_grammar.specs.Grammar.{binary_level, left_level, right_level, prefix_level, operand_level, junction_level, level, last_ends_open, is_in, has_bare_in, some_bare_in, domain_bare_in, part_bare_in, IsGrammatical, AreGrammatical, AreOperands, HaveGrammaticalDomains, HaveGrammaticalValues, AreOfOrder, depth, depth_of_all, depth_of_domains, depth_of_values}
 use Rattle.ms_parse_grammar.specs.Reads.{int_symbol, Starts, Follows, ReadsPairs, ReadsAtom, ReadsOpening, ReadsListOpening, closing, place, FirstIsAt, ReadsExpression, ReadsSeparated, ReadsList, ReadsDomain, ReadsVariables, ReadsParts}
-use Rattle.ms_parse_steps.specs.inner.Machine.{Frame, prefix_frame, left_frame, joined_frame, bracket_frame, list_frame, domain_frame, body_frame, part_frame, let_frame, Context, wanted, holding, variable_wanted, part_wanted, pair_wanted, Step, took, misplaced, too_deep, starter, need, in_part, enter, bound, step, Runs, hold, with_room, begin_restrict, begin_export}
+use Rattle.ms_parse_steps.specs.inner.Machine.{Frame, prefix_frame, left_frame, joined_frame, bracket_frame, list_frame, domain_frame, body_frame, part_frame, let_frame, Context, wanted, holding, variable_wanted, part_wanted, pair_wanted, Move, took, misplaced, too_deep, starter, need, in_part, enter, bound, step, Runs, hold, with_room, begin_restrict, begin_export}
 use Rattle.ms_parse_steps.proofs.Frames.{chosen_yes}
 use Rattle.ms_parse_steps.proofs.Levels.{Yields, yields-zero, yields, tight-infix, tight-joining, tight-sign}
 use Rattle.ms_parse_steps.proofs.Moves.{follower, neither, quiet, depth_positive, left_high, list_begins, name_alone, empty_alone, literal_filled, call_filled, infix_step, terminal_step, join_first, join_further}
@@ -149,11 +149,11 @@ abbrev pub part_separator : Bool → Symbol
 part_separator true = comma
 part_separator false = infix_operator (Relation Member)
 
-abbrev pub ended_variable : ℕ → Context → List Frame → At → Quant → Order → Variables → Bool → List Placed → List Placed → Step
+abbrev pub ended_variable : ℕ → Context → List Frame → At → Quant → Order → Variables → Bool → List Placed → List Placed → Move
 ended_variable limit c st at q o vs true from ts = took (variable_wanted c st at q o vs) ts
 ended_variable limit c st at q o vs false from ts = enter limit c (body_frame at q o vs) st (too_deep from) ts
 
-abbrev pub ended_part : ℕ → Context → List Frame → At → Order → Parts → Bool → List Placed → List Placed → Step
+abbrev pub ended_part : ℕ → Context → List Frame → At → Order → Parts → Bool → List Placed → List Placed → Move
 ended_part limit c st at o parts true from ts = took (part_wanted c st at o parts) ts
 ended_part limit c st at o parts false from ts = enter limit c (let_frame at o parts) st (too_deep from) ts
 

@@ -1,4 +1,4 @@
--- Symbols that lead each state that fits the depth to the end of a document.
+-- Symbols that lead each configuration that fits the depth to the end of a document.
 use Rattle.std.proofs.Common.{◌≡◌, ℕ, suc, ◌+◌, ◌≤◌, true, List, [], ◌∷◌, length, codes, refl, arith}
 use Rattle.std.proofs.lemmas.Bool.{le-leb}
 use Rattle.ms_logic.specs.declared.mode.Order.TheVariants.{Zero}
@@ -9,13 +9,13 @@ use Rattle.ms_parse_grammar.specs.Tree.{truth, empty_set, named, imported}
 use Rattle.ms_parse_grammar.specs.Tree.{Expression, atom, no_expressions, and_expression, no_variables, and_variable, unrestricted}
 use Rattle.ms_parse_grammar.specs.Grammar.{depth, depth_of_domains, depth_of_values}
 use Rattle.ms_parse_grammar.specs.Symbol.{name, kind, infix_operator, word_true, open_round, close_round, colon, semicolon, Placed}
-use Rattle.ms_parse_steps.specs.inner.Machine.{Frame, list_frame, body_frame, part_frame, Context, State, outside, wanted, holding, variable_wanted, part_wanted, pair_wanted, global_wanted, parameter_wanted, summand_wanted, completed}
+use Rattle.ms_parse_steps.specs.inner.Machine.{Frame, list_frame, body_frame, part_frame, Context, Configuration, outside, wanted, holding, variable_wanted, part_wanted, pair_wanted, global_wanted, parameter_wanted, summand_wanted, completed}
 use Rattle.ms_parse_steps.proofs.Lookahead.{lacks, may_follow}
 use Rattle.ms_parse_steps.proofs.Closing.{anywhere, symbol, closing, closing_apart, FramesFit, RunsToEnd, further, body_ends, held_ends}
 use Rattle.ms_parse_steps.proofs.Steps.{entered}
 
--- there is room for the least of what the state wants
-abbrev pub Fits : ℕ → State → Type 0
+-- there is room for the least of what the configuration wants
+abbrev pub Fits : ℕ → Configuration → Type 0
 Fits limit (outside d) = Unit {0}
 Fits limit (wanted c st) = FramesFit limit st × (suc (length st) ≤ limit)
 Fits limit (holding c e st) = FramesFit limit st × (length st + depth e ≤ limit)
@@ -27,7 +27,7 @@ Fits limit (parameter_wanted d head vs) = Unit {0}
 Fits limit (summand_wanted d at at_n n sum) = Unit {0}
 
 -- symbols that may follow lead to the end
-pub record CanEnd (limit : ℕ) (s : State) : Type 0 where
+pub record CanEnd (limit : ℕ) (s : Configuration) : Type 0 where
   pub more : List Placed
   pub follows : may_follow s more ≡ true
   pub ends : RunsToEnd limit s more
@@ -49,7 +49,7 @@ holding_follows c _ st ts apart = refl
 abbrev a_name : List ℕ
 a_name = codes "x"
 
-pub can_end : (limit : ℕ) (s : State) → Fits limit s → CanEnd limit s
+pub can_end : (limit : ℕ) (s : Configuration) → Fits limit s → CanEnd limit s
 can_end limit (outside d) fits = record { more = []; follows = refl; ends = (d, (0, refl)) }
 can_end limit (wanted c st) fits = record {
   more = symbol word_true ∷ closing c st;

@@ -10,7 +10,7 @@ use Rattle.ms_parse_grammar.specs.declared.operator.Listing.TheVariants.{Literal
 use Rattle.ms_parse_grammar.specs.Tree.{truth, falsity, whole, empty_set, named, numeral, pconst}
 use Rattle.ms_parse_grammar.specs.Tree.{atom, listed, no_expressions, no_variables, no_parts}
 use Rattle.ms_parse_grammar.specs.Grammar.{prefix_level}
-use Rattle.ms_parse_steps.specs.inner.Machine.{Frame, prefix_frame, bracket_frame, list_frame, Context, State, wanted, holding, variable_wanted, part_wanted, pair_wanted, Step, took, misplaced, too_deep, need, frame_depth, enter, with_room, starter, unopened, enter_list, is_mark, either_mark, mark_then, text_then, int_then, begin_name, begin_empty, begin_literal, begin_pconst, begin_import, begin_restrict, begin_export, begin}
+use Rattle.ms_parse_steps.specs.inner.Machine.{Frame, prefix_frame, bracket_frame, list_frame, Context, Configuration, wanted, holding, variable_wanted, part_wanted, pair_wanted, Move, took, misplaced, too_deep, need, frame_depth, enter, with_room, starter, unopened, enter_list, is_mark, either_mark, mark_then, text_then, int_then, begin_name, begin_empty, begin_literal, begin_pconst, begin_import, begin_restrict, begin_export, begin}
 use Rattle.ms_parse_steps.proofs.Closing.{symbol, FramesFit}
 use Rattle.ms_parse_steps.proofs.Completions.{Fits}
 use Rattle.ms_parse_steps.proofs.Finding.{Opens, Dead, Finds, Tells, dead, stuck_deep, first, first_deep, refuse, takes, leave, goes, took_tells, marked, mark_tells, text_tells, int_tells, unmarked, mark_or_tells, entered_at, wanted_fits, enter_finds, room_finds}
@@ -97,13 +97,13 @@ closing_mark : (k : Listing) → is_mark (closing k) (closing k) ≡ true
 closing_mark Literal = refl
 closing_mark (Call p) = refl
 
-list_entered : (limit l : ℕ) (c : Context) (st : List Frame) (at : At) (k : Listing) (s0 : State) (ts : List Placed) → suc (length st) + max 1 (frame_depth (list_frame at k no_expressions)) ≤ limit → limit ≤ l → lacks (closing k) ts ≡ true
+list_entered : (limit l : ℕ) (c : Context) (st : List Frame) (at : At) (k : Listing) (s0 : Configuration) (ts : List Placed) → suc (length st) + max 1 (frame_depth (list_frame at k no_expressions)) ≤ limit → limit ≤ l → lacks (closing k) ts ≡ true
     → either_mark (closing k) (took s0) (enter_list l c at k st) ts ≡ took (wanted c (list_frame at k no_expressions ∷ st)) ts
 list_entered limit l c st at k s0 ts room above may =
     unmarked (closing k) (took s0) (enter_list l c at k st) ts may ∙ entered_at l c (list_frame at k no_expressions) st (unopened ts) ts (omega arith)
 
 -- where there is no room in the list, its first symbol is at fault
-full_list_finds : (limit : ℕ) (c : Context) (st : List Frame) (at : At) (k : Listing) (s0 : State) (s : Symbol) (a : At) (ts : List Placed) → suc (length st) ≤ limit → is_mark (closing k) s ≡ false
+full_list_finds : (limit : ℕ) (c : Context) (st : List Frame) (at : At) (k : Listing) (s0 : Configuration) (s : Symbol) (a : At) (ts : List Placed) → suc (length st) ≤ limit → is_mark (closing k) s ≡ false
     → leb (suc (length st) + max 1 (frame_depth (list_frame at k no_expressions))) limit ≡ false
     → Finds limit (λ l. either_mark (closing k) (took s0) (enter_list l c at k st)) (placed s a ∷ ts) (unopened (placed s a ∷ ts))
 full_list_finds limit c st at k s0 s a ts room other full =
@@ -112,7 +112,7 @@ full_list_finds limit c st at k s0 s a ts room other full =
     let n = suc (length st) + max 1 (frame_depth f) in
     let deeper = suc (suc limit) in
     let y = placed s a in
-    let g : ℕ → List Placed → Step = λ l. either_mark (closing k) (took s0) (enter_list l c at k st) in
+    let g : ℕ → List Placed → Move = λ l. either_mark (closing k) (took s0) (enter_list l c at k st) in
     let skips : (l : ℕ) (more : List Placed) → g l (y ∷ more) ≡ enter_list l c at k st (y ∷ more) = λ l more. chosen_no (is_mark (closing k) s) (took s0 more) (enter_list l c at k st (y ∷ more)) other in
     chosen (Finds limit g (y ∷ ts)) (starter s) (too_deep (y ∷ ts)) (misplaced (y ∷ ts))
     (λ starts. let begun = list_opens deeper c st at k a s starts (omega arith) in
@@ -125,12 +125,12 @@ full_list_finds limit c st at k s0 s a ts room other full =
     (chosen (Dead above) (leb n above) (took w (y ∷ more)) (unopened (y ∷ more)) (λ fits. (refl, no_begin above c (f ∷ st) a s (y ∷ more) more no_starter))
     (λ fits_not. dead above (unopened (y ∷ more)) (y ∷ more) (chosen_no (starter s) (too_deep (y ∷ more)) (misplaced (y ∷ more)) no_starter)))))
 
-list_finds : (limit : ℕ) (c : Context) (st : List Frame) (at : At) (k : Listing) (s0 : State) → FramesFit limit st → suc (length st) ≤ limit → Fits limit s0 → ((ts : List Placed) → may_follow s0 ts ≡ true) → (ts : List Placed)
+list_finds : (limit : ℕ) (c : Context) (st : List Frame) (at : At) (k : Listing) (s0 : Configuration) → FramesFit limit st → suc (length st) ≤ limit → Fits limit s0 → ((ts : List Placed) → may_follow s0 ts ≡ true) → (ts : List Placed)
     → Finds limit (λ l. either_mark (closing k) (took s0) (enter_list l c at k st)) ts (either_mark (closing k) (took s0) (enter_list limit c at k st) ts)
 list_finds limit c st at k s0 fit room fits0 free0 [] =
     let f = list_frame at k no_expressions in
     let n = suc (length st) + max 1 (frame_depth f) in
-    let g : ℕ → List Placed → Step = λ l. either_mark (closing k) (took s0) (enter_list l c at k st) in
+    let g : ℕ → List Placed → Move = λ l. either_mark (closing k) (took s0) (enter_list l c at k st) in
     chosen (Finds limit g []) (leb n limit) (took (wanted c (f ∷ st)) []) (misplaced [])
     (λ fits. let wide = leb-true n limit fits in leave limit g [] (wanted c (f ∷ st)) (wanted_fits limit c f st fit wide) refl (λ l other more may. list_entered limit l c st at k s0 other wide more may))
     (λ full. first limit g [] tt)
@@ -138,7 +138,7 @@ list_finds limit c st at k s0 fit room fits0 free0 (placed s a ∷ ts) =
     let f = list_frame at k no_expressions in
     let n = suc (length st) + max 1 (frame_depth f) in
     let y = placed s a in
-    let g : ℕ → List Placed → Step = λ l. either_mark (closing k) (took s0) (enter_list l c at k st) in
+    let g : ℕ → List Placed → Move = λ l. either_mark (closing k) (took s0) (enter_list l c at k st) in
     chosen (Finds limit g (y ∷ ts)) (is_mark (closing k) s) (took s0 ts) (enter_list limit c at k st (y ∷ ts))
     (λ is. goes limit (λ l. took s0) g y ts (λ l more above. chosen_yes (is_mark (closing k) s) (took s0 more) (enter_list l c at k st (y ∷ more)) is) (took_tells limit s0 fits0 free0))
     (λ other. chosen (Finds limit g (y ∷ ts)) (leb n limit) (took (wanted c (f ∷ st)) (y ∷ ts)) (unopened (y ∷ ts))
@@ -146,7 +146,7 @@ list_finds limit c st at k s0 fit room fits0 free0 (placed s a ∷ ts) =
     leave limit g (y ∷ ts) (wanted c (f ∷ st)) (wanted_fits limit c f st fit wide) (chosen_no (is_mark (closing k) s) false true other) (λ l others more may. list_entered limit l c st at k s0 others wide more may))
     (λ full. full_list_finds limit c st at k s0 s a ts room other full))
 
-list_tells : (limit : ℕ) (c : Context) (st : List Frame) (at : At) (k : Listing) (s0 : State) → FramesFit limit st → suc (length st) ≤ limit → Fits limit s0 → ((ts : List Placed) → may_follow s0 ts ≡ true)
+list_tells : (limit : ℕ) (c : Context) (st : List Frame) (at : At) (k : Listing) (s0 : Configuration) → FramesFit limit st → suc (length st) ≤ limit → Fits limit s0 → ((ts : List Placed) → may_follow s0 ts ≡ true)
     → Tells limit (λ l. either_mark (closing k) (took s0) (enter_list l c at k st))
 list_tells limit c st at k s0 fit room fits0 free0 = record {
   opens = (symbol (closing k) ∷ [], s0, marked (closing k) (took s0) (enter_list limit c at k st) [] (closing_mark k));
@@ -167,13 +167,13 @@ empty_finds limit c st at fit room (placed x a ∷ ts) =
     let s = holding c (atom at empty_set) st in
     let f = bracket_frame at Emptiness in
     let y = placed x a in
-    let g : ℕ → List Placed → Step = λ l. begin_empty l c st at in
+    let g : ℕ → List Placed → Move = λ l. begin_empty l c st at in
     chosen (Finds limit g (y ∷ ts)) (is_mark open_round x) (enter limit c f st (too_deep (y ∷ ts)) ts) (took s (y ∷ ts))
     (λ is. enter_finds limit c f st g y ts fit (λ more. refl) (λ l more above. chosen_yes (is_mark open_round x) (enter l c f st (too_deep (y ∷ more)) more) (took s (y ∷ more)) is) (omega arith))
     (λ other. leave limit g (y ∷ ts) s (fit, omega arith) (chosen_no (is_mark open_round x) false true other) (λ l others more may. unmarked open_round (enter l c f st (too_deep others)) (took s) others may))
 
 -- a symbol with which an expression begins
-pub begin_finds : (limit : ℕ) (c : Context) (st : List Frame) (at : At) (s : Symbol) (ts : List Placed) (g : ℕ → List Placed → Step) → FramesFit limit st → suc (length st) ≤ limit
+pub begin_finds : (limit : ℕ) (c : Context) (st : List Frame) (at : At) (s : Symbol) (ts : List Placed) (g : ℕ → List Placed → Move) → FramesFit limit st → suc (length st) ≤ limit
     → ((l : ℕ) (more : List Placed) → limit ≤ l → g l (placed s at ∷ more) ≡ begin l c st at s (placed s at ∷ more) more) → Finds limit g (placed s at ∷ ts) (begin limit c st at s (placed s at ∷ ts) ts)
 begin_finds limit c st at word_true ts g fit room same = takes limit g (placed word_true at) ts (holding c (atom at truth) st) (fit, omega arith) refl (λ l more above may. same l more above)
 begin_finds limit c st at word_false ts g fit room same = takes limit g (placed word_false at) ts (holding c (atom at falsity) st) (fit, omega arith) refl (λ l more above may. same l more above)

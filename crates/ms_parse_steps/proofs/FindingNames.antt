@@ -11,13 +11,13 @@ use Rattle.ms_parse_grammar.specs.declared.operator.Binary.TheVariants.{Relation
 use Rattle.ms_parse_grammar.specs.Tree.{Variables, no_variables, and_variable, unrestricted, Parts}
 use Rattle.ms_parse_grammar.specs.Tree.{atom, imported, variables, constant, included, Document}
 use Rattle.ms_parse_grammar.specs.Grammar.{depth_of_domains, depth_of_values}
-use Rattle.ms_parse_steps.specs.inner.Machine.{Head, head_with, Frame, domain_frame, body_frame, part_frame, Context, in_global, in_parameter, in_predicate, in_default, outside, wanted, holding, variable_wanted, pair_wanted, global_wanted, parameter_wanted, summand_wanted, Step, took, misplaced, too_deep, frame_depth, enter, is_mark, either_mark, mark_then, equal_then, name_then, int_then, symbol_then, kind_then, pair_then, declare, body_of, behind_variable, next_variable, part_value, next_part, next_pair, behind_global, next_global, behind_parameter, next_parameter, summand, next_summand, begin_constant, behind_predicate, begin_predicate, begin_include, begin_default}
+use Rattle.ms_parse_steps.specs.inner.Machine.{Head, head_with, Frame, domain_frame, body_frame, part_frame, Context, in_global, in_parameter, in_predicate, in_default, outside, wanted, holding, variable_wanted, pair_wanted, global_wanted, parameter_wanted, summand_wanted, Move, took, misplaced, too_deep, frame_depth, enter, is_mark, either_mark, mark_then, equal_then, name_then, int_then, symbol_then, kind_then, pair_then, declare, body_of, behind_variable, next_variable, part_value, next_part, next_pair, behind_global, next_global, behind_parameter, next_parameter, summand, next_summand, begin_constant, behind_predicate, begin_predicate, begin_include, begin_default}
 use Rattle.ms_parse_steps.proofs.Closing.{symbol, FramesFit}
 use Rattle.ms_parse_steps.proofs.Finding.{Finds, Tells, first, refuse, takes, goes, took_tells, mark_tells, name_tells, text_tells, int_tells, symbol_tells, mark_or_tells, two_marks_tells, entered_at, enter_finds}
 use Rattle.ms_parse_steps.proofs.Frames.{chosen, chosen_yes, chosen_no}
 use Rattle.ms_parse_steps.proofs.Lookahead.{may_follow}
 
-equal_tells : (limit : ℕ) (f : ℕ → List Placed → Step) → Tells limit f → Tells limit (λ l. equal_then (f l))
+equal_tells : (limit : ℕ) (f : ℕ → List Placed → Move) → Tells limit f → Tells limit (λ l. equal_then (f l))
 equal_tells limit f tells = mark_tells limit (infix_operator (Relation Equal)) f refl tells
 
 pub body_tells : (limit : ℕ) (d : Document) (head : Head) (vs : Variables) → 1 ≤ limit → Tells limit (λ l. body_of d head vs)
@@ -64,7 +64,7 @@ part_tells limit c st at o parts fit room deep =
 
 -- a pair of names of an import
 
-rename_tells : (limit : ℕ) (f : Rename → ℕ → List Placed → Step) → ((pair : Rename) → Tells limit (f pair)) → Tells limit (λ l. pair_then (λ pair. f pair l))
+rename_tells : (limit : ℕ) (f : Rename → ℕ → List Placed → Move) → ((pair : Rename) → Tells limit (f pair)) → Tells limit (λ l. pair_then (λ pair. f pair l))
 rename_tells limit f tells =
     name_tells limit (λ a k l. mark_then arrow (name_then (λ b r. f (record { at = a; left = k; at_right = b; right = r }) l)))
     (λ a k. mark_tells limit arrow (λ l. name_then (λ b r. f (record { at = a; left = k; at_right = b; right = r }) l)) refl
@@ -106,7 +106,7 @@ parameter_finds limit d head vs o at_v n some a close_round ts =
     goes limit (λ l. body_of d head body) (λ l. symbol_then (λ a. behind_parameter d head vs o at_v n)) (placed close_round a) ts (λ l more above. refl) (body_tells limit d head body some)
 parameter_finds limit d head vs o at_v n some a s ts = refuse limit (λ l. symbol_then (λ a. behind_parameter d head vs o at_v n)) (placed s a) ts (λ l more above. refl)
 
-kind_finds : (limit : ℕ) (vs : Variables) (h : Order → At → List ℕ → ℕ → List Placed → Step) → ((o : Order) (a : At) (n : List ℕ) → Tells limit (h o a n)) → (ts : List Placed)
+kind_finds : (limit : ℕ) (vs : Variables) (h : Order → At → List ℕ → ℕ → List Placed → Move) → ((o : Order) (a : At) (n : List ℕ) → Tells limit (h o a n)) → (ts : List Placed)
     → Finds limit (λ l. kind_then vs (λ o. name_then (λ a n. h o a n l))) ts (kind_then vs (λ o. name_then (λ a n. h o a n limit)) ts)
 kind_finds limit no_variables h tells (placed (kind o) a ∷ ts) =
     goes limit (λ l. name_then (λ a n. h o a n l)) (λ l. kind_then no_variables (λ o. name_then (λ a n. h o a n l))) (placed (kind o) a) ts (λ l more above. refl) (name_tells limit (h o) (tells o))

@@ -5,7 +5,7 @@ use Rattle.ms_list.specs.declared.at.At.{At}
 use Rattle.ms_parse_grammar.specs.Symbol.{Symbol, kind, predicate_word, default_word, word_const, word_include, Placed, placed}
 use Rattle.ms_parse_grammar.specs.Tree.{Expression, no_variables, Document}
 use Rattle.ms_parse_grammar.specs.Grammar.{depth}
-use Rattle.ms_parse_steps.specs.inner.Machine.{Frame, prefix_frame, left_frame, joined_frame, bracket_frame, list_frame, domain_frame, body_frame, part_frame, let_frame, Context, in_formula, State, outside, wanted, holding, variable_wanted, part_wanted, pair_wanted, global_wanted, parameter_wanted, summand_wanted, Top, in_part, frame_depth, ends, completed, collapse, on_top, bound, settle, go_on, begin, begin_constant, begin_predicate, begin_include, begin_default, begin_declaration, step}
+use Rattle.ms_parse_steps.specs.inner.Machine.{Frame, prefix_frame, left_frame, joined_frame, bracket_frame, list_frame, domain_frame, body_frame, part_frame, let_frame, Context, in_formula, Configuration, outside, wanted, holding, variable_wanted, part_wanted, pair_wanted, global_wanted, parameter_wanted, summand_wanted, Top, in_part, frame_depth, ends, completed, collapse, on_top, bound, settle, go_on, begin, begin_constant, begin_predicate, begin_include, begin_default, begin_declaration, step}
 use Rattle.ms_parse_steps.proofs.Closing.{FramesFit}
 use Rattle.ms_parse_steps.proofs.Completions.{Fits}
 use Rattle.ms_parse_steps.proofs.Finding.{Finds, takes, goes, symbol_finds}
@@ -80,7 +80,7 @@ declaration_finds limit d some at word_include ts = goes limit (λ l. begin_incl
 declaration_finds limit d some at (default_word o) ts = goes limit (λ l. begin_default d at o) (λ l. step l (outside d)) (placed (default_word o) at) ts (λ l more above. refl) (default_tells limit d at o some)
 declaration_finds limit d some at s ts = begin_finds limit (in_formula d at) [] at s ts (λ l. step l (outside d)) tt some (λ l more above. refl)
 
-pub step_finds : (limit : ℕ) (s : State) (ts : List Placed) → 1 ≤ limit → Fits limit s → Finds limit (λ l. step l s) ts (step limit s ts)
+pub step_finds : (limit : ℕ) (s : Configuration) (ts : List Placed) → 1 ≤ limit → Fits limit s → Finds limit (λ l. step l s) ts (step limit s ts)
 step_finds limit (outside d) ts some fits = symbol_finds limit (λ l. begin_declaration l d) (declaration_finds limit d some) ts
 step_finds limit (wanted c st) ts some fits =
     symbol_finds limit (λ l. begin l c st) (λ a s more. begin_finds limit c st a s more (λ l. step l (wanted c st)) fits.0 fits.1 (λ l other above. refl)) ts

@@ -4,7 +4,7 @@ use Rattle.std.proofs.lemmas.List.{append-nil, append_cancel_right}
 use Rattle.ms_list.specs.declared.at.At.{At}
 use Rattle.ms_parse_grammar.specs.Symbol.{word_ws1s, Placed, placed}
 use Rattle.ms_parse_grammar.specs.Tree.{Document}
-use Rattle.ms_parse_steps.specs.inner.Machine.{State, outside, start, step, took, Runs}
+use Rattle.ms_parse_steps.specs.inner.Machine.{Configuration, outside, start, step, took, Runs}
 use Rattle.ms_parse_steps.proofs.Beginning.{no_header, Headed, header_or_none, none_or_begun, RunsPlain, none_or_plain}
 use Rattle.ms_parse_steps.proofs.Closing.{RunsToEnd, further}
 use Rattle.ms_parse_steps.proofs.Completions.{Fits, can_end}
@@ -19,15 +19,15 @@ abbrev pub CanFollowWithin : ℕ → List Placed → Type 0
 CanFollowWithin limit front = (more : List Placed) × (d : Document) × ReadsWithin limit (front ++ more) d
 
 -- nothing has been taken, or these symbols can be led to the end
-abbrev pub GoesOn : ℕ → State → List Placed → Type 0
+abbrev pub GoesOn : ℕ → Configuration → List Placed → Type 0
 GoesOn limit s front = (front ≡ []) ⊎ ((more : List Placed) × RunsToEnd limit s (front ++ more))
 
 -- nothing is read where the symbol follows
-abbrev pub Shuts : ℕ → State → List Placed → Placed → Type 0
+abbrev pub Shuts : ℕ → Configuration → List Placed → Placed → Type 0
 Shuts limit s front y = (more : List Placed) (d : Document) → ¬ (Runs limit s (front ++ y ∷ more) d)
 
 -- a step can be taken, and further steps to the end
-pub step_ends : (limit : ℕ) (s s' : State) (ts : List Placed) → 1 ≤ limit → Fits limit s → step limit s ts ≡ took s' [] → (more : List Placed) × RunsToEnd limit s (ts ++ more)
+pub step_ends : (limit : ℕ) (s s' : Configuration) (ts : List Placed) → 1 ≤ limit → Fits limit s → step limit s ts ≡ took s' [] → (more : List Placed) × RunsToEnd limit s (ts ++ more)
 step_ends limit s s' ts some fits stepped =
     let whole = taken limit s s' ts [] some fits stepped in
     let end = can_end limit s' whole.fits in
@@ -36,20 +36,20 @@ step_ends limit s s' ts some fits stepped =
     (end.more, subst (RunsToEnd limit s) same (further limit s s' (whole.first ∷ (whole.others ++ end.more)) end.more (whole.again limit end.more (omega arith) end.follows) end.ends))
 
 -- the symbols of a step begin as those that it has found
-begins_alike : (s : State) (front after more : List Placed) (y : Placed) → may_follow s (front ++ y ∷ after) ≡ true → may_follow s (front ++ y ∷ more) ≡ true
+begins_alike : (s : Configuration) (front after more : List Placed) (y : Placed) → may_follow s (front ++ y ∷ after) ≡ true → may_follow s (front ++ y ∷ more) ≡ true
 begins_alike s [] after more y may = may_follow_first s y more after ∙ may
 begins_alike s (x ∷ front) after more y may = may_follow_first s x (front ++ y ∷ more) (front ++ y ∷ after) ∙ may
 
-follows_on : (s : State) (x : Placed) (front after more : List Placed) → may_follow s ((x ∷ front) ++ after) ≡ true → may_follow s ((x ∷ front) ++ more) ≡ true
+follows_on : (s : Configuration) (x : Placed) (front after more : List Placed) → may_follow s ((x ∷ front) ++ after) ≡ true → may_follow s ((x ∷ front) ++ more) ≡ true
 follows_on s x front after more may = may_follow_first s x (front ++ more) (front ++ after) ∙ may
 
--- from the state on, and so from the beginning on
-runs_through : (limit : ℕ) (d0 : Document) (body : List Placed) (s : State) (ts front more : List Placed) → (here : Reached limit d0 body s ts) → may_follow s (front ++ more) ≡ true → RunsToEnd limit s (front ++ more)
+-- from the configuration on, and so from the beginning on
+runs_through : (limit : ℕ) (d0 : Document) (body : List Placed) (s : Configuration) (ts front more : List Placed) → (here : Reached limit d0 body s ts) → may_follow s (front ++ more) ≡ true → RunsToEnd limit s (front ++ more)
     → RunsToEnd limit (outside d0) ((here.done ++ front) ++ more)
 runs_through limit d0 body s ts front more here may (d, runs) =
     subst (RunsToEnd limit (outside d0)) (sym (append_assoc here.done front more)) (d, (here.runs (front ++ more) may d).1 runs)
 
-opens_to_end : (limit : ℕ) (d0 : Document) (body : List Placed) (s : State) (ts front after : List Placed) → 1 ≤ limit → (here : Reached limit d0 body s ts) → ts ≡ front ++ after → GoesOn limit s front
+opens_to_end : (limit : ℕ) (d0 : Document) (body : List Placed) (s : Configuration) (ts front after : List Placed) → 1 ≤ limit → (here : Reached limit d0 body s ts) → ts ≡ front ++ after → GoesOn limit s front
     → (more : List Placed) × RunsToEnd limit (outside d0) ((here.done ++ front) ++ more)
 opens_to_end limit d0 body s ts [] after some here split opens =
     let end = can_end limit s here.fits in
@@ -104,7 +104,7 @@ opened_behind limit all body d0 header front more after some (inr (nothing, plai
     (none_or_begun all front after more (split ∙ ap (λ h. (h ++ front) ++ after) nothing) none))
 
 -- Where the automaton can go on, the symbols up to there can be followed.
-pub opened : (limit : ℕ) (all body : List Placed) (d0 : Document) (s : State) (ts front after before : List Placed) → 1 ≤ limit → start all ≡ (d0, body) → Reached limit d0 body s ts
+pub opened : (limit : ℕ) (all body : List Placed) (d0 : Document) (s : Configuration) (ts front after before : List Placed) → 1 ≤ limit → start all ≡ (d0, body) → Reached limit d0 body s ts
     → ts ≡ front ++ after → GoesOn limit s front → all ≡ before ++ after → CanFollowWithin limit before
 opened limit all body d0 s ts front after before some begun here split opens cut =
     let behind = behind_of all body d0 begun (header_or_none all) in
@@ -112,8 +112,8 @@ opened limit all body d0 s ts front after before some begun here split opens cut
     let end = opens_to_end limit d0 body s ts front after some here split opens in
     subst (CanFollowWithin limit) (sym is) (opened_behind limit all body d0 behind.header (here.done ++ front) end.0 after some behind.again (cut ∙ ap (λ l. l ++ after) is) end.1)
 
--- from the beginning on nothing is read where the state shuts
-shut_through : (limit : ℕ) (d0 : Document) (body : List Placed) (s : State) (ts front after : List Placed) (y : Placed) (more : List Placed) (d : Document) → (here : Reached limit d0 body s ts) → ts ≡ front ++ y ∷ after
+-- from the beginning on nothing is read where the configuration shuts
+shut_through : (limit : ℕ) (d0 : Document) (body : List Placed) (s : Configuration) (ts front after : List Placed) (y : Placed) (more : List Placed) (d : Document) → (here : Reached limit d0 body s ts) → ts ≡ front ++ y ∷ after
     → Shuts limit s front y → ¬ (Runs limit (outside d0) ((here.done ++ front) ++ y ∷ more) d)
 shut_through limit d0 body s ts front after y more d here split shuts runs =
     let may = begins_alike s front after more y (ap (may_follow s) (sym split) ∙ here.free) in
@@ -152,7 +152,7 @@ shut_behind limit all d0 header front after y enough (inr (nothing, plain, none)
     (subst (λ h. ReadsWithin limit (((h ++ front) ++ y ∷ []) ++ more) d) nothing reads)
 
 -- Where the automaton cannot go on, nothing follows. Without a header the first word is not `ws1s`, which begins one.
-pub shut : (limit : ℕ) (all body : List Placed) (d0 : Document) (s : State) (ts front after before : List Placed) (y : Placed) → 3 ≤ limit → start all ≡ (d0, body) → Reached limit d0 body s ts
+pub shut : (limit : ℕ) (all body : List Placed) (d0 : Document) (s : Configuration) (ts front after before : List Placed) (y : Placed) → 3 ≤ limit → start all ≡ (d0, body) → Reached limit d0 body s ts
     → ts ≡ front ++ y ∷ after → Shuts limit s front y → (d0 ≡ no_header → is_header_word all ≡ false) → all ≡ before ++ y ∷ after → ¬ (CanFollowWithin limit (before ++ y ∷ []))
 shut limit all body d0 s ts front after before y enough begun here split shuts other cut =
     let behind = behind_of all body d0 begun (header_or_none all) in
@@ -177,7 +177,7 @@ word_of limit d0 all [] after more runs cut first = first refl
 word_of limit d0 all (placed word_ws1s a ∷ before) after more (d, runs) cut first = absurd (word_stuck limit a (before ++ more) d0 d runs)
 word_of limit d0 all (placed _ a ∷ before) after more runs cut first = ap is_header_word cut
 
-pub no_word : (limit : ℕ) (all body : List Placed) (d0 : Document) (s : State) (ts front after before : List Placed) → 1 ≤ limit → start all ≡ (d0, body) → Reached limit d0 body s ts
+pub no_word : (limit : ℕ) (all body : List Placed) (d0 : Document) (s : Configuration) (ts front after before : List Placed) → 1 ≤ limit → start all ≡ (d0, body) → Reached limit d0 body s ts
     → ts ≡ front ++ after → GoesOn limit s front → all ≡ before ++ after → (before ≡ [] → is_header_word all ≡ false) → d0 ≡ no_header → is_header_word all ≡ false
 no_word limit all body d0 s ts front after before some begun here split opens cut first plain =
     let is = header_before all body [] here.done front after before (plain_body all body d0 begun plain (header_or_none all)) (here.split ∙ ap (λ l. here.done ++ l) split) cut in
@@ -191,7 +191,7 @@ nothing_header all d0 (x ∷ header) front same again = let never : ⊥ = cc in 
 nothing_header all d0 [] front same (inl again) = again all ∙ ap (λ (d : Document). (d, all)) (sym (ap (λ (x : Document × List Placed). x.0) (again [])))
 nothing_header all d0 [] front same (inr (nothing, plain, none)) = none
 
-pub nothing_before : (limit : ℕ) (all body : List Placed) (d0 : Document) (s : State) (ts front : List Placed) → start all ≡ (d0, body) → Reached limit d0 body s ts → ts ≡ front ++ all → start all ≡ (no_header, all)
+pub nothing_before : (limit : ℕ) (all body : List Placed) (d0 : Document) (s : Configuration) (ts front : List Placed) → start all ≡ (d0, body) → Reached limit d0 body s ts → ts ≡ front ++ all → start all ≡ (no_header, all)
 nothing_before limit all body d0 s ts front begun here split =
     let behind = behind_of all body d0 begun (header_or_none all) in
     let is = header_before all body behind.header here.done front all [] behind.split (here.split ∙ ap (λ l. here.done ++ l) split) refl in

@@ -16,7 +16,7 @@ use Rattle.ms_parse_grammar.specs.Tree.{truth, falsity, whole, empty_set, named,
 use Rattle.ms_parse_grammar.specs.Tree.{Expression, atom, prefixed, binary, joined, shifted, enclosed, listed, quantified, let_in, Expressions, no_expressions, and_expression}
 use Rattle.ms_parse_grammar.specs.Grammar.{binary_level, left_level, right_level, operand_level, junction_level, level, is_in, depth, depth_of_all}
 use Rattle.ms_parse_grammar.specs.Reads.{int_symbol, place, ReadsExpression, ReadsSeparated, ReadsList}
-use Rattle.ms_parse_steps.specs.inner.Machine.{Frame, prefix_frame, left_frame, joined_frame, bracket_frame, list_frame, domain_frame, body_frame, part_frame, let_frame, Context, wanted, holding, need, in_part, enter, collapse, on_top, begin_name, begin_empty, begin_literal, in_at, join, join_new, shift, shift_int, step, Step, took, misplaced, too_deep, enter_list, starter, int_then}
+use Rattle.ms_parse_steps.specs.inner.Machine.{Frame, prefix_frame, left_frame, joined_frame, bracket_frame, list_frame, domain_frame, body_frame, part_frame, let_frame, Context, wanted, holding, need, in_part, enter, collapse, on_top, begin_name, begin_empty, begin_literal, in_at, join, join_new, shift, shift_int, step, Move, took, misplaced, too_deep, enter_list, starter, int_then}
 use Rattle.ms_parse_steps.proofs.Frames.{chosen_yes, chosen_no}
 use Rattle.ms_parse_steps.proofs.Steps.{entered}
 
@@ -142,7 +142,7 @@ infix_step limit c op l st x ts low no_let high room deep =
     ∙ entered limit c (left_frame op l) st (too_deep from) ts room deep
 
 -- `+` or `-` and an int behind an operand
-pub int_read : (minus : Bool) (further : PlacedInt → List Placed → Step) (v : Int) (a : At) (ts : List Placed) → int_then minus further (placed (int_symbol v) a ∷ ts) ≡ further (record { at = a; value = v; minus = minus }) ts
+pub int_read : (minus : Bool) (further : PlacedInt → List Placed → Move) (v : Int) (a : At) (ts : List Placed) → int_then minus further (placed (int_symbol v) a ∷ ts) ≡ further (record { at = a; value = v; minus = minus }) ts
 int_read minus further (Number n) a ts = refl
 int_read minus further (Constant n) a ts = refl
 

@@ -17,7 +17,7 @@ use Rattle.ms_parse_grammar.specs.Tree.{variables, constant, included, Document}
 use Rattle.ms_parse_grammar.specs.Grammar.{domain_bare_in, HaveGrammaticalDomains, AreOfOrder, depth_of_domains}
 use Rattle.ms_parse_grammar.specs.Reads.{Starts, Follows}
 use Rattle.ms_parse_grammar.specs.Declarations.{ReadsString}
-use Rattle.ms_parse_steps.specs.inner.Machine.{Head, head_with, Frame, domain_frame, body_frame, part_frame, Context, in_formula, State, outside, wanted, holding, variable_wanted, part_wanted, pair_wanted, global_wanted, parameter_wanted, summand_wanted, Step, took, misplaced, too_deep, need, in_part, Top, on_top, settle, ends, collapse, bound, behind_variable, next_variable, next_part, next_pair, behind_global, next_global, behind_parameter, next_parameter, next_summand, begin_constant, begin_predicate, begin_include, begin_default, begin_declaration, step, headed, start, finished, goes_on, run, Runs}
+use Rattle.ms_parse_steps.specs.inner.Machine.{Head, head_with, Frame, domain_frame, body_frame, part_frame, Context, in_formula, Configuration, outside, wanted, holding, variable_wanted, part_wanted, pair_wanted, global_wanted, parameter_wanted, summand_wanted, Move, took, misplaced, too_deep, need, in_part, Top, on_top, settle, ends, collapse, bound, behind_variable, next_variable, next_part, next_pair, behind_global, next_global, behind_parameter, next_parameter, next_summand, begin_constant, begin_predicate, begin_include, begin_default, begin_declaration, step, headed, start, finished, goes_on, run, Runs}
 use Rattle.ms_parse_steps.proofs.Frames.{VariablesSoFar, InFrames, CollapsedTo, chosen, collapsed}
 use Rattle.ms_parse_steps.proofs.Extensions.{variables_extended, ParametersSoFar, ParameterKind, parameters_extended, pairs_extended, sum_extended}
 use Rattle.ms_parse_steps.proofs.Settling.{declared_good, begins_with, body_of_good, settle_good}
@@ -290,7 +290,7 @@ top_good : (limit : ℕ) (some : 1 ≤ limit) (all here : List Placed) (c : Cont
 top_good limit some all here c s inside None from ts a context is = tt
 top_good limit some all here c s inside (Some top) from ts a context is = settle_good limit some all here c s inside top from ts a context is
 
-step_good : (limit : ℕ) (some : 1 ≤ limit) (s : State) (all ts : List Placed) → Good limit s all ts → GoodNext limit all (step limit s ts)
+step_good : (limit : ℕ) (some : 1 ≤ limit) (s : Configuration) (all ts : List Placed) → Good limit s all ts → GoodNext limit all (step limit s ts)
 step_good limit some (outside d) all (placed s at ∷ ts) is = declaration_good limit some all _ d at s ts is
 step_good limit some (wanted c st) all (placed s at ∷ ts) (from, context, frames, room) = begin_good limit all _ c st at s from ts context frames room
 step_good limit some (holding c e st) all (placed s at ∷ ts) (from, context, held, closed) =
@@ -312,7 +312,7 @@ step_good limit some (parameter_wanted d head no_variables) all [] is = tt
 step_good limit some (parameter_wanted d head (and_variable vs a o n x)) all [] is = tt
 step_good limit some (summand_wanted d at at_n n sum) all [] is = tt
 
-finished_good : (limit : ℕ) (s : State) (all ts : List Placed) (d : Document) → Good limit s all ts → finished s ts ≡ Some d → SoFar limit d all []
+finished_good : (limit : ℕ) (s : Configuration) (all ts : List Placed) (d : Document) → Good limit s all ts → finished s ts ≡ Some d → SoFar limit d all []
 finished_good limit (outside d0) all [] d is read = let same : d0 ≡ d = cc in subst (λ x. SoFar limit x all []) same is
 finished_good limit (outside d0) all (t ∷ ts) d is read = let never : ⊥ = cc in absurd never
 finished_good limit (wanted c st) all ts d is read = let never : ⊥ = cc in absurd never
@@ -324,13 +324,13 @@ finished_good limit (global_wanted d0 at o vs) all ts d is read = let never : �
 finished_good limit (parameter_wanted d0 head vs) all ts d is read = let never : ⊥ = cc in absurd never
 finished_good limit (summand_wanted d0 at at_n n sum) all ts d is read = let never : ⊥ = cc in absurd never
 
-next_good : (limit : ℕ) (r : State → List Placed → Option Document) (all : List Placed) (d : Document) → ((s : State) (ts : List Placed) → Good limit s all ts → r s ts ≡ Some d → SoFar limit d all [])
-    → (x : Step) → GoodNext limit all x → goes_on r x ≡ Some d → SoFar limit d all []
+next_good : (limit : ℕ) (r : Configuration → List Placed → Option Document) (all : List Placed) (d : Document) → ((s : Configuration) (ts : List Placed) → Good limit s all ts → r s ts ≡ Some d → SoFar limit d all [])
+    → (x : Move) → GoodNext limit all x → goes_on r x ≡ Some d → SoFar limit d all []
 next_good limit r all d further (took s ts) is read = further s ts is read
 next_good limit r all d further (misplaced from) is read = let never : ⊥ = cc in absurd never
 next_good limit r all d further (too_deep from) is read = let never : ⊥ = cc in absurd never
 
-run_good : (limit : ℕ) (some : 1 ≤ limit) (n : ℕ) (s : State) (all ts : List Placed) (d : Document) → Good limit s all ts → run limit n s ts ≡ Some d → SoFar limit d all []
+run_good : (limit : ℕ) (some : 1 ≤ limit) (n : ℕ) (s : Configuration) (all ts : List Placed) (d : Document) → Good limit s all ts → run limit n s ts ≡ Some d → SoFar limit d all []
 run_good limit some zero s all ts d is read = finished_good limit s all ts d is read
 run_good limit some (suc n) s all ts d is read = next_good limit (run limit n) all d (λ s' ts' is' read'. run_good limit some n s' all ts' d is' read') (step limit s ts) (step_good limit some s all ts is) read
 

@@ -17,7 +17,7 @@ use Rattle.ms_parse_grammar.specs.Tree.{Document}
 use Rattle.ms_parse_grammar.specs.Grammar.{ends_open, domain_bare_in, HaveGrammaticalDomains, HaveGrammaticalValues, AreOfOrder, prefix_level, depth_of_domains, depth_of_values}
 use Rattle.ms_parse_grammar.specs.Reads.{Starts, Follows, ReadsPairs, ReadsAtom, ReadsListOpening, closing}
 use Rattle.ms_parse_grammar.specs.Declarations.{ReadsParameterList, ReadsSum, BeginsAt, ReadsDeclarations, ReadsHeader}
-use Rattle.ms_parse_steps.specs.inner.Machine.{Frame, prefix_frame, left_frame, joined_frame, bracket_frame, list_frame, domain_frame, body_frame, part_frame, let_frame, Context, in_formula, in_global, in_parameter, in_predicate, in_default, State, outside, wanted, holding, variable_wanted, part_wanted, pair_wanted, global_wanted, parameter_wanted, summand_wanted, Step, took, misplaced, too_deep, starter, unopened, enter_list, need, in_part, frame_depth, enter, begin_name, begin_empty, begin_literal, begin_pconst, begin_import, begin_restrict, begin_export, begin, with_room}
+use Rattle.ms_parse_steps.specs.inner.Machine.{Frame, prefix_frame, left_frame, joined_frame, bracket_frame, list_frame, domain_frame, body_frame, part_frame, let_frame, Context, in_formula, in_global, in_parameter, in_predicate, in_default, Configuration, outside, wanted, holding, variable_wanted, part_wanted, pair_wanted, global_wanted, parameter_wanted, summand_wanted, Move, took, misplaced, too_deep, starter, unopened, enter_list, need, in_part, frame_depth, enter, begin_name, begin_empty, begin_literal, begin_pconst, begin_import, begin_restrict, begin_export, begin, with_room}
 use Rattle.ms_parse_steps.proofs.Frames.{VariablesSoFar, PartsSoFar, FrameReads, FrameGood, InFrames, Held, chosen}
 use Rattle.ms_parse_steps.proofs.Extensions.{ParametersSoFar, ParameterKind}
 use Rattle.ms_parse_steps.proofs.Limits.{AreDomainsWithin, AreDeclarationsWithin}
@@ -40,7 +40,7 @@ InContext limit (in_default d at o n) all ts =
     (f g h i j : List Placed) × SoFar limit d all f × Starts true (default_word o) at f g × Follows open_round g h × Follows (name n) h i × Follows close_round i j
     × Follows (infix_operator (Relation Equal)) j ts
 
-abbrev pub Good : ℕ → State → List Placed → List Placed → Type 0
+abbrev pub Good : ℕ → Configuration → List Placed → List Placed → Type 0
 Good limit (outside d) all ts = SoFar limit d all ts
 Good limit (wanted c st) all ts = (from : List Placed) × InContext limit c all from × InFrames limit st from ts × (suc (length st) ≤ limit)
 Good limit (holding c e st) all ts = (from : List Placed) × InContext limit c all from × Held limit e st from ts × (ends_open e ≡ false)
@@ -63,7 +63,7 @@ Good limit (summand_wanted d at at_n n sum) all ts =
     (f g h i : List Placed) × SoFar limit d all f × Starts true word_const at f g × Starts true (name n) at_n g h × Follows (infix_operator (Relation Equal)) h i
     × ReadsSum true sum i ts
 
-abbrev pub GoodNext : ℕ → List Placed → Step → Type 0
+abbrev pub GoodNext : ℕ → List Placed → Move → Type 0
 GoodNext limit all (took s ts) = Good limit s all ts
 GoodNext limit all (misplaced from) = Unit {0}
 GoodNext limit all (too_deep from) = Unit {0}

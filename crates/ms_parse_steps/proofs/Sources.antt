@@ -15,7 +15,7 @@ use Rattle.ms_parse_grammar.specs.Tree.{Declaration, variables, constant, predic
 use Rattle.ms_parse_grammar.specs.Grammar.{AreOfOrder}
 use Rattle.ms_parse_grammar.specs.Reads.{int_symbol, Starts, Follows, ReadsExpression, ReadsDomain, ReadsVariables}
 use Rattle.ms_parse_grammar.specs.Declarations.{ReadsParameters, ReadsParameterList, ReadsFurther, ReadsDeclaration, BeginsAt, ReadsDeclarations}
-use Rattle.ms_parse_steps.specs.inner.Machine.{Head, head_with, Context, in_formula, in_global, in_parameter, in_predicate, in_default, outside, wanted, holding, global_wanted, parameter_wanted, summand_wanted, Step, took, starter, declare, body_of, behind_parameter, step, finished, goes_on, run, Runs}
+use Rattle.ms_parse_steps.specs.inner.Machine.{Head, head_with, Context, in_formula, in_global, in_parameter, in_predicate, in_default, outside, wanted, holding, global_wanted, parameter_wanted, summand_wanted, Move, took, starter, declare, body_of, behind_parameter, step, finished, goes_on, run, Runs}
 use Rattle.ms_parse_steps.proofs.Levels.{yields-zero}
 use Rattle.ms_parse_steps.proofs.Moves.{begins}
 use Rattle.ms_parse_steps.proofs.Steps.{by_step, Leads, by_lead, at_start}
@@ -50,7 +50,7 @@ abbrev pub global_separator : Bool → Symbol
 global_separator true = comma
 global_separator false = semicolon
 
-abbrev pub ended_global : Document → At → Order → Variables → Bool → List Placed → Step
+abbrev pub ended_global : Document → At → Order → Variables → Bool → List Placed → Move
 ended_global d at o vs true ts = took (global_wanted d at o vs) ts
 ended_global d at o vs false ts = took (outside (declare d at (variables vs))) ts
 
@@ -100,7 +100,7 @@ abbrev pub parameter_separator : Bool → Symbol
 parameter_separator true = comma
 parameter_separator false = close_round
 
-abbrev pub ended_parameter : Document → Head → Variables → Bool → List Placed → Step
+abbrev pub ended_parameter : Document → Head → Variables → Bool → List Placed → Move
 ended_parameter d head vs true ts = took (parameter_wanted d head vs) ts
 ended_parameter d head vs false ts = body_of d head vs ts
 

@@ -7,23 +7,23 @@ use Rattle.ms_parse_grammar.specs.Tree.{Expression, Document}
 use Rattle.ms_parse_grammar.specs.Reads.{Starts}
 use Rattle.ms_parse_grammar.specs.Grammar.{depth}
 use Rattle.ms_parse_steps.proofs.Frames.{chosen_yes, chosen_no}
-use Rattle.ms_parse_steps.specs.inner.Machine.{Frame, Context, State, holding, wanted, Step, took, misplaced, too_deep, in_part, frame_depth, enter, ends, completed, collapse, on_top, bound, settle, step, goes_on, run, Runs, with_room}
+use Rattle.ms_parse_steps.specs.inner.Machine.{Frame, Context, Configuration, holding, wanted, Move, took, misplaced, too_deep, in_part, frame_depth, enter, ends, completed, collapse, on_top, bound, settle, step, goes_on, run, Runs, with_room}
 
-pub by_step : (limit : ℕ) (s : State) (from ts : List Placed) (s' : State) (ts' : List Placed) (d : Document) → from ≡ ts → step limit s ts ≡ took s' ts' → Runs limit s' ts' d → Runs limit s from d
+pub by_step : (limit : ℕ) (s : Configuration) (from ts : List Placed) (s' : Configuration) (ts' : List Placed) (d : Document) → from ≡ ts → step limit s ts ≡ took s' ts' → Runs limit s' ts' d → Runs limit s from d
 by_step limit s from ts s' ts' d here stepped (n, read) = (suc n, ap (λ f. goes_on (run limit n) (step limit s f)) here ∙ ap (goes_on (run limit n)) stepped ∙ read)
 
 -- what a step leads to
-abbrev pub Leads : ℕ → Step → Document → Type 0
+abbrev pub Leads : ℕ → Move → Document → Type 0
 Leads limit (took s ts) d = Runs limit s ts d
 Leads limit (misplaced from) d = ⊥
 Leads limit (too_deep from) d = ⊥
 
-pub by_lead : (limit : ℕ) (s : State) (from ts : List Placed) (next : Step) (d : Document) → from ≡ ts → step limit s ts ≡ next → Leads limit next d → Runs limit s from d
+pub by_lead : (limit : ℕ) (s : Configuration) (from ts : List Placed) (next : Move) (d : Document) → from ≡ ts → step limit s ts ≡ next → Leads limit next d → Runs limit s from d
 by_lead limit s from ts (took s' ts') d here stepped leads = by_step limit s from ts s' ts' d here stepped leads
 by_lead limit s from ts (misplaced left) d here stepped leads = absurd leads
 by_lead limit s from ts (too_deep left) d here stepped leads = absurd leads
 
--- two states that step alike
+-- two configurations that step alike
 pub same_step : (limit : ℕ) (c : Context) (e e' : Expression) (st st' : List Frame) (s : Symbol) (a : At) (more : List Placed) (d : Document)
     → step limit (holding c e st) (placed s a ∷ more) ≡ step limit (holding c e' st') (placed s a ∷ more)
     → Runs limit (holding c e' st') (placed s a ∷ more) d → Runs limit (holding c e st) (placed s a ∷ more) d
@@ -43,18 +43,18 @@ ended limit c f e st s a more d ends_here deep same runs =
     runs
 
 -- where the depth leaves room
-pub roomy : (limit : ℕ) (st : List Frame) (from : List Placed) (next : Step) → suc (suc (length st)) ≤ limit → with_room limit st from next ≡ next
+pub roomy : (limit : ℕ) (st : List Frame) (from : List Placed) (next : Move) → suc (suc (length st)) ≤ limit → with_room limit st from next ≡ next
 roomy limit st from next room = chosen_yes (leb (suc (suc (length st))) limit) next (too_deep from) (le-leb (suc (suc (length st))) limit room)
 
-pub roomless : (limit : ℕ) (st : List Frame) (from : List Placed) (next : Step) → limit < suc (suc (length st)) → with_room limit st from next ≡ too_deep from
+pub roomless : (limit : ℕ) (st : List Frame) (from : List Placed) (next : Move) → limit < suc (suc (length st)) → with_room limit st from next ≡ too_deep from
 roomless limit st from next full = chosen_no (leb (suc (suc (length st))) limit) next (too_deep from) (lt-leb (suc (suc (length st))) limit full)
 
-pub entered : (limit : ℕ) (c : Context) (f : Frame) (st : List Frame) (otherwise : Step) (ts : List Placed) → suc (suc (length st)) ≤ limit → suc (length st) + frame_depth f ≤ limit → enter limit c f st otherwise ts ≡ took (wanted c (f ∷ st)) ts
+pub entered : (limit : ℕ) (c : Context) (f : Frame) (st : List Frame) (otherwise : Move) (ts : List Placed) → suc (suc (length st)) ≤ limit → suc (length st) + frame_depth f ≤ limit → enter limit c f st otherwise ts ≡ took (wanted c (f ∷ st)) ts
 entered limit c f st otherwise ts room deep =
     chosen_yes (leb (suc (length st) + max 1 (frame_depth f)) limit) (took (wanted c (f ∷ st)) ts) otherwise (le-leb (suc (length st) + max 1 (frame_depth f)) limit (omega arith))
 
 -- a step that is not taken
-abbrev pub IsStuck : Step → Type 0
+abbrev pub IsStuck : Move → Type 0
 IsStuck (took s ts) = ⊥
 IsStuck (misplaced from) = Unit {0}
 IsStuck (too_deep from) = Unit {0}

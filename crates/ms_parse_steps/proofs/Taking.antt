@@ -19,16 +19,16 @@ use Rattle.ms_parse_steps.specs.declared.outcome.Outcome.{Outcome}
 use Rattle.ms_parse_steps.specs.declared.punctuation.Punctuation.{Punctuation}
 use Rattle.ms_parse_steps.specs.declared.punctuation.Punctuation.TheVariants as marks
 use Rattle.ms_parse_steps.specs.declared.parser.Parser.{Parser}
-use Rattle.ms_parse_steps.specs.declared.state.State.{State}
+use Rattle.ms_parse_steps.specs.declared.configuration.Configuration.{Configuration}
 use Rattle.ms_parse_steps.specs.declared.stop.Stop.{Stop}
 use Rattle.ms_parse_steps.specs.declared.terminal.Terminal.{Terminal}
 use Rattle.ms_parse_steps.specs.inner.Followed.{settled}
 use Rattle.ms_parse_steps.specs.inner.Kinds.{IsKind, IsNoKind, last_order}
 use Rattle.ms_parse_steps.specs.inner.Machine as machine
-use Rattle.ms_parse_steps.specs.inner.Machine.{Step, took, misplaced, too_deep, is_mark, either_mark, mark_then, name_then, text_then, int_then, symbol_then, kind_then, settle}
+use Rattle.ms_parse_steps.specs.inner.Machine.{Move, took, misplaced, too_deep, is_mark, either_mark, mark_then, name_then, text_then, int_then, symbol_then, kind_then, settle}
 use Rattle.ms_parse_steps.specs.inner.Outcomes.{StopsAs, ActsAs}
 use Rattle.ms_parse_steps.specs.inner.Punctuations.{punctuation, IsNot}
-use Rattle.ms_parse_steps.specs.inner.States.{StepsAs}
+use Rattle.ms_parse_steps.specs.inner.Configurations.{StepsAs}
 use Rattle.ms_parse_steps.specs.inner.Terminals.{behind, symbol_with, IsNext, NoName, NoInt}
 use Rattle.ms_parse_steps.proofs.Frames.{chosen_yes, chosen_no}
 use Rattle.ms_parse_steps.proofs.Moves.{int_read}
@@ -36,13 +36,13 @@ use Rattle.ms_parse_steps.proofs.Steps.{at_start}
 
 -- another form of the same step
 
-pub acts_as : (c : machine.Context) (file : ℕ) (lexed : Lexed) (step step' : Step) (frames : List Frame) (r : Result (Outcome × ℕ) Stop) → step ≡ step' → ActsAs c file lexed step' frames r → ActsAs c file lexed step frames r
+pub acts_as : (c : machine.Context) (file : ℕ) (lexed : Lexed) (step step' : Move) (frames : List Frame) (r : Result (Outcome × ℕ) Stop) → step ≡ step' → ActsAs c file lexed step' frames r → ActsAs c file lexed step frames r
 acts_as c file lexed step step' frames r same is_so = subst (λ x. ActsAs c file lexed x frames r) (sym same) is_so
 
-pub steps_as : (file : ℕ) (lexed : Lexed) (step step' : Step) (parser : Parser) (r : Result (State × ℕ) Stop) → step ≡ step' → StepsAs file lexed step' parser r → StepsAs file lexed step parser r
+pub steps_as : (file : ℕ) (lexed : Lexed) (step step' : Move) (parser : Parser) (r : Result (Configuration × ℕ) Stop) → step ≡ step' → StepsAs file lexed step' parser r → StepsAs file lexed step parser r
 steps_as file lexed step step' parser r same stepped = subst (λ x. StepsAs file lexed x parser r) (sym same) stepped
 
-pub stops_as : (file : ℕ) (lexed : Lexed) (step step' : Step) (stop : Stop) → step ≡ step' → StopsAs file lexed step' stop → StopsAs file lexed step stop
+pub stops_as : (file : ℕ) (lexed : Lexed) (step step' : Move) (stop : Stop) → step ≡ step' → StopsAs file lexed step' stop → StopsAs file lexed step stop
 stops_as file lexed step step' stop same stops = subst (λ x. StopsAs file lexed x stop) (sym same) stops
 
 pub one_more : (file : ℕ) (lexed : Lexed) (i : ℕ) → behind file lexed (suc i) ≡ behind file lexed (i + 1)
@@ -90,84 +90,84 @@ same_mark marks.Ws1s word_ws1s is = refl
 same_mark marks.Ws1s _ is = absurd (false≢true is)
 
 -- a symbol that stands there, and one that does not
-pub mark_found : (m : Punctuation) (further other : List Placed → Step) (ts ts' : List Placed) → Follows (punctuation m) ts ts' → either_mark (punctuation m) further other ts ≡ further ts'
+pub mark_found : (m : Punctuation) (further other : List Placed → Move) (ts ts' : List Placed) → Follows (punctuation m) ts ts' → either_mark (punctuation m) further other ts ≡ further ts'
 mark_found m further other ts ts' follows =
     ap (either_mark (punctuation m) further other) follows.1 ∙ chosen_yes (is_mark (punctuation m) (punctuation m)) (further ts') (other (placed (punctuation m) follows.0 ∷ ts')) (mark_is m)
 
-pub mark_missing : (m : Punctuation) (further other : List Placed → Step) (ts : List Placed) → IsNot (punctuation m) ts → either_mark (punctuation m) further other ts ≡ other ts
+pub mark_missing : (m : Punctuation) (further other : List Placed → Move) (ts : List Placed) → IsNot (punctuation m) ts → either_mark (punctuation m) further other ts ≡ other ts
 mark_missing m further other [] none = refl
 mark_missing m further other (placed s a ∷ ts) none =
     chosen_no (is_mark (punctuation m) s) (further ts) (other (placed s a ∷ ts)) (unmarked (is_mark (punctuation m) s) (λ is. none (same_mark m s is)))
 
-pub name_found : (further : At → List ℕ → List Placed → Step) (file : ℕ) (lexed : Lexed) (i : ℕ) (n : List ℕ) (at : At) → IsNext file lexed i (name n) at → name_then further (behind file lexed i) ≡ further at n (behind file lexed (i + 1))
+pub name_found : (further : At → List ℕ → List Placed → Move) (file : ℕ) (lexed : Lexed) (i : ℕ) (n : List ℕ) (at : At) → IsNext file lexed i (name n) at → name_then further (behind file lexed i) ≡ further at n (behind file lexed (i + 1))
 name_found further file lexed i n at next = ap (name_then further) next ∙ ap (further at n) (one_more file lexed i)
 
-pub name_missing : (further : At → List ℕ → List Placed → Step) (ts : List Placed) → NoName ts → name_then further ts ≡ misplaced ts
+pub name_missing : (further : At → List ℕ → List Placed → Move) (ts : List Placed) → NoName ts → name_then further ts ≡ misplaced ts
 name_missing further [] none = refl
 name_missing further (placed (name n) a ∷ ts) none = absurd none
 name_missing further (placed _ a ∷ ts) none = refl
 
-pub text_found : (further : At → List ℕ → List Placed → Step) (file : ℕ) (lexed : Lexed) (i : ℕ) (n : List ℕ) (at : At) → IsNext file lexed i (text n) at → text_then further (behind file lexed i) ≡ further at n (behind file lexed (i + 1))
+pub text_found : (further : At → List ℕ → List Placed → Move) (file : ℕ) (lexed : Lexed) (i : ℕ) (n : List ℕ) (at : At) → IsNext file lexed i (text n) at → text_then further (behind file lexed i) ≡ further at n (behind file lexed (i + 1))
 text_found further file lexed i n at next = ap (text_then further) next ∙ ap (further at n) (one_more file lexed i)
 
-pub int_found : (minus : Bool) (further : PlacedInt → List Placed → Step) (v : PlacedInt) (ts ts' : List Placed) → Starts true (int_symbol v.value) v.at ts ts' → v.minus ≡ minus → int_then minus further ts ≡ further v ts'
+pub int_found : (minus : Bool) (further : PlacedInt → List Placed → Move) (v : PlacedInt) (ts ts' : List Placed) → Starts true (int_symbol v.value) v.at ts ts' → v.minus ≡ minus → int_then minus further ts ≡ further v ts'
 int_found minus further v ts ts' starts same =
     ap (int_then minus further) (at_start (int_symbol v.value) v.at ts ts' starts) ∙ int_read minus further v.value v.at ts' ∙ ap (λ m. further (record { at = v.at; value = v.value; minus = m }) ts') (sym same)
 
-pub int_missing : (minus : Bool) (further : PlacedInt → List Placed → Step) (ts : List Placed) → NoInt ts → int_then minus further ts ≡ misplaced ts
+pub int_missing : (minus : Bool) (further : PlacedInt → List Placed → Move) (ts : List Placed) → NoInt ts → int_then minus further ts ≡ misplaced ts
 int_missing minus further [] none = refl
 int_missing minus further (placed (name n) a ∷ ts) none = absurd none
 int_missing minus further (placed (number n) a ∷ ts) none = absurd none
 int_missing minus further (placed _ a ∷ ts) none = refl
 
-pub symbol_found : (further : At → Symbol → List Placed → List Placed → Step) (file : ℕ) (lexed : Lexed) (i : ℕ) (s : Symbol) (at : At) → IsNext file lexed i s at
+pub symbol_found : (further : At → Symbol → List Placed → List Placed → Move) (file : ℕ) (lexed : Lexed) (i : ℕ) (s : Symbol) (at : At) → IsNext file lexed i s at
     → symbol_then further (behind file lexed i) ≡ further at s (behind file lexed i) (behind file lexed (i + 1))
 symbol_found further file lexed i s at next =
     ap (symbol_then further) next ∙ ap (λ x. further at s x (behind file lexed (suc i))) (sym next) ∙ ap (further at s (behind file lexed i)) (one_more file lexed i)
 
 -- the same, where the number behind the symbol is given
-pub symbol_behind : (further : At → Symbol → List Placed → List Placed → Step) (file : ℕ) (lexed : Lexed) (i : ℕ) (s : Symbol) (at : At) → IsNext file lexed i s at
+pub symbol_behind : (further : At → Symbol → List Placed → List Placed → Move) (file : ℕ) (lexed : Lexed) (i : ℕ) (s : Symbol) (at : At) → IsNext file lexed i s at
     → symbol_then further (behind file lexed i) ≡ further at s (behind file lexed (i + 1 - 1)) (behind file lexed (i + 1))
 symbol_behind further file lexed i s at next = symbol_found further file lexed i s at next ∙ ap (λ x. further at s x (behind file lexed (i + 1))) (sym (one_behind file lexed i))
 
 -- the same behind a name
-pub symbol_second : (further : At → Symbol → List Placed → List Placed → Step) (file : ℕ) (lexed : Lexed) (i : ℕ) (s : Symbol) (at : At) → IsNext file lexed (i + 1) s at
+pub symbol_second : (further : At → Symbol → List Placed → List Placed → Move) (file : ℕ) (lexed : Lexed) (i : ℕ) (s : Symbol) (at : At) → IsNext file lexed (i + 1) s at
     → symbol_then further (behind file lexed (i + 1)) ≡ further at s (behind file lexed (i + 2 - 1)) (behind file lexed (i + 2))
 symbol_second further file lexed i s at next =
     let two : i + 1 + 1 ≡ i + 2 = omega arith in
     let back : i + 2 - 1 ≡ i + 1 = omega arith in
     symbol_found further file lexed (i + 1) s at next ∙ ap (λ n. further at s (behind file lexed (i + 1)) (behind file lexed n)) two ∙ ap (λ n. further at s (behind file lexed n) (behind file lexed (i + 2))) (sym back)
 
-no_kind_first : (further : Order → List Placed → Step) (ts : List Placed) → IsNoKind ts → kind_then no_variables further ts ≡ misplaced ts
+no_kind_first : (further : Order → List Placed → Move) (ts : List Placed) → IsNoKind ts → kind_then no_variables further ts ≡ misplaced ts
 no_kind_first further [] none = refl
 no_kind_first further (placed (kind o) a ∷ ts) none = absurd none
 no_kind_first further (placed _ a ∷ ts) none = refl
 
-no_kind_further : (vs : Variables) (at : At) (o : Order) (n : List ℕ) (x : Domain) (further : Order → List Placed → Step) (ts : List Placed) → IsNoKind ts → kind_then (and_variable vs at o n x) further ts ≡ further o ts
+no_kind_further : (vs : Variables) (at : At) (o : Order) (n : List ℕ) (x : Domain) (further : Order → List Placed → Move) (ts : List Placed) → IsNoKind ts → kind_then (and_variable vs at o n x) further ts ≡ further o ts
 no_kind_further vs at o n x further [] none = refl
 no_kind_further vs at o n x further (placed (kind p) a ∷ ts) none = absurd none
 no_kind_further vs at o n x further (placed _ a ∷ ts) none = refl
 
-kind_kept : (vs : Variables) (o : Order) (further : Order → List Placed → Step) (ts : List Placed) → IsNoKind ts → last_order vs ≡ Some o → kind_then vs further ts ≡ further o ts
+kind_kept : (vs : Variables) (o : Order) (further : Order → List Placed → Move) (ts : List Placed) → IsNoKind ts → last_order vs ≡ Some o → kind_then vs further ts ≡ further o ts
 kind_kept no_variables o further ts none last = let never : ⊥ = cc in absurd never
 kind_kept (and_variable vs at p n x) o further ts none last = let same : p ≡ o = cc in no_kind_further vs at p n x further ts none ∙ ap (λ q. further q ts) same
 
 -- a kind that stands there or is that of the parameter before
-pub kind_found : (vs : Variables) (o : Order) (further : Order → List Placed → Step) (ts ts' : List Placed) → IsKind vs o ts ts' → kind_then vs further ts ≡ further o ts'
+pub kind_found : (vs : Variables) (o : Order) (further : Order → List Placed → Move) (ts ts' : List Placed) → IsKind vs o ts ts' → kind_then vs further ts ≡ further o ts'
 kind_found vs o further ts ts' (inl follows) = ap (kind_then vs further) follows.1
 kind_found vs o further ts ts' (inr (none, last, same)) = kind_kept vs o further ts none last ∙ ap (further o) same
 
 -- the same step, where it depends on what is known
 
-pub steps_by : {X : Type 0} (file : ℕ) (lexed : Lexed) (step : X → Step) (x is : X) (parser : Parser) (r : Result (State × ℕ) Stop) → x ≡ is → StepsAs file lexed (step is) parser r → StepsAs file lexed (step x) parser r
+pub steps_by : {X : Type 0} (file : ℕ) (lexed : Lexed) (step : X → Move) (x is : X) (parser : Parser) (r : Result (Configuration × ℕ) Stop) → x ≡ is → StepsAs file lexed (step is) parser r → StepsAs file lexed (step x) parser r
 steps_by file lexed step x is parser r same stepped = subst (λ y. StepsAs file lexed (step y) parser r) (sym same) stepped
 
 -- a step for which the stack was lent
-pub lent_acts : (c : machine.Context) (file : ℕ) (lexed : Lexed) (step : List Frame → Step) (lent old : List Frame) (r : Result (Outcome × ℕ) Stop) → lent ≡ old → ActsAs c file lexed (step lent) lent r → ActsAs c file lexed (step old) old r
+pub lent_acts : (c : machine.Context) (file : ℕ) (lexed : Lexed) (step : List Frame → Move) (lent old : List Frame) (r : Result (Outcome × ℕ) Stop) → lent ≡ old → ActsAs c file lexed (step lent) lent r → ActsAs c file lexed (step old) old r
 lent_acts c file lexed step lent old r whole is_so = subst (λ x. ActsAs c file lexed (step x) x r) whole is_so
 
 -- a step that depends on the terminal behind a whole expression
-pub ends_by : (file : ℕ) (lexed : Lexed) (c : machine.Context) (bytes : List ℕ) (inside : Bool) (followed : Followed) (is : Terminal) (parser : Parser) (r : Result (State × ℕ) Stop) → followed.terminal ≡ is
+pub ends_by : (file : ℕ) (lexed : Lexed) (c : machine.Context) (bytes : List ℕ) (inside : Bool) (followed : Followed) (is : Terminal) (parser : Parser) (r : Result (Configuration × ℕ) Stop) → followed.terminal ≡ is
     → StepsAs file lexed (settle greatest_depth c (symbol_with is bytes) inside (expression_of followed.operand.expr, []) (behind file lexed (followed.next - 1)) (behind file lexed followed.next)) parser r → StepsAs file lexed (settled file lexed c bytes inside followed []) parser r
 ends_by file lexed c bytes inside followed is parser r same stepped =
     steps_by file lexed (λ s. settle greatest_depth c (symbol_with s bytes) inside (expression_of followed.operand.expr, []) (behind file lexed (followed.next - 1)) (behind file lexed followed.next)) followed.terminal is parser r same stepped

@@ -1,3 +1,4 @@
+pub mod Configurations
 pub mod Ends
 pub mod Followed
 pub mod Frames
@@ -8,6 +9,5 @@ pub mod Machine
 pub mod Outcomes
 pub mod Punctuations
 pub mod Stack
-pub mod States
 pub mod Stops
 pub mod Terminals

@@ -3,13 +3,13 @@ ghost use Rattle.ms_parse_grammar.specs.View.{document_of};
 ghost use Rattle.ms_parse_steps.specs.inner.Ends.{IsEnd};
 ghost use Rattle.ms_parse_steps.specs.inner.Followed.{settled};
 ghost use Rattle.ms_parse_steps.specs.inner.Terminals.{symbol_with};
-ghost use Rattle.ms_parse_steps.specs.inner.States.{StepsAs, context_of};
+ghost use Rattle.ms_parse_steps.specs.inner.Configurations.{StepsAs, context_of};
 
+use crate::configuration::Configuration;
 use crate::followed::Followed;
 use crate::input::Input;
 use crate::operand::Identifier;
 use crate::parser::Parser;
-use crate::state::State;
 use crate::stop::Stop;
 use ms_list::{At, List, Name};
 use ms_logic::{Bound, Order, PlacedInt};
@@ -84,7 +84,7 @@ impl Context {
         input: Input<'_>,
         parser: &mut Parser,
         followed: Followed,
-    ) -> Result<(State, u32), Stop>
+    ) -> Result<(Configuration, u32), Stop>
         ensures { (bytes : List ℕ) (inside : Bool) → IsEnd inside (symbol_with followed.terminal bytes) →
             StepsAs input.entry.file input.entry.tokens.now (settled input.entry.file input.entry.tokens.now (context_of (document_of parser.old.source) self) bytes inside followed []) parser.new result }
     {

@@ -4,17 +4,17 @@ ghost use Rattle.ms_parse_grammar.specs.Tree.{no_variables};
 ghost use Rattle.ms_parse_grammar.specs.View.{document_of};
 ghost use Rattle.ms_parse_steps.specs.inner.Machine.{begin_constant, begin_default, begin_include, behind_predicate, begin_predicate, global_wanted, in_formula, next_summand, outside, step, wanted, took};
 ghost use Rattle.ms_parse_steps.specs.inner.Terminals.{behind};
-ghost use Rattle.ms_parse_steps.specs.inner.States.{head_of, StepsAs};
+ghost use Rattle.ms_parse_steps.specs.inner.Configurations.{head_of, StepsAs};
 ghost use Rattle.ms_parse_steps.specs.declared.parser.Parser.{Parser};
 ghost use Rattle.ms_parse_grammar.specs.Grammar.{greatest_depth};
 
+use crate::configuration::Configuration;
 use crate::context::{Constant, Context, Globals, Signature};
 use crate::declare::inside;
 use crate::input::Input;
 use crate::memory::push;
 use crate::parser::Parser;
 use crate::punctuation::Punctuation;
-use crate::state::State;
 use crate::stop::Stop;
 use crate::terminal::Terminal;
 use ms_list::{At, List};
@@ -23,7 +23,7 @@ use std::alloc::Global;
 
 impl Input<'_> {
     /// `const` begins a declaration.
-    fn begin_constant(self, at: At, i: u32) -> Result<(State, u32), Stop>
+    fn begin_constant(self, at: At, i: u32) -> Result<(Configuration, u32), Stop>
         ensures { (parser : Parser) →
             StepsAs self.entry.file self.entry.tokens.now (begin_constant (document_of parser.source) at (behind self.entry.file self.entry.tokens.now i)) parser result }
     {
@@ -44,7 +44,7 @@ impl Input<'_> {
             name,
             sum,
         };
-        Ok((State::Summand(constant), next))
+        Ok((Configuration::Summand(constant), next))
     }
 
     /// A terminal and a number of a constant, or its end, where these are wanted.
@@ -53,7 +53,7 @@ impl Input<'_> {
         parser: &mut Parser,
         constant: Constant,
         i: u32,
-    ) -> Result<(State, u32), Stop>
+    ) -> Result<(Configuration, u32), Stop>
         ensures { StepsAs self.entry.file self.entry.tokens.now (next_summand (document_of parser.old.source) constant.at constant.at_name constant.name constant.sum (behind self.entry.file self.entry.tokens.now i)) parser.new result }
     {
         let Some((terminal, _)) = self.terminal_at(i) else {
@@ -78,7 +78,7 @@ impl Input<'_> {
                     name,
                     sum,
                 };
-                Ok((State::Summand(constant), next))
+                Ok((Configuration::Summand(constant), next))
             }
             _ => Err(Stop::Refused(i)),
         }
@@ -90,7 +90,7 @@ impl Input<'_> {
         parser: &mut Parser,
         signature: Signature,
         i: u32,
-    ) -> Result<(State, u32), Stop>
+    ) -> Result<(Configuration, u32), Stop>
         requires { signature.parameters ≡ [] }
         ensures { StepsAs self.entry.file self.entry.tokens.now (behind_predicate (document_of parser.old.source) (head_of signature) (behind self.entry.file self.entry.tokens.now i)) parser.new result }
     {
@@ -103,7 +103,7 @@ impl Input<'_> {
         if let Some(next) = self.behind_mark(inside, Punctuation::CloseRound) {
             return self.body_of(parser, signature, next);
         }
-        Ok((State::Parameter(signature), inside))
+        Ok((Configuration::Parameter(signature), inside))
     }
 
     /// `pred` or `macro` begins a declaration.
@@ -113,7 +113,7 @@ impl Input<'_> {
         at: At,
         is_pred: bool,
         i: u32,
-    ) -> Result<(State, u32), Stop>
+    ) -> Result<(Configuration, u32), Stop>
         ensures { StepsAs self.entry.file self.entry.tokens.now (begin_predicate (document_of parser.old.source) at is_pred (behind self.entry.file self.entry.tokens.now i)) parser.new result }
     {
         let Some((name, at_name)) = self.name_at(i)? else {
@@ -130,7 +130,12 @@ impl Input<'_> {
     }
 
     /// `include` begins a declaration.
-    fn begin_include(self, parser: &mut Parser, at: At, i: u32) -> Result<(State, u32), Stop>
+    fn begin_include(
+        self,
+        parser: &mut Parser,
+        at: At,
+        i: u32,
+    ) -> Result<(Configuration, u32), Stop>
         ensures { StepsAs self.entry.file self.entry.tokens.now (begin_include (document_of parser.old.source) at (behind self.entry.file self.entry.tokens.now i)) parser.new result }
     {
         let Some((text, at_text)) = self.text_at(i)? else {
@@ -149,7 +154,7 @@ impl Input<'_> {
         at: At,
         order: Order,
         i: u32,
-    ) -> Result<(State, u32), Stop>
+    ) -> Result<(Configuration, u32), Stop>
         ensures { StepsAs self.entry.file self.entry.tokens.now (begin_default (document_of parser.old.source) at order (behind self.entry.file self.entry.tokens.now i)) parser.new result }
     {
         let Some(inside) = self.behind_mark(i, Punctuation::OpenRound) else {
@@ -168,7 +173,12 @@ impl Input<'_> {
     }
 
     /// A formula begins a declaration.
-    fn begin_formula(self, parser: &mut Parser, at: At, i: u32) -> Result<(State, u32), Stop>
+    fn begin_formula(
+        self,
+        parser: &mut Parser,
+        at: At,
+        i: u32,
+    ) -> Result<(Configuration, u32), Stop>
         ensures { StepsAs self.entry.file self.entry.tokens.now (step greatest_depth (wanted (in_formula (document_of parser.old.source) at) []) (behind self.entry.file self.entry.tokens.now i)) parser.new result }
     {
         parser.stack.clear();
@@ -178,17 +188,21 @@ impl Input<'_> {
 }
 
 /// `var0`, `var1` or `var2` begins a declaration.
-fn begin_globals(alloc: Global, at: At, order: Order, i: u32) -> Result<(State, u32), Stop>
+fn begin_globals(alloc: Global, at: At, order: Order, i: u32) -> Result<(Configuration, u32), Stop>
     ensures { (file : ℕ) (lexed : Lexed) (parser : Parser) →
         StepsAs file lexed (took (global_wanted (document_of parser.source) at order no_variables) (behind file lexed i)) parser result }
 {
     let list = List::new(alloc);
-    Ok((State::Global(Globals { at, order, list }), i))
+    Ok((Configuration::Global(Globals { at, order, list }), i))
 }
 
 impl Input<'_> {
     /// A declaration begins, where there is another symbol.
-    pub fn begin_declaration(self, parser: &mut Parser, i: u32) -> Result<(State, u32), Stop>
+    pub fn begin_declaration(
+        self,
+        parser: &mut Parser,
+        i: u32,
+    ) -> Result<(Configuration, u32), Stop>
         ensures { StepsAs self.entry.file self.entry.tokens.now (step greatest_depth (outside (document_of parser.old.source)) (behind self.entry.file self.entry.tokens.now i)) parser.new result }
     {
         let Some((terminal, at)) = self.terminal_at(i) else {

@@ -1,6 +1,6 @@
 ghost use Rattle.std.specs.Prelude.{◌≡◌, ◌-◌, ◌≤◌, ◌<◌, ◌+◌, ℕ, suc, false, List, length, IsTrue};
 ghost use Rattle.ms_text.specs.TokenList.{Lexed};
-ghost use Rattle.ms_parse_steps.specs.inner.Machine.{Context, Step, enter, starter, too_deep, unopened};
+ghost use Rattle.ms_parse_steps.specs.inner.Machine.{Context, Move, enter, starter, too_deep, unopened};
 ghost use Rattle.ms_parse_grammar.specs.Grammar.{level, greatest_depth};
 ghost use Rattle.ms_parse_steps.specs.inner.Frames.{frame_of};
 ghost use Rattle.ms_parse_steps.specs.inner.Outcomes.{StopsAs, ActsAs};
@@ -70,7 +70,7 @@ pub fn enter(
     i: u32,
     otherwise: Stop,
 ) -> Result<(Outcome, u32), Stop>
-    ensures { (c : Context) (file : ℕ) (lexed : Lexed) (stuck : Step) → StopsAs file lexed stuck otherwise →
+    ensures { (c : Context) (file : ℕ) (lexed : Lexed) (stuck : Move) → StopsAs file lexed stuck otherwise →
         ActsAs c file lexed (enter greatest_depth c (frame_of frame) (stack_of stack.old.items) stuck (behind file lexed i)) stack.new.items result }
 {
     if !has_room(stack) {

@@ -6,9 +6,10 @@ ghost use Rattle.ms_parse_steps.specs.inner.Ends.{IsEnd};
 ghost use Rattle.ms_parse_steps.specs.inner.Followed.{settled};
 ghost use Rattle.ms_parse_steps.specs.inner.Machine.{behind_global, declare, global_wanted, in_global, next_global, outside, took};
 ghost use Rattle.ms_parse_steps.specs.inner.Terminals.{behind, symbol_with};
-ghost use Rattle.ms_parse_steps.specs.inner.States.{StepsAs};
+ghost use Rattle.ms_parse_steps.specs.inner.Configurations.{StepsAs};
 ghost use Rattle.ms_parse_steps.specs.declared.parser.Parser.{Parser};
 
+use crate::configuration::Configuration;
 use crate::context::{Context, Globals};
 use crate::followed::Followed;
 use crate::input::Input;
@@ -16,7 +17,6 @@ use crate::lists::push_variable;
 use crate::memory::boxed;
 use crate::operand::{Identifier, Operand};
 use crate::parser::Parser;
-use crate::state::State;
 use crate::stop::Stop;
 use crate::terminal::Terminal;
 use ms_list::Boxed;
@@ -29,7 +29,7 @@ fn another_global(
     variable: Identifier,
     domain: Option<Boxed<Expr>>,
     i: u32,
-) -> Result<(State, u32), Stop>
+) -> Result<(Configuration, u32), Stop>
     ensures { (file : ℕ) (lexed : Lexed) (parser : Parser) →
         StepsAs file lexed (took (global_wanted (document_of parser.source) globals.at globals.order (and_variable (variables_of globals.list) variable.at globals.order variable.name (domain_of domain))) (behind file lexed i)) parser result }
 {
@@ -40,7 +40,7 @@ fn another_global(
     } = globals;
     let Identifier { at: at_name, name } = variable;
     push_variable(&mut list, at_name, order, name, domain)?;
-    Ok((State::Global(Globals { at, order, list }), i))
+    Ok((Configuration::Global(Globals { at, order, list }), i))
 }
 
 impl Parser {
@@ -51,7 +51,7 @@ impl Parser {
         variable: Identifier,
         domain: Option<Boxed<Expr>>,
         i: u32,
-    ) -> Result<(State, u32), Stop>
+    ) -> Result<(Configuration, u32), Stop>
         ensures { (file : ℕ) (lexed : Lexed) →
             StepsAs file lexed (took (outside (declare (document_of self.old.source) globals.at (variables (and_variable (variables_of globals.list) variable.at globals.order variable.name (domain_of domain))))) (behind file lexed i)) self.new result }
     {
@@ -72,7 +72,7 @@ impl Parser {
         variable: Identifier,
         terminal: Terminal,
         i: u32,
-    ) -> Result<(State, u32), Stop>
+    ) -> Result<(Configuration, u32), Stop>
         ensures { (file : ℕ) (lexed : Lexed) (bytes : List ℕ) →
             StepsAs file lexed (behind_global (document_of self.old.source) globals.at globals.order (variables_of globals.list) variable.at variable.name (symbol_with terminal bytes) (behind file lexed (i - 1)) (behind file lexed i)) self.new result }
     {
@@ -91,7 +91,7 @@ impl Parser {
         globals: Globals,
         variable: Identifier,
         followed: Followed,
-    ) -> Result<(State, u32), Stop>
+    ) -> Result<(Configuration, u32), Stop>
         ensures { (file : ℕ) (lexed : Lexed) (bytes : List ℕ) (inside : Bool) → IsEnd inside (symbol_with followed.terminal bytes) →
             StepsAs file lexed (settled file lexed (in_global (document_of self.old.source) globals.at globals.order (variables_of globals.list) variable.at variable.name) bytes inside followed []) self.new result }
     {
@@ -117,7 +117,7 @@ impl Input<'_> {
         parser: &mut Parser,
         globals: Globals,
         i: u32,
-    ) -> Result<(State, u32), Stop>
+    ) -> Result<(Configuration, u32), Stop>
         ensures { StepsAs self.entry.file self.entry.tokens.now (next_global (document_of parser.old.source) globals.at globals.order (variables_of globals.list) (behind self.entry.file self.entry.tokens.now i)) parser.new result }
     {
         let Some((name, at_name)) = self.name_at(i)? else {

@@ -9,10 +9,11 @@ ghost use Rattle.ms_parse_steps.specs.inner.Frames.{frame_of};
 ghost use Rattle.ms_parse_steps.specs.inner.Outcomes.{ActsAs};
 ghost use Rattle.ms_parse_steps.specs.inner.Terminals.{behind, symbol_with};
 ghost use Rattle.ms_parse_steps.specs.inner.Stack.{stack_of};
-ghost use Rattle.ms_parse_steps.specs.inner.States.{head_of, StepsAs, context_of};
+ghost use Rattle.ms_parse_steps.specs.inner.Configurations.{head_of, StepsAs, context_of};
 ghost use Rattle.ms_parse_grammar.specs.Grammar.{greatest_depth};
 
 use crate::bound::{bound, ends_part};
+use crate::configuration::Configuration;
 use crate::context::{Context, Signature};
 use crate::declare::inside;
 use crate::followed::Followed;
@@ -24,7 +25,6 @@ use crate::outcome::Outcome;
 use crate::parser::Parser;
 use crate::settle::shift;
 use crate::stack::{collapse, pop_frame};
-use crate::state::State;
 use crate::stop::Stop;
 use crate::terminal::Terminal;
 use ms_list::{At, Name};
@@ -94,7 +94,7 @@ fn settle_frame(
 
 impl Parser {
     /// What ends a formula that is declared.
-    pub fn end_formula(&mut self, at: At, followed: Followed) -> Result<(State, u32), Stop>
+    pub fn end_formula(&mut self, at: At, followed: Followed) -> Result<(Configuration, u32), Stop>
         ensures { (file : ℕ) (lexed : Lexed) (bytes : List ℕ) (inside : Bool) → IsEnd inside (symbol_with followed.terminal bytes) →
             StepsAs file lexed (settled file lexed (in_formula (document_of self.old.source) at) bytes inside followed []) self.new result }
     {
@@ -115,7 +115,7 @@ impl Parser {
         &mut self,
         signature: Signature,
         followed: Followed,
-    ) -> Result<(State, u32), Stop>
+    ) -> Result<(Configuration, u32), Stop>
         ensures { (file : ℕ) (lexed : Lexed) (bytes : List ℕ) (inside : Bool) → IsEnd inside (symbol_with followed.terminal bytes) →
             StepsAs file lexed (settled file lexed (in_predicate (document_of self.old.source) (head_of signature) (variables_of signature.parameters)) bytes inside followed []) self.new result }
     {
@@ -148,7 +148,7 @@ impl Parser {
         order: Order,
         name: Name,
         followed: Followed,
-    ) -> Result<(State, u32), Stop>
+    ) -> Result<(Configuration, u32), Stop>
         ensures { (file : ℕ) (lexed : Lexed) (bytes : List ℕ) (inside : Bool) → IsEnd inside (symbol_with followed.terminal bytes) →
             StepsAs file lexed (settled file lexed (in_default (document_of self.old.source) at order name) bytes inside followed []) self.new result }
     {
@@ -173,7 +173,7 @@ impl Input<'_> {
         context: Context,
         followed: Followed,
         is_end: bool,
-    ) -> Result<(State, u32), Stop>
+    ) -> Result<(Configuration, u32), Stop>
         ensures { (bytes : List ℕ) (inside : Bool) → is_end ≡ ends_part inside (symbol_with followed.terminal bytes) →
             StepsAs self.entry.file self.entry.tokens.now (settled self.entry.file self.entry.tokens.now (context_of (document_of parser.old.source) context) bytes inside followed (stack_of parser.old.stack.items)) parser.new result }
     {
@@ -197,7 +197,7 @@ impl Input<'_> {
         context: Context,
         operand: Operand,
         i: u32,
-    ) -> Result<(State, u32), Stop>
+    ) -> Result<(Configuration, u32), Stop>
         ensures { StepsAs self.entry.file self.entry.tokens.now (step greatest_depth (holding (context_of (document_of parser.old.source) context) (expression_of operand.expr) (stack_of parser.old.stack.items)) (behind self.entry.file self.entry.tokens.now i)) parser.new result }
     {
         let Some((terminal, _)) = self.terminal_at(i) else {

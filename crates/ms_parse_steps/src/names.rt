@@ -1,6 +1,6 @@
 ghost use Rattle.ms_parse_steps.specs.declared.frame.Frame.{Frame};
 ghost use Rattle.std.specs.Prelude.{ℕ, List, ◌-◌};
-ghost use Rattle.ms_parse_steps.specs.inner.Machine.{Context, Step, pair_then, behind_variable, next_variable, next_part, next_pair};
+ghost use Rattle.ms_parse_steps.specs.inner.Machine.{Context, Move, pair_then, behind_variable, next_variable, next_part, next_pair};
 ghost use Rattle.ms_parse_steps.specs.inner.Outcomes.{Continues, ActsAs};
 ghost use Rattle.ms_logic.specs.declared.source.Rename.{Rename};
 ghost use Rattle.ms_parse_grammar.specs.Symbol.{Placed};
@@ -52,7 +52,7 @@ impl Input<'_> {
 
     /// A pair of an import behind its comma, and the number behind it.
     fn pair_at(self, i: u32) -> Result<(Rename, u32), Stop>
-        ensures { (further : Rename → List Placed → Step) → Continues self.entry.file self.entry.tokens.now (pair_then further (behind self.entry.file self.entry.tokens.now i)) further result }
+        ensures { (further : Rename → List Placed → Move) → Continues self.entry.file self.entry.tokens.now (pair_then further (behind self.entry.file self.entry.tokens.now i)) further result }
     {
         let Some((left, at)) = self.name_at(i)? else {
             return Err(Stop::Refused(i));

@@ -7,9 +7,10 @@ ghost use Rattle.ms_parse_steps.specs.inner.Followed.{settled};
 ghost use Rattle.ms_parse_steps.specs.inner.Kinds.{last_order, IsKind, NoKind};
 ghost use Rattle.ms_parse_steps.specs.inner.Machine.{behind_parameter, body_of, in_parameter, next_parameter, parameter_wanted, took};
 ghost use Rattle.ms_parse_steps.specs.inner.Terminals.{behind, symbol_with};
-ghost use Rattle.ms_parse_steps.specs.inner.States.{head_of, StepsAs};
+ghost use Rattle.ms_parse_steps.specs.inner.Configurations.{head_of, StepsAs};
 ghost use Rattle.ms_parse_steps.specs.declared.parser.Parser.{Parser};
 
+use crate::configuration::Configuration;
 use crate::context::{Context, Parameter, Signature};
 use crate::followed::Followed;
 use crate::input::Input;
@@ -18,7 +19,6 @@ use crate::memory::boxed;
 use crate::operand::{Identifier, Operand};
 use crate::parser::Parser;
 use crate::punctuation::Punctuation;
-use crate::state::State;
 use crate::stop::Stop;
 use crate::terminal::Terminal;
 use ms_list::{Boxed, List};
@@ -31,7 +31,7 @@ impl Input<'_> {
         parser: &mut Parser,
         signature: Signature,
         i: u32,
-    ) -> Result<(State, u32), Stop>
+    ) -> Result<(Configuration, u32), Stop>
         ensures { StepsAs self.entry.file self.entry.tokens.now (body_of (document_of parser.old.source) (head_of signature) (variables_of signature.parameters) (behind self.entry.file self.entry.tokens.now i)) parser.new result }
     {
         let Some(next) = self.behind_mark(i, Punctuation::Equal) else {
@@ -46,7 +46,7 @@ fn another_parameter(
     parameter: Parameter,
     domain: Option<Boxed<Expr>>,
     i: u32,
-) -> Result<(State, u32), Stop>
+) -> Result<(Configuration, u32), Stop>
     ensures { (file : ℕ) (lexed : Lexed) (parser : Parser) →
         StepsAs file lexed (took (parameter_wanted (document_of parser.source) (head_of parameter.signature) (and_variable (variables_of parameter.signature.parameters) parameter.variable.at parameter.order parameter.variable.name (domain_of domain))) (behind file lexed i)) parser result }
 {
@@ -57,7 +57,7 @@ fn another_parameter(
     } = parameter;
     let Identifier { at, name } = variable;
     push_variable(&mut signature.parameters, at, order, name, domain)?;
-    Ok((State::Parameter(signature), i))
+    Ok((Configuration::Parameter(signature), i))
 }
 
 impl Input<'_> {
@@ -68,7 +68,7 @@ impl Input<'_> {
         parameter: Parameter,
         domain: Option<Boxed<Expr>>,
         i: u32,
-    ) -> Result<(State, u32), Stop>
+    ) -> Result<(Configuration, u32), Stop>
         ensures { StepsAs self.entry.file self.entry.tokens.now (body_of (document_of parser.old.source) (head_of parameter.signature) (and_variable (variables_of parameter.signature.parameters) parameter.variable.at parameter.order parameter.variable.name (domain_of domain)) (behind self.entry.file self.entry.tokens.now i)) parser.new result }
     {
         let Parameter {
@@ -88,7 +88,7 @@ impl Input<'_> {
         parameter: Parameter,
         terminal: Terminal,
         i: u32,
-    ) -> Result<(State, u32), Stop>
+    ) -> Result<(Configuration, u32), Stop>
         ensures { (bytes : List ℕ) →
             StepsAs self.entry.file self.entry.tokens.now (behind_parameter (document_of parser.old.source) (head_of parameter.signature) (variables_of parameter.signature.parameters) parameter.order parameter.variable.at parameter.variable.name (symbol_with terminal bytes) (behind self.entry.file self.entry.tokens.now (i - 1)) (behind self.entry.file self.entry.tokens.now i)) parser.new result }
     {
@@ -132,7 +132,7 @@ impl Input<'_> {
         parser: &mut Parser,
         signature: Signature,
         i: u32,
-    ) -> Result<(State, u32), Stop>
+    ) -> Result<(Configuration, u32), Stop>
         ensures { StepsAs self.entry.file self.entry.tokens.now (next_parameter (document_of parser.old.source) (head_of signature) (variables_of signature.parameters) (behind self.entry.file self.entry.tokens.now i)) parser.new result }
     {
         let Some((order, from)) = self.kind_at(&signature.parameters, i) else {
@@ -158,7 +158,7 @@ impl Input<'_> {
         parser: &mut Parser,
         parameter: Parameter,
         followed: Followed,
-    ) -> Result<(State, u32), Stop>
+    ) -> Result<(Configuration, u32), Stop>
         ensures { (bytes : List ℕ) (inside : Bool) → IsEnd inside (symbol_with followed.terminal bytes) →
             StepsAs self.entry.file self.entry.tokens.now (settled self.entry.file self.entry.tokens.now (in_parameter (document_of parser.old.source) (head_of parameter.signature) (variables_of parameter.signature.parameters) parameter.order parameter.variable.at parameter.variable.name) bytes inside followed []) parser.new result }
     {

@@ -8,16 +8,16 @@ ghost use Rattle.ms_parse_steps.specs.inner.Outcomes.{outcome_of};
 ghost use Rattle.ms_parse_steps.specs.inner.Stops.{StopsAt};
 ghost use Rattle.ms_parse_steps.specs.inner.Terminals.{behind};
 ghost use Rattle.ms_parse_steps.specs.inner.Stack.{stack_of};
-ghost use Rattle.ms_parse_steps.specs.inner.States.{StepsAs, context_of, state_of};
+ghost use Rattle.ms_parse_steps.specs.inner.Configurations.{StepsAs, context_of, configuration_of};
 ghost use Rattle.ms_parse_grammar.specs.Grammar.{greatest_depth};
 
+use crate::configuration::Configuration;
 use crate::context::Context;
 use crate::declare::inside;
 use crate::header::start;
 use crate::input::Input;
 use crate::outcome::Outcome;
 use crate::parser::Parser;
-use crate::state::State;
 use crate::stop::Stop;
 use ms_list::let_go;
 use ms_logic::Source;
@@ -32,7 +32,7 @@ impl Input<'_> {
         context: Context,
         outcome: Outcome,
         i: u32,
-    ) -> Result<(State, u32), Stop>
+    ) -> Result<(Configuration, u32), Stop>
         ensures { StepsAs self.entry.file self.entry.tokens.now (machine.step greatest_depth (outcome_of (context_of (document_of parser.old.source) context) (stack_of parser.old.stack.items) outcome) (behind self.entry.file self.entry.tokens.now i)) parser.new result }
     {
         match outcome {
@@ -49,31 +49,36 @@ impl Input<'_> {
     }
 
     /// A step.
-    fn step(self, parser: &mut Parser, state: State, i: u32) -> Result<(State, u32), Stop>
-        ensures { StepsAs self.entry.file self.entry.tokens.now (machine.step greatest_depth (state_of (document_of parser.old.source) (stack_of parser.old.stack.items) state) (behind self.entry.file self.entry.tokens.now i)) parser.new result }
+    fn step(
+        self,
+        parser: &mut Parser,
+        state: Configuration,
+        i: u32,
+    ) -> Result<(Configuration, u32), Stop>
+        ensures { StepsAs self.entry.file self.entry.tokens.now (machine.step greatest_depth (configuration_of (document_of parser.old.source) (stack_of parser.old.stack.items) state) (behind self.entry.file self.entry.tokens.now i)) parser.new result }
     {
         match state {
-            State::Outside => self.begin_declaration(parser, i),
-            State::Expression(context, outcome) => {
+            Configuration::Outside => self.begin_declaration(parser, i),
+            Configuration::Expression(context, outcome) => {
                 self.step_expression(parser, context, outcome, i)
             }
-            State::Global(globals) => self.next_global(parser, globals, i),
-            State::Parameter(signature) => self.next_parameter(parser, signature, i),
-            State::Summand(constant) => self.next_summand(parser, constant, i),
+            Configuration::Global(globals) => self.next_global(parser, globals, i),
+            Configuration::Parameter(signature) => self.next_parameter(parser, signature, i),
+            Configuration::Summand(constant) => self.next_summand(parser, constant, i),
         }
     }
 
     /// Whether nothing is left behind the last declaration.
-    fn is_finished(self, state: &State, i: u32) -> bool
-        ensures yes { (d : Document) (st : List machine.Frame) → IsTrue result → finished (state_of d st state.now) (behind self.entry.file self.entry.tokens.now i) ≡ Some d }
-        ensures no { (d : Document) (st : List machine.Frame) → result ≡ false → finished (state_of d st state.now) (behind self.entry.file self.entry.tokens.now i) ≡ None }
+    fn is_finished(self, state: &Configuration, i: u32) -> bool
+        ensures yes { (d : Document) (st : List machine.Frame) → IsTrue result → finished (configuration_of d st state.now) (behind self.entry.file self.entry.tokens.now i) ≡ Some d }
+        ensures no { (d : Document) (st : List machine.Frame) → result ≡ false → finished (configuration_of d st state.now) (behind self.entry.file self.entry.tokens.now i) ≡ None }
     {
         match state {
-            State::Outside => self.terminal_at(i).is_none(),
-            State::Expression(..) => false,
-            State::Global(_) => false,
-            State::Parameter(_) => false,
-            State::Summand(_) => false,
+            Configuration::Outside => self.terminal_at(i).is_none(),
+            Configuration::Expression(..) => false,
+            Configuration::Global(_) => false,
+            Configuration::Parameter(_) => false,
+            Configuration::Summand(_) => false,
         }
     }
 }
@@ -91,7 +96,7 @@ pub fn read(alloc: Global, tokens: &Tokens, file: u32) -> Result<Source, Stop>
     let (source, mut i) = start(alloc, tokens, file);
     let stack = Vec::new(alloc);
     let mut parser = Parser { source, stack };
-    let mut state = State::Outside;
+    let mut state = Configuration::Outside;
     'steps: while !input.is_finished(&state, i) {
         match input.step(&mut parser, state, i) {
             Ok((next, behind)) => {

@@ -11,7 +11,7 @@ use Rattle.ms_logic.specs.Assignment.{Variable}
 use Rattle.ms_logic_words.specs.declared.sign.Sign.{Sign}
 use Rattle.ms_logic_words.specs.Content.{Content}
 use Rattle.ms_dfa_explore.specs.Explored.{Explores}
-use Rattle.ms_dfa_explore.specs.Tracks.{joined, places_among}
+use Rattle.ms_dfa_explore.specs.Tracks.{merged, places_among}
 use Rattle.ms_product.specs.declared.op.Op.{Op}
 use Rattle.ms_product.specs.Pairing.{Operands, Pairing, IsLaterPairing, operands_over, product_findings, AreStates}
 
@@ -36,10 +36,10 @@ module _ (op : Op) (operands : Operands) (initial inside seen : Pairing) (op_is 
   pub IsNumbering-seen : IsNumbering inside.pairs → IsNumbering seen.pairs
   IsNumbering-seen numbering = subst (λ (p : Pairing). IsNumbering p.pairs) view_is numbering
 
--- the variables of the tracks that were joined
-pub variables_joined : (sliced tracks left right : List Track) (a b : Content Sign) → sliced ≡ tracks → variables_of tracks ≡ joined (variables_of left) (variables_of right)
-    → variables_of left ≡ a.variables → variables_of right ≡ b.variables → variables_of sliced ≡ joined a.variables b.variables
-variables_joined sliced tracks left right a b same join left_is right_is = ap variables_of same ∙ join ∙ (λ i. joined (left_is i) (right_is i))
+-- the variables of the tracks that were merged
+pub variables_joined : (sliced tracks left right : List Track) (a b : Content Sign) → sliced ≡ tracks → variables_of tracks ≡ merged (variables_of left) (variables_of right)
+    → variables_of left ≡ a.variables → variables_of right ≡ b.variables → variables_of sliced ≡ merged a.variables b.variables
+variables_joined sliced tracks left right a b same merge left_is right_is = ap variables_of same ∙ merge ∙ (λ i. merged (left_is i) (right_is i))
 
 -- the operands of the product
 pub operands_as : (a b left right : Content Sign) (left_map right_map : List ℕ) (wide one other : List Variable) → left ≡ a → left_map ≡ places_among a.variables one → one ≡ wide

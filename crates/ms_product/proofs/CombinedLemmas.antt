@@ -14,7 +14,7 @@ use Rattle.ms_logic_words.specs.declared.sign.Sign.{Sign}
 use Rattle.ms_logic_words.specs.declared.sign.Sign.TheVariants.{Yes, No, Undefined, Outside}
 use Rattle.ms_logic.specs.Assignment.{Env, Variable, IsAssignment}
 use Rattle.ms_logic_words.specs.Content.{Content, IsWordOver, last_state, sign_of}
-use Rattle.ms_logic.specs.Lists.{AreRising}
+use Rattle.ms_logic.specs.Lists.{AreRising, IsAmong}
 use Rattle.ms_logic_words.specs.Word.{IsEncoding}
 use Rattle.ms_logic_words.specs.WordSign.{IsOutside}
 use Rattle.ms_logic_words.proofs.WordLaws.{encoding_is_over}
@@ -26,10 +26,10 @@ use Rattle.ms_dfa.proofs.NarrowLemmas.{narrowed_encodes, narrowed_assigned, narr
 use Rattle.ms_dfa.proofs.OwnMeaningLemmas.{word_has_sign, sign_outside, HasValues-own, IsMeaning-own}
 use Rattle.ms_dfa.proofs.ValuesLemmas.{IsAutomaton-by_values}
 use Rattle.ms_dfa_explore.specs.Explored.{Leads, Follows}
-use Rattle.ms_dfa_explore.specs.Tracks.{joined, places_among, IsAmong}
-use Rattle.ms_dfa_explore.proofs.AmongLemmas.{among_at, held_among, joined-either, leads_to, one_place, reads_through_places}
+use Rattle.ms_dfa_explore.specs.Tracks.{merged, places_among}
+use Rattle.ms_dfa_explore.proofs.AmongLemmas.{among_at, held_among, merged-either, leads_to, one_place, reads_through_places}
 use Rattle.ms_dfa_explore.proofs.RunLemmas.{explored, length-states_of, IsClosed-explored, sign_of_explored}
-use Rattle.ms_dfa_explore.proofs.TracksLemmas.{joined-left, joined-right, joined-rising}
+use Rattle.ms_dfa_explore.proofs.TracksLemmas.{merged-left, merged-right, merged-rising}
 use Rattle.ms_product.specs.declared.op.Op.{Op}
 use Rattle.ms_product.specs.Combined.{combined, HaveEqualOrders}
 use Rattle.ms_product.specs.Pairing.{Operands, operands_of, pair_sign, product_findings, AreStates}
@@ -85,19 +85,19 @@ IsMeaning-combined op mode variables left right one_left one_right inside_left i
 module _ (op : Op) (left right : Content Sign) (left_is : IsAutomaton left) (right_is : IsAutomaton right) (modes : left.mode ≡ right.mode)
     (orders : HaveEqualOrders left.variables right.variables) where
   abbrev wide : List Variable
-  wide = joined left.variables right.variables
+  wide = merged left.variables right.variables
 
   abbrev operands : Operands
   operands = operands_of left right
 
   pub wide-rising : AreRising wide
-  wide-rising = joined-rising left.variables right.variables left_is.rising right_is.rising
+  wide-rising = merged-rising left.variables right.variables left_is.rising right_is.rising
 
   pub left_among : (v : Variable) → IsAmong left.variables v → IsAmong wide v
-  left_among v among = joined-left left.variables right.variables v among
+  left_among v among = merged-left left.variables right.variables v among
 
   pub right_among : (v : Variable) → IsAmong right.variables v → IsAmong wide v
-  right_among v among = joined-right left.variables right.variables v (λ u there same. orders u v there among same) among
+  right_among v among = merged-right left.variables right.variables v (λ u there same. orders u v there among same) among
 
   left_leads : (place : ℕ) (v : Variable) → slice_get left.variables place ≡ Some v → slice_get wide (slice_index operands.left_map place) ≡ Some v
   left_leads = leads_to left.variables wide left_is.rising wide-rising left_among
@@ -160,7 +160,7 @@ module _ (op : Op) (left right : Content Sign) (left_is : IsAutomaton left) (rig
       covered_encodes left.mode wide word wide-rising over (λ place w there number. ⊎_elim
       (λ among. covered_by operands.left_map left.variables refl left_is.rising left_among word first place w there number among)
       (λ among. covered_by operands.right_map right.variables refl right_is.rising right_among word second place w there number among)
-      (joined-either left.variables right.variables w (among_at wide place w there)))
+      (merged-either left.variables right.variables w (among_at wide place w there)))
 
   -- so where it encodes none, one of them is Outside
   outside_either : (word : Word) → IsWordOver wide word → IsOutside left.mode wide word → (one other : Sign) → sign_of left (left_word word) ≡ Some one → sign_of right (right_word word) ≡ Some other

@@ -17,16 +17,17 @@ use Rattle.ms_logic.specs.declared.mode.Order.{Order}
 use Rattle.ms_logic_words.specs.declared.sign.Sign.{Sign}
 use Rattle.ms_logic.specs.Assignment.{Variable}
 use Rattle.ms_logic_words.specs.Content.{StateOf, Content, HasValueAt, IsClosed, IsFollowed, is_truth_value, is_in_letters, first_state, next_from, next_state, sign_at, truth_bits, letter_bits}
+use Rattle.ms_logic_words.specs.Signs.{sign_or_outside}
 use Rattle.ms_dfa.specs.Narrow.{narrowed_truth, narrowed_letter}
 use Rattle.ms_dfa.proofs.NarrowLemmas.{leaf_of-gathered}
 use Rattle.std.proofs.lemmas.List.{length-map}
 use Rattle.ms_diagram.proofs.Building.{Grows-same}
-use Rattle.ms_logic.specs.Lists.{AreRising}
+use Rattle.ms_logic.specs.Lists.{AreRising, IsAmong}
 use Rattle.ms_dfa_explore.specs.Explored.{Findings, GrowsForSome, Explores}
-use Rattle.ms_dfa_explore.specs.Tracks.{IsAmong, place_of, places_among}
+use Rattle.ms_dfa_explore.specs.Tracks.{place_of, places_among}
 use Rattle.ms_dfa_explore.proofs.AmongLemmas.{places_rise}
 use Rattle.ms_dfa_explore.proofs.ExploredLemmas.{GrowsForSome-one}
-use Rattle.ms_product.specs.Widened.{first_through, behind_through, next_through, sign_or_outside, sign_in, widened_findings, IsRisingMap, IsBroughtIn}
+use Rattle.ms_product.specs.Widened.{first_through, behind_through, next_through, sign_in, widened_findings, IsRisingMap, IsBroughtIn}
 
 -- what a followed reference tests is read through a rising map
 pub Renames-followed : (content : Content Sign) (nodes : List Node) (has_value : Order → Bool) (map : List ℕ) (root : Ref) → nodes ≡ content.nodes

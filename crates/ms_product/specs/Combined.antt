@@ -3,7 +3,7 @@ use Rattle.std.specs.Prelude.{◌≡◌, List, map}
 use Rattle.ms_logic_words.specs.declared.sign.Sign.{Sign}
 use Rattle.ms_logic.specs.Assignment.{Variable}
 use Rattle.ms_logic_words.specs.Content.{StateOf, Content}
-use Rattle.ms_dfa_explore.specs.Tracks.{IsAmong}
+use Rattle.ms_logic.specs.Lists.{IsAmong}
 use Rattle.ms_dfa.specs.Values.{Meaning}
 use Rattle.ms_product.specs.declared.op.Op.{Op}
 use Rattle.ms_product.specs.Signs.{strict}

@@ -14,7 +14,7 @@ use Rattle.ms_logic_words.specs.declared.sign.Sign.TheVariants.{Outside}
 use Rattle.ms_logic.specs.Assignment.{Variable}
 use Rattle.ms_logic_words.specs.Content.{Content}
 use Rattle.ms_dfa_explore.specs.Explored.{Findings, Leads, Follows, Origin, IsFound, target_of}
-use Rattle.ms_dfa_explore.specs.Tracks.{joined, places_among}
+use Rattle.ms_dfa_explore.specs.Tracks.{merged, places_among}
 use Rattle.ms_product.specs.declared.op.Op.{Op}
 use Rattle.ms_product.specs.Signs.{strict}
 use Rattle.ms_product.specs.Widened.{first_through, next_through, sign_in, IsRisingMap}
@@ -37,7 +37,7 @@ operands_over left right wide = record {
 
 -- two automata over the variables of both
 abbrev pub operands_of : Content Sign → Content Sign → Operands
-operands_of left right = operands_over left right (joined left.variables right.variables)
+operands_of left right = operands_over left right (merged left.variables right.variables)
 
 -- their diagrams, with each variable read at its place
 abbrev pub sides_of : Operands → Sides

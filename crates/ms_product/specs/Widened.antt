@@ -9,6 +9,7 @@ use Rattle.ms_logic_words.specs.declared.sign.Sign.{Sign}
 use Rattle.ms_logic_words.specs.declared.sign.Sign.TheVariants.{Outside}
 use Rattle.ms_logic_words.specs.Content.{StateOf, Content, IsClosed, sign_at}
 use Rattle.ms_dfa_explore.specs.Explored.{Findings, Leads, Follows}
+use Rattle.ms_logic_words.specs.Signs.{sign_or_outside}
 
 -- the state to which the bits lead from the start
 abbrev pub first_through : Content Sign → List ℕ → Bits → ℕ
@@ -21,11 +22,6 @@ behind_through content map (Some state) bits = leaf_of content.nodes state.next 
 
 abbrev pub next_through : Content Sign → List ℕ → ℕ → Bits → ℕ
 next_through content map state bits = behind_through content map (slice_get content.states state) bits
-
--- the sign of a state, and Outside for a number of no state
-abbrev pub sign_or_outside : Option Sign → Sign
-sign_or_outside None = Outside
-sign_or_outside (Some sign) = sign
 
 abbrev pub sign_in : Content Sign → ℕ → Sign
 sign_in content state = sign_or_outside (sign_at content state)

@@ -1,15 +1,15 @@
 ghost use Rattle.std.specs.Prelude.{◌≡◌, ◌≤◌, ◌+◌, length, IfOk};
 ghost use Rattle.ms_dfa_explore.specs.Explored.{OnRefused};
-ghost use Rattle.ms_dfa_explore.specs.Tracks.{joined};
+ghost use Rattle.ms_dfa_explore.specs.Tracks.{merged};
 ghost use Rattle.ms_dfa.specs.Values.{HasValues, own_meaning};
 ghost use Rattle.ms_product.specs.Combined.{HaveEqualOrders, combined};
 ghost use Rattle.ms_product.specs.Pairing.{AreAtLeast, operands_of};
 
 use crate::op::Op;
-use crate::operand::widen;
+use crate::operand::over_tracks;
 use crate::pairing::{Paired, pair_up};
 use ms_dfa::Automaton;
-use ms_dfa_explore::join;
+use ms_dfa_explore::merge;
 use ms_list::StepFault;
 use std::alloc::Global;
 
@@ -27,19 +27,19 @@ pub fn combine(
     requires some { 1 ≤ limit }
     requires small { limit ≤ 4000000000 }
     ensures mode { IfOk result (λ made. made.mode ≡ a.now.mode) }
-    ensures variables { IfOk result (λ made. made.variables ≡ joined a.now.variables b.now.variables) }
+    ensures variables { IfOk result (λ made. made.variables ≡ merged a.now.variables b.now.variables) }
     ensures values { IfOk result (HasValues (combined op (own_meaning a.now) (own_meaning b.now))) }
     ensures size { IfOk result (λ made. AreAtLeast (length made.nodes + length made.states) op (operands_of a.now b.now)) }
     ensures within { IfOk result (λ made. length made.nodes + length made.states ≤ limit) }
     ensures nodes { OnRefused result (λ refused. (refused ≡ limit) × AreAtLeast limit op (operands_of a.now b.now)) }
 {
-    let Ok(tracks) = join(alloc, a.tracks(), b.tracks()) else {
+    let Ok(tracks) = merge(alloc, a.tracks(), b.tracks()) else {
         return Err(StepFault::Memory);
     };
-    let Ok(left) = widen(alloc, a, tracks.slice()) else {
+    let Ok(left) = over_tracks(alloc, a, tracks.slice()) else {
         return Err(StepFault::Memory);
     };
-    let Ok(right) = widen(alloc, b, tracks.slice()) else {
+    let Ok(right) = over_tracks(alloc, b, tracks.slice()) else {
         return Err(StepFault::Memory);
     };
     let paired = match pair_up(alloc, op, left, right, limit) {

@@ -13,5 +13,5 @@ pub use change::{negate, restrict_to};
 pub use connective::combine;
 pub use examples::{worked_changes, worked_connectives};
 pub use op::Op;
-pub use operand::{Brought, Widened, bring, widen};
+pub use operand::{Brought, Widened, bring, over_tracks};
 pub use pairing::{Paired, pair_up};

@@ -1,9 +1,9 @@
 ghost use Rattle.std.specs.Prelude.{◌≡◌, ◌≤◌, ◌+◌, length, IfOk};
 ghost use Rattle.ms_logic.specs.Assignment.{Variable};
-ghost use Rattle.ms_logic.specs.Lists.{AreRising};
+ghost use Rattle.ms_logic.specs.Lists.{AreRising, IsAmong};
 ghost use Rattle.ms_dfa.specs.Automaton.{variables_of};
 ghost use Rattle.ms_dfa_explore.specs.Explored.{GrowsForSome, OnRefused};
-ghost use Rattle.ms_dfa_explore.specs.Tracks.{IsAmong, places_among};
+ghost use Rattle.ms_dfa_explore.specs.Tracks.{places_among};
 ghost use Rattle.ms_product.specs.Widened.{IsBroughtIn, IsRisingMap, widened_findings};
 
 use ms_arena::Ref;
@@ -22,7 +22,7 @@ pub struct Widened<'a> {
 }
 
 /// The automaton with its tracks at their places among these.
-pub fn widen<'a>(
+pub fn over_tracks<'a>(
     alloc: Global,
     automaton: &'a Automaton,
     tracks: &[Track],
@@ -119,7 +119,7 @@ pub fn bring(
     // The length tells that the nodes are those of a store, and the states that it is an automaton.
     let _ = store.len();
     let _ = automaton.states();
-    let Ok(widened) = widen(alloc, automaton, tracks) else {
+    let Ok(widened) = over_tracks(alloc, automaton, tracks) else {
         return Err(StepFault::Memory);
     };
     let mut states = List::new(alloc);

@@ -18,7 +18,7 @@ use Rattle.ms_logic_words.specs.declared.sign.Sign.TheVariants.{Yes, Outside}
 use Rattle.ms_logic.specs.Assignment.{Variable}
 use Rattle.ms_logic_words.specs.Content.{Content, StateOf, IsClosed, IsFollowed, is_in_letters}
 use Rattle.ms_dfa.specs.Values.{HasValues, own_meaning}
-use Rattle.ms_dfa_explore.specs.Tracks.{IsAmong}
+use Rattle.ms_logic.specs.Lists.{IsAmong, without}
 use Rattle.ms_dfa_explore.proofs.RunLemmas.{explored, length-states_of, IsClosed-explored}
 use Rattle.ms_product.proofs.ChangeLemmas.{content_is}
 use Rattle.ms_quotient.specs.declared.marks.Marks.{Marks}
@@ -27,7 +27,7 @@ use Rattle.ms_quotient.specs.Way.{union_along}
 use Rattle.ms_project.specs.Marks.{AreClosedMarks, can_be_empty}
 use Rattle.ms_project.specs.Paired.{IsDomainFor, marks_of_pair}
 use Rattle.ms_project.specs.Projection.{IsProjection, AreSignedSets}
-use Rattle.ms_project.specs.Quantified.{quantified, without}
+use Rattle.ms_project.specs.Quantified.{quantified}
 use Rattle.ms_project.specs.Signed.{AreSigned, TestBelow, zero_step}
 use Rattle.ms_project.specs.Subsetting.{Subsetting, subset_findings, IsReadyForSets, AreSetsFound}
 use Rattle.ms_project.proofs.FinalLemmas.{construction, others, into, projected, HasValues-projected, IsAutomaton-projected}

@@ -23,14 +23,14 @@ use Rattle.ms_logic.specs.declared.mode.Quant.TheVariants.{Ex, All}
 use Rattle.ms_logic_words.specs.declared.sign.Sign.{Sign}
 use Rattle.ms_logic_words.specs.declared.sign.Sign.TheVariants.{Yes, No}
 use Rattle.ms_logic.specs.Assignment.{Env, Variable, IsAssignment}
-use Rattle.ms_logic_words.specs.Content.{Content, StateOf, IsClosed, IsWordOver, bits_at, spread, head_bit, tail_bits, count_of, is_in_letters, letter_bits, last_state, next_from, next_state, sign_of, zero_letter}
-use Rattle.ms_logic.specs.Lists.{AreRising}
+use Rattle.ms_logic_words.specs.Content.{Content, StateOf, IsClosed, IsWordOver, bits_at, padded, head_bit, tail_bits, count_of, is_in_letters, letter_bits, last_state, next_from, next_state, sign_of, zero_letter}
+use Rattle.ms_logic.specs.Lists.{AreRising, IsAmong, without}
 use Rattle.ms_dfa.specs.Narrow.{narrowed}
 use Rattle.ms_dfa.specs.Values.{HasValues, IsMeaning, own_meaning}
 use Rattle.ms_dfa.proofs.MachineLemmas.{related_at_end}
 use Rattle.ms_dfa.proofs.ValuesLemmas.{IsMeaning-by, IsAutomaton-by_values}
 use Rattle.ms_dfa_explore.specs.Explored.{Leads, Follows}
-use Rattle.ms_dfa_explore.specs.Tracks.{IsAmong, places_among}
+use Rattle.ms_dfa_explore.specs.Tracks.{places_among}
 use Rattle.ms_dfa_explore.proofs.AmongLemmas.{leads_to}
 use Rattle.ms_dfa_explore.proofs.RunLemmas.{explored, length-states_of, IsClosed-explored, IsSimulation-explored}
 use Rattle.ms_product.specs.declared.op.Op.TheVariants.{And}
@@ -44,7 +44,7 @@ use Rattle.ms_quotient.proofs.WayLemmas.{IsSplit}
 use Rattle.ms_project.specs.Marks.{marks_of, sign_by, can_be_empty, AreClosedMarks}
 use Rattle.ms_product.specs.Pairing.{IsPairedIn}
 use Rattle.ms_project.specs.Paired.{IsDomainFor, operands_for, marks_of_pair, places_left}
-use Rattle.ms_project.specs.Quantified.{QuantifiedYes, QuantifiedNo, quantified, without}
+use Rattle.ms_project.specs.Quantified.{QuantifiedYes, QuantifiedNo, quantified}
 use Rattle.ms_project.specs.Signed.{AreSigned, TestBelow, zero_step}
 use Rattle.ms_project.specs.Subsets.{IsLeftOut, IsReachedSet}
 use Rattle.ms_project.specs.Subsetting.{Subsetting, paired, subset_findings, IsReadyForSets, AreSetsFound}
@@ -54,10 +54,10 @@ use Rattle.ms_project.proofs.QuantifiedLemmas.{StandsFor, HasValues-quantified}
 use Rattle.ms_project.proofs.SetRunLemmas.{signed, IsOver-sets, made, names_at_end}
 use Rattle.ms_project.proofs.ValueLemmas.{narrowed-own}
 
--- zeros are spread to zeros
-spread-zeros : (has_value : Order → Bool) (vs : List Variable) (values : List Bool) → ((k : ℕ) → get_or values k false ≡ false) → (var : ℕ) → get_or (spread has_value vs values) var false ≡ false
-spread-zeros has_value [] values zeros var = refl
-spread-zeros has_value (v ∷ vs) values zeros var = by_test (has_value v.order) (spread-zeros has_value vs) var
+-- zeros are padded to zeros
+padded-zeros : (has_value : Order → Bool) (vs : List Variable) (values : List Bool) → ((k : ℕ) → get_or values k false ≡ false) → (var : ℕ) → get_or (padded has_value vs values) var false ≡ false
+padded-zeros has_value [] values zeros var = refl
+padded-zeros has_value (v ∷ vs) values zeros var = by_test (has_value v.order) (padded-zeros has_value vs) var
   where
     head_zero : (list : List Bool) → ((k : ℕ) → get_or list k false ≡ false) → head_bit list ≡ false
     head_zero [] all = refl
@@ -67,8 +67,8 @@ spread-zeros has_value (v ∷ vs) values zeros var = by_test (has_value v.order)
     tail_zero [] all k = refl
     tail_zero (bit ∷ list) all k = all (suc k)
 
-    by_test : (test : Bool) → ((list : List Bool) → ((k : ℕ) → get_or list k false ≡ false) → (at : ℕ) → get_or (spread has_value vs list) at false ≡ false) → (at : ℕ)
-        → get_or (if test then head_bit values ∷ spread has_value vs (tail_bits values) else false ∷ spread has_value vs values) at false ≡ false
+    by_test : (test : Bool) → ((list : List Bool) → ((k : ℕ) → get_or list k false ≡ false) → (at : ℕ) → get_or (padded has_value vs list) at false ≡ false) → (at : ℕ)
+        → get_or (if test then head_bit values ∷ padded has_value vs (tail_bits values) else false ∷ padded has_value vs values) at false ≡ false
     by_test true more zero = head_zero values zeros
     by_test true more (suc at) = more (tail_bits values) (tail_zero values zeros) at
     by_test false more zero = refl
@@ -79,7 +79,7 @@ zeros_at count var = ⊎_elim (λ less. get_or-replicate count var false false l
 
 -- the bits of a zero letter are those of zeros for all variables
 zero_bits : (vs : List Variable) (count : ℕ) → bits_of (replicate count false) ≡ letter_bits vs (zero_letter vs)
-zero_bits vs count = same_bits (λ var. zeros_at count var ∙ sym (spread-zeros is_in_letters vs (zero_letter vs) (zeros_at (count_of is_in_letters vs)) var))
+zero_bits vs count = same_bits (λ var. zeros_at count var ∙ sym (padded-zeros is_in_letters vs (zero_letter vs) (zeros_at (count_of is_in_letters vs)) var))
 
 -- the quantified body has one right sign at most
 IsMeaning-quantified : (q : Quant) (own : Variable) (body domain : Content Sign) (mode : Mode) (variables : List Variable) → IsMeaning mode variables (quantified q own (λ e. own_meaning domain e Yes) (own_meaning body))

@@ -4,11 +4,10 @@ use Rattle.std.proofs.lemmas.Bool.{cases_lt, cases_eq, eqb-true, eqb-false, eq-e
 use Rattle.std.proofs.lemmas.Option.{same_Some, none-some}
 use Rattle.ms_arena.proofs.Lists.{slice_get-held}
 use Rattle.ms_logic.specs.Assignment.{Variable}
-use Rattle.ms_logic.specs.Lists.{AreRising, IsBelowFirst}
-use Rattle.ms_dfa_explore.specs.Tracks.{IsAmong, place_of, places_among}
+use Rattle.ms_logic.specs.Lists.{AreRising, IsBelowFirst, IsAmong, without}
+use Rattle.ms_dfa_explore.specs.Tracks.{place_of, places_among}
 use Rattle.ms_dfa_explore.proofs.AmongLemmas.{among_at, leads_to, names_rise, one_place}
 use Rattle.ms_dfa_explore.proofs.TracksLemmas.{AreAbove, above-first, place_of-among}
-use Rattle.ms_project.specs.Quantified.{without}
 use Rattle.ms_project.specs.Paired.{places_left}
 use Rattle.ms_project.specs.Subsets.{IsLeftOut}
 

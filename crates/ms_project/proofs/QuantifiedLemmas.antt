@@ -16,7 +16,7 @@ use Rattle.ms_logic.specs.declared.assignment.Value.TheVariants.{Truth, Number, 
 use Rattle.ms_logic.specs.Assignment.{Universe, Env, Variable, IsAssignment, IsUniverseOf, IsValueOf, GivesEach, IsWithin, assign, value_at}
 use Rattle.ms_logic_words.specs.Content.{Content, StateOf, IsWordOver, last_state, sign_of}
 use Rattle.ms_logic_words.specs.inner.Decoding.{HaveOneBit, column_after}
-use Rattle.ms_logic.specs.Lists.{AreRising}
+use Rattle.ms_logic.specs.Lists.{AreRising, IsAmong}
 use Rattle.ms_logic.specs.Truth.{SomeInRange, NoneInRange, IsEmptyRange}
 use Rattle.ms_logic_words.specs.Word.{Encodes, IsEncoding}
 use Rattle.ms_logic_words.specs.WordSign.{IsOutside}
@@ -30,7 +30,7 @@ use Rattle.ms_dfa.specs.Values.{Meaning, HasValues, own_meaning, sign_at_values}
 use Rattle.ms_dfa.proofs.EncodingLemmas.{sign_of_encoding}
 use Rattle.ms_dfa.proofs.NarrowLemmas.{narrowed_encodes, narrowed_assigned}
 use Rattle.ms_dfa.proofs.OwnMeaningLemmas.{word_has_sign}
-use Rattle.ms_dfa_explore.specs.Tracks.{IsAmong, places_among}
+use Rattle.ms_dfa_explore.specs.Tracks.{places_among}
 use Rattle.ms_dfa_explore.proofs.AmongLemmas.{reads_through_places}
 use Rattle.ms_product.specs.Widened.{sign_in}
 use Rattle.ms_product.proofs.WidenedLemmas.{sign_in-is}

@@ -18,7 +18,8 @@ use Rattle.ms_logic_words.specs.declared.sign.Sign.{Sign}
 use Rattle.ms_logic.specs.Assignment.{Variable}
 use Rattle.ms_logic_words.specs.Content.{Content, StateOf, IsClosed, IsFollowed, is_in_letters}
 use Rattle.ms_dfa_explore.specs.Explored.{Leads, Follows, OnRefused}
-use Rattle.ms_dfa_explore.specs.Tracks.{IsAmong, place_of, places_among}
+use Rattle.ms_dfa_explore.specs.Tracks.{place_of, places_among}
+use Rattle.ms_logic.specs.Lists.{IsAmong}
 use Rattle.ms_dfa_explore.proofs.AmongLemmas.{leads_to}
 use Rattle.ms_dfa_explore.proofs.ExploredLemmas.{Leads-later}
 use Rattle.ms_dfa_explore.proofs.RunLemmas.{IsClosed-explored, length-states_of}

@@ -13,10 +13,10 @@ use Rattle.ms_logic.specs.declared.mode.Order.TheVariants.{Zero, One, Two}
 use Rattle.ms_logic.specs.declared.assignment.Value.{Value}
 use Rattle.ms_logic.specs.declared.assignment.Value.TheVariants.{Truth, Number, Set}
 use Rattle.ms_logic.specs.Assignment.{Universe, Env, Variable, IsAssignment, IsUniverseOf, IsValueOf, GivesEach, assign, value_at}
-use Rattle.ms_logic_words.specs.Content.{IsWordOver, AreLetters, count_of, is_truth_value, is_in_letters, bits_at, spread, zero_letter, with_zero_letter, shortest_word}
+use Rattle.ms_logic_words.specs.Content.{IsWordOver, AreLetters, count_of, is_truth_value, is_in_letters, bits_at, padded, zero_letter, with_zero_letter, shortest_word}
 use Rattle.ms_logic_words.specs.inner.Decoding.{HasOneBit, HaveOneBit, bit_in, column_after, positions_of}
 use Rattle.ms_logic.specs.OrderLaws.{GiveSameValues}
-use Rattle.ms_logic.specs.Lists.{AreRising}
+use Rattle.ms_logic.specs.Lists.{AreRising, IsAmong}
 use Rattle.ms_logic_words.specs.Word.{Encodes, HasLength, IsEncoding}
 use Rattle.ms_logic.specs.Letters.{bound_of, bound_of_set}
 use Rattle.ms_logic_words.specs.WordSign.{word_of}
@@ -27,7 +27,7 @@ use Rattle.ms_logic.proofs.Members.{no_member_from_bound}
 use Rattle.ms_logic_words.proofs.WordLaws.{encoding_is_over, encoding_exists, encoding_is_unique, length-letters_below, length_is_least, word_is_unique, zero_letter_keeps}
 use Rattle.ms_dfa.specs.Narrow.{gathered, narrowed, narrowed_letter, narrowed_truth, ReadsThrough}
 use Rattle.ms_dfa.proofs.NarrowLemmas.{narrowed_encodes, narrowed_assigned}
-use Rattle.ms_dfa_explore.specs.Tracks.{IsAmong, places_among}
+use Rattle.ms_dfa_explore.specs.Tracks.{places_among}
 use Rattle.ms_dfa_explore.proofs.AmongLemmas.{leads_to, one_place}
 use Rattle.ms_project.specs.Subsets.{IsLeftOut}
 use Rattle.ms_project.proofs.RestLemmas.{gathered_as}
@@ -76,12 +76,12 @@ own_leads : (vs : List Variable) → AreRising vs → (place : ℕ) (v : Variabl
 own_leads vs rising = leads_to vs vs rising rising (λ v among. among)
 
 own_gathered : (has_value : Order → Bool) (vs : List Variable) → AreRising vs → (values : List Bool) → length values ≡ count_of has_value vs
-    → gathered has_value 0 vs (read_through (places_among vs vs) (bits_at (spread has_value vs values))) ≡ values
+    → gathered has_value 0 vs (read_through (places_among vs vs) (bits_at (padded has_value vs values))) ≡ values
 own_gathered has_value vs rising values long =
-    gathered_as has_value vs (read_through (places_among vs vs) (bits_at (spread has_value vs values))) 0 values long (λ place v there with_value.
+    gathered_as has_value vs (read_through (places_among vs vs) (bits_at (padded has_value vs values))) 0 values long (λ place v there with_value.
     let here : 0 + place ≡ place = omega arith in
-    ap (read_through (places_among vs vs) (bits_at (spread has_value vs values))) here
-    ∙ ap (bits_at (spread has_value vs values)) (one_place vs rising (slice_index (places_among vs vs) place) place v (own_leads vs rising place v there) there))
+    ap (read_through (places_among vs vs) (bits_at (padded has_value vs values))) here
+    ∙ ap (bits_at (padded has_value vs values)) (one_place vs rising (slice_index (places_among vs vs) place) place v (own_leads vs rising place v there) there))
 
 own_letters : (vs : List Variable) → AreRising vs → (letters : List (List Bool)) → AreLetters vs letters → map_list (narrowed_letter (places_among vs vs) vs vs) letters ≡ letters
 own_letters vs rising [] are = refl

@@ -4,7 +4,7 @@ use Rattle.ms_logic_words.specs.declared.sign.Sign.{Sign}
 use Rattle.ms_logic_words.specs.declared.sign.Sign.TheVariants.{Yes}
 use Rattle.ms_logic.specs.Assignment.{Variable}
 use Rattle.ms_logic_words.specs.Content.{Content}
-use Rattle.ms_dfa_explore.specs.Tracks.{IsAmong}
+use Rattle.ms_logic.specs.Lists.{IsAmong}
 use Rattle.ms_product.specs.Pairing.{Operands, operands_over}
 use Rattle.ms_product.specs.Widened.{sign_in}
 use Rattle.ms_quotient.specs.declared.marks.Marks.{Marks}

@@ -11,10 +11,6 @@ use Rattle.ms_logic.specs.Truth.{InRange, SomeInRange, NoneInRange, IsEmptyRange
 use Rattle.ms_logic_words.specs.Content.{Content}
 use Rattle.ms_dfa.specs.Values.{Meaning, meaning_by, own_meaning}
 
--- the other variables
-abbrev pub without : ℕ → List Variable → List Variable
-without name variables = filter (λ v. not (v.name == name)) variables
-
 -- the domain is Yes there; without one each value is in the range
 abbrev pub IsMetBy : Option (Content Sign) → Env → Type 0
 IsMetBy None e = Unit {0}

@@ -6,7 +6,7 @@ ghost use Rattle.ms_logic_words.specs.declared.sign.Sign.TheVariants.{No, Outsid
 ghost use Rattle.ms_project.specs.inner.Examples.{everywhere, number_and_set, only_set};
 ghost use Rattle.ms_project.specs.Marks.{can_be_empty, marks_of, sign_by};
 ghost use Rattle.ms_project.specs.Paired.{IsTruth};
-ghost use Rattle.ms_project.specs.Quantified.{without};
+ghost use Rattle.ms_logic.specs.Lists.{without};
 ghost use Rattle.ms_quotient.specs.Closure.{no_marks};
 
 /// The signs of quantifiers: Yes of some value decides ex, No of some value decides all, and Undefined is what is left.

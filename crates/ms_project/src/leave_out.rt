@@ -1,7 +1,7 @@
 ghost use Rattle.std.specs.Prelude.{◌≡◌, ◌∷◌, ◌++◌, [], IfOk, OnOk};
 ghost use Rattle.ms_dfa.specs.Automaton.{variable_of, variables_of};
 ghost use Rattle.ms_project.specs.Paired.{places_left};
-ghost use Rattle.ms_project.specs.Quantified.{without};
+ghost use Rattle.ms_logic.specs.Lists.{without};
 
 use ms_dfa::Track;
 use ms_list::{List, NoMemory, push};

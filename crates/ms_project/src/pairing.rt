@@ -8,7 +8,7 @@ use ms_dfa::Automaton;
 use ms_diagram::{Pairs, Store};
 use ms_list::StepFault;
 use ms_logic_words::Sign;
-use ms_product::{Brought, Op, Paired, bring, widen};
+use ms_product::{Brought, Op, Paired, bring, over_tracks};
 use std::alloc::Global;
 
 /// Whether a domain is truth, which leaves its body as it is.
@@ -69,10 +69,10 @@ pub(crate) fn pair_up(
     if is_truth(domain) {
         return pair_with_truth(alloc, body, domain, limit);
     }
-    let Ok(left) = widen(alloc, body, body.tracks()) else {
+    let Ok(left) = over_tracks(alloc, body, body.tracks()) else {
         return Err(StepFault::Memory);
     };
-    let Ok(right) = widen(alloc, domain, body.tracks()) else {
+    let Ok(right) = over_tracks(alloc, domain, body.tracks()) else {
         return Err(StepFault::Memory);
     };
     ms_product::pair_up(alloc, Op::And, left, right, limit)

@@ -1,10 +1,9 @@
 ghost use Rattle.std.specs.Prelude.{◌≡◌, ◌<◌, ◌≤◌, ◌+◌, All, IfOk, length};
 ghost use Rattle.ms_dfa.specs.Automaton.{variable_of, variables_of};
 ghost use Rattle.ms_dfa_explore.specs.Explored.{OnRefused};
-ghost use Rattle.ms_dfa_explore.specs.Tracks.{IsAmong};
+ghost use Rattle.ms_logic.specs.Lists.{IsAmong, without};
 ghost use Rattle.ms_project.specs.Paired.{IsDomainFor};
 ghost use Rattle.ms_project.specs.Projection.{AreSignedSets, IsProjection, NeedsAtLeast};
-ghost use Rattle.ms_project.specs.Quantified.{without};
 ghost use Rattle.ms_project.specs.Signed.{TestBelow, zero_step};
 
 use crate::leave_out::leave_out;

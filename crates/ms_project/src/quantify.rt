@@ -2,13 +2,13 @@ ghost use Rattle.std.specs.Prelude.{◌≡◌, ◌≤◌, IfOk, ◌+◌, length}
 ghost use Rattle.std.specs.Option.{ForSome, option_copied};
 ghost use Rattle.ms_dfa.specs.Automaton.{variable_of};
 ghost use Rattle.ms_dfa_explore.specs.Explored.{OnRefused};
-ghost use Rattle.ms_dfa_explore.specs.Tracks.{IsAmong};
+ghost use Rattle.ms_logic.specs.Lists.{IsAmong, without};
 ghost use Rattle.ms_logic_words.specs.declared.sign.Sign.TheVariants.{Yes};
 ghost use Rattle.ms_dfa.specs.Values.{HasValues, own_meaning};
 ghost use Rattle.ms_project.specs.Always.{always, domain_or_always};
 ghost use Rattle.ms_project.specs.Paired.{IsDomainFor};
 ghost use Rattle.ms_project.specs.Projection.{NeedsAtLeast};
-ghost use Rattle.ms_project.specs.Quantified.{IsMetBy, quantified, without};
+ghost use Rattle.ms_project.specs.Quantified.{IsMetBy, quantified};
 
 use crate::projection::{search, sign_sets};
 use crate::quantifier::Quantifier;

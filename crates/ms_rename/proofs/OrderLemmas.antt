@@ -12,7 +12,7 @@ use Rattle.ms_logic_words.specs.declared.sign.Sign.{Sign}
 use Rattle.ms_logic.specs.Assignment.{Variable}
 use Rattle.ms_logic_words.specs.Content.{StateOf, Content, IsFollowed, is_truth_value, is_in_letters}
 use Rattle.ms_logic.specs.Lists.{AreRising, IsBelowFirst}
-use Rattle.ms_dfa_explore.specs.Tracks.{without_first, joined, gathered_with, distinct, place_of, places_among}
+use Rattle.ms_dfa_explore.specs.Tracks.{without_first, merged, gathered_with, distinct, place_of, places_among}
 use Rattle.ms_dfa_explore.proofs.AmongLemmas.{leads_to, one_place}
 use Rattle.ms_dfa.specs.Values.{HasValues, own_meaning}
 use Rattle.ms_basic.specs.Operands.{HaveOneOrder}
@@ -27,16 +27,16 @@ abbrev AllBelow : ℕ → List Variable → Type 0
 AllBelow name [] = Unit {0}
 AllBelow name (v ∷ vs) = (v.name < name) × AllBelow name vs
 
--- a variable above all is joined behind them
-joined-last : (us : List Variable) (v : Variable) → AllBelow v.name us → joined us (v ∷ []) ≡ us ++ v ∷ []
-joined-last [] v below = refl
-joined-last (u ∷ us) v below =
+-- a variable above all is merged behind them
+merged-last : (us : List Variable) (v : Variable) → AllBelow v.name us → merged us (v ∷ []) ≡ us ++ v ∷ []
+merged-last [] v below = refl
+merged-last (u ∷ us) v below =
     let less = below.0 in
     let not_less : nat_lt v.name u.name ≡ false = grind (arith, nat_tests, less) in
     let differs : nat_eq v.name u.name ≡ false = grind (arith, nat_tests, less) in
-    (λ i. (if not_less i then v ∷ [] else []) ++ u ∷ joined us (without_first u.name (if not_less i then [] else v ∷ [])))
-    ∙ (λ i. u ∷ joined us (if differs i then [] else v ∷ []))
-    ∙ ap (λ list. u ∷ list) (joined-last us v below.1)
+    (λ i. (if not_less i then v ∷ [] else []) ++ u ∷ merged us (without_first u.name (if not_less i then [] else v ∷ [])))
+    ∙ (λ i. u ∷ merged us (if differs i then [] else v ∷ []))
+    ∙ ap (λ list. u ∷ list) (merged-last us v below.1)
 
 -- in a rising list what stands before a variable is below it
 below-later : (us : List Variable) (v : Variable) (vs : List Variable) → AreRising (us ++ v ∷ vs) → AllBelow v.name us
@@ -48,7 +48,7 @@ gathered-same : (there vs : List Variable) → AreRising (there ++ vs) → gathe
 gathered-same there [] rising = sym (append-nil there)
 gathered-same there (v ∷ vs) rising =
     let assoc = append_assoc there (v ∷ []) vs in
-    ap (λ list. gathered_with list vs) (joined-last there v (below-later there v vs rising))
+    ap (λ list. gathered_with list vs) (merged-last there v (below-later there v vs rising))
     ∙ gathered-same (there ++ v ∷ []) vs (subst AreRising (sym assoc) rising)
     ∙ assoc
 

@@ -20,14 +20,14 @@ use Rattle.ms_logic.specs.Assignment.{Env, Variable, IsAssignment}
 use Rattle.ms_logic_words.specs.Content.{Content, StateOf, HasValueAt, IsFollowed, IsWordOver, is_in_letters, is_truth_value, letter_bits, sign_at, sign_of, shortest_word, state_after, truth_bits, with_zero_letter}
 use Rattle.ms_logic_core.specs.CoreForm.{basic}
 use Rattle.ms_logic_words.specs.inner.Decoding.{HasOneBit, HaveOneBit, column_after}
-use Rattle.ms_logic.specs.Lists.{AreRising}
+use Rattle.ms_logic.specs.Lists.{AreRising, IsAmong}
 use Rattle.ms_logic_words.specs.Word.{IsEncoding}
 use Rattle.ms_logic_words.proofs.DecodedWords.{encodings_are}
 use Rattle.ms_dfa.specs.Values.{HasValues, core_meaning, own_meaning}
 use Rattle.ms_dfa.proofs.EncodingLemmas.{shortest}
 use Rattle.ms_dfa.proofs.FunctionLemmas.{TestsOnly-leaf}
-use Rattle.ms_dfa_explore.specs.Tracks.{IsAmong, distinct, joined}
-use Rattle.ms_dfa_explore.proofs.TracksLemmas.{joined-right}
+use Rattle.ms_dfa_explore.specs.Tracks.{distinct, merged}
+use Rattle.ms_dfa_explore.proofs.TracksLemmas.{merged-right}
 use Rattle.ms_basic.specs.States.{states_of}
 use Rattle.ms_basic.proofs.DistinctLemmas.{IsAssignment-some}
 use Rattle.ms_product.specs.declared.op.Op.TheVariants.{And}
@@ -150,11 +150,11 @@ strict-yes Undefined = refl
 strict-yes Outside = refl
 
 module _ (a other made : Content Sign) (vs : List Variable) (other_is : IsAutomaton other) (whole : IsWhole vs other) (mode_is : made.mode ≡ other.mode) (orders : HaveEqualOrders a.variables vs)
-    (variables_are : made.variables ≡ joined a.variables other.variables) where
+    (variables_are : made.variables ≡ merged a.variables other.variables) where
   among : (w : Variable) → IsAmong other.variables w → IsAmong made.variables w
   among w there =
       subst (λ us. IsAmong us w) (sym variables_are)
-      (joined-right a.variables other.variables w (λ u u_among same. orders u w u_among (subst (λ us. IsAmong us w) whole.variables there) same) there)
+      (merged-right a.variables other.variables w (λ u u_among same. orders u w u_among (subst (λ us. IsAmong us w) whole.variables there) same) there)
 
   -- the conjunction with it has the values of the automaton
   pub HasValues-widened : HasValues (combined And (own_meaning a) (own_meaning other)) made → HasValues (own_meaning a) made
@@ -169,7 +169,7 @@ module _ (a other made : Content Sign) (vs : List Variable) (other_is : IsAutoma
   }
 
 pub values_widened : (a other : Content Sign) (vs : List Variable) (result : Result (Content Sign) StepFault) (mode : Mode) → IsAutomaton other → IsWhole vs other → mode ≡ a.mode → other.mode ≡ mode
-    → HaveEqualOrders a.variables vs → IfOk result (λ made. made.mode ≡ a.mode) → IfOk result (λ made. made.variables ≡ joined a.variables other.variables)
+    → HaveEqualOrders a.variables vs → IfOk result (λ made. made.mode ≡ a.mode) → IfOk result (λ made. made.variables ≡ merged a.variables other.variables)
     → IfOk result (HasValues (combined And (own_meaning a) (own_meaning other))) → IfOk result (HasValues (own_meaning a))
 values_widened a other vs (Ok made) mode other_is whole mode_is other_mode orders made_mode variables_are values =
     HasValues-widened a other made vs other_is whole (made_mode ∙ sym (other_mode ∙ mode_is)) orders variables_are values

@@ -6,7 +6,7 @@ use Rattle.ms_logic_words.specs.declared.sign.Sign.TheVariants.{Yes}
 use Rattle.ms_logic.specs.Assignment.{Variable}
 use Rattle.ms_logic_words.specs.Content.{Content}
 use Rattle.ms_dfa.specs.Values.{Meaning, HasValues}
-use Rattle.ms_dfa_explore.specs.Tracks.{IsAmong}
+use Rattle.ms_logic.specs.Lists.{IsAmong}
 
 -- Yes is right everywhere
 abbrev pub always : Meaning

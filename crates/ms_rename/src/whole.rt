@@ -5,7 +5,7 @@ ghost use Rattle.ms_logic_words.specs.Content.{Content};
 ghost use Rattle.ms_logic.specs.Lists.{AreRising};
 ghost use Rattle.ms_dfa.specs.Values.{HasValues, own_meaning};
 ghost use Rattle.ms_dfa_explore.specs.Explored.{OnRefused};
-ghost use Rattle.ms_dfa_explore.specs.Tracks.{joined};
+ghost use Rattle.ms_dfa_explore.specs.Tracks.{merged};
 ghost use Rattle.ms_product.specs.Combined.{HaveEqualOrders};
 ghost use Rattle.ms_product.specs.Pairing.{AreAtLeast, operands_of};
 ghost use Rattle.ms_rename.specs.Whole.{HasNoNumber, IsWhole};
@@ -80,7 +80,7 @@ pub fn widen(alloc: Global, a: &Automaton, track: Track, limit: u64) -> Result<A
     requires some { 1 ≤ limit }
     requires small { limit ≤ 4000000000 }
     ensures mode { IfOk result (λ made. made.mode ≡ a.now.mode) }
-    ensures variables { IfOk result (λ made. made.variables ≡ joined a.now.variables (variable_of track ∷ [])) }
+    ensures variables { IfOk result (λ made. made.variables ≡ merged a.now.variables (variable_of track ∷ [])) }
     ensures values { IfOk result (HasValues (own_meaning a.now)) }
     ensures within { IfOk result (λ made. length made.nodes + length made.states ≤ limit) }
     ensures nodes { OnRefused result (λ refused. (refused ≡ limit)
@@ -109,7 +109,7 @@ pub fn widen_all(
     requires some { 1 ≤ limit }
     requires small { limit ≤ 4000000000 }
     ensures mode { IfOk result (λ made. made.mode ≡ a.now.mode) }
-    ensures variables { IfOk result (λ made. made.variables ≡ joined a.now.variables (variables_of tracks.now)) }
+    ensures variables { IfOk result (λ made. made.variables ≡ merged a.now.variables (variables_of tracks.now)) }
     ensures values { IfOk result (HasValues (own_meaning a.now)) }
     ensures within { IfOk result (λ made. length made.nodes + length made.states ≤ limit) }
     ensures nodes { OnRefused result (λ refused. (refused ≡ limit)

@@ -1,6 +1,6 @@
 //! Lists, boxes, texts, names and words.
 use anyhow::{Result, bail};
-use ms_edge::Words;
+use ms_edge::CommandLine;
 use ms_list::{Boxed, List, Name, Text};
 
 pub fn tell(rt: &HostRuntime) -> Result<()> {
@@ -52,7 +52,7 @@ fn texts(rt: &HostRuntime) -> Result<()> {
 }
 
 fn words(rt: &HostRuntime) -> Result<()> {
-    let mut words = Words::new(rt.alloc());
+    let mut words = CommandLine::new(rt.alloc());
     words.push("decide")?;
     words.push("t.mona")?;
     println!(rt; "{} words", words.slice().len())?;

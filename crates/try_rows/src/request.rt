@@ -1,7 +1,7 @@
 //! A request, as a user makes it.
 use crate::files::files_of;
 use anyhow::{Result, bail};
-use ms_edge::{MemFiles, MemSink, Words};
+use ms_edge::{CommandLine, MemFiles, MemSink};
 use ms_list::List;
 use std::alloc::Global;
 use toml::{Table, Value};
@@ -29,7 +29,7 @@ const AMPLE: u64 = 4096;
 
 #[derive(Drop)]
 pub struct Request {
-    pub words: Words,
+    pub words: CommandLine,
     pub files: MemFiles,
     pub sink: MemSink,
 }
@@ -47,8 +47,8 @@ impl Request {
 }
 
 /// The words of a row, which are `decide t.mona` where it has none.
-fn words_of(alloc: Global, row: &Table) -> Result<Words> {
-    let mut words = Words::new(alloc);
+fn words_of(alloc: Global, row: &Table) -> Result<CommandLine> {
+    let mut words = CommandLine::new(alloc);
     if row.get("words").is_none() {
         words.push("decide")?;
         words.push("t.mona")?;

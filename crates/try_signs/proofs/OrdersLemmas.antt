@@ -6,7 +6,7 @@ use Rattle.std.proofs.lemmas.Option.{slice_get-get_or, slice_get-map}
 use Rattle.ms_logic.specs.Assignment.{Variable}
 use Rattle.ms_dfa.specs.declared.track.Track.{Track}
 use Rattle.ms_dfa.specs.Automaton.{variable_of, variables_of}
-use Rattle.ms_dfa_explore.specs.Tracks.{IsAmong}
+use Rattle.ms_logic.specs.Lists.{IsAmong}
 use Rattle.ms_dfa_explore.proofs.AmongLemmas.{among_at}
 use Rattle.ms_product.specs.Combined.{HaveEqualOrders}
 

@@ -2,7 +2,7 @@
 ghost use Rattle.std.specs.Prelude.{◌≡◌, IsTrue};
 ghost use Rattle.ms_logic.specs.Assignment.{Variable};
 ghost use Rattle.ms_dfa.specs.Automaton.{variable_of, variables_of};
-ghost use Rattle.ms_dfa_explore.specs.Tracks.{IsAmong};
+ghost use Rattle.ms_logic.specs.Lists.{IsAmong};
 ghost use Rattle.ms_basic.specs.Operands.{HaveOneOrder};
 ghost use Rattle.ms_logic_core.specs.Operands.{variables_of_basic};
 ghost use Rattle.ms_product.specs.Combined.{HaveEqualOrders};

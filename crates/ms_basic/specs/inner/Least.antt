@@ -4,7 +4,7 @@
 use Rattle.std.specs.Prelude.{ℕ, zero, suc, Bool, if◌then◌else◌}
 use Rattle.ms_logic_words.specs.declared.sign.Sign.{Sign}
 use Rattle.ms_logic_words.specs.declared.sign.Sign.TheVariants.{Yes, No, Outside}
-use Rattle.ms_dfa_explore.specs.Small.{Table}
+use Rattle.ms_dfa_explore.specs.Small.{TransitionTable}
 
 abbrev pub least_step : ℕ → Bool → Bool → ℕ
 least_step zero x s = 0
@@ -22,5 +22,5 @@ least_sign (suc (suc zero)) = No
 least_sign (suc (suc (suc zero))) = Yes
 least_sign (suc (suc (suc (suc more)))) = Outside
 
-abbrev pub least_table : Table
+abbrev pub least_table : TransitionTable
 least_table = record { states = 7; start = λ bits. 4; step = λ state bits. least_step state bits.first bits.second; sign = least_sign }

@@ -5,7 +5,7 @@ use Rattle.ms_logic.specs.declared.mode.Order.TheVariants.{Zero, One, Two}
 use Rattle.ms_logic.specs.Assignment.{Env, Variable}
 use Rattle.ms_logic.specs.FiniteSet.{is_member}
 use Rattle.ms_dfa_explore.specs.declared.small.TrackBits.{TrackBits}
-use Rattle.ms_dfa_explore.specs.Small.{Table, bit_at}
+use Rattle.ms_dfa_explore.specs.Small.{TransitionTable, bit_at}
 use Rattle.ms_dfa_explore.specs.Tracks.{place_of}
 use Rattle.ms_basic.specs.declared.reading.Wiring.{Wiring}
 
@@ -24,7 +24,7 @@ abbrev pub read_at : Wiring → TrackBits → TrackBits
 read_at wiring bits = record { first = bit_at bits wiring.first; second = bit_at bits wiring.second; third = bit_at bits wiring.third }
 
 -- a machine over the bits of operands, as one over those of the tracks
-abbrev pub wired : Wiring → Table → Table
+abbrev pub wired : Wiring → TransitionTable → TransitionTable
 wired wiring table = record {
   states = table.states;
   start = λ bits. table.start (read_at wiring bits);
@@ -64,6 +64,6 @@ operand_bits operands e position =
     record { first = operand_bit operands 0 e position; second = operand_bit operands 1 e position; third = operand_bit operands 2 e position }
 
 -- the state of a machine over operands behind so many positions of an assignment
-abbrev pub state_behind : Table → List Variable → Env → ℕ → ℕ
+abbrev pub state_behind : TransitionTable → List Variable → Env → ℕ → ℕ
 state_behind table operands e zero = table.start (operand_truths operands e)
 state_behind table operands e (suc position) = table.step (state_behind table operands e position) (operand_bits operands e position)

@@ -12,7 +12,7 @@ use Rattle.ms_logic_words.specs.Word.{HasLength}
 use Rattle.ms_logic.specs.Letters.{bound_of}
 use Rattle.ms_dfa.specs.Values.{HasValues, core_meaning}
 use Rattle.ms_dfa_explore.specs.Explored.{OnRefused}
-use Rattle.ms_dfa_explore.specs.Small.{Table, IsClosedTable}
+use Rattle.ms_dfa_explore.specs.Small.{TransitionTable, IsClosedTable}
 use Rattle.ms_dfa_explore.specs.Tracks.{distinct}
 use Rattle.ms_basic.specs.declared.setting.Setting.{Setting}
 use Rattle.ms_logic_core.specs.Operands.{variables_of_basic}
@@ -29,7 +29,7 @@ IsRight Fact Outside = ⊥
 
 -- behind the letters of an assignment the sign tells whether the relation holds, and the states tell of each number of the
 -- operands how many ones it has had
-pub record DecidesRelation (mode : Mode) (operands : List Variable) (form : Basic) (table : Table) : Type 0 where
+pub record DecidesRelation (mode : Mode) (operands : List Variable) (form : Basic) (table : TransitionTable) : Type 0 where
   pub closed : IsClosedTable table
   pub tallies : OnNumbers (HasTally table) operands
   pub right :

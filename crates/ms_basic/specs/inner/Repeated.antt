@@ -2,7 +2,7 @@
 use Rattle.std.specs.Prelude.{ℕ, zero, suc, Bool, if◌then◌else◌}
 use Rattle.ms_logic_words.specs.declared.sign.Sign.{Sign}
 use Rattle.ms_logic_words.specs.declared.sign.Sign.TheVariants.{Yes, No, Outside}
-use Rattle.ms_dfa_explore.specs.Small.{Table}
+use Rattle.ms_dfa_explore.specs.Small.{TransitionTable}
 
 abbrev pub sign_of_constant : Bool → Sign
 sign_of_constant holds = if holds then Yes else No
@@ -18,9 +18,9 @@ one_number_sign holds zero = Outside
 one_number_sign holds (suc zero) = sign_of_constant holds
 one_number_sign holds (suc (suc more)) = Outside
 
-abbrev pub one_number_table : Bool → Table
+abbrev pub one_number_table : Bool → TransitionTable
 one_number_table holds = record { states = 3; start = λ bits. 2; step = λ state bits. one_number_step state bits.first; sign = one_number_sign holds }
 
 -- of sets, or of no variable
-abbrev pub constant_table : Bool → Table
+abbrev pub constant_table : Bool → TransitionTable
 constant_table holds = record { states = 1; start = λ bits. 0; step = λ state bits. state; sign = λ state. sign_of_constant holds }

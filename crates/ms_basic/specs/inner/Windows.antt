@@ -5,7 +5,7 @@ use Rattle.ms_logic.specs.declared.mode.Mode.{Mode}
 use Rattle.ms_logic.specs.declared.mode.Mode.TheVariants.{Ws1s, M2lStr}
 use Rattle.ms_logic_words.specs.declared.sign.Sign.{Sign}
 use Rattle.ms_logic_words.specs.declared.sign.Sign.TheVariants.{Yes, No}
-use Rattle.ms_dfa_explore.specs.Small.{Table}
+use Rattle.ms_dfa_explore.specs.Small.{TransitionTable}
 use Rattle.ms_basic.specs.Sets.{is_same}
 
 -- a window with one bit more at its end
@@ -24,7 +24,7 @@ up_sign mode zero = No
 up_sign Ws1s (suc window) = if window == 0 then Yes else No
 up_sign M2lStr (suc window) = Yes
 
-abbrev pub up_table : Mode → ℕ → Table
+abbrev pub up_table : Mode → ℕ → TransitionTable
 up_table mode size = record { states = size + 1; start = λ bits. 1; step = λ state bits. up_step size state bits.first bits.second; sign = up_sign mode }
 
 -- The machine of S = T - n. In the state 0 some position has contradicted it. The others are windows of the last n bits of S, or
@@ -41,5 +41,5 @@ abbrev pub down_sign : ℕ → Sign
 down_sign zero = No
 down_sign (suc more) = if is_power_of_two (suc more) then Yes else No
 
-abbrev pub down_table : ℕ → Table
+abbrev pub down_table : ℕ → TransitionTable
 down_table size = record { states = 2 * size; start = λ bits. 1; step = λ state bits. down_step size state bits.first bits.second; sign = down_sign }

@@ -5,8 +5,7 @@ use Rattle.ms_dfa.specs.Automaton.{variables_of}
 use Rattle.ms_logic.specs.declared.mode.Order.{Order}
 use Rattle.ms_logic.specs.declared.mode.Order.TheVariants.{Zero, One, Two}
 use Rattle.ms_logic.specs.Assignment.{Variable}
-use Rattle.ms_logic.specs.Lists.{AreRising}
-use Rattle.ms_dfa_explore.specs.Tracks.{IsAmong}
+use Rattle.ms_logic.specs.Lists.{AreRising, IsAmong}
 use Rattle.ms_rename.specs.Whole.{HasNoNumber}
 use Rattle.ms_build.specs.declared.lacked.Lacked.{Lacked}
 

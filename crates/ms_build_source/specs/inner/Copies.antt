@@ -5,6 +5,7 @@ use Rattle.ms_build.specs.declared.built.Built.{Built}
 use Rattle.ms_build.specs.declared.plan.Plan.{Plan}
 use Rattle.ms_build.specs.Built.{AreBuiltFor, IsLimit, entries_of}
 use Rattle.ms_build.specs.Roots.{AreRootsRead, IsRootAt}
+use Rattle.ms_build.specs.Short.{RootLacks}
 use Rattle.ms_edge.specs.declared.refusal.Refusal.{Refusal}
 use Rattle.ms_edge.specs.declared.refusal.Refusal.TheVariants.{Memory, Nodes}
 use Rattle.ms_dfa.specs.Files.{content_of_file, file_sign}
@@ -35,9 +36,9 @@ pub record IsReady (limit : ℕ) (built : Built) : Type 0 where
   pub few : length (entries_of built.plan) + length built.plan.dag.now.roots ≤ 4294967295
   pub read : AreRootsRead built.plan.dag.now
 
--- why work on a root is refused: for want of memory, or of nodes in this step. The roots count behind the nodes.
+-- why work on a root is refused: for want of memory, or since it lacks nodes. The roots count behind the nodes.
 abbrev pub IsRootRefused : Built → ℕ → ℕ → Refusal → Type 0
-IsRootRefused built root limit refusal = (refusal ≡ Memory) ⊎ (refusal ≡ Nodes (length built.automata + root) limit)
+IsRootRefused built root limit refusal = (refusal ≡ Memory) ⊎ ((refusal ≡ Nodes (length built.automata + root) limit) × RootLacks built.plan root)
 
 -- the same of the root of an export
 abbrev pub IsExportRefused : Built → List ExportUse → ℕ → Refusal → Type 0

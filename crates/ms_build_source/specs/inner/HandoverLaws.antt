@@ -3,11 +3,10 @@ use Rattle.std.specs.Prelude.{◌≡◌, List, length, map}
 use Rattle.ms_logic.specs.declared.checked.Checked.{Checked}
 use Rattle.ms_logic_core.specs.declared.core_formula.Lowered.{Lowered}
 use Rattle.ms_logic_core.specs.declared.core_formula.Root.{Root}
-use Rattle.ms_logic.specs.View.{problem_of}
+use Rattle.ms_logic.specs.View.{problem_of, Answers}
 use Rattle.ms_names_checked.specs.Exports.{ListsFreeVariables}
 use Rattle.ms_lower.specs.Calling.{calls_of}
 use Rattle.ms_lower.specs.Lowered.{HasCallingRoots, HasRoots, ListsVariables}
-use Rattle.ms_lower.specs.Measure.{Answers}
 use Rattle.ms_names_rules.specs.Numbers.{IsWellNumbered}
 use Rattle.ms_dag.specs.Imports.{RootsImportBelow}
 use Rattle.ms_dag.specs.Lowered.{IsLowered}

@@ -4,14 +4,14 @@ use Rattle.ms_list.specs.declared.word.Word.{Word}
 use Rattle.ms_logic.specs.declared.mode.Order.TheVariants.{Zero, One, Two}
 use Rattle.ms_logic_words.specs.declared.sign.Sign.TheVariants.{Yes, No}
 use Rattle.ms_logic.specs.Assignment.{Variable}
-use Rattle.ms_dfa_explore.specs.Small.{Table}
+use Rattle.ms_dfa_explore.specs.Small.{TransitionTable}
 
 -- a truth value, a number and a set
 abbrev pub one_of_each : List Variable
 one_of_each = record { name = 0; order = Zero } ∷ record { name = 1; order = One } ∷ record { name = 2; order = Two } ∷ []
 
 -- a truth value, that of the first track at the beginning, which each letter with the bit 1 for the third track turns over
-abbrev pub flips : Table
+abbrev pub flips : TransitionTable
 flips = record {
   states = 2;
   start = λ bits. if bits.first then 1 else 0;

@@ -9,8 +9,8 @@ use Rattle.ms_logic_words.specs.Content.{StateOf, Content, IsWordOver, next_stat
 use Rattle.ms_logic_words.specs.Word.{IsEncoding}
 use Rattle.ms_dfa.specs.declared.state.State.{State}
 use Rattle.ms_best.specs.FirstWord.{IsWordBefore}
-use Rattle.ms_dfafile_adopt.specs.declared.settle.Unsettled.{Unsettled}
-use Rattle.ms_dfafile_adopt.specs.declared.settle.Unsettled.TheVariants.{Open, Memory}
+use Rattle.ms_dfafile_adopt.specs.declared.in_mode.NotInMode.{NotInMode}
+use Rattle.ms_dfafile_adopt.specs.declared.in_mode.NotInMode.TheVariants.{Open, Memory}
 
 -- Yes where the sign is another than that behind a zero letter, else No; a word that encodes no assignment stays Outside
 abbrev pub change_sign : Sign → Sign → Sign
@@ -54,12 +54,12 @@ abbrev pub ShowsNoChange : Content Sign → Type 0
 ShowsNoChange content = (word : Word) → ¬ ShowsChange content word
 
 -- the same automaton in a mode; in WS1S no zero letter more changes a sign
-pub record IsSettledIn (mode : Mode) (content made : Content Sign) : Type 0 where
+pub record IsInMode (mode : Mode) (content made : Content Sign) : Type 0 where
   pub same : made ≡ record content { mode = mode }
   pub none : mode ≡ Ws1s → ShowsNoChange content
 
 -- why an automaton over strings is none over all numbers: the first word with which one zero letter more changes the sign, or
 -- memory was refused
-abbrev pub IsUnsettled : Mode → Content Sign → Unsettled → Type 0
-IsUnsettled mode content (Open word) = (mode ≡ Ws1s) × IsFirstChange content word
-IsUnsettled mode content Memory = Unit {0}
+abbrev pub IsNotInMode : Mode → Content Sign → NotInMode → Type 0
+IsNotInMode mode content (Open word) = (mode ≡ Ws1s) × IsFirstChange content word
+IsNotInMode mode content Memory = Unit {0}

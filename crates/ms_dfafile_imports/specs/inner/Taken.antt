@@ -3,6 +3,7 @@ use Rattle.std.specs.Prelude.{◌≡◌, ◌⊎◌, ℕ, if◌then◌else◌, by
 use Rattle.ms_dfafile_adopt.specs.Import.{IsImportable}
 use Rattle.ms_dfa.specs.declared.plain.Plain.{Plain}
 use Rattle.ms_edge.specs.declared.refusal.Refusal.{Refusal}
+use Rattle.ms_edge.specs.declared.refusal.Refusal.TheVariants.{Nodes}
 use Rattle.ms_edge.specs.Files.{Holding, Seen}
 use Rattle.ms_dfafile_imports.specs.Adopted.{IsAdopted}
 use Rattle.ms_dfafile_imports.specs.Imports.{IsHeld, IsMisfit, IsNoAutomaton, IsUnread}
@@ -51,7 +52,12 @@ AreNoted table [] (plain ∷ plains) = ⊥
 AreNoted table (used ∷ uses) [] = ⊥
 AreNoted table (used ∷ uses) (plain ∷ plains) = (table used.name ≡ Some plain) × AreNoted table uses plains
 
--- why an import fails
-abbrev pub IsRefusedAt : Seen → Mode → ℕ → ImportUse → Refusal → Type 0
-IsRefusedAt seen mode limit used refusal =
-    IsUnread seen used refusal ⊎ IsNoAutomaton seen.before.held used refusal ⊎ IsMisfit seen.before.held mode limit used refusal
+-- the refusal of the import at a place, whose step has the number of the place
+abbrev pub refused_at : ℕ → Refusal → Refusal
+refused_at place (Nodes step limit) = Nodes place limit
+refused_at place refusal = refusal
+
+-- why the import at a place fails
+abbrev pub IsRefusedAt : Seen → Mode → ℕ → ℕ → ImportUse → Refusal → Type 0
+IsRefusedAt seen mode limit place used refusal =
+    IsUnread seen used refusal ⊎ IsNoAutomaton seen.before.held used refusal ⊎ IsMisfit seen.before.held mode limit place used refusal

@@ -11,7 +11,7 @@ use Rattle.ms_logic.specs.Assignment.{Universe}
 use Rattle.ms_logic.specs.Tree.{Declaration, Form, Predicate}
 use Rattle.ms_logic.specs.Truth.{Answer}
 use Rattle.ms_logic.specs.Verdict.{Problem}
-use Rattle.ms_logic.specs.View.{formula_of, forms, globals_from, import_of, predicate_of, problem_of}
+use Rattle.ms_logic.specs.View.{formula_of, forms, globals_from, import_of, predicate_of, problem_of, Answers}
 use Rattle.ms_names_rules.specs.TypedSource.{IsTyped, TypedFormula, TypedGlobal, global_of, placed_formula_of}
 
 -- what is there of some values
@@ -42,9 +42,6 @@ same_globals count (g ∷ more) = ap (λ ds. (let first : Declaration = record {
 same_formulas : (formulas : List code.Placed) → map (λ (f : code.Placed). formula_of f.formula) formulas ≡ map (λ (f : TypedFormula). f.formula) (map placed_formula_of formulas)
 same_formulas [] = refl
 same_formulas (f ∷ more) = ap (λ fs. formula_of f.formula ∷ fs) (same_formulas more)
-
-abbrev Answers : Type 0
-Answers = List (Universe → List Value → Answer)
 
 abbrev problem_by : Answers → Mode → List Declaration → List Predicate → List ImportUse → List Form → Problem
 problem_by answers mode globals predicates imports formulas = record {

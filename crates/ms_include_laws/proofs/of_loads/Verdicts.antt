@@ -4,8 +4,8 @@ use Rattle.ms_edge.specs.declared.refusal.Refusal.{Refusal}
 use Rattle.ms_logic.specs.declared.checked.Checked.{Checked}
 use Rattle.ms_logic.specs.declared.source.Loaded.{Loaded}
 use Rattle.ms_logic_core.specs.Size.{depth_of_source, size_of_source}
-use Rattle.ms_logic.specs.View.{problem_of}
-use Rattle.ms_lower.specs.Measure.{Answers, IsDepthRefusal, IsSizeRefusal}
+use Rattle.ms_logic.specs.View.{problem_of, Answers}
+use Rattle.ms_lower.specs.Measure.{IsDepthRefusal, IsSizeRefusal}
 use Rattle.ms_names_rules.specs.declared.fault.Fault.{Fault}
 use Rattle.ms_names_rules.specs.Checking.{IsFirstFault}
 use Rattle.ms_names_rules.specs.Declarations.{first_fault_of}

@@ -9,7 +9,7 @@ use Rattle.ms_logic_core.specs.Roots.{Root, IsRoot, main_root}
 use Rattle.ms_logic_core.specs.SameUpToBound.{SameUpToBound, SameRoot}
 use Rattle.ms_logic.specs.Truth.{Answer, Import}
 use Rattle.ms_logic.specs.Verdict.{variables_of}
-use Rattle.ms_logic.specs.View.{problem_of}
+use Rattle.ms_logic.specs.View.{problem_of, Answers}
 use Rattle.ms_names_rules.specs.Numbers.{IsWellNumbered}
 use Rattle.ms_logic_spread.specs.RootLaws.{RootYes, RootNo, HasRootValue}
 
@@ -42,7 +42,7 @@ SameRootsHaveOneValue =
 -- what is the main root up to bound variables has the main value, over the globals
 abbrev pub SameMainRootKeepsValue : Type 0
 SameMainRootKeepsValue =
-    (checked : Checked) (answers : List (Universe → List Value → Answer)) (root : Root)
+    (checked : Checked) (answers : Answers) (root : Root)
     → IsWellNumbered checked → SameRoot (problem_of checked answers).given.imports (length checked.globals) (main_root (problem_of checked answers)) root
     → (root.variables ≡ variables_of (problem_of checked answers).globals) × HasRootValue (problem_of checked answers) 0 root
 
@@ -50,7 +50,7 @@ SameMainRootKeepsValue =
 -- root, where its own have the same values
 abbrev pub SameRootsKeepValues : Type 0
 SameRootsKeepValues =
-    (checked : Checked) (answers : List (Universe → List Value → Answer)) (i : ℕ) (left right : Root) (e : Env)
+    (checked : Checked) (answers : Answers) (i : ℕ) (left right : Root) (e : Env)
     → IsWellNumbered checked → IsRoot (problem_of checked answers) i right
     → SameRoot (problem_of checked answers).given.imports (length checked.globals) left right → IsAssignment checked.mode right.variables e
     → (RootYes (problem_of checked answers) i e ↔ CoreYes (problem_of checked answers).given.imports left.formula (with_values_of right.variables left.variables e))

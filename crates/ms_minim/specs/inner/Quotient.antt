@@ -6,12 +6,13 @@ use Rattle.ms_arena.specs.declared.node.Ref.{Ref}
 use Rattle.ms_arena.specs.Diagram.{Bits, leaf_of}
 use Rattle.ms_arena.specs.Target.{Target, Extends}
 use Rattle.ms_diagram.specs.Numbering.{IsNumbering}
-use Rattle.ms_minim.specs.Reading.{IsRead}
+use Rattle.ms_minim.specs.SignReading.{IsRead}
 use Rattle.ms_logic_words.specs.declared.sign.Sign.{Sign}
 use Rattle.ms_logic_words.specs.declared.sign.Sign.TheVariants.{Outside}
 use Rattle.ms_logic_words.specs.Content.{Content, IsWordOver, last_state, sign_at}
 use Rattle.ms_dfa_explore.specs.Explored.{Findings}
 use Rattle.ms_minim.specs.inner.Partition.{IsIdentity, AreNerodeClasses, next_by}
+use Rattle.ms_logic_words.specs.Signs.{sign_or_outside}
 
 -- the number of the class of a state
 pub record IsNumberOf (classes : List ℕ) (pairs : List (ℕ × ℕ)) (state number : ℕ) : Type 0 where
@@ -36,11 +37,6 @@ NumberBehind content classes pairs root = λ bits number. IsNumberOf classes pai
 -- the pair of a class to which some bits lead from the reference
 abbrev pub IsClassBehind : Content Sign → List ℕ → Ref → ℕ × ℕ → Type 0
 IsClassBehind content classes root pair = (bits : Bits) × (slice_get classes (leaf_of content.nodes root bits) ≡ Some pair.0) × (pair.1 ≡ 0)
-
--- the sign of a state, and Outside for a number of no state
-abbrev pub sign_or_outside : Option Sign → Sign
-sign_or_outside None = Outside
-sign_or_outside (Some sign) = sign
 
 -- the sign of the state by which the class of a number is known
 abbrev pub sign_of_number : Content Sign → List ℕ → Option (ℕ × ℕ) → Sign

@@ -16,7 +16,7 @@ use Rattle.ms_names_rules.specs.TypedSource.{typed_default, typed_predicate}
 use Rattle.ms_names_rules.specs.Uses.{import_at}
 use Rattle.ms_names.specs.declared.outcome.Outcome.{Outcome}
 use Rattle.ms_names.specs.declared.outcome.Outcome.TheVariants.{Globals, Predicate, Formula, Nothing}
-use Rattle.ms_names_scopes.specs.inner.State.{State}
+use Rattle.ms_names_scopes.specs.inner.Found.{Found}
 
 pub data Made : Type 0 where
   made_globals : (vs : Option (List tree.Declaration)) → Made
@@ -40,7 +40,7 @@ outcome_of (Formula f) = made_formula (option_map code.formula_of f)
 outcome_of Nothing = made_nothing
 
 -- a check after a declaration, with what was read
-abbrev pub declared_in : State → Known → Declaration → List Reading → State
+abbrev pub declared_in : Found → Known → Declaration → List Reading → Found
 declared_in s k d reads = record {
   scope = (after_declaration k d).scope;
   before = (after_declaration k d).before;

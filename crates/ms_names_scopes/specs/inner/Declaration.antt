@@ -12,7 +12,7 @@ use Rattle.ms_names_rules.specs.Syntax.{Bytes, Declaration}
 use Rattle.ms_names_rules.specs.Uses.{import_at}
 use Rattle.ms_names_scopes.specs.declared.sum.Total.{Total}
 use Rattle.ms_names_scopes.specs.declared.sum.Total.TheVariants.{Value, LeavesRange, HasNoValue}
-use Rattle.ms_names_scopes.specs.inner.State.{State}
+use Rattle.ms_names_scopes.specs.inner.Found.{Found}
 
 abbrev pub Files : Type 0
 Files = List Bytes
@@ -23,11 +23,11 @@ sum_of LeavesRange = leaves_range
 sum_of HasNoValue = has_no_value
 
 -- what is known before a declaration, where a check stands there
-abbrev pub known_at : State → ℕ → Files → Known
+abbrev pub known_at : Found → ℕ → Files → Known
 known_at s globals files = record { scope = s.scope; before = s.before; globals = globals; files = files }
 
 -- after a declaration but for its exports, with what it reads
-abbrev pub told : State → Known → Declaration → List Reading → State
+abbrev pub told : Found → Known → Declaration → List Reading → Found
 told s k d reads = record {
   scope = scope_after k d;
   before = before_after k.before d;
@@ -38,9 +38,9 @@ told s k d reads = record {
 }
 
 -- with one more predicate, macro or default restriction, which reads what is read so far
-abbrev pub read_through : State → State
+abbrev pub read_through : Found → Found
 read_through s = record s { scope = record s.scope { readings = s.reads ∷ s.scope.readings }; reads = [] }
 
 -- the same with the name of the predicate, whose parameters have these orders
-abbrev pub named : State → Bytes → List Order → State
+abbrev pub named : Found → Bytes → List Order → Found
 named s n orders = record (read_through s) { scope = bind n (Predicate (next_predicate s.scope) orders) (read_through s).scope }

@@ -63,28 +63,28 @@ pub data Context : Type 0 where
   in_predicate : (d : Document) (head : Head) (vs : Variables) → Context
   in_default : (d : Document) (at : At) (o : Order) (n : List ℕ) → Context
 
-pub data State : Type 0 where
+pub data Configuration : Type 0 where
   -- between two declarations
-  outside : (d : Document) → State
+  outside : (d : Document) → Configuration
   -- an expression is wanted
-  wanted : (c : Context) (st : List Frame) → State
+  wanted : (c : Context) (st : List Frame) → Configuration
   -- an expression has been read, which may go on
-  holding : (c : Context) (e : Expression) (st : List Frame) → State
-  variable_wanted : (c : Context) (st : List Frame) (at : At) (q : Quant) (o : Order) (vs : Variables) → State
-  part_wanted : (c : Context) (st : List Frame) (at : At) (o : Order) (parts : Parts) → State
-  pair_wanted : (c : Context) (st : List Frame) (at : At) (file : List ℕ) (pairs : List Rename) → State
-  global_wanted : (d : Document) (at : At) (o : Order) (vs : Variables) → State
-  parameter_wanted : (d : Document) (head : Head) (vs : Variables) → State
-  summand_wanted : (d : Document) (at : At) (at_n : At) (n : List ℕ) (sum : List PlacedInt) → State
+  holding : (c : Context) (e : Expression) (st : List Frame) → Configuration
+  variable_wanted : (c : Context) (st : List Frame) (at : At) (q : Quant) (o : Order) (vs : Variables) → Configuration
+  part_wanted : (c : Context) (st : List Frame) (at : At) (o : Order) (parts : Parts) → Configuration
+  pair_wanted : (c : Context) (st : List Frame) (at : At) (file : List ℕ) (pairs : List Rename) → Configuration
+  global_wanted : (d : Document) (at : At) (o : Order) (vs : Variables) → Configuration
+  parameter_wanted : (d : Document) (head : Head) (vs : Variables) → Configuration
+  summand_wanted : (d : Document) (at : At) (at_n : At) (n : List ℕ) (sum : List PlacedInt) → Configuration
 
 -- What a step comes to. Where it is stuck, the symbols are those from the one at fault on.
-pub data Step : Type 0 where
-  -- a state, and the symbols behind what has been taken
-  took : (s : State) (ts : List Placed) → Step
+pub data Move : Type 0 where
+  -- a configuration, and the symbols behind what has been taken
+  took : (s : Configuration) (ts : List Placed) → Move
   -- the first of the symbols cannot stand there
-  misplaced : (from : List Placed) → Step
+  misplaced : (from : List Placed) → Move
   -- with the first of the symbols an expression is too deep
-  too_deep : (from : List Placed) → Step
+  too_deep : (from : List Placed) → Move
 
 -- the least level of the expression that is wanted
 abbrev pub need : List Frame → ℕ
@@ -157,7 +157,7 @@ collapse limit b e [] = Some (e, [])
 collapse limit b e (f ∷ st) = cond (ends b f) (cond (leb (depth (completed f e)) limit) (collapse limit b (completed f e) st) None) (Some (e, f ∷ st))
 
 -- where no frame can be completed, the symbol behind it makes the expression too deep
-abbrev pub on_top : (Top → Step) → List Placed → Option Top → Step
+abbrev pub on_top : (Top → Move) → List Placed → Option Top → Move
 on_top further from None = too_deep from
 on_top further from (Some top) = further top
 
@@ -183,55 +183,55 @@ is_mark word_ws1s word_ws1s = true
 is_mark m s = false
 
 -- the symbol, or other symbols
-abbrev pub either_mark : Symbol → (List Placed → Step) → (List Placed → Step) → List Placed → Step
+abbrev pub either_mark : Symbol → (List Placed → Move) → (List Placed → Move) → List Placed → Move
 either_mark m further other [] = other []
 either_mark m further other (placed s a ∷ ts) = cond (is_mark m s) (further ts) (other (placed s a ∷ ts))
 
-abbrev pub mark_then : Symbol → (List Placed → Step) → List Placed → Step
+abbrev pub mark_then : Symbol → (List Placed → Move) → List Placed → Move
 mark_then m further ts = either_mark m further misplaced ts
 
-abbrev pub equal_then : (List Placed → Step) → List Placed → Step
+abbrev pub equal_then : (List Placed → Move) → List Placed → Move
 equal_then further ts = mark_then (infix_operator (Relation Equal)) further ts
 
-abbrev pub name_then : (At → List ℕ → List Placed → Step) → List Placed → Step
+abbrev pub name_then : (At → List ℕ → List Placed → Move) → List Placed → Move
 name_then further (placed (name n) a ∷ ts) = further a n ts
 name_then further ts = misplaced ts
 
-abbrev pub text_then : (At → List ℕ → List Placed → Step) → List Placed → Step
+abbrev pub text_then : (At → List ℕ → List Placed → Move) → List Placed → Move
 text_then further (placed (text t) a ∷ ts) = further a t ts
 text_then further ts = misplaced ts
 
 -- a number or constant, behind `-` where `minus` is true
-abbrev pub int_then : Bool → (PlacedInt → List Placed → Step) → List Placed → Step
+abbrev pub int_then : Bool → (PlacedInt → List Placed → Move) → List Placed → Move
 int_then minus further (placed (number n) a ∷ ts) = further (record { at = a; value = Number n; minus = minus }) ts
 int_then minus further (placed (name n) a ∷ ts) = further (record { at = a; value = Constant n; minus = minus }) ts
 int_then minus further ts = misplaced ts
 
 -- any symbol; `further` sees the symbols from it on and those behind it
-abbrev pub symbol_then : (At → Symbol → List Placed → List Placed → Step) → List Placed → Step
+abbrev pub symbol_then : (At → Symbol → List Placed → List Placed → Move) → List Placed → Move
 symbol_then further [] = misplaced []
 symbol_then further (placed s a ∷ ts) = further a s (placed s a ∷ ts) ts
 
 -- the kind of a parameter, which the first one has, and a further one may take from the one before it
-abbrev pub kind_then : Variables → (Order → List Placed → Step) → List Placed → Step
+abbrev pub kind_then : Variables → (Order → List Placed → Move) → List Placed → Move
 kind_then vs further (placed (kind o) a ∷ ts) = further o ts
 kind_then no_variables further ts = misplaced ts
 kind_then (and_variable vs at o n x) further ts = further o ts
 
 -- a pair of an import
-abbrev pub pair_then : (Rename → List Placed → Step) → List Placed → Step
+abbrev pub pair_then : (Rename → List Placed → Move) → List Placed → Move
 pair_then further ts = name_then (λ a l. mark_then arrow (name_then (λ b r. further (record { at = a; left = l; at_right = b; right = r })))) ts
 
 -- an expression is wanted in a new frame, where the depth leaves room for it
-abbrev pub enter : ℕ → Context → Frame → List Frame → Step → List Placed → Step
+abbrev pub enter : ℕ → Context → Frame → List Frame → Move → List Placed → Move
 enter limit c f st otherwise ts = cond (leb (suc (length st) + max 1 (frame_depth f)) limit) (took (wanted c (f ∷ st)) ts) otherwise
 
 -- the step is taken where the depth leaves room for an expression in a new frame
-abbrev pub with_room : ℕ → List Frame → List Placed → Step → Step
+abbrev pub with_room : ℕ → List Frame → List Placed → Move → Move
 with_room limit st from step = cond (leb (suc (suc (length st))) limit) step (too_deep from)
 
--- a quantifier or a `let` begins an expression, which leads to the state
-abbrev pub begin_binding : ℕ → List Frame → State → List Placed → List Placed → Step
+-- a quantifier or a `let` begins an expression, which leads to the configuration
+abbrev pub begin_binding : ℕ → List Frame → Configuration → List Placed → List Placed → Move
 begin_binding limit st s from ts = cond (leb (need st) 4) (with_room limit st from (took s ts)) (misplaced from)
 
 -- a symbol that an expression may begin with
@@ -254,40 +254,40 @@ starter open_curly = true
 starter _ = false
 
 -- where the depth leaves no room inside a list, which may be closed at once
-abbrev pub unopened : List Placed → Step
+abbrev pub unopened : List Placed → Move
 unopened [] = misplaced []
 unopened (placed s a ∷ ts) = cond (starter s) (too_deep (placed s a ∷ ts)) (misplaced (placed s a ∷ ts))
 
-abbrev pub enter_list : ℕ → Context → At → Listing → List Frame → List Placed → Step
+abbrev pub enter_list : ℕ → Context → At → Listing → List Frame → List Placed → Move
 enter_list limit c at l st ts = enter limit c (list_frame at l no_expressions) st (unopened ts) ts
 
 -- In what follows `from` are the symbols from the one that has been taken last on, and `ts` those behind it.
 
 -- an expression begins
 
-abbrev pub begin_name : ℕ → Context → List Frame → At → List ℕ → List Placed → Step
+abbrev pub begin_name : ℕ → Context → List Frame → At → List ℕ → List Placed → Move
 begin_name limit c st at n ts =
     either_mark open_round (either_mark close_round (took (holding c (listed at (Call n) no_expressions) st)) (enter_list limit c at (Call n) st)) (took (holding c (atom at (named n)) st)) ts
 
-abbrev pub begin_empty : ℕ → Context → List Frame → At → List Placed → Step
+abbrev pub begin_empty : ℕ → Context → List Frame → At → List Placed → Move
 begin_empty limit c st at ts = either_mark open_round (enter limit c (bracket_frame at Emptiness) st (too_deep ts)) (took (holding c (atom at empty_set) st)) ts
 
-abbrev pub begin_literal : ℕ → Context → List Frame → At → List Placed → Step
+abbrev pub begin_literal : ℕ → Context → List Frame → At → List Placed → Move
 begin_literal limit c st at ts = either_mark close_curly (took (holding c (listed at Literal no_expressions) st)) (enter_list limit c at Literal st) ts
 
-abbrev pub begin_pconst : Context → List Frame → At → List Placed → Step
+abbrev pub begin_pconst : Context → List Frame → At → List Placed → Move
 begin_pconst c st at ts = mark_then open_round (int_then false (λ v. mark_then close_round (took (holding c (atom at (pconst v)) st)))) ts
 
-abbrev pub begin_import : Context → List Frame → At → List Placed → Step
+abbrev pub begin_import : Context → List Frame → At → List Placed → Move
 begin_import c st at ts = mark_then open_round (text_then (λ a file. took (pair_wanted c st at file []))) ts
 
-abbrev pub begin_restrict : Context → List Frame → At → List Placed → Step
+abbrev pub begin_restrict : Context → List Frame → At → List Placed → Move
 begin_restrict c st at ts = mark_then open_round (took (wanted c (bracket_frame at Restriction ∷ st))) ts
 
-abbrev pub begin_export : Context → List Frame → At → List Placed → Step
+abbrev pub begin_export : Context → List Frame → At → List Placed → Move
 begin_export c st at ts = mark_then open_round (text_then (λ a file. mark_then comma (took (wanted c (bracket_frame at (Export a file) ∷ st))))) ts
 
-abbrev pub begin : ℕ → Context → List Frame → At → Symbol → List Placed → List Placed → Step
+abbrev pub begin : ℕ → Context → List Frame → At → Symbol → List Placed → List Placed → Move
 begin limit c st at word_true from ts = took (holding c (atom at truth) st) ts
 begin limit c st at word_false from ts = took (holding c (atom at falsity) st) ts
 begin limit c st at dollar from ts = took (holding c (atom at whole) st) ts
@@ -307,19 +307,19 @@ begin limit c st at _ from ts = misplaced from
 
 -- an expression goes on, or ends
 
-abbrev pub shift : ℕ → Context → Binary → Top → List Placed → List Placed → Step
+abbrev pub shift : ℕ → Context → Binary → Top → List Placed → List Placed → Move
 shift limit c op (e, st) from ts = cond (leb (left_level op) (level e)) (enter limit c (left_frame op e) st (too_deep from) ts) (misplaced from)
 
-abbrev pub join_new : ℕ → Context → Junction → Expression → List Frame → List Placed → List Placed → Step
+abbrev pub join_new : ℕ → Context → Junction → Expression → List Frame → List Placed → List Placed → Move
 join_new limit c op e st from ts =
     cond (leb (suc (junction_level op)) (level e)) (enter limit c (joined_frame (place e) op (and_expression no_expressions e)) st (too_deep from) ts) (misplaced from)
 
-abbrev pub join : ℕ → Context → Junction → Expression → List Frame → List Placed → List Placed → Step
+abbrev pub join : ℕ → Context → Junction → Expression → List Frame → List Placed → List Placed → Move
 join limit c Conjunction e (joined_frame at Conjunction es ∷ st) from ts = enter limit c (joined_frame at Conjunction (and_expression es e)) st (too_deep from) ts
 join limit c Disjunction e (joined_frame at Disjunction es ∷ st) from ts = enter limit c (joined_frame at Disjunction (and_expression es e)) st (too_deep from) ts
 join limit c op e st from ts = join_new limit c op e st from ts
 
-abbrev pub shift_int : ℕ → Context → Bool → Expression → List Frame → List Placed → List Placed → Step
+abbrev pub shift_int : ℕ → Context → Bool → Expression → List Frame → List Placed → List Placed → Move
 shift_int limit c minus e st from ts =
     cond (leb 9 (level e)) (cond (leb (length st + suc (depth e)) limit) (int_then minus (λ n. took (holding c (shifted (place e) e n) st)) ts) (too_deep from)) (misplaced from)
 
@@ -327,24 +327,24 @@ abbrev pub declare : Document → At → Declaration → Document
 declare d at x = record { header = d.header; declarations = d.declarations ++ record { at = at; declaration = x } ∷ [] }
 
 -- the parameters of a predicate have ended
-abbrev pub body_of : Document → Head → Variables → List Placed → Step
+abbrev pub body_of : Document → Head → Variables → List Placed → Move
 body_of d head vs ts = equal_then (took (wanted (in_predicate d head vs) [])) ts
 
 -- an expression that a bracket has ended
-abbrev pub hold : ℕ → Context → Expression → List Frame → List Placed → List Placed → Step
+abbrev pub hold : ℕ → Context → Expression → List Frame → List Placed → List Placed → Move
 hold limit c e st from ts = cond (leb (depth e) limit) (took (holding c e st) ts) (too_deep from)
 
-abbrev pub close_round_at : ℕ → Context → Expression → List Frame → List Placed → List Placed → Step
+abbrev pub close_round_at : ℕ → Context → Expression → List Frame → List Placed → List Placed → Move
 close_round_at limit c e (bracket_frame at b ∷ st) from ts = hold limit c (enclosed at b e) st from ts
 close_round_at limit c e (list_frame at (Call p) es ∷ st) from ts = hold limit c (listed at (Call p) (and_expression es e)) st from ts
 close_round_at limit (in_parameter d head vs o at_v n) e [] from ts = body_of d head (and_variable vs at_v o n (restricted e)) ts
 close_round_at limit c e _ from ts = misplaced from
 
-abbrev pub close_curly_at : ℕ → Context → Expression → List Frame → List Placed → List Placed → Step
+abbrev pub close_curly_at : ℕ → Context → Expression → List Frame → List Placed → List Placed → Move
 close_curly_at limit c e (list_frame at Literal es ∷ st) from ts = hold limit c (listed at Literal (and_expression es e)) st from ts
 close_curly_at limit c e _ from ts = misplaced from
 
-abbrev pub comma_at : ℕ → Context → Expression → List Frame → List Placed → List Placed → Step
+abbrev pub comma_at : ℕ → Context → Expression → List Frame → List Placed → List Placed → Move
 comma_at limit c e (list_frame at l es ∷ st) from ts = enter limit c (list_frame at l (and_expression es e)) st (too_deep from) ts
 comma_at limit c e (domain_frame at q o vs at_v n ∷ st) from ts = took (variable_wanted c st at q o (and_variable vs at_v o n (restricted e))) ts
 comma_at limit c e (part_frame at o parts at_n n ∷ st) from ts = took (part_wanted c st at o (and_part parts at_n n e)) ts
@@ -352,22 +352,22 @@ comma_at limit (in_global d at o vs at_v n) e [] from ts = took (global_wanted d
 comma_at limit (in_parameter d head vs o at_v n) e [] from ts = took (parameter_wanted d head (and_variable vs at_v o n (restricted e))) ts
 comma_at limit c e _ from ts = misplaced from
 
-abbrev pub colon_at : ℕ → Context → Expression → List Frame → List Placed → List Placed → Step
+abbrev pub colon_at : ℕ → Context → Expression → List Frame → List Placed → List Placed → Move
 colon_at limit c e (domain_frame at q o vs at_v n ∷ st) from ts = enter limit c (body_frame at q o (and_variable vs at_v o n (restricted e))) st (too_deep from) ts
 colon_at limit c e _ from ts = misplaced from
 
-abbrev pub in_at : ℕ → Context → Expression → List Frame → List Placed → List Placed → Step
+abbrev pub in_at : ℕ → Context → Expression → List Frame → List Placed → List Placed → Move
 in_at limit c e (part_frame at o parts at_n n ∷ st) from ts = enter limit c (let_frame at o (and_part parts at_n n e)) st (too_deep from) ts
 in_at limit c e _ from ts = misplaced from
 
-abbrev pub semicolon_at : Context → Expression → List Frame → List Placed → List Placed → Step
+abbrev pub semicolon_at : Context → Expression → List Frame → List Placed → List Placed → Move
 semicolon_at (in_formula d at) e [] from ts = took (outside (declare d at (formula e))) ts
 semicolon_at (in_global d at o vs at_v n) e [] from ts = took (outside (declare d at (variables (and_variable vs at_v o n (restricted e))))) ts
 semicolon_at (in_predicate d head vs) e [] from ts = took (outside (declare d head.at (predicate head.is_pred head.at_name head.name vs e))) ts
 semicolon_at (in_default d at o n) e [] from ts = took (outside (declare d at (default_restriction o n e))) ts
 semicolon_at c e _ from ts = misplaced from
 
-abbrev pub settle : ℕ → Context → Symbol → Bool → Top → List Placed → List Placed → Step
+abbrev pub settle : ℕ → Context → Symbol → Bool → Top → List Placed → List Placed → Move
 settle limit c (infix_operator op) inside top from ts = cond (inside && is_in op) (in_at limit c top.0 top.1 from ts) (shift limit c op top from ts)
 settle limit c (joining op) inside top from ts = join limit c op top.0 top.1 from ts
 settle limit c (sign minus) inside top from ts = shift_int limit c minus top.0 top.1 from ts
@@ -379,77 +379,77 @@ settle limit c semicolon inside top from ts = semicolon_at c top.0 top.1 from ts
 settle limit c _ inside top from ts = misplaced from
 
 -- the frames that end before the symbol are completed
-abbrev pub go_on : ℕ → Context → Expression → List Frame → Symbol → List Placed → List Placed → Step
+abbrev pub go_on : ℕ → Context → Expression → List Frame → Symbol → List Placed → List Placed → Move
 go_on limit c e st s from ts = on_top (λ top. settle limit c s (in_part st) top from ts) from (collapse limit (bound (in_part st) s) e st)
 
 -- names and what stands between them
 
-abbrev pub behind_variable : ℕ → Context → List Frame → At → Quant → Order → Variables → At → List ℕ → Symbol → List Placed → List Placed → Step
+abbrev pub behind_variable : ℕ → Context → List Frame → At → Quant → Order → Variables → At → List ℕ → Symbol → List Placed → List Placed → Move
 behind_variable limit c st at q o vs at_v n word_where from ts = enter limit c (domain_frame at q o vs at_v n) st (too_deep from) ts
 behind_variable limit c st at q o vs at_v n comma from ts = took (variable_wanted c st at q o (and_variable vs at_v o n unrestricted)) ts
 behind_variable limit c st at q o vs at_v n colon from ts = enter limit c (body_frame at q o (and_variable vs at_v o n unrestricted)) st (too_deep from) ts
 behind_variable limit c st at q o vs at_v n _ from ts = misplaced from
 
-abbrev pub next_variable : ℕ → Context → List Frame → At → Quant → Order → Variables → List Placed → Step
+abbrev pub next_variable : ℕ → Context → List Frame → At → Quant → Order → Variables → List Placed → Move
 next_variable limit c st at q o vs ts = name_then (λ at_v n. symbol_then (λ a. behind_variable limit c st at q o vs at_v n)) ts
 
 -- the value of a part behind its name
-abbrev pub part_value : ℕ → Context → Frame → List Frame → List Placed → Step
+abbrev pub part_value : ℕ → Context → Frame → List Frame → List Placed → Move
 part_value limit c f st ts = equal_then (enter limit c f st (too_deep ts)) ts
 
-abbrev pub next_part : ℕ → Context → List Frame → At → Order → Parts → List Placed → Step
+abbrev pub next_part : ℕ → Context → List Frame → At → Order → Parts → List Placed → Move
 next_part limit c st at o parts ts = name_then (λ at_n n. part_value limit c (part_frame at o parts at_n n) st) ts
 
-abbrev pub next_pair : Context → List Frame → At → List ℕ → List Rename → List Placed → Step
+abbrev pub next_pair : Context → List Frame → At → List ℕ → List Rename → List Placed → Move
 next_pair c st at file pairs ts =
     either_mark close_round (took (holding c (atom at (imported file pairs)) st)) (mark_then comma (pair_then (λ pair. took (pair_wanted c st at file (pairs ++ pair ∷ []))))) ts
 
-abbrev pub behind_global : Document → At → Order → Variables → At → List ℕ → Symbol → List Placed → List Placed → Step
+abbrev pub behind_global : Document → At → Order → Variables → At → List ℕ → Symbol → List Placed → List Placed → Move
 behind_global d at o vs at_v n word_where from ts = took (wanted (in_global d at o vs at_v n) []) ts
 behind_global d at o vs at_v n comma from ts = took (global_wanted d at o (and_variable vs at_v o n unrestricted)) ts
 behind_global d at o vs at_v n semicolon from ts = took (outside (declare d at (variables (and_variable vs at_v o n unrestricted)))) ts
 behind_global d at o vs at_v n _ from ts = misplaced from
 
-abbrev pub next_global : Document → At → Order → Variables → List Placed → Step
+abbrev pub next_global : Document → At → Order → Variables → List Placed → Move
 next_global d at o vs ts = name_then (λ at_v n. symbol_then (λ a. behind_global d at o vs at_v n)) ts
 
-abbrev pub behind_parameter : Document → Head → Variables → Order → At → List ℕ → Symbol → List Placed → List Placed → Step
+abbrev pub behind_parameter : Document → Head → Variables → Order → At → List ℕ → Symbol → List Placed → List Placed → Move
 behind_parameter d head vs o at_v n word_where from ts = took (wanted (in_parameter d head vs o at_v n) []) ts
 behind_parameter d head vs o at_v n comma from ts = took (parameter_wanted d head (and_variable vs at_v o n unrestricted)) ts
 behind_parameter d head vs o at_v n close_round from ts = body_of d head (and_variable vs at_v o n unrestricted) ts
 behind_parameter d head vs o at_v n _ from ts = misplaced from
 
-abbrev pub next_parameter : Document → Head → Variables → List Placed → Step
+abbrev pub next_parameter : Document → Head → Variables → List Placed → Move
 next_parameter d head vs ts = kind_then vs (λ o. name_then (λ at_v n. symbol_then (λ a. behind_parameter d head vs o at_v n))) ts
 
-abbrev pub summand : Document → At → At → List ℕ → List PlacedInt → Symbol → List Placed → List Placed → Step
+abbrev pub summand : Document → At → At → List ℕ → List PlacedInt → Symbol → List Placed → List Placed → Move
 summand d at at_n n sum semicolon from ts = took (outside (declare d at (constant at_n n sum))) ts
 summand d at at_n n sum (sign minus) from ts = int_then minus (λ k. took (summand_wanted d at at_n n (sum ++ k ∷ []))) ts
 summand d at at_n n sum _ from ts = misplaced from
 
-abbrev pub next_summand : Document → At → At → List ℕ → List PlacedInt → List Placed → Step
+abbrev pub next_summand : Document → At → At → List ℕ → List PlacedInt → List Placed → Move
 next_summand d at at_n n sum ts = symbol_then (λ a. summand d at at_n n sum) ts
 
 -- declarations
 
-abbrev pub begin_constant : Document → At → List Placed → Step
+abbrev pub begin_constant : Document → At → List Placed → Move
 begin_constant d at ts = name_then (λ at_n n. equal_then (int_then false (λ k. took (summand_wanted d at at_n n (k ∷ []))))) ts
 
-abbrev pub behind_predicate : Document → Head → List Placed → Step
+abbrev pub behind_predicate : Document → Head → List Placed → Move
 behind_predicate d head ts =
     either_mark (infix_operator (Relation Equal)) (took (wanted (in_predicate d head no_variables) []))
     (mark_then open_round (either_mark close_round (body_of d head no_variables) (took (parameter_wanted d head no_variables)))) ts
 
-abbrev pub begin_predicate : Document → At → Bool → List Placed → Step
+abbrev pub begin_predicate : Document → At → Bool → List Placed → Move
 begin_predicate d at is_pred ts = name_then (λ at_p p. behind_predicate d (head_with at is_pred at_p p)) ts
 
-abbrev pub begin_include : Document → At → List Placed → Step
+abbrev pub begin_include : Document → At → List Placed → Move
 begin_include d at ts = text_then (λ a file. mark_then semicolon (took (outside (declare d at (included a file))))) ts
 
-abbrev pub begin_default : Document → At → Order → List Placed → Step
+abbrev pub begin_default : Document → At → Order → List Placed → Move
 begin_default d at o ts = mark_then open_round (name_then (λ a n. mark_then close_round (equal_then (took (wanted (in_default d at o n) []))))) ts
 
-abbrev pub begin_declaration : ℕ → Document → At → Symbol → List Placed → List Placed → Step
+abbrev pub begin_declaration : ℕ → Document → At → Symbol → List Placed → List Placed → Move
 begin_declaration limit d at (kind o) from ts = took (global_wanted d at o no_variables) ts
 begin_declaration limit d at word_const from ts = begin_constant d at ts
 begin_declaration limit d at (predicate_word is_pred) from ts = begin_predicate d at is_pred ts
@@ -458,7 +458,7 @@ begin_declaration limit d at (default_word o) from ts = begin_default d at o ts
 begin_declaration limit d at s from ts = begin limit (in_formula d at) [] at s from ts
 
 -- one step; each takes a symbol at least
-abbrev pub step : ℕ → State → List Placed → Step
+abbrev pub step : ℕ → Configuration → List Placed → Move
 step limit (outside d) ts = symbol_then (begin_declaration limit d) ts
 step limit (wanted c st) ts = symbol_then (begin limit c st) ts
 step limit (holding c e st) ts = symbol_then (λ a. go_on limit c e st) ts
@@ -481,20 +481,20 @@ start (placed (name n) at ∷ placed (sign true) a1 ∷ placed (name m) a2 ∷ p
 start ts = (record { header = None; declarations = [] }, ts)
 
 -- what has been read where nothing is left
-abbrev pub finished : State → List Placed → Option Document
+abbrev pub finished : Configuration → List Placed → Option Document
 finished (outside d) [] = Some d
 finished _ _ = None
 
-abbrev pub goes_on : (State → List Placed → Option Document) → Step → Option Document
+abbrev pub goes_on : (Configuration → List Placed → Option Document) → Move → Option Document
 goes_on further (took s ts) = further s ts
 goes_on further (misplaced from) = None
 goes_on further (too_deep from) = None
 
 -- what so many steps read
-abbrev pub run : ℕ → ℕ → State → List Placed → Option Document
+abbrev pub run : ℕ → ℕ → Configuration → List Placed → Option Document
 run limit zero s ts = finished s ts
 run limit (suc n) s ts = goes_on (run limit n) (step limit s ts)
 
--- from this state the symbols are read as the document
-abbrev pub Runs : ℕ → State → List Placed → Document → Type 0
+-- from this configuration the symbols are read as the document
+abbrev pub Runs : ℕ → Configuration → List Placed → Document → Type 0
 Runs limit s ts d = (n : ℕ) × (run limit n s ts ≡ Some d)

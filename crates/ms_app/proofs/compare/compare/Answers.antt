@@ -3,8 +3,8 @@ use Rattle.std.proofs.lemmas.Bool.{false≢true}
 use Rattle.std.proofs.lemmas.Result.{IfErr-weaker, IfOk-weaker}
 use Rattle.ms_edge.specs.Files.{between}
 use Rattle.ms_dfafile_imports.specs.Imports.{answers_by}
-use Rattle.ms_app.specs.Comparison.{Taken, not_comparable, problem_in}
-use Rattle.ms_app.proofs.Comparisons.{agreement_refused, both_solved, left_fails, right_fails}
+use Rattle.ms_app.specs.Comparison.{Taken, no_memory, not_comparable, problem_in}
+use Rattle.ms_app.proofs.Comparisons.{both_solved, left_fails, right_fails}
 use Rattle.ms_app.proofs.GlobalLemmas.{same_variables}
 use Rattle.ms_app.proofs.compare.compare.Goals as goal
 
@@ -53,14 +53,4 @@ returns-clause-compared g c =
     c.agree.ensures.agree
 
 pub returns-clause-refused : goal.returns-clause-refused
-returns-clause-refused g c =
-    let left = c.in-Ok.ensures.solved in
-    let right = c.in-Ok-solve_file.ensures.solved in
-    let one : Taken = record { checked = c.in-Ok.one.source.checked; plains = left.1 } in
-    let two : Taken = record { checked = c.in-Ok-solve_file.two.source.checked; plains = right.1 } in
-    let solved = both_solved c.args.pair.left.now c.args.pair.right.now c.args.limit (g.F.Files.told c.args.files.now) (g.F.Files.told c.solve_file.new.files) (g.F.Files.told c.solve_file-2.new.files)
-    c.in-Ok.ensures.only_read c.args.names.now c.solve_file.new.names c.requires.first left.0 one left.2 left.5 two (right.0, right.2) in
-    let same = c.have_same_globals.ensures.0 c.if-not-have_same_globals.false in
-    IfErr-weaker c.agree.result _ _
-    (agreement_refused c.args.pair.left.now c.args.pair.right.now c.args.limit (between (g.F.Files.told c.args.files.now) (g.F.Files.told c.solve_file-2.new.files)) one two solved same c.solve_file-2.new.names)
-    c.agree.ensures.refused
+returns-clause-refused g c = IfErr-weaker c.agree.result _ _ (λ refusal memory. no_memory memory) c.agree.ensures.refused

@@ -1,7 +1,6 @@
-use Rattle.std.proofs.Common.{inl, inr, ⊎_elim, Option, map, sym, subst}
+use Rattle.std.proofs.Common.{Option, map, sym, subst}
 use Rattle.ms_logic.specs.View.{problem_of}
 use Rattle.ms_report.specs.declared.found.Stats.{Stats}
-use Rattle.ms_build_source.specs.Limits.{lacks_nodes}
 use Rattle.ms_app.specs.Counts.{HasStats}
 use Rattle.ms_app.proofs.Decisions.{as_many, names_good, writable}
 use Rattle.ms_app.proofs.decide.decide.Goals as goal
@@ -17,9 +16,6 @@ made_of-requires-clause-long c =
 pub made_of-requires-clause-writable : goal.made_of-requires-clause-writable
 made_of-requires-clause-writable c =
     let taken = c.args.taken.now in writable taken.source.checked c.requires.right taken.imports c.requires.imports c.in-Ok.solution c.in-Ok.ensures.exports c.in-Ok.ensures.small
-
-pub returns-in-Err-made_of-clause-refused : goal.returns-in-Err-made_of-clause-refused
-returns-in-Err-made_of-clause-refused c = λ answers long. ⊎_elim inl (λ lacks. inr (lacks_nodes (c.in-Ok.ensures.within answers) lacks.0 lacks.1)) c.in-Err-made_of.ensures.refused
 
 pub returns-in-Ok-found-clause-found : goal.returns-in-Ok-found-clause-found
 returns-in-Ok-found-clause-found c = λ answers are.

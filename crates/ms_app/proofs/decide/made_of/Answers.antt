@@ -24,4 +24,4 @@ returns-clause-files c = λ problem names is exports.
     let files = pairs_of c.in-Ok.files in
     let spelled = spelled_here c.slice.result.now uses c.slice-2.result.now plains files c.slice.ensures c.slice-2.ensures c.in-Ok.ensures in
     files_with problem names uses plains files (pairs_of c.in-Ok-with_main.files) (option_copied c.args.options.out) c.in-Ok-canonical_of.content spelled exports
-    (c.in-Ok-canonical_of.ensures.file problem names is) c.in-Ok-with_main.ensures.files
+    (c.in-Ok-canonical_of.ensures.file problem names is) c.in-Ok-with_main.ensures

@@ -8,8 +8,8 @@ use Rattle.ms_basic.specs.inner.Repeated.{constant_table}
 use Rattle.ms_basic.proofs.ConstantLemmas.{constant_tells, constant_values}
 use Rattle.ms_basic.proofs.constants.constant.Goals as goal
 
-pub build-requires-clause-tells : goal.build-requires-clause-tells
-build-requires-clause-tells c =
+pub from_machine-requires-clause-tells : goal.from_machine-requires-clause-tells
+from_machine-requires-clause-tells c =
     subst (λ (tracks : List Track). TellsWords c.args.mode (variables_of tracks) (constant_table c.args.holds)) (sym c.new.ensures) (constant_tells c.args.mode c.args.holds)
 
 pub returns-in-Ok-clause-values : goal.returns-in-Ok-clause-values

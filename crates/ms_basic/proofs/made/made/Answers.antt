@@ -15,16 +15,16 @@ wiring_of-wiring-requires g c =
       few_tracks c.args.count c.args.form c.in-Ok.all c.slice.result.now c.in-Ok.ensures c.slice.ensures c.in-Ok-distinct.tracks c.in-Ok-distinct.ensures,
     )
 
-pub build-requires-clause-few : goal.build-requires-clause-few
-build-requires-clause-few g c =
+pub from_machine-requires-clause-few : goal.from_machine-requires-clause-few
+from_machine-requires-clause-few g c =
     few_tracks c.args.count c.args.form c.in-Ok.all c.slice.result.now c.in-Ok.ensures c.slice.ensures c.in-Ok-distinct.tracks c.in-Ok-distinct.ensures
 
-pub build-requires-clause-rising : goal.build-requires-clause-rising
-build-requires-clause-rising g c =
+pub from_machine-requires-clause-rising : goal.from_machine-requires-clause-rising
+from_machine-requires-clause-rising g c =
     subst AreRising (sym c.in-Ok-distinct.ensures) (distinct-rising (variables_of (take c.args.count c.slice.result.now)))
 
-pub build-requires-clause-tells : goal.build-requires-clause-tells
-build-requires-clause-tells g c =
+pub from_machine-requires-clause-tells : goal.from_machine-requires-clause-tells
+from_machine-requires-clause-tells g c =
     let operands = take c.args.count (variables_of_basic c.args.form) in
     tells_wired c.args.setting.mode operands (variables_of c.in-Ok-distinct.tracks) c.wiring_of-wiring.result c.args.form (g.M.SmallMachine.table c.args.machine)
     (orders-take c.args.count (variables_of_basic c.args.form) c.requires.orders) (few_taken c.args.count c.args.form) c.requires.decides
@@ -36,12 +36,12 @@ pub returns : goal.returns
 returns g c =
     let operands = take c.args.count (variables_of_basic c.args.form) in
     record {
-      made = relation_built c.args.setting.mode operands (variables_of c.in-Ok-distinct.tracks) c.wiring_of-wiring.result c.args.form (g.M.SmallMachine.table c.args.machine) c.build.result
+      made = relation_built c.args.setting.mode operands (variables_of c.in-Ok-distinct.tracks) c.wiring_of-wiring.result c.args.form (g.M.SmallMachine.table c.args.machine) c.from_machine.result
           (orders-take c.args.count (variables_of_basic c.args.form) c.requires.orders) (few_taken c.args.count c.args.form) c.requires.decides
           (tracks_are c.args.count c.args.form c.in-Ok.all c.slice.result.now c.in-Ok.ensures c.slice.ensures c.in-Ok-distinct.tracks c.in-Ok-distinct.ensures)
           (wires c.args.count c.args.form c.in-Ok.all c.slice.result.now c.in-Ok.ensures c.slice.ensures c.in-Ok-distinct.tracks c.in-Ok-distinct.ensures
           c.wiring_of-wiring.result c.slice-2.result.now c.slice-2.ensures c.wiring_of-wiring.ensures)
-          c.requires.variables c.build.ensures.mode c.build.ensures.variables c.build.ensures.signs;
-      within = c.build.ensures.within;
-      nodes = c.build.ensures.nodes;
+          c.requires.variables c.from_machine.ensures.mode c.from_machine.ensures.variables c.from_machine.ensures.signs;
+      within = c.from_machine.ensures.within;
+      nodes = c.from_machine.ensures.nodes;
     }

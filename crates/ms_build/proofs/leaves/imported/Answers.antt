@@ -1,4 +1,4 @@
-use Rattle.std.proofs.Common.{◌≡◌, length, ap, sym, subst, ◌∙◌}
+use Rattle.std.proofs.Common.{◌≡◌, ◌<◌, ◌+◌, inl, inr, length, ap, sym, subst, ◌∙◌, rules}
 use Rattle.std.proofs.lemmas.Option.{same_Some}
 use Rattle.ms_basic.specs.Operands.{HaveOneOrder}
 use Rattle.ms_logic_words.specs.Content.{Content}
@@ -6,6 +6,9 @@ use Rattle.ms_logic_words.specs.declared.sign.Sign.{Sign}
 use Rattle.ms_rename.specs.Renamed.{renamed}
 use Rattle.ms_build.proofs.ChildLemmas.{as_long, one_order}
 use Rattle.ms_build.proofs.ImportLemmas.{imported_by}
+use Rattle.ms_rename.specs.Renamed.{NeedsAtLeast, renamed_places}
+use Rattle.ms_build.specs.Short.{ImportLacks}
+use Rattle.ms_build.proofs.RefusalLemmas.{fault_more, refused_more}
 use Rattle.ms_build.proofs.leaves.imported.Goals as goal
 
 pub rename-requires-clause-long : goal.rename-requires-clause-long
@@ -13,24 +16,48 @@ rename-requires-clause-long c =
     let is = c.requires.import in
     let content = c.get-automaton.result.now in
     let same : is.0 ≡ content = same_Some is.0 content (sym is.1 ∙ c.get-automaton.ensures) in
-    let variables = ap (λ (d : Content Sign). d.variables) (sym same) ∙ is.3.1 in
-    ap length c.slice.ensures ∙ as_long c.args.orders.now c.args.variables.now is.3.0 is.3.2 content variables
+    let few = c.in_ok-few.few in
+    let variables = c.in_ok-few.ensures.variables ∙ ap (λ (d : Content Sign). d.variables) (sym same) ∙ is.3.1 in
+    ap length c.slice.ensures ∙ as_long c.args.orders.now c.args.variables.now is.3.0 is.3.2 few variables
 
 pub rename-requires-clause-orders : goal.rename-requires-clause-orders
 rename-requires-clause-orders c =
     let is = c.requires.import in
     let content = c.get-automaton.result.now in
     let same : is.0 ≡ content = same_Some is.0 content (sym is.1 ∙ c.get-automaton.ensures) in
-    let variables = ap (λ (d : Content Sign). d.variables) (sym same) ∙ is.3.1 in
-    subst (λ map. HaveOneOrder (renamed map content.variables)) (sym c.slice.ensures) (one_order c.args.orders.now c.args.variables.now is.3.0 is.3.2 content variables)
+    let few = c.in_ok-few.few in
+    let variables = c.in_ok-few.ensures.variables ∙ ap (λ (d : Content Sign). d.variables) (sym same) ∙ is.3.1 in
+    subst (λ map. HaveOneOrder (renamed map few.variables)) (sym c.slice.ensures) (one_order c.args.orders.now c.args.variables.now is.3.0 is.3.2 few variables)
 
-pub returns : goal.returns
-returns c =
+pub returns-clause-import : goal.returns-clause-import
+returns-clause-import c =
     let plan = c.args.plan.now in
     let is = c.requires.import in
     let content = c.get-automaton.result.now in
     let same : is.0 ≡ content = same_Some is.0 content (sym is.1 ∙ c.get-automaton.ensures) in
     let variables = ap (λ (d : Content Sign). d.variables) (sym same) ∙ is.3.1 in
     let mode = ap (λ (d : Content Sign). d.mode) (sym same) ∙ is.2 in
-    imported_by plan.imports.now plan.mode c.args.orders.now c.args.number content c.get-automaton.ensures c.states.ensures.automaton mode is.3.0 variables c.args.variables.now is.3.2 c.slice.result.now
+    let few = c.in_ok-few.ensures in
+    imported_by plan.imports.now plan.mode c.args.orders.now c.args.number content c.get-automaton.ensures c.states.ensures.automaton mode is.3.0 variables
+    c.in_ok-few.few c.states-2.ensures.automaton few.mode few.variables few.signs c.args.variables.now is.3.2 c.slice.result.now
     c.slice.ensures c.rename.result c.rename.ensures.mode c.rename.ensures.variables c.rename.ensures.values
+
+pub returns-in_err-few-clause-nodes : goal.returns-in_err-few-clause-nodes
+returns-in_err-few-clause-nodes c =
+    let plan = c.args.plan.now in
+    let content = c.get-automaton.result.now in
+    fault_more (Content Sign) (λ refused. (refused ≡ plan.limit) × (plan.limit < length content.nodes + length content.states)) (λ refused. ImportLacks plan c.args.number c.args.variables.now) c.in_err-few.field-0.0 c.from_residual.result (search rules)
+    (λ refused why. record { content = content; here = c.get-automaton.ensures; short = inl why.1 }) c.in_err-few.ensures.nodes
+
+pub returns-clause-nodes : goal.returns-clause-nodes
+returns-clause-nodes c =
+    let plan = c.args.plan.now in
+    let few = c.in_ok-few.few in
+    refused_more (λ refused. (refused ≡ plan.limit) × NeedsAtLeast plan.limit few (renamed_places c.slice.result.now few.variables)) (λ refused. ImportLacks plan c.args.number c.args.variables.now) c.rename.result
+    (λ refused why.
+    record {
+      content = c.get-automaton.result.now;
+      here = c.get-automaton.ensures;
+      short = inr (few, c.in_ok-few.ensures.signs, c.in_ok-few.ensures.fewest, subst (λ map. NeedsAtLeast plan.limit few (renamed_places map few.variables)) c.slice.ensures why.1);
+    })
+    c.rename.ensures.nodes

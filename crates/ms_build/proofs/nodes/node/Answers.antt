@@ -1,7 +1,11 @@
-use Rattle.std.proofs.Common.{◌≡◌, length, slice_get, Some, refl}
+use Rattle.std.proofs.Common.{◌≡◌, ◌<◌, ◌+◌, inl, inr, length, slice_get, Some, refl, rules}
 use Rattle.ms_build.specs.Built.{entries_of}
-use Rattle.ms_build.proofs.FormLemmas.{IsOver-node, built_by}
+use Rattle.ms_build.proofs.FormLemmas.{IsOver-node, node_by, too_small}
+use Rattle.ms_build.specs.Short.{FormLacks, NodeLacks}
+use Rattle.ms_build.proofs.RefusalLemmas.{fault_more, refused_more}
 use Rattle.ms_build.proofs.nodes.node.Goals as goal
+use Rattle.ms_logic_words.specs.Content.{Content}
+use Rattle.ms_logic_words.specs.declared.sign.Sign.{Sign}
 
 pub of_form-requires-clause-node : goal.of_form-requires-clause-node
 of_form-requires-clause-node c =
@@ -17,11 +21,26 @@ of_form-requires-clause-imports c i xs same =
     let plan = c.args.plan.now in
     c.requires.imports (length c.args.built.now) c.entry-entry.result.now i xs c.entry-entry.ensures same
 
-pub returns : goal.returns
-returns c =
+pub returns-clause-built : goal.returns-clause-built
+returns-clause-built c =
     let plan = c.args.plan.now in
     let entry = c.entry-entry.result.now in
     let part = c.in_ok-part.part in
     let held : slice_get (entries_of plan) (length c.args.built.now) ≡ Some entry = c.entry-entry.ensures in
-    let over = IsOver-node plan c.requires.nodes (length c.args.built.now) entry held part c.states.ensures.automaton entry.node refl c.in_ok-part.ensures in
-    built_by plan (length c.args.built.now) entry held part over c.least.result c.least.ensures.mode c.least.ensures.variables c.least.ensures.signs c.least.ensures.fewest
+    let over = IsOver-node plan c.requires.nodes (length c.args.built.now) entry held part c.states.ensures.automaton entry.node refl c.in_ok-part.ensures.made in
+    let made = c.minimise.ensures in
+    node_by plan (length c.args.built.now) entry held part over c.minimise.result made.mode made.variables made.signs made.fewest made.reached made.differ made.within
+
+pub returns-in_err-part-clause-nodes : goal.returns-in_err-part-clause-nodes
+returns-in_err-part-clause-nodes c =
+    let plan = c.args.plan.now in
+    let entry = c.entry-entry.result.now in
+    fault_more (Content Sign) (λ refused. FormLacks plan entry.orders entry.node) (λ refused. NodeLacks plan (length c.args.built.now)) c.in_err-part.field-0.0 c.from_residual.result (search rules)
+    (λ refused short. (entry, c.entry-entry.ensures, inr short)) c.in_err-part.ensures.nodes
+
+pub returns-clause-nodes : goal.returns-clause-nodes
+returns-clause-nodes c =
+    let plan = c.args.plan.now in
+    let part = c.in_ok-part.part in
+    refused_more (λ refused. (refused ≡ plan.limit) × (plan.limit < length part.nodes + length part.states)) (λ refused. NodeLacks plan (length c.args.built.now)) c.minimise.result
+    (λ refused why. (c.entry-entry.result.now, c.entry-entry.ensures, inl (too_small plan.limit part c.in_ok-part.ensures.within why.1))) c.minimise.ensures.nodes

@@ -4,7 +4,7 @@ use Rattle.ms_logic_words.specs.Content.{variables_by_place}
 use Rattle.ms_logic.specs.declared.checked.ExportUse.{ExportUse}
 use Rattle.ms_build_source.specs.inner.Copies.{AreAskedCopies, HaveRoots}
 use Rattle.ms_build_source.proofs.GlobalLemmas.{globals_by_place, globals_counted, orders_by_place}
-use Rattle.ms_build_source.proofs.Solved.{all_within, answers_counted, are_nodes, are_own_answers, exports_asked, few_exports, few_nodes, have_roots, is_ready, nodes_lent, own_answers, small_asked, some_root, step_of_root, step_refused, unsolved, value_of_main}
+use Rattle.ms_build_source.proofs.Solved.{all_within, answers_counted, are_nodes, are_own_answers, exports_asked, few_exports, few_nodes, have_roots, is_ready, nodes_lent, own_answers, small_asked, some_root, step_of_node, step_of_root, unsolved, value_of_main}
 use Rattle.ms_build_source.proofs.solution.solve.Goals as goal
 
 pub build-requires-clause-nodes : goal.build-requires-clause-nodes
@@ -18,8 +18,10 @@ build-requires-clause-imports c = nodes_lent c.args.checked.now c.requires.numbe
 
 pub returns-in-Err-clause-refused : goal.returns-in-Err-clause-refused
 returns-in-Err-clause-refused c =
+    let checked = c.args.checked.now in
     let dag = c.in_ok-graph.graph.dag in
-    unsolved c.args.checked.now dag c.in_ok-graph.ensures.graph c.args.limit c.in-Err.refusal (step_refused (length dag.entries) c.args.limit c.in-Err.refusal c.in-Err.ensures.refused)
+    unsolved checked dag c.in_ok-graph.ensures.graph c.args.imports.now c.args.limit c.in-Err.refusal
+    (step_of_node c.args.imports.now checked.mode dag c.args.limit c.in-Err.refusal c.in-Err.ensures.refused)
 
 pub root_of-requires-clause-ready : goal.root_of-requires-clause-ready
 root_of-requires-clause-ready c =
@@ -35,7 +37,11 @@ root_of-requires-clause-root c =
 
 pub returns-in-Err-root_of-clause-refused : goal.returns-in-Err-root_of-clause-refused
 returns-in-Err-root_of-clause-refused c =
-    unsolved c.args.checked.now c.in_ok-graph.graph.dag c.in_ok-graph.ensures.graph c.args.limit c.in-Err-root_of.refusal (step_of_root c.in-Ok-build.built 0 c.args.limit c.in-Err-root_of.refusal c.in-Err-root_of.ensures.refused)
+    let checked = c.args.checked.now in
+    let dag = c.in_ok-graph.graph.dag in
+    let made = c.in-Ok-build.ensures in
+    unsolved checked dag c.in_ok-graph.ensures.graph c.args.imports.now c.args.limit c.in-Err-root_of.refusal
+    (step_of_root c.args.imports.now checked.mode dag c.args.limit c.in-Ok-build.built 0 c.in-Err-root_of.refusal made.built made.limit c.in-Err-root_of.ensures.refused)
 
 pub asked_copies-requires-clause-ready : goal.asked_copies-requires-clause-ready
 asked_copies-requires-clause-ready c =
@@ -57,8 +63,12 @@ asked_copies-requires-clause-few c =
 
 pub returns-in-Err-asked_copies-clause-refused : goal.returns-in-Err-asked_copies-clause-refused
 returns-in-Err-asked_copies-clause-refused c =
-    unsolved c.args.checked.now c.in_ok-graph.graph.dag c.in_ok-graph.ensures.graph c.args.limit c.in-Err-asked_copies.refusal
-    (step_of_root c.in-Ok-build.built (c.in-Err-asked_copies.ensures.refused.0 + 1) c.args.limit c.in-Err-asked_copies.refusal c.in-Err-asked_copies.ensures.refused.2)
+    let checked = c.args.checked.now in
+    let dag = c.in_ok-graph.graph.dag in
+    let made = c.in-Ok-build.ensures in
+    let refused = c.in-Err-asked_copies.ensures.refused in
+    unsolved checked dag c.in_ok-graph.ensures.graph c.args.imports.now c.args.limit c.in-Err-asked_copies.refusal
+    (step_of_root c.args.imports.now checked.mode dag c.args.limit c.in-Ok-build.built (refused.0 + 1) c.in-Err-asked_copies.refusal made.built made.limit refused.2)
 
 pub returns-clause-solution : goal.returns-clause-solution
 returns-clause-solution c = λ answers are.

@@ -3,7 +3,8 @@ use Rattle.std.proofs.lemmas.List.{drop_more}
 use Rattle.ms_logic.specs.declared.mode.Order.TheVariants.{Zero}
 use Rattle.ms_dfa.specs.declared.track.Track.{Track}
 use Rattle.ms_dfa.specs.Automaton.{variable_of, variables_of}
-use Rattle.ms_dfa_explore.specs.Tracks.{IsAmong, place_of, places_among}
+use Rattle.ms_dfa_explore.specs.Tracks.{place_of, places_among}
+use Rattle.ms_logic.specs.Lists.{IsAmong}
 use Rattle.ms_dfa_explore.proofs.TracksLemmas.{next_place}
 use Rattle.ms_dfa_explore.proofs.tracks.places_among.Goals as goal
 

@@ -1,7 +1,8 @@
 use Rattle.std.proofs.Common.{◌≡◌, ◌≤◌, ◌+◌, ◌++◌, drop, length}
 use Rattle.ms_dfa.specs.Automaton.{variables_of}
 use Rattle.ms_logic.specs.Assignment.{Variable}
-use Rattle.ms_dfa_explore.specs.Tracks.{IsAmong, place_of, places_among}
+use Rattle.ms_dfa_explore.specs.Tracks.{place_of, places_among}
+use Rattle.ms_logic.specs.Lists.{IsAmong}
 use Rattle.ms_dfa_explore.proofs.tracks.places_among.Given as goal
 
 -- the places so far and those of the other variables are the places of all; each other variable stands from this place on

@@ -2,12 +2,12 @@ use Rattle.std.proofs.Common.{rules, ◌∙◌}
 use Rattle.ms_dfafile_adopt.proofs.FileLemmas.{first_open, settled_file, settled_signs}
 use Rattle.ms_dfafile_adopt.proofs.adoption.own_in_mode.Goals as goal
 
-pub returns-in-Ok-settle-clause-signs : goal.returns-in-Ok-settle-clause-signs
-returns-in-Ok-settle-clause-signs c = settled_signs c.args.plain.now c.args.mode c.in-Ok.own c.in-Ok-settle.made c.in-Ok.ensures.signs c.in-Ok-settle.ensures.settled
+pub returns-in-Ok-in_mode-clause-signs : goal.returns-in-Ok-in_mode-clause-signs
+returns-in-Ok-in_mode-clause-signs c = settled_signs c.args.plain.now c.args.mode c.in-Ok.own c.in-Ok-in_mode.made c.in-Ok.ensures.signs c.in-Ok-in_mode.ensures.settled
 
-pub returns-in-Ok-settle-clause-settled : goal.returns-in-Ok-settle-clause-settled
-returns-in-Ok-settle-clause-settled c =
-    settled_file c.args.plain.now c.args.mode c.in-Ok.own c.in-Ok-settle.made c.requires.fits.0 c.in-Ok.ensures.signs c.in-Ok-settle.ensures.settled
+pub returns-in-Ok-in_mode-clause-settled : goal.returns-in-Ok-in_mode-clause-settled
+returns-in-Ok-in_mode-clause-settled c =
+    settled_file c.args.plain.now c.args.mode c.in-Ok.own c.in-Ok-in_mode.made c.requires.fits.0 c.in-Ok.ensures.signs c.in-Ok-in_mode.ensures.settled
 
 pub returns-in-Ok-new-clause-refused : goal.returns-in-Ok-new-clause-refused
 returns-in-Ok-new-clause-refused c =

@@ -6,8 +6,8 @@ use Rattle.ms_arena.specs.declared.node.Ref.TheVariants.{Leaf}
 use Rattle.ms_arena.specs.Diagram.{IsBefore, TestsAbove, leaf_of}
 use Rattle.ms_arena.proofs.Appending.{Extends-from_appends}
 use Rattle.ms_rename.specs.inner.Image.{image_of}
-use Rattle.ms_dfafile_adopt.specs.inner.Said.{HaveBecome}
-use Rattle.ms_dfafile_adopt.proofs.SaidLemmas.{HasBecome-of, HaveBecome-more}
+use Rattle.ms_dfafile_adopt.specs.inner.OverSets.{HaveBecome}
+use Rattle.ms_dfafile_adopt.proofs.OverSetsLemmas.{HasBecome-of, HaveBecome-more}
 use Rattle.ms_dfafile_adopt.proofs.images.images.Goals as goal
 
 -- the node of this turn

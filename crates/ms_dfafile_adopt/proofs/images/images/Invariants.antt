@@ -1,6 +1,6 @@
 use Rattle.std.proofs.Common.{◌≡◌, length}
 use Rattle.ms_diagram.specs.Store.{IsStore}
-use Rattle.ms_dfafile_adopt.specs.inner.Said.{HaveBecome}
+use Rattle.ms_dfafile_adopt.specs.inner.OverSets.{HaveBecome}
 use Rattle.ms_dfafile_adopt.proofs.images.images.Given as goal
 
 -- what the nodes so far have become

@@ -5,7 +5,7 @@ use Rattle.std.proofs.lemmas.Option.{slice_get-get_or, slice_get-map}
 use Rattle.ms_dfa.specs.Automaton.{variable_of, variables_of}
 use Rattle.ms_dfa.specs.declared.track.Track.{Track}
 use Rattle.ms_logic.specs.declared.mode.Order.TheVariants.{Zero}
-use Rattle.ms_dfafile_adopt.specs.inner.Checked.{TellsNumbers}
+use Rattle.ms_dfafile_adopt.specs.inner.OverNumbers.{TellsNumbers}
 use Rattle.ms_dfafile_adopt.proofs.NumberLemmas.{TellsNumbers-more, TellsNumbers-other, equal_orders}
 use Rattle.ms_dfafile_adopt.proofs.numbers.numbers.Goals as goal
 use Rattle.ms_dfafile_adopt.proofs.numbers.numbers.Goals.{then-eq+in-Ok-with_track, else-eq}

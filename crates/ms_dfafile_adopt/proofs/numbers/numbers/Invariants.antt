@@ -1,5 +1,5 @@
 use Rattle.ms_dfa.specs.Automaton.{variables_of}
-use Rattle.ms_dfafile_adopt.specs.inner.Checked.{TellsNumbers}
+use Rattle.ms_dfafile_adopt.specs.inner.OverNumbers.{TellsNumbers}
 use Rattle.ms_dfafile_adopt.proofs.numbers.numbers.Given as goal
 
 -- the numbers among the tracks so far

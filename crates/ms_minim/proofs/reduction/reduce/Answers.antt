@@ -3,7 +3,7 @@ use Rattle.ms_diagram.specs.Store.{Contents}
 use Rattle.ms_logic_words.specs.declared.sign.Sign.{Sign}
 use Rattle.ms_logic_words.specs.Content.{Content}
 use Rattle.ms_minim.specs.declared.reduction.Reduced.{Reduced}
-use Rattle.ms_minim.specs.Reading.{read_content}
+use Rattle.ms_minim.specs.SignReading.{read_content}
 use Rattle.ms_minim.specs.inner.Quotient.{Quotienting}
 use Rattle.ms_minim.proofs.FewestLemmas.{quotient_of, explores_of, IsReducedOf-made}
 use Rattle.ms_minim.proofs.NodeLemmas.{few_nodes, refused_quotient}

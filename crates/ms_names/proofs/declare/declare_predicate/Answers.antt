@@ -3,7 +3,7 @@ use Rattle.ms_names_rules.specs.Declarations.{next_predicate, orders_of_bounds}
 use Rattle.ms_names_rules.specs.TypedSource.{typed_predicate}
 use Rattle.ms_names_rules.specs.View.{bounds_of, expression_of}
 use Rattle.ms_names_scopes.specs.inner.Declaration.{read_through}
-use Rattle.ms_names_scopes.specs.inner.State.{State}
+use Rattle.ms_names_scopes.specs.inner.Found.{Found}
 use Rattle.ms_names.proofs.Told.{predicate-told}
 use Rattle.ms_names.proofs.declare.declare_predicate.Goals as goal
 
@@ -18,5 +18,5 @@ returns-clause-state c = λ count files.
 
 pub returns-clause-value : goal.returns-clause-value
 returns-clause-value c =
-    let F = λ (there : State). typed_predicate there.scope there.before (bounds_of c.args.bounds.now) (expression_of c.args.body.now) in
+    let F = λ (there : Found). typed_predicate there.scope there.before (bounds_of c.args.bounds.now) (expression_of c.args.body.now) in
     c.in_ok-made.ensures.value ∙ (ap F c.in_ok-check_bounds.ensures ∙ ap F c.in_ok-check_declared.ensures)

@@ -1,4 +1,4 @@
-use Rattle.std.proofs.Common.{rules, true, ◌≡◌, ◌+◌, ◌++◌, [], List, drop, take, map, Option, Some, refl, sym, subst, ap, ◌∙◌, arith, IfOk}
+use Rattle.std.proofs.Common.{rules, ◌≡◌, ℕ, ◌+◌, ◌++◌, ◌∷◌, [], List, length, drop, take, map, Option, Some, refl, sym, subst, ap, ◌∙◌, arith, IfOk}
 use Rattle.std.specs.Option.{option_map}
 use Rattle.std.proofs.lemmas.List.{drop_all, take_all}
 use Rattle.std.proofs.lemmas.Result.{on_ok_weaker}
@@ -9,26 +9,27 @@ use Rattle.ms_logic.specs.declared.source.LetPart.{LetPart, out-LetPart}
 use Rattle.ms_logic.specs.Tree as tree
 use Rattle.ms_logic.specs.View.{argument_of, binding_of, declaration_of}
 use Rattle.ms_names_rules.specs.declared.wanted.Wanted.{Wanted}
-use Rattle.ms_names_rules.specs.Syntax.{restricted, call, conjunction, disjunction, literal, implication, equivalence, relation, union, intersection, difference, quantified, where_let, exported}
-use Rattle.ms_names_rules.specs.Before.{after, after_all, after_parts, with_names}
-use Rattle.ms_names_rules.specs.inner.Binder.{restricted_variables, sides_of, typed_sides, with_front}
+use Rattle.ms_names_rules.specs.Syntax.{call, conjunction, difference, disjunction, emptiness, equivalence, implication, intersection, literal, maximum, minimum, negation, pconst, quantified, relation, restrict, restricted, shift, union, where_let}
+use Rattle.ms_names_rules.specs.Before.{after, after_all, after_parts}
+use Rattle.ms_names_rules.specs.inner.Binder.{quantified_over, restricted_variables, sides_of, typed_sides, with_front}
 use Rattle.ms_names_rules.specs.inner.Lists.{arguments_of, expressions_of, forms_of, terms_of}
-use Rattle.ms_names_rules.specs.Occurrence.{occurrences, inside_operands, inside_arguments, inside_parts, formula_wanted, number_wanted, set_wanted}
+use Rattle.ms_names_rules.specs.Occurrence.{occurrences, inside_operands, inside_arguments, inside_parts, formula_wanted, number_wanted}
 use Rattle.ms_names_rules.specs.Order.{order_of, later_parameters, wanted_on_the_left, wanted_on_the_right}
 use Rattle.ms_names_rules.specs.Reads.{readings_of_bounds, readings_of_call}
 use Rattle.ms_names_rules.specs.Rules.{faults_of_bounds, faults_of_call, faults_of_parts}
-use Rattle.ms_names_rules.specs.Scope.{count_of_bounds, meaning_of, under_parts}
-use Rattle.ms_names_rules.specs.Typed.{both, formula_in, set_in, typed, typed_arguments, typed_formulas, typed_numbers}
+use Rattle.ms_names_rules.specs.Scope.{meaning_of}
+use Rattle.ms_names_rules.specs.Typed.{both, formula_in, typed, typed_arguments, typed_formulas, typed_numbers}
 use Rattle.ms_names_rules.specs.View.{bound_of, bounds_of, expression_of, part_of, parts_of}
 use Rattle.ms_names_rules.proofs.Lists.{arguments-end, arguments-short, count_of_bounds-length, count_of_parts-length, count-length, found-sides, found-variables, in_front, later-drop, made-arguments, made-sides, none-first, bounds-split, parts-split, sides_behind}
 use Rattle.ms_names_rules.proofs.Operands.{taken-more}
 use Rattle.ms_names_rules.proofs.Repeats.{next}
-use Rattle.ms_names_scopes.specs.inner.State.{after_restrictions, State, with_faults, passed, noted, formed}
+use Rattle.ms_names_scopes.specs.inner.Found.{after_restrictions, passed}
 use Rattle.ms_names.proofs.Lists.{arguments-next, arguments-typed, parts-passed, parts-typed, restrictions-next, restrictions-typed}
 use Rattle.ms_names.proofs.Operands.{formulas-more, numbers-more, operands-more}
-use Rattle.ms_names_scopes.proofs.States.{passed-none, two-passed}
+use Rattle.ms_names_scopes.proofs.Findings.{passed-none, two-passed}
 use Rattle.ms_names.proofs.Values.{call-value, let-value, quantified-value, restriction-value}
-use Rattle.ms_names.proofs.Walk.{call-formed, export-formed, formed-passed, let-formed, on_ok, quantified-formed, two-made}
+use Rattle.ms_names.proofs.Operations.{all-formed, all-typed, two-formed}
+use Rattle.ms_names.proofs.Walk.{call-formed, formed-passed, handed_on, let-formed, on_ok, quantified-formed, same_expression}
 use Rattle.ms_names.proofs.expression.+expression.Goals as goal
 
 pub expression-returns-clause-state : goal.expression-returns-clause-state
@@ -39,14 +40,14 @@ expression-returns-clause-state t c =
 
 -- operands
 
-pub formulas-loop-operand-init : goal.formulas-loop-operand-init
-formulas-loop-operand-init t c = record {
+pub of_all-loop-operand-init : goal.of_all-loop-operand-init
+of_all-loop-operand-init t c = record {
   state = passed-none c.args.checker.now;
   value = ap (λ made. option_map forms_of (Some made)) c.new.ensures;
 }
 
-pub formulas-loop-operand-preserved : goal.formulas-loop-operand-preserved
-formulas-loop-operand-preserved t c =
+pub of_all-loop-operand-preserved : goal.of_all-loop-operand-preserved
+of_all-loop-operand-preserved t c =
     let s = c.args.checker.now in
     let i = c.loop-operand.operand-index in
     let es = c.args.operands.now in
@@ -64,26 +65,30 @@ formulas-loop-operand-preserved t c =
           ∙ ap (typed_formulas s.scope s.before) taken);
     }
 
-pub formulas-returns-clause-state : goal.formulas-returns-clause-state
-formulas-returns-clause-state t c =
+pub of_all-returns-clause-state : goal.of_all-returns-clause-state
+of_all-returns-clause-state t c =
     let s = c.args.checker.now in
     let all = ap expressions_of (take_all c.loop-operand.operand-index c.args.operands.now (omega arith)) in
-    c.loop-operand.invariant.state
-    ∙ ap (λ es. passed s (inside_operands s.scope s.before formula_wanted es) (after_all s.before es)) all
+    λ at. all-formed s c.loop-operand.checker c.args.operation at (expressions_of c.args.operands.now)
+    (c.loop-operand.invariant.state
+    ∙ ap (λ es. passed s (inside_operands s.scope s.before formula_wanted es) (after_all s.before es)) all)
 
-pub formulas-returns-clause-value : goal.formulas-returns-clause-value
-formulas-returns-clause-value t c =
+pub of_all-returns-clause-value : goal.of_all-returns-clause-value
+of_all-returns-clause-value t c =
     let s = c.args.checker.now in
-    c.loop-operand.invariant.value ∙ ap (typed_formulas s.scope s.before) (ap expressions_of (take_all c.loop-operand.operand-index c.args.operands.now (omega arith)))
+    let es = expressions_of c.args.operands.now in
+    λ at. c.made.ensures
+    ∙ all-typed s.scope s.before c.args.operation at es (option_map forms_of c.loop-operand.made)
+    (c.loop-operand.invariant.value ∙ ap (typed_formulas s.scope s.before) (ap expressions_of (take_all c.loop-operand.operand-index c.args.operands.now (omega arith))))
 
-pub numbers-loop-element-init : goal.numbers-loop-element-init
-numbers-loop-element-init t c = record {
+pub literal_of-loop-element-init : goal.literal_of-loop-element-init
+literal_of-loop-element-init t c = record {
   state = passed-none c.args.checker.now;
   value = ap (λ made. option_map terms_of (Some made)) c.new.ensures;
 }
 
-pub numbers-loop-element-preserved : goal.numbers-loop-element-preserved
-numbers-loop-element-preserved t c =
+pub literal_of-loop-element-preserved : goal.literal_of-loop-element-preserved
+literal_of-loop-element-preserved t c =
     let s = c.args.checker.now in
     let i = c.loop-element.element-index in
     let es = c.args.elements.now in
@@ -101,17 +106,19 @@ numbers-loop-element-preserved t c =
           ∙ ap (typed_numbers s.scope s.before) taken);
     }
 
-pub numbers-returns-clause-state : goal.numbers-returns-clause-state
-numbers-returns-clause-state t c =
+pub literal_of-returns-clause-state : goal.literal_of-returns-clause-state
+literal_of-returns-clause-state t c =
     let s = c.args.checker.now in
     let all = ap expressions_of (take_all c.loop-element.element-index c.args.elements.now (omega arith)) in
-    c.loop-element.invariant.state
+    λ at. c.loop-element.invariant.state
     ∙ ap (λ es. passed s (inside_operands s.scope s.before number_wanted es) (after_all s.before es)) all
 
-pub numbers-returns-clause-value : goal.numbers-returns-clause-value
-numbers-returns-clause-value t c =
+pub literal_of-returns-clause-value : goal.literal_of-returns-clause-value
+literal_of-returns-clause-value t c =
     let s = c.args.checker.now in
-    c.loop-element.invariant.value ∙ ap (typed_numbers s.scope s.before) (ap expressions_of (take_all c.loop-element.element-index c.args.elements.now (omega arith)))
+    λ at. c.literal.ensures
+    ∙ ap (option_map (λ ts. tree.set_argument (tree.literal ts)))
+    (c.loop-element.invariant.value ∙ ap (typed_numbers s.scope s.before) (ap expressions_of (take_all c.loop-element.element-index c.args.elements.now (omega arith))))
 
 -- arguments
 
@@ -215,12 +222,12 @@ variables-loop-bound-preserved t c =
     record {
       state =
           ap (λ y. after_restrictions u y rest) y_is
-          ∙ (restrictions-next s u x (bound_of v).at (bound_of v).order (bound_of v).name (bound_of v).domain rest c.in_ok-param.ensures.state
+          ∙ (restrictions-next s u x (bound_of v).at (bound_of v).order (bound_of v).name (bound_of v).domain rest c.in_ok-made.ensures.state
           ∙ (ap (after_restrictions s x) (sym split) ∙ c.loop-bound.invariant.state));
       value =
           ap (λ y. both (λ front later. front ++ later) more (restricted_variables c.args.takes_defaults u.scope y u.before rest)) y_is
           ∙ (restrictions-typed s u c.args.takes_defaults x (bound_of v).at (bound_of v).order (bound_of v).name (bound_of v).domain rest found more
-          (option_map declaration_of c.in_ok-param.param) c.in_ok-param.ensures.state c.in_ok-param.ensures.value c.in_ok-made.ensures
+          c.in_ok-made.ensures.state c.in_ok-made.ensures.value
           ∙ (ap (λ there. both (λ front later. front ++ later) found (restricted_variables c.args.takes_defaults s.scope x s.before there)) (sym split) ∙ c.loop-bound.invariant.value));
     }
 
@@ -246,9 +253,14 @@ one_variable-returns-in_ok-value-in-Some-clause-value t c =
     let order : (out-Bound v).order ≡ (bound_of v).order = search (rules, the_lemmas) in
     let named : (out-Bound v).name ≡ (bound_of v).name = search (rules, the_lemmas) in
     let own : restricted e ≡ (bound_of v).domain = search (rules, the_lemmas) in
-    restriction-value c.args.checker.now c.bind.new.self c.forbid_exports-allowed.new.self c.args.takes_defaults c.args.x (out-Bound v).order (bound_of v).order
-    (out-Bound v).name (bound_of v).name e (bound_of v).domain (option_map argument_of c.in_ok-value-in-Some.value) (option_map declaration_of c.restricted.result)
-    order named own c.in_ok-bind.ensures c.forbid_exports-allowed.ensures.state c.in_ok-value-in-Some.ensures.value c.restricted.ensures
+    let P : Option tree.Declaration → Type 0 = λ there.
+    IfOk c.with_restricted.result (λ more. option_map (λ ps. map declaration_of ps.items) more
+    ≡ both (λ front w. front ++ w ∷ []) (option_map (λ ps. map declaration_of ps.items) c.args.made) there) in
+    subst P
+    (restriction-value c.args.checker.now c.bind.new.self c.forbid_exports-allowed.new.self c.args.takes_defaults c.args.x (out-Bound v).order (bound_of v).order
+    (out-Bound v).name (bound_of v).name e (bound_of v).domain (option_map argument_of c.in_ok-value-in-Some.value)
+    order named own c.in_ok-bind.ensures c.forbid_exports-allowed.ensures.state c.in_ok-value-in-Some.ensures.value)
+    c.with_restricted.ensures
 
 -- the right sides of a `let`
 
@@ -307,286 +319,226 @@ right_sides-returns-clause-value t c =
 
 -- the forms of expressions
 
-pub form-returns-in_ok-numbers-in-Literal-clause-value : goal.form-returns-in_ok-numbers-in-Literal-clause-value
-form-returns-in_ok-numbers-in-Literal-clause-value t c =
+pub of_two-returns-clause-state : goal.of_two-returns-clause-state
+of_two-returns-clause-state t c =
     let s = c.args.checker.now in
-    let shape : literal (out-Expr c.args.e.now).at (expressions_of c.in-Literal.elements) ≡ expression_of c.args.e.now = search (rules, the_lemmas) in
-    c.literal.ensures
-    ∙ (ap (option_map (λ ts. tree.set_argument (tree.literal ts))) (c.in_ok-numbers-in-Literal.ensures.value ∙ ap (λ es. typed_numbers s.scope s.before (expressions_of es)) c.slice.ensures)
-    ∙ ap (typed s.scope s.before) shape)
-
-pub form-returns-in_ok-formulas-in-And-clause-value : goal.form-returns-in_ok-formulas-in-And-clause-value
-form-returns-in_ok-formulas-in-And-clause-value t c =
-    let s = c.args.checker.now in
-    let shape : conjunction (out-Expr c.args.e.now).at (expressions_of c.in-And.operands) ≡ expression_of c.args.e.now = search (rules, the_lemmas) in
-    c.conjunction.ensures
-    ∙ (ap (option_map (λ fs. tree.truth_argument (tree.conjunction fs))) (c.in_ok-formulas-in-And.ensures.value ∙ ap (λ es. typed_formulas s.scope s.before (expressions_of es)) c.slice-in-And.ensures)
-    ∙ ap (typed s.scope s.before) shape)
-
-pub form-returns-in_ok-formulas-in-Or-clause-value : goal.form-returns-in_ok-formulas-in-Or-clause-value
-form-returns-in_ok-formulas-in-Or-clause-value t c =
-    let s = c.args.checker.now in
-    let shape : disjunction (out-Expr c.args.e.now).at (expressions_of c.in-Or.operands) ≡ expression_of c.args.e.now = search (rules, the_lemmas) in
-    c.disjunction.ensures
-    ∙ (ap (option_map (λ fs. tree.truth_argument (tree.disjunction fs))) (c.in_ok-formulas-in-Or.ensures.value ∙ ap (λ es. typed_formulas s.scope s.before (expressions_of es)) c.slice-in-Or.ensures)
-    ∙ ap (typed s.scope s.before) shape)
-
-pub form-returns-in_ok-made-in-Call-clause-state : goal.form-returns-in_ok-made-in-Call-clause-state
-form-returns-in_ok-made-in-Call-clause-state t c =
-    let s = c.args.checker.now in
-    let es = expressions_of c.in-Call.arguments in
-    let shape : call (out-Expr c.args.e.now).at c.in-Call.name es ≡ expression_of c.args.e.now = search (rules, the_lemmas) in
-    let q = c.forbid_exports-allowed.new.self in
-    let P : List Expr → Type 0 = λ there. c.arguments_for.new.checker ≡ passed q (inside_arguments q.scope q.before c.slice-in-Call.result.now (expressions_of there)) (after_all q.before (expressions_of there)) in
-    call-formed s c.begin_call.new.self q c.arguments_for.new.checker c.allow_exports.new.self (out-Expr c.args.e.now).at c.in-Call.name es
-    c.len.result c.slice-in-Call.result.now c.forbid_exports-allowed.result
-    (c.len.ensures ∙ sym (count-length c.in-Call.arguments))
-    (c.slice-in-Call.ensures ∙ c.in_ok-parameters-in-Call.ensures.parameters)
-    c.in_ok-parameters-in-Call.ensures.state c.forbid_exports-allowed.ensures.was c.forbid_exports-allowed.ensures.state
-    (subst P c.slice-in-Call-2.ensures c.in_ok-made-in-Call.ensures.state)
-    c.allow_exports.ensures
-    ∙ ap (formed s) shape
-
-pub form-returns-in_ok-made-in-Call-clause-value : goal.form-returns-in_ok-made-in-Call-clause-value
-form-returns-in_ok-made-in-Call-clause-value t c =
-    let s = c.args.checker.now in
-    let n = c.in-Call.name in
-    let es = expressions_of c.in-Call.arguments in
-    let at = (out-Expr c.args.e.now).at in
-    let shape : call at n es ≡ expression_of c.args.e.now = search (rules, the_lemmas) in
-    let q = c.forbid_exports-allowed.new.self in
-    let ps = c.slice-in-Call.result.now in
-    let os = inside_arguments q.scope q.before ps (expressions_of c.slice-in-Call-2.result.now) in
-    call-value s c.begin_call.new.self q c.arguments_for.new.checker c.allow_exports.new.self
-    (faults_of_call at n c.len.result (meaning_of s.scope n)) (readings_of_call (meaning_of s.scope n)) os (after_all q.before (expressions_of c.slice-in-Call-2.result.now))
-    at n es c.len.result ps c.forbid_exports-allowed.result (option_map arguments_of c.in_ok-made-in-Call.made) (option_map argument_of c.called.result)
-    (c.len.ensures ∙ sym (count-length c.in-Call.arguments))
-    (c.slice-in-Call.ensures ∙ c.in_ok-parameters-in-Call.ensures.parameters)
-    c.in_ok-parameters-in-Call.ensures.state c.forbid_exports-allowed.ensures.state c.in_ok-made-in-Call.ensures.state c.allow_exports.ensures
-    (c.in_ok-made-in-Call.ensures.value ∙ ap (λ (there : List Expr). typed_arguments q.scope q.before ps (expressions_of there)) c.slice-in-Call-2.ensures)
-    c.called.ensures
-    ∙ ap (typed s.scope s.before) shape
-
-pub form-returns-in_ok-right-in-Implies-clause-state : goal.form-returns-in_ok-right-in-Implies-clause-state
-form-returns-in_ok-right-in-Implies-clause-state t c =
-    let s = c.args.checker.now in
-    let e = expression_of c.get-in-Implies.result.now in
-    let f = expression_of c.get-in-Implies-2.result.now in
-    let shape : implication (out-Expr c.args.e.now).at e f ≡ expression_of c.args.e.now = search (rules, the_lemmas) in
-    on_ok c.implication.result (two-passed s c.expression-in-Implies.new.checker c.expression-in-Implies-2.new.checker formula_wanted formula_wanted e f c.in_ok-left-in-Implies.ensures.state c.in_ok-right-in-Implies.ensures.state
-    ∙ ap (formed s) shape)
-
-pub form-returns-in_ok-right-in-Iff-clause-state : goal.form-returns-in_ok-right-in-Iff-clause-state
-form-returns-in_ok-right-in-Iff-clause-state t c =
-    let s = c.args.checker.now in
-    let e = expression_of c.get-in-Iff.result.now in
-    let f = expression_of c.get-in-Iff-2.result.now in
-    let shape : equivalence (out-Expr c.args.e.now).at e f ≡ expression_of c.args.e.now = search (rules, the_lemmas) in
-    on_ok c.equivalence.result (two-passed s c.expression-in-Iff.new.checker c.expression-in-Iff-2.new.checker formula_wanted formula_wanted e f c.in_ok-left-in-Iff.ensures.state c.in_ok-right-in-Iff.ensures.state
-    ∙ ap (formed s) shape)
-
-pub form-returns-in_ok-right-in-Union-clause-state : goal.form-returns-in_ok-right-in-Union-clause-state
-form-returns-in_ok-right-in-Union-clause-state t c =
-    let s = c.args.checker.now in
-    let e = expression_of c.get-in-Union.result.now in
-    let f = expression_of c.get-in-Union-2.result.now in
-    let shape : union (out-Expr c.args.e.now).at e f ≡ expression_of c.args.e.now = search (rules, the_lemmas) in
-    on_ok c.union.result (two-passed s c.expression-in-Union.new.checker c.expression-in-Union-2.new.checker set_wanted set_wanted e f c.in_ok-left-in-Union.ensures.state c.in_ok-right-in-Union.ensures.state
-    ∙ ap (formed s) shape)
-
-pub form-returns-in_ok-right-in-Inter-clause-state : goal.form-returns-in_ok-right-in-Inter-clause-state
-form-returns-in_ok-right-in-Inter-clause-state t c =
-    let s = c.args.checker.now in
-    let e = expression_of c.get-in-Inter.result.now in
-    let f = expression_of c.get-in-Inter-2.result.now in
-    let shape : intersection (out-Expr c.args.e.now).at e f ≡ expression_of c.args.e.now = search (rules, the_lemmas) in
-    on_ok c.intersection.result (two-passed s c.expression-in-Inter.new.checker c.expression-in-Inter-2.new.checker set_wanted set_wanted e f c.in_ok-left-in-Inter.ensures.state c.in_ok-right-in-Inter.ensures.state
-    ∙ ap (formed s) shape)
-
-pub form-returns-in_ok-right-in-Minus-clause-state : goal.form-returns-in_ok-right-in-Minus-clause-state
-form-returns-in_ok-right-in-Minus-clause-state t c =
-    let s = c.args.checker.now in
-    let e = expression_of c.get-in-Minus.result.now in
-    let f = expression_of c.get-in-Minus-2.result.now in
-    let shape : difference (out-Expr c.args.e.now).at e f ≡ expression_of c.args.e.now = search (rules, the_lemmas) in
-    on_ok c.difference.result (two-passed s c.expression-in-Minus.new.checker c.expression-in-Minus-2.new.checker set_wanted set_wanted e f c.in_ok-left-in-Minus.ensures.state c.in_ok-right-in-Minus.ensures.state
-    ∙ ap (formed s) shape)
-
-pub form-returns-in_ok-second-in-Relation-clause-state : goal.form-returns-in_ok-second-in-Relation-clause-state
-form-returns-in_ok-second-in-Relation-clause-state t c =
-    let s = c.args.checker.now in
-    let r = c.expression-in-Relation.new.checker in
-    let u = c.expression-in-Relation-2.new.checker in
-    let rel = c.in-Relation.rel in
-    let e = expression_of c.get-in-Relation-2.result.now in
-    let f = expression_of c.get-in-Relation-3.result.now in
-    let shape : relation (out-Expr c.args.e.now).at rel e f ≡ expression_of c.args.e.now = search (rules, the_lemmas) in
+    let r = c.expression.new.checker in
+    let u = c.expression-2.new.checker in
+    let e = expression_of c.args.left.now in
+    let f = expression_of c.args.right.now in
     let L : Wanted → Type 0 = λ w. r ≡ passed s (occurrences s.scope s.before w e) (after s.before e) in
     let R : Wanted → Type 0 = λ w. u ≡ passed r (occurrences r.scope r.before w f) (after r.before f) in
-    let order : c.order-order.result ≡ order_of s.scope e =
-    c.order-order.ensures ∙ ap (λ (x : Expr). order_of s.scope (expression_of x)) (c.get-in-Relation.ensures ∙ sym c.get-in-Relation-2.ensures) in
-    two-passed s r u (wanted_on_the_left rel) (wanted_on_the_right rel (order_of s.scope e)) e f
-    (subst L c.on_the_left.ensures c.in_ok-first-in-Relation.ensures.state)
-    (subst R (c.on_the_right.ensures ∙ ap (wanted_on_the_right rel) order) c.in_ok-second-in-Relation.ensures.state)
-    ∙ ap (formed s) shape
+    λ at. on_ok c.made.result (two-formed s r u c.args.operation at e f
+    (subst L c.wanted.ensures c.in_ok-left.ensures.state) (subst R c.wanted-2.ensures c.in_ok-right.ensures.state))
 
-pub form-returns-in_ok-body-in-Bind-clause-state : goal.form-returns-in_ok-body-in-Bind-clause-state
-form-returns-in_ok-body-in-Bind-clause-state t c =
+pub related-returns-clause-state : goal.related-returns-clause-state
+related-returns-clause-state t c =
     let s = c.args.checker.now in
-    let r = c.begin_bounds.new.self in
-    let x = c.in_ok-first-in-Bind.first in
-    let vs = c.in-Bind.bounds in
-    let e = expression_of c.get-in-Bind.result.now in
+    let r = c.expression.new.checker in
+    let u = c.expression-2.new.checker in
+    let rel = c.args.rel in
+    let e = expression_of c.args.left.now in
+    let f = expression_of c.args.right.now in
+    let L : Wanted → Type 0 = λ w. r ≡ passed s (occurrences s.scope s.before w e) (after s.before e) in
+    let R : Wanted → Type 0 = λ w. u ≡ passed r (occurrences r.scope r.before w f) (after r.before f) in
+    λ at. two-passed s r u (wanted_on_the_left rel) (wanted_on_the_right rel (order_of s.scope e)) e f
+    (subst L c.on_the_left.ensures c.in_ok-first.ensures.state)
+    (subst R (c.on_the_right.ensures ∙ ap (wanted_on_the_right rel) c.order-order.ensures) c.in_ok-second.ensures.state)
+
+pub call_of-returns-clause-state : goal.call_of-returns-clause-state
+call_of-returns-clause-state t c =
+    let s = c.args.checker.now in
+    let es = c.args.arguments.now in
+    call-formed s c.begin_call.new.self c.forbid_exports-allowed.new.self c.arguments_for.new.checker c.allow_exports.new.self c.args.at c.args.name.now (expressions_of es)
+    (length es) c.slice.result.now c.forbid_exports-allowed.result
+    (sym (count-length es)) (c.slice.ensures ∙ c.in_ok-parameters.ensures.parameters)
+    c.in_ok-parameters.ensures.state c.forbid_exports-allowed.ensures.was c.forbid_exports-allowed.ensures.state
+    c.in_ok-made.ensures.state c.allow_exports.ensures
+
+pub call_of-returns-clause-value : goal.call_of-returns-clause-value
+call_of-returns-clause-value t c =
+    let s = c.args.checker.now in
+    let n = c.args.name.now in
+    let es = c.args.arguments.now in
+    let q = c.forbid_exports-allowed.new.self in
+    let ps = c.slice.result.now in
+    call-value s c.begin_call.new.self q c.arguments_for.new.checker c.allow_exports.new.self
+    (faults_of_call c.args.at n (length es) (meaning_of s.scope n)) (readings_of_call (meaning_of s.scope n))
+    (inside_arguments q.scope q.before ps (expressions_of es)) (after_all q.before (expressions_of es))
+    c.args.at n (expressions_of es) (length es) ps c.forbid_exports-allowed.result (option_map arguments_of c.in_ok-made.made) (option_map argument_of c.called.result)
+    (sym (count-length es)) (c.slice.ensures ∙ c.in_ok-parameters.ensures.parameters)
+    c.in_ok-parameters.ensures.state c.forbid_exports-allowed.ensures.state c.in_ok-made.ensures.state c.allow_exports.ensures
+    c.in_ok-made.ensures.value c.called.ensures
+
+pub binder-returns-clause-state : goal.binder-returns-clause-state
+binder-returns-clause-state t c =
+    let s = c.args.checker.now in
+    let vs = c.args.bounds.now in
+    let e = expression_of c.args.body.now in
+    λ at. on_ok_weaker c.under_variables.result
+    (quantified-formed s c.begin_bounds.new.self c.variables.new.checker c.under_variables.new.checker at c.args.quant (bounds_of vs) e c.in_ok-first.first (length vs)
+    c.in_ok-first.ensures.first (sym (count_of_bounds-length vs)) c.in_ok-first.ensures.state c.in_ok-made.ensures.state)
+    c.under_variables.ensures.state
+
+pub binder-returns-clause-value : goal.binder-returns-clause-value
+binder-returns-clause-value t c =
+    let s = c.args.checker.now in
+    let vs = c.args.bounds.now in
+    let e = expression_of c.args.body.now in
+    let made = option_map (λ ps. map declaration_of ps.items) c.in_ok-made.made in
+    let t = c.variables.new.checker in
+    λ at. handed_on c.under_variables.result (option_map (λ f. tree.truth_argument f) (both (quantified_over c.args.quant) made (formula_in (typed t.scope t.before e))))
+    (typed s.scope s.before (quantified at c.args.quant (bounds_of vs) e)) c.under_variables.ensures.value
+    (quantified-value s c.begin_bounds.new.self t (faults_of_bounds [] (bounds_of vs)) (readings_of_bounds s.scope (bounds_of vs)) at c.args.quant
+    (bounds_of vs) e c.in_ok-first.first made c.in_ok-first.ensures.first c.in_ok-first.ensures.state c.in_ok-made.ensures.state c.in_ok-made.ensures.value)
+
+pub let_in-returns-clause-state : goal.let_in-returns-clause-state
+let_in-returns-clause-state t c =
+    let s = c.args.checker.now in
+    let ps = c.args.parts.now in
+    let e = expression_of c.args.body.now in
+    λ at. on_ok_weaker c.under_names.result
+    (let-formed s c.check_parts.new.self c.number_names.new.self c.forbid_exports-allowed.new.self c.right_sides.new.checker c.bind_parts.new.self c.under_names.new.checker
+    at c.args.order (parts_of ps) e c.in_ok-first.first (length ps) c.forbid_exports-allowed.result
+    c.in_ok-first.ensures.first (sym (count_of_parts-length ps)) c.in_ok-check_parts.ensures c.in_ok-first.ensures.state
+    c.forbid_exports-allowed.ensures.was c.forbid_exports-allowed.ensures.state c.in_ok-made.ensures.state c.in_ok-bind_parts.ensures)
+    c.under_names.ensures.state
+
+pub let_in-returns-clause-value : goal.let_in-returns-clause-value
+let_in-returns-clause-value t c =
+    let s = c.args.checker.now in
+    let q = c.forbid_exports-allowed.new.self in
+    let o = c.args.order in
+    let ps = c.args.parts.now in
+    let e = expression_of c.args.body.now in
+    let sides = option_map sides_of c.in_ok-made.made in
+    let w = c.bind_parts.new.self in
+    λ at. handed_on c.under_names.result
+    (both (λ (there : List ℕ × tree.Arguments) (f : tree.Form). tree.truth_argument (tree.where_let there.0 there.1 f)) sides (formula_in (typed w.scope w.before e)))
+    (typed s.scope s.before (where_let at o (parts_of ps) e)) c.under_names.ensures.value
+    (let-value s c.check_parts.new.self c.number_names.new.self q c.right_sides.new.checker w (faults_of_parts [] (parts_of ps))
+    (inside_parts q.scope q.before o (parts_of ps)) at o (parts_of ps) e c.in_ok-first.first (length ps) sides
+    c.in_ok-first.ensures.first (sym (count_of_parts-length ps)) c.in_ok-check_parts.ensures c.in_ok-first.ensures.state
+    c.forbid_exports-allowed.ensures.state c.in_ok-made.ensures.state c.in_ok-bind_parts.ensures c.in_ok-made.ensures.value)
+
+-- an expression by its form
+
+pub form-returns-in-Pconst : goal.form-returns-in-Pconst
+form-returns-in-Pconst t c =
     let at = (out-Expr c.args.e.now).at in
-    let shape : quantified at c.in-Bind.quant (bounds_of vs) e ≡ expression_of c.args.e.now = search (rules, the_lemmas) in
-    let B : List Bound → State = λ there.
-    record (noted s (faults_of_bounds [] (bounds_of there)) (readings_of_bounds s.scope (bounds_of there))) { before = with_names s.before (count_of_bounds (bounds_of there)) } in
-    on_ok c.quantified.result
-    (quantified-formed s r c.variables.new.checker c.expression-in-Bind.new.checker c.unbind.new.self at c.in-Bind.quant (bounds_of vs) e x c.len-in-Bind.result
-    c.in_ok-first-in-Bind.ensures.first (c.len-in-Bind.ensures ∙ sym (count_of_bounds-length vs))
-    (c.in_ok-first-in-Bind.ensures.state ∙ ap B c.slice-in-Bind.ensures)
-    (c.in_ok-made-in-Bind.ensures.state ∙ ap (λ (there : List Bound). after_restrictions r x (bounds_of there)) c.slice-in-Bind-2.ensures)
-    c.in_ok-body-in-Bind.ensures.state c.unbind.ensures
-    ∙ ap (formed s) shape)
+    same_expression c.lone_pconst.result c.args.checker.now c.lone_pconst.new.checker (pconst at c.in-Pconst.int) (expression_of c.args.e.now)
+    (search (rules, the_lemmas)) (c.lone_pconst.ensures.state at) (c.lone_pconst.ensures.value at)
 
-pub form-returns-in_ok-body-in-Bind-clause-value : goal.form-returns-in_ok-body-in-Bind-clause-value
-form-returns-in_ok-body-in-Bind-clause-value t c =
-    let s = c.args.checker.now in
-    let r = c.begin_bounds.new.self in
-    let x = c.in_ok-first-in-Bind.first in
-    let vs = c.in-Bind.bounds in
-    let e = expression_of c.get-in-Bind.result.now in
+pub form-returns-in-Literal : goal.form-returns-in-Literal
+form-returns-in-Literal t c =
     let at = (out-Expr c.args.e.now).at in
-    let shape : quantified at c.in-Bind.quant (bounds_of vs) e ≡ expression_of c.args.e.now = search (rules, the_lemmas) in
-    let B : List Bound → State = λ there.
-    record (noted s (faults_of_bounds [] (bounds_of there)) (readings_of_bounds s.scope (bounds_of there))) { before = with_names s.before (count_of_bounds (bounds_of there)) } in
-    let value =
-    quantified-value s r c.variables.new.checker (faults_of_bounds [] (bounds_of vs)) (readings_of_bounds s.scope (bounds_of vs)) at c.in-Bind.quant (bounds_of vs) e x
-    (option_map (λ ps. map declaration_of ps.items) c.in_ok-made-in-Bind.made) (option_map argument_of c.in_ok-body-in-Bind.body)
-    c.in_ok-first-in-Bind.ensures.first
-    (c.in_ok-first-in-Bind.ensures.state ∙ ap B c.slice-in-Bind.ensures)
-    (c.in_ok-made-in-Bind.ensures.state ∙ ap (λ (there : List Bound). after_restrictions r x (bounds_of there)) c.slice-in-Bind-2.ensures)
-    (c.in_ok-made-in-Bind.ensures.value ∙ ap (λ (there : List Bound). restricted_variables true r.scope x r.before (bounds_of there)) c.slice-in-Bind-2.ensures)
-    c.in_ok-body-in-Bind.ensures.value
-    ∙ ap (typed s.scope s.before) shape in
-    let P : Option tree.Argument → Type 0 = λ there. IfOk c.quantified.result (λ value. option_map argument_of value ≡ there) in
-    subst P value c.quantified.ensures
+    let own : literal at (expressions_of c.in-Literal.elements) ≡ expression_of c.args.e.now = search (rules, the_lemmas) in
+    same_expression c.literal_of.result c.args.checker.now c.literal_of.new.checker (literal at (expressions_of c.slice.result.now)) (expression_of c.args.e.now)
+    (ap (λ (there : List Expr). literal at (expressions_of there)) c.slice.ensures ∙ own) (c.literal_of.ensures.state at) (c.literal_of.ensures.value at)
 
-pub form-returns-in_ok-body-in-Let-clause-state : goal.form-returns-in_ok-body-in-Let-clause-state
-form-returns-in_ok-body-in-Let-clause-state t c =
-    let s = c.args.checker.now in
-    let q = c.forbid_exports-allowed-in-Let.new.self in
-    let w = c.right_sides.new.checker in
-    let x = c.in_ok-first-in-Let.first in
-    let o = c.in-Let.order in
-    let ps = c.in-Let.parts in
-    let e = expression_of c.get-in-Let.result.now in
+pub form-returns-in-Call : goal.form-returns-in-Call
+form-returns-in-Call t c =
     let at = (out-Expr c.args.e.now).at in
-    let shape : where_let at o (parts_of ps) e ≡ expression_of c.args.e.now = search (rules, the_lemmas) in
-    on_ok c.where_let.result
-    (let-formed s c.check_parts.new.self c.number_names.new.self q w c.bind_parts.new.self c.expression-in-Let.new.checker c.unbind-in-Let.new.self c.allow_exports-in-Let.new.self
-    at o (parts_of ps) e x c.len-in-Let.result c.len-in-Let-2.result c.forbid_exports-allowed-in-Let.result
-    c.in_ok-first-in-Let.ensures.first
-    (c.len-in-Let.ensures ∙ sym (count_of_parts-length ps)) (c.len-in-Let-2.ensures ∙ sym (count_of_parts-length ps))
-    (c.in_ok-check_parts-in-Let.ensures ∙ ap (λ (there : List LetPart). with_faults s (faults_of_parts [] (parts_of there))) c.slice-in-Let.ensures)
-    c.in_ok-first-in-Let.ensures.state
-    c.forbid_exports-allowed-in-Let.ensures.was c.forbid_exports-allowed-in-Let.ensures.state
-    (c.in_ok-made-in-Let.ensures.state ∙ ap (λ (there : List LetPart). passed q (inside_parts q.scope q.before o (parts_of there)) (after_parts q.before (parts_of there))) c.slice-in-Let-2.ensures)
-    (c.in_ok-bind_parts-in-Let.ensures ∙ ap (λ (there : List LetPart). record w { scope = under_parts w.scope x o (parts_of there) }) c.slice-in-Let-3.ensures)
-    c.in_ok-body-in-Let.ensures.state c.unbind-in-Let.ensures c.allow_exports-in-Let.ensures
-    ∙ ap (formed s) shape)
+    let own : call at c.in-Call.name (expressions_of c.in-Call.arguments) ≡ expression_of c.args.e.now = search (rules, the_lemmas) in
+    same_expression c.call_of.result c.args.checker.now c.call_of.new.checker (call at c.in-Call.name (expressions_of c.slice-in-Call.result.now)) (expression_of c.args.e.now)
+    (ap (λ (there : List Expr). call at c.in-Call.name (expressions_of there)) c.slice-in-Call.ensures ∙ own) c.call_of.ensures.state c.call_of.ensures.value
 
-pub form-returns-in_ok-body-in-Let-clause-value : goal.form-returns-in_ok-body-in-Let-clause-value
-form-returns-in_ok-body-in-Let-clause-value t c =
-    let s = c.args.checker.now in
-    let q = c.forbid_exports-allowed-in-Let.new.self in
-    let w = c.right_sides.new.checker in
-    let x = c.in_ok-first-in-Let.first in
-    let o = c.in-Let.order in
-    let ps = c.in-Let.parts in
-    let e = expression_of c.get-in-Let.result.now in
+pub form-returns-in-Not : goal.form-returns-in-Not
+form-returns-in-Not t c =
     let at = (out-Expr c.args.e.now).at in
-    let shape : where_let at o (parts_of ps) e ≡ expression_of c.args.e.now = search (rules, the_lemmas) in
-    let value =
-    let-value s c.check_parts.new.self c.number_names.new.self q w c.bind_parts.new.self (faults_of_parts [] (parts_of ps))
-    (inside_parts q.scope q.before o (parts_of ps)) at o (parts_of ps) e x c.len-in-Let.result
-    (option_map sides_of c.in_ok-made-in-Let.made) (option_map argument_of c.in_ok-body-in-Let.body)
-    c.in_ok-first-in-Let.ensures.first (c.len-in-Let.ensures ∙ sym (count_of_parts-length ps))
-    (c.in_ok-check_parts-in-Let.ensures ∙ ap (λ (there : List LetPart). with_faults s (faults_of_parts [] (parts_of there))) c.slice-in-Let.ensures)
-    c.in_ok-first-in-Let.ensures.state
-    c.forbid_exports-allowed-in-Let.ensures.state
-    (c.in_ok-made-in-Let.ensures.state ∙ ap (λ (there : List LetPart). passed q (inside_parts q.scope q.before o (parts_of there)) (after_parts q.before (parts_of there))) c.slice-in-Let-2.ensures)
-    (c.in_ok-bind_parts-in-Let.ensures ∙ ap (λ (there : List LetPart). record w { scope = under_parts w.scope x o (parts_of there) }) c.slice-in-Let-3.ensures)
-    (c.in_ok-made-in-Let.ensures.value ∙ ap (λ (there : List LetPart). typed_sides q.scope x q.before o (parts_of there)) c.slice-in-Let-2.ensures)
-    c.in_ok-body-in-Let.ensures.value
-    ∙ ap (typed s.scope s.before) shape in
-    let P : Option tree.Argument → Type 0 = λ there. IfOk c.where_let.result (λ value. option_map argument_of value ≡ there) in
-    subst P value c.where_let.ensures
+    same_expression c.of_one.result c.args.checker.now c.of_one.new.checker (negation at (expression_of c.get-in-Not.result.now)) (expression_of c.args.e.now)
+    (search (rules, the_lemmas)) (c.of_one.ensures.state at) (c.of_one.ensures.value at)
 
-pub form-returns-in_ok-note_export-in-Export-clause-state : goal.form-returns-in_ok-note_export-in-Export-clause-state
-form-returns-in_ok-note_export-in-Export-clause-state t c =
-    let s = c.args.checker.now in
-    let e = expression_of c.get-in-Export.result.now in
-    let begun = c.in_ok-begun-in-Export.begun in
+pub form-returns-in-And : goal.form-returns-in-And
+form-returns-in-And t c =
     let at = (out-Expr c.args.e.now).at in
-    let shape : exported at c.in-Export.at c.in-Export.file e ≡ expression_of c.args.e.now = search (rules, the_lemmas) in
-    on_ok c.exported.result
-    (export-formed s c.begin_export.new.self c.expression-in-Export.new.checker c.note_export.new.self at c.in-Export.at c.in-Export.file e begun.exports begun.reads
-    c.in_ok-begun-in-Export.ensures.state c.in_ok-body-in-Export.ensures.state c.in_ok-begun-in-Export.ensures.exports c.in_ok-begun-in-Export.ensures.reads
-    c.in_ok-note_export-in-Export.ensures
-    ∙ ap (formed s) shape)
+    let own : conjunction at (expressions_of c.in-And.operands) ≡ expression_of c.args.e.now = search (rules, the_lemmas) in
+    same_expression c.of_all.result c.args.checker.now c.of_all.new.checker (conjunction at (expressions_of c.slice-in-And.result.now)) (expression_of c.args.e.now)
+    (ap (λ (there : List Expr). conjunction at (expressions_of there)) c.slice-in-And.ensures ∙ own) (c.of_all.ensures.state at) (c.of_all.ensures.value at)
 
-pub form-returns-in_ok-right-in-Implies-clause-value : goal.form-returns-in_ok-right-in-Implies-clause-value
-form-returns-in_ok-right-in-Implies-clause-value t c =
-    let s = c.args.checker.now in
-    let e = expression_of c.get-in-Implies.result.now in
-    let f = expression_of c.get-in-Implies-2.result.now in
-    let shape : implication (out-Expr c.args.e.now).at e f ≡ expression_of c.args.e.now = search (rules, the_lemmas) in
-    two-made c.implication.result (option_map argument_of) formula_in (λ f g. tree.truth_argument (tree.implication f g)) s c.expression-in-Implies.new.checker (occurrences s.scope s.before formula_wanted e) e f (expression_of c.args.e.now)
-    (option_map argument_of c.in_ok-left-in-Implies.left) (option_map argument_of c.in_ok-right-in-Implies.right)
-    c.in_ok-left-in-Implies.ensures.value c.in_ok-left-in-Implies.ensures.state c.in_ok-right-in-Implies.ensures.value
-    (ap (typed s.scope s.before) shape) c.implication.ensures
+pub form-returns-in-Or : goal.form-returns-in-Or
+form-returns-in-Or t c =
+    let at = (out-Expr c.args.e.now).at in
+    let own : disjunction at (expressions_of c.in-Or.operands) ≡ expression_of c.args.e.now = search (rules, the_lemmas) in
+    same_expression c.of_all-in-Or.result c.args.checker.now c.of_all-in-Or.new.checker (disjunction at (expressions_of c.slice-in-Or.result.now)) (expression_of c.args.e.now)
+    (ap (λ (there : List Expr). disjunction at (expressions_of there)) c.slice-in-Or.ensures ∙ own) (c.of_all-in-Or.ensures.state at) (c.of_all-in-Or.ensures.value at)
 
-pub form-returns-in_ok-right-in-Iff-clause-value : goal.form-returns-in_ok-right-in-Iff-clause-value
-form-returns-in_ok-right-in-Iff-clause-value t c =
-    let s = c.args.checker.now in
-    let e = expression_of c.get-in-Iff.result.now in
-    let f = expression_of c.get-in-Iff-2.result.now in
-    let shape : equivalence (out-Expr c.args.e.now).at e f ≡ expression_of c.args.e.now = search (rules, the_lemmas) in
-    two-made c.equivalence.result (option_map argument_of) formula_in (λ f g. tree.truth_argument (tree.equivalence f g)) s c.expression-in-Iff.new.checker (occurrences s.scope s.before formula_wanted e) e f (expression_of c.args.e.now)
-    (option_map argument_of c.in_ok-left-in-Iff.left) (option_map argument_of c.in_ok-right-in-Iff.right)
-    c.in_ok-left-in-Iff.ensures.value c.in_ok-left-in-Iff.ensures.state c.in_ok-right-in-Iff.ensures.value
-    (ap (typed s.scope s.before) shape) c.equivalence.ensures
+pub form-returns-in-Implies : goal.form-returns-in-Implies
+form-returns-in-Implies t c =
+    let at = (out-Expr c.args.e.now).at in
+    same_expression c.of_two.result c.args.checker.now c.of_two.new.checker (implication at (expression_of c.get-in-Implies.result.now) (expression_of c.get-in-Implies-2.result.now)) (expression_of c.args.e.now)
+    (search (rules, the_lemmas)) (c.of_two.ensures.state at) (c.of_two.ensures.value at)
 
-pub form-returns-in_ok-right-in-Union-clause-value : goal.form-returns-in_ok-right-in-Union-clause-value
-form-returns-in_ok-right-in-Union-clause-value t c =
-    let s = c.args.checker.now in
-    let e = expression_of c.get-in-Union.result.now in
-    let f = expression_of c.get-in-Union-2.result.now in
-    let shape : union (out-Expr c.args.e.now).at e f ≡ expression_of c.args.e.now = search (rules, the_lemmas) in
-    two-made c.union.result (option_map argument_of) set_in (λ f g. tree.set_argument (tree.union f g)) s c.expression-in-Union.new.checker (occurrences s.scope s.before set_wanted e) e f (expression_of c.args.e.now)
-    (option_map argument_of c.in_ok-left-in-Union.left) (option_map argument_of c.in_ok-right-in-Union.right)
-    c.in_ok-left-in-Union.ensures.value c.in_ok-left-in-Union.ensures.state c.in_ok-right-in-Union.ensures.value
-    (ap (typed s.scope s.before) shape) c.union.ensures
+pub form-returns-in-Iff : goal.form-returns-in-Iff
+form-returns-in-Iff t c =
+    let at = (out-Expr c.args.e.now).at in
+    same_expression c.of_two-in-Iff.result c.args.checker.now c.of_two-in-Iff.new.checker (equivalence at (expression_of c.get-in-Iff.result.now) (expression_of c.get-in-Iff-2.result.now)) (expression_of c.args.e.now)
+    (search (rules, the_lemmas)) (c.of_two-in-Iff.ensures.state at) (c.of_two-in-Iff.ensures.value at)
 
-pub form-returns-in_ok-right-in-Inter-clause-value : goal.form-returns-in_ok-right-in-Inter-clause-value
-form-returns-in_ok-right-in-Inter-clause-value t c =
-    let s = c.args.checker.now in
-    let e = expression_of c.get-in-Inter.result.now in
-    let f = expression_of c.get-in-Inter-2.result.now in
-    let shape : intersection (out-Expr c.args.e.now).at e f ≡ expression_of c.args.e.now = search (rules, the_lemmas) in
-    two-made c.intersection.result (option_map argument_of) set_in (λ f g. tree.set_argument (tree.intersection f g)) s c.expression-in-Inter.new.checker (occurrences s.scope s.before set_wanted e) e f (expression_of c.args.e.now)
-    (option_map argument_of c.in_ok-left-in-Inter.left) (option_map argument_of c.in_ok-right-in-Inter.right)
-    c.in_ok-left-in-Inter.ensures.value c.in_ok-left-in-Inter.ensures.state c.in_ok-right-in-Inter.ensures.value
-    (ap (typed s.scope s.before) shape) c.intersection.ensures
+pub form-returns-in-Relation : goal.form-returns-in-Relation
+form-returns-in-Relation t c =
+    let at = (out-Expr c.args.e.now).at in
+    same_expression c.related.result c.args.checker.now c.related.new.checker (relation at c.in-Relation.rel (expression_of c.get-in-Relation.result.now) (expression_of c.get-in-Relation-2.result.now)) (expression_of c.args.e.now)
+    (search (rules, the_lemmas)) (c.related.ensures.state at) (c.related.ensures.value at)
 
-pub form-returns-in_ok-right-in-Minus-clause-value : goal.form-returns-in_ok-right-in-Minus-clause-value
-form-returns-in_ok-right-in-Minus-clause-value t c =
-    let s = c.args.checker.now in
-    let e = expression_of c.get-in-Minus.result.now in
-    let f = expression_of c.get-in-Minus-2.result.now in
-    let shape : difference (out-Expr c.args.e.now).at e f ≡ expression_of c.args.e.now = search (rules, the_lemmas) in
-    two-made c.difference.result (option_map argument_of) set_in (λ f g. tree.set_argument (tree.difference f g)) s c.expression-in-Minus.new.checker (occurrences s.scope s.before set_wanted e) e f (expression_of c.args.e.now)
-    (option_map argument_of c.in_ok-left-in-Minus.left) (option_map argument_of c.in_ok-right-in-Minus.right)
-    c.in_ok-left-in-Minus.ensures.value c.in_ok-left-in-Minus.ensures.state c.in_ok-right-in-Minus.ensures.value
-    (ap (typed s.scope s.before) shape) c.difference.ensures
+pub form-returns-in-IsEmpty : goal.form-returns-in-IsEmpty
+form-returns-in-IsEmpty t c =
+    let at = (out-Expr c.args.e.now).at in
+    same_expression c.of_one-in-IsEmpty.result c.args.checker.now c.of_one-in-IsEmpty.new.checker (emptiness at (expression_of c.get-in-IsEmpty.result.now)) (expression_of c.args.e.now)
+    (search (rules, the_lemmas)) (c.of_one-in-IsEmpty.ensures.state at) (c.of_one-in-IsEmpty.ensures.value at)
+
+pub form-returns-in-Union : goal.form-returns-in-Union
+form-returns-in-Union t c =
+    let at = (out-Expr c.args.e.now).at in
+    same_expression c.of_two-in-Union.result c.args.checker.now c.of_two-in-Union.new.checker (union at (expression_of c.get-in-Union.result.now) (expression_of c.get-in-Union-2.result.now)) (expression_of c.args.e.now)
+    (search (rules, the_lemmas)) (c.of_two-in-Union.ensures.state at) (c.of_two-in-Union.ensures.value at)
+
+pub form-returns-in-Inter : goal.form-returns-in-Inter
+form-returns-in-Inter t c =
+    let at = (out-Expr c.args.e.now).at in
+    same_expression c.of_two-in-Inter.result c.args.checker.now c.of_two-in-Inter.new.checker (intersection at (expression_of c.get-in-Inter.result.now) (expression_of c.get-in-Inter-2.result.now)) (expression_of c.args.e.now)
+    (search (rules, the_lemmas)) (c.of_two-in-Inter.ensures.state at) (c.of_two-in-Inter.ensures.value at)
+
+pub form-returns-in-Minus : goal.form-returns-in-Minus
+form-returns-in-Minus t c =
+    let at = (out-Expr c.args.e.now).at in
+    same_expression c.of_two-in-Minus.result c.args.checker.now c.of_two-in-Minus.new.checker (difference at (expression_of c.get-in-Minus.result.now) (expression_of c.get-in-Minus-2.result.now)) (expression_of c.args.e.now)
+    (search (rules, the_lemmas)) (c.of_two-in-Minus.ensures.state at) (c.of_two-in-Minus.ensures.value at)
+
+pub form-returns-in-Shift : goal.form-returns-in-Shift
+form-returns-in-Shift t c =
+    let at = (out-Expr c.args.e.now).at in
+    same_expression c.shifted.result c.args.checker.now c.shifted.new.checker (shift at (expression_of c.get-in-Shift.result.now) c.in-Shift.int) (expression_of c.args.e.now)
+    (search (rules, the_lemmas)) (c.shifted.ensures.state at) (c.shifted.ensures.value at)
+
+pub form-returns-in-Min : goal.form-returns-in-Min
+form-returns-in-Min t c =
+    let at = (out-Expr c.args.e.now).at in
+    same_expression c.of_one-in-Min.result c.args.checker.now c.of_one-in-Min.new.checker (minimum at (expression_of c.get-in-Min.result.now)) (expression_of c.args.e.now)
+    (search (rules, the_lemmas)) (c.of_one-in-Min.ensures.state at) (c.of_one-in-Min.ensures.value at)
+
+pub form-returns-in-Max : goal.form-returns-in-Max
+form-returns-in-Max t c =
+    let at = (out-Expr c.args.e.now).at in
+    same_expression c.of_one-in-Max.result c.args.checker.now c.of_one-in-Max.new.checker (maximum at (expression_of c.get-in-Max.result.now)) (expression_of c.args.e.now)
+    (search (rules, the_lemmas)) (c.of_one-in-Max.ensures.state at) (c.of_one-in-Max.ensures.value at)
+
+pub form-returns-in-Bind : goal.form-returns-in-Bind
+form-returns-in-Bind t c =
+    let at = (out-Expr c.args.e.now).at in
+    let own : quantified at c.in-Bind.quant (bounds_of c.in-Bind.bounds) (expression_of c.get-in-Bind.result.now) ≡ expression_of c.args.e.now = search (rules, the_lemmas) in
+    same_expression c.binder.result c.args.checker.now c.binder.new.checker (quantified at c.in-Bind.quant (bounds_of c.slice-in-Bind.result.now) (expression_of c.get-in-Bind.result.now)) (expression_of c.args.e.now)
+    (ap (λ (there : List Bound). quantified at c.in-Bind.quant (bounds_of there) (expression_of c.get-in-Bind.result.now)) c.slice-in-Bind.ensures ∙ own) (c.binder.ensures.state at) (c.binder.ensures.value at)
+
+pub form-returns-in-Let : goal.form-returns-in-Let
+form-returns-in-Let t c =
+    let at = (out-Expr c.args.e.now).at in
+    let own : where_let at c.in-Let.order (parts_of c.in-Let.parts) (expression_of c.get-in-Let.result.now) ≡ expression_of c.args.e.now = search (rules, the_lemmas) in
+    same_expression c.let_in.result c.args.checker.now c.let_in.new.checker (where_let at c.in-Let.order (parts_of c.slice-in-Let.result.now) (expression_of c.get-in-Let.result.now)) (expression_of c.args.e.now)
+    (ap (λ (there : List LetPart). where_let at c.in-Let.order (parts_of there) (expression_of c.get-in-Let.result.now)) c.slice-in-Let.ensures ∙ own) (c.let_in.ensures.state at) (c.let_in.ensures.value at)
+
+pub form-returns-in-Restrict : goal.form-returns-in-Restrict
+form-returns-in-Restrict t c =
+    let at = (out-Expr c.args.e.now).at in
+    same_expression c.of_one-in-Restrict.result c.args.checker.now c.of_one-in-Restrict.new.checker (restrict at (expression_of c.get-in-Restrict.result.now)) (expression_of c.args.e.now)
+    (search (rules, the_lemmas)) (c.of_one-in-Restrict.ensures.state at) (c.of_one-in-Restrict.ensures.value at)

@@ -1,5 +1,6 @@
-use Rattle.std.proofs.Common.{◌≡◌, ◌++◌, drop, map, take}
+use Rattle.std.proofs.Common.{◌≡◌, ◌+◌, ◌*◌, ◌++◌, drop, map, max, take}
 use Rattle.std.specs.Option.{option_map}
+use Rattle.ms_logic.proofs.source.Expr.TheLaws.{the_size}
 use Rattle.ms_logic.specs.View.{argument_of, binding_of, declaration_of}
 use Rattle.ms_names_rules.specs.Before.{after_all, after_parts}
 use Rattle.ms_names_rules.specs.inner.Binder.{restricted_variables, typed_sides}
@@ -8,8 +9,64 @@ use Rattle.ms_names_rules.specs.Occurrence.{formula_wanted, inside_arguments, in
 use Rattle.ms_names_rules.specs.Typed.{both, typed_arguments, typed_formulas, typed_numbers}
 use Rattle.ms_names_rules.specs.View.{bounds_of, parts_of}
 use Rattle.ms_names_rules.proofs.Lists.{in_front, sides_behind}
-use Rattle.ms_names_scopes.specs.inner.State.{after_restrictions, passed}
+use Rattle.ms_names_scopes.specs.inner.Found.{after_restrictions, passed}
 use Rattle.ms_names.proofs.expression.+expression.Given as goal
+
+-- what stands inside is less deep; at a level each call comes before those that it makes there
+
+abbrev pub decreases-expression : goal.decreases-expression
+decreases-expression l = 4 * (goal.size-expression l) + 1
+
+abbrev pub decreases-form : goal.decreases-form
+decreases-form l = 4 * (goal.size-form l)
+
+abbrev pub decreases-of_one : goal.decreases-of_one
+decreases-of_one l = 4 * (goal.size-of_one l) + 2
+
+abbrev pub decreases-of_two : goal.decreases-of_two
+decreases-of_two l = 4 * (max (the_size l.left.now) (the_size l.right.now)) + 2
+
+abbrev pub decreases-of_all : goal.decreases-of_all
+decreases-of_all l = 4 * (goal.size-of_all l) + 2
+
+abbrev pub decreases-literal_of : goal.decreases-literal_of
+decreases-literal_of l = 4 * (goal.size-literal_of l) + 2
+
+abbrev pub decreases-related : goal.decreases-related
+decreases-related l = 4 * (max (the_size l.left.now) (the_size l.right.now)) + 2
+
+abbrev pub decreases-shifted : goal.decreases-shifted
+decreases-shifted l = 4 * (goal.size-shifted l) + 2
+
+abbrev pub decreases-call_of : goal.decreases-call_of
+decreases-call_of l = 4 * (goal.size-call_of l) + 3
+
+abbrev pub decreases-arguments_for : goal.decreases-arguments_for
+decreases-arguments_for l = 4 * (goal.size-arguments_for l) + 2
+
+abbrev pub decreases-binder : goal.decreases-binder
+decreases-binder l = 4 * (max (goal.size-binder l) (the_size l.body.now)) + 3
+
+abbrev pub decreases-under_variables : goal.decreases-under_variables
+decreases-under_variables l = 4 * (goal.size-under_variables l) + 2
+
+abbrev pub decreases-variables : goal.decreases-variables
+decreases-variables l = 4 * (goal.size-variables l) + 1
+
+abbrev pub decreases-one_variable : goal.decreases-one_variable
+decreases-one_variable l = 4 * (goal.size-one_variable l)
+
+abbrev pub decreases-let_in : goal.decreases-let_in
+decreases-let_in l = 4 * (max (goal.size-let_in l) (the_size l.body.now)) + 3
+
+abbrev pub decreases-under_names : goal.decreases-under_names
+decreases-under_names l = 4 * (goal.size-under_names l) + 2
+
+abbrev pub decreases-right_sides : goal.decreases-right_sides
+decreases-right_sides l = 4 * (goal.size-right_sides l) + 2
+
+abbrev pub decreases-export : goal.decreases-export
+decreases-export l = 4 * (goal.size-export l) + 2
 
 -- what is found so far and what the rest gives is what all give
 
@@ -34,8 +91,8 @@ invariant-variables-loop-bound l = record {
       ≡ restricted_variables l.takes_defaults l.initial.checker.scope l.first l.initial.checker.before (bounds_of l.bounds);
 }
 
-abbrev pub invariant-formulas-loop-operand : goal.invariant-formulas-loop-operand
-invariant-formulas-loop-operand l = record {
+abbrev pub invariant-of_all-loop-operand : goal.invariant-of_all-loop-operand
+invariant-of_all-loop-operand l = record {
   state :
       l.checker
       ≡ passed l.initial.checker (inside_operands l.initial.checker.scope l.initial.checker.before formula_wanted (expressions_of (take l.operand-index l.operands)))
@@ -45,8 +102,8 @@ invariant-formulas-loop-operand l = record {
       ≡ typed_formulas l.initial.checker.scope l.initial.checker.before (expressions_of (take l.operand-index l.operands));
 }
 
-abbrev pub invariant-numbers-loop-element : goal.invariant-numbers-loop-element
-invariant-numbers-loop-element l = record {
+abbrev pub invariant-literal_of-loop-element : goal.invariant-literal_of-loop-element
+invariant-literal_of-loop-element l = record {
   state :
       l.checker
       ≡ passed l.initial.checker (inside_operands l.initial.checker.scope l.initial.checker.before number_wanted (expressions_of (take l.element-index l.elements)))

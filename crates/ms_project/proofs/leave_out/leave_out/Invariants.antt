@@ -1,7 +1,7 @@
 use Rattle.std.proofs.Common.{◌≡◌, ◌++◌, drop, length}
 use Rattle.ms_dfa.specs.Automaton.{variables_of}
 use Rattle.ms_project.specs.Paired.{places_left}
-use Rattle.ms_project.specs.Quantified.{without}
+use Rattle.ms_logic.specs.Lists.{without}
 use Rattle.ms_project.proofs.leave_out.leave_out.Given as goal
 
 -- what has been left and what is left of the others are the rest of all

@@ -1,4 +1,4 @@
-use Rattle.std.proofs.Common.{ℕ, ◌<◌, ◌↔◌, IsTrue, nat_lt, arith}
+use Rattle.std.proofs.Common.{ℕ, ◌<◌, IsTrue, nat_lt, arith}
 use Rattle.std.proofs.lemmas.Bool.Decides.{nat_tests}
 use Rattle.ms_build_source.proofs.CallLemmas.{import_itself}
 use Rattle.ms_build_source.proofs.source_calls.SourceCallsBodies.is_import.Goals as goal

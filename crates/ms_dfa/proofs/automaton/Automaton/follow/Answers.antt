@@ -3,15 +3,15 @@ use Rattle.std.proofs.lemmas.List.{length-take-le}
 use Rattle.ms_arena.specs.declared.node.Ref.{Ref}
 use Rattle.ms_arena.specs.Diagram.{leaf_of}
 use Rattle.ms_arena.proofs.Paths.{leaf_of-leaf}
-use Rattle.ms_logic_words.specs.Content.{spread, bits_at}
+use Rattle.ms_logic_words.specs.Content.{padded, bits_at}
 use Rattle.ms_dfa.specs.Part.{has_value}
 use Rattle.ms_dfa.proofs.Following.{step_in, counted_in, length_in}
 use Rattle.ms_dfa.proofs.automaton.Automaton.follow.Goals as goal
 
 pub returns-in-Leaf : goal.returns-in-Leaf
 returns-in-Leaf c =
-    sym (leaf_of-leaf c.args.self.now.nodes (bits_at (spread (has_value c.args.part) c.args.self.now.variables c.args.values.now)) c.in-Leaf.state)
-    ∙ ap (λ (reference : Ref). leaf_of c.args.self.now.nodes reference (bits_at (spread (has_value c.args.part) c.args.self.now.variables c.args.values.now))) (sym c.in-Leaf.is)
+    sym (leaf_of-leaf c.args.self.now.nodes (bits_at (padded (has_value c.args.part) c.args.self.now.variables c.args.values.now)) c.in-Leaf.state)
+    ∙ ap (λ (reference : Ref). leaf_of c.args.self.now.nodes reference (bits_at (padded (has_value c.args.part) c.args.self.now.variables c.args.values.now))) (sym c.in-Leaf.is)
     ∙ c.loop-reference.invariant.leaf
 
 pub slice_bounds-count_in-end : goal.slice_bounds-count_in-end

@@ -1,4 +1,4 @@
-use Rattle.std.proofs.Common.{inr}
+use Rattle.std.proofs.Common.{inl, inr, ⊎_elim}
 use Rattle.ms_dfafile_imports.proofs.taking.Taking.take.Goals as goal
 
 pub adopted-requires-clause-file : goal.adopted-requires-clause-file
@@ -6,5 +6,4 @@ adopted-requires-clause-file g c = λ plain is. (c.in_default.ensures.held c.arg
 
 pub returns-in-Err-adopted-clause-refused : goal.returns-in-Err-adopted-clause-refused
 returns-in-Err-adopted-clause-refused g c =
-    let known = c.in-Err-adopted.ensures.refused in
-    inr (inr (inr (known.0, c.in_default.ensures.held c.args.used.now.name known.0 known.1, known.2)))
+    ⊎_elim inl (λ known. inr (inr (inr (known.0, c.in_default.ensures.held c.args.used.now.name known.0 known.1, known.2)))) c.in-Err-adopted.ensures.refused

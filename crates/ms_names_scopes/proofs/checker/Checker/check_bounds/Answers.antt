@@ -2,7 +2,7 @@ use Rattle.std.proofs.Common.{◌+◌, drop, sym, ap, ◌∙◌, arith}
 use Rattle.std.proofs.lemmas.List.{drop_all}
 use Rattle.ms_names_rules.specs.Rules.{faults_of_bounds}
 use Rattle.ms_names_rules.specs.View.{bounds_of}
-use Rattle.ms_names_scopes.specs.inner.State.{with_faults}
+use Rattle.ms_names_scopes.specs.inner.Found.{with_faults}
 use Rattle.ms_names_scopes.proofs.Repeats.{bounds-next}
 use Rattle.ms_names_scopes.proofs.checker.Checker.check_bounds.Goals as goal
 

@@ -3,7 +3,7 @@ use Rattle.ms_names_rules.specs.declared.fault.Fault.TheVariants.{NamedTwice}
 use Rattle.ms_names_rules.specs.Rules.{in_case, is_name_among}
 use Rattle.ms_names_rules.specs.Declarations.{declared_names}
 use Rattle.ms_names_rules.proofs.Repeats.{among-is_some, is_some-copied}
-use Rattle.ms_names_scopes.specs.inner.State.{with_faults}
+use Rattle.ms_names_scopes.specs.inner.Found.{with_faults}
 use Rattle.ms_names_scopes.proofs.checker.Checker.check_declared.Goals as goal
 
 pub returns-in_ok-report_twice : goal.returns-in_ok-report_twice

@@ -1,7 +1,7 @@
 use Rattle.std.proofs.Common.{◌≡◌, drop}
 use Rattle.ms_names_rules.specs.Rules.{faults_of_exports}
 use Rattle.ms_names_rules.specs.Uses.{with_files}
-use Rattle.ms_names_scopes.specs.inner.State.{with_faults}
+use Rattle.ms_names_scopes.specs.inner.Found.{with_faults}
 use Rattle.ms_names_scopes.proofs.checker.Checker.check_each.Given as goal
 
 -- what is found so far and what the rest gives is what all give

@@ -5,7 +5,7 @@ use Rattle.ms_names_rules.specs.Declarations.{declared_names}
 use Rattle.ms_names_rules.specs.Rules.{faults_of_bounds}
 use Rattle.ms_names_rules.specs.Scope.{Scope}
 use Rattle.ms_names_rules.specs.View.{bounds_of}
-use Rattle.ms_names_scopes.specs.inner.State.{State, with_faults}
+use Rattle.ms_names_scopes.specs.inner.Found.{Found, with_faults}
 use Rattle.ms_names_scopes.proofs.Repeats.{bounds-next}
 use Rattle.ms_names_scopes.proofs.checker.Checker.check_globals.Goals as goal
 
@@ -23,7 +23,7 @@ loop-bound-preserved c =
     let v = c.bound-item.result in
     let rest = bounds_of (drop (i + 1) vs) in
     ap (λ earlier. with_faults u (faults_of_bounds (earlier ++ declared_names u.scope) rest)) c.in_ok-check_global.ensures.seen
-    ∙ (ap (λ (there : Scope). with_faults u (faults_of_bounds (((out-Bound v).name ∷ c.loop-bound.seen) ++ declared_names there) rest)) (ap (λ (there : State). there.scope) c.in_ok-check_global.ensures.state)
+    ∙ (ap (λ (there : Scope). with_faults u (faults_of_bounds (((out-Bound v).name ∷ c.loop-bound.seen) ++ declared_names there) rest)) (ap (λ (there : Found). there.scope) c.in_ok-check_global.ensures.state)
     ∙ (bounds-next t u (c.loop-bound.seen ++ declared_names t.scope) vs i v (omega arith) c.bound-item.is c.in_ok-check_global.ensures.state
     ∙ c.loop-bound.invariant))
 

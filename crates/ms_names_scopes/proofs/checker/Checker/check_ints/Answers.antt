@@ -3,7 +3,7 @@ use Rattle.std.specs.Prelude.{flat_map}
 use Rattle.std.proofs.lemmas.List.{drop_all}
 use Rattle.ms_names_rules.specs.Rules.{faults_of_placed}
 use Rattle.ms_names_rules.proofs.Repeats.{next}
-use Rattle.ms_names_scopes.specs.inner.State.{with_faults}
+use Rattle.ms_names_scopes.specs.inner.Found.{with_faults}
 use Rattle.ms_names_scopes.proofs.Sums.{ints-next}
 use Rattle.ms_names_scopes.proofs.checker.Checker.check_ints.Goals as goal
 

@@ -4,7 +4,7 @@ use Rattle.ms_names_rules.specs.Reads.{readings_of_renames, readings_of_variable
 use Rattle.ms_names_rules.specs.Rules.{faults_of_renames, faults_of_repeat, faults_of_variable}
 use Rattle.ms_names_rules.specs.Scope.{Scope, meaning_of}
 use Rattle.ms_names_rules.specs.Uses.{pairs_of}
-use Rattle.ms_names_scopes.specs.inner.State.{noted, with_faults}
+use Rattle.ms_names_scopes.specs.inner.Found.{noted, with_faults}
 use Rattle.ms_names_scopes.proofs.Repeats.{noted-none, pairs-next, renames-next}
 use Rattle.ms_names_scopes.proofs.checker.Checker.pairs.Goals as goal
 

@@ -2,7 +2,7 @@ use Rattle.std.proofs.Common.{◌≡◌, ◌++◌, [], drop}
 use Rattle.ms_names_rules.specs.Reads.{readings_of_renames}
 use Rattle.ms_names_rules.specs.Rules.{faults_of_renames}
 use Rattle.ms_names_rules.specs.Uses.{pairs_of}
-use Rattle.ms_names_scopes.specs.inner.State.{noted}
+use Rattle.ms_names_scopes.specs.inner.Found.{noted}
 use Rattle.ms_names_scopes.proofs.checker.Checker.pairs.Given as goal
 
 -- what is found so far and what the rest gives is what all give

@@ -3,7 +3,7 @@ use Rattle.std.proofs.lemmas.List.{drop_all}
 use Rattle.ms_names_rules.specs.Reads.{readings_of_bounds, readings_of_default}
 use Rattle.ms_names_rules.specs.View.{bound_of, bounds_of}
 use Rattle.ms_names_rules.proofs.Lists.{bounds-split}
-use Rattle.ms_names_scopes.specs.inner.State.{noted}
+use Rattle.ms_names_scopes.specs.inner.Found.{noted}
 use Rattle.ms_names_scopes.proofs.Lists.{defaults-next}
 use Rattle.ms_names_scopes.proofs.Repeats.{noted-none}
 use Rattle.ms_names_scopes.proofs.checker.Checker.read_defaults.Goals as goal

@@ -1,7 +1,7 @@
 use Rattle.std.proofs.Common.{◌≡◌, [], drop}
 use Rattle.ms_names_rules.specs.Reads.{readings_of_bounds}
 use Rattle.ms_names_rules.specs.View.{bounds_of}
-use Rattle.ms_names_scopes.specs.inner.State.{noted}
+use Rattle.ms_names_scopes.specs.inner.Found.{noted}
 use Rattle.ms_names_scopes.proofs.checker.Checker.read_defaults.Given as goal
 
 -- what is read so far and then by the rest is read by all

@@ -2,7 +2,7 @@ use Rattle.std.proofs.Common.{[]}
 use Rattle.ms_parse_grammar.specs.View.{document_of}
 use Rattle.ms_parse_steps.specs.declared.context.Context.TheVariants as contexts
 use Rattle.ms_parse_steps.specs.inner.Followed.{settled}
-use Rattle.ms_parse_steps.specs.inner.States.{context_of}
+use Rattle.ms_parse_steps.specs.inner.Configurations.{context_of}
 use Rattle.ms_parse_steps.proofs.Taking.{steps_by}
 use Rattle.ms_parse_steps.proofs.context.Context.end_expression.Goals as goal
 

@@ -3,7 +3,7 @@ use Rattle.ms_list.specs.declared.at.At.{At}
 use Rattle.ms_logic.specs.declared.source.PlacedInt.{PlacedInt}
 use Rattle.ms_parse_grammar.specs.Reads.{int_symbol, Starts}
 use Rattle.ms_parse_grammar.specs.Symbol.{name, Placed}
-use Rattle.ms_parse_steps.specs.inner.Machine.{summand_wanted, Step, took, equal_then, int_then}
+use Rattle.ms_parse_steps.specs.inner.Machine.{summand_wanted, Move, took, equal_then, int_then}
 use Rattle.ms_parse_grammar.specs.View.{document_of}
 use Rattle.ms_parse_steps.specs.inner.Terminals.{behind, IsNext, NoInt}
 use Rattle.ms_parse_steps.proofs.Taking.{name_found, int_found, int_missing}
@@ -17,7 +17,7 @@ returns c parser =
     let from = behind file lexed c.in-Some-behind_mark.from in
     let number = c.in-Some-2.number in
     let rest = behind file lexed c.in-Some-2.next in
-    let further : At → List ℕ → PlacedInt → List Placed → Step = λ a n k. took (summand_wanted (document_of parser.source) c.args.at a n (k ∷ [])) in
+    let further : At → List ℕ → PlacedInt → List Placed → Move = λ a n k. took (summand_wanted (document_of parser.source) c.args.at a n (k ∷ [])) in
     let names : IsNext file lexed i (name c.in-Some.name) c.in-Some.at_name = search rules in
     let starts : Starts true (int_symbol number.value) number.at from rest = search rules in
     let plus : number.minus ≡ false = search rules in
@@ -31,7 +31,7 @@ returns-in_default-2 c parser =
     let lexed = c.args.self.tokens.now in
     let i = c.args.i in
     let from = behind file lexed c.in-Some-behind_mark.from in
-    let further : At → List ℕ → PlacedInt → List Placed → Step = λ a n k. took (summand_wanted (document_of parser.source) c.args.at a n (k ∷ [])) in
+    let further : At → List ℕ → PlacedInt → List Placed → Move = λ a n k. took (summand_wanted (document_of parser.source) c.args.at a n (k ∷ [])) in
     let names : IsNext file lexed i (name c.in-Some.name) c.in-Some.at_name = search rules in
     let none : NoInt from = search rules in
     name_found (λ a n. equal_then (int_then false (further a n))) file lexed i c.in-Some.name c.in-Some.at_name names

@@ -2,7 +2,7 @@ use Rattle.ms_parse_grammar.specs.View.{document_of, variables_of}
 use Rattle.ms_parse_steps.specs.declared.terminal.Terminal.TheVariants as terminals
 use Rattle.ms_parse_steps.specs.inner.Machine.{behind_parameter}
 use Rattle.ms_parse_steps.specs.inner.Terminals.{behind, symbol_with}
-use Rattle.ms_parse_steps.specs.inner.States.{head_of}
+use Rattle.ms_parse_steps.specs.inner.Configurations.{head_of}
 use Rattle.std.proofs.Common.{◌-◌}
 use Rattle.ms_parse_steps.proofs.Taking.{steps_by}
 use Rattle.ms_parse_steps.proofs.input.Input.behind_parameter.Goals as goal

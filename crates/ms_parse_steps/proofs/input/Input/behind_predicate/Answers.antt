@@ -3,8 +3,8 @@ use Rattle.ms_parse_grammar.specs.Symbol.{open_round, close_round, Placed}
 use Rattle.ms_parse_grammar.specs.Tree.{no_variables}
 use Rattle.ms_parse_grammar.specs.View.{document_of, variables_of}
 use Rattle.ms_parse_steps.specs.declared.punctuation.Punctuation.TheVariants as marks
-use Rattle.ms_parse_steps.specs.inner.Machine.{behind_predicate, body_of, in_predicate, parameter_wanted, wanted, Step, took, either_mark, mark_then}
-use Rattle.ms_parse_steps.specs.inner.States.{head_of}
+use Rattle.ms_parse_steps.specs.inner.Machine.{behind_predicate, body_of, in_predicate, parameter_wanted, wanted, Move, took, either_mark, mark_then}
+use Rattle.ms_parse_steps.specs.inner.Configurations.{head_of}
 use Rattle.ms_parse_steps.specs.inner.Terminals.{behind}
 use Rattle.ms_parse_steps.proofs.Taking.{steps_as, mark_missing}
 use Rattle.ms_parse_steps.proofs.input.Input.behind_predicate.Goals as goal
@@ -25,7 +25,7 @@ returns-in-Some-behind_mark-2 c =
     let lexed = c.args.self.tokens.now in
     let s = c.args.signature in
     let d = document_of c.args.parser.now.source in
-    let inside : List Placed → Step = either_mark close_round (body_of d (head_of s) no_variables) (took (parameter_wanted d (head_of s) no_variables)) in
+    let inside : List Placed → Move = either_mark close_round (body_of d (head_of s) no_variables) (took (parameter_wanted d (head_of s) no_variables)) in
     steps_as file lexed _ _ c.body_of.new.parser c.body_of.result
     (mark_missing marks.Equal (took (wanted (in_predicate d (head_of s) no_variables) [])) (mark_then open_round inside) (behind file lexed c.args.i) c.in_default.ensures.none
     ∙ ap (mark_then open_round inside) c.in-Some-behind_mark.ensures.some.1 ∙ ap inside c.in-Some-behind_mark-2.ensures.some.1
@@ -39,7 +39,7 @@ returns c =
     let s = c.args.signature in
     let d = document_of c.args.parser.now.source in
     let body = body_of d (head_of s) no_variables in
-    let parameters : List Placed → Step = took (parameter_wanted d (head_of s) no_variables) in
+    let parameters : List Placed → Move = took (parameter_wanted d (head_of s) no_variables) in
     let inside = either_mark close_round body parameters in
     mark_missing marks.Equal (took (wanted (in_predicate d (head_of s) no_variables) [])) (mark_then open_round inside) (behind file lexed c.args.i) c.in_default.ensures.none
     ∙ ap (mark_then open_round inside) c.in-Some-behind_mark.ensures.some.1

@@ -1,7 +1,7 @@
 use Rattle.std.proofs.Common.{ap}
 use Rattle.ms_parse_grammar.specs.View.{document_of, variables_of}
 use Rattle.ms_parse_steps.specs.inner.Machine.{body_of}
-use Rattle.ms_parse_steps.specs.inner.States.{head_of}
+use Rattle.ms_parse_steps.specs.inner.Configurations.{head_of}
 use Rattle.ms_parse_steps.proofs.Taking.{steps_as}
 use Rattle.ms_parse_steps.proofs.input.Input.body_of.Goals as goal
 

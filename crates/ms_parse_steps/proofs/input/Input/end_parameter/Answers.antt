@@ -4,7 +4,7 @@ use Rattle.ms_parse_grammar.specs.View.{document_of, expression_of, variables_of
 use Rattle.ms_parse_steps.specs.declared.terminal.Terminal.TheVariants as terminals
 use Rattle.ms_parse_steps.specs.inner.Machine.{body_of, in_parameter, parameter_wanted, took}
 use Rattle.ms_parse_steps.specs.inner.Terminals.{behind}
-use Rattle.ms_parse_steps.specs.inner.States.{head_of}
+use Rattle.ms_parse_steps.specs.inner.Configurations.{head_of}
 use Rattle.ms_parse_steps.proofs.Taking.{ends_by, steps_as}
 use Rattle.ms_parse_steps.proofs.input.Input.end_parameter.Goals as goal
 

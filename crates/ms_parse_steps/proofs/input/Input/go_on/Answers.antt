@@ -4,7 +4,7 @@ use Rattle.ms_parse_grammar.specs.View.{document_of, expression_of}
 use Rattle.ms_parse_steps.specs.inner.Ends.{ends_part}
 use Rattle.ms_parse_steps.specs.inner.Machine.{in_part, go_on}
 use Rattle.ms_parse_steps.specs.inner.Stack.{stack_of}
-use Rattle.ms_parse_steps.specs.inner.States.{context_of}
+use Rattle.ms_parse_steps.specs.inner.Configurations.{context_of}
 use Rattle.ms_parse_steps.specs.inner.Terminals.{symbol_with, behind, IsNext}
 use Rattle.ms_parse_steps.proofs.Ending.{held_settled}
 use Rattle.ms_parse_steps.proofs.Taking.{steps_as, symbol_behind}

@@ -3,7 +3,7 @@ use Rattle.ms_parse_grammar.specs.Symbol.{name}
 use Rattle.ms_parse_grammar.specs.View.{document_of, variables_of}
 use Rattle.ms_parse_steps.specs.inner.Kinds.{IsKind}
 use Rattle.ms_parse_steps.specs.inner.Machine.{behind_parameter, name_then, symbol_then}
-use Rattle.ms_parse_steps.specs.inner.States.{head_of}
+use Rattle.ms_parse_steps.specs.inner.Configurations.{head_of}
 use Rattle.ms_parse_steps.specs.inner.Terminals.{symbol_with, behind, IsNext}
 use Rattle.ms_parse_steps.proofs.Taking.{steps_as, kind_found, name_found, symbol_second}
 use Rattle.ms_parse_steps.proofs.input.Input.next_parameter.Goals as goal

@@ -4,7 +4,7 @@ use Rattle.ms_parse_steps.specs.declared.parser.Parser.{Parser}
 use Rattle.ms_parse_steps.specs.inner.Followed.{settled}
 use Rattle.ms_parse_steps.specs.inner.Frames.{frame_of}
 use Rattle.ms_parse_steps.specs.inner.Stack.{stack_of}
-use Rattle.ms_parse_steps.specs.inner.States.{context_of}
+use Rattle.ms_parse_steps.specs.inner.Configurations.{context_of}
 use Rattle.ms_parse_steps.proofs.Taking.{steps_as}
 use Rattle.ms_parse_steps.proofs.input.Input.settle.Goals as goal
 

@@ -6,7 +6,7 @@ use Rattle.ms_parse_steps.specs.inner.Machine.{step}
 use Rattle.ms_parse_steps.specs.inner.Outcomes.{outcome_of}
 use Rattle.ms_parse_steps.specs.inner.Terminals.{behind}
 use Rattle.ms_parse_steps.specs.inner.Stack.{stack_of}
-use Rattle.ms_parse_steps.specs.inner.States.{context_of}
+use Rattle.ms_parse_steps.specs.inner.Configurations.{context_of}
 use Rattle.ms_parse_steps.proofs.Taking.{steps_by}
 use Rattle.ms_parse_steps.proofs.input.Input.step_expression.Goals as goal
 

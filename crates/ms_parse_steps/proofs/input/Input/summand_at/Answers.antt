@@ -6,7 +6,7 @@ use Rattle.ms_parse_grammar.specs.Reads.{int_symbol, place, Starts}
 use Rattle.ms_parse_grammar.specs.Symbol.{Placed}
 use Rattle.ms_parse_grammar.specs.Tree.{shifted}
 use Rattle.ms_parse_grammar.specs.View.{expression_of}
-use Rattle.ms_parse_steps.specs.inner.Machine.{holding, Step, took, misplaced, too_deep, int_then}
+use Rattle.ms_parse_steps.specs.inner.Machine.{holding, Move, took, misplaced, too_deep, int_then}
 use Rattle.ms_parse_steps.specs.inner.Stack.{stack_of}
 use Rattle.ms_parse_steps.specs.inner.Terminals.{behind, NoInt}
 use Rattle.ms_parse_steps.proofs.Frames.{chosen_yes, chosen_no}
@@ -32,7 +32,7 @@ returns-in-None-clause-step c context =
     let n = length st + suc (depth e) in
     let from = behind c.args.self.file c.args.self.tokens.now (c.args.i - 1) in
     let ts = behind c.args.self.file c.args.self.tokens.now c.args.i in
-    let further : PlacedInt → List Placed → Step = λ k. took (holding context (shifted (place e) e k) st) in
+    let further : PlacedInt → List Placed → Move = λ k. took (holding context (shifted (place e) e k) st) in
     let high : 9 ≤ level e = omega (arith, c.level.ensures) in
     let room : n ≤ greatest_depth = omega (arith, c.may_shift.ensures.yes c.if-not-may_shift.false, stack_length c.args.stack.now) in
     let none : NoInt ts = search rules in
@@ -48,7 +48,7 @@ returns-in-Some-clause-step c context =
     let ts = behind c.args.self.file c.args.self.tokens.now c.args.i in
     let found = c.in-Some.found in
     let rest = behind c.args.self.file c.args.self.tokens.now found.1 in
-    let further : PlacedInt → List Placed → Step = λ k. took (holding context (shifted (place e) e k) st) in
+    let further : PlacedInt → List Placed → Move = λ k. took (holding context (shifted (place e) e k) st) in
     let high : 9 ≤ level e = omega (arith, c.level.ensures) in
     let room : n ≤ greatest_depth = omega (arith, c.may_shift.ensures.yes c.if-not-may_shift.false, stack_length c.args.stack.now) in
     let starts : Starts true (int_symbol found.0.value) found.0.at ts rest = search rules in

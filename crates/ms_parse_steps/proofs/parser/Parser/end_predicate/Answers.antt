@@ -1,7 +1,7 @@
 use Rattle.ms_parse_grammar.specs.View.{document_of, variables_of}
 use Rattle.ms_parse_steps.specs.declared.terminal.Terminal.TheVariants as terminals
 use Rattle.ms_parse_steps.specs.inner.Machine.{in_predicate}
-use Rattle.ms_parse_steps.specs.inner.States.{head_of}
+use Rattle.ms_parse_steps.specs.inner.Configurations.{head_of}
 use Rattle.ms_parse_steps.proofs.Taking.{ends_by}
 use Rattle.ms_parse_steps.proofs.parser.Parser.end_predicate.Goals as goal
 

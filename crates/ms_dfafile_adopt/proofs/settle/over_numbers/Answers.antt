@@ -1,5 +1,0 @@
-use Rattle.ms_dfafile_adopt.proofs.OpenLemmas.{IsAutomaton-same_states}
-use Rattle.ms_dfafile_adopt.proofs.settle.over_numbers.Goals as goal
-
-pub with_states-requires : goal.with_states-requires
-with_states-requires c = IsAutomaton-same_states c.args.a.now c.states.ensures.automaton c.requires.mode c.in_ok-states.states c.in_ok-states.ensures c.requires.none
