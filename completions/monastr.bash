@@ -1,0 +1,26 @@
+# Completion for bash:
+#
+#     source completions/monastr.bash
+
+_monastr() {
+    local word=${COMP_WORDS[COMP_CWORD]} command=${COMP_WORDS[1]} before=${COMP_WORDS[COMP_CWORD - 1]} options=
+    COMPREPLY=()
+    if [ "$COMP_CWORD" -eq 1 ]; then
+        mapfile -t COMPREPLY < <(compgen -W 'decide same gen help prove test --help' -- "$word")
+        return
+    fi
+    case "$before" in --max-nodes) return ;; esac
+    case "$command" in
+        decide) options='--out --max-nodes --stats' ;;
+        same) options='--max-nodes' ;;
+        gen) options='--decide' ;;
+        *) return ;;
+    esac
+    if [[ $word == -* ]]; then
+        mapfile -t COMPREPLY < <(compgen -W "$options" -- "$word")
+    elif [ "$command" != gen ]; then
+        compopt -o filenames 2>/dev/null
+        mapfile -t COMPREPLY < <(compgen -f -- "$word")
+    fi
+}
+complete -F _monastr monastr
