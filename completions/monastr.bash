@@ -9,9 +9,15 @@ _monastr() {
         mapfile -t COMPREPLY < <(compgen -W 'decide same gen help prove test --help' -- "$word")
         return
     fi
-    case "$before" in --max-nodes) return ;; esac
+    case "$before" in
+        --max-nodes) return ;;
+        --format)
+            mapfile -t COMPREPLY < <(compgen -W '1 2' -- "$word")
+            return
+            ;;
+    esac
     case "$command" in
-        decide) options='--out --max-nodes --stats' ;;
+        decide) options='--out --max-nodes --stats --format' ;;
         same) options='--max-nodes' ;;
         gen) options='--decide' ;;
         *) return ;;

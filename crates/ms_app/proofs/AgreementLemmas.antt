@@ -1,6 +1,7 @@
 -- Two automata have canonical contents that are equal exactly where their main values agree.
-use Rattle.std.proofs.Common.{◌≡◌, ◌≢◌, ◌↔◌, Some, inl, inr, refl, sym, ap, subst, ◌∙◌}
+use Rattle.std.proofs.Common.{◌≡◌, ◌≢◌, ◌↔◌, Some, inl, inr, sym, ap, subst, ◌∙◌}
 use Rattle.std.proofs.lemmas.Option.{same_Some}
+use Rattle.ms_dfa.specs.declared.plain.FileVersion.TheVariants as versions
 use Rattle.ms_list.specs.declared.word.Word.{Word}
 use Rattle.ms_dfa.specs.declared.plain.FileSign.{FileSign}
 use Rattle.ms_logic_words.specs.declared.sign.Sign.{Sign}
@@ -17,21 +18,8 @@ use Rattle.ms_minim_canonical.proofs.EqualityLemmas.{canonical_equal}
 use Rattle.ms_dfa.specs.Values.{main_meaning}
 use Rattle.ms_dfa.proofs.EncodingLemmas.{encoding_or_not}
 use Rattle.ms_dfa.proofs.ValuesLemmas.{IsMeaning-main}
+use Rattle.ms_build_source.proofs.ExportContents.{same_filed}
 use Rattle.ms_app.specs.Counts.{IsCanonicalOf}
-
--- signs that are not Outside and are one sign in a file are one
-same_filed : (first second : Sign) → first ≢ Outside → second ≢ Outside → file_sign first ≡ file_sign second → first ≡ second
-same_filed Yes Yes one two same = refl
-same_filed No No one two same = refl
-same_filed Undefined Undefined one two same = refl
-same_filed Outside second one two same = absurd (one refl)
-same_filed first Outside one two same = absurd (two refl)
-same_filed Yes No one two same = let never : ⊥ = cc in absurd never
-same_filed Yes Undefined one two same = let never : ⊥ = cc in absurd never
-same_filed No Yes one two same = let never : ⊥ = cc in absurd never
-same_filed No Undefined one two same = let never : ⊥ = cc in absurd never
-same_filed Undefined Yes one two same = let never : ⊥ = cc in absurd never
-same_filed Undefined No one two same = let never : ⊥ = cc in absurd never
 
 -- what agrees has the same signs right
 agreed : (one two : Problem) (e : Env) → (MainYes one e ↔ MainYes two e) × (MainNo one e ↔ MainNo two e) → (sign : Sign) → main_meaning one e sign → main_meaning two e sign
@@ -46,14 +34,14 @@ agree_by : (one two : Problem) (e : Env)
     → (MainYes one e ↔ MainYes two e) × (MainNo one e ↔ MainNo two e)
 agree_by one two e there back = ((there Yes, back Yes), (there No, back No))
 
-module _ (one two : Problem) (left right : Content FileSign) (is_left : IsCanonicalOf one left) (is_right : IsCanonicalOf two right)
+module _ (one two : Problem) (left right : Content FileSign) (is_left : IsCanonicalOf versions.Two one left) (is_right : IsCanonicalOf versions.Two two right)
     (mode : left.mode ≡ right.mode) (variables : left.variables ≡ right.variables) where
   at_left : (word : Word) (e : Env) → IsAssignment left.mode left.variables e → Encodes left.variables word e
-      → (sign : Sign) × (sign_of left word ≡ Some (file_sign sign)) × main_meaning one e sign
+      → (sign : Sign) × (sign_of left word ≡ Some (file_sign versions.Two sign)) × main_meaning one e sign
   at_left = is_left.value.right
 
   at_right : (word : Word) (e : Env) → IsAssignment left.mode left.variables e → Encodes left.variables word e
-      → (sign : Sign) × (sign_of right word ≡ Some (file_sign sign)) × main_meaning two e sign
+      → (sign : Sign) × (sign_of right word ≡ Some (file_sign versions.Two sign)) × main_meaning two e sign
   at_right word e assigned encodes =
       is_right.value.right word e (subst (λ vs. IsAssignment right.mode vs e) variables (subst (λ m. IsAssignment m left.variables e) mode assigned)) (subst (λ vs. Encodes vs word e) variables encodes)
 
@@ -74,7 +62,7 @@ module _ (one two : Problem) (left right : Content FileSign) (is_left : IsCanoni
       let encodes = (length_is_least left.mode left.variables e here).0 in
       let first = at_left word e here encodes in
       let second = at_right word e here encodes in
-      let same = same_filed first.0 second.0 (inside one e first.0 first.2) (inside two e second.0 second.2)
+      let same = same_filed versions.Two first.0 second.0 (inside one e first.0 first.2) (inside two e second.0 second.2)
       (same_Some _ _ (sym first.1 ∙ ap (λ content. sign_of content word) equal ∙ second.1)) in
       agree_by one two e
       (λ sign means. subst (main_meaning two e) (sym same ∙ one_sign e first.0 sign here first.2 means) second.2)
@@ -92,7 +80,7 @@ module _ (one two : Problem) (left right : Content FileSign) (is_left : IsCanoni
             let second = at_right word e encoding.1 encoding.2 in
             let assigned = subst (λ vs. IsAssignment one.mode vs e) is_left.variables (subst (λ m. IsAssignment m left.variables e) is_left.mode encoding.1) in
             let same = other_sign e second.0 first.0 encoding.1 second.2 (agreed one two e (agree e assigned) first.0 first.2) in
-            second.1 ∙ ap (λ sign. Some (file_sign sign)) same ∙ sym first.1)
+            second.1 ∙ ap (λ sign. Some (file_sign versions.Two sign)) same ∙ sym first.1)
         | inr outside ↦
             is_right.value.outside word (subst (λ vs. IsWordOver vs word) variables over)
             (λ encoding. outside (subst (λ m. IsEncoding m left.variables word) (sym mode) (subst (λ vs. IsEncoding right.mode vs word) (sym variables) encoding)))

@@ -15,13 +15,13 @@ limit_by None limit is = record { some = omega (arith, is); small = omega (arith
 limit_by (Some text) limit is = record { some = is.some; small = is.small }
 
 pub limited : (words : List (List ℕ)) (command : Command) → IsCommand words command → IsLimited command
-limited words (Decide file out max_nodes stats) asked = limit_by _ max_nodes asked.asked.2
+limited words (Decide file out max_nodes stats format) asked = limit_by _ max_nodes asked.asked.2
 limited words (Same left right max_nodes) asked = limit_by _ max_nodes asked.asked.2
 limited words (Gen number decide) asked = tt
 
 -- want of memory needs no cause
 pub memory_refuses : (command : Command) (seen : Seen) (files : List (List ℕ)) → IsRefusedFor command seen Memory files
-memory_refuses (Decide file out max_nodes stats) seen files = sources.no_memory refl
+memory_refuses (Decide file out max_nodes stats format) seen files = sources.no_memory refl
 memory_refuses (Same left right max_nodes) seen files = comparisons.no_memory refl
 memory_refuses (Gen number false) seen files = inl refl
 memory_refuses (Gen number true) seen files = inl refl

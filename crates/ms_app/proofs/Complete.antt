@@ -21,7 +21,7 @@ use Rattle.ms_app.proofs.Solvable.{IsWant, files_settle, solvable}
 -- what can be done is refused for want of memory or nodes alone
 want : (command : Command) (before after : SinkTold) (seen : Seen) → CanBeDone command seen → NothingFailed before after seen → (refusal : Refusal) (files : List (List ℕ)) →
     IsRefusedFor command seen refusal files → IsWant (limit_of command) refusal
-want (Decide file out limit stats) before after seen can well refusal files why =
+want (Decide file out limit stats format) before after seen can well refusal files why =
     solvable (file_of seen 0 file) (file_of seen 0 file) (files_settle seen seen (record { holding = well.holding; one_told = well.told; other_told = well.told }) well.works 0 file)
     out can.0 can.1 can.2 can.3 limit refusal files why
 want (Same left right limit) before after seen can well refusal files why = comparable well.holding left right limit seen can.0 can.1 well.told well.works can.2 can.3 refusal files why

@@ -4,6 +4,7 @@ use Rattle.std.proofs.lemmas.Option.{none-some, same_Some}
 use Rattle.ms_dfa.specs.Files.{content_of_file, file_states_of}
 use Rattle.ms_dfa.proofs.OrdersLemmas.{orders_of}
 use Rattle.ms_dfa.specs.declared.plain.FileState.{FileState}
+use Rattle.ms_dfa.specs.declared.plain.FileVersion.{FileVersion}
 use Rattle.ms_dfa.specs.declared.plain.Plain.{Plain}
 use Rattle.ms_logic_words.specs.declared.sign.Sign.{Sign}
 use Rattle.ms_logic.specs.Assignment.{Variable}
@@ -15,8 +16,8 @@ use Rattle.ms_build_source.proofs.FileValues.{file_of}
 use Rattle.ms_dfa.specs.Values.{HasValues, main_meaning}
 use Rattle.ms_app.specs.Counts.{IsCanonicalOf}
 
-module _ (problem : Problem) (content : Content Sign) (value : HasMainValue problem content)
-    (by_place : content.variables ≡ variables_by_place (map (λ v. v.order) content.variables)) (names : List (List ℕ)) (plain : Plain) (copy : IsCanonicalCopy content names plain) where
+module _ (version : FileVersion) (problem : Problem) (content : Content Sign) (value : HasMainValue problem content)
+    (by_place : content.variables ≡ variables_by_place (map (λ v. v.order) content.variables)) (names : List (List ℕ)) (plain : Plain) (copy : IsCanonicalCopy version content names plain) where
   abbrev orders_are : orders_of (variables_of problem.globals) ≡ orders_of content.variables
   orders_are = ap orders_of (sym value.variables)
 
@@ -24,21 +25,21 @@ module _ (problem : Problem) (content : Content Sign) (value : HasMainValue prob
   values = let P : List Variable → Type 0 = λ vs. HasValues (main_meaning problem) (record content { variables = vs }) in subst P value.variables value.values
 
   -- the file of the main value
-  pub file_of_value : IsMainFile problem names plain
+  pub file_of_value : IsMainFile version problem names plain
   file_of_value =
-      subst (λ mode. IsFileOf mode (variables_of problem.globals) names (main_meaning problem) plain) value.mode
-      (file_of content names plain copy (variables_of problem.globals) orders_are (main_meaning problem) values)
+      subst (λ mode. IsFileOf version mode (variables_of problem.globals) names (main_meaning problem) plain) value.mode
+      (file_of version content names plain copy (variables_of problem.globals) orders_are (main_meaning problem) values)
 
   same_variables : (content_of_file plain).variables ≡ variables_of problem.globals
   same_variables = ap variables_by_place copy.orders ∙ sym by_place ∙ value.variables
 
-  pub canonical_of_value : IsCanonicalOf problem (content_of_file plain)
+  pub canonical_of_value : IsCanonicalOf version problem (content_of_file plain)
   canonical_of_value = record {
     mode = copy.mode_is ∙ value.mode;
     variables = same_variables;
     canonical = copy.canonical;
     value =
-        let P : List Variable → Type 0 = λ vs. GivesValue (main_meaning problem) (content_over vs plain) in
+        let P : List Variable → Type 0 = λ vs. GivesValue version (main_meaning problem) (content_over vs plain) in
         subst P (sym same_variables) file_of_value.value;
   }
 

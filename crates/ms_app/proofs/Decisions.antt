@@ -1,7 +1,8 @@
 -- A source that was taken, with the automata of its imports, is decided or not solved.
-use Rattle.std.proofs.Common.{◌≡◌, ◌⊎◌, ℕ, Bool, true, List, [], ◌++◌, length, map, All, Option, sym, subst}
+use Rattle.std.proofs.Common.{◌≡◌, ◌⊎◌, ℕ, Bool, List, [], ◌++◌, length, map, All, Option, Some, sym, subst}
 use Rattle.ms_names_checked.specs.Names.{AreDifferent}
 use Rattle.ms_names_checked.specs.Spellings.{IsName}
+use Rattle.ms_dfa.specs.declared.plain.FileVersion.{FileVersion}
 use Rattle.ms_dfa.specs.declared.plain.Plain.{Plain}
 use Rattle.ms_edge.specs.Files.{Seen}
 use Rattle.ms_edge.specs.declared.refusal.Refusal.{Refusal}
@@ -19,7 +20,7 @@ use Rattle.ms_report.specs.declared.found.Found.{Found}
 use Rattle.ms_logic.specs.Lists.{Each}
 use Rattle.ms_build_source.specs.Imported.{AreAnswersOf, AreLentFor}
 use Rattle.ms_build_source.specs.Limits.{IsUnsolved, IsWithinLimits}
-use Rattle.ms_build_source.specs.Solution.{HasExports, IsSmall, IsSolution}
+use Rattle.ms_build_source.specs.Solution.{HasExports, IsSolution, IsSpellable}
 use Rattle.ms_build_source.specs.declared.solution.Solution.{Solution}
 use Rattle.ms_build_source.proofs.Solved.{answers_counted, are_own_answers, own_answers}
 use Rattle.ms_app.specs.Counts.{HasStats}
@@ -37,11 +38,11 @@ module _ (checked : Checked) where
   global_names = map (λ (g : Global). g.name) checked.globals
 
   -- what is found of a source, for each list of answers that automata give
-  abbrev pub FoundBy : List (Content Sign) → Option (List ℕ) → Bool → ℕ → Found → List File → Type 0
-  FoundBy contents out stats count found files =
+  abbrev pub FoundBy : List (Content Sign) → Option (List ℕ) → Bool → FileVersion → ℕ → Found → List File → Type 0
+  FoundBy contents out stats format count found files =
       (answers : Answers) → AreAnswersOf checked.mode checked.imports answers contents →
       IsFound (problem_of checked answers) global_names found × HasStats stats (problem_of checked answers) count found.stats
-      × AreFilesOf (problem_of checked answers) global_names checked.exports out files
+      × AreFilesOf format (problem_of checked answers) global_names checked.exports out files
 
   -- automata that imports have become
   module _ (plains : List Plain) (contents : List (Content Sign)) (adopted : AreAdopted checked.mode checked.imports plains contents) where
@@ -58,9 +59,9 @@ module _ (checked : Checked) where
       pub solved_of : ((answers : Answers) → IsWithinLimits (problem_of checked answers)) → IsSolved origin out loaded checked plains
       solved_of within = record { is = taken; within = within answers }
 
-      pub decided_of : (stats : Bool) (count : ℕ) → count ≡ length loaded.files → (found : Found) (files : List File) → FoundBy contents out stats count found files
-          → ((answers : Answers) → IsWithinLimits (problem_of checked answers)) → IsDecided origin out stats found files
-      decided_of stats count same found files by within =
+      pub decided_of : (stats : Bool) (format : FileVersion) (count : ℕ) → count ≡ length loaded.files → (found : Found) (files : List File) → FoundBy contents out stats format count found files
+          → ((answers : Answers) → IsWithinLimits (problem_of checked answers)) → IsDecided origin out stats format found files
+      decided_of stats format count same found files by within =
           let all = by answers are in
           record {
             loaded = loaded;
@@ -72,8 +73,8 @@ module _ (checked : Checked) where
             written = all.2;
           }
 
-      pub own_names_of : IsRight checked → (stats : Bool) (count : ℕ) (found : Found) (files : List File) → FoundBy contents out stats count found files → HaveOwnNames files
-      own_names_of right stats count found files by = own_names (problem_with checked plains) global_names checked.exports out files right.meets_rules.names.files taken.free (by answers are).2
+      pub own_names_of : IsRight checked → (stats : Bool) (format : FileVersion) (count : ℕ) (found : Found) (files : List File) → FoundBy contents out stats format count found files → HaveOwnNames files
+      own_names_of right stats format count found files by = own_names format (problem_with checked plains) global_names checked.exports out files right.meets_rules.names.files taken.free (by answers are).2
 
       pub unsolved_of : (limit : ℕ) (refusal : Refusal) (old new : List (List ℕ)) → new ≡ old ++ loaded.files
           → ((answers : Answers) → length answers ≡ length checked.imports → (refusal ≡ Memory) ⊎ IsUnsolved checked answers contents limit refusal)
@@ -93,14 +94,14 @@ module _ (checked : Checked) where
         let same = (by own are_own).names_are in
         record { spelled = subst (All IsName) (sym same) (each_all IsName global_names right.names.globals); different = subst AreDifferent (sym same) right.meets_rules.names.globals }
 
-    module _ (exports : (answers : Answers) → AreAnswersOf checked.mode checked.imports answers contents → HasExports true (problem_of checked answers) checked.exports solution.exports) where
+    module _ (format : FileVersion) (exports : (answers : Answers) → AreAnswersOf checked.mode checked.imports answers contents → HasExports (Some format) (problem_of checked answers) checked.exports solution.exports) where
       pub as_many : length checked.exports ≡ length solution.exports
-      as_many = exports_counted (problem_of checked own) 0 checked.exports solution.exports (exports own are_own)
+      as_many = exports_counted format (problem_of checked own) 0 checked.exports solution.exports (exports own are_own)
 
-      pub writable : Each IsSmall solution.exports → AreWritable solution.exports
-      writable small = all_writable (problem_of checked own) 0 checked.exports solution.exports (exports own are_own) small right.names.exports right.meets_rules.names.exports
+      pub writable : Each IsSpellable solution.exports → AreWritable solution.exports
+      writable small = all_writable format (problem_of checked own) 0 checked.exports solution.exports (exports own are_own) small right.names.exports right.meets_rules.names.exports
 
 -- the first source of a request
-pub first_decided : (seen : Seen) (name : List ℕ) (out : Option (List ℕ)) (stats : Bool) (found : Found) (files : List File) (old : List (List ℕ)) → old ≡ []
-    → IsDecided (file_of seen (length old) name) out stats found files → IsDecided (file_of seen 0 name) out stats found files
-first_decided seen name out stats found files old none is = let P : List (List ℕ) → Type 0 = λ names. IsDecided (file_of seen (length names) name) out stats found files in subst P none is
+pub first_decided : (seen : Seen) (name : List ℕ) (out : Option (List ℕ)) (stats : Bool) (format : FileVersion) (found : Found) (files : List File) (old : List (List ℕ)) → old ≡ []
+    → IsDecided (file_of seen (length old) name) out stats format found files → IsDecided (file_of seen 0 name) out stats format found files
+first_decided seen name out stats format found files old none is = let P : List (List ℕ) → Type 0 = λ names. IsDecided (file_of seen (length names) name) out stats format found files in subst P none is

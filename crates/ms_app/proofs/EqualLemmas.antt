@@ -7,7 +7,7 @@ use Rattle.ms_arena.specs.contracts.node.RefPartialEq.TheImpl as of_ref
 use Rattle.ms_arena.specs.contracts.node.NodePartialEq.TheImpl as of_node
 use Rattle.ms_arena.proofs.Equality.{node_itself, ref_itself, same_node, same_ref}
 use Rattle.ms_dfa.specs.declared.plain.FileSign.{FileSign}
-use Rattle.ms_dfa.specs.declared.plain.FileSign.TheVariants.{Plus, Minus, Zero}
+use Rattle.ms_dfa.specs.declared.plain.FileSign.TheVariants.{Plus, Minus, Zero, Outside}
 use Rattle.ms_dfa.specs.declared.plain.FileState.{FileState}
 use Rattle.ms_dfa.specs.contracts.plain.FileSignPartialEq.TheImpl as of_sign
 use Rattle.ms_dfa.specs.contracts.plain.FileStatePartialEq.TheImpl as of_state
@@ -25,11 +25,19 @@ same_sign Minus Plus same = absurd (false≢true same)
 same_sign Minus Zero same = absurd (false≢true same)
 same_sign Zero Plus same = absurd (false≢true same)
 same_sign Zero Minus same = absurd (false≢true same)
+same_sign Outside Outside same = refl
+same_sign Plus Outside same = absurd (false≢true same)
+same_sign Minus Outside same = absurd (false≢true same)
+same_sign Zero Outside same = absurd (false≢true same)
+same_sign Outside Plus same = absurd (false≢true same)
+same_sign Outside Minus same = absurd (false≢true same)
+same_sign Outside Zero same = absurd (false≢true same)
 
 sign_itself : (a : FileSign) → of_sign.eq-value.it a a ≡ true
 sign_itself Plus = refl
 sign_itself Minus = refl
 sign_itself Zero = refl
+sign_itself Outside = refl
 
 pub same_state : (a b : FileState) → of_state.eq-value.it a b ≡ true → a ≡ b
 same_state a b same =

@@ -1,5 +1,6 @@
 -- What comes of a generated source.
 use Rattle.std.proofs.Common.{◌≡◌, ◌⊎◌, inl, inr, ℕ, true, List, [], ◌∷◌, ◌++◌, length, map, None, refl, sym, ap, subst, ◌∙◌}
+use Rattle.ms_dfa.specs.declared.plain.FileVersion.TheVariants as versions
 use Rattle.ms_dfafile_imports.specs.Imports.{answers_by}
 use Rattle.ms_include.specs.Load.{IsLoadedText}
 use Rattle.ms_dfa.specs.declared.plain.Plain.{Plain}
@@ -52,7 +53,7 @@ solved number is =
 
 -- what is found of it is that it is valid
 pub found-valid : GeneratedSourcesAreFoundValid
-found-valid number stats found files is decided =
+found-valid number stats format found files is decided =
     let accepted = decided.is.is.is in
     let uses = decided.is.is.imported.0 in
     let valid = (sources-are-valid number generated_name decided.loaded decided.checked is accepted.is_loaded accepted.typed).1 in
@@ -105,15 +106,15 @@ module _ (number : ℕ) (is_number : IsNumber number) (bytes : List ℕ) (is_tex
     text_unsolved contents answer refusal (inr why) = wanting number is_number refusal new (text_refused grown refusal (unsolved loaded checked [] taken (sym is.is_loaded.files) contents answer why))
 
     pub text_decided : (found : Found) (files : List File) → IsFound (problem_with checked []) (map (λ g. g.name) checked.globals) found → IsWithinLimits (problem_with checked [])
-        → HasStats true (problem_with checked []) (length loaded.files) found.stats → AreFilesOf (problem_with checked []) (map (λ g. g.name) checked.globals) checked.exports None files
-        → IsDecided (text_of generated_name (generated number)) None true found files
+        → HasStats true (problem_with checked []) (length loaded.files) found.stats → AreFilesOf versions.Two (problem_with checked []) (map (λ g. g.name) checked.globals) checked.exports None files
+        → IsDecided (text_of generated_name (generated number)) None true versions.Two found files
     text_decided found files is_found within counted written =
-        let P : List ℕ → Type 0 = λ text. IsDecided (text_of generated_name text) None true found files in
+        let P : List ℕ → Type 0 = λ text. IsDecided (text_of generated_name text) None true versions.Two found files in
         subst P is_text (record { loaded = loaded; checked = checked; plains = []; is = record { is = taken; within = within }; is_found = is_found; counted = counted; written = written })
 
     -- and no file is written
-    pub no_files : (names : List (List ℕ)) (problem : Problem) (files : List File) → AreFilesOf problem names checked.exports None files → files ≡ []
-    no_files names problem files are = let P : List ExportUse → Type 0 = λ exports. AreFilesFrom problem names 0 exports None files in subst P alone.1 are
+    pub no_files : (names : List (List ℕ)) (problem : Problem) (files : List File) → AreFilesOf versions.Two problem names checked.exports None files → files ≡ []
+    no_files names problem files are = let P : List ExportUse → Type 0 = λ exports. AreFilesFrom versions.Two problem names 0 exports None files in subst P alone.1 are
 
     -- its imports need no automata
     pub nothing_lent : (contents : List (Content Sign)) → contents ≡ [] → AreLentFor checked.mode checked.imports contents

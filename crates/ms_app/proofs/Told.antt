@@ -177,7 +177,7 @@ comparison-told left right limit seen refusal files (not_comparable one two are_
 comparison-told left right limit seen refusal files (comparisons.no_memory why) = memory-told files refusal why
 
 pub command-told : (command : Command) (seen : Seen) (refusal : Refusal) (files : List (List ℕ)) → IsRefusedFor command seen refusal files → IsToldOver files refusal
-command-told (Decide file out max_nodes stats) seen refusal files why = refused-told [] (file_of seen 0 file) (file-tells seen [] file) out max_nodes refusal files why
+command-told (Decide file out max_nodes stats format) seen refusal files why = refused-told [] (file_of seen 0 file) (file-tells seen [] file) out max_nodes refusal files why
 command-told (Same left right max_nodes) seen refusal files why = comparison-told left right max_nodes seen refusal files why
 command-told (Gen number false) seen refusal files (inl memory) = memory-told files refusal memory
 command-told (Gen number false) seen refusal files (inr range) = subst (IsToldOver files) (sym range.0) (tt, tt)

@@ -4,6 +4,7 @@ use Rattle.std.proofs.lemmas.List.Elements.{All-cons, All-head, All-nil, All-tai
 use Rattle.std.proofs.lemmas.List.Quantifiers.{all_pairs_push}
 use Rattle.std.proofs.lemmas.Option.{none-some, same_Some}
 use Rattle.ms_names_checked.specs.Names.{AreDifferent}
+use Rattle.ms_dfa.specs.declared.plain.FileVersion.{FileVersion}
 use Rattle.ms_dfa.specs.declared.plain.Plain.{Plain}
 use Rattle.ms_dfafile.specs.File.{IsSpelled}
 use Rattle.ms_logic.specs.declared.checked.ExportUse.{ExportUse}
@@ -11,17 +12,17 @@ use Rattle.ms_logic.specs.Verdict.{Problem}
 use Rattle.ms_logic.specs.Lists.{Each}
 use Rattle.ms_build_source.proofs.SharedRoots.{each_all}
 use Rattle.ms_names_checked.specs.Spellings.{IsName}
-use Rattle.ms_build_source.specs.Solution.{AreExportFiles, IsSmall}
+use Rattle.ms_build_source.specs.Solution.{AreExportFiles, IsSpellable}
 use Rattle.ms_build_source.specs.Values.{IsMainFile}
 use Rattle.ms_app.specs.inner.Files.{AreSpelled, AreWritable, HaveOwnNames, IsWithMain, pairs_of}
 use Rattle.ms_app.specs.declared.files.AutomatonFile.{AutomatonFile}
 use Rattle.ms_app.specs.Source.{IsOutFree}
 use Rattle.ms_app.specs.Written.{AreFilesFrom, AreFilesOfMain, File}
 
-module _ (problem : Problem) (names : List (List ℕ)) where
+module _ (version : FileVersion) (problem : Problem) (names : List (List ℕ)) where
   -- files of exports, and behind them that of the main value
-  pub files_from : (i : ℕ) (uses : List ExportUse) (plains : List Plain) (files rest : List File) (out : Option (List ℕ)) → AreSpelled uses plains files → AreExportFiles problem i uses plains
-      → AreFilesOfMain problem names out rest → AreFilesFrom problem names i uses out (files ++ rest)
+  pub files_from : (i : ℕ) (uses : List ExportUse) (plains : List Plain) (files rest : List File) (out : Option (List ℕ)) → AreSpelled uses plains files → AreExportFiles version problem i uses plains
+      → AreFilesOfMain version problem names out rest → AreFilesFrom version problem names i uses out (files ++ rest)
   files_from i [] [] [] rest out spelled exports main = main
   files_from i [] [] (file ∷ files) rest out spelled exports main = absurd spelled
   files_from i [] (plain ∷ plains) files rest out spelled exports main = absurd exports
@@ -35,22 +36,22 @@ module _ (problem : Problem) (names : List (List ℕ)) where
   no_more (file ∷ files) = ap (λ fs. file ∷ fs) (no_more files)
 
   -- where none is asked for
-  pub files_alone : (uses : List ExportUse) (plains : List Plain) (files : List File) → AreSpelled uses plains files → AreExportFiles problem 0 uses plains → AreFilesFrom problem names 0 uses None files
-  files_alone uses plains files spelled exports = subst (AreFilesFrom problem names 0 uses None) (no_more files) (files_from 0 uses plains files [] None spelled exports refl)
+  pub files_alone : (uses : List ExportUse) (plains : List Plain) (files : List File) → AreSpelled uses plains files → AreExportFiles version problem 0 uses plains → AreFilesFrom version problem names 0 uses None files
+  files_alone uses plains files spelled exports = subst (AreFilesFrom version problem names 0 uses None) (no_more files) (files_from 0 uses plains files [] None spelled exports refl)
 
   -- and where one may be
-  pub files_with : (uses : List ExportUse) (plains : List Plain) (files more : List File) (out : Option (List ℕ)) (main : Plain) → AreSpelled uses plains files → AreExportFiles problem 0 uses plains
-      → IsMainFile problem names main → IsWithMain files out main more → AreFilesFrom problem names 0 uses out more
-  files_with uses plains files more None main spelled exports is with = subst (AreFilesFrom problem names 0 uses None) (sym with) (files_alone uses plains files spelled exports)
+  pub files_with : (uses : List ExportUse) (plains : List Plain) (files more : List File) (out : Option (List ℕ)) (main : Plain) → AreSpelled uses plains files → AreExportFiles version problem 0 uses plains
+      → IsMainFile version problem names main → IsWithMain files out main more → AreFilesFrom version problem names 0 uses out more
+  files_with uses plains files more None main spelled exports is with = subst (AreFilesFrom version problem names 0 uses None) (sym with) (files_alone uses plains files spelled exports)
   files_with uses plains files more (Some out) main spelled exports is (bytes, are, text) =
-      subst (AreFilesFrom problem names 0 uses (Some out)) (sym are) (files_from 0 uses plains files ((out, bytes) ∷ []) (Some out) spelled exports (bytes, refl, (main, text, is)))
+      subst (AreFilesFrom version problem names 0 uses (Some out)) (sym are) (files_from 0 uses plains files ((out, bytes) ∷ []) (Some out) spelled exports (bytes, refl, (main, text, is)))
 
   -- the names of the files
   abbrev name_of_out : Option (List ℕ) → List (List ℕ)
   name_of_out None = []
   name_of_out (Some out) = out ∷ []
 
-  names_are : (i : ℕ) (uses : List ExportUse) (out : Option (List ℕ)) (files : List File) → AreFilesFrom problem names i uses out files
+  names_are : (i : ℕ) (uses : List ExportUse) (out : Option (List ℕ)) (files : List File) → AreFilesFrom version problem names i uses out files
       → map (λ (file : File). file.0) files ≡ map (λ (used : ExportUse). used.name) uses ++ name_of_out out
   names_are i [] None files are = ap (map (λ (file : File). file.0)) are
   names_are i [] (Some out) files are = ap (map (λ (file : File). file.0)) are.1
@@ -65,7 +66,7 @@ module _ (problem : Problem) (names : List (List ℕ)) where
 
   -- no two have one name
   pub own_names : (uses : List ExportUse) (out : Option (List ℕ)) (files : List File) → AreDifferent (map (λ (used : ExportUse). used.name) uses) → IsOutFree out uses
-      → AreFilesFrom problem names 0 uses out files → HaveOwnNames files
+      → AreFilesFrom version problem names 0 uses out files → HaveOwnNames files
   own_names uses None files different free are =
       subst AreDifferent (sym (names_are 0 uses None files are ∙ nothing_more (map (λ (u : ExportUse). u.name) uses))) different
     where
@@ -77,29 +78,30 @@ module _ (problem : Problem) (names : List (List ℕ)) where
       subst AreDifferent (sym (names_are 0 uses (Some out) files are)) (all_pairs_push (λ n m. n ≢ m) ns out different (λ k d less. free_name out uses free k d less))
 
 -- what is made of exports can be written
-pub all_writable : (problem : Problem) (i : ℕ) (uses : List ExportUse) (plains : List Plain) → AreExportFiles problem i uses plains → Each IsSmall plains
+pub all_writable : (version : FileVersion) (problem : Problem) (i : ℕ) (uses : List ExportUse) (plains : List Plain) → AreExportFiles version problem i uses plains → Each IsSpellable plains
     → Each (λ (used : ExportUse). Each IsName used.names) uses → Each (λ (used : ExportUse). AreDifferent used.names) uses → AreWritable plains
-all_writable problem i [] [] exports small names different = tt
-all_writable problem i [] (plain ∷ plains) exports small names different = absurd exports
-all_writable problem i (used ∷ uses) [] exports small names different = absurd exports
-all_writable problem i (used ∷ uses) (plain ∷ plains) exports small names different = (
+all_writable version problem i [] [] exports small names different = tt
+all_writable version problem i [] (plain ∷ plains) exports small names different = absurd exports
+all_writable version problem i (used ∷ uses) [] exports small names different = absurd exports
+all_writable version problem i (used ∷ uses) (plain ∷ plains) exports small names different = (
   record {
     names = record {
       spelled = subst (All IsName) (sym exports.0.file.names_are) (each_all IsName used.names names.0);
       different = subst AreDifferent (sym exports.0.file.names_are) different.0;
     };
     canonical = exports.0.file.canonical;
-    small = small.0;
+    signs = small.0.signs;
+    small = small.0.few;
   },
-  all_writable problem (i + 1) uses plains exports.1 small.1 names.1 different.1,
+  all_writable version problem (i + 1) uses plains exports.1 small.1 names.1 different.1,
 )
 
 -- as many as exports
-pub exports_counted : (problem : Problem) (i : ℕ) (uses : List ExportUse) (plains : List Plain) → AreExportFiles problem i uses plains → length uses ≡ length plains
-exports_counted problem i [] [] exports = refl
-exports_counted problem i [] (plain ∷ plains) exports = absurd exports
-exports_counted problem i (used ∷ uses) [] exports = absurd exports
-exports_counted problem i (used ∷ uses) (plain ∷ plains) exports = ap suc (exports_counted problem (i + 1) uses plains exports.1)
+pub exports_counted : (version : FileVersion) (problem : Problem) (i : ℕ) (uses : List ExportUse) (plains : List Plain) → AreExportFiles version problem i uses plains → length uses ≡ length plains
+exports_counted version problem i [] [] exports = refl
+exports_counted version problem i [] (plain ∷ plains) exports = absurd exports
+exports_counted version problem i (used ∷ uses) [] exports = absurd exports
+exports_counted version problem i (used ∷ uses) (plain ∷ plains) exports = ap suc (exports_counted version problem (i + 1) uses plains exports.1)
 
 -- one file more
 pub spelled_more : (uses : List ExportUse) (plains : List Plain) (n : ℕ) (files : List File) (used : ExportUse) (plain : Plain) (file : File) → AreSpelled (take n uses) (take n plains) files

@@ -1,5 +1,6 @@
 -- How a run is to end and what it is to print, by its words and by what the files hold.
 use Rattle.std.specs.Prelude.{◌≡◌, ℕ, ◌<◌, ◌⊎◌, Bool, true, false, List, [], ◌∷◌, ◌++◌, length, map, slice_get, take, codes, None, Some}
+use Rattle.ms_dfa.specs.declared.plain.FileVersion.TheVariants.{Two}
 use Rattle.ms_edge.specs.declared.refusal.Refusal.{Refusal}
 use Rattle.ms_edge.specs.declared.refusal.Refusal.TheVariants.{ConstRange, FileSize, Includes, Depth, CoreSize, Nodes, ReadFault, WriteFault, Memory}
 use Rattle.ms_edge.specs.declared.refusal.Refusal.TheVariants as refusals
@@ -66,22 +67,23 @@ generated_name = codes "generated"
 -- What a command asks for where it is done, by what was seen while the files were read: the text to print, and the files to write. A file is
 -- decided: the report on it, and its automaton files; two files are compared; a source is generated, or the summary of it made.
 abbrev pub IsGivenFor : Command → Seen → List ℕ → List File → Type 0
-IsGivenFor (Decide file out max_nodes stats) seen text written = (found : Found) × IsDecided (file_of seen 0 file) out stats found written × (text ≡ report_of found)
+IsGivenFor (Decide file out max_nodes stats format) seen text written =
+    (found : Found) × IsDecided (file_of seen 0 file) out stats format found written × (text ≡ report_of found)
 IsGivenFor (Same left right max_nodes) seen text written = (written ≡ []) × ((agree : Bool) × AreCompared left right seen agree × (text ≡ comparison_text agree))
 IsGivenFor (Gen number false) seen text written = (written ≡ []) × IsNumber number × (text ≡ generated number)
 IsGivenFor (Gen number true) seen text written =
     (written ≡ []) × IsNumber number
-    × ((found : Found) × IsDecided (text_of generated_name (generated number)) None true found written × (text ≡ summary_of number (length (generated number)) found))
+    × ((found : Found) × IsDecided (text_of generated_name (generated number)) None true Two found written × (text ≡ summary_of number (length (generated number)) found))
 
 -- the command asks for a generated source
 abbrev pub IsGeneration : Command → Type 0
-IsGeneration (Decide file out max_nodes stats) = ⊥
+IsGeneration (Decide file out max_nodes stats format) = ⊥
 IsGeneration (Same left right max_nodes) = ⊥
 IsGeneration (Gen number decide) = Unit {0}
 
 -- a limit that a command names is one
 abbrev pub IsLimited : Command → Type 0
-IsLimited (Decide file out max_nodes stats) = IsLimit max_nodes
+IsLimited (Decide file out max_nodes stats format) = IsLimit max_nodes
 IsLimited (Same left right max_nodes) = IsLimit max_nodes
 IsLimited (Gen number decide) = Unit {0}
 
@@ -92,7 +94,7 @@ IsNoNumber number refusal = (refusal ≡ ConstRange None) × ¬ IsNumber number
 -- Why a command is refused, and the files that the refusal may number. A generated source has no fault and is within the limits, so
 -- that only a step of its decision may be refused; what shows that it lacked nodes is open.
 abbrev pub IsRefusedFor : Command → Seen → Refusal → List (List ℕ) → Type 0
-IsRefusedFor (Decide file out max_nodes stats) seen refusal files = IsRefused (file_of seen 0 file) out max_nodes refusal files
+IsRefusedFor (Decide file out max_nodes stats format) seen refusal files = IsRefused (file_of seen 0 file) out max_nodes refusal files
 IsRefusedFor (Same left right max_nodes) seen refusal files = IsRefusedComparison left right max_nodes seen refusal files
 IsRefusedFor (Gen number false) seen refusal files = (refusal ≡ Memory) ⊎ IsNoNumber number refusal
 IsRefusedFor (Gen number true) seen refusal files =

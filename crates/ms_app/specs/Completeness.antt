@@ -37,13 +37,13 @@ CanBeCompared left right seen =
 
 -- what the command asks for can be done
 abbrev pub CanBeDone : Command → Seen → Type 0
-CanBeDone (Decide file out max_nodes stats) seen = CanBeSolved (file_of seen 0 file) out
+CanBeDone (Decide file out max_nodes stats format) seen = CanBeSolved (file_of seen 0 file) out
 CanBeDone (Same left right max_nodes) seen = CanBeCompared left right seen
 CanBeDone (Gen number decide) seen = IsNumber number
 
 -- the limit on the nodes and states of a step
 abbrev pub limit_of : Command → ℕ
-limit_of (Decide file out max_nodes stats) = max_nodes
+limit_of (Decide file out max_nodes stats format) = max_nodes
 limit_of (Same left right max_nodes) = max_nodes
 limit_of (Gen number decide) = node_limit
 

@@ -1,6 +1,8 @@
 -- The counts of a source and of the canonical automaton of its main value.
 use Rattle.std.specs.Prelude.{◌≡◌, ℕ, Bool, true, false, length, Option, Some, None}
 use Rattle.ms_dfa.specs.declared.plain.FileSign.{FileSign}
+use Rattle.ms_dfa.specs.declared.plain.FileVersion.{FileVersion}
+use Rattle.ms_dfa.specs.declared.plain.FileVersion.TheVariants as versions
 use Rattle.ms_logic_words.specs.Canonical.{IsCanonical}
 use Rattle.ms_logic_words.specs.Content.{Content}
 use Rattle.ms_logic_core.specs.Size.{depth_of_source, size_of_source}
@@ -9,20 +11,20 @@ use Rattle.ms_report.specs.declared.found.Stats.{Stats}
 use Rattle.ms_build_source.specs.Values.{GivesValue}
 use Rattle.ms_dfa.specs.Values.{main_meaning}
 
--- the canonical content of the main value, over the globals
-pub record IsCanonicalOf (problem : Problem) (content : Content FileSign) : Type 0 where
+-- the canonical content of the main value in a version, over the globals
+pub record IsCanonicalOf (version : FileVersion) (problem : Problem) (content : Content FileSign) : Type 0 where
   pub mode : content.mode ≡ problem.mode
   pub variables : content.variables ≡ variables_of problem.globals
   pub canonical : IsCanonical content
-  pub value : GivesValue (main_meaning problem) content
+  pub value : GivesValue version (main_meaning problem) content
 
--- the counts of a source of so many files
+-- the counts of a source of so many files; states and nodes are those of the content in version 2
 pub record HasCounts (problem : Problem) (files : ℕ) (stats : Stats) : Type 0 where
   pub files_are : stats.files ≡ files
   pub size : stats.size ≡ size_of_source problem
   pub depth : stats.depth ≡ depth_of_source problem
   pub content : Content FileSign
-  pub is : IsCanonicalOf problem content
+  pub is : IsCanonicalOf versions.Two problem content
   pub states : stats.states ≡ length content.states
   pub nodes : stats.nodes ≡ length content.nodes
 

@@ -1,5 +1,6 @@
 -- What is found of a problem: its verdict, and the first assignment of each value.
 use Rattle.std.specs.Prelude.{◌≡◌, ℕ, Bool, true, false, List, length, map, Option, Some, None}
+use Rattle.ms_dfa.specs.declared.plain.FileVersion.{FileVersion}
 use Rattle.ms_dfa.specs.declared.plain.Plain.{Plain}
 use Rattle.ms_logic.specs.declared.assignment.Assignment.{Assignment}
 use Rattle.ms_logic.specs.Assignment.{Env}
@@ -42,12 +43,12 @@ pub record IsFound (problem : Problem) (names : List (List ℕ)) (found : Found)
   pub counterexample : ShowsFirst problem (MainNo problem) found.counterexample
 
 -- The source can be solved, and what was found is true of it, with counts where they are asked for; and these are the automaton files of its
--- exports, and of its main value where that is asked for.
-pub record IsDecided (origin : Origin) (out : Option (List ℕ)) (stats : Bool) (found : Found) (files : List File) : Type 0 where
+-- exports, and of its main value where that is asked for, in a version.
+pub record IsDecided (origin : Origin) (out : Option (List ℕ)) (stats : Bool) (format : FileVersion) (found : Found) (files : List File) : Type 0 where
   pub loaded : Loaded
   pub checked : Checked
   pub plains : List Plain
   pub is : IsSolved origin out loaded checked plains
   pub is_found : IsFound (problem_with checked plains) (map (λ g. g.name) checked.globals) found
   pub counted : HasStats stats (problem_with checked plains) (length loaded.files) found.stats
-  pub written : AreFilesOf (problem_with checked plains) (map (λ g. g.name) checked.globals) checked.exports out files
+  pub written : AreFilesOf format (problem_with checked plains) (map (λ g. g.name) checked.globals) checked.exports out files

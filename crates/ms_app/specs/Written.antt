@@ -1,5 +1,6 @@
 -- The files that a decision writes, and what is held once they are written.
 use Rattle.std.specs.Prelude.{◌≡◌, ℕ, ◌+◌, ◌<◌, List, [], ◌∷◌, Contains, length, map, take, Option, Some, None}
+use Rattle.ms_dfa.specs.declared.plain.FileVersion.{FileVersion}
 use Rattle.ms_dfa.specs.declared.plain.Plain.{Plain}
 use Rattle.ms_dfafile.specs.File.{IsSpelled}
 use Rattle.ms_edge.specs.Files.{Holding, Holds}
@@ -12,24 +13,24 @@ use Rattle.ms_build_source.specs.Values.{IsExportFile, IsMainFile}
 abbrev pub File : Type 0
 File = List ℕ × List ℕ
 
--- the automaton file of the formula that is exported under a number
-abbrev pub IsFileOfExport : Problem → ℕ → ExportUse → File → Type 0
-IsFileOfExport problem i used file = (file.0 ≡ used.name) × ((plain : Plain) × IsSpelled file.1 plain × IsExportFile problem i used plain)
+-- the automaton file, of a version, of the formula that is exported under a number
+abbrev pub IsFileOfExport : FileVersion → Problem → ℕ → ExportUse → File → Type 0
+IsFileOfExport version problem i used file = (file.0 ≡ used.name) × ((plain : Plain) × IsSpelled file.1 plain × IsExportFile version problem i used plain)
 
 -- the automaton file of the main value over the globals, which have these names, if one is asked for
-abbrev pub AreFilesOfMain : Problem → List (List ℕ) → Option (List ℕ) → List File → Type 0
-AreFilesOfMain problem names None files = files ≡ []
-AreFilesOfMain problem names (Some out) files =
-    (bytes : List ℕ) × (files ≡ (out, bytes) ∷ []) × ((plain : Plain) × IsSpelled bytes plain × IsMainFile problem names plain)
+abbrev pub AreFilesOfMain : FileVersion → Problem → List (List ℕ) → Option (List ℕ) → List File → Type 0
+AreFilesOfMain version problem names None files = files ≡ []
+AreFilesOfMain version problem names (Some out) files =
+    (bytes : List ℕ) × (files ≡ (out, bytes) ∷ []) × ((plain : Plain) × IsSpelled bytes plain × IsMainFile version problem names plain)
 
 -- the files of the exports, in the order of the source, numbered on from a first number, and then that of the main value
-abbrev pub AreFilesFrom : Problem → List (List ℕ) → ℕ → List ExportUse → Option (List ℕ) → List File → Type 0
-AreFilesFrom problem names i [] out files = AreFilesOfMain problem names out files
-AreFilesFrom problem names i (used ∷ uses) out [] = ⊥
-AreFilesFrom problem names i (used ∷ uses) out (file ∷ files) = IsFileOfExport problem i used file × AreFilesFrom problem names (i + 1) uses out files
+abbrev pub AreFilesFrom : FileVersion → Problem → List (List ℕ) → ℕ → List ExportUse → Option (List ℕ) → List File → Type 0
+AreFilesFrom version problem names i [] out files = AreFilesOfMain version problem names out files
+AreFilesFrom version problem names i (used ∷ uses) out [] = ⊥
+AreFilesFrom version problem names i (used ∷ uses) out (file ∷ files) = IsFileOfExport version problem i used file × AreFilesFrom version problem names (i + 1) uses out files
 
-abbrev pub AreFilesOf : Problem → List (List ℕ) → List ExportUse → Option (List ℕ) → List File → Type 0
-AreFilesOf problem names exports out files = AreFilesFrom problem names 0 exports out files
+abbrev pub AreFilesOf : FileVersion → Problem → List (List ℕ) → List ExportUse → Option (List ℕ) → List File → Type 0
+AreFilesOf version problem names exports out files = AreFilesFrom version problem names 0 exports out files
 
 -- every name but these holds what it held, and the holding is told as before
 abbrev pub KeepsAllBut : Option Holding → Option Holding → List (List ℕ) → Type 0

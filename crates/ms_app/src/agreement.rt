@@ -6,7 +6,7 @@ ghost use Rattle.ms_build_source.specs.Solution.{IsNamed, IsSolution};
 use crate::content::canonical_of;
 use ms_arena::Node;
 use ms_build_source::Solution;
-use ms_dfa::{FileState, Plain};
+use ms_dfa::{FileState, FileVersion, Plain};
 use ms_edge::Refusal;
 use std::alloc::Global;
 
@@ -45,11 +45,11 @@ pub fn agree(alloc: Global, left: &Solution, right: &Solution, limit: u64) -> Re
         → one.mode ≡ two.mode → variables_of one.globals ≡ variables_of two.globals → IsTrue agree ↔ Agree one two) }
     ensures refused { IfErr result (λ refusal. refusal ≡ Refusal.Memory) }
 {
-    let one = match canonical_of(alloc, left, limit) {
+    let one = match canonical_of(alloc, left, FileVersion::Two, limit) {
         Ok(content) => content,
         Err(_) => return Err(Refusal::Memory),
     };
-    match canonical_of(alloc, right, limit) {
+    match canonical_of(alloc, right, FileVersion::Two, limit) {
         Ok(other) => Ok(is_same_content(&one, &other)),
         Err(_) => Err(Refusal::Memory),
     }

@@ -66,7 +66,7 @@ fn solve_file<F: Files>(
         Ok(taken) => taken,
         Err(refusal) => return Err(refusal),
     };
-    match solve(alloc, &taken.source.checked, &taken.imports, limit, false) {
+    match solve(alloc, &taken.source.checked, &taken.imports, limit, None) {
         Ok(solution) => Ok(Solved {
             source: taken.source,
             solution,

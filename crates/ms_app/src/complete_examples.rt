@@ -1,6 +1,7 @@
 //! Worked examples of what can be done and of what is done. The functions have empty bodies, and their contracts state the examples.
 
 ghost use Rattle.std.specs.Prelude.{[], codes, false};
+ghost use Rattle.ms_dfa.specs.declared.plain.FileVersion.TheVariants.{Two};
 ghost use Rattle.ms_edge.specs.Files.{between};
 ghost use Rattle.ms_gen.specs.Generated.{generated};
 ghost use Rattle.ms_app_words.specs.declared.command.Command.TheVariants.{Decide, Gen};
@@ -11,10 +12,10 @@ ghost use Rattle.ms_app.specs.inner.CompletenessExamples.{empty_files, no_files,
 /// Requests that can be done, and requests that cannot.
 pub fn worked_requests()
     // A file without bytes is the source without declarations.
-    ensures empty_file { CanBeDone (Decide (codes "a") None 5 false) (still (empty_files 0)) }
+    ensures empty_file { CanBeDone (Decide (codes "a") None 5 false Two) (still (empty_files 0)) }
 
     // A file that is not there.
-    ensures no_file { ¬ CanBeDone (Decide (codes "a") None 5 false) (still no_files) }
+    ensures no_file { ¬ CanBeDone (Decide (codes "a") None 5 false Two) (still no_files) }
 
     // The first generated source; there is none with number 0.
     ensures first { CanBeDone (Gen 1 false) (still no_files) }

@@ -12,9 +12,9 @@ ghost use Rattle.ms_app.specs.inner.Files.{AreNames, AreWritable, IsWithMain, Is
 ghost use Rattle.ms_app.specs.inner.Right.{IsRight};
 ghost use Rattle.ms_app.specs.Written.{AreFilesOf};
 
-use crate::content::canonical_of;
+use crate::content::{canonical_of, in_second_version};
 use crate::files::{AutomatonFile, add_file, export_files};
-use crate::found::{asked_counts, found};
+use crate::found::{counts, found};
 use crate::options::Options;
 use crate::source::Accepted;
 use crate::taken::Taken;
@@ -70,8 +70,8 @@ fn made_of(
     requires fits { length solution.now.automaton.nodes + length solution.now.automaton.states ≤ options.max_nodes }
     ensures stats { IfOk result (λ made. (problem : Problem) (names : List (List ℕ)) → IsSolution problem names solution.now → HasStats options.entry.stats problem source.now.files made.stats) }
     ensures files { IfOk result (λ made. (problem : Problem) (names : List (List ℕ)) → IsSolution problem names solution.now →
-        AreExportFiles problem 0 source.now.checked.exports solution.now.exports →
-        AreFilesOf problem names source.now.checked.exports (option_copied options.entry.out) (pairs_of made.files)) }
+        AreExportFiles options.entry.format problem 0 source.now.checked.exports solution.now.exports →
+        AreFilesOf options.entry.format problem names source.now.checked.exports (option_copied options.entry.out) (pairs_of made.files)) }
 {
     let files = match export_files(
         alloc,
@@ -87,7 +87,7 @@ fn made_of(
             Some(_) => {}
         }
     }
-    let content = match canonical_of(alloc, solution, options.max_nodes) {
+    let content = match canonical_of(alloc, solution, options.format, options.max_nodes) {
         Ok(content) => content,
         Err(fault) => return Err(fault),
     };
@@ -95,7 +95,14 @@ fn made_of(
         Ok(files) => files,
         Err(fault) => return Err(fault),
     };
-    let stats = asked_counts(options.stats, solution, &content, source.files);
+    if !options.stats {
+        return Ok(Made { stats: None, files });
+    }
+    let counted = match in_second_version(alloc, solution, content, options.max_nodes) {
+        Ok(counted) => counted,
+        Err(fault) => return Err(fault),
+    };
+    let stats = Some(counts(solution, &counted, source.files));
     Ok(Made { stats, files })
 }
 
@@ -107,14 +114,20 @@ pub fn decide(alloc: Global, taken: &Taken, options: Options) -> Result<Decided,
     ensures found { IfOk result (λ made. (answers : Answers) → AreAnswersOf taken.now.source.checked.mode taken.now.source.checked.imports answers taken.now.imports →
         IsFound (problem_of taken.now.source.checked answers) (map (λ g. g.name) taken.now.source.checked.globals) made.found
         × HasStats options.entry.stats (problem_of taken.now.source.checked answers) taken.now.source.files made.found.stats
-        × AreFilesOf (problem_of taken.now.source.checked answers) (map (λ g. g.name) taken.now.source.checked.globals) taken.now.source.checked.exports
+        × AreFilesOf options.entry.format (problem_of taken.now.source.checked answers) (map (λ g. g.name) taken.now.source.checked.globals) taken.now.source.checked.exports
         (option_copied options.entry.out) (pairs_of made.files)) }
     ensures within { IfOk result (λ made. (answers : Answers) → IsWithinLimits (problem_of taken.now.source.checked answers)) }
     ensures refused { IfErr result (λ refusal. (answers : Answers) → length answers ≡ length taken.now.source.checked.imports →
         (refusal ≡ Refusal.Memory) ⊎ IsUnsolved taken.now.source.checked answers taken.now.imports options.entry.max_nodes refusal) }
 {
     let checked = &taken.source.checked;
-    let solution = match solve(alloc, checked, &taken.imports, options.max_nodes, true) {
+    let solution = match solve(
+        alloc,
+        checked,
+        &taken.imports,
+        options.max_nodes,
+        Some(options.format),
+    ) {
         Ok(solution) => solution,
         Err(refusal) => return Err(refusal),
     };

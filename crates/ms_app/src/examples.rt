@@ -1,6 +1,7 @@
 //! Worked examples of what is compared, printed and written. The functions have empty bodies, and their contracts state the examples.
 
 ghost use Rattle.std.specs.Prelude.{◌≡◌, ◌∷◌, ◌++◌, [], codes, false, true, None, Some};
+ghost use Rattle.ms_dfa.specs.declared.plain.FileVersion.TheVariants.{Two};
 ghost use Rattle.ms_edge.specs.declared.refusal.Refusal.TheVariants.{Twice};
 ghost use Rattle.ms_logic.specs.View.{problem_of};
 ghost use Rattle.ms_build_source.specs.Limits.{IsWithinLimits};
@@ -36,7 +37,7 @@ pub fn worked_files()
     ensures unnamed { ¬ IsOutTaken None (export_to (codes "e.aut") ∷ []) (Twice (at 7) (codes "e.aut")) }
 
     // A source without exports writes nothing where no name is given, and what is held stays.
-    ensures no_files { AreFilesOf (problem_of two_sets []) [] [] None [] }
+    ensures no_files { AreFilesOf Two (problem_of two_sets []) [] [] None [] }
     ensures nothing { AreHeld nothing_held nothing_held [] }
     ensures told { ¬ KeepsAllBut nothing_held None [] }
 {}

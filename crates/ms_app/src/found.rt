@@ -1,7 +1,8 @@
 ghost use Rattle.std.specs.Prelude.{◌≡◌, ◌⊎◌, ℕ, List, IfOk};
+ghost use Rattle.ms_dfa.specs.declared.plain.FileVersion.TheVariants.{Two};
 ghost use Rattle.ms_dfa.specs.Files.{content_of_file};
 ghost use Rattle.ms_logic.specs.Verdict.{Problem};
-ghost use Rattle.ms_app.specs.Counts.{HasCounts, HasStats, IsCanonicalOf};
+ghost use Rattle.ms_app.specs.Counts.{HasCounts, IsCanonicalOf};
 ghost use Rattle.ms_app.specs.Decision.{ShowsFirst, IsFound, verdict_by};
 ghost use Rattle.ms_build_source.specs.Solution.{IsSolution};
 ghost use Rattle.ms_build_source.specs.Values.{HasMainValue};
@@ -41,9 +42,9 @@ fn verdict(example: bool, counterexample: bool) -> Verdict
     }
 }
 
-/// The counts of a source of so many files, by its solution and the canonical content of its main value.
-fn counts(solution: &Solution, content: &Plain, files: u32) -> Stats
-    ensures { (problem : Problem) (names : List (List ℕ)) → IsSolution problem names solution.now → IsCanonicalOf problem (content_of_file content.now) → HasCounts problem files result }
+/// The counts of a source of so many files, by its solution and the canonical content of its main value in version 2.
+pub fn counts(solution: &Solution, content: &Plain, files: u32) -> Stats
+    ensures { (problem : Problem) (names : List (List ℕ)) → IsSolution problem names solution.now → IsCanonicalOf Two problem (content_of_file content.now) → HasCounts problem files result }
 {
     Stats {
         files,
@@ -51,17 +52,6 @@ fn counts(solution: &Solution, content: &Plain, files: u32) -> Stats
         depth: solution.depth,
         states: content.states.len() as u64,
         nodes: content.nodes.len() as u64,
-    }
-}
-
-/// The counts of a source, where they are asked for.
-pub fn asked_counts(asked: bool, solution: &Solution, content: &Plain, files: u32) -> Option<Stats>
-    ensures { (problem : Problem) (names : List (List ℕ)) → IsSolution problem names solution.now → IsCanonicalOf problem (content_of_file content.now) → HasStats asked problem files result }
-{
-    if asked {
-        Some(counts(solution, content, files))
-    } else {
-        None
     }
 }
 

@@ -13,6 +13,7 @@ use crate::files::AutomatonFile;
 use crate::options::Options;
 use crate::source::accept_text;
 use crate::taken::{Taken, Wanted, take_file};
+use ms_dfa::FileVersion;
 use ms_edge::{Files, Refusal};
 use ms_gen::generate;
 use ms_list::{Bytes, List, Text};
@@ -55,10 +56,10 @@ pub fn decision<F: Files>(
 ) -> Result<Given, Refusal>
     requires first { names.old ≡ [] }
     requires limit { IsLimit options.max_nodes }
-    ensures given { IfOk result (λ given. IsGivenFor (Decide name.now (option_copied options.entry.out) options.entry.max_nodes options.entry.stats)
+    ensures given { IfOk result (λ given. IsGivenFor (Decide name.now (option_copied options.entry.out) options.entry.max_nodes options.entry.stats options.entry.format)
         (between (F.told files.old) (F.told files.new)) given.text (pairs_of given.files)) }
     ensures own_names { IfOk result (λ given. HaveOwnNames (pairs_of given.files)) }
-    ensures refused { IfErr result (λ refusal. IsRefusedFor (Decide name.now (option_copied options.entry.out) options.entry.max_nodes options.entry.stats)
+    ensures refused { IfErr result (λ refusal. IsRefusedFor (Decide name.now (option_copied options.entry.out) options.entry.max_nodes options.entry.stats options.entry.format)
         (between (F.told files.old) (F.told files.new)) refusal names.new) }
     ensures only_read { OnlyRead (F.told files.old) (F.told files.new) }
 {
@@ -155,6 +156,7 @@ fn generation_summary(alloc: Global, number: u64, names: &mut List<Text>) -> Res
         max_nodes: NODE_LIMIT,
         stats: true,
         out: None,
+        format: FileVersion::Two,
     };
     let decided = match decide(alloc, &taken, options) {
         Ok(decided) => decided,

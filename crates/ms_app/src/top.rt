@@ -41,11 +41,13 @@ fn given<F: Files>(
             out,
             max_nodes,
             stats,
+            format,
         } => {
             let options = Options {
                 max_nodes: *max_nodes,
                 stats: *stats,
                 out: out.as_ref(),
+                format: *format,
             };
             decision(alloc, file, options, files, names)
         }
@@ -89,8 +91,8 @@ fn answer<F: Files, S: Sink>(alloc: Global, command: &Command, files: &mut F, ou
     }
 }
 
-/// Does what the words ask: `decide FILE [--out NAME] [--max-nodes N] [--stats]` reads the file, writes the automata that it exports
-/// and that of its main value to NAME, and reports on its formula; `same LEFT RIGHT [--max-nodes N]` says whether the main values of
+/// Does what the words ask: `decide FILE [--out NAME] [--max-nodes N] [--stats] [--format V]` reads the file, writes the automata that it
+/// exports and that of its main value to NAME, in version V, and reports on its formula; `same LEFT RIGHT [--max-nodes N]` says whether the main values of
 /// two files agree; `gen K [--decide]` prints the generated source with this number, or decides it. The words are those after the
 /// program's name. What is printed goes to the sink: the text, or one line where the request is refused or a file is not written
 /// (docs/FORMATS.md).

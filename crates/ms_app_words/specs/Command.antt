@@ -8,6 +8,8 @@ use Rattle.clap.specs.Words.{App, Row, Rule, Text, fault_of, first_of, matches_o
 use Rattle.clap.specs.declared.builder.action.ArgAction.TheVariants.{SetTrue}
 use Rattle.ms_app_words.specs.declared.command.Command.{Command}
 use Rattle.ms_app_words.specs.declared.command.Command.TheVariants.{Decide, Same, Gen}
+use Rattle.ms_dfa.specs.declared.plain.FileVersion.{FileVersion}
+use Rattle.ms_dfa.specs.declared.plain.FileVersion.TheVariants.{One, Two}
 use Rattle.ms_app_words.specs.declared.command.Verb.{Verb}
 use Rattle.ms_app_words.specs.declared.command.Verb.TheVariants as verb
 
@@ -27,10 +29,13 @@ flag name = record (new_rule name) { long = Some name; action = Some SetTrue }
 abbrev pub command : Text → App
 command name = let app = new_app name in record app { top = record app.top { disable_help_flag = true } }
 
--- decide FILE [--out NAME] [--max-nodes N] [--stats]
+-- decide FILE [--out NAME] [--max-nodes N]
+abbrev pub decide_front : App
+decide_front = with_rule (with_rule (with_rule (command (codes "decide")) (required (codes "FILE"))) (option (codes "out"))) (option (codes "max-nodes"))
+
+-- decide FILE [--out NAME] [--max-nodes N] [--stats] [--format V]
 abbrev pub decide_app : App
-decide_app =
-    with_rule (with_rule (with_rule (with_rule (command (codes "decide")) (required (codes "FILE"))) (option (codes "out"))) (option (codes "max-nodes"))) (flag (codes "stats"))
+decide_app = with_rule (with_rule decide_front (flag (codes "stats"))) (option (codes "format"))
 
 -- same LEFT RIGHT [--max-nodes N]
 abbrev pub same_app : App
@@ -64,6 +69,15 @@ abbrev pub HasLimit : Option Text → ℕ → Type 0
 HasLimit None limit = limit ≡ node_limit
 HasLimit (Some text) limit = IsLimitIn text limit
 
+-- the version of automaton files that the words name: 1 or 2, and 2 where they name none
+abbrev pub version_number : FileVersion → ℕ
+version_number One = 1
+version_number Two = 2
+
+abbrev pub HasFormat : Option Text → FileVersion → Type 0
+HasFormat None version = version ≡ Two
+HasFormat (Some text) version = IsNumberIn text (version_number version)
+
 -- the words name this number, which fits into 64 bits
 abbrev pub HasNumber : Option Text → ℕ → Type 0
 HasNumber None number = ⊥
@@ -75,15 +89,15 @@ is_given name rows = option_map_or (λ text. bytes_eq text (codes "true")) (firs
 
 -- which command it is
 abbrev pub verb_of : Command → Verb
-verb_of (Decide file out max_nodes stats) = verb.Decide
+verb_of (Decide file out max_nodes stats format) = verb.Decide
 verb_of (Same left right max_nodes) = verb.Same
 verb_of (Gen number decide) = verb.Gen
 
 -- what the matches of the words ask for
 abbrev pub Asks : List Row → Command → Type 0
-Asks rows (Decide file out max_nodes stats) =
+Asks rows (Decide file out max_nodes stats format) =
     (first_of (codes "FILE") rows ≡ Some file) × (out ≡ first_of (codes "out") rows) × HasLimit (first_of (codes "max-nodes") rows) max_nodes
-    × (stats ≡ is_given (codes "stats") rows)
+    × (stats ≡ is_given (codes "stats") rows) × HasFormat (first_of (codes "format") rows) format
 Asks rows (Same left right max_nodes) =
     (first_of (codes "LEFT") rows ≡ Some left) × (first_of (codes "RIGHT") rows ≡ Some right) × HasLimit (first_of (codes "max-nodes") rows) max_nodes
 Asks rows (Gen number decide) = HasNumber (first_of (codes "K") rows) number × (decide ≡ is_given (codes "decide") rows)

@@ -1,6 +1,6 @@
 ghost use Rattle.std.specs.Prelude.{◌≡◌, false, IfOk};
 ghost use Rattle.clap.specs.Words.{app_of, new_app, rule_of};
-ghost use Rattle.ms_app_words.specs.Command.{app_for, command, decide_app, flag, gen_app, option, required, same_app};
+ghost use Rattle.ms_app_words.specs.Command.{app_for, command, decide_app, decide_front, flag, gen_app, option, required, same_app};
 
 use crate::command::Verb;
 use clap::{Arg, ArgAction, Command};
@@ -37,14 +37,23 @@ fn flag<'a>(alloc: Global, name: &'a str) -> Arg<'a>
     Arg::new(alloc, name).long(name).action(ArgAction::SetTrue)
 }
 
-/// The command `decide FILE [--out NAME] [--max-nodes N] [--stats]`.
-fn decide_app<'a>(alloc: Global) -> Result<Command<'a>, AllocError>
-    ensures { IfOk result (λ made. app_of made ≡ decide_app) }
+/// The front of the command `decide`: `decide FILE [--out NAME] [--max-nodes N]`.
+fn decide_front<'a>(alloc: Global) -> Result<Command<'a>, AllocError>
+    ensures { IfOk result (λ made. app_of made ≡ decide_front) }
 {
     let with_file = command(alloc, "decide").arg(required(alloc, "FILE"))?;
     let with_out = with_file.arg(option(alloc, "out"))?;
-    let with_limit = with_out.arg(option(alloc, "max-nodes"))?;
-    let whole = with_limit.arg(flag(alloc, "stats"))?;
+    let whole = with_out.arg(option(alloc, "max-nodes"))?;
+    Ok(whole)
+}
+
+/// The command `decide FILE [--out NAME] [--max-nodes N] [--stats] [--format V]`.
+fn decide_app<'a>(alloc: Global) -> Result<Command<'a>, AllocError>
+    ensures { IfOk result (λ made. app_of made ≡ decide_app) }
+{
+    let front = decide_front(alloc)?;
+    let with_stats = front.arg(flag(alloc, "stats"))?;
+    let whole = with_stats.arg(option(alloc, "format"))?;
     Ok(whole)
 }
 

@@ -1,3 +1,4 @@
+use ms_dfa::FileVersion;
 use ms_list::Text;
 
 /// The word that says which command it is.
@@ -12,12 +13,14 @@ pub enum Verb {
 #[derive(Drop)]
 pub enum Command {
     /// To decide a source, where nodes and states of a step are together at most `max_nodes`, and to report on it, with
-    /// counts where `stats` holds. The automaton of its main value is written to the file `out`, where one is named.
+    /// counts where `stats` holds. The automaton of its main value is written to the file `out`, where one is named, and all
+    /// files in the version `format`.
     Decide {
         file: Text,
         out: Option<Text>,
         max_nodes: u64,
         stats: bool,
+        format: FileVersion,
     },
 
     /// To compare the main values of two sources, where nodes and states of a step are together at most `max_nodes`.

@@ -2,8 +2,10 @@
 
 ghost use Rattle.std.specs.Prelude.{◌≡◌, [], codes, false, true, None, Some};
 ghost use Rattle.clap.specs.Words.{fault_of, first_of, matches_of};
-ghost use Rattle.ms_app_words.specs.Command.{HasLimit, HasNumber, decide_app, first_verb, gen_app, is_given, same_app};
-ghost use Rattle.ms_app_words.specs.inner.Examples.{for_help, gen_and_decide, gen_by_number, no_file, one_file, only_left, two_files, two_to_compare, with_counts, with_limit, with_out};
+ghost use Rattle.ms_app_words.specs.Command.{HasFormat, HasLimit, HasNumber, decide_app, first_verb, gen_app, is_given, same_app};
+ghost use Rattle.ms_dfa.specs.declared.plain.FileVersion.{FileVersion};
+ghost use Rattle.ms_dfa.specs.declared.plain.FileVersion.TheVariants.{One, Two};
+ghost use Rattle.ms_app_words.specs.inner.Examples.{for_help, gen_and_decide, gen_by_number, no_file, one_file, only_left, two_files, two_to_compare, with_counts, with_format, with_limit, with_out};
 ghost use Rattle.ms_app_words.specs.declared.command.Verb.TheVariants.{Decide, Gen, Same};
 
 /// The first word says which command it is.
@@ -30,6 +32,9 @@ pub fn worked_words()
     ensures the_out { first_of (codes "out") (matches_of decide_app with_out) ≡ Some (codes "t.dfa") }
     ensures with_counts { fault_of decide_app with_counts ≡ [] }
     ensures counts { is_given (codes "stats") (matches_of decide_app with_counts) ≡ true }
+    ensures no_format { first_of (codes "format") (matches_of decide_app one_file) ≡ None }
+    ensures with_format { fault_of decide_app with_format ≡ [] }
+    ensures the_format { first_of (codes "format") (matches_of decide_app with_format) ≡ Some (codes "1") }
     ensures for_help { ¬ (fault_of decide_app for_help ≡ []) }
 {}
 
@@ -48,6 +53,14 @@ pub fn worked_generations()
     ensures not_decided { is_given (codes "decide") (matches_of gen_app gen_by_number) ≡ false }
     ensures and_decide { fault_of gen_app gen_and_decide ≡ [] }
     ensures decided { is_given (codes "decide") (matches_of gen_app gen_and_decide) ≡ true }
+{}
+
+/// Versions of files.
+pub fn worked_formats()
+    ensures none_named { HasFormat None Two }
+    ensures one { HasFormat (Some (codes "1")) One }
+    ensures two { HasFormat (Some (codes "2")) Two }
+    ensures three { (version : FileVersion) → ¬ HasFormat (Some (codes "3")) version }
 {}
 
 /// Limits and numbers.

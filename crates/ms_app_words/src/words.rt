@@ -1,12 +1,14 @@
 ghost use Rattle.std.specs.Prelude.{◌≡◌, ℕ, [], codes, map, option_map, IfErr, IfOk, MatchOption, None, Some};
 ghost use Rattle.clap.specs.Words.{app_of, fault_of, first_of, found_of, matches_of, rows_of};
 ghost use Rattle.ms_app_words.specs.declared.command.Command.{Command as Asked};
-ghost use Rattle.ms_app_words.specs.Command.{AsksBy, HasLimit, HasNumber, IsCommand, app_for, first_verb, is_given, verb_in};
+ghost use Rattle.ms_dfa.specs.declared.plain.FileVersion.{FileVersion as Version};
+ghost use Rattle.ms_app_words.specs.Command.{AsksBy, HasFormat, HasLimit, HasNumber, IsCommand, app_for, first_verb, is_given, verb_in};
 
 use crate::apps::app;
 use crate::command::{Command, Verb, WordsFault};
 use clap::ArgMatches;
 use clap::error::ErrorKind;
+use ms_dfa::FileVersion;
 use ms_edge::CommandLine;
 use ms_list::{NoMemory, Text};
 use std::alloc::{AllocError, Global};
@@ -37,6 +39,20 @@ fn max_nodes(text: Option<&str>) -> Option<u64>
     };
     match text.parse::<u64>() {
         Ok(limit) if (1..=GREATEST_LIMIT).contains(&limit) => Some(limit),
+        _ => None,
+    }
+}
+
+/// The version of automaton files that the words name, or where they name none version 2.
+fn format(text: Option<&str>) -> Option<FileVersion>
+    ensures { MatchOption result ((version : Version) → ¬ HasFormat (option_map (λ s. s.now) text.entry) version) (HasFormat (option_map (λ s. s.now) text.entry)) }
+{
+    let Some(text) = text else {
+        return Some(FileVersion::Two);
+    };
+    match text.parse::<u64>() {
+        Ok(1) => Some(FileVersion::One),
+        Ok(2) => Some(FileVersion::Two),
         _ => None,
     }
 }
@@ -76,6 +92,14 @@ fn limit_of(matches: &ArgMatches) -> Option<u64>
     max_nodes(value_of(matches, "max-nodes"))
 }
 
+/// The version of automaton files that matches name.
+fn format_of(matches: &ArgMatches) -> Option<FileVersion>
+    ensures { MatchOption result ((version : Version) → ¬ HasFormat (first_of (codes "format") (rows_of (found_of matches.now))) version)
+        (HasFormat (first_of (codes "format") (rows_of (found_of matches.now)))) }
+{
+    format(value_of(matches, "format"))
+}
+
 /// The number that matches name.
 fn number_of(matches: &ArgMatches) -> Option<u64>
     ensures { MatchOption result ((number : ℕ) → ¬ HasNumber (first_of (codes "K") (rows_of (found_of matches.now))) number)
@@ -108,12 +132,15 @@ fn option_of(alloc: Global, matches: &ArgMatches, name: &str) -> Result<Option<T
     }
 }
 
-/// What the matches of `decide FILE [--out NAME] [--max-nodes N] [--stats]` ask for.
+/// What the matches of `decide FILE [--out NAME] [--max-nodes N] [--stats] [--format V]` ask for.
 fn decide_by(alloc: Global, matches: &ArgMatches) -> Result<Command, WordsFault>
     ensures command { IfOk result (AsksBy Verb.Decide (rows_of (found_of matches.now))) }
     ensures usage { IfErr result (λ fault. fault ≡ WordsFault.Usage → (command : Asked) → ¬ AsksBy Verb.Decide (rows_of (found_of matches.now)) command) }
 {
     let Some(max_nodes) = limit_of(matches) else {
+        return Err(WordsFault::Usage);
+    };
+    let Some(format) = format_of(matches) else {
         return Err(WordsFault::Usage);
     };
     let file = match text_of(alloc, matches, "FILE") {
@@ -129,6 +156,7 @@ fn decide_by(alloc: Global, matches: &ArgMatches) -> Result<Command, WordsFault>
         out,
         max_nodes,
         stats,
+        format,
     })
 }
 

@@ -7,6 +7,8 @@ use Rattle.ms_arena.specs.Diagram.{leaf_of}
 use Rattle.ms_dfa.specs.Files.{content_of_file, file_sign}
 use Rattle.ms_dfa.specs.declared.plain.FileSign.{FileSign}
 use Rattle.ms_dfa.specs.declared.plain.FileSign.TheVariants.{Plus, Minus, Zero}
+use Rattle.ms_dfa.specs.declared.plain.FileVersion.{FileVersion}
+use Rattle.ms_dfa.specs.declared.plain.FileVersion.TheVariants as versions
 use Rattle.ms_list.specs.declared.word.Word.{Word}
 use Rattle.ms_logic.specs.declared.assignment.Value.{Value}
 use Rattle.ms_logic.specs.declared.assignment.Value.TheVariants.{Truth, Number, Set}
@@ -25,7 +27,7 @@ use Rattle.ms_logic_words.specs.Word.{Encodes}
 use Rattle.ms_logic_words.proofs.SubsetContent.{subset_content_canonical}
 use Rattle.ms_logic_words.proofs.SubsetWords.{decoded_P_and_Q, decoded_within, is_within}
 use Rattle.ms_logic_words.proofs.WordLaws.{encoding_is_over, encoding_is_unique}
-use Rattle.ms_build_source.specs.inner.Examples.{P_and_Q, subset_file, subset_file_with}
+use Rattle.ms_build_source.specs.inner.Examples.{P_and_Q, second_subset_file, subset_file, subset_file_with}
 use Rattle.ms_build_source.specs.Values.{GivesValue, IsFileOf, content_over, form_meaning}
 
 -- runs, whatever the two signs are
@@ -98,19 +100,19 @@ none_outside w over out = let known = decoded_P_and_Q w over in out (decoded Ws1
 abbrev subset_form : Form
 subset_form = subset set_P set_Q
 
-gives_subset : GivesValue (form_meaning nothing_given subset_form) (content_over set_P_and_Q subset_file)
-gives_subset = record {
+gives_subset : (version : FileVersion) → GivesValue version (form_meaning nothing_given subset_form) (content_over set_P_and_Q subset_file)
+gives_subset version = record {
   right = λ w e is encodes. by_test w e (encoding_is_over set_P_and_Q w e encodes) (within_at w e is encodes) (is_within w.letters) refl;
   outside = λ w over out. absurd (none_outside w over out);
 }
   where
     by_test : (w : Word) (e : Env) → IsWordOver set_P_and_Q w → list_all (λ n. is_member n (e.set 1)) (e.set 0) ≡ is_within w.letters →
         (within : Bool) → is_within w.letters ≡ within →
-        (value : Sign) × (sign_of (runs Plus Minus) w ≡ Some (file_sign value)) × form_meaning nothing_given subset_form e value
+        (value : Sign) × (sign_of (runs Plus Minus) w ≡ Some (file_sign version value)) × form_meaning nothing_given subset_form e value
     by_test w e over is true within = (sign.Yes, sign_inside Plus Minus w over within, is ∙ within)
     by_test w e over is false within = (sign.No, sign_beyond Plus Minus w over within, λ holds. false≢true (sym within ∙ (sym is ∙ holds)))
 
-gives_negation : GivesValue (form_meaning nothing_given (negation subset_form)) (content_over set_P_and_Q (subset_file_with Minus Plus))
+gives_negation : GivesValue versions.One (form_meaning nothing_given (negation subset_form)) (content_over set_P_and_Q (subset_file_with Minus Plus))
 gives_negation = record {
   right = λ w e is encodes. by_test w e (encoding_is_over set_P_and_Q w e encodes) (within_at w e is encodes) (is_within w.letters) refl;
   outside = λ w over out. absurd (none_outside w over out);
@@ -118,7 +120,7 @@ gives_negation = record {
   where
     by_test : (w : Word) (e : Env) → IsWordOver set_P_and_Q w → list_all (λ n. is_member n (e.set 1)) (e.set 0) ≡ is_within w.letters →
         (within : Bool) → is_within w.letters ≡ within →
-        (value : Sign) × (sign_of (runs Minus Plus) w ≡ Some (file_sign value)) × form_meaning nothing_given (negation subset_form) e value
+        (value : Sign) × (sign_of (runs Minus Plus) w ≡ Some (file_sign versions.One value)) × form_meaning nothing_given (negation subset_form) e value
     by_test w e over is true within = (sign.No, sign_inside Minus Plus w over within, is ∙ within)
     by_test w e over is false within = (sign.Yes, sign_beyond Minus Plus w over within, λ holds. false≢true (sym within ∙ (sym is ∙ holds)))
 
@@ -128,17 +130,35 @@ plus_is_not_minus same = cc
 minus_is_not_plus : Minus ≡ Plus → ⊥
 minus_is_not_plus same = cc
 
-pub file_of_subset : IsFileOf Ws1s set_P_and_Q P_and_Q (form_meaning nothing_given subset_form) subset_file
+pub file_of_subset : IsFileOf versions.One Ws1s set_P_and_Q P_and_Q (form_meaning nothing_given subset_form) subset_file
 file_of_subset = record {
+  version_is = refl;
   mode_is = refl;
   orders = refl;
   names_are = refl;
   canonical = subset_content_canonical Plus Minus plus_is_not_minus;
-  value = gives_subset;
+  value = gives_subset versions.One;
 }
 
-pub file_of_negation : IsFileOf Ws1s set_P_and_Q P_and_Q (form_meaning nothing_given (negation subset_form)) (subset_file_with Minus Plus)
+pub file_of_second : IsFileOf versions.Two Ws1s set_P_and_Q P_and_Q (form_meaning nothing_given subset_form) second_subset_file
+file_of_second = record {
+  version_is = refl;
+  mode_is = refl;
+  orders = refl;
+  names_are = refl;
+  canonical = subset_content_canonical Plus Minus plus_is_not_minus;
+  value = gives_subset versions.Two;
+}
+
+pub second_as_first : ¬ IsFileOf versions.One Ws1s set_P_and_Q P_and_Q (form_meaning nothing_given subset_form) second_subset_file
+second_as_first file = let same = file.version_is in cc
+
+pub first_as_second : ¬ IsFileOf versions.Two Ws1s set_P_and_Q P_and_Q (form_meaning nothing_given subset_form) subset_file
+first_as_second file = let same = file.version_is in cc
+
+pub file_of_negation : IsFileOf versions.One Ws1s set_P_and_Q P_and_Q (form_meaning nothing_given (negation subset_form)) (subset_file_with Minus Plus)
 file_of_negation = record {
+  version_is = refl;
   mode_is = refl;
   orders = refl;
   names_are = refl;
@@ -161,22 +181,22 @@ empty_sign : (inside beyond : FileSign) → sign_of (runs inside beyond) nothing
 unfolding leaf_of
 empty_sign inside beyond = refl
 
-said_by : (inside beyond : FileSign) (value : Sign) → sign_of (runs inside beyond) nothing ≡ Some (file_sign value) → inside ≡ file_sign value
-said_by inside beyond value is = same_Some inside (file_sign value) (sym (empty_sign inside beyond) ∙ is)
+said_by : (inside beyond : FileSign) (value : Sign) → sign_of (runs inside beyond) nothing ≡ Some (file_sign versions.One value) → inside ≡ file_sign versions.One value
+said_by inside beyond value is = same_Some inside (file_sign versions.One value) (sym (empty_sign inside beyond) ∙ is)
 
-pub signs_of_negation : ¬ GivesValue (form_meaning nothing_given (negation subset_form)) (content_over set_P_and_Q subset_file)
+pub signs_of_negation : ¬ GivesValue versions.One (form_meaning nothing_given (negation subset_form)) (content_over set_P_and_Q subset_file)
 signs_of_negation gives = let said = gives.right nothing naturals empty_sets encodes_empty_sets in no_value said.0 (said_by Plus Minus said.0 said.1) said.2
   where
-    no_value : (value : Sign) → Plus ≡ file_sign value → form_meaning nothing_given (negation subset_form) naturals value → ⊥
+    no_value : (value : Sign) → Plus ≡ file_sign versions.One value → form_meaning nothing_given (negation subset_form) naturals value → ⊥
     no_value sign.Yes is means = means refl
     no_value sign.No is means = cc
     no_value sign.Undefined is means = cc
     no_value sign.Outside is means = means
 
-pub signs_of_none : ¬ GivesValue (form_meaning nothing_given subset_form) (content_over set_P_and_Q (subset_file_with Zero Zero))
+pub signs_of_none : ¬ GivesValue versions.One (form_meaning nothing_given subset_form) (content_over set_P_and_Q (subset_file_with Zero Zero))
 signs_of_none gives = let said = gives.right nothing naturals empty_sets encodes_empty_sets in no_value said.0 (said_by Zero Zero said.0 said.1) said.2
   where
-    no_value : (value : Sign) → Zero ≡ file_sign value → form_meaning nothing_given subset_form naturals value → ⊥
+    no_value : (value : Sign) → Zero ≡ file_sign versions.One value → form_meaning nothing_given subset_form naturals value → ⊥
     no_value sign.Yes is means = cc
     no_value sign.No is means = cc
     no_value sign.Undefined is means = means.0 refl
@@ -186,7 +206,7 @@ one_sign : (w : Word) → IsWordOver set_P_and_Q w → (within : Bool) → is_wi
 one_sign w over true within = sign_inside Zero Zero w over within
 one_sign w over false within = sign_beyond Zero Zero w over within
 
-pub gives_undefined : GivesValue (form_meaning nothing_given undecided) (content_over set_P_and_Q (subset_file_with Zero Zero))
+pub gives_undefined : GivesValue versions.One (form_meaning nothing_given undecided) (content_over set_P_and_Q (subset_file_with Zero Zero))
 gives_undefined = record {
   right = λ w e is encodes. (sign.Undefined, one_sign w (encoding_is_over set_P_and_Q w e encodes) (is_within w.letters) refl, (λ holds. holds, λ holds. holds));
   outside = λ w over out. one_sign w over (is_within w.letters) refl;
@@ -199,15 +219,15 @@ same_signs letters are = one (is_within letters) (after_first Zero Zero letters 
     one true is = ap (sign_at (runs Zero Zero)) is
     one false is = ap (sign_at (runs Zero Zero)) is
 
-pub states_of_one_sign : ¬ IsFileOf Ws1s set_P_and_Q P_and_Q (form_meaning nothing_given undecided) (subset_file_with Zero Zero)
+pub states_of_one_sign : ¬ IsFileOf versions.One Ws1s set_P_and_Q P_and_Q (form_meaning nothing_given undecided) (subset_file_with Zero Zero)
 states_of_one_sign file = let same : 0 ≡ 1 = file.canonical.states_differ 0 1 (omega arith) (omega arith) same_signs in omega (arith, same)
 
-pub file_of_another_mode : ¬ IsFileOf M2lStr set_P_and_Q P_and_Q (form_meaning nothing_given subset_form) subset_file
+pub file_of_another_mode : ¬ IsFileOf versions.One M2lStr set_P_and_Q P_and_Q (form_meaning nothing_given subset_form) subset_file
 file_of_another_mode file = let same = file.mode_is in cc
 
-pub names_turned_round : ¬ IsFileOf Ws1s set_P_and_Q (codes "Q" ∷ codes "P" ∷ []) (form_meaning nothing_given subset_form) subset_file
+pub names_turned_round : ¬ IsFileOf versions.One Ws1s set_P_and_Q (codes "Q" ∷ codes "P" ∷ []) (form_meaning nothing_given subset_form) subset_file
 names_turned_round file =
     let letters : 80 ≡ 81 = ap (λ (names : List (List ℕ)). get_or (get_or names 0 []) 0 0) file.names_are in omega (arith, letters)
 
-pub file_without_variables : ¬ IsFileOf Ws1s [] P_and_Q (form_meaning nothing_given subset_form) subset_file
+pub file_without_variables : ¬ IsFileOf versions.One Ws1s [] P_and_Q (form_meaning nothing_given subset_form) subset_file
 file_without_variables file = let count : 2 ≡ 0 = ap length file.orders in omega (arith, count)

@@ -4,23 +4,24 @@ use Rattle.std.proofs.lemmas.Option.{none-some, same_Some}
 use Rattle.ms_dfa.specs.Files.{content_of_file, file_sign, file_states_of}
 use Rattle.ms_dfa.specs.declared.plain.FileState.{FileState}
 use Rattle.ms_dfa.specs.declared.plain.FileVar.{FileVar}
+use Rattle.ms_dfa.specs.declared.plain.FileVersion.{FileVersion}
 use Rattle.ms_dfa.specs.declared.plain.Plain.{Plain}
 use Rattle.ms_logic_words.specs.declared.sign.Sign.{Sign}
 use Rattle.ms_logic_words.specs.declared.sign.Sign.TheVariants.{Yes, No, Undefined, Outside}
 
 -- signs that are not Outside and are one sign in a file are one
-pub same_filed : (first second : Sign) → first ≢ Outside → second ≢ Outside → file_sign first ≡ file_sign second → first ≡ second
-same_filed Yes Yes one two same = refl
-same_filed No No one two same = refl
-same_filed Undefined Undefined one two same = refl
-same_filed Outside second one two same = absurd (one refl)
-same_filed first Outside one two same = absurd (two refl)
-same_filed Yes No one two same = let never : ⊥ = cc in absurd never
-same_filed Yes Undefined one two same = let never : ⊥ = cc in absurd never
-same_filed No Yes one two same = let never : ⊥ = cc in absurd never
-same_filed No Undefined one two same = let never : ⊥ = cc in absurd never
-same_filed Undefined Yes one two same = let never : ⊥ = cc in absurd never
-same_filed Undefined No one two same = let never : ⊥ = cc in absurd never
+pub same_filed : (version : FileVersion) (first second : Sign) → first ≢ Outside → second ≢ Outside → file_sign version first ≡ file_sign version second → first ≡ second
+same_filed version Yes Yes one two same = refl
+same_filed version No No one two same = refl
+same_filed version Undefined Undefined one two same = refl
+same_filed version Outside second one two same = absurd (one refl)
+same_filed version first Outside one two same = absurd (two refl)
+same_filed version Yes No one two same = let never : ⊥ = cc in absurd never
+same_filed version Yes Undefined one two same = let never : ⊥ = cc in absurd never
+same_filed version No Yes one two same = let never : ⊥ = cc in absurd never
+same_filed version No Undefined one two same = let never : ⊥ = cc in absurd never
+same_filed version Undefined Yes one two same = let never : ⊥ = cc in absurd never
+same_filed version Undefined No one two same = let never : ⊥ = cc in absurd never
 
 -- a state of a file by what its content says of it
 state_back : (x y : FileState) → file_states_of (x ∷ []) ≡ file_states_of (y ∷ []) → x ≡ y
@@ -46,8 +47,8 @@ variables_back (x ∷ xs) (y ∷ ys) orders names =
     ap₂ (λ z zs. z ∷ zs) first (variables_back xs ys (ap (λ l. drop 1 l) orders) (ap (λ l. drop 1 l) names))
 
 -- contents of one list of variables and one content are one
-pub plain_back : (p q : Plain) → map (λ v. v.order) p.variables ≡ map (λ v. v.order) q.variables → map (λ v. v.name) p.variables ≡ map (λ v. v.name) q.variables → content_of_file p ≡ content_of_file q → p ≡ q
-plain_back p q orders names is =
+pub plain_back : (p q : Plain) → p.version ≡ q.version → map (λ v. v.order) p.variables ≡ map (λ v. v.order) q.variables → map (λ v. v.name) p.variables ≡ map (λ v. v.name) q.variables → content_of_file p ≡ content_of_file q → p ≡ q
+plain_back p q version orders names is =
     let variables = variables_back p.variables q.variables orders names in
     let states = states_back p.states q.states (ap (λ c. c.states) is) in
-    λ i. record { mode = (is i).mode; variables = variables i; start = (is i).start; states = states i; nodes = (is i).nodes }
+    λ i. record { version = version i; mode = (is i).mode; variables = variables i; start = (is i).start; states = states i; nodes = (is i).nodes }

@@ -8,6 +8,7 @@ use Rattle.ms_build.specs.Roots.{IsRootAt, named}
 use Rattle.ms_names_checked.specs.Exports.{ListsFreeVariables}
 use Rattle.ms_dag.specs.declared.dag.Dag.{Dag}
 use Rattle.ms_dag.specs.declared.dag.SharedRoot.{SharedRoot}
+use Rattle.ms_dfa.specs.declared.plain.FileVersion.{FileVersion}
 use Rattle.ms_dfa.specs.declared.plain.Plain.{Plain}
 use Rattle.ms_logic.specs.declared.checked.Checked.{Checked}
 use Rattle.ms_logic.specs.declared.checked.ExportUse.{ExportUse}
@@ -20,9 +21,10 @@ use Rattle.ms_names_rules.specs.Numbers.{IsWellNumbered}
 use Rattle.ms_build_source.specs.inner.Copies.{AreRootCopies, HaveRoots, IsRootCopy}
 use Rattle.ms_build_source.specs.Graph.{IsGraphOf}
 use Rattle.ms_build_source.specs.Imported.{AreAnswersOf, AreLentFor}
-use Rattle.ms_build_source.specs.Solution.{AreExportFiles, IsSmall}
+use Rattle.ms_build_source.specs.Solution.{AreExportFiles, IsSpellable}
 use Rattle.ms_build_source.specs.Values.{HasMainValue, IsExportFile, IsFileOf, form_meaning}
 use Rattle.ms_build_source.proofs.ExportNames.{entry_lists}
+use Rattle.ms_build_source.proofs.CopySigns.{signs_of_copy}
 use Rattle.ms_build_source.proofs.FileValues.{file_of}
 use Rattle.ms_build_source.proofs.RootValues.{export_free, export_values, exported, formula, main_value_of, own, own_orders}
 
@@ -45,8 +47,8 @@ module _ (checked : Checked) (answers : Answers) (contents : List (Content Sign)
       let here = root_here contents checked.mode dag automata over 0 content at in
       main_value_of checked answers contents lent long are well dag graph here.0 here.1 content here.2
 
-  one_export : (i : ℕ) (used : ExportUse) → slice_get checked.exports i ≡ Some used → (plain : Plain) → IsRootCopy automata.plan (suc i) used.names plain → IsExportFile (problem_of checked answers) i used plain
-  one_export i used held plain (content, at, automaton, copy) =
+  one_export : (version : FileVersion) (i : ℕ) (used : ExportUse) → slice_get checked.exports i ≡ Some used → (plain : Plain) → IsRootCopy version automata.plan (suc i) used.names plain → IsExportFile version (problem_of checked answers) i used plain
+  one_export version i used held plain (content, at, automaton, copy) =
       let here = root_here contents checked.mode dag automata over (suc i) content at in
       let s = here.0 in
       let given = (problem_of checked answers).given in
@@ -62,46 +64,48 @@ module _ (checked : Checked) (answers : Answers) (contents : List (Content Sign)
         variables = vs;
         free = free;
         listed = entry_lists checked answers well exports long i f is used held vs free;
-        file = subst (λ mode. IsFileOf mode vs used.names (form_meaning given f) plain) (here.2).mode_is (file_of content used.names plain copy vs orders (form_meaning given f) values);
+        file = subst (λ mode. IsFileOf version mode vs used.names (form_meaning given f) plain) (here.2).mode_is (file_of version content used.names plain copy vs orders (form_meaning given f) values);
       }
 
   -- those of all exports, from one on
-  exports_from : (i : ℕ) (uses : List ExportUse) → ((j : ℕ) (used : ExportUse) → slice_get uses j ≡ Some used → slice_get checked.exports (i + j) ≡ Some used) → (plains : List Plain)
-      → AreRootCopies automata.plan (i + 1) uses plains → AreExportFiles (problem_of checked answers) i uses plains
-  exports_from i [] within [] copies = tt
-  exports_from i [] within (plain ∷ plains) copies = absurd copies
-  exports_from i (used ∷ uses) within [] copies = absurd copies
-  exports_from i (used ∷ uses) within (plain ∷ plains) copies =
+  exports_from : (version : FileVersion) (i : ℕ) (uses : List ExportUse) → ((j : ℕ) (used : ExportUse) → slice_get uses j ≡ Some used → slice_get checked.exports (i + j) ≡ Some used) → (plains : List Plain)
+      → AreRootCopies version automata.plan (i + 1) uses plains → AreExportFiles version (problem_of checked answers) i uses plains
+  exports_from version i [] within [] copies = tt
+  exports_from version i [] within (plain ∷ plains) copies = absurd copies
+  exports_from version i (used ∷ uses) within [] copies = absurd copies
+  exports_from version i (used ∷ uses) within (plain ∷ plains) copies =
       let here : i + 0 ≡ i = omega arith in
       let next : i + 1 ≡ suc i = omega arith in (
-        one_export i used (subst (λ n. slice_get checked.exports n ≡ Some used) here (within 0 used refl)) plain (subst (λ n. IsRootCopy automata.plan n used.names plain) next copies.0),
-        exports_from (i + 1) uses (λ j u held. subst (λ n. slice_get checked.exports n ≡ Some u) (omega arith) (within (suc j) u held)) plains copies.1,
+        one_export version i used (subst (λ n. slice_get checked.exports n ≡ Some used) here (within 0 used refl)) plain (subst (λ n. IsRootCopy version automata.plan n used.names plain) next copies.0),
+        exports_from version (i + 1) uses (λ j u held. subst (λ n. slice_get checked.exports n ≡ Some u) (omega arith) (within (suc j) u held)) plains copies.1,
       )
 
-  pub all_exports : (plains : List Plain) → AreRootCopies automata.plan 1 checked.exports plains → AreExportFiles (problem_of checked answers) 0 checked.exports plains
-  all_exports plains copies = exports_from 0 checked.exports (λ j used held. subst (λ n. slice_get checked.exports n ≡ Some used) (omega arith) held) plains copies
+  pub all_exports : (version : FileVersion) (plains : List Plain) → AreRootCopies version automata.plan 1 checked.exports plains → AreExportFiles version (problem_of checked answers) 0 checked.exports plains
+  all_exports version plains copies = exports_from version 0 checked.exports (λ j used held. subst (λ n. slice_get checked.exports n ≡ Some used) (omega arith) held) plains copies
 
--- their states and nodes have numbers of 32 bits
-pub all_small : (plan : Plan) (r : ℕ) (uses : List ExportUse) (plains : List Plain) → AreRootCopies plan r uses plains → Each IsSmall plains
-all_small plan r [] [] copies = tt
-all_small plan r [] (plain ∷ plains) copies = absurd copies
-all_small plan r (used ∷ uses) [] copies = absurd copies
-all_small plan r (used ∷ uses) (plain ∷ plains) copies = (copies.0.3.few, all_small plan (r + 1) uses plains copies.1)
+-- they can be spelled
+pub all_spellable : (version : FileVersion) (plan : Plan) (r : ℕ) (uses : List ExportUse) (plains : List Plain) → AreRootCopies version plan r uses plains → Each IsSpellable plains
+all_spellable version plan r [] [] copies = tt
+all_spellable version plan r [] (plain ∷ plains) copies = absurd copies
+all_spellable version plan r (used ∷ uses) [] copies = absurd copies
+all_spellable version plan r (used ∷ uses) (plain ∷ plains) copies =
+    let first = copies.0 in
+    (record { few = first.3.few; signs = signs_of_copy version first.0 first.2 used.names plain first.3 }, all_spellable version plan (r + 1) uses plains copies.1)
 
 -- one copy more
-pub more_copies : (plan : Plan) (r : ℕ) (uses : List ExportUse) (n : ℕ) (plains : List Plain) (used : ExportUse) (plain : Plain) → AreRootCopies plan r (take n uses) plains → slice_get uses n ≡ Some used
-    → IsRootCopy plan (r + n) used.names plain → AreRootCopies plan r (take (n + 1) uses) (plains ++ plain ∷ [])
-more_copies plan r [] n plains used plain copies held copy = absurd (none-some used held)
-more_copies plan r (first ∷ uses) zero [] used plain copies held copy =
+pub more_copies : (version : FileVersion) (plan : Plan) (r : ℕ) (uses : List ExportUse) (n : ℕ) (plains : List Plain) (used : ExportUse) (plain : Plain) → AreRootCopies version plan r (take n uses) plains → slice_get uses n ≡ Some used
+    → IsRootCopy version plan (r + n) used.names plain → AreRootCopies version plan r (take (n + 1) uses) (plains ++ plain ∷ [])
+more_copies version plan r [] n plains used plain copies held copy = absurd (none-some used held)
+more_copies version plan r (first ∷ uses) zero [] used plain copies held copy =
     let same = same_Some first used held in
     let here : r + 0 ≡ r = omega arith in
-    (subst (λ n. IsRootCopy plan n first.names plain) here (subst (λ (u : ExportUse). IsRootCopy plan (r + 0) u.names plain) (sym same) copy), tt)
-more_copies plan r (first ∷ uses) zero (other ∷ plains) used plain copies held copy = absurd copies
-more_copies plan r (first ∷ uses) (suc n) [] used plain copies held copy = absurd copies
-more_copies plan r (first ∷ uses) (suc n) (other ∷ plains) used plain copies held copy =
+    (subst (λ n. IsRootCopy version plan n first.names plain) here (subst (λ (u : ExportUse). IsRootCopy version plan (r + 0) u.names plain) (sym same) copy), tt)
+more_copies version plan r (first ∷ uses) zero (other ∷ plains) used plain copies held copy = absurd copies
+more_copies version plan r (first ∷ uses) (suc n) [] used plain copies held copy = absurd copies
+more_copies version plan r (first ∷ uses) (suc n) (other ∷ plains) used plain copies held copy =
     let next : suc n + 1 ≡ suc (n + 1) = omega arith in
-    subst (λ count. AreRootCopies plan r (take count (first ∷ uses)) ((other ∷ plains) ++ plain ∷ [])) (sym next)
-    (copies.0, more_copies plan (r + 1) uses n plains used plain copies.1 held (subst (λ m. IsRootCopy plan m used.names plain) (omega arith) copy))
+    subst (λ count. AreRootCopies version plan r (take count (first ∷ uses)) ((other ∷ plains) ++ plain ∷ [])) (sym next)
+    (copies.0, more_copies version plan (r + 1) uses n plains used plain copies.1 held (subst (λ m. IsRootCopy version plan m used.names plain) (omega arith) copy))
 
 -- the root of an export, and a name for each of its variables
 pub root_at : (plan : Plan) (r : ℕ) (uses : List ExportUse) → HaveRoots plan r uses → (n : ℕ) (used : ExportUse) → slice_get uses n ≡ Some used

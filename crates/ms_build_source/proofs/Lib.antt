@@ -1,5 +1,6 @@
 pub mod AgreeingImports
 pub mod CallLemmas
+pub mod CopySigns
 pub mod EqualFiles
 pub mod ExampleFiles
 pub mod ExampleLimits

@@ -1,5 +1,5 @@
 -- What the graph of a source gives where it is built for lent automata.
-use Rattle.std.proofs.Common.{◌≡◌, ◌⊎◌, inl, inr, ℕ, suc, ◌+◌, Bool, true, false, ◌<◌, ◌≤◌, List, [], ◌∷◌, length, map, refl, sym, ap, subst, ◌∙◌, arith}
+use Rattle.std.proofs.Common.{◌≡◌, ◌⊎◌, inl, inr, ℕ, suc, ◌+◌, Option, Some, None, ◌<◌, ◌≤◌, List, [], ◌∷◌, length, map, refl, sym, ap, subst, ◌∙◌, arith}
 use Rattle.std.proofs.lemmas.List.{length-map}
 use Rattle.ms_build.specs.declared.built.Built.{Built}
 use Rattle.ms_build.specs.Built.{AreImportsOf, IsBuiltOver, IsLimit}
@@ -12,6 +12,7 @@ use Rattle.ms_dag.specs.declared.dag.Dag.{Dag}
 use Rattle.ms_dag.specs.declared.dag.SharedRoot.{SharedRoot}
 use Rattle.ms_dag.specs.Dag.{AreNodes}
 use Rattle.ms_dag.proofs.ImportLemmas.{nodes_import_as_roots_do}
+use Rattle.ms_dfa.specs.declared.plain.FileVersion.{FileVersion}
 use Rattle.ms_dfa.specs.declared.plain.Plain.{Plain}
 use Rattle.ms_edge.specs.declared.refusal.Refusal.{Refusal}
 use Rattle.ms_edge.specs.declared.refusal.Refusal.TheVariants.{Memory, Nodes}
@@ -33,9 +34,9 @@ use Rattle.ms_build_source.specs.inner.Copies.{AreAskedCopies, HaveRoots, IsRead
 use Rattle.ms_build_source.specs.Graph.{IsGraphOf, calls_in}
 use Rattle.ms_build_source.specs.Imported.{AreAnswersOf, AreLentFor}
 use Rattle.ms_build_source.specs.Limits.{IsUnsolved, IsWithinLimits, lacks_nodes}
-use Rattle.ms_build_source.specs.Solution.{HasExports, IsSmall}
+use Rattle.ms_build_source.specs.Solution.{HasExports, IsSpellable}
 use Rattle.ms_build_source.specs.Values.{HasMainValue}
-use Rattle.ms_build_source.proofs.ExportFiles.{all_exports, all_small, main_root_value}
+use Rattle.ms_build_source.proofs.ExportFiles.{all_exports, all_spellable, main_root_value}
 use Rattle.ms_build_source.proofs.Graphs.{graph_within}
 use Rattle.ms_build_source.proofs.ImportAnswers.{lent_to_nodes}
 use Rattle.ms_build_source.proofs.RootNames.{all_have_roots, count_of_roots}
@@ -135,13 +136,13 @@ module _ (checked : Checked) (answers : Answers) (contents : List (Content Sign)
   pub value_of_main : (content : Content Sign) → IsRootAt built.plan 0 content → HasMainValue (problem_of checked answers) content
   value_of_main = main_root_value checked answers contents lent counted are well exports dag graph built over
 
-  pub exports_asked : (asked : Bool) (plains : List Plain) → AreAskedCopies asked built.plan checked.exports plains → HasExports asked (problem_of checked answers) checked.exports plains
-  exports_asked false plains copies = copies
-  exports_asked true plains copies = all_exports checked answers contents lent counted are well exports dag graph built over plains copies
+  pub exports_asked : (asked : Option FileVersion) (plains : List Plain) → AreAskedCopies asked built.plan checked.exports plains → HasExports asked (problem_of checked answers) checked.exports plains
+  exports_asked None plains copies = copies
+  exports_asked (Some version) plains copies = all_exports checked answers contents lent counted are well exports dag graph built over version plains copies
 
-pub small_asked : (asked : Bool) (plan : Plan) (uses : List ExportUse) (plains : List Plain) → AreAskedCopies asked plan uses plains → Each IsSmall plains
-small_asked false plan uses plains none = subst (Each IsSmall) (sym none) tt
-small_asked true plan uses plains copies = all_small plan 1 uses plains copies
+pub spellable_asked : (asked : Option FileVersion) (plan : Plan) (uses : List ExportUse) (plains : List Plain) → AreAskedCopies asked plan uses plains → Each IsSpellable plains
+spellable_asked None plan uses plains none = subst (Each IsSpellable) (sym none) tt
+spellable_asked (Some version) plan uses plains copies = all_spellable version plan 1 uses plains copies
 
 -- what is built is built by the plan
 built_by_plan : (contents : List (Content Sign)) (mode : Mode) (dag : Dag) (limit : ℕ) (built : Built) → IsBuiltOver contents mode dag built → built.plan.limit ≡ limit → IsPlanOf contents mode dag limit built.plan

@@ -1,5 +1,6 @@
 -- Files are equal exactly where the values that they give are.
 use Rattle.std.specs.Prelude.{◌≡◌, ◌↔◌, ℕ, List}
+use Rattle.ms_dfa.specs.declared.plain.FileVersion.{FileVersion}
 use Rattle.ms_dfa.specs.declared.plain.Plain.{Plain}
 use Rattle.ms_dfafile.specs.File.{IsSpelled}
 use Rattle.ms_logic.specs.declared.mode.Mode.{Mode}
@@ -21,21 +22,21 @@ abbrev pub HaveOneValue : Mode → List Variable → List Variable → Given →
 HaveOneValue mode variables others given f there g =
     IsOneFact mode variables others (Yes given f) (Yes there g) × IsOneFact mode variables others (No given f) (No there g)
 
--- Files of two formulas, of one mode, whose free variables have the same orders and stand there under the same names, have equal bytes
+-- Files of two formulas, of one version and one mode, whose free variables have the same orders and stand there under the same names, have equal bytes
 -- exactly where the values are one. Which numbers the variables have in their sources has no bearing.
 abbrev pub ExportsAreEqualWhereValuesAre : Type 0
 ExportsAreEqualWhereValuesAre =
-    (mode : Mode) (variables others : List Variable) (names : List (List ℕ)) (given there : Given) (f g : Form) (plain second : Plain) (bytes more : List ℕ)
+    (version : FileVersion) (mode : Mode) (variables others : List Variable) (names : List (List ℕ)) (given there : Given) (f g : Form) (plain second : Plain) (bytes more : List ℕ)
     → AreFreeVariables given f variables → AreFreeVariables there g others → HaveSameOrders variables others
-    → IsFileOf mode variables names (form_meaning given f) plain → IsFileOf mode others names (form_meaning there g) second
+    → IsFileOf version mode variables names (form_meaning given f) plain → IsFileOf version mode others names (form_meaning there g) second
     → IsSpelled bytes plain → IsSpelled more second → (bytes ≡ more) ↔ HaveOneValue mode variables others given f there g
 
 -- so has the file of a formula, and that of the main value of a source with such globals
 abbrev pub ExportsAreMainFilesWhereValuesAre : Type 0
 ExportsAreMainFilesWhereValuesAre =
-    (variables : List Variable) (names : List (List ℕ)) (given : Given) (f : Form) (problem : Problem) (plain second : Plain) (bytes more : List ℕ)
+    (version : FileVersion) (variables : List Variable) (names : List (List ℕ)) (given : Given) (f : Form) (problem : Problem) (plain second : Plain) (bytes more : List ℕ)
     → AreFreeVariables given f variables → AreRising (variables_of problem.globals) → HaveSameOrders variables (variables_of problem.globals)
-    → IsFileOf problem.mode variables names (form_meaning given f) plain → IsMainFile problem names second → IsSpelled bytes plain → IsSpelled more second
+    → IsFileOf version problem.mode variables names (form_meaning given f) plain → IsMainFile version problem names second → IsSpelled bytes plain → IsSpelled more second
     → (bytes ≡ more)
     ↔ (IsOneFact problem.mode variables (variables_of problem.globals) (Yes given f) (MainYes problem)
     × IsOneFact problem.mode variables (variables_of problem.globals) (No given f) (MainNo problem))
@@ -43,6 +44,6 @@ ExportsAreMainFilesWhereValuesAre =
 -- and so have those of the main values of two sources with the same globals
 abbrev pub MainFilesAreEqualWhereValuesAre : Type 0
 MainFilesAreEqualWhereValuesAre =
-    (one two : Problem) (names : List (List ℕ)) (plain second : Plain) (bytes more : List ℕ) → one.mode ≡ two.mode → variables_of one.globals ≡ variables_of two.globals
-    → AreRising (variables_of one.globals) → IsMainFile one names plain → IsMainFile two names second → IsSpelled bytes plain → IsSpelled more second
+    (version : FileVersion) (one two : Problem) (names : List (List ℕ)) (plain second : Plain) (bytes more : List ℕ) → one.mode ≡ two.mode → variables_of one.globals ≡ variables_of two.globals
+    → AreRising (variables_of one.globals) → IsMainFile version one names plain → IsMainFile version two names second → IsSpelled bytes plain → IsSpelled more second
     → (bytes ≡ more) ↔ Agree one two

@@ -1,5 +1,7 @@
 -- What is made of a source that can be solved.
-use Rattle.std.specs.Prelude.{◌≡◌, ℕ, ◌+◌, ◌≤◌, Bool, true, false, List, [], ◌∷◌, length, map}
+use Rattle.std.specs.Prelude.{◌≡◌, ℕ, ◌+◌, ◌≤◌, List, [], ◌∷◌, length, map, Option, Some, None}
+use Rattle.ms_dfa.specs.Files.{HasSignsOf, content_of_file}
+use Rattle.ms_dfa.specs.declared.plain.FileVersion.{FileVersion}
 use Rattle.ms_dfa.specs.declared.plain.Plain.{Plain}
 use Rattle.ms_logic.specs.declared.checked.ExportUse.{ExportUse}
 use Rattle.ms_logic_words.specs.Content.{variables_by_place}
@@ -14,20 +16,21 @@ pub record IsNamed (solution : Solution) : Type 0 where
   pub by_place : solution.automaton.variables ≡ variables_by_place (map (λ v. v.order) solution.automaton.variables)
 
 -- the files of exports, numbered on from a first number
-abbrev pub AreExportFiles : Problem → ℕ → List ExportUse → List Plain → Type 0
-AreExportFiles problem i [] [] = Unit {0}
-AreExportFiles problem i [] (plain ∷ plains) = ⊥
-AreExportFiles problem i (used ∷ uses) [] = ⊥
-AreExportFiles problem i (used ∷ uses) (plain ∷ plains) = IsExportFile problem i used plain × AreExportFiles problem (i + 1) uses plains
+abbrev pub AreExportFiles : FileVersion → Problem → ℕ → List ExportUse → List Plain → Type 0
+AreExportFiles version problem i [] [] = Unit {0}
+AreExportFiles version problem i [] (plain ∷ plains) = ⊥
+AreExportFiles version problem i (used ∷ uses) [] = ⊥
+AreExportFiles version problem i (used ∷ uses) (plain ∷ plains) = IsExportFile version problem i used plain × AreExportFiles version problem (i + 1) uses plains
 
--- the files of all exports, where they are asked for
-abbrev pub HasExports : Bool → Problem → List ExportUse → List Plain → Type 0
-HasExports false problem uses plains = plains ≡ []
-HasExports true problem uses plains = AreExportFiles problem 0 uses plains
+-- the files of all exports, where they are asked for in a version
+abbrev pub HasExports : Option FileVersion → Problem → List ExportUse → List Plain → Type 0
+HasExports None problem uses plains = plains ≡ []
+HasExports (Some version) problem uses plains = AreExportFiles version problem 0 uses plains
 
--- the states and the nodes of a content have numbers of 32 bits
-abbrev pub IsSmall : Plain → Type 0
-IsSmall plain = length plain.nodes + length plain.states ≤ 4000000000
+-- a content's states and nodes have numbers of 32 bits, and its signs are as its version has them
+pub record IsSpellable (plain : Plain) : Type 0 where
+  pub few : length plain.nodes + length plain.states ≤ 4000000000
+  pub signs : HasSignsOf plain.version (content_of_file plain)
 
 -- an automaton with the main value over the globals, which have these names, the source's measures, and the files of its exports
 pub record IsSolution (problem : Problem) (names : List (List ℕ)) (solution : Solution) : Type 0 where

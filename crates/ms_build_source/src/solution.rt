@@ -6,12 +6,12 @@ ghost use Rattle.ms_logic.specs.Lists.{Each};
 ghost use Rattle.ms_names_rules.specs.Numbers.{IsWellNumbered};
 ghost use Rattle.ms_build_source.specs.Imported.{AreAnswersOf, AreLentFor};
 ghost use Rattle.ms_build_source.specs.Limits.{IsUnsolved, IsWithinLimits};
-ghost use Rattle.ms_build_source.specs.Solution.{HasExports, IsNamed, IsSmall, IsSolution};
+ghost use Rattle.ms_build_source.specs.Solution.{HasExports, IsNamed, IsSolution, IsSpellable};
 
 use crate::graph::graph_of;
 use crate::roots::{asked_copies, root_of};
 use ms_build::build;
-use ms_dfa::{Automaton, Plain};
+use ms_dfa::{Automaton, FileVersion, Plain};
 use ms_edge::Refusal;
 use ms_list::{List, Name, NoMemory, push};
 use ms_logic::Checked;
@@ -41,13 +41,13 @@ fn names(alloc: Global, globals: &[ms_logic::Global]) -> Result<List<Name>, NoMe
 }
 
 /// The solution of a source, where nodes and states of a step are together at most `limit`. For each import an automaton is lent. The
-/// contents of exports are made where they are asked for.
+/// contents of exports are made in the version in which they are asked for, if any.
 pub fn solve(
     alloc: Global,
     checked: &Checked,
     imports: &List<Automaton>,
     limit: u64,
-    exports: bool,
+    exports: Option<FileVersion>,
 ) -> Result<Solution, Refusal>
     requires numbered { IsWellNumbered checked.now }
     requires exports { ListsFreeVariables checked.now }
@@ -57,7 +57,7 @@ pub fn solve(
         IsSolution (problem_of checked.now answers) (map (λ g. g.name) checked.now.globals) made) }
     ensures exports { IfOk result (λ made. (answers : Answers) → AreAnswersOf checked.now.mode checked.now.imports answers imports.now →
         HasExports exports (problem_of checked.now answers) checked.now.exports made.exports) }
-    ensures small { IfOk result (λ made. Each IsSmall made.exports) }
+    ensures spellable { IfOk result (λ made. Each IsSpellable made.exports) }
     ensures named { IfOk result IsNamed }
     ensures fits { IfOk result (λ made. length made.automaton.nodes + length made.automaton.states ≤ limit) }
     ensures within { IfOk result (λ made. (answers : Answers) → IsWithinLimits (problem_of checked.now answers)) }

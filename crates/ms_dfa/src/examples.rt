@@ -1,6 +1,9 @@
 ghost use Rattle.std.specs.Prelude.{◌≡◌, ◌==◌, true, false, if◌then◌else◌, [], ◌∷◌};
 ghost use Rattle.ms_logic_words.specs.declared.sign.Sign.TheVariants.{Yes, No, Undefined, Outside};
 ghost use Rattle.ms_logic.specs.Assignment.{Env};
+ghost use Rattle.ms_dfa.specs.Files.{file_sign};
+ghost use Rattle.ms_dfa.specs.declared.plain.FileSign.TheVariants as signs;
+ghost use Rattle.ms_dfa.specs.declared.plain.FileVersion.TheVariants as versions;
 ghost use Rattle.ms_dfa.specs.inner.Examples.{changes, choice, truth_and_set, seen, truth_and_sets, word_of_three};
 ghost use Rattle.ms_dfa.specs.inner.Function.{Ignores};
 ghost use Rattle.ms_dfa.specs.Machine.{after, end_of};
@@ -37,4 +40,13 @@ pub fn worked_meanings()
     ensures no { (e : Env) → e.truth 1 ≡ true → meaning_by (λ e. e.truth 0 ≡ true) (λ e. e.truth 1 ≡ true) e No }
     ensures undefined { (e : Env) → e.truth 0 ≡ false → e.truth 1 ≡ false → meaning_by (λ e. e.truth 0 ≡ true) (λ e. e.truth 1 ≡ true) e Undefined }
     ensures never_outside { (e : Env) → ¬ (meaning_by (λ e. e.truth 0 ≡ true) (λ e. e.truth 1 ≡ true) e Outside) }
+{}
+
+/// A file of version 1 has one sign for Undefined and Outside, and one of version 2 has two.
+pub fn worked_file_signs()
+    ensures yes { file_sign versions.One Yes ≡ signs.Plus }
+    ensures no { file_sign versions.Two No ≡ signs.Minus }
+    ensures undefined { file_sign versions.Two Undefined ≡ signs.Zero }
+    ensures outside_as_undefined { file_sign versions.One Outside ≡ signs.Zero }
+    ensures outside { file_sign versions.Two Outside ≡ signs.Outside }
 {}

@@ -12,9 +12,11 @@ mod state;
 mod track;
 
 pub use automaton::Automaton;
-pub use examples::{worked_functions, worked_machines, worked_meanings, worked_narrowings};
+pub use examples::{
+    worked_file_signs, worked_functions, worked_machines, worked_meanings, worked_narrowings,
+};
 pub use ms_logic_words::Sign;
 pub use part::{Part, is_in};
-pub use plain::{FileSign, FileState, FileVar, Plain};
+pub use plain::{FileSign, FileState, FileVar, FileVersion, Plain};
 pub use state::State;
 pub use track::Track;

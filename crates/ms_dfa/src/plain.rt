@@ -5,12 +5,22 @@ use ms_list::{List, Name, NoMemory};
 use ms_logic::{Mode, Order};
 use std::alloc::Global;
 
-/// The sign of a state in an automaton file: `+`, `-` or `0`.
+/// The version of an automaton file.
+#[derive(Clone, Copy, PartialEq, Eq)]
+pub enum FileVersion {
+    /// A word that encodes no assignment has the sign `0`, as one at which the formula is undefined.
+    One,
+    /// A word that encodes no assignment has a sign of its own, `x`.
+    Two,
+}
+
+/// The sign of a state in an automaton file: `+`, `-`, `0` or, in version 2, `x`.
 #[derive(Clone, Copy, PartialEq, Eq)]
 pub enum FileSign {
     Plus,
     Minus,
     Zero,
+    Outside,
 }
 
 /// A variable of an automaton file.
@@ -30,6 +40,7 @@ pub struct FileState {
 /// The content of an automaton file.
 #[derive(Drop)]
 pub struct Plain {
+    pub version: FileVersion,
     pub mode: Mode,
     pub variables: List<FileVar>,
     pub start: Ref,
@@ -55,6 +66,7 @@ impl Plain {
         ensures { IfOk result (λ made. made ≡ self.now) }
     {
         Ok(Plain {
+            version: self.version,
             mode: self.mode,
             variables: copy_variables(alloc, self.variables.slice())?,
             start: self.start,

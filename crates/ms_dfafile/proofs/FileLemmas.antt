@@ -1,13 +1,12 @@
 -- Contents that have files.
-use Rattle.std.proofs.Common.{◌≡◌, ◌≢◌, ℕ, suc, List, [], ◌∷◌, ◌++◌, length, map, slice_get, Some, AllPairs, Err, codes, refl, sym, ap, subst, ◌∙◌, arith, append_assoc}
+use Rattle.std.proofs.Common.{◌≡◌, ℕ, suc, List, [], ◌∷◌, ◌++◌, length, map, slice_get, Some, Err, codes, refl, sym, ap, subst, ◌∙◌, arith, append_assoc}
 use Rattle.std.specs.List.{AllByRecursion}
 use Rattle.std.proofs.lemmas.List.{append-nil, append_cancel_left}
 use Rattle.std.proofs.lemmas.List.Elements.{All-from_recursion, recursion_from_All}
 use Rattle.ms_arena.specs.declared.node.Node.{Node}
 use Rattle.ms_arena.specs.declared.node.Ref.{Ref}
 use Rattle.ms_arena.specs.declared.node.Ref.TheVariants.{Leaf, Inner}
-use Rattle.ms_logic.specs.declared.mode.Mode.{Mode}
-use Rattle.ms_logic_words.specs.Content.{Content, IsContent, NamesPart}
+use Rattle.ms_logic_words.specs.Content.{Content, NamesPart}
 use Rattle.ms_dfa.specs.Files.{content_of_file}
 use Rattle.ms_dfa.specs.declared.plain.FileState.{FileState}
 use Rattle.ms_dfa.specs.declared.plain.FileVar.{FileVar}
@@ -17,9 +16,11 @@ use Rattle.ms_text.specs.declared.token.Kind.TheVariants as kinds
 use Rattle.ms_dfafile.specs.declared.fault.FileFault.{FileFault}
 use Rattle.ms_dfafile.specs.declared.fault.FileFault.TheVariants as faults
 use Rattle.ms_dfafile.specs.declared.parts.Body.{Body}
+use Rattle.ms_dfafile.specs.declared.parts.Head.{Head}
 use Rattle.ms_dfafile.specs.File.{IsFile, IsSpelled, names_of}
-use Rattle.ms_dfafile.specs.inner.Parts.{IsSmallBody, IsSmallPlain, body_of, body_text, content_text, ending_text, head_text, nodes_text, start_text, states_text, variables_text}
+use Rattle.ms_dfafile.specs.inner.Parts.{IsSmallBody, IsSmallPlain, body_of, body_text, content_text, ending_text, head_of, head_text, nodes_text, start_text, states_text, variables_text}
 use Rattle.ms_dfafile.specs.inner.Reading.{Gives, HasName, IsOneForm, IsSection, IsSmall, IsSmallNode, IsSmallRef, IsSmallState}
+use Rattle.ms_dfafile.specs.inner.Rules.{MeetsRules}
 use Rattle.ms_dfafile.specs.Spelling.{line}
 use Rattle.ms_dfafile.proofs.PairLemmas.{pair-one_form}
 use Rattle.ms_dfafile.proofs.PartsLemmas.{AreSmallNamed, AreSmallTables, content_text-spelled, head-one_form, named_text, nodes-one_form, start-one_form, states-one_form, tables_text, variables-one_form}
@@ -63,15 +64,16 @@ small-of plain file =
       ),
     )
 
--- such a content has a file where its names differ and it meets the rules of contents
-pub file-from : (plain : Plain) → IsSmallPlain plain → AllPairs (λ one other. one ≢ other) (names_of plain) → IsContent (content_of_file plain) → IsFile plain
-file-from plain small differ content = record {
+-- such a content has a file where it meets the rules
+pub file-from : (plain : Plain) → IsSmallPlain plain → MeetsRules plain → IsFile plain
+file-from plain small meets = record {
   few_variables = small.0.0;
   few_states = small.1.1.0.0;
   few_nodes = small.1.1.1.0;
   names = All-from_recursion (Spells kinds.Name) (names_of plain) (names_from plain.variables small.0.1);
-  different = differ;
-  content = content;
+  different = meets.different;
+  content = meets.content;
+  signs = meets.signs;
 }
 
 -- contents are found in one way
@@ -93,8 +95,8 @@ named-one_form = pair-one_form variables_text (IsSection HasName) body_text IsSm
 
 pub content-one_form : IsOneForm content_text IsSmallPlain
 content-one_form one two rest other small_one small_two same =
-    let both = pair-one_form head_text (λ _. Unit {0}) named_text AreSmallNamed head-one_form named-one_form (one.mode, (one.variables, body_of one)) (two.mode, (two.variables, body_of two)) rest other (tt, small_one) (tt, small_two) same in
-    ap (λ (p : Mode × (List FileVar × Body)). record { mode = p.0; variables = p.1.0; start = p.1.1.start; states = p.1.1.states; nodes = p.1.1.nodes }) both
+    let both = pair-one_form head_text (λ _. Unit {0}) named_text AreSmallNamed head-one_form named-one_form (head_of one, (one.variables, body_of one)) (head_of two, (two.variables, body_of two)) rest other (tt, small_one) (tt, small_two) same in
+    ap (λ (p : Head × (List FileVar × Body)). record { version = p.0.version; mode = p.0.mode; variables = p.1.0; start = p.1.1.start; states = p.1.1.states; nodes = p.1.1.nodes }) both
 
 -- the content that was read is the one that bytes spell
 pub same_content : (bytes : List ℕ) (read spelled_one : Plain) → IsSmallPlain read → bytes ≡ content_text read → IsSpelled bytes spelled_one → read ≡ spelled_one

@@ -8,3 +8,4 @@ pub mod PairLemmas
 pub mod PartsLemmas
 pub mod ReadingLemmas
 pub mod RulesLemmas
+pub mod SignsLemmas

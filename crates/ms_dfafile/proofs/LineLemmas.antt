@@ -42,6 +42,8 @@ order-one_form Two Two behind other fits suits same = refl
 pub sign-one_form : IsOneForm (λ sign. field (sign_text sign)) (λ _. Unit {0})
 sign-one_form signs.Plus signs.Plus behind other fits suits same = refl
 sign-one_form signs.Plus signs.Minus behind other fits suits same = absurd (omega (arith, first_byte _ _ same))
+sign-one_form signs.Plus signs.Outside behind other fits suits same = absurd (omega (arith, first_byte _ _ same))
+sign-one_form signs.Minus signs.Outside behind other fits suits same = absurd (omega (arith, first_byte _ _ same))
 sign-one_form signs.Plus signs.Zero behind other fits suits same = absurd (omega (arith, first_byte _ _ same))
 sign-one_form signs.Minus signs.Plus behind other fits suits same = absurd (omega (arith, first_byte _ _ same))
 sign-one_form signs.Minus signs.Minus behind other fits suits same = refl
@@ -49,6 +51,11 @@ sign-one_form signs.Minus signs.Zero behind other fits suits same = absurd (omeg
 sign-one_form signs.Zero signs.Plus behind other fits suits same = absurd (omega (arith, first_byte _ _ same))
 sign-one_form signs.Zero signs.Minus behind other fits suits same = absurd (omega (arith, first_byte _ _ same))
 sign-one_form signs.Zero signs.Zero behind other fits suits same = refl
+sign-one_form signs.Zero signs.Outside behind other fits suits same = absurd (omega (arith, first_byte _ _ same))
+sign-one_form signs.Outside signs.Plus behind other fits suits same = absurd (omega (arith, first_byte _ _ same))
+sign-one_form signs.Outside signs.Minus behind other fits suits same = absurd (omega (arith, first_byte _ _ same))
+sign-one_form signs.Outside signs.Zero behind other fits suits same = absurd (omega (arith, first_byte _ _ same))
+sign-one_form signs.Outside signs.Outside behind other fits suits same = refl
 
 -- a name's bytes may stand in a field
 name_byte : (byte : ℕ) → is_name_byte byte ≡ true → is_field_byte byte ≡ true

@@ -22,6 +22,10 @@ module _ {X Y : Type 0} (text : X → List ℕ) (Fits : X → Type 0) (more : Y 
       let second = other_form one.1 two.1 rest other fits_one.1 fits_two.1 behind in
       λ i. (first i, second i)
 
+  -- no pair is where there is no first value
+  pub first_missing : (bytes : List ℕ) → BeginsWithNone text Fits bytes → BeginsWithNone pair_text BothFit bytes
+  first_missing bytes none pair other fits same = none pair.0 (more pair.1 ++ other) fits.0 (same ∙ append_assoc (text pair.0) (more pair.1) other)
+
   -- nor where no second value stands behind the first
   pub second_missing : IsOneForm text Fits → (bytes : List ℕ) (x : X) (rest : List ℕ) → BeginsWith text Fits bytes x rest → BeginsWithNone more Suits rest → BeginsWithNone pair_text BothFit bytes
   second_missing one_form bytes x rest begins none pair other fits same =

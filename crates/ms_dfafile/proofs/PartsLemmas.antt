@@ -8,27 +8,58 @@ use Rattle.ms_logic.specs.declared.mode.Mode.{Mode}
 use Rattle.ms_logic.specs.declared.mode.Mode.TheVariants.{Ws1s, M2lStr}
 use Rattle.ms_dfa.specs.declared.plain.FileState.{FileState}
 use Rattle.ms_dfa.specs.declared.plain.FileVar.{FileVar}
+use Rattle.ms_dfa.specs.declared.plain.FileVersion.{FileVersion}
+use Rattle.ms_dfa.specs.declared.plain.FileVersion.TheVariants as versions
 use Rattle.ms_dfa.specs.declared.plain.Plain.{Plain}
 use Rattle.ms_dfafile.specs.declared.fault.FileFault.{FileFault}
 use Rattle.ms_dfafile.specs.declared.fault.FileFault.TheVariants as faults
 use Rattle.ms_dfafile.specs.declared.parts.Body.{Body}
-use Rattle.ms_dfafile.specs.inner.Parts.{IsSmallBody, IsSmallPlain, body_text, content_text, ending_text, head_text, nodes_text, start_text, states_text, variables_text}
-use Rattle.ms_dfafile.specs.inner.Reading.{BeginsWith, Finds, Gives, HasName, IsOneForm, IsSection, IsSmallNode, IsSmallRef, IsSmallState}
-use Rattle.ms_dfafile.specs.Spelling.{field, line, node_line, ref_text, spelled, state_line, variable_line}
+use Rattle.ms_dfafile.specs.declared.parts.Head.{Head}
+use Rattle.ms_dfafile.specs.inner.Parts.{IsSmallBody, IsSmallPlain, body_text, content_text, ending_text, head_of, head_text, mode_line, nodes_text, start_text, states_text, variables_text, version_line}
+use Rattle.ms_dfafile.specs.inner.Reading.{BeginsWith, BeginsWithNone, Finds, Gives, HasName, IsOneForm, IsSection, IsSmallNode, IsSmallRef, IsSmallState}
+use Rattle.ms_dfafile.specs.Spelling.{field, line, mode_text, node_line, ref_text, spelled, state_line, variable_line, version_text}
 use Rattle.ms_dfafile.proofs.LineLemmas.{node-one_form, state-one_form, variable-one_form}
 use Rattle.ms_dfafile.proofs.NumberLemmas.{reference-one_form}
-use Rattle.ms_dfafile.proofs.PairLemmas.{BothFit, first_fault-given, pair_text, second_fault-given, word-one_form}
+use Rattle.ms_dfafile.proofs.PairLemmas.{BothFit, both_found, first_fault-given, first_missing, pair-one_form, pair_text, second_fault-given, second_missing, word-one_form}
 use Rattle.ms_dfafile.proofs.ReadingLemmas.{section-one_form}
 
 -- each part is found in one way
-mode_byte : (one two : List ℕ) → one ≡ two → get_or one 19 0 ≡ get_or two 19 0
-mode_byte one two same = ap (λ (bytes : List ℕ). get_or bytes 19 0) same
+byte_at : (place : ℕ) (one two : List ℕ) → one ≡ two → get_or one place 0 ≡ get_or two place 0
+byte_at place one two same = ap (λ (bytes : List ℕ). get_or bytes place 0) same
+
+pub version-one_form : IsOneForm version_line (λ _. Unit {0})
+version-one_form versions.One versions.One behind other fits suits same = refl
+version-one_form versions.One versions.Two behind other fits suits same = absurd (omega (arith, byte_at 12 _ _ same))
+version-one_form versions.Two versions.One behind other fits suits same = absurd (omega (arith, byte_at 12 _ _ same))
+version-one_form versions.Two versions.Two behind other fits suits same = refl
+
+pub mode-one_form : IsOneForm mode_line (λ _. Unit {0})
+mode-one_form Ws1s Ws1s behind other fits suits same = refl
+mode-one_form Ws1s M2lStr behind other fits suits same = absurd (omega (arith, byte_at 5 _ _ same))
+mode-one_form M2lStr Ws1s behind other fits suits same = absurd (omega (arith, byte_at 5 _ _ same))
+mode-one_form M2lStr M2lStr behind other fits suits same = refl
 
 pub head-one_form : IsOneForm head_text (λ _. Unit {0})
-head-one_form Ws1s Ws1s behind other fits suits same = refl
-head-one_form Ws1s M2lStr behind other fits suits same = absurd (omega (arith, mode_byte _ _ same))
-head-one_form M2lStr Ws1s behind other fits suits same = absurd (omega (arith, mode_byte _ _ same))
-head-one_form M2lStr M2lStr behind other fits suits same = refl
+head-one_form one two rest other fits suits same =
+    let both = pair-one_form version_line (λ _. Unit {0}) mode_line (λ _. Unit {0}) version-one_form mode-one_form (one.version, one.mode) (two.version, two.mode) rest other (tt, tt) (tt, tt) same in
+    ap (λ (p : FileVersion × Mode). record { version = p.0; mode = p.1 }) both
+
+-- no first two lines are where the first is none, and where no second stands behind it
+pub version_missing : (bytes : List ℕ) → BeginsWithNone version_line (λ _. Unit {0}) bytes → BeginsWithNone head_text (λ _. Unit {0}) bytes
+version_missing bytes none head rest fits same =
+    first_missing version_line (λ _. Unit {0}) mode_line (λ _. Unit {0}) bytes none (head.version, head.mode) rest (tt, tt) same
+
+pub mode_missing : (bytes : List ℕ) (version : FileVersion) (rest : List ℕ) → BeginsWith version_line (λ _. Unit {0}) bytes version rest → BeginsWithNone mode_line (λ _. Unit {0}) rest
+    → BeginsWithNone head_text (λ _. Unit {0}) bytes
+mode_missing bytes version rest begins none head other fits same =
+    second_missing version_line (λ _. Unit {0}) mode_line (λ _. Unit {0}) version-one_form bytes version rest begins none (head.version, head.mode) other (tt, tt) same
+
+pub head_found : (bytes : List ℕ) (version : FileVersion) (rest : List ℕ) (mode : Mode) (after : List ℕ) → BeginsWith version_line (λ _. Unit {0}) bytes version rest
+    → BeginsWith mode_line (λ _. Unit {0}) rest mode after → BeginsWith head_text (λ _. Unit {0}) bytes (record { version = version; mode = mode }) after
+head_found bytes version rest mode after first second = record {
+  fits = tt;
+  parts = (both_found version_line (λ _. Unit {0}) mode_line (λ _. Unit {0}) bytes version rest mode after first second).parts;
+}
 
 pub variables-one_form : IsOneForm variables_text (IsSection HasName)
 variables-one_form = section-one_form variable_line HasName variable-one_form (field (codes "variables"))
@@ -83,25 +114,25 @@ abbrev pub AreSmallNamed : List FileVar × Body → Type 0
 AreSmallNamed = BothFit variables_text (IsSection HasName) body_text IsSmallBody
 
 content_given : (bytes : List ℕ) (fault : FileFault) → Gives (pair_text head_text (λ _. Unit {0}) named_text AreSmallNamed) (BothFit head_text (λ _. Unit {0}) named_text AreSmallNamed) bytes (Err fault) → Gives content_text IsSmallPlain bytes (Err fault)
-content_given bytes faults.Text none = λ plain fits same. none (plain.mode, (plain.variables, record { start = plain.start; states = plain.states; nodes = plain.nodes })) (tt, fits) same
+content_given bytes faults.Text none = λ plain fits same. none (head_of plain, (plain.variables, record { start = plain.start; states = plain.states; nodes = plain.nodes })) (tt, fits) same
 content_given bytes faults.Memory none = tt
 
 -- a fault of what stands behind the variables
-pub behind_variables_fault : (bytes : List ℕ) (mode : Mode) (rest : List ℕ) → BeginsWith head_text (λ _. Unit {0}) bytes mode rest → (fault : FileFault) (variables : List FileVar) (after : List ℕ)
+pub behind_variables_fault : (bytes : List ℕ) (head : Head) (rest : List ℕ) → BeginsWith head_text (λ _. Unit {0}) bytes head rest → (fault : FileFault) (variables : List FileVar) (after : List ℕ)
     → BeginsWith variables_text (IsSection HasName) rest variables after → Gives body_text IsSmallBody after (Err fault) → Gives content_text IsSmallPlain bytes (Err fault)
-behind_variables_fault bytes mode rest begins fault variables after there none =
-    content_given bytes fault (second_fault-given head_text (λ _. Unit {0}) named_text AreSmallNamed head-one_form bytes mode rest begins fault
+behind_variables_fault bytes head rest begins fault variables after there none =
+    content_given bytes fault (second_fault-given head_text (λ _. Unit {0}) named_text AreSmallNamed head-one_form bytes head rest begins fault
     (second_fault-given variables_text (IsSection HasName) body_text IsSmallBody variables-one_form rest variables after there fault none))
 
-regroup : (head word count variables start ref word' count' states word'' count'' nodes end : List ℕ)
-    → head ++ ((word ++ (count ++ variables)) ++ ((start ++ ref) ++ ((word' ++ (count' ++ states)) ++ ((word'' ++ (count'' ++ nodes)) ++ end))))
-    ≡ head ++ word ++ count ++ variables ++ start ++ ref ++ word' ++ count' ++ states ++ word'' ++ count'' ++ nodes ++ end
-regroup head word count variables start ref word' count' states word'' count'' nodes end = simp append_assoc
+regroup : (monastr version mode name word count variables start ref word' count' states word'' count'' nodes end : List ℕ)
+    → ((monastr ++ version) ++ (mode ++ name)) ++ ((word ++ (count ++ variables)) ++ ((start ++ ref) ++ ((word' ++ (count' ++ states)) ++ ((word'' ++ (count'' ++ nodes)) ++ end))))
+    ≡ monastr ++ version ++ mode ++ name ++ word ++ count ++ variables ++ start ++ ref ++ word' ++ count' ++ states ++ word'' ++ count'' ++ nodes ++ end
+regroup monastr version mode name word count variables start ref word' count' states word'' count'' nodes end = simp append_assoc
 
 -- the text of a content is that of its parts, one behind the other
 pub content_text-spelled : (plain : Plain) → content_text plain ≡ spelled plain
 content_text-spelled plain =
-    regroup (head_text plain.mode)
+    regroup (field (codes "monastr-dfa")) (line (version_text plain.version)) (field (codes "mode")) (line (mode_text plain.mode))
     (field (codes "variables")) (line (decimal (length plain.variables))) (flat_map variable_line plain.variables)
     (field (codes "start")) (line (ref_text plain.start))
     (field (codes "states")) (line (decimal (length plain.states))) (flat_map state_line plain.states)

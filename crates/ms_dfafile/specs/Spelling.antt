@@ -14,6 +14,8 @@ use Rattle.ms_dfa.specs.declared.plain.FileSign.{FileSign}
 use Rattle.ms_dfa.specs.declared.plain.FileSign.TheVariants as signs
 use Rattle.ms_dfa.specs.declared.plain.FileState.{FileState}
 use Rattle.ms_dfa.specs.declared.plain.FileVar.{FileVar}
+use Rattle.ms_dfa.specs.declared.plain.FileVersion.{FileVersion}
+use Rattle.ms_dfa.specs.declared.plain.FileVersion.TheVariants as versions
 use Rattle.ms_dfa.specs.declared.plain.Plain.{Plain}
 
 -- the last field of a line, and the line feed that ends it
@@ -23,6 +25,10 @@ line text = text ++ 10 ∷ []
 -- a field before the last, and the blank behind it
 abbrev pub field : List ℕ → List ℕ
 field text = text ++ 32 ∷ []
+
+abbrev pub version_text : FileVersion → List ℕ
+version_text versions.One = codes "1"
+version_text versions.Two = codes "2"
 
 abbrev pub mode_text : Mode → List ℕ
 mode_text Ws1s = codes "ws1s"
@@ -37,6 +43,7 @@ abbrev pub sign_text : FileSign → List ℕ
 sign_text signs.Plus = codes "+"
 sign_text signs.Minus = codes "-"
 sign_text signs.Zero = codes "0"
+sign_text signs.Outside = codes "x"
 
 -- a state, or a node, by its number
 abbrev pub ref_text : Ref → List ℕ
@@ -55,7 +62,7 @@ node_line node = field (decimal node.var) ++ field (ref_text node.low) ++ line (
 -- the text of a content, line by line
 abbrev pub spelled : Plain → List ℕ
 spelled plain =
-    field (codes "monastr-dfa") ++ line (codes "1")
+    field (codes "monastr-dfa") ++ line (version_text plain.version)
     ++ field (codes "mode") ++ line (mode_text plain.mode)
     ++ field (codes "variables") ++ line (decimal (length plain.variables))
     ++ flat_map variable_line plain.variables

@@ -1,6 +1,6 @@
 ghost use Rattle.std.specs.Prelude.{◌≡◌, length};
 ghost use Rattle.ms_dfa.specs.declared.plain.Plain.{Plain};
-ghost use Rattle.ms_dfafile.specs.inner.Examples.{emptiness, emptiness_file, equivalence, equivalence_file, line_behind, missing_state, named_by_word, named_twice, no_states, own_node, same_variable, set_from_start, subset, subset_file, truth_value_from_state, zero_before};
+ghost use Rattle.ms_dfafile.specs.inner.Examples.{emptiness, emptiness_file, equivalence, equivalence_file, first_number, first_number_file, line_behind, missing_state, named_by_word, named_twice, no_states, outside_in_first_version, own_node, same_variable, set_from_start, subset, subset_file, truth_value_from_state, two_bits_undefined, zero_before};
 ghost use Rattle.ms_dfafile.specs.File.{IsFile, IsSpelled};
 ghost use Rattle.ms_dfafile.specs.Spelling.{spelled};
 
@@ -12,6 +12,8 @@ pub fn worked_files()
     ensures equivalence_bytes { length equivalence_file ≡ 118 }
     ensures emptiness { spelled emptiness ≡ emptiness_file }
     ensures emptiness_bytes { length emptiness_file ≡ 88 }
+    ensures number { spelled first_number ≡ first_number_file }
+    ensures number_bytes { length first_number_file ≡ 127 }
 {}
 
 /// A content that meets the rules, and contents that break one each.
@@ -25,6 +27,8 @@ pub fn worked_rules()
     ensures truth_value_from_state { ¬ IsFile truth_value_from_state }
     ensures own_node { ¬ IsFile own_node }
     ensures same_variable { ¬ IsFile same_variable }
+    ensures two_bits { ¬ IsFile two_bits_undefined }
+    ensures first_version { ¬ IsFile outside_in_first_version }
 {}
 
 /// A file, and texts that are the file of no content.

@@ -12,6 +12,7 @@ mod node;
 mod parts;
 mod reading;
 mod rules;
+mod signs;
 mod state;
 mod tested;
 mod variable;

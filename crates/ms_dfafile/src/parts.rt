@@ -1,5 +1,5 @@
 ghost use Rattle.std.specs.Prelude.{◌≡◌, ◌↔◌, codes, IsTrue};
-ghost use Rattle.ms_dfafile.specs.inner.Parts.{IsSmallBody, IsSmallPlain, body_text, content_text, ending_text, head_text, start_text};
+ghost use Rattle.ms_dfafile.specs.inner.Parts.{IsSmallBody, IsSmallPlain, body_text, content_text, ending_text, head_text, mode_line, start_text, version_line};
 ghost use Rattle.ms_dfafile.specs.inner.Reading.{Gives, IsSection, IsSmallNode, IsSmallRef, Reads};
 ghost use Rattle.ms_dfafile.specs.Spelling.{line};
 
@@ -7,10 +7,17 @@ use crate::fault::FileFault;
 use crate::field::{behind, reference};
 use crate::lines::lines;
 use ms_arena::{Node, Ref};
-use ms_dfa::{FileState, Plain};
+use ms_dfa::{FileState, FileVersion, Plain};
 use ms_list::List;
 use ms_logic::Mode;
 use std::alloc::Global;
+
+/// The first two lines of a file.
+#[derive(Clone, Copy)]
+pub(crate) struct Head {
+    pub version: FileVersion,
+    pub mode: Mode,
+}
 
 /// What stands behind the variables of a file.
 #[derive(Drop)]
@@ -20,16 +27,37 @@ pub(crate) struct Body {
     pub nodes: List<Node>,
 }
 
-/// The first line, and the mode in the second.
-fn head(bytes: &[u8]) -> Option<(Mode, &[u8])>
-    ensures { Reads head_text (λ _. Unit {0}) bytes.now result }
+/// The version in the first line.
+fn version(bytes: &[u8]) -> Option<(FileVersion, &[u8])>
+    ensures { Reads version_line (λ _. Unit {0}) bytes.now result }
 {
-    let rest = behind(bytes, b"monastr-dfa 1\nmode ")?;
+    let rest = behind(bytes, b"monastr-dfa ")?;
+    if let Some(rest) = behind(rest, b"1\n") {
+        return Some((FileVersion::One, rest));
+    }
+    let rest = behind(rest, b"2\n")?;
+    Some((FileVersion::Two, rest))
+}
+
+/// The mode in the second line.
+fn mode(bytes: &[u8]) -> Option<(Mode, &[u8])>
+    ensures { Reads mode_line (λ _. Unit {0}) bytes.now result }
+{
+    let rest = behind(bytes, b"mode ")?;
     if let Some(rest) = behind(rest, b"ws1s\n") {
         return Some((Mode::Ws1s, rest));
     }
     let rest = behind(rest, b"m2l-str\n")?;
     Some((Mode::M2lStr, rest))
+}
+
+/// The first two lines.
+fn first_lines(bytes: &[u8]) -> Option<(Head, &[u8])>
+    ensures { Reads head_text (λ _. Unit {0}) bytes.now result }
+{
+    let (version, rest) = version(bytes)?;
+    let (mode, rest) = mode(rest)?;
+    Some((Head { version, mode }, rest))
 }
 
 /// The line of the start.
@@ -86,7 +114,7 @@ fn behind_variables(alloc: Global, bytes: &[u8]) -> Result<Body, FileFault>
 pub(crate) fn content(alloc: Global, bytes: &[u8]) -> Result<Plain, FileFault>
     ensures { Gives content_text IsSmallPlain bytes.now result }
 {
-    let Some((mode, rest)) = head(bytes) else {
+    let Some((head, rest)) = first_lines(bytes) else {
         return Err(FileFault::Text);
     };
     let (variables, rest) = match lines(alloc, b"variables ", rest) {
@@ -101,7 +129,8 @@ pub(crate) fn content(alloc: Global, bytes: &[u8]) -> Result<Plain, FileFault>
                 nodes,
             },
         ) => Ok(Plain {
-            mode,
+            version: head.version,
+            mode: head.mode,
             variables,
             start,
             states,

@@ -1,25 +1,29 @@
-ghost use Rattle.std.specs.Prelude.{◌≢◌, ◌↔◌, AllPairs, IfOk, IsErrOf, IsTrue};
-ghost use Rattle.ms_dfa.specs.Files.{content_of_file};
+ghost use Rattle.std.specs.Prelude.{◌<◌, ◌^◌, ◌↔◌, IfOk, IsErrOf, IsTrue, length};
 ghost use Rattle.ms_dfa.specs.declared.plain.Plain.{Plain};
-ghost use Rattle.ms_dfafile.specs.File.{IsSpelled, names_of};
-ghost use Rattle.ms_logic_words.specs.Content.{IsContent};
+ghost use Rattle.ms_dfafile.specs.File.{IsSpelled};
+ghost use Rattle.ms_dfafile.specs.inner.Rules.{MeetsRules};
 
 use crate::fault::FileFault;
 use crate::names::names_differ;
 use crate::parts::content;
 use crate::rules::is_content;
+use crate::signs::has_signs;
 use ms_dfa::Plain;
 use ms_list::NoMemory;
 use std::alloc::Global;
 
-/// Whether the names differ, and references, nodes and variables are as in each content.
+/// Whether the names differ, references, nodes and variables are as in each content, and signs as in the version.
 fn meets_rules(alloc: Global, plain: &Plain) -> Result<bool, NoMemory>
-    ensures { IfOk result (λ meets. IsTrue meets ↔ (AllPairs (λ one other. one ≢ other) (names_of plain.now) × IsContent (content_of_file plain.now))) }
+    requires { length plain.now.states < 2 ^ 32 }
+    ensures { IfOk result (λ meets. IsTrue meets ↔ MeetsRules plain.now) }
 {
     if !names_differ(alloc, plain.variables.slice())? {
         return Ok(false);
     }
-    is_content(alloc, plain)
+    if !is_content(alloc, plain)? {
+        return Ok(false);
+    }
+    has_signs(alloc, plain)
 }
 
 /// The content whose automaton file the bytes are.

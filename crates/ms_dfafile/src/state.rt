@@ -18,8 +18,11 @@ fn sign(bytes: &[u8]) -> Option<(FileSign, &[u8])>
     if let Some(rest) = behind(bytes, b"- ") {
         return Some((FileSign::Minus, rest));
     }
-    let rest = behind(bytes, b"0 ")?;
-    Some((FileSign::Zero, rest))
+    if let Some(rest) = behind(bytes, b"0 ") {
+        return Some((FileSign::Zero, rest));
+    }
+    let rest = behind(bytes, b"x ")?;
+    Some((FileSign::Outside, rest))
 }
 
 /// A state: its sign and its reference.
@@ -38,6 +41,7 @@ fn sign_field(sign: FileSign) -> &'static str
         FileSign::Plus => "+ ",
         FileSign::Minus => "- ",
         FileSign::Zero => "0 ",
+        FileSign::Outside => "x ",
     }
 }
 

@@ -1,16 +1,25 @@
 ghost use Rattle.std.specs.Prelude.{◌≡◌, ◌++◌, IfOk, OnOk, string_bytes};
 ghost use Rattle.ms_dfafile.specs.File.{IsFile, IsSpelled};
-ghost use Rattle.ms_dfafile.specs.inner.Parts.{content_text};
+ghost use Rattle.ms_dfafile.specs.inner.Parts.{content_text, version_line};
 ghost use Rattle.ms_dfafile.specs.inner.Reading.{section_text};
 ghost use Rattle.ms_dfafile.specs.Spelling.{line, mode_text};
 
 use crate::field::append_ref;
 use crate::line::Line;
 use crate::lines::append_lines;
-use ms_dfa::Plain;
+use ms_dfa::{FileVersion, Plain};
 use ms_list::{Bytes, List, NoMemory};
 use ms_logic::Mode;
 use std::alloc::{AllocError, Global};
+
+fn version_text(version: FileVersion) -> &'static str
+    ensures { result.now ≡ version_line version }
+{
+    match version {
+        FileVersion::One => "monastr-dfa 1\n",
+        FileVersion::Two => "monastr-dfa 2\n",
+    }
+}
 
 fn mode_line(mode: Mode) -> &'static str
     ensures { result.now ≡ line (mode_text mode) }
@@ -34,7 +43,8 @@ fn append_section<T: Line>(out: &mut String, word: &str, lines: &[T]) -> Result<
 fn text(alloc: Global, plain: &Plain) -> Result<String, AllocError>
     ensures { IfOk result (λ text. string_bytes text ≡ content_text plain.now) }
 {
-    let mut out = String::from_str(alloc, "monastr-dfa 1\nmode ")?;
+    let mut out = String::from_str(alloc, version_text(plain.version))?;
+    out.push_str("mode ")?;
     out.push_str(mode_line(plain.mode))?;
     append_section(&mut out, "variables ", plain.variables.slice())?;
     out.push_str("start ")?;

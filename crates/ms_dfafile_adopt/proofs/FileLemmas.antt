@@ -1,7 +1,6 @@
 -- What shows that an automaton of a file is open shows it of the file.
-use Rattle.std.proofs.Common.{◌≡◌, ℕ, map, Err, Option, Some, None, refl, sym, ap, subst, ◌∙◌}
+use Rattle.std.proofs.Common.{◌≡◌, ℕ, map, Err, refl, sym, ap, subst, ◌∙◌}
 use Rattle.std.specs.Option.{option_map}
-use Rattle.std.proofs.lemmas.Option.{none-some, same_Some}
 use Rattle.ms_list.specs.declared.fault.StepFault.{StepFault}
 use Rattle.ms_list.specs.declared.fault.StepFault.TheVariants.{Nodes, Memory}
 use Rattle.ms_list.specs.declared.word.Word.{Word}
@@ -15,34 +14,17 @@ use Rattle.ms_logic.specs.Lists.{AreRising}
 use Rattle.ms_logic_words.specs.Word.{IsEncoding}
 use Rattle.ms_logic_words.proofs.WordLaws.{zero_letter_keeps}
 use Rattle.ms_dfa.specs.declared.plain.FileSign.{FileSign}
-use Rattle.ms_dfa.specs.declared.plain.FileSign.TheVariants.{Plus, Minus, Zero}
 use Rattle.ms_dfa.specs.declared.plain.Plain.{Plain}
 use Rattle.ms_dfa.specs.Files.{content_of_file}
+use Rattle.ms_dfafile.specs.File.{IsFile}
 use Rattle.ms_dfafile_adopt.specs.Import.{Fits, IsFirstOpen, IsNotImportable, ShowsOpen}
 use Rattle.ms_dfafile_adopt.specs.inner.Open.{IsFirstChange, IsInMode, ShowsChange, ShowsNoChange}
-use Rattle.ms_dfafile_adopt.specs.inner.OverSets.{HasSignsOf, own_sign, refusal_of}
+use Rattle.ms_dfafile_adopt.specs.inner.OverSets.{AgreesWithFile, own_sign, refusal_of}
 use Rattle.ms_dfafile_adopt.proofs.ModeLemmas.{encoding_in}
+use Rattle.ms_dfafile_adopt.proofs.SignLemmas.{one_in_file}
 use Rattle.ms_dfafile_adopt.proofs.VariableLemmas.{rising-by_place}
 
--- signs of a file that become one are one
-one_file_sign : (one other : FileSign) → own_sign one ≡ own_sign other → one ≡ other
-one_file_sign Plus Plus same = refl
-one_file_sign Plus Minus same = let never : ⊥ = cc in absurd never
-one_file_sign Plus Zero same = let never : ⊥ = cc in absurd never
-one_file_sign Minus Plus same = let never : ⊥ = cc in absurd never
-one_file_sign Minus Minus same = refl
-one_file_sign Minus Zero same = let never : ⊥ = cc in absurd never
-one_file_sign Zero Plus same = let never : ⊥ = cc in absurd never
-one_file_sign Zero Minus same = let never : ⊥ = cc in absurd never
-one_file_sign Zero Zero same = refl
-
-one_of_both : (one other : Option FileSign) → option_map own_sign one ≡ option_map own_sign other → one ≡ other
-one_of_both None None same = refl
-one_of_both None (Some sign) same = absurd (none-some (own_sign sign) same)
-one_of_both (Some sign) None same = absurd (none-some (own_sign sign) (sym same))
-one_of_both (Some one) (Some other) same = ap Some (one_file_sign one other (same_Some (own_sign one) (own_sign other) same))
-
-module _ (plain : Plain) (own : Content Sign) (signs_are : HasSignsOf plain M2lStr own) (numbers : plain.mode ≡ Ws1s) where
+module _ (plain : Plain) (rules : IsFile plain) (own : Content Sign) (signs_are : AgreesWithFile plain M2lStr own) (numbers : plain.mode ≡ Ws1s) where
   abbrev file : Content FileSign
   file = content_of_file plain
 
@@ -75,9 +57,10 @@ module _ (plain : Plain) (own : Content Sign) (signs_are : HasSignsOf plain M2lS
   pub change-open : (word : Word) → ShowsOpen file word → ShowsChange own word
   change-open word shows =
       let encoding = encoding_in plain.mode M2lStr file.variables word rising (shows.0, shows.1, shows.2) in
-      let are = own_signs word encoding in (
+      let are = own_signs word encoding in
+      let more = encoding_in M2lStr plain.mode file.variables (with_zero_letter file.variables word) rising (more_encodes word encoding) in (
         subst (λ vs. IsEncoding M2lStr vs word) (sym signs_are.variables_are) encoding,
-        λ same. shows.3 (one_of_both (sign_of file word) (sign_of file (with_zero_letter file.variables word)) (sym are.0 ∙ same ∙ are.1)),
+        λ same. shows.3 (one_in_file plain rules word (with_zero_letter file.variables word) (shows.0, shows.1, shows.2) more (sym are.0 ∙ same ∙ are.1)),
       )
 
   pub first_open : (word : Word) → IsFirstChange own word → IsFirstOpen file word
@@ -87,14 +70,14 @@ module _ (plain : Plain) (own : Content Sign) (signs_are : HasSignsOf plain M2lS
   never_open none is = none is.word (change-open is.word (is.e, is.assignment, is.encodes, is.changes))
 
 -- a settled automaton has the signs of the file in its mode
-pub settled_signs : (plain : Plain) (mode : Mode) (own made : Content Sign) → HasSignsOf plain M2lStr own → IsInMode mode own made → HasSignsOf plain mode made
+pub settled_signs : (plain : Plain) (mode : Mode) (own made : Content Sign) → AgreesWithFile plain M2lStr own → IsInMode mode own made → AgreesWithFile plain mode made
 settled_signs plain mode own made signs_are settled =
-    subst (HasSignsOf plain mode) (sym settled.same) (record { mode_is = refl; variables_are = signs_are.variables_are; signs = signs_are.signs })
+    subst (AgreesWithFile plain mode) (sym settled.same) (record { mode_is = refl; variables_are = signs_are.variables_are; signs = signs_are.signs })
 
 -- where an automaton of the file is settled in its mode, the file is not open
-pub settled_file : (plain : Plain) (mode : Mode) (own made : Content Sign) → plain.mode ≡ mode → HasSignsOf plain M2lStr own → IsInMode mode own made → ¬ IsOpen (content_of_file plain)
-settled_file plain mode own made mode_is signs_are settled is =
-    never_open plain own signs_are is.numbers (settled.none (sym mode_is ∙ is.numbers)) is
+pub settled_file : (plain : Plain) → IsFile plain → (mode : Mode) (own made : Content Sign) → plain.mode ≡ mode → AgreesWithFile plain M2lStr own → IsInMode mode own made → ¬ IsOpen (content_of_file plain)
+settled_file plain rules mode own made mode_is signs_are settled is =
+    never_open plain rules own signs_are is.numbers (settled.none (sym mode_is ∙ is.numbers)) is
 
 -- a step that was refused at the limit is why the file is not imported
 pub refused_by : (A : Type 0) (P : ℕ → Type 0) (plain : Plain) (used : ImportUse) (mode : Mode) (limit : ℕ) (fault : StepFault) → Fits plain used mode

@@ -12,5 +12,6 @@ pub mod OverSetsLemmas
 pub mod PairLemmas
 pub mod RunLemmas
 pub mod SetLemmas
+pub mod SignLemmas
 pub mod ValueLemmas
 pub mod VariableLemmas

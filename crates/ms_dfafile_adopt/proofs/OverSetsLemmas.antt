@@ -26,7 +26,7 @@ use Rattle.ms_logic_words.specs.Content.{StateOf, Content, HasValueAt, IsClosed,
 use Rattle.ms_logic.specs.Lists.{AreRising}
 use Rattle.ms_dfa.specs.Automaton.{IsAutomaton, TellsEncodings}
 use Rattle.ms_dfa.specs.declared.plain.FileSign.{FileSign}
-use Rattle.ms_dfa.specs.declared.plain.FileSign.TheVariants.{Plus, Minus, Zero}
+use Rattle.ms_dfa.specs.declared.plain.FileSign.TheVariants as signs
 use Rattle.ms_dfa.specs.declared.plain.FileState.{FileState}
 use Rattle.ms_dfa.specs.declared.plain.Plain.{Plain}
 use Rattle.ms_dfa.proofs.FunctionLemmas.{TestsOnly-by_function}
@@ -98,9 +98,10 @@ module _ (before new old : List Node) (ordered : IsOrdered old) (extends : Exten
       (slice_get-pushed images made i image at)
 
 sign_inside : (sign : FileSign) → own_sign sign ≢ Outside
-sign_inside Plus same = cc
-sign_inside Minus same = cc
-sign_inside Zero same = cc
+sign_inside signs.Plus same = cc
+sign_inside signs.Minus same = cc
+sign_inside signs.Zero same = cc
+sign_inside signs.Outside same = cc
 
 -- a reference to a part of the file is one to what has become of its nodes
 pub named_before : (plain : Plain) (images : List Ref) → length images ≡ length plain.nodes → (reference : Ref) → NamesPart (content_of_file plain) reference → IsBefore (length images) reference

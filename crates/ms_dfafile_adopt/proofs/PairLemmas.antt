@@ -11,9 +11,11 @@ use Rattle.ms_logic.specs.declared.mode.Mode.TheVariants.{M2lStr}
 use Rattle.ms_logic.specs.declared.mode.Order.{Order}
 use Rattle.ms_logic.specs.declared.mode.Order.TheVariants.{Zero, One, Two}
 use Rattle.ms_logic_words.specs.declared.sign.Sign.{Sign}
+use Rattle.ms_logic_words.specs.declared.sign.Sign.TheVariants.{Undefined}
 use Rattle.ms_logic.specs.Assignment.{Universe, Env, Variable, IsAssignment, IsValueOf, value_at, AreValuesOf}
 use Rattle.ms_logic_words.specs.Content.{Content, answer_by, env_of, shortest_word, sign_of, variables_by_place}
 use Rattle.ms_logic.specs.Lists.{AreRising, IsAmong}
+use Rattle.ms_logic.specs.Truth.{answer_undefined}
 use Rattle.ms_logic.proofs.Agreement.{universe-assign_all}
 use Rattle.ms_logic_words.proofs.WordLaws.{length_is_least}
 use Rattle.ms_dfa.specs.Automaton.{IsAutomaton}
@@ -37,7 +39,7 @@ use Rattle.ms_rename.specs.Renamed.{read_by, renamed, renamed_meaning}
 use Rattle.ms_rename.proofs.RenamedLemmas.{renamed-at, renamed-of}
 use Rattle.ms_dfafile_adopt.specs.Import.{adopted_meaning, answer_for_file, answer_of_file, value_named}
 use Rattle.ms_dfafile_adopt.specs.inner.Map.{IsNaming, pair_names}
-use Rattle.ms_dfafile_adopt.specs.inner.OverSets.{HasSignsOf, own_sign, own_variables}
+use Rattle.ms_dfafile_adopt.specs.inner.OverSets.{AgreesWithFile, own_sign, own_variables}
 use Rattle.ms_dfafile_adopt.proofs.AgreeLemmas.{Agrees, shortest-agreeing}
 use Rattle.ms_dfafile_adopt.proofs.MapLemmas.{is_item, one_place_of, was_item}
 use Rattle.ms_dfafile_adopt.proofs.ModeLemmas.{encoding_in}
@@ -55,16 +57,22 @@ are_values universe (v ∷ vs) (value ∷ values) long each = (
   are_values universe vs values (omega (arith, long)) (λ place w x held there. each (suc place) w x held there),
 )
 
+-- what is undefined is neither yes nor no
+neither_answer : (plain : Plain) (names : List (List ℕ)) (variables : List Variable) (e : Env)
+    → answer_of_file plain names e.universe (map (λ v. value_at v.order v.name e) variables) ≡ answer_undefined → adopted_meaning plain names variables e Undefined
+neither_answer plain names variables e is =
+    ((λ yes. let never : ⊥ = (let same = sym yes ∙ is in cc) in never), (λ no. let never : ⊥ = (let same = sym no ∙ is in cc) in never))
+
 -- the sign for a sign of the file is right where the file says what that says
 right_sign : (plain : Plain) (names : List (List ℕ)) (variables : List Variable) (e : Env) (sign : FileSign)
     → answer_of_file plain names e.universe (map (λ v. value_at v.order v.name e) variables) ≡ answer_for_file sign → adopted_meaning plain names variables e (own_sign sign)
 right_sign plain names variables e signs.Plus is = is
 right_sign plain names variables e signs.Minus is = is
-right_sign plain names variables e signs.Zero is =
-    ((λ yes. let never : ⊥ = (let same = sym yes ∙ is in cc) in never), (λ no. let never : ⊥ = (let same = sym no ∙ is in cc) in never))
+right_sign plain names variables e signs.Zero is = neither_answer plain names variables e is
+right_sign plain names variables e signs.Outside is = neither_answer plain names variables e is
 
 module _ (plain : Plain) (rules : IsFile plain) (pairs : List MapPair) (different : AllPairs (λ one other. one ≢ other) (pair_names pairs)) (places : List ℕ) (naming : IsNaming plain pairs places)
-    (mode : Mode) (own : Content Sign) (own_is : IsAutomaton own) (signs_are : HasSignsOf plain mode own) where
+    (mode : Mode) (own : Content Sign) (own_is : IsAutomaton own) (signs_are : AgreesWithFile plain mode own) where
   -- the variables of the file, and those of the import
   abbrev vs : List Variable
   vs = own_variables plain

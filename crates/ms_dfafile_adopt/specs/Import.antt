@@ -16,17 +16,18 @@ use Rattle.ms_logic_words.specs.Content.{Content, IsOpen, answer_of, sign_of, wi
 use Rattle.ms_logic.specs.Truth.{Answer, answer_yes, answer_no, answer_undefined}
 use Rattle.ms_logic_words.specs.Word.{Encodes}
 use Rattle.ms_dfa.specs.declared.plain.FileSign.{FileSign}
-use Rattle.ms_dfa.specs.declared.plain.FileSign.TheVariants.{Plus, Minus, Zero}
+use Rattle.ms_dfa.specs.declared.plain.FileSign.TheVariants as signs
 use Rattle.ms_dfa.specs.declared.plain.Plain.{Plain}
 use Rattle.ms_dfa.specs.Values.{Meaning, meaning_by}
 use Rattle.ms_dfa.specs.Files.{content_of_file}
 use Rattle.ms_best.specs.FirstWord.{IsWordBefore}
 
--- what a sign in a file says
+-- what a sign in a file says; no word that encodes an assignment has the sign x, so it says nothing of one
 abbrev pub answer_for_file : FileSign → Answer
-answer_for_file Plus = answer_yes
-answer_for_file Minus = answer_no
-answer_for_file Zero = answer_undefined
+answer_for_file signs.Plus = answer_yes
+answer_for_file signs.Minus = answer_no
+answer_for_file signs.Zero = answer_undefined
+answer_for_file signs.Outside = answer_undefined
 
 -- the value that stands under the name, where names and values stand side by side; false for a name that is not there
 abbrev pub value_named : List (List ℕ) → List Value → List ℕ → Value

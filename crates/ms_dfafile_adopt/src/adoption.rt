@@ -5,7 +5,7 @@ ghost use Rattle.ms_dfa.specs.Values.{HasValues};
 ghost use Rattle.ms_dfa.specs.Files.{content_of_file};
 ghost use Rattle.ms_dfafile_adopt.specs.Import.{Fits, IsImportable, IsNotImportable, adopted_meaning};
 ghost use Rattle.ms_dfafile_adopt.specs.inner.Map.{IsNaming};
-ghost use Rattle.ms_dfafile_adopt.specs.inner.OverSets.{HasSignsOf, refusal_of};
+ghost use Rattle.ms_dfafile_adopt.specs.inner.OverSets.{AgreesWithFile, refusal_of};
 
 use crate::in_mode::{NotInMode, in_mode};
 use crate::naming::naming;
@@ -64,7 +64,7 @@ fn own_in_mode(
     requires fits { Fits plain.now used.now mode }
     requires some { 1 ≤ limit }
     requires small { limit ≤ 4000000000 }
-    ensures signs { IfOk result (HasSignsOf plain.now mode) }
+    ensures signs { IfOk result (AgreesWithFile plain.now mode) }
     ensures settled { IfOk result (λ made. ¬ IsOpen (content_of_file plain.now)) }
     ensures within { IfOk result (λ made. length made.nodes + length made.states ≤ limit) }
     ensures refused { IfErr result (IsNotImportable plain.now used.now mode limit) }

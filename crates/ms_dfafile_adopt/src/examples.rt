@@ -1,16 +1,21 @@
 ghost use Rattle.std.specs.Prelude.{◌≡◌, [], ◌∷◌, codes, None};
-ghost use Rattle.ms_logic.specs.declared.assignment.Value.TheVariants.{Set};
+ghost use Rattle.ms_logic.specs.declared.assignment.Value.TheVariants.{Number, Set};
 ghost use Rattle.ms_logic_words.specs.Content.{IsOpen};
-ghost use Rattle.ms_logic.specs.Truth.{answer_no, answer_yes};
+ghost use Rattle.ms_logic.specs.Truth.{answer_no, answer_undefined, answer_yes};
+ghost use Rattle.ms_dfa.specs.declared.plain.FileSign.TheVariants as signs;
 ghost use Rattle.ms_dfa.specs.Files.{content_of_file};
-ghost use Rattle.ms_dfafile_adopt.specs.inner.Examples.{empty_word, number_pair, open_file, set_pair, subset};
-ghost use Rattle.ms_dfafile_adopt.specs.Import.{HasVariables, IsFirstOpen, answer_of_file};
+ghost use Rattle.ms_dfafile_adopt.specs.inner.Examples.{empty_word, number_pair, open_file, set_pair, subset, zero_file};
+ghost use Rattle.ms_dfafile_adopt.specs.Import.{HasVariables, IsFirstOpen, answer_for_file, answer_of_file};
 
-/// What a file says at values: P = {0} and Q = {0, 1}, and with the names turned round.
+/// What a file says at values: P = {0} and Q = {0, 1}, and with the names turned round; and what one of version 2 says of a
+/// number, and by its sign `x`.
 #[tactic(auto, unfolding(ms_arena::specs::Diagram::leaf_of))]
 pub fn worked_answers()
     ensures in_order { answer_of_file subset (codes "P" ∷ codes "Q" ∷ []) None (Set (0 ∷ []) ∷ Set (0 ∷ 1 ∷ []) ∷ []) ≡ answer_yes }
     ensures turned_round { answer_of_file subset (codes "Q" ∷ codes "P" ∷ []) None (Set (0 ∷ []) ∷ Set (0 ∷ 1 ∷ []) ∷ []) ≡ answer_no }
+    ensures at_zero { answer_of_file zero_file (codes "x" ∷ []) None (Number 0 ∷ []) ≡ answer_yes }
+    ensures at_one { answer_of_file zero_file (codes "x" ∷ []) None (Number 1 ∷ []) ≡ answer_no }
+    ensures outside { answer_for_file signs.Outside ≡ answer_undefined }
 {}
 
 /// Pairs that name the variables of a file, and pairs that do not; and a file that zeros at the end change.

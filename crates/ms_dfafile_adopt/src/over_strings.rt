@@ -7,7 +7,7 @@ ghost use Rattle.ms_logic_words.specs.declared.sign.Sign.TheVariants.{Outside};
 ghost use Rattle.ms_logic_words.specs.Content.{sign_of};
 ghost use Rattle.ms_logic.specs.Lists.{AreRising};
 ghost use Rattle.ms_dfafile_adopt.specs.inner.OverNumbers.{IsOverNumbers};
-ghost use Rattle.ms_dfafile_adopt.specs.inner.OverSets.{HasSignsOf, IsAtLimit, read_over};
+ghost use Rattle.ms_dfafile_adopt.specs.inner.OverSets.{AgreesWithFile, IsAtLimit, read_over};
 ghost use Rattle.ms_dfafile_adopt.specs.inner.Sets.{as_sets};
 
 use crate::numbers::numbers;
@@ -51,7 +51,7 @@ pub(crate) fn over_strings(alloc: Global, plain: &Plain, limit: u64) -> Result<A
     requires file { IsFile plain.now }
     requires some { 1 ≤ limit }
     requires small { limit ≤ 4000000000 }
-    ensures signs { IfOk result (HasSignsOf plain.now M2lStr) }
+    ensures signs { IfOk result (AgreesWithFile plain.now M2lStr) }
     ensures within { IfOk result (λ made. length made.nodes + length made.states ≤ limit) }
     ensures limit { IfErr result (IsAtLimit limit) }
 {

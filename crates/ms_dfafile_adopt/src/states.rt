@@ -22,7 +22,8 @@ pub(crate) fn image(images: &[Ref], reference: Ref) -> Ref
     }
 }
 
-/// The sign of an automaton for a sign of a file.
+/// The sign of an automaton for a sign of a file. A word with the sign `x` encodes no assignment; the product with the
+/// numbers makes it Outside, whatever it has here.
 fn own_sign(sign: FileSign) -> Sign
     ensures { result ≡ own_sign sign }
 {
@@ -30,6 +31,7 @@ fn own_sign(sign: FileSign) -> Sign
         FileSign::Plus => Sign::Yes,
         FileSign::Minus => Sign::No,
         FileSign::Zero => Sign::Undefined,
+        FileSign::Outside => Sign::Undefined,
     }
 }
 

@@ -1,4 +1,5 @@
 pub mod Later
+pub mod Noted
 pub mod Takings
 pub mod Told
 pub mod Worked

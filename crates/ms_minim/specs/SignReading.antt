@@ -1,5 +1,4 @@
--- An automaton with its signs read in some way: each as it is, or as files tell them, which have one sign for Undefined and
--- Outside.
+-- An automaton with its signs read in some way: each as it is, or Undefined and Outside as one, as in files of version 1.
 use Rattle.std.specs.Prelude.{◌≤◌, length, map}
 use Rattle.ms_arena.specs.Diagram.{IsOrdered, IsReduced}
 use Rattle.ms_logic_words.specs.declared.sign.Sign.{Sign}
@@ -7,7 +6,7 @@ use Rattle.ms_logic_words.specs.declared.sign.Sign.TheVariants.{Yes, No, Undefin
 use Rattle.ms_logic_words.specs.Content.{StateOf, Content, IsClosed}
 use Rattle.ms_logic.specs.Lists.{AreRising}
 use Rattle.ms_minim.specs.declared.reading.SignReading.{SignReading}
-use Rattle.ms_minim.specs.declared.reading.SignReading.TheVariants.{AsTheyAre, AsInFiles}
+use Rattle.ms_minim.specs.declared.reading.SignReading.TheVariants.{AsTheyAre, UndefinedAsOutside}
 
 abbrev pub without_undefined : Sign → Sign
 without_undefined Yes = Yes
@@ -17,7 +16,7 @@ without_undefined Outside = Outside
 
 abbrev pub read_sign : SignReading → Sign → Sign
 read_sign AsTheyAre sign = sign
-read_sign AsInFiles sign = without_undefined sign
+read_sign UndefinedAsOutside sign = without_undefined sign
 
 abbrev pub read_state : SignReading → StateOf Sign → StateOf Sign
 read_state reading state = record { sign = read_sign reading state.sign; next = state.next }

@@ -3,7 +3,7 @@ ghost use Rattle.std.specs.Prelude.{◌≡◌, [], ◌∷◌};
 ghost use Rattle.ms_arena.specs.declared.node.Ref.TheVariants.{Leaf, Inner};
 ghost use Rattle.ms_logic_words.specs.declared.sign.Sign.TheVariants.{No, Undefined, Outside};
 ghost use Rattle.ms_minim.specs.declared.origins.Origins.{Origins};
-ghost use Rattle.ms_minim.specs.declared.reading.SignReading.TheVariants.{AsInFiles, AsTheyAre};
+ghost use Rattle.ms_minim.specs.declared.reading.SignReading.TheVariants.{AsTheyAre, UndefinedAsOutside};
 ghost use Rattle.ms_minim.specs.SignReading.{read_sign};
 ghost use Rattle.ms_minim.specs.inner.Examples.{AreNoted, one_image, one_node, one_state, three_states, two_nodes, with_unreached};
 ghost use Rattle.ms_minim.specs.inner.Discrete.{AreOwnImages};
@@ -22,11 +22,11 @@ pub fn worked_fewest()
     ensures too_many { ¬ HasFewestStates with_unreached }
 {}
 
-/// Files do not tell Undefined and Outside apart.
+/// Undefined is read as it is, or as Outside.
 pub fn worked_readings()
     ensures own { read_sign AsTheyAre Undefined ≡ Undefined }
-    ensures undefined { read_sign AsInFiles Undefined ≡ Outside }
-    ensures no { read_sign AsInFiles No ≡ No }
+    ensures undefined { read_sign UndefinedAsOutside Undefined ≡ Outside }
+    ensures no { read_sign UndefinedAsOutside No ≡ No }
 {}
 
 /// The start leads to the first state alone, and letters lead from there to the first two. A node comes from where each of its

@@ -9,11 +9,11 @@ use ms_diagram::Store;
 use ms_logic_words::Sign;
 use std::marker::Model;
 
-/// How signs are read: each as it is, or as files tell them, which have one sign for Undefined and Outside.
+/// How signs are read: each as it is, or Undefined and Outside as one, as in files of version 1.
 #[derive(Clone, Copy, PartialEq, Eq)]
 pub enum SignReading {
     AsTheyAre,
-    AsInFiles,
+    UndefinedAsOutside,
 }
 
 fn without_undefined(sign: Sign) -> Sign
@@ -32,7 +32,7 @@ fn read_sign(reading: SignReading, sign: Sign) -> Sign
 {
     match reading {
         SignReading::AsTheyAre => sign,
-        SignReading::AsInFiles => without_undefined(sign),
+        SignReading::UndefinedAsOutside => without_undefined(sign),
     }
 }
 

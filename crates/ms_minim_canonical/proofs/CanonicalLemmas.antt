@@ -12,6 +12,7 @@ use Rattle.ms_arena.specs.Reach.{Reaches, TestsOnly}
 use Rattle.ms_arena.proofs.Lists.{slice_get-held}
 use Rattle.ms_dfa.specs.declared.plain.FileSign.{FileSign}
 use Rattle.ms_dfa.specs.declared.plain.FileState.{FileState}
+use Rattle.ms_dfa.specs.declared.plain.FileVersion.{FileVersion}
 use Rattle.ms_dfa.specs.declared.state.State.{State}
 use Rattle.ms_logic.specs.declared.mode.Mode.{Mode}
 use Rattle.ms_logic.specs.declared.mode.Order.{Order}
@@ -31,11 +32,11 @@ use Rattle.ms_minim_canonical.proofs.RenumberedLemmas.{below, apart, filed, imag
 use Rattle.ms_minim_canonical.proofs.ShapeLemmas.{AreAlike, AreAlikePlaces, AreComparable}
 use Rattle.ms_minim_canonical.proofs.WalkLemmas.{paired-leaves, paired-nodes}
 
-module _ (mode : Mode) (variables : List Variable) (nodes : List Node) (start : Ref) (states : List State) (ordered : IsOrdered nodes) (reduced : IsReduced nodes)
-    (closed : IsClosed (filed mode variables nodes start states)) (made_start : Ref) (made_states : List FileState) (made_nodes : List Node)
-    (renumbered : IsRenumbered nodes start states made_start made_states made_nodes) where
+module _ (version : FileVersion) (mode : Mode) (variables : List Variable) (nodes : List Node) (start : Ref) (states : List State) (ordered : IsOrdered nodes) (reduced : IsReduced nodes)
+    (closed : IsClosed (filed version mode variables nodes start states)) (made_start : Ref) (made_states : List FileState) (made_nodes : List Node)
+    (renumbered : IsRenumbered version nodes start states made_start made_states made_nodes) where
   abbrev old : Content FileSign
-  old = filed mode variables nodes start states
+  old = filed version mode variables nodes start states
 
   abbrev new : Content FileSign
   new = record { mode = mode; variables = variables; start = made_start; states = file_states_of made_states; nodes = made_nodes }
@@ -48,7 +49,7 @@ module _ (mode : Mode) (variables : List Variable) (nodes : List Node) (start : 
 
   are : AreComparable nodes made_nodes (IsAt order)
   are =
-      let images_are = images mode variables nodes start states ordered reduced closed made_start made_states made_nodes renumbered in
+      let images_are = images version mode variables nodes start states ordered reduced closed made_start made_states made_nodes renumbered in
       record {
         ordered = ordered;
         reduced = reduced;
@@ -58,13 +59,13 @@ module _ (mode : Mode) (variables : List Variable) (nodes : List Node) (start : 
       }
 
   alike : (root made : Ref) → AreSame order places root made → AreAlike nodes made_nodes (IsAt order) root made
-  alike root made same bits = leaf-image nodes made_nodes order places (images mode variables nodes start states ordered reduced closed made_start made_states made_nodes renumbered) bits root made same
+  alike root made same bits = leaf-image nodes made_nodes order places (images version mode variables nodes start states ordered reduced closed made_start made_states made_nodes renumbered) bits root made same
 
   start_same : AreSame order places start made_start
-  start_same = same_start mode variables nodes start states ordered reduced closed made_start made_states made_nodes renumbered
+  start_same = same_start version mode variables nodes start states ordered reduced closed made_start made_states made_nodes renumbered
 
   valid_new : (root made : Ref) → AreSame order places root made → IsValid made_nodes made
-  valid_new = valid-image nodes made_nodes order places (images mode variables nodes start states ordered reduced closed made_start made_states made_nodes renumbered)
+  valid_new = valid-image nodes made_nodes order places (images version mode variables nodes start states ordered reduced closed made_start made_states made_nodes renumbered)
 
   -- the state at a place, and that of which it is the image
   record IsImageOf (n : ℕ) (found : StateOf FileSign) : Type 0 where
@@ -74,13 +75,13 @@ module _ (mode : Mode) (variables : List Variable) (nodes : List Node) (start : 
 
   image_of : (at n : ℕ) (found : StateOf FileSign) → slice_get order at ≡ Some n → slice_get new.states at ≡ Some found → IsImageOf n found
   image_of at n found there there_too =
-      let image = image_at mode variables nodes start states ordered reduced closed made_start made_states made_nodes renumbered at n there in
+      let image = image_at version mode variables nodes start states ordered reduced closed made_start made_states made_nodes renumbered at n there in
       let made : StateOf FileSign = record { sign = image.made.sign; next = image.made.next } in
-      let is : made ≡ found = same_Some made found (sym (new_at mode variables nodes start states ordered reduced closed made_start made_states made_nodes renumbered at n image) ∙ there_too) in
+      let is : made ≡ found = same_Some made found (sym (new_at version mode variables nodes start states ordered reduced closed made_start made_states made_nodes renumbered at n image) ∙ there_too) in
       record { state = image.state; held = image.held; same = subst (λ (s : StateOf FileSign). AreSame order places image.state.next s.next) is image.same }
 
   many : length order ≡ length new.states
-  many = sym (long_order mode variables nodes start states ordered reduced closed made_start made_states made_nodes renumbered)
+  many = sym (long_order version mode variables nodes start states ordered reduced closed made_start made_states made_nodes renumbered)
 
   -- both walks go over related leaves, and over alike nodes
   abbrev leaves_at : ℕ → List ℕ
@@ -93,13 +94,13 @@ module _ (mode : Mode) (variables : List Variable) (nodes : List Node) (start : 
   paired_leaves =
       paired-append (IsAt order) (leaves_from nodes start) (leaves_within made_nodes (length made_nodes) made_start) (flat_map leaves_at order) (flat_map new_leaves new.states)
       (paired-leaves nodes made_nodes (IsAt order) are (length nodes) (length made_nodes) start made_start
-      (leads_start mode variables nodes start states ordered reduced closed).valid (omega arith) (valid_new start made_start start_same) (omega arith) (alike start made_start start_same))
+      (leads_start version mode variables nodes start states ordered reduced closed).valid (omega arith) (valid_new start made_start start_same) (omega arith) (alike start made_start start_same))
       (paired-flat_map (λ n found. ArePaired (IsAt order) (leaves_at n) (new_leaves found)) (IsAt order) leaves_at new_leaves (λ n found paired. paired) order new.states
       (paired-all (λ n found. ArePaired (IsAt order) (leaves_at n) (new_leaves found)) order new.states many (λ at n found there there_too.
       let is = image_of at n found there there_too in
       subst (λ list. ArePaired (IsAt order) list (new_leaves found)) (ap (from_state (leaves_from nodes)) (sym is.held))
       (paired-leaves nodes made_nodes (IsAt order) are (length nodes) (length made_nodes) is.state.next found.next
-      (leads_next mode variables nodes start states ordered reduced closed n is.state is.held).valid (omega arith) (valid_new is.state.next found.next is.same) (omega arith)
+      (leads_next version mode variables nodes start states ordered reduced closed n is.state is.held).valid (omega arith) (valid_new is.state.next found.next is.same) (omega arith)
       (alike is.state.next found.next is.same)))))
 
   abbrev Places : ℕ → ℕ → Type 0
@@ -115,13 +116,13 @@ module _ (mode : Mode) (variables : List Variable) (nodes : List Node) (start : 
   paired_nodes =
       paired-append Places (nodes_from nodes start) (nodes_within (length made_nodes) made_nodes made_start) (flat_map nodes_at order) (flat_map new_nodes new.states)
       (paired-nodes nodes made_nodes (IsAt order) are (length nodes) (length made_nodes) start made_start
-      (leads_start mode variables nodes start states ordered reduced closed).valid (omega arith) (valid_new start made_start start_same) (omega arith) (alike start made_start start_same))
+      (leads_start version mode variables nodes start states ordered reduced closed).valid (omega arith) (valid_new start made_start start_same) (omega arith) (alike start made_start start_same))
       (paired-flat_map (λ n found. ArePaired Places (nodes_at n) (new_nodes found)) Places nodes_at new_nodes (λ n found paired. paired) order new.states
       (paired-all (λ n found. ArePaired Places (nodes_at n) (new_nodes found)) order new.states many (λ at n found there there_too.
       let is = image_of at n found there there_too in
       subst (λ list. ArePaired Places list (new_nodes found)) (ap (from_state (nodes_from nodes)) (sym is.held))
       (paired-nodes nodes made_nodes (IsAt order) are (length nodes) (length made_nodes) is.state.next found.next
-      (leads_next mode variables nodes start states ordered reduced closed n is.state is.held).valid (omega arith) (valid_new is.state.next found.next is.same) (omega arith)
+      (leads_next version mode variables nodes start states ordered reduced closed n is.state is.held).valid (omega arith) (valid_new is.state.next found.next is.same) (omega arith)
       (alike is.state.next found.next is.same)))))
 
   -- so states and nodes are numbered by first sight
@@ -130,12 +131,12 @@ module _ (mode : Mode) (variables : List Variable) (nodes : List Node) (start : 
       let paired = subst (λ list. ArePaired (IsAt order) list (first_sights_of (seen_leaves new))) (sym (noted-first_sights (walk_over (leaves_from nodes) start states order)) ∙ sym renumbered.order_is)
       (paired-unseen (IsAt order) are.matching [] [] (walk_over (leaves_from nodes) start states order) (seen_leaves new) tt paired_leaves) in
       own_numbers (IsAt order) order (first_sights_of (seen_leaves new)) paired
-      (λ at n k there is. apart mode variables nodes start states ordered reduced closed made_start made_states made_nodes renumbered k at n is there)
+      (λ at n k there is. apart version mode variables nodes start states ordered reduced closed made_start made_states made_nodes renumbered k at n is there)
       ∙ ap numbers_below many
 
   nodes-numbered : first_sights_of (seen_nodes new) ≡ numbers_below (length new.nodes)
   nodes-numbered =
-      let images_are = images mode variables nodes start states ordered reduced closed made_start made_states made_nodes renumbered in
+      let images_are = images version mode variables nodes start states ordered reduced closed made_start made_states made_nodes renumbered in
       let long = images_are.long in
       let paired = subst (λ list. ArePaired Places list (first_sights_of (seen_nodes new))) (sym (noted-first_sights (walk_over (nodes_from nodes) start states order)) ∙ sym renumbered.places_is)
       (paired-unseen Places (IsMatching-places nodes made_nodes (IsAt order) are) [] [] (walk_over (nodes_from nodes) start states order) (seen_nodes new) tt paired_nodes) in
@@ -162,9 +163,9 @@ module _ (mode : Mode) (variables : List Variable) (nodes : List Node) (start : 
       (all-noted IsVariable [] (walk_over (nodes_from nodes) start states order) (all-none IsVariable)
       (all-append IsVariable (nodes_from nodes start) (flat_map nodes_at order) (variables_from is_truth_value start closed.start.tests)
       (all-flat_map IsVariable nodes_at order (λ at n there.
-      let image = image_at mode variables nodes start states ordered reduced closed made_start made_states made_nodes renumbered at n there in
+      let image = image_at version mode variables nodes start states ordered reduced closed made_start made_states made_nodes renumbered at n there in
       subst (AllOf IsVariable) (ap (from_state (nodes_from nodes)) (sym image.held))
-      (variables_from is_in_letters image.state.next (old_followed mode variables nodes start states ordered reduced closed n image.state image.held).tests)))))
+      (variables_from is_in_letters image.state.next (old_followed version mode variables nodes start states ordered reduced closed n image.state image.held).tests)))))
 
   state_there : (at : ℕ) (found : StateOf FileSign) → slice_get new.states at ≡ Some found → (n : ℕ) × IsAt order n at × IsImageOf n found
   state_there at found there =
@@ -174,8 +175,8 @@ module _ (mode : Mode) (variables : List Variable) (nodes : List Node) (start : 
 
   is_content : IsContent new
   is_content =
-      let images_are = images mode variables nodes start states ordered reduced closed made_start made_states made_nodes renumbered in
-      let names = names-same mode variables nodes start states ordered reduced closed made_start made_states made_nodes renumbered in
+      let images_are = images version mode variables nodes start states ordered reduced closed made_start made_states made_nodes renumbered in
+      let names = names-same version mode variables nodes start states ordered reduced closed made_start made_states made_nodes renumbered in
       record {
         some_state =
             let none : Bits = λ var. false in
@@ -195,7 +196,7 @@ module _ (mode : Mode) (variables : List Variable) (nodes : List Node) (start : 
         next_tests = λ at found there.
             let is = state_there at found there in
             tests-image nodes made_nodes order places images_are (HasValueAt variables is_in_letters) is.2.state.next found.next is.2.same
-            (old_followed mode variables nodes start states ordered reduced closed is.0 is.2.state is.2.held).tests;
+            (old_followed version mode variables nodes start states ordered reduced closed is.0 is.2.state is.2.held).tests;
       }
 
   pub canonical-renumbered : ((n : ℕ) → n < length states → (word : Word) × IsWordOver variables word × (last_state old word ≡ n))
@@ -204,22 +205,22 @@ module _ (mode : Mode) (variables : List Variable) (nodes : List Node) (start : 
     rules = is_content;
     states_reached = λ at less.
         let n = slice_get-held order at (omega (arith, less, many)) in
-        let word = reached n.0 (below mode variables nodes start states ordered reduced closed made_start made_states made_nodes renumbered at n.0 n.1) in
-        let last = run_last mode variables nodes start states ordered reduced closed made_start made_states made_nodes renumbered word.0 in (
+        let word = reached n.0 (below version mode variables nodes start states ordered reduced closed made_start made_states made_nodes renumbered at n.0 n.1) in
+        let last = run_last version mode variables nodes start states ordered reduced closed made_start made_states made_nodes renumbered word.0 in (
           word.0,
           word.1,
-          apart mode variables nodes start states ordered reduced closed made_start made_states made_nodes renumbered (last_state new word.0) at n.0
+          apart version mode variables nodes start states ordered reduced closed made_start made_states made_nodes renumbered (last_state new word.0) at n.0
               (subst (λ m. IsAt order m (last_state new word.0)) word.2 last) n.1,
         );
     states_differ = λ one two less_one less_two same.
         let n = slice_get-held order one (omega (arith, less_one, many)) in
         let m = slice_get-held order two (omega (arith, less_two, many)) in
-        let within = below mode variables nodes start states ordered reduced closed made_start made_states made_nodes renumbered in
-        let after = run_after mode variables nodes start states ordered reduced closed made_start made_states made_nodes renumbered in
-        let sign = same_sign mode variables nodes start states ordered reduced closed made_start made_states made_nodes renumbered in
+        let within = below version mode variables nodes start states ordered reduced closed made_start made_states made_nodes renumbered in
+        let after = run_after version mode variables nodes start states ordered reduced closed made_start made_states made_nodes renumbered in
+        let sign = same_sign version mode variables nodes start states ordered reduced closed made_start made_states made_nodes renumbered in
         let equal = differ n.0 m.0 (within one n.0 n.1) (within two m.0 m.1) (λ letters areletters.
         sym (sign _ _ (after one n.0 letters n.1)) ∙ same letters areletters ∙ sign _ _ (after two m.0 letters m.1)) in
-        apart mode variables nodes start states ordered reduced closed made_start made_states made_nodes renumbered one two n.0 n.1 (m.1 ∙ ap Some (sym equal));
+        apart version mode variables nodes start states ordered reduced closed made_start made_states made_nodes renumbered one two n.0 n.1 (m.1 ∙ ap Some (sym equal));
     reduced = are.reduced_too;
     nodes_reached = reached-numbered new nodes-numbered;
     states_numbered = states-numbered;

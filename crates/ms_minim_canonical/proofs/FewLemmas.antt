@@ -1,5 +1,5 @@
 -- Orders by first sight are no longer than the lists whose places they name.
-use Rattle.std.proofs.Common.{◌≡◌, ℕ, ◌<◌, ◌≤◌, List, [], eqb, length, get_or, slice_get, fold, Some, sym, ap, subst, ◌∙◌, arith}
+use Rattle.std.proofs.Common.{◌≡◌, ℕ, ◌<◌, ◌≤◌, List, [], eqb, length, get_or, slice_get, Some, sym, ap, subst, ◌∙◌, arith}
 use Rattle.std.specs.List.{IsDistinct}
 use Rattle.std.proofs.lemmas.Bool.{ne_eqb}
 use Rattle.std.proofs.lemmas.Map.Keys.{IsDistinct-from_apart}
@@ -8,9 +8,9 @@ use Rattle.std.proofs.lemmas.Option.{slice_get-get_or, slice_get_within}
 use Rattle.ms_arena.specs.declared.node.Node.{Node}
 use Rattle.ms_arena.specs.declared.node.Ref.{Ref}
 use Rattle.ms_arena.proofs.Lists.{slice_get-held}
-use Rattle.ms_diagram.specs.Leaves.{noted}
 use Rattle.ms_diagram.specs.Numbering.{HasNoRepeats}
 use Rattle.ms_dfa.specs.declared.plain.FileState.{FileState}
+use Rattle.ms_dfa.specs.declared.plain.FileVersion.{FileVersion}
 use Rattle.ms_dfa.specs.declared.state.State.{State}
 use Rattle.ms_minim_canonical.specs.inner.Renumbering.{ArePaired, IsNodeOf, IsRenumbered, IsStateOf, leaves_from, nodes_from, walk_over}
 use Rattle.ms_minim_canonical.proofs.NotedLemmas.{any_place, no_repeats-none, no_repeats-noted}
@@ -40,9 +40,9 @@ few_paired R items order made once paired at =
     omega arith
 
 -- what is renumbered has no more states and no more nodes than before
-pub few : (nodes : List Node) (start : Ref) (states : List State) (made_start : Ref) (made_states : List FileState) (made_nodes : List Node)
-    → IsRenumbered nodes start states made_start made_states made_nodes → (length made_states ≤ length states) × (length made_nodes ≤ length nodes)
-few nodes start states made_start made_states made_nodes made = (
-  few_paired (IsStateOf states made.order made.places) states made.order made_states (subst HasNoRepeats (sym made.order_is) (no_repeats-noted [] (walk_over (leaves_from nodes) start states made.order) no_repeats-none)) made.states_are (λ number y is. (is.0, is.1)),
+pub few : (version : FileVersion) (nodes : List Node) (start : Ref) (states : List State) (made_start : Ref) (made_states : List FileState) (made_nodes : List Node)
+    → IsRenumbered version nodes start states made_start made_states made_nodes → (length made_states ≤ length states) × (length made_nodes ≤ length nodes)
+few version nodes start states made_start made_states made_nodes made = (
+  few_paired (IsStateOf version states made.order made.places) states made.order made_states (subst HasNoRepeats (sym made.order_is) (no_repeats-noted [] (walk_over (leaves_from nodes) start states made.order) no_repeats-none)) made.states_are (λ number y is. (is.0, is.1)),
   few_paired (IsNodeOf nodes made.order made.places) nodes made.places made_nodes (subst HasNoRepeats (sym made.places_is) (no_repeats-noted [] (walk_over (nodes_from nodes) start states made.order) no_repeats-none)) made.nodes_are (λ number y is. (is.0, is.1)),
 )

@@ -13,6 +13,7 @@ pub mod NotedLemmas
 pub mod Paired
 pub mod PostorderLemmas
 pub mod ReachedLemmas
+pub mod ReadingLemmas
 pub mod RenumberedLemmas
 pub mod ShapeLemmas
 pub mod SightLemmas

@@ -11,6 +11,7 @@ use Rattle.ms_arena.specs.Diagram.{IsOrdered, IsReduced}
 use Rattle.ms_arena.proofs.Lists.{slice_get-held}
 use Rattle.ms_dfa.specs.declared.plain.FileSign.{FileSign}
 use Rattle.ms_dfa.specs.declared.plain.FileState.{FileState}
+use Rattle.ms_dfa.specs.declared.plain.FileVersion.{FileVersion}
 use Rattle.ms_dfa.specs.declared.state.State.{State}
 use Rattle.ms_logic.specs.declared.mode.Mode.{Mode}
 use Rattle.ms_logic.specs.Assignment.{Variable}
@@ -20,44 +21,64 @@ use Rattle.ms_minim_canonical.specs.inner.Renumbering.{IsNodeOf, IsRenamed, IsRe
 use Rattle.ms_minim_canonical.proofs.ImageLemmas.{AreImages, AreSame, IsAt, IsImage, leaf-image, same-renamed, seen-before}
 use Rattle.ms_minim_canonical.proofs.NotedLemmas.{AllOf}
 use Rattle.ms_minim_canonical.proofs.Paired.{paired-at, paired-length}
+use Rattle.ms_minim_canonical.proofs.PostorderLemmas.{IsPosted}
 use Rattle.ms_minim_canonical.proofs.WalkedLemmas.{next_seen, order-apart, places-apart, posts, start_seen}
 
--- a state with the sign of a file
-abbrev pub filed_state : State → StateOf FileSign
-filed_state state = record { sign = file_sign state.sign; next = state.next }
+-- a state with the sign of a file of a version
+abbrev pub filed_state : FileVersion → State → StateOf FileSign
+filed_state version state = record { sign = file_sign version state.sign; next = state.next }
 
-abbrev pub filed_states : List State → List (StateOf FileSign)
-filed_states states = map filed_state states
+abbrev pub filed_states : FileVersion → List State → List (StateOf FileSign)
+filed_states version states = map (filed_state version) states
 
--- an automaton with the signs of a file
-abbrev pub filed : Mode → List Variable → List Node → Ref → List State → Content FileSign
-filed mode variables nodes start states = record { mode = mode; variables = variables; start = start; states = filed_states states; nodes = nodes }
+-- an automaton with the signs of a file of a version
+abbrev pub filed : FileVersion → Mode → List Variable → List Node → Ref → List State → Content FileSign
+filed version mode variables nodes start states = record { mode = mode; variables = variables; start = start; states = filed_states version states; nodes = nodes }
 
 -- a state under its new number
-pub record IsStateImage (states : List State) (order places : List ℕ) (made_states : List FileState) (at n : ℕ) : Type 0 where
+pub record IsStateImage (version : FileVersion) (states : List State) (order places : List ℕ) (made_states : List FileState) (at n : ℕ) : Type 0 where
   pub state : State
   pub held : slice_get states n ≡ Some state
   pub made : FileState
   pub made_is : slice_get made_states at ≡ Some made
-  pub sign : made.sign ≡ file_sign state.sign
+  pub sign : made.sign ≡ file_sign version state.sign
   pub same : AreSame order places state.next made.next
 
-module _ (mode : Mode) (variables : List Variable) (nodes : List Node) (start : Ref) (states : List State) (ordered : IsOrdered nodes) (reduced : IsReduced nodes)
-    (closed : IsClosed (filed mode variables nodes start states)) where
+-- the node of a place whose ends were seen before it, under its new number
+image-posted : (nodes : List Node) (order places : List ℕ) (at place : ℕ) (made : Node) → IsAt places place at
+    → IsPosted nodes (λ n. (at : ℕ) × IsAt order n at) places at place → IsNodeOf nodes order places place made → IsImage nodes order places at made
+image-posted nodes order places at place made there posted is =
+    let own : posted.node ≡ is.0 = same_Some posted.node is.0 (sym posted.held ∙ is.1) in
+    record {
+      place = place;
+      place_is = there;
+      node = posted.node;
+      node_is = posted.held;
+      same = record {
+        var = is.2.var ∙ ap (λ (node : Node). node.var) (sym own);
+        low = same-renamed order places posted.node.low made.low (subst (λ (node : Node). IsRenamed order places node.low made.low) (sym own) is.2.low) (seen-before order places at posted.node.low posted.low);
+        high = same-renamed order places posted.node.high made.high (subst (λ (node : Node). IsRenamed order places node.high made.high) (sym own) is.2.high) (seen-before order places at posted.node.high posted.high);
+      };
+      low = posted.low;
+      high = posted.high;
+    }
+
+module _ (version : FileVersion) (mode : Mode) (variables : List Variable) (nodes : List Node) (start : Ref) (states : List State) (ordered : IsOrdered nodes) (reduced : IsReduced nodes)
+    (closed : IsClosed (filed version mode variables nodes start states)) where
   abbrev pub old : Content FileSign
-  old = filed mode variables nodes start states
+  old = filed version mode variables nodes start states
 
-  long_states : length (filed_states states) ≡ length states
-  long_states = length-map states filed_state
+  long_states : length (filed_states version states) ≡ length states
+  long_states = length-map states (filed_state version)
 
-  pub old_at : (n : ℕ) (state : State) → slice_get states n ≡ Some state → slice_get old.states n ≡ Some (filed_state state)
-  old_at n state held = slice_get-map filed_state states n ∙ ap (option_map filed_state) held
+  pub old_at : (n : ℕ) (state : State) → slice_get states n ≡ Some state → slice_get old.states n ≡ Some (filed_state version state)
+  old_at n state held = slice_get-map (filed_state version) states n ∙ ap (option_map (filed_state version)) held
 
   pub old_followed : (n : ℕ) (state : State) → slice_get states n ≡ Some state → IsFollowed old is_in_letters state.next
   old_followed n state held =
       let there = old_at n state held in
-      subst (λ (found : StateOf FileSign). IsFollowed old is_in_letters found.next) (get_or_from_slice_get old.states n (filed_state state) (filed_state state) there)
-      (closed.next n (filed_state state) (slice_get_within old.states n (filed_state state) there))
+      subst (λ (found : StateOf FileSign). IsFollowed old is_in_letters found.next) (get_or_from_slice_get old.states n (filed_state version state) (filed_state version state) there)
+      (closed.next n (filed_state version state) (slice_get_within old.states n (filed_state version state) there))
 
   pub leads_start : LeadsBelow nodes (length states) start
   leads_start = record { valid = closed.start.valid; below = λ bits. (let less = closed.start.states bits in omega (arith, less, long_states)) }
@@ -67,7 +88,7 @@ module _ (mode : Mode) (variables : List Variable) (nodes : List Node) (start : 
       let is = old_followed n state held in
       record { valid = is.valid; below = λ bits. (let less = is.states bits in omega (arith, less, long_states)) }
 
-  module _ (made_start : Ref) (made_states : List FileState) (made_nodes : List Node) (renumbered : IsRenumbered nodes start states made_start made_states made_nodes) where
+  module _ (made_start : Ref) (made_states : List FileState) (made_nodes : List Node) (renumbered : IsRenumbered version nodes start states made_start made_states made_nodes) where
     abbrev pub order : List ℕ
     order = renumbered.order
 
@@ -78,22 +99,22 @@ module _ (mode : Mode) (variables : List Variable) (nodes : List Node) (start : 
     new = record { mode = mode; variables = variables; start = made_start; states = file_states_of made_states; nodes = made_nodes }
 
     pub long_order : length new.states ≡ length order
-    long_order = length-map made_states (λ state. record { sign = state.sign; next = state.next }) ∙ sym (paired-length (IsStateOf states order places) order made_states renumbered.states_are)
+    long_order = length-map made_states (λ state. record { sign = state.sign; next = state.next }) ∙ sym (paired-length (IsStateOf version states order places) order made_states renumbered.states_are)
 
     pub apart : (one two n : ℕ) → IsAt order n one → IsAt order n two → one ≡ two
     apart one two n first second = order-apart nodes ordered start states leads_start leads_next order places renumbered.order_is one two n first second
 
-    state_of_order : (at n : ℕ) → IsAt order n at → (made : FileState) × (slice_get made_states at ≡ Some made) × IsStateOf states order places n made
+    state_of_order : (at n : ℕ) → IsAt order n at → (made : FileState) × (slice_get made_states at ≡ Some made) × IsStateOf version states order places n made
     state_of_order at n there =
-        let long = paired-length (IsStateOf states order places) order made_states renumbered.states_are in
+        let long = paired-length (IsStateOf version states order places) order made_states renumbered.states_are in
         let less = slice_get_within order at n there in
         let held = slice_get-held made_states at (omega (arith, less, long)) in
-        (held.0, held.1, paired-at (IsStateOf states order places) order made_states renumbered.states_are at n held.0 there held.1)
+        (held.0, held.1, paired-at (IsStateOf version states order places) order made_states renumbered.states_are at n held.0 there held.1)
 
     pub below : AllOf (λ n. n < length states) order
     below at n there = let is = state_of_order at n there in slice_get_within states n is.2.0 is.2.1
 
-    pub image_at : (at n : ℕ) → IsAt order n at → IsStateImage states order places made_states at n
+    pub image_at : (at n : ℕ) → IsAt order n at → IsStateImage version states order places made_states at n
     image_at at n there =
         let is = state_of_order at n there in
         record {
@@ -106,7 +127,7 @@ module _ (mode : Mode) (variables : List Variable) (nodes : List Node) (start : 
               (next_seen nodes ordered start states leads_start leads_next order places renumbered.order_is below renumbered.places_is at n is.2.0 there is.2.1);
         }
 
-    pub new_at : (at n : ℕ) (image : IsStateImage states order places made_states at n) → slice_get new.states at ≡ Some (record { sign = image.made.sign; next = image.made.next })
+    pub new_at : (at n : ℕ) (image : IsStateImage version states order places made_states at n) → slice_get new.states at ≡ Some (record { sign = image.made.sign; next = image.made.next })
     new_at at n image =
         slice_get-map (λ (state : FileState). record { sign = state.sign; next = state.next }) made_states at
         ∙ ap (option_map (λ (state : FileState). record { sign = state.sign; next = state.next })) image.made_is
@@ -120,22 +141,9 @@ module _ (mode : Mode) (variables : List Variable) (nodes : List Node) (start : 
         let long = paired-length (IsNodeOf nodes order places) places made_nodes renumbered.nodes_are in
         let less = slice_get_within made_nodes at made there in
         let place = slice_get-held places at (omega (arith, less, long)) in
-        let is = paired-at (IsNodeOf nodes order places) places made_nodes renumbered.nodes_are at place.0 made place.1 there in
-        let posted = posts nodes ordered start states leads_start leads_next order places renumbered.order_is below renumbered.places_is at place.0 place.1 in
-        let own : posted.node ≡ is.0 = same_Some posted.node is.0 (sym posted.held ∙ is.1) in
-        record {
-          place = place.0;
-          place_is = place.1;
-          node = posted.node;
-          node_is = posted.held;
-          same = record {
-            var = is.2.var ∙ ap (λ (node : Node). node.var) (sym own);
-            low = same-renamed order places posted.node.low made.low (subst (λ (node : Node). IsRenamed order places node.low made.low) (sym own) is.2.low) (seen-before order places at posted.node.low posted.low);
-            high = same-renamed order places posted.node.high made.high (subst (λ (node : Node). IsRenamed order places node.high made.high) (sym own) is.2.high) (seen-before order places at posted.node.high posted.high);
-          };
-          low = posted.low;
-          high = posted.high;
-        }
+        image-posted nodes order places at place.0 made place.1
+        (posts nodes ordered start states leads_start leads_next order places renumbered.order_is below renumbered.places_is at place.0 place.1)
+        (paired-at (IsNodeOf nodes order places) places made_nodes renumbered.nodes_are at place.0 made place.1 there)
 
     pub images : AreImages nodes made_nodes order places
     images = record {
@@ -155,7 +163,7 @@ module _ (mode : Mode) (variables : List Variable) (nodes : List Node) (start : 
     run_next at n letter there =
         let image = image_at at n there in
         subst (λ found. IsAt order (next_from old found letter) (next_state new at letter)) (sym (old_at n image.state image.held))
-        (subst (λ found. IsAt order (next_from old (Some (filed_state image.state)) letter) (next_from new found letter)) (sym (new_at at n image))
+        (subst (λ found. IsAt order (next_from old (Some (filed_state version image.state)) letter) (next_from new found letter)) (sym (new_at at n image))
         (leaf-image nodes made_nodes order places images (letter_bits variables letter) image.state.next image.made.next image.same))
 
     pub run_after : (at n : ℕ) (letters : List (List Bool)) → IsAt order n at → IsAt order (state_after old n letters) (state_after new at letters)

@@ -8,6 +8,6 @@ mod order;
 mod renumber;
 mod walk;
 
-pub use examples::{worked_canonical, worked_signs};
+pub use examples::worked_canonical;
 pub use files::canonical;
 pub use laws::{laws_of_canonical_contents, laws_of_canonical_files};

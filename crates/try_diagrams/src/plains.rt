@@ -1,7 +1,7 @@
 //! Contents of automaton files.
 use anyhow::Result;
 use ms_arena::{Node, Ref};
-use ms_dfa::{FileSign, FileState, FileVar, Part, Plain, is_in};
+use ms_dfa::{FileSign, FileState, FileVar, FileVersion, Part, Plain, is_in};
 use ms_list::{List, Name};
 use ms_logic::{Mode, Order};
 use std::alloc::Global;
@@ -56,6 +56,7 @@ fn sample(alloc: Global) -> Result<Plain> {
         high: Ref::Leaf(1),
     };
     Ok(Plain {
+        version: FileVersion::Two,
         mode: Mode::M2lStr,
         variables: List::from(vec![in alloc; variable]?),
         start: Ref::Leaf(0),
@@ -65,6 +66,7 @@ fn sample(alloc: Global) -> Result<Plain> {
 }
 
 fn print_plain(rt: &HostRuntime, plain: &Plain) -> Result<()> {
+    println!(rt; "of version 2: {}", plain.version == FileVersion::Two)?;
     println!(rt; "over strings: {}", plain.mode == Mode::M2lStr)?;
     println!(rt; "it starts at {}", ref_word(rt.alloc(), plain.start)?)?;
     for variable in plain.variables.slice() {
@@ -88,6 +90,7 @@ fn print_state(rt: &HostRuntime, state: FileState) -> Result<()> {
         FileSign::Plus => "+",
         FileSign::Minus => "-",
         FileSign::Zero => "0",
+        FileSign::Outside => "x",
     };
     println!(rt; "a state {sign} with {}", ref_word(rt.alloc(), state.next)?)?;
     Ok(())

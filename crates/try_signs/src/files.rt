@@ -48,7 +48,8 @@ fn are_same_variables(left: &[FileVar], right: &[FileVar]) -> bool {
 
 /// Whether two contents are equal.
 fn is_same(left: &Plain, right: &Plain) -> bool {
-    left.mode == right.mode
+    left.version == right.version
+        && left.mode == right.mode
         && are_same_variables(left.variables.slice(), right.variables.slice())
         && left.start == right.start
         && left.states.slice() == right.states.slice()
@@ -66,7 +67,7 @@ fn is_written_again(alloc: Global, text: &str) -> Result<bool> {
     }
 }
 
-/// Whether the text is the file of the canonical content of the automaton, whose variables have the names in the file.
+/// Whether the text is the file, in its version, of the canonical content of the automaton, whose variables have the names in the file.
 pub fn is_file_of(alloc: Global, made: &Automaton, text: &str) -> Result<bool> {
     let Some(plain) = content(alloc, text)? else {
         return Ok(false);
@@ -77,7 +78,7 @@ pub fn is_file_of(alloc: Global, made: &Automaton, text: &str) -> Result<bool> {
     if names.len() != made.tracks().len() {
         return Ok(false);
     }
-    match canonical(alloc, made, &names, LIMIT) {
+    match canonical(alloc, made, &names, plain.version, LIMIT) {
         Ok(content) => Ok(is_same(&plain, &content) && is_written_again(alloc, text)?),
         Err(StepFault::Memory) => bail!("no memory"),
         Err(StepFault::Nodes { limit }) => bail!("more than {limit} nodes and states"),

@@ -1,6 +1,6 @@
 -- Automaton files that are made, and what can be written as one.
 use Rattle.std.specs.Prelude.{◌≡◌, ℕ, ◌+◌, ◌≤◌, List, [], ◌∷◌, ◌++◌, All, Option, Some, None, length, map}
-use Rattle.ms_dfa.specs.Files.{content_of_file}
+use Rattle.ms_dfa.specs.Files.{HasSignsOf, content_of_file}
 use Rattle.ms_names_checked.specs.Names.{AreDifferent}
 use Rattle.ms_dfa.specs.declared.plain.Plain.{Plain}
 use Rattle.ms_dfafile.specs.File.{IsSpelled, names_of}
@@ -21,10 +21,11 @@ pub record AreNames (names : List (List ℕ)) : Type 0 where
   pub spelled : All (Spells kinds.Name) names
   pub different : AreDifferent names
 
--- a canonical content under such names, with states and nodes that have numbers of 32 bits
+-- a canonical content under such names, with the signs of its version, and with states and nodes that have numbers of 32 bits
 pub record IsWritable (plain : Plain) : Type 0 where
   pub names : AreNames (names_of plain)
   pub canonical : IsCanonical (content_of_file plain)
+  pub signs : HasSignsOf plain.version (content_of_file plain)
   pub small : length plain.nodes + length plain.states ≤ 4000000000
 
 abbrev pub AreWritable : List Plain → Type 0

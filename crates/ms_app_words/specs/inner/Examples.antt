@@ -20,6 +20,9 @@ with_out = codes "decide" ∷ codes "t.mona" ∷ codes "--out" ∷ codes "t.dfa"
 abbrev pub with_counts : List Text
 with_counts = codes "decide" ∷ codes "t.mona" ∷ codes "--stats" ∷ []
 
+abbrev pub with_format : List Text
+with_format = codes "decide" ∷ codes "t.mona" ∷ codes "--format" ∷ codes "1" ∷ []
+
 abbrev pub for_help : List Text
 for_help = codes "decide" ∷ codes "t.mona" ∷ codes "--help" ∷ []
 

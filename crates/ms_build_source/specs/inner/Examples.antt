@@ -3,6 +3,7 @@ use Rattle.std.specs.Prelude.{ℕ, List, [], ◌∷◌, codes, None}
 use Rattle.ms_arena.specs.declared.node.Ref.TheVariants.{Leaf, Inner}
 use Rattle.ms_dfa.specs.declared.plain.FileSign.{FileSign}
 use Rattle.ms_dfa.specs.declared.plain.FileSign.TheVariants.{Plus, Minus}
+use Rattle.ms_dfa.specs.declared.plain.FileVersion.TheVariants as versions
 use Rattle.ms_dfa.specs.declared.plain.Plain.{Plain}
 use Rattle.ms_list.specs.declared.at.At.{At}
 use Rattle.ms_logic.specs.declared.checked.Checked.{Checked}
@@ -18,6 +19,7 @@ P_and_Q = codes "P" ∷ codes "Q" ∷ []
 -- a file over P and Q with two signs: the first at the words where no letter has the bit 1 for P and 0 for Q, and the second at the others
 abbrev pub subset_file_with : FileSign → FileSign → Plain
 subset_file_with inside beyond = record {
+  version = versions.One;
   mode = Ws1s;
   variables = record { order = Two; name = codes "P" } ∷ record { order = Two; name = codes "Q" } ∷ [];
   start = Leaf 0;
@@ -28,6 +30,10 @@ subset_file_with inside beyond = record {
 -- the file of P sub Q
 abbrev pub subset_file : Plain
 subset_file = subset_file_with Plus Minus
+
+-- the same in version 2
+abbrev pub second_subset_file : Plain
+second_subset_file = record subset_file { version = versions.Two }
 
 abbrev pub nowhere : At
 nowhere = record { file = 0; place = 0 }

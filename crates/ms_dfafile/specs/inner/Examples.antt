@@ -2,14 +2,16 @@
 use Rattle.std.specs.Prelude.{ℕ, List, [], ◌∷◌, ◌++◌, codes}
 use Rattle.ms_arena.specs.declared.node.Ref.TheVariants.{Leaf, Inner}
 use Rattle.ms_logic.specs.declared.mode.Mode.TheVariants.{Ws1s}
-use Rattle.ms_logic.specs.declared.mode.Order.TheVariants.{Zero, Two}
+use Rattle.ms_logic.specs.declared.mode.Order.TheVariants.{Zero, One, Two}
 use Rattle.ms_dfa.specs.declared.plain.FileSign.TheVariants as signs
+use Rattle.ms_dfa.specs.declared.plain.FileVersion.TheVariants as versions
 use Rattle.ms_dfa.specs.declared.plain.Plain.{Plain}
 use Rattle.ms_dfafile.specs.Spelling.{line}
 
 -- P sub Q
 abbrev pub subset : Plain
 subset = record {
+  version = versions.One;
   mode = Ws1s;
   variables = record { order = Two; name = codes "P" } ∷ record { order = Two; name = codes "Q" } ∷ [];
   start = Leaf 0;
@@ -29,6 +31,7 @@ subset_file =
 -- A <=> 0 in P
 abbrev pub equivalence : Plain
 equivalence = record {
+  version = versions.One;
   mode = Ws1s;
   variables = record { order = Zero; name = codes "A" } ∷ record { order = Two; name = codes "P" } ∷ [];
   start = Inner 0;
@@ -57,6 +60,7 @@ equivalence_file =
 -- empty(P)
 abbrev pub emptiness : Plain
 emptiness = record {
+  version = versions.One;
   mode = Ws1s;
   variables = record { order = Two; name = codes "P" } ∷ [];
   start = Leaf 0;
@@ -72,6 +76,53 @@ emptiness_file =
     ++ line (codes "states 2") ++ line (codes "+ n0") ++ line (codes "- s1")
     ++ line (codes "nodes 1") ++ line (codes "0 s0 s1")
     ++ line (codes "end")
+
+-- x = 0, in version 2: words at which x has no 1, or two of them, have a sign of their own
+abbrev pub first_number : Plain
+first_number = record {
+  version = versions.Two;
+  mode = Ws1s;
+  variables = record { order = One; name = codes "x" } ∷ [];
+  start = Leaf 0;
+  states =
+      record { sign = signs.Outside; next = Inner 0 }
+      ∷ record { sign = signs.Outside; next = Inner 1 }
+      ∷ record { sign = signs.Plus; next = Inner 2 }
+      ∷ record { sign = signs.Minus; next = Inner 3 }
+      ∷ record { sign = signs.Outside; next = Leaf 4 }
+      ∷ [];
+  nodes =
+      record { var = 0; low = Leaf 1; high = Leaf 2 }
+      ∷ record { var = 0; low = Leaf 1; high = Leaf 3 }
+      ∷ record { var = 0; low = Leaf 2; high = Leaf 4 }
+      ∷ record { var = 0; low = Leaf 3; high = Leaf 4 }
+      ∷ [];
+}
+
+abbrev pub first_number_file : List ℕ
+first_number_file =
+    line (codes "monastr-dfa 2") ++ line (codes "mode ws1s")
+    ++ line (codes "variables 1") ++ line (codes "1 x")
+    ++ line (codes "start s0")
+    ++ line (codes "states 5") ++ line (codes "x n0") ++ line (codes "x n1") ++ line (codes "+ n2") ++ line (codes "- n3") ++ line (codes "x s4")
+    ++ line (codes "nodes 4") ++ line (codes "0 s1 s2") ++ line (codes "0 s1 s3") ++ line (codes "0 s2 s4") ++ line (codes "0 s3 s4")
+    ++ line (codes "end")
+
+-- the same, where words at which x has two 1s have the sign 0
+abbrev pub two_bits_undefined : Plain
+two_bits_undefined = record first_number {
+  states =
+      record { sign = signs.Outside; next = Inner 0 }
+      ∷ record { sign = signs.Outside; next = Inner 1 }
+      ∷ record { sign = signs.Plus; next = Inner 2 }
+      ∷ record { sign = signs.Minus; next = Inner 3 }
+      ∷ record { sign = signs.Zero; next = Leaf 4 }
+      ∷ [];
+}
+
+-- and the content of version 2 as one of version 1
+abbrev pub outside_in_first_version : Plain
+outside_in_first_version = record first_number { version = versions.One }
 
 -- one name twice; a word as a name; a start that tests a set; a state that tests a truth value; a node that names itself;
 -- a variable that is not above the one before

@@ -5,13 +5,21 @@ use Rattle.ms_arena.specs.declared.node.Ref.{Ref}
 use Rattle.ms_logic.specs.declared.mode.Mode.{Mode}
 use Rattle.ms_dfa.specs.declared.plain.FileState.{FileState}
 use Rattle.ms_dfa.specs.declared.plain.FileVar.{FileVar}
+use Rattle.ms_dfa.specs.declared.plain.FileVersion.{FileVersion}
 use Rattle.ms_dfa.specs.declared.plain.Plain.{Plain}
 use Rattle.ms_dfafile.specs.declared.parts.Body.{Body}
+use Rattle.ms_dfafile.specs.declared.parts.Head.{Head}
 use Rattle.ms_dfafile.specs.inner.Reading.{HasName, IsSection, IsSmallNode, IsSmallRef, IsSmallState, section_text}
-use Rattle.ms_dfafile.specs.Spelling.{field, line, mode_text, node_line, ref_text, state_line, variable_line}
+use Rattle.ms_dfafile.specs.Spelling.{field, line, mode_text, node_line, ref_text, state_line, variable_line, version_text}
 
-abbrev pub head_text : Mode → List ℕ
-head_text mode = field (codes "monastr-dfa") ++ line (codes "1") ++ field (codes "mode") ++ line (mode_text mode)
+abbrev pub version_line : FileVersion → List ℕ
+version_line version = field (codes "monastr-dfa") ++ line (version_text version)
+
+abbrev pub mode_line : Mode → List ℕ
+mode_line mode = field (codes "mode") ++ line (mode_text mode)
+
+abbrev pub head_text : Head → List ℕ
+head_text head = version_line head.version ++ mode_line head.mode
 
 abbrev pub variables_text : List FileVar → List ℕ
 variables_text variables = section_text (field (codes "variables")) variable_line variables
@@ -36,8 +44,11 @@ body_text body = start_text body.start ++ (states_text body.states ++ ending_tex
 abbrev pub body_of : Plain → Body
 body_of plain = record { start = plain.start; states = plain.states; nodes = plain.nodes }
 
+abbrev pub head_of : Plain → Head
+head_of plain = record { version = plain.version; mode = plain.mode }
+
 abbrev pub content_text : Plain → List ℕ
-content_text plain = head_text plain.mode ++ (variables_text plain.variables ++ body_text (body_of plain))
+content_text plain = head_text (head_of plain) ++ (variables_text plain.variables ++ body_text (body_of plain))
 
 -- numbers have 32 bits, and names are names
 abbrev pub IsSmallBody : Body → Type 0

@@ -1,11 +1,14 @@
 -- How the rules of contents are tested, node by node. Only the contracts and proofs inside this crate cite it.
-use Rattle.std.specs.Prelude.{◌≡◌, ℕ, ◌<◌, ◌↔◌, List, length, slice_get, Option, Some, None, IsTrue}
+use Rattle.std.specs.Prelude.{◌≡◌, ◌≢◌, AllPairs, ℕ, ◌<◌, ◌↔◌, List, length, slice_get, Option, Some, None, IsTrue}
 use Rattle.ms_arena.specs.declared.node.Node.{Node}
 use Rattle.ms_arena.specs.declared.node.Ref.{Ref}
 use Rattle.ms_arena.specs.declared.node.Ref.TheVariants.{Leaf, Inner}
 use Rattle.ms_arena.specs.Diagram.{TestsAbove}
 use Rattle.ms_arena.specs.Reach.{TestsOnly}
-use Rattle.ms_logic_words.specs.Content.{Content, HasValueAt, NamesPart, is_in_letters, is_truth_value}
+use Rattle.ms_dfa.specs.Files.{HasSignsOf, content_of_file}
+use Rattle.ms_dfa.specs.declared.plain.Plain.{Plain}
+use Rattle.ms_dfafile.specs.File.{names_of}
+use Rattle.ms_logic_words.specs.Content.{Content, HasValueAt, IsContent, NamesPart, is_in_letters, is_truth_value}
 use Rattle.ms_dfafile.specs.declared.tested.Tests.{Tests}
 
 -- a reference names a state, or one of the first so many nodes
@@ -55,3 +58,9 @@ IsStart content reference = NamesPart content reference × TestsOnly content.nod
 
 abbrev pub IsNext : {Sign : Type 0} → Content Sign → Ref → Type 0
 IsNext content reference = NamesPart content reference × TestsOnly content.nodes (HasValueAt content.variables is_in_letters) reference
+
+-- the names differ, references, nodes and variables are as in each content, and signs as in the version
+pub record MeetsRules (plain : Plain) : Type 0 where
+  pub different : AllPairs (λ one other. one ≢ other) (names_of plain)
+  pub content : IsContent (content_of_file plain)
+  pub signs : HasSignsOf plain.version (content_of_file plain)

@@ -18,17 +18,18 @@ use Rattle.ms_logic.specs.Assignment.{Variable}
 use Rattle.ms_logic_words.specs.Content.{StateOf, Content, sign_of}
 use Rattle.ms_logic_words.specs.Word.{IsEncoding}
 use Rattle.ms_dfa.specs.declared.plain.FileSign.{FileSign}
-use Rattle.ms_dfa.specs.declared.plain.FileSign.TheVariants.{Plus, Minus, Zero}
+use Rattle.ms_dfa.specs.declared.plain.FileSign.TheVariants as signs
 use Rattle.ms_dfa.specs.declared.plain.Plain.{Plain}
 use Rattle.ms_dfa.specs.Files.{content_of_file}
 use Rattle.ms_rename.specs.inner.Image.{image_of}
 use Rattle.ms_dfafile_adopt.specs.inner.Sets.{as_sets}
 
--- the sign of an automaton for a sign of a file
+-- the sign of an automaton for a sign of a file, where no word is Outside yet
 abbrev pub own_sign : FileSign → Sign
-own_sign Plus = Yes
-own_sign Minus = No
-own_sign Zero = Undefined
+own_sign signs.Plus = Yes
+own_sign signs.Minus = No
+own_sign signs.Zero = Undefined
+own_sign signs.Outside = Undefined
 
 -- the variables of a file, by their places
 abbrev pub own_variables : Plain → List Variable
@@ -49,7 +50,7 @@ pub record IsOverSets (plain : Plain) (content : Content Sign) : Type 0 where
   pub signs : (word : Word) → sign_of (read_over (own_variables plain) content) word ≡ option_map own_sign (sign_of (content_of_file plain) word)
 
 -- in a mode, each word that encodes an assignment has the sign of the file
-pub record HasSignsOf (plain : Plain) (mode : Mode) (content : Content Sign) : Type 0 where
+pub record AgreesWithFile (plain : Plain) (mode : Mode) (content : Content Sign) : Type 0 where
   pub mode_is : content.mode ≡ mode
   pub variables_are : content.variables ≡ own_variables plain
   pub signs :

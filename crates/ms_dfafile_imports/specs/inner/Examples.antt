@@ -1,6 +1,7 @@
 -- Small imports, and files that hold nothing.
 use Rattle.std.specs.Prelude.{ℕ, List, [], Some, None}
 use Rattle.ms_arena.specs.declared.node.Ref.TheVariants.{Leaf}
+use Rattle.ms_dfa.specs.declared.plain.FileVersion.TheVariants as versions
 use Rattle.ms_dfa.specs.declared.plain.Plain.{Plain}
 use Rattle.ms_list.specs.declared.at.At.{At}
 use Rattle.ms_edge.specs.Files.{FilesTold, Seen, between}
@@ -16,7 +17,7 @@ import_of name = record { at = nowhere; name = name; pairs = [] }
 
 -- a content of a mode, without variables
 abbrev pub content_in : Mode → Plain
-content_in mode = record { mode = mode; variables = []; start = Leaf 0; states = []; nodes = [] }
+content_in mode = record { version = versions.One; mode = mode; variables = []; start = Leaf 0; states = []; nodes = [] }
 
 -- files that hold nothing, where so often a file was not there
 abbrev pub nothing_held : ℕ → FilesTold

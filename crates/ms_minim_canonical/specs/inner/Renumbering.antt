@@ -8,6 +8,7 @@ use Rattle.ms_arena.specs.Diagram.{Bits, leaf_of, IsValid}
 use Rattle.ms_arena.specs.Leaves.{leaves_within}
 use Rattle.ms_diagram.specs.Leaves.{noted, KnowsAll}
 use Rattle.ms_dfa.specs.declared.plain.FileState.{FileState}
+use Rattle.ms_dfa.specs.declared.plain.FileVersion.{FileVersion}
 use Rattle.ms_dfa.specs.declared.state.State.{State}
 use Rattle.ms_logic_words.specs.Canonical.{nodes_within}
 use Rattle.ms_dfa.specs.Files.{file_sign}
@@ -65,20 +66,20 @@ pub record IsRenamedNode (states places : List ℕ) (node made : Node) : Type 0 
   pub low : IsRenamed states places node.low made.low
   pub high : IsRenamed states places node.high made.high
 
--- that of a place, and the state of a number with the sign of a file and its reference renamed
+-- that of a place, and the state of a number with the sign of a file of a version and its reference renamed
 abbrev pub IsNodeOf : List Node → List ℕ → List ℕ → ℕ → Node → Type 0
 IsNodeOf nodes states places place made = (node : Node) × (slice_get nodes place ≡ Some node) × IsRenamedNode states places node made
 
-abbrev pub IsStateOf : List State → List ℕ → List ℕ → ℕ → FileState → Type 0
-IsStateOf old states places number made =
-    (state : State) × (slice_get old number ≡ Some state) × (made.sign ≡ file_sign state.sign) × IsRenamed states places state.next made.next
+abbrev pub IsStateOf : FileVersion → List State → List ℕ → List ℕ → ℕ → FileState → Type 0
+IsStateOf version old states places number made =
+    (state : State) × (slice_get old number ≡ Some state) × (made.sign ≡ file_sign version state.sign) × IsRenamed states places state.next made.next
 
 -- a start, states and nodes that are those of others, as a walk first sees them
-pub record IsRenumbered (nodes : List Node) (start : Ref) (states : List State) (made_start : Ref) (made_states : List FileState) (made_nodes : List Node) : Type 0 where
+pub record IsRenumbered (version : FileVersion) (nodes : List Node) (start : Ref) (states : List State) (made_start : Ref) (made_states : List FileState) (made_nodes : List Node) : Type 0 where
   pub order : List ℕ
   pub places : List ℕ
   pub order_is : order ≡ fold noted [] (walk_over (leaves_from nodes) start states order)
   pub places_is : places ≡ fold noted [] (walk_over (nodes_from nodes) start states order)
   pub start_is : IsRenamed order places start made_start
-  pub states_are : ArePaired (IsStateOf states order places) order made_states
+  pub states_are : ArePaired (IsStateOf version states order places) order made_states
   pub nodes_are : ArePaired (IsNodeOf nodes order places) places made_nodes

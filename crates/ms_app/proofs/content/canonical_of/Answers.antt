@@ -1,5 +1,6 @@
 use Rattle.std.proofs.Common.{subst, arith}
 use Rattle.ms_build_source.specs.Values.{IsMainFile}
+use Rattle.ms_build_source.proofs.CopySigns.{signs_of_copy}
 use Rattle.ms_app.proofs.ContentLemmas.{canonical_of_value, file_of_value}
 use Rattle.ms_app.proofs.content.canonical_of.Goals as goal
 
@@ -8,15 +9,20 @@ returns-in-Ok-clause-copy c =
     let made = c.in-Ok.ensures in
     let few = made.few in
     let small = c.requires.limit.small in
-    record { mode_is = made.mode; orders = made.orders; names_are = made.names; signs = made.signs; canonical = made.canonical; few = omega (arith, few, small) }
+    record { version_is = made.version; mode_is = made.mode; orders = made.orders; names_are = made.names; signs = made.signs; canonical = made.canonical; few = omega (arith, few, small) }
 
 pub returns-in-Ok-clause-content : goal.returns-in-Ok-clause-content
 returns-in-Ok-clause-content c = λ problem names is.
     let solution = c.args.solution.now in
-    canonical_of_value problem solution.automaton is.value c.requires.named.by_place solution.names c.in-Ok.content (returns-in-Ok-clause-copy c)
+    canonical_of_value c.args.version problem solution.automaton is.value c.requires.named.by_place solution.names c.in-Ok.content (returns-in-Ok-clause-copy c)
 
 pub returns-in-Ok-clause-file : goal.returns-in-Ok-clause-file
 returns-in-Ok-clause-file c = λ problem names is.
     let solution = c.args.solution.now in
-    subst (λ them. IsMainFile problem them c.in-Ok.content) is.names_are
-    (file_of_value problem solution.automaton is.value c.requires.named.by_place solution.names c.in-Ok.content (returns-in-Ok-clause-copy c))
+    subst (λ them. IsMainFile c.args.version problem them c.in-Ok.content) is.names_are
+    (file_of_value c.args.version problem solution.automaton is.value c.requires.named.by_place solution.names c.in-Ok.content (returns-in-Ok-clause-copy c))
+
+pub returns-in-Ok-clause-signs : goal.returns-in-Ok-clause-signs
+returns-in-Ok-clause-signs c =
+    let solution = c.args.solution.now in
+    signs_of_copy c.args.version solution.automaton c.states.ensures.automaton solution.names c.in-Ok.content (returns-in-Ok-clause-copy c)

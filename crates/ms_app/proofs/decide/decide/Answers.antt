@@ -11,11 +11,11 @@ made_of-requires-clause-names c =
 
 pub made_of-requires-clause-long : goal.made_of-requires-clause-long
 made_of-requires-clause-long c =
-    let taken = c.args.taken.now in as_many taken.source.checked c.requires.right taken.imports c.requires.imports c.in-Ok.solution c.in-Ok.ensures.exports
+    let taken = c.args.taken.now in as_many taken.source.checked c.requires.right taken.imports c.requires.imports c.in-Ok.solution c.args.options.format c.in-Ok.ensures.exports
 
 pub made_of-requires-clause-writable : goal.made_of-requires-clause-writable
 made_of-requires-clause-writable c =
-    let taken = c.args.taken.now in writable taken.source.checked c.requires.right taken.imports c.requires.imports c.in-Ok.solution c.in-Ok.ensures.exports c.in-Ok.ensures.small
+    let taken = c.args.taken.now in writable taken.source.checked c.requires.right taken.imports c.requires.imports c.in-Ok.solution c.args.options.format c.in-Ok.ensures.exports c.in-Ok.ensures.spellable
 
 pub returns-in-Ok-found-clause-found : goal.returns-in-Ok-found-clause-found
 returns-in-Ok-found-clause-found c = λ answers are.

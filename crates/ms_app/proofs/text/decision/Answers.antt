@@ -41,9 +41,9 @@ returns-in-Ok-report-clause-given g c =
     let made = c.in-Ok.ensures.taken in
     let decided = c.in-Ok-decide.decided in
     let is =
-    decided_of c.in-Ok.taken.source.checked made.1 c.in-Ok.taken.imports made.3 (file_of seen (length old) name) out made.0 made.2 c.args.options.stats c.in-Ok.taken.source.files made.4 decided.found
+    decided_of c.in-Ok.taken.source.checked made.1 c.in-Ok.taken.imports made.3 (file_of seen (length old) name) out made.0 made.2 c.args.options.stats c.args.options.format c.in-Ok.taken.source.files made.4 decided.found
     (pairs_of decided.files) c.in-Ok-decide.ensures.found c.in-Ok-decide.ensures.within in
-    (decided.found, first_decided seen name out c.args.options.stats decided.found (pairs_of decided.files) old c.requires.first is, c.in-Ok-report.ensures)
+    (decided.found, first_decided seen name out c.args.options.stats c.args.options.format decided.found (pairs_of decided.files) old c.requires.first is, c.in-Ok-report.ensures)
 
 pub returns-in-Ok-report-clause-own_names : goal.returns-in-Ok-report-clause-own_names
 returns-in-Ok-report-clause-own_names g c =
@@ -53,5 +53,5 @@ returns-in-Ok-report-clause-own_names g c =
     let old = c.args.names.now in
     let made = c.in-Ok.ensures.taken in
     let decided = c.in-Ok-decide.decided in
-    own_names_of c.in-Ok.taken.source.checked made.1 c.in-Ok.taken.imports made.3 (file_of seen (length old) name) out made.0 made.2 c.in-Ok.ensures.right c.args.options.stats
+    own_names_of c.in-Ok.taken.source.checked made.1 c.in-Ok.taken.imports made.3 (file_of seen (length old) name) out made.0 made.2 c.in-Ok.ensures.right c.args.options.stats c.args.options.format
     c.in-Ok.taken.source.files decided.found (pairs_of decided.files) c.in-Ok-decide.ensures.found

@@ -61,3 +61,15 @@ returns-clause-with_out c = refl
 pub returns-clause-the_out : goal.returns-clause-the_out
 unfolding clap_on_literals
 returns-clause-the_out c = refl
+
+pub returns-clause-no_format : goal.returns-clause-no_format
+unfolding clap_on_literals
+returns-clause-no_format c = refl
+
+pub returns-clause-with_format : goal.returns-clause-with_format
+unfolding clap_on_literals
+returns-clause-with_format c = refl
+
+pub returns-clause-the_format : goal.returns-clause-the_format
+unfolding clap_on_literals
+returns-clause-the_format c = refl

@@ -23,7 +23,7 @@ loop-place-preserved c =
     let less = c.loop-place-test.true in
     let plan = c.args.built.now.plan in
     let next : place + 1 ≡ 1 + place = omega arith in
-    let copy = subst (λ m. IsRootCopy plan m used.names c.in_ok-copy.copy) next c.in_ok-copy.ensures.copy in
+    let copy = subst (λ m. IsRootCopy c.args.making.version plan m used.names c.in_ok-copy.copy) next c.in_ok-copy.ensures.copy in
     let more =
-    more_copies plan 1 uses place c.loop-place.copies used c.in_ok-copy.copy c.loop-place.invariant (slice_get-get_or uses place c.index-uses-place.result (omega (arith, less))) copy in
-    subst (AreRootCopies plan 1 (take (place + 1) uses)) (sym c.in-Ok.ensures.ok) more
+    more_copies c.args.making.version plan 1 uses place c.loop-place.copies used c.in_ok-copy.copy c.loop-place.invariant (slice_get-get_or uses place c.index-uses-place.result (omega (arith, less))) copy in
+    subst (AreRootCopies c.args.making.version plan 1 (take (place + 1) uses)) (sym c.in-Ok.ensures.ok) more

@@ -4,7 +4,7 @@ use Rattle.ms_logic_words.specs.Content.{variables_by_place}
 use Rattle.ms_logic.specs.declared.checked.ExportUse.{ExportUse}
 use Rattle.ms_build_source.specs.inner.Copies.{AreAskedCopies, HaveRoots}
 use Rattle.ms_build_source.proofs.GlobalLemmas.{globals_by_place, globals_counted, orders_by_place}
-use Rattle.ms_build_source.proofs.Solved.{all_within, answers_counted, are_nodes, are_own_answers, exports_asked, few_exports, few_nodes, have_roots, is_ready, nodes_lent, own_answers, small_asked, some_root, step_of_node, step_of_root, unsolved, value_of_main}
+use Rattle.ms_build_source.proofs.Solved.{all_within, answers_counted, are_nodes, are_own_answers, exports_asked, few_exports, few_nodes, have_roots, is_ready, nodes_lent, own_answers, spellable_asked, some_root, step_of_node, step_of_root, unsolved, value_of_main}
 use Rattle.ms_build_source.proofs.solution.solve.Goals as goal
 
 pub build-requires-clause-nodes : goal.build-requires-clause-nodes
@@ -96,8 +96,8 @@ returns-clause-exports c = λ answers are.
     c.args.exports c.in-Ok-asked_copies.copies
     (subst (λ uses. AreAskedCopies c.args.exports c.in-Ok-build.built.plan uses c.in-Ok-asked_copies.copies) c.slice-2.ensures c.in-Ok-asked_copies.ensures.copies)
 
-pub returns-clause-small : goal.returns-clause-small
-returns-clause-small c = small_asked c.args.exports c.in-Ok-build.built.plan c.slice-2.result.now c.in-Ok-asked_copies.copies c.in-Ok-asked_copies.ensures.copies
+pub returns-clause-spellable : goal.returns-clause-spellable
+returns-clause-spellable c = spellable_asked c.args.exports c.in-Ok-build.built.plan c.slice-2.result.now c.in-Ok-asked_copies.copies c.in-Ok-asked_copies.ensures.copies
 
 pub returns-clause-named : goal.returns-clause-named
 returns-clause-named c =

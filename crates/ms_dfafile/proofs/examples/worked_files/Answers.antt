@@ -13,3 +13,7 @@ returns-clause-equivalence c = refl
 pub returns-clause-emptiness : goal.returns-clause-emptiness
 unfolding digits
 returns-clause-emptiness c = refl
+
+pub returns-clause-number : goal.returns-clause-number
+unfolding digits
+returns-clause-number c = refl

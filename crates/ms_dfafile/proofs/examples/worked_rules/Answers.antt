@@ -1,4 +1,4 @@
-use Rattle.ms_dfafile.proofs.ExampleLemmas.{emptiness-file, named_by_word-no_file, own_node-no_file, same_variable-no_file, set_from_start-no_file, truth_value_from_state-no_file}
+use Rattle.ms_dfafile.proofs.ExampleLemmas.{emptiness-file, named_by_word-no_file, own_node-no_file, same_variable-no_file, set_from_start-no_file, truth_value_from_state-no_file, first_version-no_file, two_bits-no_file}
 use Rattle.ms_dfafile.proofs.examples.worked_rules.Goals as goal
 
 pub returns-clause-emptiness : goal.returns-clause-emptiness
@@ -18,3 +18,9 @@ returns-clause-own_node c = own_node-no_file
 
 pub returns-clause-same_variable : goal.returns-clause-same_variable
 returns-clause-same_variable c = same_variable-no_file
+
+pub returns-clause-two_bits : goal.returns-clause-two_bits
+returns-clause-two_bits c = two_bits-no_file
+
+pub returns-clause-first_version : goal.returns-clause-first_version
+returns-clause-first_version c = first_version-no_file

@@ -7,4 +7,4 @@ lines-requires c = variable-one_form
 
 pub returns-in-Err-behind_variables : goal.returns-in-Err-behind_variables
 returns-in-Err-behind_variables c =
-    behind_variables_fault c.args.bytes.now c.in-Some.mode c.in-Some.rest.now c.in-Some.ensures c.in-Err-behind_variables.fault c.in-Ok.found.0 c.in-Ok.found.1.now c.in-Ok.ensures c.in-Err-behind_variables.ensures
+    behind_variables_fault c.args.bytes.now c.in-Some.head c.in-Some.rest.now c.in-Some.ensures c.in-Err-behind_variables.fault c.in-Ok.found.0 c.in-Ok.found.1.now c.in-Ok.ensures c.in-Err-behind_variables.ensures

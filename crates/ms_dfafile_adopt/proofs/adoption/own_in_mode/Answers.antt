@@ -7,7 +7,7 @@ returns-in-Ok-in_mode-clause-signs c = settled_signs c.args.plain.now c.args.mod
 
 pub returns-in-Ok-in_mode-clause-settled : goal.returns-in-Ok-in_mode-clause-settled
 returns-in-Ok-in_mode-clause-settled c =
-    settled_file c.args.plain.now c.args.mode c.in-Ok.own c.in-Ok-in_mode.made c.requires.fits.0 c.in-Ok.ensures.signs c.in-Ok-in_mode.ensures.settled
+    settled_file c.args.plain.now c.requires.file c.args.mode c.in-Ok.own c.in-Ok-in_mode.made c.requires.fits.0 c.in-Ok.ensures.signs c.in-Ok-in_mode.ensures.settled
 
 pub returns-in-Ok-new-clause-refused : goal.returns-in-Ok-new-clause-refused
 returns-in-Ok-new-clause-refused c =
@@ -16,6 +16,6 @@ returns-in-Ok-new-clause-refused c =
       search rules,
       c.requires.fits,
       unsettled.0,
-      first_open c.args.plain.now c.in-Ok.own c.in-Ok.ensures.signs (c.requires.fits.0 ∙ unsettled.0) c.in-Err-Open.word unsettled.1,
+      first_open c.args.plain.now c.requires.file c.in-Ok.own c.in-Ok.ensures.signs (c.requires.fits.0 ∙ unsettled.0) c.in-Err-Open.word unsettled.1,
       search rules,
     )

@@ -18,7 +18,7 @@ renumbered-requires-clause-next c =
     let a = c.args.a.now in
     let reduced = c.in-Ok-reduce.reduced in
     subst (λ (states : List State). (place : ℕ) (state : State) → slice_get states place ≡ Some state → LeadsBelow reduced.store.nodes (length states) state.next) (sym c.slice-states.ensures)
-    (leads a reduced.store.nodes reduced.start reduced.states c.in-Ok-reduce.ensures.reduced a.variables refl)
+    (leads c.args.version c.reading_of.result c.reading_of.ensures a reduced.store.nodes reduced.start reduced.states c.in-Ok-reduce.ensures.reduced a.variables refl)
 
 pub returns-clause-orders : goal.returns-clause-orders
 returns-clause-orders c = c.in-Ok.ensures.orders ∙ orders-tracks c.tracks.result.now ∙ ap orders_of c.tracks.ensures.variables
@@ -31,11 +31,11 @@ returns-clause-signs c =
     let orders = map (λ (v : FileVar). v.order) c.in-Ok.variables in
     let orders_are = c.in-Ok.ensures.orders ∙ orders-tracks c.tracks.result.now ∙ ap orders_of c.tracks.ensures.variables in
     let same : orders_of a.variables ≡ orders_of (variables_by_place orders) = sym orders_are ∙ sym (orders-by_place orders) in
-    let renumbered = subst (λ (states : List State). IsRenumbered reduced.store.nodes reduced.start states made.start made.states made.nodes) c.slice-states.ensures c.in-Ok-renumbered.ensures in
+    let renumbered = subst (λ (states : List State). IsRenumbered c.args.version reduced.store.nodes reduced.start states made.start made.states made.nodes) c.slice-states.ensures c.in-Ok-renumbered.ensures in
     subst (λ (mode : Mode). (word : Word) → IsWordOver a.variables word
-    → sign_of (record { mode = mode; variables = variables_by_place orders; start = made.start; states = file_states_of made.states; nodes = made.nodes }) word ≡ option_map file_sign (sign_of a word))
+    → sign_of (record { mode = mode; variables = variables_by_place orders; start = made.start; states = file_states_of made.states; nodes = made.nodes }) word ≡ option_map (file_sign c.args.version) (sign_of a word))
     (sym c.mode.ensures)
-    (signs-made a reduced.store.nodes reduced.start reduced.states c.in-Ok-reduce.ensures.reduced (variables_by_place orders) same made.start made.states made.nodes renumbered)
+    (signs-made c.args.version c.reading_of.result c.reading_of.ensures a reduced.store.nodes reduced.start reduced.states c.in-Ok-reduce.ensures.reduced (variables_by_place orders) same made.start made.states made.nodes renumbered)
 
 pub returns-clause-canonical : goal.returns-clause-canonical
 returns-clause-canonical c =
@@ -45,14 +45,14 @@ returns-clause-canonical c =
     let orders = map (λ (v : FileVar). v.order) c.in-Ok.variables in
     let orders_are = c.in-Ok.ensures.orders ∙ orders-tracks c.tracks.result.now ∙ ap orders_of c.tracks.ensures.variables in
     let same : orders_of a.variables ≡ orders_of (variables_by_place orders) = sym orders_are ∙ sym (orders-by_place orders) in
-    let renumbered = subst (λ (states : List State). IsRenumbered reduced.store.nodes reduced.start states made.start made.states made.nodes) c.slice-states.ensures c.in-Ok-renumbered.ensures in
+    let renumbered = subst (λ (states : List State). IsRenumbered c.args.version reduced.store.nodes reduced.start states made.start made.states made.nodes) c.slice-states.ensures c.in-Ok-renumbered.ensures in
     subst (λ (mode : Mode). IsCanonical (record { mode = mode; variables = variables_by_place orders; start = made.start; states = file_states_of made.states; nodes = made.nodes })) (sym c.mode.ensures)
-    (canonical-made a reduced.store.nodes reduced.start reduced.states c.in-Ok-reduce.ensures.reduced (variables_by_place orders) same made.start made.states made.nodes renumbered)
+    (canonical-made c.args.version c.reading_of.result c.reading_of.ensures a reduced.store.nodes reduced.start reduced.states c.in-Ok-reduce.ensures.reduced (variables_by_place orders) same made.start made.states made.nodes renumbered)
 
 pub returns-clause-few : goal.returns-clause-few
 returns-clause-few c =
     let reduced = c.in-Ok-reduce.reduced in
     let made = c.in-Ok-renumbered.made in
-    let renumbered = subst (λ (states : List State). IsRenumbered reduced.store.nodes reduced.start states made.start made.states made.nodes) c.slice-states.ensures c.in-Ok-renumbered.ensures in
-    let less = few reduced.store.nodes reduced.start reduced.states made.start made.states made.nodes renumbered in
+    let renumbered = subst (λ (states : List State). IsRenumbered c.args.version reduced.store.nodes reduced.start states made.start made.states made.nodes) c.slice-states.ensures c.in-Ok-renumbered.ensures in
+    let less = few c.args.version reduced.store.nodes reduced.start reduced.states made.start made.states made.nodes renumbered in
     omega (arith, less.0, less.1, c.in-Ok-reduce.ensures.few)

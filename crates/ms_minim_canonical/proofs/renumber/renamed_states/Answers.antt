@@ -17,6 +17,6 @@ loop-number-preserved c =
     let there : slice_get c.args.seen.now.states.keys index ≡ Some n
     = ap (λ list. slice_get list index) (sym keys) ∙ slice_get-get_or c.as_slice-number-items.result.now index 0 c.loop-number-test.true in
     let below : n < length c.args.states.now = c.requires index n there in
-    paired-one (IsStateOf c.args.states.now c.args.seen.now.states.keys c.args.seen.now.places.keys) c.args.seen.now.states.keys c.as_slice-number-items.result.now index
+    paired-one (IsStateOf c.args.version c.args.states.now c.args.seen.now.states.keys c.args.seen.now.places.keys) c.args.seen.now.states.keys c.as_slice-number-items.result.now index
     c.loop-number.made c.push.new.list (record { sign = c.file_sign-sign.result; next = c.in_ok-next.next }) keys c.loop-number-test.true c.loop-number.invariant
     (state, slice_get-get_or c.args.states.now n none below, c.file_sign-sign.ensures, c.in_ok-next.ensures) c.in_ok-push.ensures.ok

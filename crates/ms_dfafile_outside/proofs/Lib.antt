@@ -1,0 +1,13 @@
+pub mod NumbersLemmas
+pub mod LabelLemmas
+pub mod OnesLemmas
+pub mod WordsLemmas
+pub mod ClashLemmas
+pub mod ComeLemmas
+pub mod ClosedLemmas
+pub mod FewLemmas
+pub mod FileLemmas
+pub mod LabelsLemmas
+pub mod SetsLemmas
+pub mod ArrivalLemmas
+pub mod ExampleLemmas
