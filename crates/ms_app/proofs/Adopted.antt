@@ -17,13 +17,13 @@ use Rattle.ms_logic.specs.Lists.{AreRising}
 use Rattle.ms_build_source.specs.Imported.{AreAnswersOf, AreLentFor, IsAnswerOf, orders_of_pairs}
 use Rattle.ms_dfa.specs.Values.{HasValues}
 
-pub are_lent : (mode : Mode) (uses : List ImportUse) (plains : List Plain) (contents : List (Content Sign)) → AreAdopted mode uses plains contents → AreLentFor mode uses contents
-are_lent mode [] [] [] are = tt
-are_lent mode [] [] (content ∷ contents) are = absurd are
-are_lent mode [] (plain ∷ plains) contents are = absurd are
-are_lent mode (used ∷ uses) [] contents are = absurd are
-are_lent mode (used ∷ uses) (plain ∷ plains) [] are = absurd are
-are_lent mode (used ∷ uses) (plain ∷ plains) (content ∷ contents) are = (record { mode_is = are.0.mode_is; variables = are.0.variables_are }, are_lent mode uses plains contents are.1)
+pub are_lent : (limit : ℕ) (mode : Mode) (uses : List ImportUse) (plains : List Plain) (contents : List (Content Sign)) → AreAdopted limit mode uses plains contents → AreLentFor mode uses contents
+are_lent limit mode [] [] [] are = tt
+are_lent limit mode [] [] (content ∷ contents) are = absurd are
+are_lent limit mode [] (plain ∷ plains) contents are = absurd are
+are_lent limit mode (used ∷ uses) [] contents are = absurd are
+are_lent limit mode (used ∷ uses) (plain ∷ plains) [] are = absurd are
+are_lent limit mode (used ∷ uses) (plain ∷ plains) (content ∷ contents) are = (record { mode_is = are.0.mode_is; variables = are.0.variables_are }, are_lent limit mode uses plains contents are.1)
 
 values_over : (universe : Universe) (k : ℕ) (orders : List Order) (values : List Value) → AreValuesOf universe orders values → AreValuesOf universe (map (λ v. v.order) (variables_from k orders)) values
 values_over universe k [] [] are = tt
@@ -31,7 +31,7 @@ values_over universe k [] (value ∷ values) are = absurd are
 values_over universe k (order ∷ orders) [] are = absurd are
 values_over universe k (order ∷ orders) (value ∷ values) are = (are.0, values_over universe (k + 1) orders values are.1)
 
-module _ (mode : Mode) (used : ImportUse) (plain : Plain) (content : Content Sign) (is : IsAdopted mode used plain content) where
+module _ (limit : ℕ) (mode : Mode) (used : ImportUse) (plain : Plain) (content : Content Sign) (is : IsAdopted limit mode used plain content) where
   abbrev names : List (List ℕ)
   names = map (λ pair. pair.name) used.pairs
 
@@ -45,10 +45,10 @@ module _ (mode : Mode) (used : ImportUse) (plain : Plain) (content : Content Sig
       (subst (λ m. IsUniverseOf m universe) (sym is.mode_is) is_universe) (subst V (sym over) (values_over universe 0 (orders_of_pairs used) values are)) in
       sym said
 
-pub are_answers : (mode : Mode) (uses : List ImportUse) (plains : List Plain) (contents : List (Content Sign)) → AreAdopted mode uses plains contents → AreAnswersOf mode uses (answers_by uses plains) contents
-are_answers mode [] [] [] are = tt
-are_answers mode [] [] (content ∷ contents) are = absurd are
-are_answers mode [] (plain ∷ plains) contents are = absurd are
-are_answers mode (used ∷ uses) [] contents are = absurd are
-are_answers mode (used ∷ uses) (plain ∷ plains) [] are = absurd are
-are_answers mode (used ∷ uses) (plain ∷ plains) (content ∷ contents) are = (gives_answer mode used plain content are.0, are_answers mode uses plains contents are.1)
+pub are_answers : (limit : ℕ) (mode : Mode) (uses : List ImportUse) (plains : List Plain) (contents : List (Content Sign)) → AreAdopted limit mode uses plains contents → AreAnswersOf mode uses (answers_by uses plains) contents
+are_answers limit mode [] [] [] are = tt
+are_answers limit mode [] [] (content ∷ contents) are = absurd are
+are_answers limit mode [] (plain ∷ plains) contents are = absurd are
+are_answers limit mode (used ∷ uses) [] contents are = absurd are
+are_answers limit mode (used ∷ uses) (plain ∷ plains) [] are = absurd are
+are_answers limit mode (used ∷ uses) (plain ∷ plains) (content ∷ contents) are = (gives_answer limit mode used plain content are.0, are_answers limit mode uses plains contents are.1)

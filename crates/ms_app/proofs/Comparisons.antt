@@ -4,10 +4,10 @@ use Rattle.ms_dfa.specs.declared.plain.Plain.{Plain}
 use Rattle.ms_edge.specs.Files.{FilesTold, OnlyRead, Seen, between}
 use Rattle.ms_edge.specs.declared.refusal.Refusal.{Refusal}
 use Rattle.ms_edge.specs.declared.refusal.Refusal.TheVariants.{Memory}
+use Rattle.ms_dfafile_imports.specs.Adopted.{AreAdopted}
 use Rattle.ms_dfafile_imports.specs.Imports.{answers_by}
 use Rattle.ms_logic.specs.declared.checked.Checked.{Checked}
 use Rattle.ms_logic.specs.declared.source.Loaded.{Loaded}
-use Rattle.ms_build_source.specs.Imported.{AreAnswersOf}
 use Rattle.ms_build_source.specs.Limits.{IsUnsolved}
 use Rattle.ms_logic_words.specs.Content.{Content}
 use Rattle.ms_logic_words.specs.declared.sign.Sign.{Sign}
@@ -24,11 +24,11 @@ more_refused old new refusal more (inl memory) = inl memory
 more_refused old new refusal more (inr (read, grown, why)) = inr (read, grown, more read why)
 
 pub unsolved_refused : (origin : Origin) (out : Option (List ℕ)) (limit : ℕ) (refusal : Refusal) (old new : List (List ℕ)) (loaded : Loaded) (checked : Checked) (plains : List Plain)
-    → IsTaken origin out loaded checked plains → new ≡ old ++ loaded.files → (contents : List (Content Sign)) → AreAnswersOf checked.mode checked.imports (answers_by checked.imports plains) contents
+    → IsTaken origin out loaded checked plains → new ≡ old ++ loaded.files → (contents : List (Content Sign)) → AreAdopted limit checked.mode checked.imports plains contents
     → (refusal ≡ Memory) ⊎ IsUnsolved checked (answers_by checked.imports plains) contents limit refusal
     → RefusedWith old new (IsRefused origin out limit refusal) refusal
-unsolved_refused origin out limit refusal old new loaded checked plains is grown contents answer (inl memory) = inl memory
-unsolved_refused origin out limit refusal old new loaded checked plains is grown contents answer (inr why) = inr (loaded.files, grown, unsolved loaded checked plains is refl contents answer why)
+unsolved_refused origin out limit refusal old new loaded checked plains is grown contents adopted (inl memory) = inl memory
+unsolved_refused origin out limit refusal old new loaded checked plains is grown contents adopted (inr why) = inr (loaded.files, grown, unsolved loaded checked plains is refl contents adopted why)
 
 -- the files of the first source are all that were read
 pub first_refused : (name : List ℕ) (out : Option (List ℕ)) (limit : ℕ) (seen : Seen) (old new : List (List ℕ)) (refusal : Refusal) → old ≡ [] → RefusedWith old new (IsRefused (file_of seen (length old) name) out limit refusal) refusal

@@ -45,12 +45,12 @@ module _ (checked : Checked) where
       × AreFilesOf format (problem_of checked answers) global_names checked.exports out files
 
   -- automata that imports have become
-  module _ (plains : List Plain) (contents : List (Content Sign)) (adopted : AreAdopted checked.mode checked.imports plains contents) where
+  module _ (limit : ℕ) (plains : List Plain) (contents : List (Content Sign)) (adopted : AreAdopted limit checked.mode checked.imports plains contents) where
     abbrev pub answers : Answers
     answers = answers_by checked.imports plains
 
     pub are : AreAnswersOf checked.mode checked.imports answers contents
-    are = are_answers checked.mode checked.imports plains contents adopted
+    are = are_answers limit checked.mode checked.imports plains contents adopted
 
     pub counted : length answers ≡ length checked.imports
     counted = answers_counted checked.mode checked.imports answers contents are
@@ -76,10 +76,10 @@ module _ (checked : Checked) where
       pub own_names_of : IsRight checked → (stats : Bool) (format : FileVersion) (count : ℕ) (found : Found) (files : List File) → FoundBy contents out stats format count found files → HaveOwnNames files
       own_names_of right stats format count found files by = own_names format (problem_with checked plains) global_names checked.exports out files right.meets_rules.names.files taken.free (by answers are).2
 
-      pub unsolved_of : (limit : ℕ) (refusal : Refusal) (old new : List (List ℕ)) → new ≡ old ++ loaded.files
+      pub unsolved_of : (refusal : Refusal) (old new : List (List ℕ)) → new ≡ old ++ loaded.files
           → ((answers : Answers) → length answers ≡ length checked.imports → (refusal ≡ Memory) ⊎ IsUnsolved checked answers contents limit refusal)
           → RefusedWith old new (IsRefused origin out limit refusal) refusal
-      unsolved_of limit refusal old new grown why = unsolved_refused origin out limit refusal old new loaded checked plains taken grown contents are (why answers counted)
+      unsolved_of refusal old new grown why = unsolved_refused origin out limit refusal old new loaded checked plains taken grown contents adopted (why answers counted)
 
   -- what is made of automata that are lent can be written
   module _ (right : IsRight checked) (contents : List (Content Sign)) (lent : AreLentFor checked.mode checked.imports contents) (solution : Solution) where

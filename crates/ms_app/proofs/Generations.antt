@@ -1,6 +1,7 @@
 -- What comes of a generated source.
 use Rattle.std.proofs.Common.{◌≡◌, ◌⊎◌, inl, inr, ℕ, true, List, [], ◌∷◌, ◌++◌, length, map, None, refl, sym, ap, subst, ◌∙◌}
 use Rattle.ms_dfa.specs.declared.plain.FileVersion.TheVariants as versions
+use Rattle.ms_dfafile_imports.specs.Adopted.{AreAdopted}
 use Rattle.ms_dfafile_imports.specs.Imports.{answers_by}
 use Rattle.ms_include.specs.Load.{IsLoadedText}
 use Rattle.ms_dfa.specs.declared.plain.Plain.{Plain}
@@ -100,10 +101,10 @@ module _ (number : ℕ) (is_number : IsNumber number) (bytes : List ℕ) (is_tex
     taken : IsTaken (text_of generated_name bytes) None loaded checked []
     taken = record { is = is; free = tt; imported = (alone.0, refl) }
 
-    pub text_unsolved : (contents : List (Content Sign)) → AreAnswersOf checked.mode checked.imports (answers_by checked.imports []) contents → (refusal : Refusal)
+    pub text_unsolved : (contents : List (Content Sign)) → AreAdopted node_limit checked.mode checked.imports [] contents → (refusal : Refusal)
         → (refusal ≡ Memory) ⊎ IsUnsolved checked (answers_by checked.imports []) contents node_limit refusal → IsRefusedGeneration number refusal
-    text_unsolved contents answer refusal (inl memory) = inl memory
-    text_unsolved contents answer refusal (inr why) = wanting number is_number refusal new (text_refused grown refusal (unsolved loaded checked [] taken (sym is.is_loaded.files) contents answer why))
+    text_unsolved contents adopted refusal (inl memory) = inl memory
+    text_unsolved contents adopted refusal (inr why) = wanting number is_number refusal new (text_refused grown refusal (unsolved loaded checked [] taken (sym is.is_loaded.files) contents adopted why))
 
     pub text_decided : (found : Found) (files : List File) → IsFound (problem_with checked []) (map (λ g. g.name) checked.globals) found → IsWithinLimits (problem_with checked [])
         → HasStats true (problem_with checked []) (length loaded.files) found.stats → AreFilesOf versions.Two (problem_with checked []) (map (λ g. g.name) checked.globals) checked.exports None files
@@ -121,6 +122,11 @@ module _ (number : ℕ) (is_number : IsNumber number) (bytes : List ℕ) (is_tex
     nothing_lent contents same =
         let P : List ImportUse → Type 0 = λ uses. AreLentFor checked.mode uses [] in
         subst (AreLentFor checked.mode checked.imports) (sym same) (subst P (sym alone.0) tt)
+
+    pub nothing_adopted : (contents : List (Content Sign)) → contents ≡ [] → AreAdopted node_limit checked.mode checked.imports [] contents
+    nothing_adopted contents same =
+        let P : List ImportUse → Type 0 = λ uses. AreAdopted node_limit checked.mode uses [] [] in
+        subst (AreAdopted node_limit checked.mode checked.imports []) (sym same) (subst P (sym alone.0) tt)
 
     pub nothing_answers : (contents : List (Content Sign)) → contents ≡ [] → AreAnswersOf checked.mode checked.imports (answers_by checked.imports []) contents
     nothing_answers contents same =

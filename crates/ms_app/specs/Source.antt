@@ -4,6 +4,7 @@ use Rattle.ms_dfa.specs.declared.plain.Plain.{Plain}
 use Rattle.ms_edge.specs.declared.refusal.Refusal.{Refusal}
 use Rattle.ms_edge.specs.declared.refusal.Refusal.TheVariants.{Twice, Memory}
 use Rattle.ms_edge.specs.Files.{Seen}
+use Rattle.ms_dfafile_imports.specs.Adopted.{AreAdopted}
 use Rattle.ms_dfafile_imports.specs.Imports.{AreImported, IsUnimported, answers_by}
 use Rattle.ms_include.specs.Load.{files_of, IsLoaded, IsLoadedText, IsRefusedLoad, IsRefusedText}
 use Rattle.ms_logic.specs.declared.checked.Checked.{Checked}
@@ -17,7 +18,6 @@ use Rattle.ms_names_rules.specs.Checking.{IsFirstFault}
 use Rattle.ms_names_rules.specs.Declarations.{first_fault_of}
 use Rattle.ms_names_rules.specs.TypedSource.{IsTyped}
 use Rattle.ms_names_rules.specs.View.{placed_of}
-use Rattle.ms_build_source.specs.Imported.{AreAnswersOf}
 use Rattle.ms_build_source.specs.Limits.{IsUnsolved, IsWithinLimits}
 use Rattle.ms_logic_words.specs.Content.{Content}
 use Rattle.ms_logic_words.specs.declared.sign.Sign.{Sign}
@@ -95,9 +95,9 @@ pub data IsRefused (origin : Origin) (out : Option (List ℕ)) (limit : ℕ) (re
   -- a file that it imports cannot be taken
   unimported : (loaded : Loaded) (checked : Checked) (is : IsAccepted origin loaded checked) (free : IsOutFree out checked.exports) (all : read ≡ loaded.files)
       (why : origin.IsUnimported checked.mode limit checked.imports refusal) → IsRefused origin out limit refusal read
-  -- all are taken, and it is not solved over automata that answer what the files say
+  -- all are taken, and it is not solved over the automata of its imports: they answer what the files say, and are within the limit
   unsolved : (loaded : Loaded) (checked : Checked) (plains : List Plain) (is : IsTaken origin out loaded checked plains) (all : read ≡ loaded.files)
-      (contents : List (Content Sign)) (answer : AreAnswersOf checked.mode checked.imports (answers_by checked.imports plains) contents)
+      (contents : List (Content Sign)) (adopted : AreAdopted limit checked.mode checked.imports plains contents)
       (why : IsUnsolved checked (answers_by checked.imports plains) contents limit refusal) → IsRefused origin out limit refusal read
   -- want of memory needs no cause
   no_memory : (why : refusal ≡ Memory) → IsRefused origin out limit refusal read

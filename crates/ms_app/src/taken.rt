@@ -74,7 +74,7 @@ pub fn take_file<F: Files>(
     requires limit { IsLimit wanted.max_nodes }
     ensures taken { IfOk result (λ made. (loaded : Declarations) × (plains : List Plain)
         × IsTaken (file_of (between (F.told files.old) (F.told files.new)) (length names.old) name.now) (option_copied wanted.entry.out) loaded made.source.checked plains
-        × AreAdopted made.source.checked.mode made.source.checked.imports plains made.imports
+        × AreAdopted wanted.entry.max_nodes made.source.checked.mode made.source.checked.imports plains made.imports
         × (made.source.files ≡ length loaded.files) × (length loaded.files ≤ 64) × (names.new ≡ names.old ++ loaded.files)) }
     ensures right { IfOk result (λ made. IsRight made.source.checked) }
     ensures refused { IfErr result (λ refusal. (refusal ≡ Refusal.Memory) ⊎ ((read : List (List ℕ)) × (names.new ≡ names.old ++ read)

@@ -17,40 +17,40 @@ use Rattle.ms_logic_words.specs.declared.sign.Sign.{Sign}
 use Rattle.ms_logic_words.specs.Content.{Content}
 
 -- what was taken stays taken while more contents are noted
-taken-kept : (mode : Mode) (old new : Table) (uses : List ImportUse) (contents : List (Content Sign)) → AreKept old new → AreTaken mode old uses contents → AreTaken mode new uses contents
-taken-kept mode old new [] [] kept h = tt
-taken-kept mode old new [] (content ∷ contents) kept h = h
-taken-kept mode old new (used ∷ uses) [] kept h = h
-taken-kept mode old new (used ∷ uses) (content ∷ contents) kept h = (
+taken-kept : (limit : ℕ) (mode : Mode) (old new : Table) (uses : List ImportUse) (contents : List (Content Sign)) → AreKept old new → AreTaken limit mode old uses contents → AreTaken limit mode new uses contents
+taken-kept limit mode old new [] [] kept h = tt
+taken-kept limit mode old new [] (content ∷ contents) kept h = h
+taken-kept limit mode old new (used ∷ uses) [] kept h = h
+taken-kept limit mode old new (used ∷ uses) (content ∷ contents) kept h = (
   record { plain = h.0.plain; noted = kept used.name h.0.plain h.0.noted; importable = h.0.importable; adopted = h.0.adopted },
-  taken-kept mode old new uses contents kept h.1,
+  taken-kept limit mode old new uses contents kept h.1,
 )
 
-taken-more : (mode : Mode) (table : Table) (uses : List ImportUse) (used : ImportUse) (contents : List (Content Sign)) (content : Content Sign) → AreTaken mode table uses contents → IsTaken mode table used content
-    → AreTaken mode table (uses ++ used ∷ []) (contents ++ content ∷ [])
-taken-more mode table [] used [] content h one = (one, tt)
-taken-more mode table [] used (c ∷ cs) content h one = absurd h
-taken-more mode table (u ∷ us) used [] content h one = absurd h
-taken-more mode table (u ∷ us) used (c ∷ cs) content h one = (h.0, taken-more mode table us used cs content h.1 one)
+taken-more : (limit : ℕ) (mode : Mode) (table : Table) (uses : List ImportUse) (used : ImportUse) (contents : List (Content Sign)) (content : Content Sign) → AreTaken limit mode table uses contents → IsTaken limit mode table used content
+    → AreTaken limit mode table (uses ++ used ∷ []) (contents ++ content ∷ [])
+taken-more limit mode table [] used [] content h one = (one, tt)
+taken-more limit mode table [] used (c ∷ cs) content h one = absurd h
+taken-more limit mode table (u ∷ us) used [] content h one = absurd h
+taken-more limit mode table (u ∷ us) used (c ∷ cs) content h one = (h.0, taken-more limit mode table us used cs content h.1 one)
 
 -- one import more
-pub taken-next : (mode kept_mode : Mode) (old new : Table) (uses : List ImportUse) (i : ℕ) (used : ImportUse) (before after : List (Content Sign)) → kept_mode ≡ mode → AreKept old new → i < length uses
-    → used ≡ get_or uses i used → AreTaken mode old (take i uses) before → OneIsTaken kept_mode new used before after → AreTaken mode new (take (i + 1) uses) after
-taken-next mode kept_mode old new uses i used before after same kept within is h (content, behind, one) =
-    subst (AreTaken mode new (take (i + 1) uses)) (sym behind)
-    (subst (λ us. AreTaken mode new us (before ++ content ∷ [])) (ap (λ u. take i uses ++ u ∷ []) is ∙ sym (take_more uses i used within))
-    (taken-more mode new (take i uses) used before content (taken-kept mode old new (take i uses) before kept h) (subst (λ m. IsTaken m new used content) same one)))
+pub taken-next : (limit kept_limit : ℕ) (mode kept_mode : Mode) (old new : Table) (uses : List ImportUse) (i : ℕ) (used : ImportUse) (before after : List (Content Sign)) → kept_limit ≡ limit → kept_mode ≡ mode → AreKept old new → i < length uses
+    → used ≡ get_or uses i used → AreTaken limit mode old (take i uses) before → OneIsTaken kept_limit kept_mode new used before after → AreTaken limit mode new (take (i + 1) uses) after
+taken-next limit kept_limit mode kept_mode old new uses i used before after same_limit same kept within is h (content, behind, one) =
+    subst (AreTaken limit mode new (take (i + 1) uses)) (sym behind)
+    (subst (λ us. AreTaken limit mode new us (before ++ content ∷ [])) (ap (λ u. take i uses ++ u ∷ []) is ∙ sym (take_more uses i used within))
+    (taken-more limit mode new (take i uses) used before content (taken-kept limit mode old new (take i uses) before kept h) (subst (λ m. IsTaken limit m new used content) same (subst (λ n. IsTaken n kept_mode new used content) same_limit one))))
 
 -- the contents of the files of what was taken
-abbrev ContentsAre : Option Holding → Mode → Table → List ImportUse → List (Content Sign) → Type 0
-ContentsAre held mode table uses contents = (plains : List Plain) × EachImported held mode uses plains × AreNoted table uses plains × AreAdopted mode uses plains contents
+abbrev ContentsAre : ℕ → Option Holding → Mode → Table → List ImportUse → List (Content Sign) → Type 0
+ContentsAre limit held mode table uses contents = (plains : List Plain) × EachImported held mode uses plains × AreNoted table uses plains × AreAdopted limit mode uses plains contents
 
-contents-are : (held : Option Holding) (mode : Mode) (table : Table) (uses : List ImportUse) (contents : List (Content Sign)) → AreHeld held table → AreTaken mode table uses contents → ContentsAre held mode table uses contents
-contents-are held mode table [] [] each h = ([], tt, tt, tt)
-contents-are held mode table [] (content ∷ contents) each h = absurd h
-contents-are held mode table (used ∷ uses) [] each h = absurd h
-contents-are held mode table (used ∷ uses) (content ∷ contents) each h =
-    let rest = contents-are held mode table uses contents each h.1 in (
+contents-are : (limit : ℕ) (held : Option Holding) (mode : Mode) (table : Table) (uses : List ImportUse) (contents : List (Content Sign)) → AreHeld held table → AreTaken limit mode table uses contents → ContentsAre limit held mode table uses contents
+contents-are limit held mode table [] [] each h = ([], tt, tt, tt)
+contents-are limit held mode table [] (content ∷ contents) each h = absurd h
+contents-are limit held mode table (used ∷ uses) [] each h = absurd h
+contents-are limit held mode table (used ∷ uses) (content ∷ contents) each h =
+    let rest = contents-are limit held mode table uses contents each h.1 in (
       h.0.plain ∷ rest.0,
       (record { is_held = each used.name h.0.plain h.0.noted; importable = h.0.importable }, rest.1),
       (h.0.noted, rest.2),
@@ -75,18 +75,18 @@ one-content table uses plains h i j one other p q at_i at_j same is_p is_q =
     one-some p q (sym (noted-at table uses plains i one p h at_i is_p) ∙ ap table same ∙ noted-at table uses plains j other q h at_j is_q)
 
 -- imports that are taken are imported
-pub taken-imported : (held : Option Holding) (mode : Mode) (table : Table) (uses : List ImportUse) (contents : List (Content Sign)) → AreHeld held table → AreTaken mode table uses contents
-    → (plains : List Plain) × AreImported held mode uses plains × AreAdopted mode uses plains contents
-taken-imported held mode table uses contents each h =
-    let all = contents-are held mode table uses contents each h in
+pub taken-imported : (limit : ℕ) (held : Option Holding) (mode : Mode) (table : Table) (uses : List ImportUse) (contents : List (Content Sign)) → AreHeld held table → AreTaken limit mode table uses contents
+    → (plains : List Plain) × AreImported held mode uses plains × AreAdopted limit mode uses plains contents
+taken-imported limit held mode table uses contents each h =
+    let all = contents-are limit held mode table uses contents each h in
     (all.0, record { each = all.1; once = one-content table uses all.0 all.2 }, all.3)
 
 -- each import that is taken has an automaton
-taken-long : (mode : Mode) (table : Table) (uses : List ImportUse) (contents : List (Content Sign)) → AreTaken mode table uses contents → length contents ≡ length uses
-taken-long mode table [] [] h = refl
-taken-long mode table [] (content ∷ contents) h = absurd h
-taken-long mode table (used ∷ uses) [] h = absurd h
-taken-long mode table (used ∷ uses) (content ∷ contents) h = ap suc (taken-long mode table uses contents h.1)
+taken-long : (limit : ℕ) (mode : Mode) (table : Table) (uses : List ImportUse) (contents : List (Content Sign)) → AreTaken limit mode table uses contents → length contents ≡ length uses
+taken-long limit mode table [] [] h = refl
+taken-long limit mode table [] (content ∷ contents) h = absurd h
+taken-long limit mode table (used ∷ uses) [] h = absurd h
+taken-long limit mode table (used ∷ uses) (content ∷ contents) h = ap suc (taken-long limit mode table uses contents h.1)
 
 -- why a file is not imported, with the number of the import in the place of 0
 at-place : (plain : Plain) (used : ImportUse) (mode : Mode) (limit place : ℕ) (refusal : Refusal) → IsNotImportable plain used mode limit refusal → IsNotTaken plain used mode limit place (refused_at place refusal)
@@ -100,12 +100,12 @@ not-taken plain used mode limit place refusal made why (inr is) = inr (subst (Is
 
 -- an import that fails, behind those that are taken
 pub refused-at : (start one two : FilesTold) (mode kept_mode : Mode) (limit kept_limit : ℕ) (table : Table) (imports uses : List ImportUse) (i : ℕ) (used : ImportUse) (contents : List (Content Sign)) (refusal : Refusal)
-    → uses ≡ imports → kept_mode ≡ mode → kept_limit ≡ limit → OnlyRead start one → AreHeld start.held table → i < length uses → used ≡ get_or uses i used → AreTaken mode table (take i uses) contents
+    → uses ≡ imports → kept_mode ≡ mode → kept_limit ≡ limit → OnlyRead start one → AreHeld start.held table → i < length uses → used ≡ get_or uses i used → AreTaken limit mode table (take i uses) contents
     → (refusal ≡ Memory) ⊎ IsRefusedAt (between one two) kept_mode kept_limit (length contents) used refusal → (refusal ≡ Memory) ⊎ IsUnimported (between start two) mode limit imports refusal
 refused-at start one two mode kept_mode limit kept_limit table imports uses i used contents refusal are mode_is limit_is read each within is h (inl memory) = inl memory
 refused-at start one two mode kept_mode limit kept_limit table imports uses i used contents refusal are mode_is limit_is read each within is h (inr why) =
-    let before = taken-imported start.held mode table (take i uses) contents each h in
-    let long : length contents ≡ i = taken-long mode table (take i uses) contents h ∙ length-take-le i uses (omega (arith, within)) in
+    let before = taken-imported limit start.held mode table (take i uses) contents each h in
+    let long : length contents ≡ i = taken-long limit mode table (take i uses) contents h ∙ length-take-le i uses (omega (arith, within)) in
     let here = subst (λ m. IsRefusedAt (between one two) m limit i used refusal) mode_is (subst (λ n. IsRefusedAt (between one two) kept_mode n i used refusal) limit_is (subst (λ p. IsRefusedAt (between one two) kept_mode kept_limit p used refusal) long why)) in
     inr (subst (λ us. IsUnimported (between start two) mode limit us refusal) are (record {
       place = i;

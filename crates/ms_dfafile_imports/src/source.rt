@@ -27,7 +27,7 @@ pub fn imports<F: Files>(
     requires small { limit ≤ 4000000000 }
     ensures imported { IfOk result (λ automata. (plains : Sequence Plain)
         × AreImported (F.told files.old).held checked.now.mode checked.now.imports plains
-        × AreAdopted checked.now.mode checked.now.imports plains automata) }
+        × AreAdopted limit checked.now.mode checked.now.imports plains automata) }
     ensures refused { IfErr result (λ refusal. (refusal ≡ Refusal.Memory)
         ⊎ IsUnimported (between (F.told files.old) (F.told files.new)) checked.now.mode limit checked.now.imports refusal) }
 

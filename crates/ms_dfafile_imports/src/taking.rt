@@ -50,7 +50,7 @@ impl Taking {
         requires different { AreDifferent (map (λ pair. pair.name) used.now.pairs) }
         requires some { 1 ≤ self.now.limit }
         requires small { self.now.limit ≤ 4000000000 }
-        ensures taken { IfOk result (IsTaken self.now.mode (λ n. get_by_text self.now.contents n) used.now) }
+        ensures taken { IfOk result (IsTaken self.now.limit self.now.mode (λ n. get_by_text self.now.contents n) used.now) }
         ensures refused { IfErr result (λ refusal. (refusal ≡ Refusal.Memory) ⊎ ((plain : Content) × (get_by_text self.now.contents used.now.name ≡ Some plain)
             × IsNotTaken plain used.now self.now.mode self.now.limit (length self.now.automata) refusal)) }
     {
@@ -73,7 +73,7 @@ impl Taking {
         ensures limit { OnOk result (self.new.limit ≡ self.old.limit) }
         ensures kept { OnOk result (AreKept (λ n. get_by_text self.old.contents n) (λ n. get_by_text self.new.contents n)) }
         ensures held { OnOk result (AreHeld (F.told files.old).held (λ n. get_by_text self.new.contents n)) }
-        ensures taken { OnOk result (OneIsTaken self.old.mode (λ n. get_by_text self.new.contents n) used.now self.old.automata self.new.automata) }
+        ensures taken { OnOk result (OneIsTaken self.old.limit self.old.mode (λ n. get_by_text self.new.contents n) used.now self.old.automata self.new.automata) }
         ensures refused { IfErr result (λ refusal. (refusal ≡ Refusal.Memory)
             ⊎ IsRefusedAt (between (F.told files.old) (F.told files.new)) self.old.mode self.old.limit (length self.old.automata) used.now refusal) }
 

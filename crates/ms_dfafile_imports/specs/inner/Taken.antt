@@ -29,21 +29,21 @@ abbrev pub IsNoted : Table → Table → List ℕ → Plain → Type 0
 IsNoted old new name plain = (n : List ℕ) → new n ≡ (if bytes_eq name n then Some plain else old n)
 
 -- the import can be taken, by the content that is noted for its file, and this is its automaton
-pub record IsTaken (mode : Mode) (table : Table) (used : ImportUse) (content : Content Sign) : Type 0 where
+pub record IsTaken (limit : ℕ) (mode : Mode) (table : Table) (used : ImportUse) (content : Content Sign) : Type 0 where
   pub plain : Plain
   pub noted : table used.name ≡ Some plain
   pub importable : IsImportable plain mode used.pairs
-  pub adopted : IsAdopted mode used plain content
+  pub adopted : IsAdopted limit mode used plain content
 
 -- its automaton stands behind those before
-abbrev pub OneIsTaken : Mode → Table → ImportUse → List (Content Sign) → List (Content Sign) → Type 0
-OneIsTaken mode table used old new = (content : Content Sign) × (new ≡ old ++ content ∷ []) × IsTaken mode table used content
+abbrev pub OneIsTaken : ℕ → Mode → Table → ImportUse → List (Content Sign) → List (Content Sign) → Type 0
+OneIsTaken limit mode table used old new = (content : Content Sign) × (new ≡ old ++ content ∷ []) × IsTaken limit mode table used content
 
-abbrev pub AreTaken : Mode → Table → List ImportUse → List (Content Sign) → Type 0
-AreTaken mode table [] [] = Unit {0}
-AreTaken mode table [] (content ∷ contents) = ⊥
-AreTaken mode table (used ∷ uses) [] = ⊥
-AreTaken mode table (used ∷ uses) (content ∷ contents) = IsTaken mode table used content × AreTaken mode table uses contents
+abbrev pub AreTaken : ℕ → Mode → Table → List ImportUse → List (Content Sign) → Type 0
+AreTaken limit mode table [] [] = Unit {0}
+AreTaken limit mode table [] (content ∷ contents) = ⊥
+AreTaken limit mode table (used ∷ uses) [] = ⊥
+AreTaken limit mode table (used ∷ uses) (content ∷ contents) = IsTaken limit mode table used content × AreTaken limit mode table uses contents
 
 -- the contents that are noted for the files of imports
 abbrev pub AreNoted : Table → List ImportUse → List Plain → Type 0

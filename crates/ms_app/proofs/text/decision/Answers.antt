@@ -17,7 +17,7 @@ pub decide-requires-clause-imports : goal.decide-requires-clause-imports
 decide-requires-clause-imports g c =
     let made = c.in-Ok.ensures.taken in
     let checked = c.in-Ok.taken.source.checked in
-    are_lent checked.mode checked.imports made.1 c.in-Ok.taken.imports made.3
+    are_lent c.args.options.max_nodes checked.mode checked.imports made.1 c.in-Ok.taken.imports made.3
 
 pub returns-in-Err-decide-clause-refused : goal.returns-in-Err-decide-clause-refused
 returns-in-Err-decide-clause-refused g c =
@@ -30,7 +30,7 @@ returns-in-Err-decide-clause-refused g c =
     let made = c.in-Ok.ensures.taken in
     let refusal = c.in-Err-decide.refusal in
     first_refused name out limit seen old new refusal c.requires.first
-    (unsolved_of c.in-Ok.taken.source.checked made.1 c.in-Ok.taken.imports made.3 (file_of seen (length old) name) out made.0 made.2 limit refusal old new made.6 c.in-Err-decide.ensures.refused)
+    (unsolved_of c.in-Ok.taken.source.checked limit made.1 c.in-Ok.taken.imports made.3 (file_of seen (length old) name) out made.0 made.2 refusal old new made.6 c.in-Err-decide.ensures.refused)
 
 pub returns-in-Ok-report-clause-given : goal.returns-in-Ok-report-clause-given
 returns-in-Ok-report-clause-given g c =
@@ -41,7 +41,7 @@ returns-in-Ok-report-clause-given g c =
     let made = c.in-Ok.ensures.taken in
     let decided = c.in-Ok-decide.decided in
     let is =
-    decided_of c.in-Ok.taken.source.checked made.1 c.in-Ok.taken.imports made.3 (file_of seen (length old) name) out made.0 made.2 c.args.options.stats c.args.options.format c.in-Ok.taken.source.files made.4 decided.found
+    decided_of c.in-Ok.taken.source.checked c.args.options.max_nodes made.1 c.in-Ok.taken.imports made.3 (file_of seen (length old) name) out made.0 made.2 c.args.options.stats c.args.options.format c.in-Ok.taken.source.files made.4 decided.found
     (pairs_of decided.files) c.in-Ok-decide.ensures.found c.in-Ok-decide.ensures.within in
     (decided.found, first_decided seen name out c.args.options.stats c.args.options.format decided.found (pairs_of decided.files) old c.requires.first is, c.in-Ok-report.ensures)
 
@@ -53,5 +53,5 @@ returns-in-Ok-report-clause-own_names g c =
     let old = c.args.names.now in
     let made = c.in-Ok.ensures.taken in
     let decided = c.in-Ok-decide.decided in
-    own_names_of c.in-Ok.taken.source.checked made.1 c.in-Ok.taken.imports made.3 (file_of seen (length old) name) out made.0 made.2 c.in-Ok.ensures.right c.args.options.stats c.args.options.format
+    own_names_of c.in-Ok.taken.source.checked c.args.options.max_nodes made.1 c.in-Ok.taken.imports made.3 (file_of seen (length old) name) out made.0 made.2 c.in-Ok.ensures.right c.args.options.stats c.args.options.format
     c.in-Ok.taken.source.files decided.found (pairs_of decided.files) c.in-Ok-decide.ensures.found

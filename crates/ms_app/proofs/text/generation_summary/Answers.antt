@@ -5,7 +5,7 @@ use Rattle.ms_report.specs.Report.{summary_of}
 use Rattle.ms_app.specs.Counts.{HasStats}
 use Rattle.ms_app.specs.inner.Files.{pairs_of}
 use Rattle.ms_app.specs.Source.{problem_with}
-use Rattle.ms_app.proofs.Generations.{no_files, nothing_answers, nothing_counted, nothing_lent, text_decided, text_unaccepted, text_unsolved}
+use Rattle.ms_app.proofs.Generations.{no_files, nothing_adopted, nothing_answers, nothing_counted, nothing_lent, text_decided, text_unaccepted, text_unsolved}
 use Rattle.ms_app.proofs.text.generation_summary.Goals as goal
 
 pub accept_text-requires : goal.accept_text-requires
@@ -28,10 +28,10 @@ returns-in-Err-decide-clause-refused c = λ seen.
     let checked = c.in-Ok-accept_text.source.checked in
     let long =
     nothing_counted c.args.number c.in-Ok.ensures.is_number c.in-Ok.text c.in-Ok.ensures.text c.args.names.now c.accept_text.new.names c.requires.first made.0 checked made.1 c.in-Ok-accept_text.ensures.names in
-    let answers = nothing_answers c.args.number c.in-Ok.ensures.is_number c.in-Ok.text c.in-Ok.ensures.text c.args.names.now c.accept_text.new.names c.requires.first made.0 checked made.1
+    let adopted = nothing_adopted c.args.number c.in-Ok.ensures.is_number c.in-Ok.text c.in-Ok.ensures.text c.args.names.now c.accept_text.new.names c.requires.first made.0 checked made.1
     c.in-Ok-accept_text.ensures.names c.new.result c.new.ensures in
     text_unsolved c.args.number c.in-Ok.ensures.is_number c.in-Ok.text c.in-Ok.ensures.text c.args.names.now c.accept_text.new.names c.requires.first made.0 checked made.1
-    c.in-Ok-accept_text.ensures.names c.new.result answers c.in-Err-decide.refusal (c.in-Err-decide.ensures.refused (answers_by checked.imports []) long)
+    c.in-Ok-accept_text.ensures.names c.new.result adopted c.in-Err-decide.refusal (c.in-Err-decide.ensures.refused (answers_by checked.imports []) long)
 
 pub returns-in-Ok-summary-clause-given : goal.returns-in-Ok-summary-clause-given
 returns-in-Ok-summary-clause-given c = λ seen.

@@ -9,4 +9,4 @@ abbrev pub invariant-loop-used : goal.invariant-loop-used
 invariant-loop-used g l =
     (l.taking.mode ≡ l.checked.mode) × (l.taking.limit ≡ l.limit) × OnlyRead (g.F.Files.told l.fn.files) (g.F.Files.told l.files)
     × AreHeld (g.F.Files.told l.fn.files).held (λ n. get_by_text l.taking.contents n)
-    × AreTaken l.checked.mode (λ n. get_by_text l.taking.contents n) (take l.used-index l.used-items) l.taking.automata
+    × AreTaken l.limit l.checked.mode (λ n. get_by_text l.taking.contents n) (take l.used-index l.used-items) l.taking.automata
