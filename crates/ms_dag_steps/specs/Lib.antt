@@ -1,0 +1,5 @@
+pub mod Laws
+pub mod NodeSteps
+pub mod Occurrences
+pub mod Subformulas
+pub mod inner

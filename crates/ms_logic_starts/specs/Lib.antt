@@ -1,0 +1,5 @@
+pub mod AtLeast
+pub mod ContentStarts
+pub mod FirstBits
+pub mod NeededApart
+pub mod inner
