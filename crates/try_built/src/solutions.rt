@@ -4,6 +4,7 @@ ghost use Rattle.ms_names_rules.specs.Numbers.{IsWellNumbered};
 
 use anyhow::{Result, bail};
 use ms_build_source::{Solution, solve};
+use ms_dfa::FileVersion;
 use ms_include::load_bytes;
 use ms_list::{Bytes, List};
 use ms_logic::Checked;
@@ -40,7 +41,7 @@ fn tell_checked(rt: &HostRuntime, checked: &Checked) -> Result<()>
     requires none { checked.now.imports ≡ [] }
 {
     let imports = List::new(rt.alloc());
-    let Ok(solution) = solve(rt.alloc(), checked, &imports, LIMIT, true) else {
+    let Ok(solution) = solve(rt.alloc(), checked, &imports, LIMIT, Some(FileVersion::Two)) else {
         bail!("the source is not solved");
     };
     tell_solution(rt, &solution)
