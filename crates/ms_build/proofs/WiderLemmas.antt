@@ -8,7 +8,7 @@ use Rattle.ms_dfa_explore.proofs.TracksLemmas.{among-left, among-right, merged-l
 use Rattle.ms_basic.specs.Operands.{HaveOneOrder}
 use Rattle.ms_product.specs.Combined.{HaveEqualOrders}
 use Rattle.ms_rename.proofs.RenamedLemmas.{HasValues-same}
-use Rattle.ms_minim.specs.Residual.{HaveEqualSigns, HasFewestStates}
+use Rattle.ms_minim.specs.Residual.{HaveEqualSigns, IsLeast}
 use Rattle.ms_logic.specs.declared.mode.Mode.{Mode}
 use Rattle.ms_logic_words.specs.declared.sign.Sign.{Sign}
 use Rattle.ms_logic.specs.Assignment.{Variable}
@@ -115,13 +115,14 @@ over_by mode over meaning part tracks (Ok made) automaton mode_is values tracks_
 over_by mode over meaning part tracks (Err fault) automaton mode_is values tracks_are among is = tt
 
 -- what is short of nodes once some variables were added is so from the beginning
-pub widening_then : (limit : ℕ) (part wide : Content Sign) (wanted first second : List Variable) → IsAutomaton wide → IsWider part first wide → (wide ≡ part) ⊎ HasFewestStates wide
+pub widening_then : (limit : ℕ) (part wide : Content Sign) (wanted first second : List Variable) → IsAutomaton wide → IsWider part first wide → (wide ≡ part) ⊎ IsLeast wide
     → ((v : Variable) → IsAmong first v → IsAmong wanted v) → ((v : Variable) → IsAmong second v → IsAmong wanted v) → WideningLacks limit wide second → WideningLacks limit part wanted
-widening_then limit part wide wanted first second automaton wider fewest first_among second_among lacks = record {
+widening_then limit part wide wanted first second automaton wider least first_among second_among lacks = record {
   wide = lacks.wide;
+  automaton = lacks.automaton;
   added = first ++ lacks.added;
   is_wide = IsWider-then part wide lacks.wide first lacks.added automaton wider lacks.is_wide;
-  fewest = ⊎_elim (λ same. ⊎_elim (λ own. inl (same ∙ own)) (λ few. inr (subst HasFewestStates (sym same) few)) fewest) inr lacks.fewest;
+  least = ⊎_elim (λ same. ⊎_elim (λ own. inl (same ∙ own)) (λ few. inr (subst IsLeast (sym same) few)) least) inr lacks.least;
   next = lacks.next;
   among = λ v. ⊎_elim
       (λ added. ⊎_elim (first_among v) (λ later. second_among v (lacks.among v (inl later))) (among_either first lacks.added v added))

@@ -8,6 +8,8 @@ use Rattle.ms_dag.specs.declared.node.Child.{Child}
 use Rattle.ms_dag.specs.declared.node.DagNode.{DagNode}
 use Rattle.ms_dag.specs.declared.node.DagNode.TheVariants.{True, False, Basic, Not, And, Or, Implies, Iff, Restrict, Import, Bind}
 use Rattle.ms_dag.specs.declared.node.Entry.{Entry}
+use Rattle.ms_dfa.specs.Automaton.{IsAutomaton}
+use Rattle.ms_dfa_explore.specs.Tracks.{distinct}
 use Rattle.ms_edge.specs.declared.refusal.Refusal.{Refusal}
 use Rattle.ms_edge.specs.declared.refusal.Refusal.TheVariants.{Nodes, Memory}
 use Rattle.ms_logic.specs.Assignment.{Variable}
@@ -16,13 +18,13 @@ use Rattle.ms_logic.specs.declared.mode.Mode.{Mode}
 use Rattle.ms_logic.specs.declared.mode.Order.{Order}
 use Rattle.ms_logic_words.specs.Content.{Content, variables_by_place}
 use Rattle.ms_logic_words.specs.declared.sign.Sign.{Sign}
-use Rattle.ms_minim.specs.Residual.{HasFewestStates, HaveEqualSigns}
+use Rattle.ms_minim.specs.Residual.{HaveEqualSigns, IsLeast}
 use Rattle.ms_product.specs.Pairing.{AreAtLeast, operands_of}
 use Rattle.ms_product.specs.declared.op.Op.{Op}
 use Rattle.ms_project.specs.Always.{domain_or_always}
 use Rattle.ms_project.specs.Projection as projections
-use Rattle.ms_rename.specs.Renamed.{HasPartsOf, NeedsAtLeast, renamed_places}
-use Rattle.ms_rename.specs.Whole.{IsWhole}
+use Rattle.ms_rename.specs.Renamed.{HasPartsOf, NeedsAtLeast, renamed, renamed_places}
+use Rattle.ms_rename.specs.Whole.{IsSmallWhole}
 use Rattle.ms_build.specs.Built.{IsBodyOf, IsBrought, IsBuiltAt, IsManyOf, entries_of, op_of}
 use Rattle.ms_build.specs.Roots.{named}
 use Rattle.ms_build.specs.Wider.{IsWider}
@@ -30,11 +32,14 @@ use Rattle.ms_build.specs.declared.plan.Many.{Many}
 use Rattle.ms_build.specs.declared.plan.Many.TheVariants.{All, Any}
 use Rattle.ms_build.specs.declared.plan.Plan.{Plan}
 
--- the automaton of a child: it has the states and nodes of that of the child's node, and the child's value wherever it is read
+-- the automaton of a child: that of the child's node, with its states and nodes, over the variables that the map gives it; it has the
+-- child's value wherever it is read
 pub record IsOperand (plan : Plan) (child : Child) (content : Content Sign) : Type 0 where
+  pub automaton : IsAutomaton content
   pub least : Content Sign
   pub is_least : IsBuiltAt plan child.node least
   pub parts : HasPartsOf least content
+  pub variables : content.variables ≡ distinct (renamed child.map least.variables)
   pub brought : IsBrought plan child content
 
 -- the connective of two children is short of nodes
@@ -47,9 +52,10 @@ pub record PairLacks (plan : Plan) (op : Op) (left right : Child) : Type 0 where
 
 -- the connective of the first children: the first one itself, or one with fewest states
 pub record IsOfFirst (plan : Plan) (many : Many) (children : List Child) (count : ℕ) (content : Content Sign) : Type 0 where
+  pub automaton : IsAutomaton content
   pub value : IsManyOf plan many (take count children) content
   pub alone : count ≡ 1 → (child : Child) × (slice_get children 0 ≡ Some child) × IsOperand plan child content
-  pub fewest : count ≢ 1 → HasFewestStates content
+  pub least : count ≢ 1 → IsLeast content
 
 -- the connective of many children is short of nodes: that of the first ones with the next one
 pub record ManyLacks (plan : Plan) (many : Many) (children : List Child) : Type 0 where
@@ -69,19 +75,20 @@ pub record ImportLacks (plan : Plan) (import : ℕ) (variables : List ℕ) : Typ
   pub here : slice_get plan.imports.now import ≡ Some content
   pub short :
       (plan.limit < length content.nodes + length content.states)
-      ⊎ ((few : Content Sign) × HaveEqualSigns content few × HasFewestStates few × NeedsAtLeast plan.limit few (renamed_places variables few.variables))
+      ⊎ ((few : Content Sign) × IsAutomaton few × HaveEqualSigns content few × IsLeast few × NeedsAtLeast plan.limit few (renamed_places variables few.variables))
 
 -- the product of an automaton with one that holds everywhere over some variables is short of nodes
 abbrev pub IsWideShort : ℕ → Content Sign → List Variable → Type 0
-IsWideShort limit wide next = (limit < 32) ⊎ ((other : Content Sign) × IsWhole next other × AreAtLeast limit Op.And (operands_of wide other))
+IsWideShort limit wide next = (limit < 32) ⊎ ((other : Content Sign) × IsSmallWhole next other × AreAtLeast limit Op.And (operands_of wide other))
 
 -- an automaton over more variables is short of nodes: over some of them it has fewest states, or is as it was, and over some more it is
 -- the product with an automaton that holds everywhere
 pub record WideningLacks (limit : ℕ) (part : Content Sign) (wanted : List Variable) : Type 0 where
   pub wide : Content Sign
+  pub automaton : IsAutomaton wide
   pub added : List Variable
   pub is_wide : IsWider part added wide
-  pub fewest : (wide ≡ part) ⊎ HasFewestStates wide
+  pub least : (wide ≡ part) ⊎ IsLeast wide
   pub next : List Variable
   pub among : (v : Variable) → IsAmong added v ⊎ IsAmong next v → IsAmong wanted v
   pub short : IsWideShort limit wide next
@@ -94,7 +101,7 @@ pub record ChildLacks (plan : Plan) (child : Child) (wanted : List Variable) : T
 
 -- the body of a quantifier over more variables: it has fewest states, or is as it was
 abbrev pub IsLeastBody : Plan → Child → Content Sign → Type 0
-IsLeastBody plan child whole = (part : Content Sign) × IsOperand plan child part × ((whole ≡ part) ⊎ HasFewestStates whole)
+IsLeastBody plan child whole = (part : Content Sign) × IsOperand plan child part × ((whole ≡ part) ⊎ IsLeast whole)
 
 -- the restriction of a quantifier
 abbrev pub IsDomain : Plan → Option Child → Option (Content Sign) → Type 0
@@ -106,6 +113,7 @@ IsDomain plan (Some child) (Some content) = IsOperand plan child content
 -- a quantifier is short of nodes, once its body is over all variables of the node and the bound one
 pub record ProjectionLacks (plan : Plan) (orders : List Order) (bound : Variable) (domain : Option Child) (body : Child) : Type 0 where
   pub whole : Content Sign
+  pub automaton : IsAutomaton whole
   pub range : Option (Content Sign)
   pub is_least : IsLeastBody plan body whole
   pub is_whole : IsBodyOf plan (orders ++ bound.order ∷ []) body whole

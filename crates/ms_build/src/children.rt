@@ -1,6 +1,6 @@
 ghost use Rattle.std.specs.Prelude.{◌≡◌, length, IfOk};
 ghost use Rattle.std.specs.List.Sorted.{IsStrictlyIncreasing};
-ghost use Rattle.ms_minim.specs.Residual.{AreReached, HasFewestStates, HaveDifferentResiduals, HaveEqualSigns};
+ghost use Rattle.ms_minim.specs.Residual.{HaveEqualSigns, IsLeast};
 ghost use Rattle.ms_build.specs.Built.{AreBuiltFor, HasOnly, IsBrought, IsLimit, IsReadSomewhere, IsThere, IsWithin};
 ghost use Rattle.ms_build.specs.Short.{IsOperand};
 
@@ -18,9 +18,7 @@ pub(crate) fn least(plan: &Plan, made: &Automaton) -> Result<Automaton, NoMemory
     ensures mode { IfOk result (λ least. least.mode ≡ made.now.mode) }
     ensures variables { IfOk result (λ least. least.variables ≡ made.now.variables) }
     ensures signs { IfOk result (HaveEqualSigns made.now) }
-    ensures fewest { IfOk result HasFewestStates }
-    ensures reached { IfOk result AreReached }
-    ensures differ { IfOk result HaveDifferentResiduals }
+    ensures least { IfOk result IsLeast }
     ensures within { IfOk result (IsWithin plan.now.limit) }
 {
     match minimise(plan.alloc, made, plan.limit) {
@@ -49,10 +47,13 @@ pub(crate) fn brought(
     ensures within { IfOk result (IsWithin plan.now.limit) }
 {
     let automaton = &built[child.node as usize];
-    // The states tell that it is an automaton.
+    // The states tell that these are automata.
     let _ = automaton.states();
     match rename(plan.alloc, automaton, child.map.slice(), plan.limit) {
-        Ok(made) => Ok(made),
+        Ok(made) => {
+            let _ = made.states();
+            Ok(made)
+        }
         Err(StepFault::Memory) => Err(NoMemory),
         // Where the variables rise, the automaton stays as it is but for their numbers.
         Err(StepFault::Nodes { .. }) => unreachable!(),

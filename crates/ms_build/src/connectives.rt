@@ -1,7 +1,7 @@
 ghost use Rattle.std.specs.Prelude.{◌≡◌, ◌≤◌, ◌⊎◌, [], length, All as Each, IfOk};
 ghost use Rattle.std.specs.List.Sorted.{IsStrictlyIncreasing};
 ghost use Rattle.ms_dfa_explore.specs.Explored.{OnRefused};
-ghost use Rattle.ms_minim.specs.Residual.{HasFewestStates, HaveEqualSigns};
+ghost use Rattle.ms_minim.specs.Residual.{HaveEqualSigns, IsLeast};
 ghost use Rattle.ms_build.specs.Built.{AreBuiltFor, AreReadSomewhere, AreReadable, IsLimit, IsManyOf, IsNegationOf, IsPairOf, IsReadSomewhere, IsRestrictionOf, IsThere, IsWithin, op_of};
 ghost use Rattle.ms_build.specs.Short.{ManyLacks, PairLacks};
 
@@ -127,7 +127,7 @@ fn of_first(plan: &Plan, made: Automaton, count: usize) -> Result<Automaton, NoM
     ensures mode { IfOk result (λ few. few.mode ≡ made.mode) }
     ensures variables { IfOk result (λ few. few.variables ≡ made.variables) }
     ensures signs { IfOk result (HaveEqualSigns made) }
-    ensures fewest { IfOk result (λ few. ¬ (count ≡ 1) → HasFewestStates few) }
+    ensures least { IfOk result (λ few. ¬ (count ≡ 1) → IsLeast few) }
 {
     if count == 1 {
         return Ok(made);

@@ -5,10 +5,10 @@ ghost use Rattle.ms_logic.specs.Lists.{AreRising, IsAmong};
 ghost use Rattle.ms_dfa.specs.Values.{own_meaning};
 ghost use Rattle.ms_basic.specs.Operands.{HaveOneOrder};
 ghost use Rattle.ms_dfa_explore.specs.Explored.{OnRefused};
-ghost use Rattle.ms_minim.specs.Residual.{HasFewestStates};
 ghost use Rattle.ms_product.specs.Combined.{HaveEqualOrders};
 ghost use Rattle.ms_rename.specs.Whole.{HasNoNumber};
 ghost use Rattle.ms_build.specs.Built.{IsLimit, IsOver, IsWithin};
+ghost use Rattle.ms_minim.specs.Residual.{IsLeast};
 ghost use Rattle.ms_build.specs.Short.{IsWideShort, WideningLacks};
 ghost use Rattle.ms_build.specs.Wider.{IsWider};
 
@@ -27,7 +27,7 @@ fn with_free(plan: &Plan, part: Automaton, tracks: &[Track]) -> Result<Automaton
     requires numbers { HasNoNumber (variables_of tracks.now) }
     requires orders { HaveEqualOrders part.variables (variables_of tracks.now) }
     ensures wider { IfOk result (IsWider part (variables_of tracks.now)) }
-    ensures fewest { IfOk result (λ made. (made ≡ part) ⊎ HasFewestStates made) }
+    ensures least { IfOk result (λ made. (made ≡ part) ⊎ IsLeast made) }
     ensures within { IfOk result (IsWithin plan.now.limit) }
     ensures nodes { OnRefused result (λ refused. IsWideShort plan.now.limit part (variables_of tracks.now)) }
 {
@@ -48,7 +48,7 @@ fn with_one(plan: &Plan, part: &Automaton, track: Track) -> Result<Automaton, St
     requires limit { IsLimit plan.now.limit }
     requires orders { HaveEqualOrders part.now.variables (variable_of track ∷ []) }
     ensures wider { IfOk result (IsWider part.now (variable_of track ∷ [])) }
-    ensures fewest { IfOk result HasFewestStates }
+    ensures least { IfOk result IsLeast }
     ensures within { IfOk result (IsWithin plan.now.limit) }
     ensures nodes { OnRefused result (λ refused. IsWideShort plan.now.limit part.now (variable_of track ∷ [])) }
 {
@@ -66,7 +66,7 @@ fn with_each(plan: &Plan, part: Automaton, tracks: &[Track]) -> Result<Automaton
     requires one { HaveOneOrder (variables_of tracks.now) }
     requires orders { HaveEqualOrders part.variables (variables_of tracks.now) }
     ensures wider { IfOk result (IsWider part (variables_of tracks.now)) }
-    ensures fewest { IfOk result (λ made. (made ≡ part) ⊎ HasFewestStates made) }
+    ensures least { IfOk result (λ made. (made ≡ part) ⊎ IsLeast made) }
     ensures within { IfOk result (IsWithin plan.now.limit) }
     ensures nodes { OnRefused result (λ refused. WideningLacks plan.now.limit part (variables_of tracks.now)) }
 {
@@ -92,7 +92,7 @@ pub(crate) fn over_tracks(
     requires rising { AreRising (variables_of tracks.now) }
     requires among { (v : Variable) → IsAmong part.variables v → IsAmong (variables_of tracks.now) v }
     ensures over { IfOk result (IsOver part.mode (variables_of tracks.now) (own_meaning part)) }
-    ensures fewest { IfOk result (λ made. (made ≡ part) ⊎ HasFewestStates made) }
+    ensures least { IfOk result (λ made. (made ≡ part) ⊎ IsLeast made) }
     ensures within { IfOk result (IsWithin plan.now.limit) }
     ensures nodes { OnRefused result (λ refused. WideningLacks plan.now.limit part (variables_of tracks.now)) }
 {

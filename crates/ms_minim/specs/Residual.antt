@@ -26,3 +26,9 @@ HaveDifferentResiduals content =
 abbrev pub HasFewestStates : {Sign : Type 0} → Content Sign → Type 0
 HasFewestStates {Sign} content =
     (other : Content Sign) → IsClosed other → other.variables ≡ content.variables → HaveEqualSigns content other → length content.states ≤ length other.states
+
+-- a content of fewest states: each is reached, and no two have equal residuals
+pub record IsLeast {Sign : Type 0} (content : Content Sign) : Type 0 where
+  pub fewest : HasFewestStates content
+  pub reached : AreReached content
+  pub differ : HaveDifferentResiduals content

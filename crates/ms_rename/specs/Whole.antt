@@ -1,10 +1,11 @@
 -- What holds at each assignment of some variables.
-use Rattle.std.specs.Prelude.{◌≡◌, ◌≢◌, List}
+use Rattle.std.specs.Prelude.{◌≡◌, ◌≢◌, ◌≤◌, ◌+◌, List, length}
 use Rattle.ms_logic.specs.declared.mode.Order.TheVariants.{One}
 use Rattle.ms_logic_words.specs.declared.sign.Sign.{Sign}
 use Rattle.ms_logic_words.specs.declared.sign.Sign.TheVariants.{Yes}
 use Rattle.ms_logic.specs.Assignment.{Variable}
 use Rattle.ms_logic_words.specs.Content.{Content}
+use Rattle.ms_dfa.specs.Automaton.{IsAutomaton}
 use Rattle.ms_dfa.specs.Values.{Meaning, HasValues}
 use Rattle.ms_logic.specs.Lists.{IsAmong}
 
@@ -16,6 +17,12 @@ always e sign = sign ≡ Yes
 pub record IsWhole (vs : List Variable) (content : Content Sign) : Type 0 where
   pub variables : content.variables ≡ vs
   pub values : HasValues always content
+
+-- so is an automaton of few nodes and states
+pub record IsSmallWhole (vs : List Variable) (content : Content Sign) : Type 0 where
+  pub automaton : IsAutomaton content
+  pub whole : IsWhole vs content
+  pub few : length content.nodes + length content.states ≤ 32
 
 -- none of the variables is a number
 abbrev pub HasNoNumber : List Variable → Type 0

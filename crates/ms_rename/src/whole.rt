@@ -8,7 +8,7 @@ ghost use Rattle.ms_dfa_explore.specs.Explored.{OnRefused};
 ghost use Rattle.ms_dfa_explore.specs.Tracks.{merged};
 ghost use Rattle.ms_product.specs.Combined.{HaveEqualOrders};
 ghost use Rattle.ms_product.specs.Pairing.{AreAtLeast, operands_of};
-ghost use Rattle.ms_rename.specs.Whole.{HasNoNumber, IsWhole};
+ghost use Rattle.ms_rename.specs.Whole.{HasNoNumber, IsSmallWhole};
 
 use crate::tracks;
 use ms_arena::Ref;
@@ -27,7 +27,7 @@ fn free(alloc: Global, tracks: &[Track], mode: Mode) -> Result<Automaton, NoMemo
     requires rising { AreRising (variables_of tracks.now) }
     requires numbers { HasNoNumber (variables_of tracks.now) }
     ensures mode { IfOk result (λ made. made.mode ≡ mode) }
-    ensures whole { IfOk result (IsWhole (variables_of tracks.now)) }
+    ensures whole { IfOk result (IsSmallWhole (variables_of tracks.now)) }
 {
     let tracks = tracks::copy(alloc, tracks)?;
     let mut states = List::new(alloc);
@@ -40,6 +40,9 @@ fn free(alloc: Global, tracks: &[Track], mode: Mode) -> Result<Automaton, NoMemo
     Ok(Automaton::make(store, mode, tracks, Ref::Leaf(0), states))
 }
 
+/// More nodes and states than the automaton of a number has.
+const FEW: u64 = 32;
+
 /// The automaton that holds at each value of a number.
 fn whole_number(
     alloc: Global,
@@ -50,10 +53,23 @@ fn whole_number(
     requires some { 1 ≤ limit }
     requires small { limit ≤ 4000000000 }
     ensures mode { IfOk result (λ made. made.mode ≡ mode) }
-    ensures whole { IfOk result (IsWhole (record { name = variable; order = Order.One } ∷ [])) }
+    ensures whole { IfOk result (IsSmallWhole (record { name = variable; order = Order.One } ∷ [])) }
     ensures nodes { OnRefused result (λ refused. (refused ≡ limit) × (limit < 32)) }
 {
-    basic(alloc, &Basic::Plus(variable, variable, 0), mode, limit)
+    match basic(
+        alloc,
+        &Basic::Plus(variable, variable, 0),
+        mode,
+        limit.min(FEW),
+    ) {
+        Ok(made) => {
+            // The states tell that it is an automaton.
+            let _ = made.states();
+            Ok(made)
+        }
+        Err(StepFault::Memory) => Err(StepFault::Memory),
+        Err(StepFault::Nodes { .. }) => Err(StepFault::Nodes { limit }),
+    }
 }
 
 /// The automaton that holds at each value of one variable.
@@ -61,7 +77,7 @@ fn whole(alloc: Global, track: Track, mode: Mode, limit: u64) -> Result<Automato
     requires some { 1 ≤ limit }
     requires small { limit ≤ 4000000000 }
     ensures mode { IfOk result (λ made. made.mode ≡ mode) }
-    ensures whole { IfOk result (IsWhole (variable_of track ∷ [])) }
+    ensures whole { IfOk result (IsSmallWhole (variable_of track ∷ [])) }
     ensures nodes { OnRefused result (λ refused. (refused ≡ limit) × (limit < 32)) }
 {
     if track.order == Order::One {
@@ -84,7 +100,7 @@ pub fn widen(alloc: Global, a: &Automaton, track: Track, limit: u64) -> Result<A
     ensures values { IfOk result (HasValues (own_meaning a.now)) }
     ensures within { IfOk result (λ made. length made.nodes + length made.states ≤ limit) }
     ensures nodes { OnRefused result (λ refused. (refused ≡ limit)
-        × ((limit < 32) ⊎ ((other : Content Sign) × IsWhole (variable_of track ∷ []) other × AreAtLeast limit Op.And (operands_of a.now other)))) }
+        × ((limit < 32) ⊎ ((other : Content Sign) × IsSmallWhole (variable_of track ∷ []) other × AreAtLeast limit Op.And (operands_of a.now other)))) }
 {
     // The numbers of states tell that these are automata.
     let _ = a.states();
@@ -113,7 +129,7 @@ pub fn widen_all(
     ensures values { IfOk result (HasValues (own_meaning a.now)) }
     ensures within { IfOk result (λ made. length made.nodes + length made.states ≤ limit) }
     ensures nodes { OnRefused result (λ refused. (refused ≡ limit)
-        × ((other : Content Sign) × IsWhole (variables_of tracks.now) other × AreAtLeast limit Op.And (operands_of a.now other))) }
+        × ((other : Content Sign) × IsSmallWhole (variables_of tracks.now) other × AreAtLeast limit Op.And (operands_of a.now other))) }
 {
     // The numbers of states tell that these are automata.
     let _ = a.states();

@@ -28,7 +28,7 @@ returns-clause-body c =
 
 pub returns-clause-least : goal.returns-clause-least
 returns-clause-least c =
-    IfOk-weaker c.over_tracks.result _ _ (λ whole fewest. (c.in-Ok.part, c.in-Ok.ensures.operand, fewest)) c.over_tracks.ensures.fewest
+    IfOk-weaker c.over_tracks.result _ _ (λ whole least. (c.in-Ok.part, c.in-Ok.ensures.operand, least)) c.over_tracks.ensures.least
 
 pub returns-clause-nodes : goal.returns-clause-nodes
 returns-clause-nodes c =

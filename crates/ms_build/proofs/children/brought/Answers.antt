@@ -1,7 +1,8 @@
-use Rattle.std.proofs.Common.{length, Some, ap, sym, subst, ◌∙◌}
+use Rattle.std.proofs.Common.{◌≡◌, length, Some, ap, sym, subst, ◌∙◌}
 use Rattle.std.proofs.lemmas.Option.{slice_get-get_or}
 use Rattle.std.specs.List.Sorted.{IsStrictlyIncreasing}
 use Rattle.ms_basic.specs.Operands.{HaveOneOrder}
+use Rattle.ms_dfa_explore.specs.Tracks.{distinct}
 use Rattle.ms_rename.specs.Renamed.{renamed}
 use Rattle.ms_build.specs.Built.{entries_of, imports_for, roots_of}
 use Rattle.ms_build.proofs.ChildLemmas.{as_long, brought_by, one_order, only_by, variables_of_child, within_parts}
@@ -31,9 +32,11 @@ returns-in-Ok-clause-only c = only_by c.args.child.now.map c.slice.result.now c.
 
 pub returns-in-Ok-clause-operand : goal.returns-in-Ok-clause-operand
 returns-in-Ok-clause-operand c = record {
+  automaton = c.states-in-Ok.ensures.automaton;
   least = c.index-built-child.result;
   is_least = c.requires.built c.args.child.now.node c.index-built-child.result (slice_get-get_or c.args.built.now c.args.child.now.node c.index-built-child.result c.requires.there.0 ∙ ap Some (sym c.index-built-child.is)) c.requires.there.1;
   parts = c.in-Ok.ensures.same (subst IsStrictlyIncreasing (sym c.slice.ensures) c.requires.rising);
+  variables = subst (λ map. c.in-Ok.made.variables ≡ distinct (renamed map c.index-built-child.result.variables)) c.slice.ensures c.in-Ok.ensures.variables;
   brought = returns-in-Ok-clause-part c;
 }
 

@@ -86,9 +86,10 @@ returns-in_err-made-clause-nodes c =
       some = omega (arith, some);
       here = c.get-in-loop-place.ensures;
       is_first = record {
+        automaton = c.states.ensures.automaton;
         value = before;
         alone = λ one. let is = c.loop-place.invariant.2 one in (is.0, is.1, subst (IsOperand plan is.0) (sym (c.in-Ok-of_first.ensures.same one)) is.2);
-        fewest = c.in-Ok-of_first.ensures.fewest;
+        least = c.in-Ok-of_first.ensures.least;
       };
       is_next = c.in-Ok-brought.ensures.operand;
       short = subst (λ op. AreAtLeast plan.limit op (operands_of first next)) c.op_of.ensures why.1;

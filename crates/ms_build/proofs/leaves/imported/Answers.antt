@@ -58,6 +58,6 @@ returns-clause-nodes c =
     record {
       content = c.get-automaton.result.now;
       here = c.get-automaton.ensures;
-      short = inr (few, c.in_ok-few.ensures.signs, c.in_ok-few.ensures.fewest, subst (λ map. NeedsAtLeast plan.limit few (renamed_places map few.variables)) c.slice.ensures why.1);
+      short = inr (few, c.states-2.ensures.automaton, c.in_ok-few.ensures.signs, record { fewest = c.in_ok-few.ensures.fewest; reached = c.in_ok-few.ensures.reached; differ = c.in_ok-few.ensures.differ }, subst (λ map. NeedsAtLeast plan.limit few (renamed_places map few.variables)) c.slice.ensures why.1);
     })
     c.rename.ensures.nodes

@@ -49,6 +49,7 @@ returns-clause-nodes c =
     (λ refused why.
     inr (record {
       whole = whole;
+      automaton = c.states.ensures.automaton;
       range = (Some c.in-Ok.domain);
       is_least = c.in_ok-whole.ensures.least;
       is_whole = c.in_ok-whole.ensures.body;

@@ -6,7 +6,7 @@ use Rattle.ms_product.specs.Combined.{HaveEqualOrders}
 use Rattle.ms_build.specs.inner.Lacked.{IsLacked}
 use Rattle.ms_build.specs.Wider.{IsWider}
 use Rattle.ms_build.proofs.WiderLemmas.{IsOver-lacked, IsWider-none, free_orders, number_orders, one_order, widening_then}
-use Rattle.ms_minim.specs.Residual.{HasFewestStates}
+use Rattle.ms_minim.specs.Residual.{IsLeast}
 use Rattle.ms_build.specs.Short.{IsWideShort, WideningLacks}
 use Rattle.ms_build.proofs.RefusalLemmas.{fault_more}
 use Rattle.ms_build.proofs.wider.over_tracks.Goals as goal
@@ -45,9 +45,9 @@ returns-clause-over c =
     let second = subst (λ (tracks : List Track). IsWider c.in_ok-wide.wide (variables_of tracks) c.in_ok-made.made) c.slice-2.ensures c.in_ok-made.ensures.wider in
     IsOver-lacked part wanted c.requires.rising c.requires.among c.in-Ok.lacked is c.in_ok-wide.wide first c.in_ok-made.made c.states.ensures.automaton c.states-2.ensures.automaton second
 
-pub returns-clause-fewest : goal.returns-clause-fewest
-returns-clause-fewest c =
-    ⊎_elim (λ last. ⊎_elim (λ first. inl (last ∙ first)) (λ few. inr (subst HasFewestStates (sym last) few)) c.in_ok-wide.ensures.fewest) inr c.in_ok-made.ensures.fewest
+pub returns-clause-least : goal.returns-clause-least
+returns-clause-least c =
+    ⊎_elim (λ last. ⊎_elim (λ first. inl (last ∙ first)) (λ few. inr (subst IsLeast (sym last) few)) c.in_ok-wide.ensures.least) inr c.in_ok-made.ensures.least
 
 pub returns-in_err-wide-clause-nodes : goal.returns-in_err-wide-clause-nodes
 returns-in_err-wide-clause-nodes c =
@@ -59,9 +59,10 @@ returns-in_err-wide-clause-nodes c =
     (λ refused short.
     record {
       wide = part;
+      automaton = c.tracks.ensures.automaton;
       added = [];
       is_wide = IsWider-none part c.tracks.ensures.automaton;
-      fewest = inl refl;
+      least = inl refl;
       next = variables_of c.in-Ok.lacked.free;
       among = λ v. ⊎_elim (λ never. absurd never) (is.free v);
       short = subst (λ (tracks : List Track). IsWideShort limit part (variables_of tracks)) c.slice.ensures short;
@@ -79,5 +80,5 @@ returns-in_err-made-clause-nodes c =
     fault_more (Content Sign) (λ refused. WideningLacks limit wide (variables_of c.slice-2.result.now)) (λ refused. WideningLacks limit part wanted) c.in_err-made.field-0.0 c.from_residual-in_err-made.result (search rules)
     (λ refused why.
     let lacks = subst (λ (tracks : List Track). WideningLacks limit wide (variables_of tracks)) c.slice-2.ensures why in
-    widening_then limit part wide wanted (variables_of c.in-Ok.lacked.free) (variables_of c.in-Ok.lacked.numbers) c.states.ensures.automaton first c.in_ok-wide.ensures.fewest is.free is.numbers lacks)
+    widening_then limit part wide wanted (variables_of c.in-Ok.lacked.free) (variables_of c.in-Ok.lacked.numbers) c.states.ensures.automaton first c.in_ok-wide.ensures.least is.free is.numbers lacks)
     c.in_err-made.ensures.nodes

@@ -35,7 +35,7 @@ loop-track-preserved c =
     let next = taken-next (variables_of tracks) i v (variable_at_place tracks i no_track c.loop-track-test.true) in (
       subst (λ vs. IsWider c.args.part vs c.in_ok-made.made) (sym next)
           (IsWider-then c.args.part c.loop-track.made c.in_ok-made.made (take i (variables_of tracks)) (v ∷ []) c.states-in-loop-track.ensures.automaton c.loop-track.invariant.0 c.in_ok-made.ensures.wider),
-      inr c.in_ok-made.ensures.fewest,
+      inr c.in_ok-made.ensures.least,
       c.in_ok-made.ensures.within,
     )
 
@@ -56,9 +56,10 @@ returns-in_err-made-clause-nodes c =
     (λ refused short.
     record {
       wide = c.loop-track.made;
+      automaton = c.states-in-loop-track.ensures.automaton;
       added = take i (variables_of tracks);
       is_wide = c.loop-track.invariant.0;
-      fewest = c.loop-track.invariant.1;
+      least = c.loop-track.invariant.1;
       next = v ∷ [];
       among = λ w. ⊎_elim (taken-among i (variables_of tracks) w) (λ here. ⊎_elim (λ same. subst (IsAmong (variables_of tracks)) same (among_at (variables_of tracks) i v (variable_at_place tracks i no_track c.loop-track-test.true))) (λ never. absurd never) here);
       short = short;

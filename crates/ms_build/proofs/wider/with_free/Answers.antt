@@ -9,7 +9,7 @@ use Rattle.ms_logic_words.specs.Content.{Content}
 use Rattle.ms_logic_words.specs.declared.sign.Sign.{Sign}
 use Rattle.ms_product.specs.Pairing.{AreAtLeast, operands_of}
 use Rattle.ms_product.specs.declared.op.Op.{Op}
-use Rattle.ms_rename.specs.Whole.{IsWhole}
+use Rattle.ms_rename.specs.Whole.{IsSmallWhole}
 use Rattle.ms_build.specs.Short.{IsWideShort}
 use Rattle.ms_build.proofs.RefusalLemmas.{fault_more}
 use Rattle.ms_build.proofs.wider.with_free.Goals as goal
@@ -24,12 +24,12 @@ returns-in-Ok-clause-wider c =
     wider_by c.args.part c.in_ok-wide.wide (variables_of c.args.tracks.now) c.in-Ok.made c.requires.orders c.in_ok-wide.ensures.mode c.in_ok-wide.ensures.variables c.in_ok-wide.ensures.values
     c.in-Ok.ensures.mode c.in-Ok.ensures.variables c.in-Ok.ensures.signs
 
-pub returns-in-Ok-clause-fewest : goal.returns-in-Ok-clause-fewest
-returns-in-Ok-clause-fewest c = inr c.in-Ok.ensures.fewest
+pub returns-in-Ok-clause-least : goal.returns-in-Ok-clause-least
+returns-in-Ok-clause-least c = inr c.in-Ok.ensures.least
 
 pub returns-in_err-wide-clause-nodes : goal.returns-in_err-wide-clause-nodes
 returns-in_err-wide-clause-nodes c =
     let limit = c.args.plan.now.limit in
     let free = variables_of c.args.tracks.now in
-    fault_more (Content Sign) (λ refused. (refused ≡ limit) × ((other : Content Sign) × IsWhole free other × AreAtLeast limit Op.And (operands_of c.args.part other))) (λ refused. IsWideShort limit c.args.part free)
+    fault_more (Content Sign) (λ refused. (refused ≡ limit) × ((other : Content Sign) × IsSmallWhole free other × AreAtLeast limit Op.And (operands_of c.args.part other))) (λ refused. IsWideShort limit c.args.part free)
     c.in_err-wide.field-0.0 c.from_residual.result (search rules) (λ refused why. inr why.1) c.in_err-wide.ensures.nodes

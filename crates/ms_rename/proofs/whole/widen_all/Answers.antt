@@ -4,5 +4,5 @@ use Rattle.ms_rename.proofs.whole.widen_all.Goals as goal
 
 pub returns-clause-values : goal.returns-clause-values
 returns-clause-values c =
-    values_widened c.args.a.now c.in-Ok.other (variables_of c.args.tracks.now) c.combine.result c.mode.result c.states-2.ensures.automaton c.in-Ok.ensures.whole c.mode.ensures c.in-Ok.ensures.mode
+    values_widened c.args.a.now c.in-Ok.other (variables_of c.args.tracks.now) c.combine.result c.mode.result c.states-2.ensures.automaton c.in-Ok.ensures.whole.whole c.mode.ensures c.in-Ok.ensures.mode
     c.requires.orders c.combine.ensures.mode c.combine.ensures.variables c.combine.ensures.values

@@ -50,9 +50,9 @@ returns-in-Ok-clause-root c =
       mode_is = c.in-Ok.ensures.mode;
       variables_are = c.in-Ok.ensures.variables;
       signs = c.in-Ok.ensures.signs;
-      fewest = c.in-Ok.ensures.fewest;
-      reached = c.in-Ok.ensures.reached;
-      differ = c.in-Ok.ensures.differ;
+      fewest = c.in-Ok.ensures.least.fewest;
+      reached = c.in-Ok.ensures.least.reached;
+      differ = c.in-Ok.ensures.least.differ;
     })
 
 pub over_variables-requires-clause-rising : goal.over_variables-requires-clause-rising
