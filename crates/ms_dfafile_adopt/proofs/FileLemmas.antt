@@ -18,8 +18,11 @@ use Rattle.ms_dfa.specs.declared.plain.Plain.{Plain}
 use Rattle.ms_dfa.specs.Files.{content_of_file}
 use Rattle.ms_dfafile.specs.File.{IsFile}
 use Rattle.ms_dfafile_adopt.specs.Import.{Fits, IsFirstOpen, IsNotImportable, ShowsOpen}
+use Rattle.ms_minim.specs.Residual.{IsLeast}
+use Rattle.ms_dfafile_adopt.specs.Short.{AdoptionLacks}
 use Rattle.ms_dfafile_adopt.specs.inner.Open.{IsFirstChange, IsInMode, ShowsChange, ShowsNoChange}
-use Rattle.ms_dfafile_adopt.specs.inner.OverSets.{AgreesWithFile, own_sign, refusal_of}
+use Rattle.ms_dfafile_adopt.specs.Readings.{AgreesWithFile, own_sign}
+use Rattle.ms_dfafile_adopt.specs.inner.Images.{refusal_of}
 use Rattle.ms_dfafile_adopt.proofs.ModeLemmas.{encoding_in}
 use Rattle.ms_dfafile_adopt.proofs.SignLemmas.{one_in_file}
 use Rattle.ms_dfafile_adopt.proofs.VariableLemmas.{rising-by_place}
@@ -74,13 +77,17 @@ pub settled_signs : (plain : Plain) (mode : Mode) (own made : Content Sign) → 
 settled_signs plain mode own made signs_are settled =
     subst (AgreesWithFile plain mode) (sym settled.same) (record { mode_is = refl; variables_are = signs_are.variables_are; signs = signs_are.signs })
 
+-- and fewest states
+pub settled_least : (mode : Mode) (own made : Content Sign) → IsInMode mode own made → IsLeast own → IsLeast made
+settled_least mode own made settled least = subst IsLeast (sym settled.same) (record { fewest = least.fewest; reached = least.reached; differ = least.differ })
+
 -- where an automaton of the file is settled in its mode, the file is not open
 pub settled_file : (plain : Plain) → IsFile plain → (mode : Mode) (own made : Content Sign) → plain.mode ≡ mode → AgreesWithFile plain M2lStr own → IsInMode mode own made → ¬ IsOpen (content_of_file plain)
 settled_file plain rules mode own made mode_is signs_are settled is =
     never_open plain rules own signs_are is.numbers (settled.none (sym mode_is ∙ is.numbers)) is
 
 -- a step that was refused at the limit is why the file is not imported
-pub refused_by : (A : Type 0) (P : ℕ → Type 0) (plain : Plain) (used : ImportUse) (mode : Mode) (limit : ℕ) (fault : StepFault) → Fits plain used mode
-    → OnRefused {A = A} (Err fault) (λ refused. (refused ≡ limit) × P refused) → IsNotImportable plain used mode limit (refusal_of fault)
-refused_by A P plain used mode limit Memory fits cause = tt
-refused_by A P plain used mode limit (Nodes refused) fits cause = (refl, cause.0, fits)
+pub refused_by : (A P : Type 0) (plain : Plain) (used : ImportUse) (mode : Mode) (limit : ℕ) (fault : StepFault) → Fits plain used mode → (P → AdoptionLacks limit plain used.pairs mode)
+    → OnRefused {A = A} (Err fault) (λ refused. (refused ≡ limit) × P) → IsNotImportable plain used mode limit (refusal_of fault)
+refused_by A P plain used mode limit Memory fits lacks cause = tt
+refused_by A P plain used mode limit (Nodes refused) fits lacks cause = (refl, cause.0, fits, lacks cause.1)

@@ -12,6 +12,8 @@ pub mod OverSetsLemmas
 pub mod PairLemmas
 pub mod RunLemmas
 pub mod SetLemmas
+pub mod ShortExamples
+pub mod ShortLemmas
 pub mod SignLemmas
 pub mod ValueLemmas
 pub mod VariableLemmas

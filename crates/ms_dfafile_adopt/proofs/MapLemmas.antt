@@ -14,7 +14,8 @@ use Rattle.ms_dfa.specs.declared.plain.FileVar.{FileVar}
 use Rattle.ms_dfa.specs.declared.plain.Plain.{Plain}
 use Rattle.ms_dfafile_adopt.proofs.ListLemmas.{taken_more}
 use Rattle.ms_dfafile_adopt.specs.Import.{HasVariables, Named, variables_named, variables_of_file}
-use Rattle.ms_dfafile_adopt.specs.inner.Map.{ArePlacesOf, FindsName, HaveOrdersAt, IsEachThere, IsIndex, IsNaming, file_names, pair_names}
+use Rattle.ms_dfafile_adopt.specs.inner.Map.{ArePlacesOf, FindsName, HaveOrdersAt, IsEachThere, IsIndex, file_names, pair_names}
+use Rattle.ms_dfafile_adopt.specs.Naming.{IsNaming}
 use Rattle.ms_logic.proofs.Items.{contains_at}
 
 -- the equality of borrowed names

@@ -2,6 +2,7 @@
 use Rattle.std.proofs.Common.{◌≡◌, ℕ, ◌+◌, ◌<◌, inl, ⊎_elim, List, [], ◌∷◌, slice_get, Some, refl, sym, ap, subst, ◌∙◌, arith}
 use Rattle.std.proofs.lemmas.Bool.{cases_lt}
 use Rattle.std.proofs.lemmas.Option.{same_Some}
+use Rattle.ms_logic.specs.declared.mode.Mode.TheVariants.{M2lStr}
 use Rattle.ms_logic.specs.declared.mode.Order.TheVariants.{One}
 use Rattle.ms_logic_words.specs.declared.sign.Sign.{Sign}
 use Rattle.ms_logic_words.specs.declared.sign.Sign.TheVariants.{Yes, No, Undefined, Outside}
@@ -16,8 +17,10 @@ use Rattle.ms_dfa_explore.specs.Tracks.{merged}
 use Rattle.ms_dfa_explore.proofs.AmongLemmas.{among_at, merged-either}
 use Rattle.ms_dfa_explore.proofs.TracksLemmas.{merged-left, merged-right}
 use Rattle.ms_product.specs.Combined.{HaveEqualOrders}
+use Rattle.ms_minim.specs.Residual.{HaveEqualSigns}
 use Rattle.ms_rename.specs.Whole.{always}
-use Rattle.ms_dfafile_adopt.specs.inner.OverNumbers.{TellsNumbers}
+use Rattle.ms_rename.proofs.RenamedLemmas.{HasValues-same}
+use Rattle.ms_dfafile_adopt.specs.Readings.{TellsNumbers}
 use Rattle.ms_dfafile_adopt.proofs.VariableLemmas.{IsAssignment-among, one_named}
 
 always_true : (e : Env) (sign : Sign) → core_meaning [] truth e sign → always e sign
@@ -25,6 +28,21 @@ always_true e Yes is = refl
 always_true e No is = absurd is
 always_true e Undefined is = absurd (is.0 tt)
 always_true e Outside is = absurd is
+
+-- no variable is no number
+pub no_numbers : (vs : List Variable) (all : Content Sign) → all.mode ≡ M2lStr → all.variables ≡ [] → HasValues (core_meaning [] truth) all → (made : Content Sign) → made.mode ≡ all.mode → made.variables ≡ all.variables
+    → HaveEqualSigns all made → TellsNumbers vs 0 made
+no_numbers vs all mode_is none values made same_mode same_variables signs =
+    let same = HasValues-same (core_meaning [] truth) all made same_mode same_variables signs values in
+    record {
+      mode_is = same_mode ∙ mode_is;
+      among = λ v there. absurd (subst (λ ws. IsAmong ws v) (same_variables ∙ none) there);
+      numbers = λ place v less there number. absurd (omega (arith, less));
+      values = record {
+        right = λ word e assigned encodes. let found = same.right word e assigned encodes in (found.0, found.1, always_true e found.0 found.2);
+        outside = same.outside;
+      };
+    }
 
 module _ (vs : List Variable) (rising : AreRising vs) (count : ℕ) (v : Variable) (held : slice_get vs count ≡ Some v) (content : Content Sign) (tells : TellsNumbers vs count content) where
   own_among : IsAmong vs v

@@ -38,9 +38,10 @@ use Rattle.ms_product.specs.Widened.{sign_in}
 use Rattle.ms_product.proofs.CombinedLemmas.{strict-right}
 use Rattle.ms_product.proofs.ProductLemmas.{end_of-side_by_side, side_by_side, IsOver-product, AreNames-product}
 use Rattle.ms_product.proofs.WidenedLemmas.{sign_in-is}
-use Rattle.ms_dfafile_adopt.specs.inner.OverNumbers.{IsOverNumbers, TellsNumbers}
-use Rattle.ms_dfafile_adopt.specs.inner.OverSets.{read_over}
-use Rattle.ms_dfafile_adopt.specs.inner.Sets.{as_set, as_sets, set_order}
+use Rattle.ms_dfafile_adopt.specs.inner.OverNumbers.{IsOverNumbers}
+use Rattle.ms_dfafile_adopt.specs.Readings.{TellsNumbers}
+use Rattle.ms_dfafile_adopt.specs.Readings.{read_over}
+use Rattle.ms_dfafile_adopt.specs.Sets.{as_set, as_sets, set_order}
 use Rattle.ms_dfafile_adopt.proofs.SetLemmas.{HasValueAt-was, same_in_letters, same_truth_value, set-at}
 
 and_yes : (sign : Sign) → strict And sign Yes ≡ sign

@@ -34,8 +34,9 @@ use Rattle.ms_dfa.proofs.HasValueAtLemmas.{HasValueAt-or_not}
 use Rattle.ms_dfa.specs.Files.{content_of_file}
 use Rattle.ms_minim_canonical.proofs.ContentLemmas.{IsClosed-content, next_followed}
 use Rattle.ms_rename.specs.inner.Image.{image_of}
-use Rattle.ms_dfafile_adopt.specs.inner.OverSets.{HasBecome, HaveBecome, IsOverSets, own_sign, own_state}
-use Rattle.ms_dfafile_adopt.specs.inner.Sets.{as_sets, set_order}
+use Rattle.ms_dfafile_adopt.specs.inner.Images.{HasBecome, HaveBecome, own_state}
+use Rattle.ms_dfafile_adopt.specs.Readings.{IsOverSets, own_sign}
+use Rattle.ms_dfafile_adopt.specs.Sets.{as_sets, set_order}
 use Rattle.ms_dfafile_adopt.proofs.RunLemmas.{same_last}
 use Rattle.ms_dfafile_adopt.proofs.SetLemmas.{HasValueAt-set, each_encodes, rising-sets, same_in_letters, same_truth_value}
 use Rattle.ms_dfafile_adopt.proofs.VariableLemmas.{rising-by_place}

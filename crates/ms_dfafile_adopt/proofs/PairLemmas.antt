@@ -38,8 +38,9 @@ use Rattle.ms_dfafile.specs.File.{IsFile}
 use Rattle.ms_rename.specs.Renamed.{read_by, renamed, renamed_meaning}
 use Rattle.ms_rename.proofs.RenamedLemmas.{renamed-at, renamed-of}
 use Rattle.ms_dfafile_adopt.specs.Import.{adopted_meaning, answer_for_file, answer_of_file, value_named}
-use Rattle.ms_dfafile_adopt.specs.inner.Map.{IsNaming, pair_names}
-use Rattle.ms_dfafile_adopt.specs.inner.OverSets.{AgreesWithFile, own_sign, own_variables}
+use Rattle.ms_dfafile_adopt.specs.Naming.{IsNaming}
+use Rattle.ms_dfafile_adopt.specs.inner.Map.{pair_names}
+use Rattle.ms_dfafile_adopt.specs.Readings.{AgreesWithFile, own_sign, own_variables}
 use Rattle.ms_dfafile_adopt.proofs.AgreeLemmas.{Agrees, shortest-agreeing}
 use Rattle.ms_dfafile_adopt.proofs.MapLemmas.{is_item, one_place_of, was_item}
 use Rattle.ms_dfafile_adopt.proofs.ModeLemmas.{encoding_in}

@@ -12,7 +12,7 @@ use Rattle.ms_logic_words.specs.inner.Decoding.{HasOneBit, HaveOneBit, column_af
 use Rattle.ms_logic.specs.Lists.{AreRising, IsBelowFirst}
 use Rattle.ms_logic_words.specs.Word.{IsEncoding}
 use Rattle.ms_logic_words.proofs.DecodedWords.{encodings_are}
-use Rattle.ms_dfafile_adopt.specs.inner.Sets.{set_order, as_set, as_sets}
+use Rattle.ms_dfafile_adopt.specs.Sets.{set_order, as_set, as_sets}
 
 -- a set has its bits where a number has
 pub same_truth_value : (o : Order) → is_truth_value (set_order o) ≡ is_truth_value o

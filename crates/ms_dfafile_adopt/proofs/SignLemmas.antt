@@ -13,7 +13,7 @@ use Rattle.ms_dfa.specs.declared.plain.FileVersion.TheVariants as versions
 use Rattle.ms_dfa.specs.declared.plain.Plain.{Plain}
 use Rattle.ms_dfa.specs.Files.{HasNoOutside, HasSignsOf, content_of_file}
 use Rattle.ms_dfafile.specs.File.{IsFile}
-use Rattle.ms_dfafile_adopt.specs.inner.OverSets.{own_sign}
+use Rattle.ms_dfafile_adopt.specs.Readings.{own_sign}
 
 -- where no state has the sign x, no word has it
 none_outside : (content : Content FileSign) → HasNoOutside content → (word : Word) → sign_of content word ≢ Some signs.Outside

@@ -21,6 +21,7 @@ use Rattle.ms_dfa.specs.declared.plain.Plain.{Plain}
 use Rattle.ms_dfa.specs.Values.{Meaning, meaning_by}
 use Rattle.ms_dfa.specs.Files.{content_of_file}
 use Rattle.ms_best.specs.FirstWord.{IsWordBefore}
+use Rattle.ms_dfafile_adopt.specs.Short.{AdoptionLacks}
 
 -- what a sign in a file says; no word that encodes an assignment has the sign x, so it says nothing of one
 abbrev pub answer_for_file : FileSign → Answer
@@ -87,7 +88,7 @@ abbrev pub Fits : Plain → ImportUse → Mode → Type 0
 Fits plain used mode = (plain.mode ≡ mode) × HasVariables plain used.pairs
 
 -- why the file cannot be imported: it is of another mode; it has other variables; a word shows that it is open, the first
--- one; the one step, which has the number 0, would have more nodes and states than the limit; or memory is wanting
+-- one; the one step, which has the number 0, lacks nodes under the limit; or memory is wanting
 abbrev pub IsNotImportable : Plain → ImportUse → Mode → ℕ → Refusal → Type 0
 IsNotImportable plain used mode limit (ImportMode at name) = (at ≡ used.at) × (name ≡ used.name) × (plain.mode ≢ mode)
 IsNotImportable plain used mode limit (ImportVars at name) =
@@ -95,6 +96,7 @@ IsNotImportable plain used mode limit (ImportVars at name) =
 IsNotImportable plain used mode limit (ImportOpen at name count word) =
     (at ≡ used.at) × (name ≡ used.name) × Fits plain used mode × (mode ≡ Ws1s)
     × IsFirstOpen (content_of_file plain) word × (count ≡ length word.letters)
-IsNotImportable plain used mode limit (Nodes step named) = (step ≡ 0) × (named ≡ limit) × Fits plain used mode
+IsNotImportable plain used mode limit (Nodes step named) =
+    (step ≡ 0) × (named ≡ limit) × Fits plain used mode × AdoptionLacks limit plain used.pairs mode
 IsNotImportable plain used mode limit Memory = Unit {0}
 IsNotImportable plain used mode limit other = ⊥

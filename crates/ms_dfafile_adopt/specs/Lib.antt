@@ -1,3 +1,7 @@
 pub mod Import
 pub mod Laws
+pub mod Naming
+pub mod Readings
+pub mod Sets
+pub mod Short
 pub mod inner

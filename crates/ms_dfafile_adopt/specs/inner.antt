@@ -1,6 +1,5 @@
 pub mod Examples
+pub mod Images
 pub mod Map
 pub mod Open
 pub mod OverNumbers
-pub mod OverSets
-pub mod Sets

@@ -3,9 +3,11 @@ ghost use Rattle.ms_dfafile.specs.File.{IsFile};
 ghost use Rattle.ms_logic_words.specs.Content.{IsOpen, variables_by_place};
 ghost use Rattle.ms_dfa.specs.Values.{HasValues};
 ghost use Rattle.ms_dfa.specs.Files.{content_of_file};
+ghost use Rattle.ms_minim.specs.Residual.{IsLeast};
 ghost use Rattle.ms_dfafile_adopt.specs.Import.{Fits, IsImportable, IsNotImportable, adopted_meaning};
-ghost use Rattle.ms_dfafile_adopt.specs.inner.Map.{IsNaming};
-ghost use Rattle.ms_dfafile_adopt.specs.inner.OverSets.{AgreesWithFile, refusal_of};
+ghost use Rattle.ms_dfafile_adopt.specs.Naming.{IsNaming};
+ghost use Rattle.ms_dfafile_adopt.specs.Readings.{AgreesWithFile};
+ghost use Rattle.ms_dfafile_adopt.specs.inner.Images.{refusal_of};
 
 use crate::in_mode::{NotInMode, in_mode};
 use crate::naming::naming;
@@ -52,7 +54,7 @@ fn fitting(alloc: Global, plain: &Plain, used: &ImportUse, mode: Mode) -> Result
     }
 }
 
-/// The file as an automaton of its mode, over its own variables.
+/// The file as an automaton of its mode, over its own variables, with fewest states.
 fn own_in_mode(
     alloc: Global,
     plain: &Plain,
@@ -65,6 +67,7 @@ fn own_in_mode(
     requires some { 1 ≤ limit }
     requires small { limit ≤ 4000000000 }
     ensures signs { IfOk result (AgreesWithFile plain.now mode) }
+    ensures least { IfOk result IsLeast }
     ensures settled { IfOk result (λ made. ¬ IsOpen (content_of_file plain.now)) }
     ensures within { IfOk result (λ made. length made.nodes + length made.states ≤ limit) }
     ensures refused { IfErr result (IsNotImportable plain.now used.now mode limit) }

@@ -1,6 +1,7 @@
-ghost use Rattle.std.specs.Prelude.{◌≡◌, length, IfOk, IfErr};
+ghost use Rattle.std.specs.Prelude.{◌≡◌, ◌<◌, ◌≤◌, [], length, IfOk};
 ghost use Rattle.ms_arena.specs.Diagram.{IsOrdered};
-ghost use Rattle.ms_dfafile_adopt.specs.inner.OverSets.{HaveBecome, IsAtLimit};
+ghost use Rattle.ms_dfa_explore.specs.Explored.{OnRefused};
+ghost use Rattle.ms_dfafile_adopt.specs.inner.Images.{HaveBecome};
 
 use crate::states::image;
 use ms_arena::{Node, Ref};
@@ -8,16 +9,18 @@ use ms_diagram::Store;
 use ms_list::{List, StepFault, push};
 use std::alloc::Global;
 
-/// The nodes of a file in a store, one after the other.
+/// The nodes of a file in a store that was empty, one after the other.
 pub(crate) fn images(
     alloc: Global,
     store: &mut Store,
     nodes: &[Node],
 ) -> Result<List<Ref>, StepFault>
-    requires { IsOrdered nodes.now }
+    requires ordered { IsOrdered nodes.now }
+    requires empty { store.old.nodes ≡ [] }
     ensures long { IfOk result (λ made. length made ≡ length nodes.now) }
     ensures images { IfOk result (HaveBecome store.new.nodes nodes.now) }
-    ensures limit { IfErr result (IsAtLimit store.old.limit) }
+    ensures few { IfOk result (λ made. length store.new.nodes ≤ length nodes.now) }
+    ensures nodes { OnRefused result (λ refused. (refused ≡ store.old.limit) × (store.old.limit < length nodes.now)) }
 {
     // The length tells that the nodes are those of a store.
     let _ = store.len();

@@ -17,5 +17,5 @@ mod states;
 mod tracks;
 
 pub use adoption::adopt;
-pub use examples::{worked_answers, worked_imports};
+pub use examples::{worked_answers, worked_imports, worked_lacks};
 pub use laws::laws_of_imports;

@@ -1,6 +1,7 @@
 ghost use Rattle.std.specs.Prelude.{◌≡◌, ◌≢◌, ◌<◌, ◌↔◌, ℕ, AllPairs, length, map, slice_index, IfOk, IfSome, IfNone, IsTrue};
 ghost use Rattle.ms_dfafile_adopt.specs.Import.{HasVariables};
-ghost use Rattle.ms_dfafile_adopt.specs.inner.Map.{HaveOrdersAt, IsNaming};
+ghost use Rattle.ms_dfafile_adopt.specs.inner.Map.{HaveOrdersAt};
+ghost use Rattle.ms_dfafile_adopt.specs.Naming.{IsNaming};
 
 use crate::names::{file_names, pair_names, places};
 use ms_dfa::{FileVar, Plain};

@@ -1,12 +1,15 @@
-ghost use Rattle.std.specs.Prelude.{◌≡◌, ◌≢◌, ◌≤◌, length, IfOk, IfErr, Some};
+ghost use Rattle.std.specs.Prelude.{◌≡◌, ◌≢◌, ◌≤◌, ◌+◌, length, IfOk, Some};
 ghost use Rattle.ms_list.specs.declared.word.Word.{Word};
 ghost use Rattle.ms_dfa.specs.Automaton.{variables_of};
 ghost use Rattle.ms_logic_words.specs.declared.sign.Sign.TheVariants.{Outside};
 ghost use Rattle.ms_logic_words.specs.Content.{sign_of};
 ghost use Rattle.ms_logic.specs.Lists.{AreRising};
-ghost use Rattle.ms_dfafile_adopt.specs.inner.OverNumbers.{IsOverNumbers, TellsNumbers};
-ghost use Rattle.ms_dfafile_adopt.specs.inner.OverSets.{IsAtLimit, read_over};
-ghost use Rattle.ms_dfafile_adopt.specs.inner.Sets.{as_sets};
+ghost use Rattle.ms_dfa_explore.specs.Explored.{OnRefused};
+ghost use Rattle.ms_product.specs.Pairing.{AreAtLeast};
+ghost use Rattle.ms_dfafile_adopt.specs.Short.{side_by_side};
+ghost use Rattle.ms_dfafile_adopt.specs.inner.OverNumbers.{IsOverNumbers};
+ghost use Rattle.ms_dfafile_adopt.specs.Readings.{TellsNumbers, read_over};
+ghost use Rattle.ms_dfafile_adopt.specs.Sets.{as_sets};
 
 use ms_dfa::{Automaton, Track};
 use ms_list::{List, StepFault};
@@ -30,7 +33,8 @@ pub(crate) fn over_numbers(
     requires some { 1 ≤ limit }
     requires small { limit ≤ 4000000000 }
     ensures checked { IfOk result (IsOverNumbers said.now (variables_of tracks)) }
-    ensures limit { IfErr result (IsAtLimit limit) }
+    ensures within { IfOk result (λ made. length made.nodes + length made.states ≤ limit) }
+    ensures nodes { OnRefused result (λ refused. (refused ≡ limit) × AreAtLeast limit Op.And (side_by_side said.now numbers.now (variables_of tracks))) }
 {
     // The states tell that it is an automaton.
     let _ = numbers.states();

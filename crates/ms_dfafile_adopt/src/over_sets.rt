@@ -1,7 +1,9 @@
-ghost use Rattle.std.specs.Prelude.{◌≡◌, ◌≤◌, IfOk, IfErr};
+ghost use Rattle.std.specs.Prelude.{◌≡◌, ◌<◌, ◌≤◌, length, IfOk};
 ghost use Rattle.ms_dfa.specs.Automaton.{variables_of};
 ghost use Rattle.ms_dfafile.specs.File.{IsFile};
-ghost use Rattle.ms_dfafile_adopt.specs.inner.OverSets.{IsAtLimit, IsOverSets, own_variables};
+ghost use Rattle.ms_dfa_explore.specs.Explored.{OnRefused};
+ghost use Rattle.ms_dfafile_adopt.specs.Short.{IsFileOverSets};
+ghost use Rattle.ms_dfafile_adopt.specs.Readings.{own_variables};
 
 use crate::images::images;
 use crate::states::{image, own_states};
@@ -23,8 +25,8 @@ pub(crate) fn over_sets(
     requires tracks { variables_of tracks.now ≡ own_variables plain.now }
     requires some { 1 ≤ limit }
     requires small { limit ≤ 4000000000 }
-    ensures said { IfOk result (IsOverSets plain.now) }
-    ensures limit { IfErr result (IsAtLimit limit) }
+    ensures said { IfOk result (IsFileOverSets plain.now) }
+    ensures nodes { OnRefused result (λ refused. (refused ≡ limit) × (limit < length plain.now.nodes)) }
 {
     let mut store = Store::new(alloc, limit);
     let images = match images(alloc, &mut store, plain.nodes.slice()) {

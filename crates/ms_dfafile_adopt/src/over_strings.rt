@@ -1,14 +1,20 @@
-ghost use Rattle.std.specs.Prelude.{◌≡◌, ◌≢◌, ◌≤◌, ◌+◌, length, IfOk, IfErr, Some};
-ghost use Rattle.ms_dfa.specs.Automaton.{variables_of};
+ghost use Rattle.std.specs.Prelude.{◌≡◌, ◌≢◌, ◌≤◌, ◌⊎◌, ◌+◌, length, IfOk, Some};
+ghost use Rattle.ms_dfa.specs.Automaton.{IsAutomaton, variables_of};
 ghost use Rattle.ms_dfafile.specs.File.{IsFile};
 ghost use Rattle.ms_list.specs.declared.word.Word.{Word};
 ghost use Rattle.ms_logic.specs.declared.mode.Mode.TheVariants.{M2lStr};
 ghost use Rattle.ms_logic_words.specs.declared.sign.Sign.TheVariants.{Outside};
-ghost use Rattle.ms_logic_words.specs.Content.{sign_of};
+ghost use Rattle.ms_logic_words.specs.Content.{sign_of, Content};
 ghost use Rattle.ms_logic.specs.Lists.{AreRising};
+ghost use Rattle.ms_dfa_explore.specs.Explored.{OnRefused};
+ghost use Rattle.ms_logic_words.specs.declared.sign.Sign.{Sign};
+ghost use Rattle.ms_minim.specs.Residual.{IsLeast};
+ghost use Rattle.ms_product.specs.Pairing.{AreAtLeast};
+ghost use Rattle.ms_product.specs.declared.op.Op.{Op};
+ghost use Rattle.ms_dfafile_adopt.specs.Short.{AreNumbers, NumbersLack, StringsLack, side_by_side};
 ghost use Rattle.ms_dfafile_adopt.specs.inner.OverNumbers.{IsOverNumbers};
-ghost use Rattle.ms_dfafile_adopt.specs.inner.OverSets.{AgreesWithFile, IsAtLimit, read_over};
-ghost use Rattle.ms_dfafile_adopt.specs.inner.Sets.{as_sets};
+ghost use Rattle.ms_dfafile_adopt.specs.Readings.{AgreesWithFile, read_over};
+ghost use Rattle.ms_dfafile_adopt.specs.Sets.{as_sets};
 
 use crate::numbers::numbers;
 use crate::over_numbers::over_numbers;
@@ -32,13 +38,17 @@ fn with_numbers(
     requires some { 1 ≤ limit }
     requires small { limit ≤ 4000000000 }
     ensures checked { IfOk result (IsOverNumbers said.now (variables_of tracks)) }
+    ensures least { IfOk result IsLeast }
     ensures within { IfOk result (λ made. length made.nodes + length made.states ≤ limit) }
-    ensures limit { IfErr result (IsAtLimit limit) }
+    ensures nodes { OnRefused result (λ refused. (refused ≡ limit) × (NumbersLack limit (variables_of tracks)
+        ⊎ ((numbers : Content Sign) × IsAutomaton numbers × AreNumbers (variables_of tracks) (length tracks) numbers × AreAtLeast limit Op.And (side_by_side said.now numbers (variables_of tracks))))) }
 {
     let numbers = match numbers(alloc, tracks.slice(), limit) {
         Ok(numbers) => numbers,
         Err(fault) => return Err(fault),
     };
+    // The states tell that it is an automaton.
+    let _ = numbers.states();
     let made = match over_numbers(alloc, said, &numbers, tracks, limit) {
         Ok(made) => made,
         Err(fault) => return Err(fault),
@@ -46,14 +56,15 @@ fn with_numbers(
     minimise(alloc, &made, limit)
 }
 
-/// The file as an automaton over strings: each word that encodes an assignment has the sign of the file.
+/// The file as an automaton over strings, with fewest states: each word that encodes an assignment has the sign of the file.
 pub(crate) fn over_strings(alloc: Global, plain: &Plain, limit: u64) -> Result<Automaton, StepFault>
     requires file { IsFile plain.now }
     requires some { 1 ≤ limit }
     requires small { limit ≤ 4000000000 }
     ensures signs { IfOk result (AgreesWithFile plain.now M2lStr) }
+    ensures least { IfOk result IsLeast }
     ensures within { IfOk result (λ made. length made.nodes + length made.states ≤ limit) }
-    ensures limit { IfErr result (IsAtLimit limit) }
+    ensures nodes { OnRefused result (λ refused. (refused ≡ limit) × StringsLack limit plain.now) }
 {
     let Ok(tracks) = own_tracks(alloc, plain.variables.slice()) else {
         return Err(StepFault::Memory);

@@ -4,7 +4,8 @@ ghost use Rattle.ms_dfa.specs.Files.{file_states_of};
 ghost use Rattle.ms_dfa.specs.Automaton.{states_of};
 ghost use Rattle.ms_dfa.specs.declared.plain.FileState.{FileState as StateInFile};
 ghost use Rattle.ms_rename.specs.inner.Image.{image_of};
-ghost use Rattle.ms_dfafile_adopt.specs.inner.OverSets.{own_sign, own_state};
+ghost use Rattle.ms_dfafile_adopt.specs.Readings.{own_sign};
+ghost use Rattle.ms_dfafile_adopt.specs.inner.Images.{own_state};
 
 use ms_arena::Ref;
 use ms_dfa::{FileSign, FileState, Sign, State};

@@ -1,7 +1,7 @@
 ghost use Rattle.std.specs.Prelude.{◌≡◌, ◌<◌, ◌^◌, length, map, IfOk};
 ghost use Rattle.ms_dfa.specs.Automaton.{variables_of};
 ghost use Rattle.ms_logic_words.specs.Content.{variables_by_place};
-ghost use Rattle.ms_dfafile_adopt.specs.inner.Sets.{as_sets, set_order};
+ghost use Rattle.ms_dfafile_adopt.specs.Sets.{as_sets, set_order};
 
 use ms_dfa::{FileVar, Track};
 use ms_list::{List, NoMemory, push};

@@ -90,7 +90,7 @@ taken-long limit mode table (used ∷ uses) (content ∷ contents) h = ap suc (t
 
 -- why a file is not imported, with the number of the import in the place of 0
 at-place : (plain : Plain) (used : ImportUse) (mode : Mode) (limit place : ℕ) (refusal : Refusal) → IsNotImportable plain used mode limit refusal → IsNotTaken plain used mode limit place (refused_at place refusal)
-at-place plain used mode limit place (Nodes step named) why = (refl, (refl, why.1, why.2))
+at-place plain used mode limit place (Nodes step named) why = (refl, (refl, why.1, why.2, why.3))
 at-place plain used mode limit place refusal why = why
 
 pub not-taken : (plain : Plain) (used : ImportUse) (mode : Mode) (limit place : ℕ) (refusal made : Refusal) → IsNotImportable plain used mode limit refusal → (made ≡ Memory) ⊎ (made ≡ refused_at place refusal)

@@ -3,9 +3,12 @@ use Rattle.std.specs.Prelude.{ℕ, List, [], ◌∷◌, None, codes, false}
 use Rattle.ms_list.specs.declared.word.Word.{Word}
 use Rattle.ms_arena.specs.declared.node.Ref.TheVariants.{Leaf, Inner}
 use Rattle.ms_logic.specs.declared.checked.MapPair.{MapPair}
-use Rattle.ms_logic.specs.declared.mode.Mode.TheVariants.{Ws1s}
+use Rattle.ms_logic.specs.declared.mode.Mode.TheVariants.{M2lStr, Ws1s}
 use Rattle.ms_logic.specs.declared.mode.Order.TheVariants.{One, Two}
 use Rattle.ms_logic.specs.Assignment.{Env}
+use Rattle.ms_logic_words.specs.Content.{Content}
+use Rattle.ms_logic_words.specs.declared.sign.Sign.{Sign}
+use Rattle.ms_logic_words.specs.declared.sign.Sign.TheVariants.{Yes}
 use Rattle.ms_dfa.specs.declared.plain.FileSign.TheVariants as signs
 use Rattle.ms_dfa.specs.declared.plain.FileVersion.TheVariants as versions
 use Rattle.ms_dfa.specs.declared.plain.Plain.{Plain}
@@ -59,3 +62,7 @@ empty_word = record { truth = []; letters = [] }
 -- each variable is the empty set
 abbrev pub nothing_in : Env
 nothing_in = record { universe = None; truth = λ x. false; number = λ x. 0; set = λ x. [] }
+
+-- which words encode values of no variable: each one
+abbrev pub no_numbers : Content Sign
+no_numbers = record { mode = M2lStr; variables = []; start = Leaf 0; states = record { sign = Yes; next = Leaf 0 } ∷ []; nodes = [] }

@@ -1,11 +1,10 @@
--- Which pair of an import names which variable of a file.
+-- Where the names of a file and those of pairs stand.
 use Rattle.std.specs.Prelude.{◌≡◌, ◌≢◌, ℕ, List, length, map, slice_get, slice_index, Option, Some, None}
 use Rattle.std.specs.Borrow.{Bor}
 use Rattle.std.specs.HashMap.{HashMap, get}
 use Rattle.std.specs.Str.{bytes_eq}
 use Rattle.ms_logic.specs.declared.checked.MapPair.{MapPair}
 use Rattle.ms_dfa.specs.declared.plain.FileVar.{FileVar}
-use Rattle.ms_dfa.specs.declared.plain.Plain.{Plain}
 
 abbrev pub file_names : List FileVar → List (List ℕ)
 file_names variables = map (λ variable. variable.name) variables
@@ -36,13 +35,3 @@ abbrev pub HaveOrdersAt : List FileVar → List MapPair → List ℕ → Type 0
 HaveOrdersAt variables pairs places =
     (i : ℕ) (variable : FileVar) (pair : MapPair) → slice_get variables i ≡ Some variable → slice_get pairs (slice_index places i) ≡ Some pair
     → pair.order ≡ variable.order
-
--- for each variable of the file the place of the pair that names it, with its order; and each pair names a variable
-pub record IsNaming (plain : Plain) (pairs : List MapPair) (places : List ℕ) : Type 0 where
-  pub long : length places ≡ length plain.variables
-  pub each :
-      (i : ℕ) (variable : FileVar) → slice_get plain.variables i ≡ Some variable
-      → (pair : MapPair) × (slice_get pairs (slice_index places i) ≡ Some pair) × (pair.name ≡ variable.name) × (pair.order ≡ variable.order)
-  pub only :
-      (j : ℕ) (pair : MapPair) → slice_get pairs j ≡ Some pair
-      → (i : ℕ) × (variable : FileVar) × (slice_get plain.variables i ≡ Some variable) × (variable.name ≡ pair.name)

@@ -1,4 +1,4 @@
-use Rattle.std.proofs.Common.{◌≡◌, length, ap, sym, subst, ◌∙◌}
+use Rattle.std.proofs.Common.{◌≡◌, inr, length, ap, sym, subst, ◌∙◌}
 use Rattle.ms_basic.specs.Operands.{HaveOneOrder}
 use Rattle.ms_dfa_explore.specs.Tracks.{distinct}
 use Rattle.ms_rename.specs.Renamed.{NeedsAtLeast, renamed, renamed_meaning, renamed_places}
@@ -47,6 +47,17 @@ pub returns-clause-refused : goal.returns-clause-refused
 returns-clause-refused c =
     let plain = c.args.plain.now in
     let used = c.args.used.now in
+    let own = c.in-Ok-own_in_mode.own in
     let cause = NeedsAtLeast c.args.limit c.in-Ok-own_in_mode.own (renamed_places c.slice.result.now c.in-Ok-own_in_mode.own.variables) in
     subst (IsNotImportable plain used c.args.mode c.args.limit) (sym c.refused.ensures)
-    (refused_by (Content Sign) (λ refused. cause) plain used c.args.mode c.args.limit c.in-Err-rename.fault c.in-Ok.ensures.fits c.in-Err-rename.ensures.nodes)
+    (refused_by (Content Sign) cause plain used c.args.mode c.args.limit c.in-Err-rename.fault c.in-Ok.ensures.fits
+    (λ short. inr (record {
+      own = own;
+      agrees = c.in-Ok-own_in_mode.ensures.signs;
+      automaton = c.states.ensures.automaton;
+      least = c.in-Ok-own_in_mode.ensures.least;
+      places = c.in-Ok.places;
+      naming = c.in-Ok.ensures.naming;
+      short = subst (λ map. NeedsAtLeast c.args.limit own (renamed_places map own.variables)) c.slice.ensures short;
+    }))
+    c.in-Err-rename.ensures.nodes)

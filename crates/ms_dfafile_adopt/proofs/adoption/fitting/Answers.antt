@@ -1,5 +1,5 @@
 use Rattle.std.proofs.Common.{rules, subst}
-use Rattle.ms_dfafile_adopt.specs.inner.Map.{IsNaming}
+use Rattle.ms_dfafile_adopt.specs.Naming.{IsNaming}
 use Rattle.ms_dfafile_adopt.proofs.MapLemmas.{HasVariables-by}
 use Rattle.ms_dfafile_adopt.proofs.adoption.fitting.Goals as goal
 

@@ -1,6 +1,6 @@
-use Rattle.std.proofs.Common.{◌≡◌, length}
+use Rattle.std.proofs.Common.{◌≡◌, ◌≤◌, length}
 use Rattle.ms_diagram.specs.Store.{IsStore}
-use Rattle.ms_dfafile_adopt.specs.inner.OverSets.{HaveBecome}
+use Rattle.ms_dfafile_adopt.specs.inner.Images.{HaveBecome}
 use Rattle.ms_dfafile_adopt.proofs.images.images.Given as goal
 
 -- what the nodes so far have become
@@ -10,3 +10,4 @@ invariant-loop-node l =
     × IsStore l.store.nodes l.store.limit
     × HaveBecome l.store.nodes l.nodes l.made
     × (l.store.limit ≡ l.initial.store.limit)
+    × (length l.store.nodes ≤ l.node-index)

@@ -5,7 +5,7 @@ use Rattle.std.proofs.lemmas.Option.{slice_get-get_or, slice_get-map}
 use Rattle.ms_dfa.specs.Automaton.{variable_of, variables_of}
 use Rattle.ms_dfa.specs.declared.track.Track.{Track}
 use Rattle.ms_logic.specs.declared.mode.Order.TheVariants.{Zero}
-use Rattle.ms_dfafile_adopt.specs.inner.OverNumbers.{TellsNumbers}
+use Rattle.ms_dfafile_adopt.specs.Short.{AreNumbers}
 use Rattle.ms_dfafile_adopt.proofs.NumberLemmas.{TellsNumbers-more, TellsNumbers-other, equal_orders}
 use Rattle.ms_dfafile_adopt.proofs.numbers.numbers.Goals as goal
 use Rattle.ms_dfafile_adopt.proofs.numbers.numbers.Goals.{then-eq+in-Ok-with_track, else-eq}
@@ -19,7 +19,7 @@ with_track-requires-clause-orders c =
     let tracks = c.args.tracks.now in
     let i = c.loop-track.track-index in
     let held = slice_get-map variable_of tracks i ∙ ap (option_map variable_of) (slice_get-get_or tracks i (record { variable = 0; order = Zero }) c.loop-track-test.true) in
-    equal_orders (variables_of tracks) c.requires.rising i (variable_of (track_at tracks i)) held c.loop-track.made c.loop-track.invariant
+    equal_orders (variables_of tracks) c.requires.rising i (variable_of (track_at tracks i)) held c.loop-track.made c.loop-track.invariant.tells
 
 pub loop-track-preserved : goal.loop-track-preserved
 loop-track-preserved c =
@@ -30,10 +30,14 @@ loop-track-preserved c =
     let vs = variables_of tracks in
     elim c.if-eq.branch [
       | then-eq+in-Ok-with_track w ↦
-          subst (TellsNumbers vs (i + 1)) (sym w.made-is)
-          (TellsNumbers-more vs c.requires.rising i v held c.loop-track.made c.loop-track.invariant w.states.ensures.automaton w.in-Ok-with_track.wide w.in-Ok-with_track.ensures.mode
-          w.in-Ok-with_track.ensures.variables w.in-Ok-with_track.ensures.values)
+          subst (AreNumbers vs (i + 1)) (sym w.made-is) (record {
+            tells = TellsNumbers-more vs c.requires.rising i v held c.loop-track.made c.loop-track.invariant.tells w.states.ensures.automaton w.in-Ok-with_track.wide w.in-Ok-with_track.ensures.mode
+                w.in-Ok-with_track.ensures.variables w.in-Ok-with_track.ensures.values;
+            least = w.in-Ok-with_track.ensures.least;
+          })
       | else-eq w ↦
-          subst (TellsNumbers vs (i + 1)) (sym w.made-is)
-          (TellsNumbers-other vs c.requires.rising i v held c.loop-track.made c.loop-track.invariant (λ number. let never : false ≡ true = rw number at w.if-eq.ensures in false≢true never))
+          subst (AreNumbers vs (i + 1)) (sym w.made-is) (record {
+            tells = TellsNumbers-other vs c.requires.rising i v held c.loop-track.made c.loop-track.invariant.tells (λ number. let never : false ≡ true = rw number at w.if-eq.ensures in false≢true never);
+            least = c.loop-track.invariant.least;
+          })
     ]

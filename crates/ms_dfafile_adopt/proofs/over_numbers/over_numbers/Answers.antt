@@ -3,7 +3,8 @@ use Rattle.std.proofs.lemmas.List.{length-map}
 use Rattle.ms_dfa.specs.Automaton.{variable_of, variables_of}
 use Rattle.ms_product.specs.declared.op.Op.TheVariants.{And}
 use Rattle.ms_product.specs.Pairing.{Operands, IsPairedIn, IsPairedStore}
-use Rattle.ms_dfafile_adopt.specs.inner.OverNumbers.{IsOverNumbers, TellsNumbers}
+use Rattle.ms_dfafile_adopt.specs.inner.OverNumbers.{IsOverNumbers}
+use Rattle.ms_dfafile_adopt.specs.Readings.{TellsNumbers}
 use Rattle.ms_dfafile_adopt.proofs.OverNumbersLemmas.{IsAutomaton-checked, IsOverNumbers-made, operands_are}
 use Rattle.ms_dfafile_adopt.proofs.over_numbers.over_numbers.Goals as goal
 

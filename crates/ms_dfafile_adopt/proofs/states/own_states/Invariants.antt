@@ -1,7 +1,7 @@
 use Rattle.std.proofs.Common.{◌≡◌, map, take}
 use Rattle.ms_dfa.specs.Files.{file_states_of}
 use Rattle.ms_dfa.specs.Automaton.{states_of}
-use Rattle.ms_dfafile_adopt.specs.inner.OverSets.{own_state}
+use Rattle.ms_dfafile_adopt.specs.inner.Images.{own_state}
 use Rattle.ms_dfafile_adopt.proofs.states.own_states.Given as goal
 
 -- the states so far

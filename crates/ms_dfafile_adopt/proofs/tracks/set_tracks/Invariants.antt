@@ -1,6 +1,6 @@
 use Rattle.std.proofs.Common.{◌≡◌, take}
 use Rattle.ms_dfa.specs.Automaton.{variables_of}
-use Rattle.ms_dfafile_adopt.specs.inner.Sets.{as_sets}
+use Rattle.ms_dfafile_adopt.specs.Sets.{as_sets}
 use Rattle.ms_dfafile_adopt.proofs.tracks.set_tracks.Given as goal
 
 -- the tracks so far
