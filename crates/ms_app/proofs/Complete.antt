@@ -29,7 +29,7 @@ want (Gen number false) before after seen can well refusal files (inl memory) = 
 want (Gen number false) before after seen can well refusal files (inr none) = absurd (none.1 can)
 want (Gen number true) before after seen can well refusal files (inl memory) = inl memory
 want (Gen number true) before after seen can well refusal files (inr (inl none)) = absurd (none.1 can)
-want (Gen number true) before after seen can well refusal files (inr (inr (is, lacks))) = inr lacks
+want (Gen number true) before after seen can well refusal files (inr (inr (is, lacks, why))) = inr lacks
 
 -- a sink that does not fail takes the answer
 printed : (before after : SinkTold) (answer : Answer) (status : Status) → (Rose before.faults after.faults → ⊥) → Prints before after answer status →
@@ -37,23 +37,23 @@ printed : (before after : SinkTold) (answer : Answer) (status : Status) → (Ros
 printed before after answer status well (inl is) = is
 printed before after answer status well (inr (failed, rose, some)) = absurd (well rose)
 
-wanted : (command : Command) (before after : SinkTold) (refusal : Refusal) (files : List (List ℕ)) (status : Status) → (status ≡ status_of refusal) × (after.taken ≡ grown before.taken (line_of refusal files)) →
-    IsWant (limit_of command) refusal → (status ≡ NoMemory) ⊎ LackedNodes command before after status
-wanted command before after refusal files status (is, taken) (inl memory) = inl (is ∙ ap status_of memory)
-wanted command before after refusal files status (is, taken) (inr (step, nodes)) =
-    inr (is ∙ ap status_of nodes, (step, files, taken ∙ ap (λ r. grown before.taken (line_of r files)) nodes))
+wanted : (command : Command) (before after : SinkTold) (seen : Seen) (refusal : Refusal) (files : List (List ℕ)) (status : Status) → IsRefusedFor command seen refusal files →
+    (status ≡ status_of refusal) × (after.taken ≡ grown before.taken (line_of refusal files)) → IsWant (limit_of command) refusal → (status ≡ NoMemory) ⊎ LackedNodes command before after seen status
+wanted command before after seen refusal files status why (is, taken) (inl memory) = inl (is ∙ ap status_of memory)
+wanted command before after seen refusal files status why (is, taken) (inr (step, nodes)) =
+    inr (is ∙ ap status_of nodes, (step, files, subst (λ r. IsRefusedFor command seen r files) nodes why, taken ∙ ap (λ r. grown before.taken (line_of r files)) nodes))
 
 -- a write that failed is a fault
 unwritten_rose : (command : Command) (seen : Seen) (name : List ℕ) → IsUnwritten command seen name → Rose seen.before.faults seen.after.faults
 unwritten_rose command seen name is = rose_within seen.before.faults is.middle.faults seen.after.faults is.reads.counts.faults is.rose
 
 answered : (command : Command) (before after : SinkTold) (seen : Seen) (status : Status) → CanBeDone command seen → NothingFailed before after seen → IsAnsweredFor command before after seen status →
-    WasDone command before after seen status ⊎ (status ≡ NoMemory) ⊎ LackedNodes command before after status
+    WasDone command before after seen status ⊎ (status ≡ NoMemory) ⊎ LackedNodes command before after seen status
 answered command before after seen status can well (answers.done text is prints) =
     let all = printed before after (answers.done_with text) status well.prints prints in inl (all.0, (text, is, all.1))
 answered command before after seen status can well (answers.unwritten name is prints) = absurd (well.works (unwritten_rose command seen name is))
 answered command before after seen status can well (answers.refused reads refusal files why prints) =
-    inr (wanted command before after refusal files status (printed before after (answer_of refusal files) status well.prints prints) (want command before after seen can well refusal files why))
+    inr (wanted command before after seen refusal files status why (printed before after (answer_of refusal files) status well.prints prints) (want command before after seen can well refusal files why))
 
 pub complete : (words : List (List ℕ)) (before after : SinkTold) (seen : Seen) (status : Status) → IsAnswered words before after seen status → IsComplete words before after seen status
 complete words before after seen status (answers.no_command none kept prints) command is can well = absurd (none command is)

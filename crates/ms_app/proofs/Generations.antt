@@ -32,8 +32,10 @@ use Rattle.ms_app.proofs.Solvable.{solvable, texts_settle}
 use Rattle.ms_app.proofs.VerdictLemmas.{none_against, valid_alone}
 
 -- why the generation is refused
-abbrev pub IsRefusedGeneration : ℕ → Refusal → Type 0
-IsRefusedGeneration number refusal = (refusal ≡ Memory) ⊎ IsNoNumber number refusal ⊎ (IsNumber number × ((step : ℕ) × (refusal ≡ Nodes step node_limit)))
+abbrev pub IsRefusedGeneration : ℕ → Refusal → List (List ℕ) → Type 0
+IsRefusedGeneration number refusal files =
+    (refusal ≡ Memory) ⊎ IsNoNumber number refusal
+    ⊎ (IsNumber number × ((step : ℕ) × (refusal ≡ Nodes step node_limit)) × IsRefused (text_of generated_name (generated number)) None node_limit refusal files)
 
 -- what imports nothing stands for one problem
 alone_problem : (checked : Checked) (plains : List Plain) → checked.imports ≡ [] → problem_of checked [] ≡ problem_with checked plains
@@ -60,16 +62,17 @@ found-valid number stats format found files is decided =
     let valid = (sources-are-valid number generated_name decided.loaded decided.checked is accepted.is_loaded accepted.typed).1 in
     let here = subst IsValid (alone_problem decided.checked decided.plains uses) valid in
     let problem = problem_with decided.checked decided.plains in
-    (valid_alone problem here found.verdict decided.is_found.verdict, none_against problem here found.counterexample decided.is_found.counterexample)
+    let main = decided.is_found.main in
+    (main.0, main.1, valid_alone problem here main.0.verdict main.2.verdict, none_against problem here main.0.counterexample main.2.counterexample)
 
 -- so it is refused for want of memory or of nodes alone
-wanting : (number : ℕ) → IsNumber number → (refusal : Refusal) (files : List (List ℕ)) → IsRefused (text_of generated_name (generated number)) None node_limit refusal files → IsRefusedGeneration number refusal
+wanting : (number : ℕ) → IsNumber number → (refusal : Refusal) (files : List (List ℕ)) → IsRefused (text_of generated_name (generated number)) None node_limit refusal files → IsRefusedGeneration number refusal files
 wanting number is refusal files why =
     let origin = text_of generated_name (generated number) in
     let found = sources-are-accepted number generated_name is in
     elim (solvable origin origin (texts_settle generated_name (generated number)) None found.loaded found.checked [] (solved number is) node_limit refusal files why) [
       | inl memory ↦ inl memory
-      | inr lacks ↦ inr (inr (is, lacks))
+      | inr lacks ↦ inr (inr (is, lacks, why))
     ]
 
 -- it imports nothing and exports nothing
@@ -90,7 +93,7 @@ module _ (number : ℕ) (is_number : IsNumber number) (bytes : List ℕ) (is_tex
       subst P is_text (subst (IsRefused (text_of generated_name bytes) None node_limit refusal) (only_own grown) why)
 
   pub text_unaccepted : (refusal : Refusal) → (refusal ≡ Memory) ⊎ ((new ≡ old ++ generated_name ∷ []) × IsUnaccepted (text_of generated_name bytes) refusal (generated_name ∷ []))
-      → IsRefusedGeneration number refusal
+      → IsRefusedGeneration number refusal new
   text_unaccepted refusal (inl memory) = inl memory
   text_unaccepted refusal (inr (grown, why)) = wanting number is_number refusal new (text_refused grown refusal (unaccepted why))
 
@@ -102,7 +105,7 @@ module _ (number : ℕ) (is_number : IsNumber number) (bytes : List ℕ) (is_tex
     taken = record { is = is; free = tt; imported = (alone.0, refl) }
 
     pub text_unsolved : (contents : List (Content Sign)) → AreAdopted node_limit checked.mode checked.imports [] contents → (refusal : Refusal)
-        → (refusal ≡ Memory) ⊎ IsUnsolved checked (answers_by checked.imports []) contents node_limit refusal → IsRefusedGeneration number refusal
+        → (refusal ≡ Memory) ⊎ IsUnsolved checked (answers_by checked.imports []) contents node_limit refusal → IsRefusedGeneration number refusal new
     text_unsolved contents adopted refusal (inl memory) = inl memory
     text_unsolved contents adopted refusal (inr why) = wanting number is_number refusal new (text_refused grown refusal (unsolved loaded checked [] taken (sym is.is_loaded.files) contents adopted why))
 

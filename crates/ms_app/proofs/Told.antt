@@ -183,4 +183,4 @@ command-told (Gen number false) seen refusal files (inl memory) = memory-told fi
 command-told (Gen number false) seen refusal files (inr range) = subst (IsToldOver files) (sym range.0) (tt, tt)
 command-told (Gen number true) seen refusal files (inl memory) = memory-told files refusal memory
 command-told (Gen number true) seen refusal files (inr (inl range)) = subst (IsToldOver files) (sym range.0) (tt, tt)
-command-told (Gen number true) seen refusal files (inr (inr (is_number, (step, is)))) = subst (IsToldOver files) (sym is) (tt, tt)
+command-told (Gen number true) seen refusal files (inr (inr (is_number, (step, is), why))) = subst (IsToldOver files) (sym is) (tt, tt)

@@ -12,6 +12,7 @@ use Rattle.ms_edge.specs.Files.{FilesTold, OnlyRead, Seen, between}
 use Rattle.ms_edge.specs.Sink.{SinkTold, grown}
 use Rattle.ms_build.specs.Built.{IsLimit}
 use Rattle.ms_gen.specs.Generated.{IsNumber, generated}
+use Rattle.ms_report.specs.declared.found.Answer as answers
 use Rattle.ms_report.specs.declared.found.Found.{Found}
 use Rattle.ms_report.specs.Line.{line_of}
 use Rattle.ms_report.specs.Report.{report_of, summary_of}
@@ -73,7 +74,8 @@ IsGivenFor (Same left right max_nodes) seen text written = (written ≡ []) × (
 IsGivenFor (Gen number false) seen text written = (written ≡ []) × IsNumber number × (text ≡ generated number)
 IsGivenFor (Gen number true) seen text written =
     (written ≡ []) × IsNumber number
-    × ((found : Found) × IsDecided (text_of generated_name (generated number)) None true Two found written × (text ≡ summary_of number (length (generated number)) found))
+    × ((found : Found) × (main : answers.Answer) × IsDecided (text_of generated_name (generated number)) None true Two found written × (found.main ≡ Some main)
+    × (text ≡ summary_of number (length (generated number)) main found.stats))
 
 -- the command asks for a generated source
 abbrev pub IsGeneration : Command → Type 0
@@ -92,13 +94,14 @@ abbrev pub IsNoNumber : ℕ → Refusal → Type 0
 IsNoNumber number refusal = (refusal ≡ ConstRange None) × ¬ IsNumber number
 
 -- Why a command is refused, and the files that the refusal may number. A generated source has no fault and is within the limits, so
--- that only a step of its decision may be refused; what shows that it lacked nodes is open.
+-- that only a step of its decision may be refused.
 abbrev pub IsRefusedFor : Command → Seen → Refusal → List (List ℕ) → Type 0
 IsRefusedFor (Decide file out max_nodes stats format) seen refusal files = IsRefused (file_of seen 0 file) out max_nodes refusal files
 IsRefusedFor (Same left right max_nodes) seen refusal files = IsRefusedComparison left right max_nodes seen refusal files
 IsRefusedFor (Gen number false) seen refusal files = (refusal ≡ Memory) ⊎ IsNoNumber number refusal
 IsRefusedFor (Gen number true) seen refusal files =
-    (refusal ≡ Memory) ⊎ IsNoNumber number refusal ⊎ (IsNumber number × ((step : ℕ) × (refusal ≡ Nodes step node_limit)))
+    (refusal ≡ Memory) ⊎ IsNoNumber number refusal
+    ⊎ (IsNumber number × ((step : ℕ) × (refusal ≡ Nodes step node_limit)) × IsRefused (text_of generated_name (generated number)) None node_limit refusal files)
 
 -- The files were read, up to some moment; what the command asks for came of that; and its files are written since.
 pub record IsDelivered (command : Command) (seen : Seen) (text : List ℕ) : Type 0 where

@@ -14,7 +14,7 @@ use Rattle.ms_report.specs.Line.{line_of}
 use Rattle.ms_app_words.specs.Command.{IsCommand, node_limit}
 use Rattle.ms_app_words.specs.declared.command.Command.{Command}
 use Rattle.ms_app_words.specs.declared.command.Command.TheVariants.{Decide, Same, Gen}
-use Rattle.ms_app.specs.Answer.{IsDelivered}
+use Rattle.ms_app.specs.Answer.{IsDelivered, IsRefusedFor}
 use Rattle.ms_app.specs.Comparison.{AreSolved, HaveSameGlobals, Taken}
 use Rattle.ms_app.specs.Source.{IsSolved, Origin, file_of}
 
@@ -52,13 +52,15 @@ abbrev pub WasDone : Command → SinkTold → SinkTold → Seen → Status → T
 WasDone command before after seen status =
     (status ≡ Done) × ((text : List ℕ) × IsDelivered command seen text × (after.taken ≡ grown before.taken text))
 
--- a step was refused under the limit, and this was printed; what shows that it lacked nodes is open
-abbrev pub LackedNodes : Command → SinkTold → SinkTold → Status → Type 0
-LackedNodes command before after status =
-    (status ≡ Limit) × ((step : ℕ) × (files : List (List ℕ)) × (after.taken ≡ grown before.taken (line_of (Nodes step (limit_of command)) files)))
+-- a step was refused under the limit, for its cause, and this was printed
+abbrev pub LackedNodes : Command → SinkTold → SinkTold → Seen → Status → Type 0
+LackedNodes command before after seen status =
+    (status ≡ Limit)
+    × ((step : ℕ) × (files : List (List ℕ)) × IsRefusedFor command seen (Nodes step (limit_of command)) files
+    × (after.taken ≡ grown before.taken (line_of (Nodes step (limit_of command)) files)))
 
 -- Where the words ask for what can be done and nothing outside fails, it is done, unless memory is wanting, or nodes in a step.
 abbrev pub IsComplete : List (List ℕ) → SinkTold → SinkTold → Seen → Status → Type 0
 IsComplete words before after seen status =
     (command : Command) → IsCommand words command → CanBeDone command seen → NothingFailed before after seen →
-    WasDone command before after seen status ⊎ (status ≡ NoMemory) ⊎ LackedNodes command before after status
+    WasDone command before after seen status ⊎ (status ≡ NoMemory) ⊎ LackedNodes command before after seen status

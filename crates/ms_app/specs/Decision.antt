@@ -1,5 +1,5 @@
 -- What is found of a problem: its verdict, and the first assignment of each value.
-use Rattle.std.specs.Prelude.{◌≡◌, ℕ, Bool, true, false, List, length, map, Option, Some, None}
+use Rattle.std.specs.Prelude.{◌≡◌, ℕ, Bool, true, false, List, [], length, map, Option, Some, None}
 use Rattle.ms_dfa.specs.declared.plain.FileVersion.{FileVersion}
 use Rattle.ms_dfa.specs.declared.plain.Plain.{Plain}
 use Rattle.ms_logic.specs.declared.assignment.Assignment.{Assignment}
@@ -8,6 +8,7 @@ use Rattle.ms_logic.specs.First.{IsFirst, assignment_of}
 use Rattle.ms_logic.specs.Verdict.{Problem, variables_of, Assigns, MainYes, MainNo, IsValid, IsUnsatisfiable, IsContingent, IsVacuous}
 use Rattle.ms_report.specs.declared.found.Verdict.{Verdict}
 use Rattle.ms_report.specs.declared.found.Verdict.TheVariants.{Valid, Unsatisfiable, Contingent, Vacuous}
+use Rattle.ms_report.specs.declared.found.Answer.{Answer}
 use Rattle.ms_report.specs.declared.found.Found.{Found}
 use Rattle.ms_logic.specs.declared.checked.Checked.{Checked}
 use Rattle.ms_logic.specs.declared.source.Loaded.{Loaded}
@@ -35,12 +36,17 @@ IsVerdict problem Unsatisfiable = IsUnsatisfiable problem
 IsVerdict problem Contingent = IsContingent problem
 IsVerdict problem Vacuous = IsVacuous problem
 
--- what was found is true of the problem, whose globals have these names
+-- the answer is true of the problem's main value
+pub record IsAnswer (problem : Problem) (answer : Answer) : Type 0 where
+  pub verdict : IsVerdict problem answer.verdict
+  pub example : ShowsFirst problem (MainYes problem) answer.example
+  pub counterexample : ShowsFirst problem (MainNo problem) answer.counterexample
+
+-- What was found is true of the problem, whose globals have these names. Its one question is its main value.
 pub record IsFound (problem : Problem) (names : List (List ℕ)) (found : Found) : Type 0 where
-  pub verdict : IsVerdict problem found.verdict
   pub globals : found.globals ≡ names
-  pub example : ShowsFirst problem (MainYes problem) found.example
-  pub counterexample : ShowsFirst problem (MainNo problem) found.counterexample
+  pub main : (answer : Answer) × (found.main ≡ Some answer) × IsAnswer problem answer
+  pub goals : found.goals ≡ []
 
 -- The source can be solved, and what was found is true of it, with counts where they are asked for; and these are the automaton files of its
 -- exports, and of its main value where that is asked for, in a version.

@@ -3,7 +3,7 @@ ghost use Rattle.ms_dfa.specs.declared.plain.FileVersion.TheVariants.{Two};
 ghost use Rattle.ms_dfa.specs.Files.{content_of_file};
 ghost use Rattle.ms_logic.specs.Verdict.{Problem};
 ghost use Rattle.ms_app.specs.Counts.{HasCounts, IsCanonicalOf};
-ghost use Rattle.ms_app.specs.Decision.{ShowsFirst, IsFound, verdict_by};
+ghost use Rattle.ms_app.specs.Decision.{IsAnswer, IsFound, ShowsFirst, verdict_by};
 ghost use Rattle.ms_build_source.specs.Solution.{IsSolution};
 ghost use Rattle.ms_build_source.specs.Values.{HasMainValue};
 ghost use Rattle.ms_dfa.specs.Values.{main_meaning};
@@ -11,9 +11,9 @@ ghost use Rattle.ms_dfa.specs.Values.{main_meaning};
 use ms_best::{assignment, first};
 use ms_build_source::Solution;
 use ms_dfa::{Automaton, Plain, Sign};
-use ms_list::NoMemory;
+use ms_list::{List, NoMemory};
 use ms_logic::Assignment;
-use ms_report::{Found, Stats, Verdict};
+use ms_report::{Answer, Found, Stats, Verdict};
 use std::alloc::Global;
 
 /// The first assignment at which the automaton has the sign, if there is one.
@@ -55,18 +55,29 @@ pub fn counts(solution: &Solution, content: &Plain, files: u32) -> Stats
     }
 }
 
+/// The answer that an automaton gives to the question whose value it has.
+fn answer(alloc: Global, automaton: &Automaton) -> Result<Answer, NoMemory>
+    ensures { IfOk result (λ answer. (problem : Problem) → HasMainValue problem automaton.now → IsAnswer problem answer) }
+{
+    let example = shown(alloc, automaton, Sign::Yes)?;
+    let counterexample = shown(alloc, automaton, Sign::No)?;
+    Ok(Answer {
+        verdict: verdict(example.is_some(), counterexample.is_some()),
+        example,
+        counterexample,
+    })
+}
+
 /// What a solution says of its source, with counts or without.
 pub fn found(alloc: Global, solution: Solution, stats: Option<Stats>) -> Result<Found, NoMemory>
     ensures found { IfOk result (λ found. (problem : Problem) (names : List (List ℕ)) → IsSolution problem names solution → IsFound problem names found) }
     ensures stats { IfOk result (λ found. found.stats ≡ stats) }
 {
-    let example = shown(alloc, &solution.automaton, Sign::Yes)?;
-    let counterexample = shown(alloc, &solution.automaton, Sign::No)?;
+    let main = answer(alloc, &solution.automaton)?;
     Ok(Found {
-        verdict: verdict(example.is_some(), counterexample.is_some()),
         globals: solution.names,
-        example,
-        counterexample,
+        main: Some(main),
+        goals: List::new(alloc),
         stats,
     })
 }

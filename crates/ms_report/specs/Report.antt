@@ -1,4 +1,4 @@
--- The report of a decision (docs/FORMATS.md, "Report"): the verdict, the example and the counterexample, and the
+-- The report of a decision (docs/FORMATS.md, "Report"): for each question the verdict, the example and the counterexample; and the
 -- counts where they are asked for.
 use Rattle.std.specs.Prelude.{ℕ, Bool, true, false, List, [], ◌∷◌, ◌++◌, codes, Option, Some, None}
 use Rattle.std.specs.List.{flat_map}
@@ -9,6 +9,8 @@ use Rattle.ms_logic.specs.declared.assignment.Assignment.{Assignment}
 use Rattle.ms_report.specs.declared.found.Verdict.{Verdict}
 use Rattle.ms_report.specs.declared.found.Verdict.TheVariants.{Valid, Unsatisfiable, Contingent, Vacuous}
 use Rattle.ms_report.specs.declared.found.Stats.{Stats}
+use Rattle.ms_report.specs.declared.found.Answer.{Answer}
+use Rattle.ms_report.specs.declared.found.GoalAnswer.{GoalAnswer}
 use Rattle.ms_report.specs.declared.found.Found.{Found}
 
 abbrev pub verdict_text : Verdict → List ℕ
@@ -56,12 +58,24 @@ stats_text (Some stats) =
     count_line (codes "files") stats.files ++ count_line (codes "size") stats.size ++ count_line (codes "depth") stats.depth
     ++ count_line (codes "states") stats.states ++ count_line (codes "nodes") stats.nodes
 
+-- the answer to a question, over the names of the globals
+abbrev pub answer_text : List (List ℕ) → Answer → List ℕ
+answer_text globals answer =
+    verdict_text answer.verdict ++ 10 ∷ []
+    ++ assignment_text (codes "example") globals answer.example
+    ++ assignment_text (codes "counterexample") globals answer.counterexample
+
+-- the answer to the main value, where that is asked for
+abbrev pub main_text : List (List ℕ) → Option Answer → List ℕ
+main_text globals None = []
+main_text globals (Some answer) = answer_text globals answer
+
+-- a goal: a line with its title, and the answer to it
+abbrev pub goal_text : List (List ℕ) → GoalAnswer → List ℕ
+goal_text globals goal = codes "goal " ++ goal.title ++ 10 ∷ [] ++ answer_text globals goal.answer
+
 abbrev pub report_of : Found → List ℕ
-report_of found =
-    verdict_text found.verdict ++ 10 ∷ []
-    ++ assignment_text (codes "example") found.globals found.example
-    ++ assignment_text (codes "counterexample") found.globals found.counterexample
-    ++ stats_text found.stats
+report_of found = main_text found.globals found.main ++ flat_map (goal_text found.globals) found.goals ++ stats_text found.stats
 
 -- the length of the example or of the counterexample, by the word for it
 abbrev pub length_text : List ℕ → Option Assignment → List ℕ
@@ -73,11 +87,11 @@ abbrev pub size_text : Option Stats → List ℕ
 size_text None = []
 size_text (Some stats) = count_line (codes "states") stats.states ++ count_line (codes "nodes") stats.nodes
 
--- the summary of what was found of the generated source with a number, whose text has so many bytes
-abbrev pub summary_of : ℕ → ℕ → Found → List ℕ
-summary_of number bytes found =
+-- the summary of the generated source with a number, whose text has so many bytes, by the answer to its main value
+abbrev pub summary_of : ℕ → ℕ → Answer → Option Stats → List ℕ
+summary_of number bytes main stats =
     count_line (codes "generated") number ++ count_line (codes "bytes") bytes
-    ++ verdict_text found.verdict ++ 10 ∷ []
-    ++ length_text (codes "example") found.example
-    ++ length_text (codes "counterexample") found.counterexample
-    ++ size_text found.stats
+    ++ verdict_text main.verdict ++ 10 ∷ []
+    ++ length_text (codes "example") main.example
+    ++ length_text (codes "counterexample") main.counterexample
+    ++ size_text stats

@@ -1,7 +1,7 @@
-use ms_list::{List, Name};
+use ms_list::{List, Name, Text};
 use ms_logic::Assignment;
 
-/// What a source comes to: whether some assignment makes it Yes, and whether some makes it No.
+/// What a question comes to: whether some assignment makes it Yes, and whether some makes it No.
 #[derive(Clone, Copy, PartialEq, Eq)]
 pub enum Verdict {
     Valid,
@@ -20,12 +20,26 @@ pub struct Stats {
     pub nodes: u64,
 }
 
-/// What was found of a source.
+/// The verdict on a question, the first assignment that makes it Yes and the first that makes it No.
 #[derive(Drop)]
-pub struct Found {
+pub struct Answer {
     pub verdict: Verdict,
-    pub globals: List<Name>,
     pub example: Option<Assignment>,
     pub counterexample: Option<Assignment>,
+}
+
+/// The answer to a goal, which goes by its title.
+#[derive(Drop)]
+pub struct GoalAnswer {
+    pub title: Text,
+    pub answer: Answer,
+}
+
+/// What was found of a source with these globals: the answer to its main value, where that is asked for, and to each goal.
+#[derive(Drop)]
+pub struct Found {
+    pub globals: List<Name>,
+    pub main: Option<Answer>,
+    pub goals: List<GoalAnswer>,
     pub stats: Option<Stats>,
 }

@@ -7,7 +7,7 @@ mod refusal_text;
 mod report_text;
 mod summary_text;
 
-pub use found::{Found, Stats, Verdict};
+pub use found::{Answer, Found, GoalAnswer, Stats, Verdict};
 pub use refusal_text::refusal_line;
 pub use report_text::report;
 pub use summary_text::summary;

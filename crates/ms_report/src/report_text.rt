@@ -1,13 +1,14 @@
 ghost use Rattle.std.specs.Prelude.{◌≡◌, ◌++◌, ◌∷◌, [], codes, IfOk, OnOk, string_bytes};
-ghost use Rattle.ms_report.specs.Report.{verdict_text, members_text, value_text, values_text, assignment_text, count_line, stats_text, report_of};
+ghost use Rattle.std.specs.List.{flat_map};
+ghost use Rattle.ms_report.specs.Report.{answer_text, assignment_text, count_line, goal_text, main_text, members_text, report_of, stats_text, value_text, values_text, verdict_text};
 
-use crate::found::{Found, Stats, Verdict};
+use crate::found::{Answer, Found, GoalAnswer, Stats, Verdict};
 use crate::number::push_number;
 use ms_list::{Bytes, List, Name, NoMemory};
 use ms_logic::{Assignment, Value};
 use std::alloc::{AllocError, Global};
 
-/// The report: the verdict, the example and the counterexample, and the counts where there are any.
+/// The report: for each question the verdict, the example and the counterexample; and the counts where there are any.
 pub fn report(alloc: Global, found: &Found) -> Result<Bytes, NoMemory>
     ensures { IfOk result (λ text. text ≡ report_of found.now) }
 {
@@ -20,17 +21,48 @@ pub fn report(alloc: Global, found: &Found) -> Result<Bytes, NoMemory>
 fn text(alloc: Global, found: &Found) -> Result<String, AllocError>
     ensures { IfOk result (λ text. string_bytes text ≡ report_of found.now) }
 {
-    let mut text = String::from_str(alloc, verdict(found.verdict))?;
-    text.push_str("\n")?;
-    push_assignment(&mut text, "example", &found.globals, &found.example)?;
-    push_assignment(
-        &mut text,
-        "counterexample",
-        &found.globals,
-        &found.counterexample,
-    )?;
+    let mut text = String::new(alloc);
+    push_main(&mut text, &found.globals, &found.main)?;
+    push_goals(&mut text, &found.globals, found.goals.slice())?;
     push_stats(&mut text, found.stats)?;
     Ok(text)
+}
+
+fn push_main(text: &mut String, names: &List<Name>, main: &Option<Answer>) -> Result<(), AllocError>
+    ensures { OnOk result (string_bytes text.new ≡ string_bytes text.old ++ main_text names.now main.now) }
+{
+    match main {
+        None => Ok(()),
+        Some(answer) => push_answer(text, names, answer),
+    }
+}
+
+/// A block for each goal.
+fn push_goals(text: &mut String, names: &List<Name>, goals: &[GoalAnswer]) -> Result<(), AllocError>
+    ensures { OnOk result (string_bytes text.new ≡ string_bytes text.old ++ flat_map (goal_text names.now) goals.now) }
+{
+    for goal in goals {
+        push_goal(text, names, goal)?;
+    }
+    Ok(())
+}
+
+fn push_goal(text: &mut String, names: &List<Name>, goal: &GoalAnswer) -> Result<(), AllocError>
+    ensures { OnOk result (string_bytes text.new ≡ string_bytes text.old ++ goal_text names.now goal.now) }
+{
+    text.push_str("goal ")?;
+    text.push_str(goal.title.text())?;
+    text.push_str("\n")?;
+    push_answer(text, names, &goal.answer)
+}
+
+fn push_answer(text: &mut String, names: &List<Name>, answer: &Answer) -> Result<(), AllocError>
+    ensures { OnOk result (string_bytes text.new ≡ string_bytes text.old ++ answer_text names.now answer.now) }
+{
+    text.push_str(verdict(answer.verdict))?;
+    text.push_str("\n")?;
+    push_assignment(text, "example", names, &answer.example)?;
+    push_assignment(text, "counterexample", names, &answer.counterexample)
 }
 
 pub(crate) fn verdict(verdict: Verdict) -> &'static str

@@ -1,35 +1,47 @@
-ghost use Rattle.std.specs.Prelude.{◌≡◌, ◌++◌, IfOk, OnOk, string_bytes};
+ghost use Rattle.std.specs.Prelude.{◌≡◌, ◌++◌, IfOk, OnOk, Some, string_bytes};
+ghost use Rattle.ms_report.specs.declared.found.Answer.{Answer as FoundAnswer};
 ghost use Rattle.ms_report.specs.Report.{length_text, size_text, summary_of};
 
-use crate::found::{Found, Stats};
+use crate::found::{Answer, Found, Stats};
 use crate::number::push_number;
 use crate::report_text::{push_count, verdict};
 use ms_list::{Bytes, List, NoMemory};
 use ms_logic::Assignment;
 use std::alloc::{AllocError, Global};
 
-/// The summary of what was found of the generated source with this number, whose text has so many bytes: the verdict, the
-/// lengths of the example and the counterexample, and the states and nodes where these were counted.
+/// The summary of what was found of the generated source with this number, whose text has so many bytes: the verdict on its
+/// main value, which was asked for, the lengths of the example and the counterexample, and the states and nodes where these
+/// were counted.
 pub fn summary(alloc: Global, number: u64, bytes: u64, found: &Found) -> Result<Bytes, NoMemory>
-    ensures { IfOk result (λ text. text ≡ summary_of number bytes found.now) }
+    requires main { (main : FoundAnswer) × (found.now.main ≡ Some main) }
+    ensures { IfOk result (λ text. (main : FoundAnswer) → found.now.main ≡ Some main → text ≡ summary_of number bytes main found.now.stats) }
 {
-    match text(alloc, number, bytes, found) {
+    let Some(main) = &found.main else {
+        unreachable!();
+    };
+    match text(alloc, number, bytes, main, found.stats) {
         Ok(text) => Ok(List::from(text.into_bytes())),
         Err(_) => Err(NoMemory),
     }
 }
 
-fn text(alloc: Global, number: u64, bytes: u64, found: &Found) -> Result<String, AllocError>
-    ensures { IfOk result (λ text. string_bytes text ≡ summary_of number bytes found.now) }
+fn text(
+    alloc: Global,
+    number: u64,
+    bytes: u64,
+    main: &Answer,
+    stats: Option<Stats>,
+) -> Result<String, AllocError>
+    ensures { IfOk result (λ text. string_bytes text ≡ summary_of number bytes main.now stats) }
 {
     let mut text = String::new(alloc);
     push_count(&mut text, "generated", number)?;
     push_count(&mut text, "bytes", bytes)?;
-    text.push_str(verdict(found.verdict))?;
+    text.push_str(verdict(main.verdict))?;
     text.push_str("\n")?;
-    push_length(&mut text, "example", &found.example)?;
-    push_length(&mut text, "counterexample", &found.counterexample)?;
-    push_size(&mut text, found.stats)?;
+    push_length(&mut text, "example", &main.example)?;
+    push_length(&mut text, "counterexample", &main.counterexample)?;
+    push_size(&mut text, stats)?;
     Ok(text)
 }
 

@@ -8,7 +8,7 @@ use anyhow::Result;
 use ms_edge::Refusal;
 use ms_list::{At, List, Name, NoMemory, Text, Word, push};
 use ms_logic::{Assignment, Value};
-use ms_report::{Found, Stats, Verdict, refusal_line, report};
+use ms_report::{Answer, Found, GoalAnswer, Stats, Verdict, refusal_line, report};
 use std::alloc::Global;
 
 const AT: At = At { file: 1, place: 10 };
@@ -17,7 +17,7 @@ pub fn tell(rt: &HostRuntime) -> Result<()> {
     println!(rt; "Reports")?;
     print_report(rt, &full(rt.alloc())?)?;
     print_report(rt, &bare(rt.alloc(), Verdict::Vacuous))?;
-    print_report(rt, &bare(rt.alloc(), Verdict::Unsatisfiable))?;
+    print_report(rt, &goals_alone(rt.alloc())?)?;
     println!(rt; "Lines of refusals")?;
     lines_of_texts(rt)?;
     lines_of_names(rt)?;
@@ -41,23 +41,65 @@ fn full(alloc: Global) -> Result<Found> {
         states: 2,
         nodes: 18_446_744_073_709_551_615,
     };
-    Ok(Found {
+    let main = Answer {
         verdict: Verdict::Contingent,
-        globals: names(alloc, &["P", "x'", "a"])?,
         example: Some(assignment(alloc, 5, (&[0, 1, 4], 3, true))?),
         counterexample: Some(assignment(alloc, 1, (&[], 0, false))?),
+    };
+    let valid = Answer {
+        verdict: Verdict::Valid,
+        example: Some(assignment(alloc, 0, (&[], 0, true))?),
+        counterexample: None,
+    };
+    let mut goals = List::new(alloc);
+    push(&mut goals, goal(alloc, "P is caf\u{e9}", valid)?)?;
+    push(
+        &mut goals,
+        goal(alloc, "", nothing_shown(Verdict::Vacuous))?,
+    )?;
+    Ok(Found {
+        globals: names(alloc, &["P", "x'", "a"])?,
+        main: Some(main),
+        goals,
         stats: Some(stats),
     })
 }
 
-fn bare(alloc: Global, verdict: Verdict) -> Found {
-    Found {
+fn goal(alloc: Global, title: &str, answer: Answer) -> Result<GoalAnswer> {
+    let title = Text::new(alloc, title)?;
+    Ok(GoalAnswer { title, answer })
+}
+
+fn nothing_shown(verdict: Verdict) -> Answer {
+    Answer {
         verdict,
-        globals: List::new(alloc),
         example: None,
         counterexample: None,
+    }
+}
+
+fn bare(alloc: Global, verdict: Verdict) -> Found {
+    Found {
+        globals: List::new(alloc),
+        main: Some(nothing_shown(verdict)),
+        goals: List::new(alloc),
         stats: None,
     }
+}
+
+/// A report on a goal, where the main value is not asked for.
+fn goals_alone(alloc: Global) -> Result<Found> {
+    let mut goals = List::new(alloc);
+    push(
+        &mut goals,
+        goal(alloc, "never", nothing_shown(Verdict::Unsatisfiable))?,
+    )?;
+    Ok(Found {
+        globals: List::new(alloc),
+        main: None,
+        goals,
+        stats: None,
+    })
 }
 
 fn names(alloc: Global, all: &[&str]) -> Result<List<Name>> {

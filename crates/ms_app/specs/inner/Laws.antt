@@ -1,7 +1,8 @@
 -- What is proved of a generated source that is decided.
-use Rattle.std.specs.Prelude.{◌≡◌, ℕ, Bool, List, None}
+use Rattle.std.specs.Prelude.{◌≡◌, ℕ, Bool, List, None, Some}
 use Rattle.ms_dfa.specs.declared.plain.FileVersion.{FileVersion}
 use Rattle.ms_gen.specs.Generated.{IsNumber, generated}
+use Rattle.ms_report.specs.declared.found.Answer.{Answer}
 use Rattle.ms_report.specs.declared.found.Found.{Found}
 use Rattle.ms_report.specs.declared.found.Verdict.TheVariants.{Valid}
 use Rattle.ms_app.specs.Answer.{generated_name}
@@ -13,4 +14,4 @@ use Rattle.ms_app.specs.Written.{File}
 abbrev pub GeneratedSourcesAreFoundValid : Type 0
 GeneratedSourcesAreFoundValid =
     (number : ℕ) (stats : Bool) (format : FileVersion) (found : Found) (files : List File) → IsNumber number → IsDecided (text_of generated_name (generated number)) None stats format found files →
-    (found.verdict ≡ Valid) × (found.counterexample ≡ None)
+    (main : Answer) × (found.main ≡ Some main) × (main.verdict ≡ Valid) × (main.counterexample ≡ None)

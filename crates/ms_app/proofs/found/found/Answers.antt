@@ -1,16 +1,9 @@
-use Rattle.std.proofs.Common.{ap₂, sym, subst, ◌∙◌}
-use Rattle.ms_app.specs.Decision.{IsVerdict, verdict_by}
-use Rattle.ms_app.proofs.VerdictLemmas.{verdict_is}
+use Rattle.std.proofs.Common.{refl}
 use Rattle.ms_app.proofs.found.found.Goals as goal
 
 pub returns-clause-found : goal.returns-clause-found
-returns-clause-found c = λ problem names is.
-    let example = c.in_ok-example.ensures problem is.value in
-    let counterexample = c.in_ok-counterexample.ensures problem is.value in
-    record {
-      verdict = subst (IsVerdict problem) (ap₂ verdict_by (sym c.is_some.ensures) (sym c.is_some-2.ensures) ∙ sym c.verdict.ensures)
-          (verdict_is problem c.in_ok-example.example c.in_ok-counterexample.counterexample example counterexample);
-      globals = is.names_are;
-      example = example;
-      counterexample = counterexample;
-    }
+returns-clause-found c = λ problem names is. record {
+  globals = is.names_are;
+  main = (c.in_ok-main.main, refl, c.in_ok-main.ensures problem is.value);
+  goals = c.new.ensures;
+}

@@ -33,6 +33,19 @@ returns-in-Err-decide-clause-refused c = λ seen.
     text_unsolved c.args.number c.in-Ok.ensures.is_number c.in-Ok.text c.in-Ok.ensures.text c.args.names.now c.accept_text.new.names c.requires.first made.0 checked made.1
     c.in-Ok-accept_text.ensures.names c.new.result adopted c.in-Err-decide.refusal (c.in-Err-decide.ensures.refused (answers_by checked.imports []) long)
 
+pub summary-requires : goal.summary-requires
+summary-requires c =
+    let made = c.in-Ok-accept_text.ensures.accepted in
+    let number = c.args.number in
+    let is_number = c.in-Ok.ensures.is_number in
+    let bytes = c.in-Ok.text in
+    let same = c.in-Ok.ensures.text in
+    let checked = c.in-Ok-accept_text.source.checked in
+    let names = c.in-Ok-accept_text.ensures.names in
+    let answers = nothing_answers number is_number bytes same c.args.names.now c.accept_text.new.names c.requires.first made.0 checked made.1 names c.new.result c.new.ensures in
+    let main = (c.in-Ok-decide.ensures.found (answers_by checked.imports []) answers).0.main in
+    record { main = (main.0, main.1) }
+
 pub returns-in-Ok-summary-clause-given : goal.returns-in-Ok-summary-clause-given
 returns-in-Ok-summary-clause-given c = λ seen.
     let made = c.in-Ok-accept_text.ensures.accepted in
@@ -50,10 +63,11 @@ returns-in-Ok-summary-clause-given c = λ seen.
     let counted = subst (λ n. HasStats true (problem_with checked []) n found.stats) made.2 all.1 in
     let within = c.in-Ok-decide.ensures.within (answers_by checked.imports []) in
     let is = text_decided number is_number bytes same c.args.names.now c.accept_text.new.names c.requires.first made.0 checked made.1 names found files all.0 within counted all.2 in
-    let none = no_files number is_number bytes same c.args.names.now c.accept_text.new.names c.requires.first made.0 checked made.1 names (map (λ g. g.name) checked.globals) (problem_with checked []) files all.2 in (
+    let none = no_files number is_number bytes same c.args.names.now c.accept_text.new.names c.requires.first made.0 checked made.1 names (map (λ g. g.name) checked.globals) (problem_with checked []) files all.2 in
+    let main = all.0.main in (
       none,
       is_number,
-      (found, is, c.in-Ok-summary.ensures ∙ ap (λ n. summary_of number n found) (c.len-bytes.ensures ∙ ap (λ (t : List ℕ). length t) same)),
+      (found, main.0, is, main.1, c.in-Ok-summary.ensures main.0 main.1 ∙ ap (λ n. summary_of number n main.0 found.stats) (c.len-bytes.ensures ∙ ap (λ (t : List ℕ). length t) same)),
     )
 
 pub returns-in-Ok-summary-clause-no_files : goal.returns-in-Ok-summary-clause-no_files
