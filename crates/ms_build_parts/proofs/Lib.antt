@@ -1,0 +1,4 @@
+pub mod Budgets
+pub mod Levels
+pub mod Matching
+pub mod ProductParts

@@ -1,0 +1,239 @@
+-- The states of an automaton of fewest states correspond to those of a canonical content that says the same.
+use Rattle.std.proofs.Common.{◌≡◌, ℕ, zero, suc, ◌<◌, ◌+◌, Bool, false, List, [], ◌∷◌, ◌++◌, length, map, slice_get, Option, Some, None, refl, sym, ap, subst, ◌∙◌, arith}
+use Rattle.std.specs.Option.{option_map}
+use Rattle.std.proofs.lemmas.List.{length-map}
+use Rattle.std.proofs.lemmas.Option.{slice_get_within}
+use Rattle.ms_list.specs.declared.word.Word.{Word}
+use Rattle.ms_arena.specs.declared.node.Ref.{Ref}
+use Rattle.ms_arena.specs.declared.node.Ref.TheVariants.{Leaf, Inner}
+use Rattle.ms_arena.specs.Bits.{below_from}
+use Rattle.ms_arena.specs.Diagram.{Bits, leaf_of}
+use Rattle.ms_arena.proofs.Lists.{slice_get-held}
+use Rattle.ms_arena.proofs.Paths.{leaf_of-leaf}
+use Rattle.ms_arena.proofs.ReachLemmas.{leaf_of-tested}
+use Rattle.ms_diagram.specs.Bring.{read_through}
+use Rattle.ms_logic.specs.Assignment.{Variable}
+use Rattle.ms_logic.specs.declared.mode.Order.{Order}
+use Rattle.ms_logic_words.specs.Content.{Content, IsClosed, IsFollowed, NamesPart, StateOf, bits_at, count_of, first_state, is_in_letters, is_truth_value, last_state, next_from, next_state, padded, sign_at, state_after}
+use Rattle.ms_logic_words.specs.declared.sign.Sign.{Sign}
+use Rattle.ms_logic_starts.specs.ContentStarts.{HaveDistinctNumbers}
+use Rattle.ms_logic_measures.specs.FullContent.{part_count}
+use Rattle.ms_logic_starts.specs.FirstBits.{BitsLeave}
+use Rattle.ms_logic_starts.specs.inner.Ranks.{bits_before}
+use Rattle.ms_logic_starts.proofs.FirstBitsLemmas.{first_bits_leave}
+use Rattle.ms_logic_starts.proofs.LeftLemmas.{leaf_of_all}
+use Rattle.ms_logic_starts.proofs.RankLemmas.{length-bits_before, rank_of_all}
+use Rattle.ms_logic_starts.proofs.RisingLemmas.{rising_distinct}
+use Rattle.ms_minim_canonical.proofs.ContentLemmas.{IsClosed-content, next_followed}
+use Rattle.ms_minim.proofs.LettersLemmas.{AreLetters-append, state_after-append}
+use Rattle.ms_product.specs.Widened.{IsRisingMap}
+use Rattle.ms_product.proofs.WidenedLemmas.{followed}
+use Rattle.ms_build_parts.specs.Laws.{IsMeasuredBy}
+use Rattle.ms_build_parts.specs.inner.Matched.{IsMatch, IsMatchedBy, LeadToMatches, number_of_part}
+use Rattle.ms_build_parts.proofs.Levels.{IsLevelOf, level_of, put_together}
+
+-- what only depends on the orders of variables
+same_count : (has_bit : Order → Bool) (one other : List Variable) → map (λ v. v.order) other ≡ map (λ v. v.order) one → count_of has_bit other ≡ count_of has_bit one
+same_count has_bit [] [] same = refl
+same_count has_bit [] (w ∷ ws) same = cc
+same_count has_bit (v ∷ vs) [] same = cc
+same_count has_bit (v ∷ vs) (w ∷ ws) same =
+    let first : w.order ≡ v.order = cc in
+    let more : map (λ u. u.order) ws ≡ map (λ u. u.order) vs = cc in
+    rw (first, same_count has_bit vs ws more) refl
+
+same_bits : (has_bit : Order → Bool) (level : ℕ) (one other : List Variable) (bits : Bits) → map (λ v. v.order) other ≡ map (λ v. v.order) one → bits_before has_bit level other bits ≡ bits_before has_bit level one bits
+same_bits has_bit zero one other bits same = refl
+same_bits has_bit (suc level) [] [] bits same = refl
+same_bits has_bit (suc level) [] (w ∷ ws) bits same = cc
+same_bits has_bit (suc level) (v ∷ vs) [] bits same = cc
+same_bits has_bit (suc level) (v ∷ vs) (w ∷ ws) bits same =
+    let first : w.order ≡ v.order = cc in
+    let more : map (λ u. u.order) ws ≡ map (λ u. u.order) vs = cc in
+    rw (first, same_bits has_bit level vs ws (λ other. bits (suc other)) more) refl
+
+-- a number of a part is below the number of parts
+number_below : (content : Content Sign) (part : Ref) → NamesPart content part → number_of_part content part < part_count content
+number_below content (Inner place) named = omega (arith, named)
+number_below content (Leaf state) named = omega (arith, named)
+
+-- and one number is that of one part
+pub one_part : (content : Content Sign) (part other : Ref) → NamesPart content part → NamesPart content other → number_of_part content part ≡ number_of_part content other → part ≡ other
+one_part content (Inner place) (Inner another) named also same = ap Inner same
+one_part content (Inner place) (Leaf state) named also same = absurd (omega (arith, named, same))
+one_part content (Leaf state) (Inner place) named also same = absurd (omega (arith, also, same))
+one_part content (Leaf state) (Leaf another) named also same = ap Leaf (omega (arith, same))
+
+module _ (one other : Content Sign) (is : IsMeasuredBy one other) where
+  abbrev vs : List Variable
+  vs = one.variables
+
+  own : HaveDistinctNumbers vs
+  own = rising_distinct vs is.automaton.rising
+
+  long : length other.variables ≡ length vs
+  long =
+      let mine = length-map vs (λ (v : Variable). v.order) in
+      let its = length-map other.variables (λ (v : Variable). v.order) in
+      let equal = ap length is.same.orders in
+      omega (arith, mine, its, equal)
+
+  closed : IsClosed other
+  closed = IsClosed-content other is.is_canonical.rules
+
+  -- the bits of all variables, one after the other
+  abbrev bits_of : (Order → Bool) → Bits → List Bool
+  bits_of has_bit bits = bits_before has_bit (length vs) vs bits
+
+  as_many : (has_bit : Order → Bool) (bits : Bits) → length (bits_of has_bit bits) ≡ count_of has_bit vs
+  as_many has_bit bits = length-bits_before has_bit (length vs) vs bits ∙ rank_of_all has_bit vs
+
+  other_bits : (has_bit : Order → Bool) (bits : Bits) → bits_before has_bit (length other.variables) other.variables bits ≡ bits_of has_bit bits
+  other_bits has_bit bits = ap (λ n. bits_before has_bit n other.variables bits) long ∙ same_bits has_bit (length vs) vs other.variables bits is.same.orders
+
+  -- followed references lead by bits where they lead by the values that the bits give
+  leads_one : (has_bit : Order → Bool) (root : Ref) → IsFollowed one has_bit root → (bits : Bits) → leaf_of one.nodes root (bits_at (padded has_bit vs (bits_of has_bit bits))) ≡ leaf_of one.nodes root bits
+  leads_one has_bit root followed bits = leaf_of_all has_bit vs own one.nodes is.automaton.ordered root followed.valid followed.tests bits
+
+  leads_other : (has_bit : Order → Bool) (root : Ref) → IsFollowed other has_bit root → (bits : Bits)
+      → leaf_of other.nodes root (bits_at (padded has_bit other.variables (bits_of has_bit bits))) ≡ leaf_of other.nodes root bits
+  leads_other has_bit root followed bits =
+      ap (λ values. leaf_of other.nodes root (bits_at (padded has_bit other.variables values))) (sym (other_bits has_bit bits))
+      ∙ leaf_of_all has_bit other.variables is.distinct other.nodes is.is_canonical.rules.ordered root followed.valid followed.tests bits
+
+  -- two references that are followed, from which all bits lead to states that match
+  pub record AreRoots (has_bit : Order → Bool) (root canonical : Ref) : Type 0 where
+    pub followed : IsFollowed one has_bit root
+    pub also : IsFollowed other has_bit canonical
+    pub matched : LeadToMatches one other root canonical
+
+  pub starts : AreRoots is_truth_value one.start other.start
+  starts = record {
+    followed = is.automaton.closed.start;
+    also = closed.start;
+    matched = λ bits.
+        let truth = bits_of is_truth_value bits in
+        let first : first_state one truth ≡ leaf_of one.nodes one.start bits = leads_one is_truth_value one.start is.automaton.closed.start bits in
+        let second : first_state other truth ≡ leaf_of other.nodes other.start bits = leads_other is_truth_value other.start closed.start bits in
+        record {
+          within = is.automaton.closed.start.states bits;
+          signs = λ letters are.
+              ap (λ state. sign_at one (state_after one state letters)) (sym first)
+              ∙ sym (is.same.signs (record { truth = truth; letters = letters }) (record { truth = as_many is_truth_value bits; letters = are }))
+              ∙ ap (λ state. sign_at other (state_after other state letters)) second;
+        };
+  }
+
+  pub nexts : (p q : ℕ) (found also : StateOf Sign) → IsMatch one other p q → slice_get one.states p ≡ Some found → slice_get other.states q ≡ Some also → AreRoots is_in_letters found.next also.next
+  nexts p q found also match held there =
+      let first_followed = followed one [] is.automaton.closed p found held in
+      let second_followed = next_followed other is.is_canonical.rules q also there in
+      record {
+        followed = first_followed;
+        also = second_followed;
+        matched = λ bits.
+            let letter = bits_of is_in_letters bits in
+            let first : next_state one p letter ≡ leaf_of one.nodes found.next bits = ap (λ state. next_from one state letter) held ∙ leads_one is_in_letters found.next first_followed bits in
+            let second : next_state other q letter ≡ leaf_of other.nodes also.next bits = ap (λ state. next_from other state letter) there ∙ leads_other is_in_letters also.next second_followed bits in
+            record {
+              within = first_followed.states bits;
+              signs = λ letters are.
+                  ap (λ state. sign_at one (state_after one state letters)) (sym first)
+                  ∙ match.signs (letter ∷ letters) (as_many is_in_letters bits, are)
+                  ∙ ap (λ state. sign_at other (state_after other state letters)) second;
+            };
+      }
+
+  -- each state matches one
+  pub state_match : (p : ℕ) → p < length one.states → (q : ℕ) × IsMatch one other p q
+  state_match p within =
+      let word = is.least.reached p within in (
+        last_state other word.0,
+        record {
+          within = within;
+          signs = λ letters are.
+              let longer : Word = record { truth = word.0.truth; letters = word.0.letters ++ letters } in
+              let first : last_state one longer ≡ state_after one p letters = state_after-append one (first_state one word.0.truth) word.0.letters letters ∙ ap (λ state. state_after one state letters) word.2 in
+              let second : last_state other longer ≡ state_after other (last_state other word.0) letters = state_after-append other (first_state other word.0.truth) word.0.letters letters in
+              ap (sign_at one) (sym first)
+              ∙ sym (is.same.signs longer (record { truth = word.1.truth; letters = AreLetters-append vs word.0.letters letters word.1.letters are }))
+              ∙ ap (sign_at other) second;
+        },
+      )
+
+  -- a state that matches is there
+  pub match_held : (p q : ℕ) → IsMatch one other p q → (found : StateOf Sign) × (slice_get other.states q ≡ Some found)
+  match_held p q match =
+      let here = slice_get-held one.states p match.within in
+      held_by (slice_get other.states q) refl (sym (match.signs [] tt) ∙ ap (option_map (λ (state : StateOf Sign). state.sign)) here.1)
+    where
+      held_by : {sign : Sign} (found : Option (StateOf Sign)) → slice_get other.states q ≡ found → option_map (λ (state : StateOf Sign). state.sign) (slice_get other.states q) ≡ Some sign
+          → (state : StateOf Sign) × (slice_get other.states q ≡ Some state)
+      held_by None none has = let never : ⊥ = cc in absurd never
+      held_by (Some state) held has = (state, held)
+
+  -- no two match one
+  pub one_match : (p p' q : ℕ) → IsMatch one other p q → IsMatch one other p' q → p ≡ p'
+  one_match p p' q first second = is.least.differ p p' first.within second.within (λ letters are. first.signs letters are ∙ sym (second.signs letters are))
+
+  -- what first bits leave of a reference is matched by what they leave of the other, which is a part
+  module _ (map : List ℕ) (rising : IsRisingMap (length vs) map) (has_bit : Order → Bool) (root canonical : Ref) (roots : AreRoots has_bit root canonical) (var : ℕ) (first : Bits) where
+    abbrev leads : Bits → ℕ
+    leads bits = leaf_of one.nodes root (read_through map (below_from var first bits))
+
+    level : (level : ℕ) × IsLevelOf map (length vs) rising var (length vs) level
+    level = level_of map (length vs) rising var (length vs) (omega arith)
+
+    together : (bits : Bits) → leads bits ≡ leaf_of one.nodes root (below_from level.0 (read_through map first) (read_through map bits))
+    together bits =
+        leaf_of-tested one.nodes is.automaton.ordered root (read_through map (below_from var first bits)) (below_from level.0 (read_through map first) (read_through map bits)) roots.followed.valid
+        (λ place tested.
+        let at = roots.followed.tests place tested in
+        put_together map (length vs) rising var level.0 level.1 first bits place (slice_get_within vs place at.0 at.1))
+
+    left : (reference : Ref) × BitsLeave other.nodes canonical level.0 (read_through map first) reference
+    left = first_bits_leave other.nodes is.is_canonical.rules.ordered canonical level.0 (read_through map first) roots.also.valid
+
+    is_named : (reference : Ref) → BitsLeave other.nodes canonical level.0 (read_through map first) reference → NamesPart other reference
+    is_named (Inner place) leave = leave.valid
+    is_named (Leaf state) leave =
+        let none : Bits = λ place. false in
+        subst (λ n. n < length other.states) (leave.function none ∙ leaf_of-leaf other.nodes none state) (roots.also.states (below_from level.0 (read_through map first) none))
+
+    pub matched_part : (number : ℕ) × (number < part_count other) × IsMatchedBy one other (read_through map) leads number
+    matched_part = (
+      number_of_part other left.0,
+      number_below other left.0 (is_named left.0 left.1),
+      record {
+        part = left.0;
+        named = is_named left.0 left.1;
+        is = refl;
+        matches = λ bits.
+            let here = roots.matched (below_from level.0 (read_through map first) (read_through map bits)) in
+            subst (λ q. IsMatch one other (leads bits) q) (left.1.function (read_through map bits))
+            (subst (λ p. IsMatch one other p (leaf_of other.nodes canonical (below_from level.0 (read_through map first) (read_through map bits)))) (sym (together bits)) here);
+      },
+    )
+
+  -- so is a single state
+  pub matched_state : (read : Bits → Bits) (p : ℕ) → p < length one.states → (number : ℕ) × (number < part_count other) × IsMatchedBy one other read (λ bits. p) number
+  matched_state read p within =
+      let match = state_match p within in
+      let held = match_held p match.0 match.1 in
+      let there : match.0 < length other.states = slice_get_within other.states match.0 held.0 held.1 in (
+        length other.nodes + match.0,
+        omega (arith, there),
+        record {
+          part = Leaf match.0;
+          named = there;
+          is = refl;
+          matches = λ bits. subst (λ q. IsMatch one other p q) (sym (leaf_of-leaf other.nodes (read bits) match.0)) match.1;
+        },
+      )
+
+  -- what one part matches is one function
+  pub one_function : (read : Bits → Bits) (leads leads' : Bits → ℕ) (number : ℕ) → IsMatchedBy one other read leads number → IsMatchedBy one other read leads' number → (bits : Bits) → leads bits ≡ leads' bits
+  one_function read leads leads' number first second bits =
+      let same : first.part ≡ second.part = one_part other first.part second.part first.named second.named (sym first.is ∙ second.is) in
+      one_match (leads bits) (leads' bits) (leaf_of other.nodes second.part (read bits))
+      (subst (λ (part : Ref). IsMatch one other (leads bits) (leaf_of other.nodes part (read bits))) same (first.matches bits)) (second.matches bits)

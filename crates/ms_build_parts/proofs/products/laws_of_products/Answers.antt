@@ -1,0 +1,12 @@
+use Rattle.ms_build_parts.proofs.Budgets.{one_count, products_are_within_budget}
+use Rattle.ms_build_parts.proofs.ProductParts.{products_need_few_parts}
+use Rattle.ms_build_parts.proofs.products.laws_of_products.Goals as goal
+
+pub returns-clause-few : goal.returns-clause-few
+returns-clause-few c = products_need_few_parts
+
+pub returns-clause-counted : goal.returns-clause-counted
+returns-clause-counted c = one_count
+
+pub returns-clause-budget : goal.returns-clause-budget
+returns-clause-budget c = products_are_within_budget

@@ -1,0 +1,39 @@
+-- Laws of how many states and nodes the automata of a step need.
+use Rattle.std.specs.Prelude.{◌≡◌, ℕ, ◌*◌, ◌<◌, ◌≤◌}
+use Rattle.ms_dfa.specs.Automaton.{IsAutomaton}
+use Rattle.ms_logic_measures.specs.Budgets.{budget}
+use Rattle.ms_logic_measures.specs.CallMeasures.{HasReachedParts, IsCombineMeasure}
+use Rattle.ms_logic_measures.specs.FullContent.{part_count}
+use Rattle.ms_logic_starts.specs.ContentStarts.{HaveDistinctNumbers}
+use Rattle.ms_logic_words.specs.Canonical.{IsCanonical}
+use Rattle.ms_logic_words.specs.Content.{Content}
+use Rattle.ms_logic_words.specs.declared.sign.Sign.{Sign}
+use Rattle.ms_minim.specs.Residual.{IsLeast}
+use Rattle.ms_product.specs.Pairing.{AreAtLeast, HaveRisingMaps, Operands}
+use Rattle.ms_product.specs.declared.op.Op.{Op}
+use Rattle.ms_build_parts.specs.SaySame.{SaySame}
+
+-- an automaton of fewest states, and the canonical content that says the same
+pub record IsMeasuredBy (one canonical : Content Sign) : Type 0 where
+  pub automaton : IsAutomaton one
+  pub least : IsLeast one
+  pub is_canonical : IsCanonical canonical
+  pub distinct : HaveDistinctNumbers canonical.variables
+  pub same : SaySame one canonical
+
+-- what a product of automata of fewest states needs is at most twice the product of the states and nodes of the canonical contents that
+-- say the same
+abbrev pub ProductsNeedFewParts : Type 0
+ProductsNeedFewParts =
+    (op : Op) (operands : Operands) (left right : Content Sign) → HaveRisingMaps operands → IsMeasuredBy operands.left left → IsMeasuredBy operands.right right
+    → (count : ℕ) → AreAtLeast count op operands → count ≤ 2 * (part_count left * part_count right)
+
+-- starts lead a canonical content to as many references as it has states and nodes, and to no other number
+abbrev pub CanonicalContentsHaveOneCount : Type 0
+CanonicalContentsHaveOneCount = (content : Content Sign) → IsCanonical content → HaveDistinctNumbers content.variables → (n : ℕ) → HasReachedParts content n → n ≡ part_count content
+
+-- so a product is short of nodes only under a limit below the budget of each measure of these contents
+abbrev pub ProductsAreWithinBudget : Type 0
+ProductsAreWithinBudget =
+    (op : Op) (operands : Operands) (left right : Content Sign) → HaveRisingMaps operands → IsMeasuredBy operands.left left → IsMeasuredBy operands.right right
+    → (limit : ℕ) → AreAtLeast limit op operands → (m r : ℕ) → IsCombineMeasure left right m r → limit < budget m r

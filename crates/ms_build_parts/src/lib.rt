@@ -1,0 +1,6 @@
+//! How many states and nodes the automata of a step need: laws that bound what a step of the graph lacks by what its formula fixes.
+#![tactic(auto)]
+
+mod products;
+
+pub use products::laws_of_products;
