@@ -7,6 +7,7 @@ use Rattle.ms_arena.proofs.Lists.{slice_get-append_some, slice_get-push}
 use Rattle.ms_dag.specs.Dag.{places_in_maps}
 use Rattle.ms_dfa.specs.Automaton.{IsAutomaton}
 use Rattle.ms_dfa_explore.specs.Tracks.{merged}
+use Rattle.ms_dfa_explore.proofs.AmongLemmas.{merged-either}
 use Rattle.ms_logic.specs.Lists.{IsAmong}
 use Rattle.ms_logic.specs.declared.mode.Order.{Order}
 use Rattle.ms_logic_words.specs.Content.{Content}
@@ -26,7 +27,7 @@ use Rattle.ms_project.proofs.AlwaysLemmas.{sign_moves}
 use Rattle.ms_dfa.specs.Values.{HasValues, meaning_by, own_meaning}
 use Rattle.ms_build.specs.declared.plan.Many.{Many}
 use Rattle.ms_build.specs.declared.plan.Many.TheVariants.{All, Any}
-use Rattle.ms_build.specs.Built.{ChildYes, ChildNo, IsBrought, IsManyOf, IsPart, AreReadAt, IsReadAt, ManyYes, ManyNo, child_meaning, entries_of, imports_for, many_meaning, op_of}
+use Rattle.ms_build.specs.Built.{ChildYes, ChildNo, HasOnly, IsBrought, IsManyOf, IsPart, AreReadAt, IsReadAt, ManyYes, ManyNo, child_meaning, entries_of, imports_for, many_meaning, op_of}
 use Rattle.ms_build.specs.Connectives.{NoOf, YesOf}
 
 module _ (V : Verdict) (e : Env) where
@@ -122,6 +123,26 @@ module _ (imports : List Import) (entries : List Entry) (c : Child) (e : Env) wh
       (λ is. (is, tt)) (λ is. ((inr is, tt), inl is)) (λ is. is.0) (λ is. ⊎_elim (λ here. here) (λ never. absurd never) is.1)
   only_one Any = sign_moves (ChildYes imports entries c) (ChildNo imports entries c) (ManyYes Any imports entries (c ∷ [])) (ManyNo Any imports entries (c ∷ [])) e
       (λ is. ((inl is, tt), inl is)) (λ is. (is, tt)) (λ is. ⊎_elim (λ here. here) (λ never. absurd never) is.1) (λ is. is.0)
+
+places-back : (cs : List Child) (c : Child) (j : ℕ) → Contains (places_in_maps cs) j ⊎ Contains c.map j → Contains (places_in_maps (cs ++ c ∷ [])) j
+places-back [] c j (inl none) = (let less = none.1 in absurd (omega (arith, less)))
+places-back [] c j (inr here) = Contains-append_left c.map [] j here
+places-back (d ∷ cs) c j (inl there) =
+    let rest = places_in_maps (cs ++ c ∷ []) in
+    ⊎_elim (λ here. Contains-append_left d.map rest j here) (λ later. Contains-append_right d.map rest j (places-back cs c j (inl later))) (Contains-append_cases d.map (places_in_maps cs) j there)
+places-back (d ∷ cs) c j (inr here) = Contains-append_right d.map (places_in_maps (cs ++ c ∷ [])) j (places-back cs c j (inr here))
+
+-- over variables of children alone, one after the other
+pub only_first : (c : Child) (made : Content Sign) → HasOnly c.map made → HasOnly (places_in_maps (c ∷ [])) made
+only_first c made only v there = Contains-append_left c.map [] v.name (only v there)
+
+pub only_same : (names : List ℕ) (made first : Content Sign) → first.variables ≡ made.variables → HasOnly names made → HasOnly names first
+only_same names made first same only v there = only v (subst (λ vs. IsAmong vs v) same there)
+
+pub only_more : (cs : List Child) (c : Child) (first next made : Content Sign) → HasOnly (places_in_maps cs) first → HasOnly c.map next → made.variables ≡ merged first.variables next.variables
+    → HasOnly (places_in_maps (cs ++ c ∷ [])) made
+only_more cs c first next made only also are v there =
+    places-back cs c v.name (⊎_elim (λ left. inl (only v left)) (λ right. inr (also v right)) (merged-either first.variables next.variables v (subst (λ vs. IsAmong vs v) are there)))
 
 -- the variables of one child more
 places-more : (cs : List Child) (c : Child) (j : ℕ) → Contains (places_in_maps (cs ++ c ∷ [])) j → Contains (places_in_maps cs ++ c.map) j

@@ -25,7 +25,8 @@ use Rattle.ms_project.specs.Always.{domain_or_always}
 use Rattle.ms_project.specs.Projection as projections
 use Rattle.ms_rename.specs.Renamed.{HasPartsOf, NeedsAtLeast, renamed, renamed_places}
 use Rattle.ms_rename.specs.Whole.{IsSmallWhole}
-use Rattle.ms_build.specs.Built.{IsBodyOf, IsBrought, IsBuiltAt, IsManyOf, entries_of, op_of}
+use Rattle.ms_dag.specs.Dag.{places_in_maps}
+use Rattle.ms_build.specs.Built.{HasOnly, IsBodyOf, IsBrought, IsBuiltAt, IsManyOf, entries_of, op_of}
 use Rattle.ms_build.specs.Roots.{named}
 use Rattle.ms_build.specs.Wider.{IsWider}
 use Rattle.ms_build.specs.declared.plan.Many.{Many}
@@ -54,6 +55,7 @@ pub record PairLacks (plan : Plan) (op : Op) (left right : Child) : Type 0 where
 pub record IsOfFirst (plan : Plan) (many : Many) (children : List Child) (count : ℕ) (content : Content Sign) : Type 0 where
   pub automaton : IsAutomaton content
   pub value : IsManyOf plan many (take count children) content
+  pub only : HasOnly (places_in_maps (take count children)) content
   pub alone : count ≡ 1 → (child : Child) × (slice_get children 0 ≡ Some child) × IsOperand plan child content
   pub least : count ≢ 1 → IsLeast content
 

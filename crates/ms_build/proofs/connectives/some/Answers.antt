@@ -1,8 +1,9 @@
 use Rattle.std.proofs.Common.{◌+◌, take, take_all, sym, subst, arith, ◌≡◌, rules}
 use Rattle.ms_product.specs.Combined.{combined}
 use Rattle.ms_dfa.specs.Values.{HasValues, own_meaning}
-use Rattle.ms_build.specs.Built.{AreReadAt, IsManyOf, entries_of}
-use Rattle.ms_build.proofs.ManyLemmas.{IsManyOf-one, IsManyOf-same, IsPart-more, modes_equal, orders_equal, read_first, take_next}
+use Rattle.ms_dag.specs.Dag.{places_in_maps}
+use Rattle.ms_build.specs.Built.{AreReadAt, HasOnly, IsManyOf, entries_of}
+use Rattle.ms_build.proofs.ManyLemmas.{IsManyOf-one, IsManyOf-same, IsPart-more, modes_equal, only_first, only_more, only_same, orders_equal, read_first, take_next}
 use Rattle.ms_build.proofs.connectives.some.Goals as goal
 use Rattle.ms_build.proofs.RefusalLemmas.{fault_more}
 use Rattle.ms_product.specs.Pairing.{AreAtLeast, operands_of}
@@ -16,6 +17,7 @@ loop-place-init c =
     let child = c.get.result.now in (
       subst (λ cs. IsManyOf plan c.args.many cs c.in-Ok.made) (sym (take_next c.args.children.now 0 child c.get.ensures)) (IsManyOf-one plan c.args.many child c.in-Ok.made c.in-Ok.ensures.part),
       c.in-Ok.ensures.within,
+      subst (λ cs. HasOnly (places_in_maps cs) c.in-Ok.made) (sym (take_next c.args.children.now 0 child c.get.ensures)) (only_first child c.in-Ok.made c.in-Ok.ensures.only),
       λ one. (child, c.get.ensures, c.in-Ok.ensures.operand),
     )
 
@@ -56,6 +58,9 @@ loop-place-preserved c =
           IsPart-more plan c.args.many (take place children) child c.in-Ok-of_first.first c.in-Ok-brought.next c.states.ensures.automaton c.states-in-loop-place.ensures.automaton before c.in-Ok-brought.ensures.part
           orders are c.in_ok-made.made made.mode made.variables values),
       made.within,
+      subst (λ cs. HasOnly (places_in_maps cs) c.in_ok-made.made) (sym (take_next c.args.children.now place child c.get-in-loop-place.ensures))
+          (only_more (take place children) child c.in-Ok-of_first.first c.in-Ok-brought.next c.in_ok-made.made
+          (only_same (places_in_maps (take place children)) c.loop-place.made c.in-Ok-of_first.first c.in-Ok-of_first.ensures.variables c.loop-place.invariant.2) c.in-Ok-brought.ensures.only made.variables),
       λ one. absurd (omega (arith, one, some)),
     )
 
@@ -88,7 +93,8 @@ returns-in_err-made-clause-nodes c =
       is_first = record {
         automaton = c.states.ensures.automaton;
         value = before;
-        alone = λ one. let is = c.loop-place.invariant.2 one in (is.0, is.1, subst (IsOperand plan is.0) (sym (c.in-Ok-of_first.ensures.same one)) is.2);
+        only = only_same (places_in_maps (take place children)) c.loop-place.made first c.in-Ok-of_first.ensures.variables c.loop-place.invariant.2;
+        alone = λ one. let is = c.loop-place.invariant.3 one in (is.0, is.1, subst (IsOperand plan is.0) (sym (c.in-Ok-of_first.ensures.same one)) is.2);
         least = c.in-Ok-of_first.ensures.least;
       };
       is_next = c.in-Ok-brought.ensures.operand;
