@@ -1,5 +1,6 @@
 -- The states of an automaton of fewest states correspond to those of a canonical content that says the same.
 use Rattle.std.proofs.Common.{◌≡◌, ℕ, zero, suc, ◌<◌, ◌+◌, Bool, false, List, [], ◌∷◌, ◌++◌, length, map, slice_get, Option, Some, None, refl, sym, ap, subst, ◌∙◌, arith}
+use Rattle.std.specs.List.{AllByRecursion}
 use Rattle.std.specs.Option.{option_map}
 use Rattle.std.proofs.lemmas.List.{length-map}
 use Rattle.std.proofs.lemmas.Option.{slice_get_within}
@@ -14,16 +15,14 @@ use Rattle.ms_arena.proofs.ReachLemmas.{leaf_of-tested}
 use Rattle.ms_diagram.specs.Bring.{read_through}
 use Rattle.ms_logic.specs.Assignment.{Variable}
 use Rattle.ms_logic.specs.declared.mode.Order.{Order}
-use Rattle.ms_logic_words.specs.Content.{Content, IsClosed, IsFollowed, NamesPart, StateOf, bits_at, count_of, first_state, is_in_letters, is_truth_value, last_state, next_from, next_state, padded, sign_at, state_after}
+use Rattle.ms_logic_words.specs.Content.{Content, IsClosed, IsFollowed, IsWordOver, NamesPart, StateOf, bits_at, count_of, first_state, is_in_letters, is_truth_value, last_state, next_from, next_state, padded, sign_at, state_after}
 use Rattle.ms_logic_words.specs.declared.sign.Sign.{Sign}
-use Rattle.ms_logic_starts.specs.ContentStarts.{HaveDistinctNumbers}
 use Rattle.ms_logic_measures.specs.FullContent.{part_count}
 use Rattle.ms_logic_starts.specs.FirstBits.{BitsLeave}
 use Rattle.ms_logic_starts.specs.inner.Ranks.{bits_before}
 use Rattle.ms_logic_starts.proofs.FirstBitsLemmas.{first_bits_leave}
 use Rattle.ms_logic_starts.proofs.LeftLemmas.{leaf_of_all}
 use Rattle.ms_logic_starts.proofs.RankLemmas.{length-bits_before, rank_of_all}
-use Rattle.ms_logic_starts.proofs.RisingLemmas.{rising_distinct}
 use Rattle.ms_minim_canonical.proofs.ContentLemmas.{IsClosed-content, next_followed}
 use Rattle.ms_minim.proofs.LettersLemmas.{AreLetters-append, state_after-append}
 use Rattle.ms_product.specs.Widened.{IsRisingMap}
@@ -41,6 +40,13 @@ same_count has_bit (v ∷ vs) (w ∷ ws) same =
     let first : w.order ≡ v.order = cc in
     let more : map (λ u. u.order) ws ≡ map (λ u. u.order) vs = cc in
     rw (first, same_count has_bit vs ws more) refl
+
+-- what is a word over one list is one over the other
+pub over_same : (one other : List Variable) (word : Word) → map (λ v. v.order) other ≡ map (λ v. v.order) one → IsWordOver one word → IsWordOver other word
+over_same one other word same over = record {
+  truth = over.truth ∙ sym (same_count is_truth_value one other same);
+  letters = subst (λ n. AllByRecursion (λ (letter : List Bool). length letter ≡ n) word.letters) (sym (same_count is_in_letters one other same)) over.letters;
+}
 
 same_bits : (has_bit : Order → Bool) (level : ℕ) (one other : List Variable) (bits : Bits) → map (λ v. v.order) other ≡ map (λ v. v.order) one → bits_before has_bit level other bits ≡ bits_before has_bit level one bits
 same_bits has_bit zero one other bits same = refl
@@ -68,9 +74,6 @@ module _ (one other : Content Sign) (is : IsMeasuredBy one other) where
   abbrev vs : List Variable
   vs = one.variables
 
-  own : HaveDistinctNumbers vs
-  own = rising_distinct vs is.automaton.rising
-
   long : length other.variables ≡ length vs
   long =
       let mine = length-map vs (λ (v : Variable). v.order) in
@@ -93,7 +96,7 @@ module _ (one other : Content Sign) (is : IsMeasuredBy one other) where
 
   -- followed references lead by bits where they lead by the values that the bits give
   leads_one : (has_bit : Order → Bool) (root : Ref) → IsFollowed one has_bit root → (bits : Bits) → leaf_of one.nodes root (bits_at (padded has_bit vs (bits_of has_bit bits))) ≡ leaf_of one.nodes root bits
-  leads_one has_bit root followed bits = leaf_of_all has_bit vs own one.nodes is.automaton.ordered root followed.valid followed.tests bits
+  leads_one has_bit root followed bits = leaf_of_all has_bit vs is.own one.nodes is.ordered root followed.valid followed.tests bits
 
   leads_other : (has_bit : Order → Bool) (root : Ref) → IsFollowed other has_bit root → (bits : Bits)
       → leaf_of other.nodes root (bits_at (padded has_bit other.variables (bits_of has_bit bits))) ≡ leaf_of other.nodes root bits
@@ -109,14 +112,14 @@ module _ (one other : Content Sign) (is : IsMeasuredBy one other) where
 
   pub starts : AreRoots is_truth_value one.start other.start
   starts = record {
-    followed = is.automaton.closed.start;
+    followed = is.closed.start;
     also = closed.start;
     matched = λ bits.
         let truth = bits_of is_truth_value bits in
-        let first : first_state one truth ≡ leaf_of one.nodes one.start bits = leads_one is_truth_value one.start is.automaton.closed.start bits in
+        let first : first_state one truth ≡ leaf_of one.nodes one.start bits = leads_one is_truth_value one.start is.closed.start bits in
         let second : first_state other truth ≡ leaf_of other.nodes other.start bits = leads_other is_truth_value other.start closed.start bits in
         record {
-          within = is.automaton.closed.start.states bits;
+          within = is.closed.start.states bits;
           signs = λ letters are.
               ap (λ state. sign_at one (state_after one state letters)) (sym first)
               ∙ sym (is.same.signs (record { truth = truth; letters = letters }) (record { truth = as_many is_truth_value bits; letters = are }))
@@ -126,7 +129,7 @@ module _ (one other : Content Sign) (is : IsMeasuredBy one other) where
 
   pub nexts : (p q : ℕ) (found also : StateOf Sign) → IsMatch one other p q → slice_get one.states p ≡ Some found → slice_get other.states q ≡ Some also → AreRoots is_in_letters found.next also.next
   nexts p q found also match held there =
-      let first_followed = followed one [] is.automaton.closed p found held in
+      let first_followed = followed one [] is.closed p found held in
       let second_followed = next_followed other is.is_canonical.rules q also there in
       record {
         followed = first_followed;
@@ -147,7 +150,7 @@ module _ (one other : Content Sign) (is : IsMeasuredBy one other) where
   -- each state matches one
   pub state_match : (p : ℕ) → p < length one.states → (q : ℕ) × IsMatch one other p q
   state_match p within =
-      let word = is.least.reached p within in (
+      let word = is.reached p within in (
         last_state other word.0,
         record {
           within = within;
@@ -174,7 +177,7 @@ module _ (one other : Content Sign) (is : IsMeasuredBy one other) where
 
   -- no two match one
   pub one_match : (p p' q : ℕ) → IsMatch one other p q → IsMatch one other p' q → p ≡ p'
-  one_match p p' q first second = is.least.differ p p' first.within second.within (λ letters are. first.signs letters are ∙ sym (second.signs letters are))
+  one_match p p' q first second = is.differ p p' first.within second.within (λ letters are. first.signs letters are ∙ sym (second.signs letters are))
 
   -- what first bits leave of a reference is matched by what they leave of the other, which is a part
   module _ (map : List ℕ) (rising : IsRisingMap (length vs) map) (has_bit : Order → Bool) (root canonical : Ref) (roots : AreRoots has_bit root canonical) (var : ℕ) (first : Bits) where
@@ -186,7 +189,7 @@ module _ (one other : Content Sign) (is : IsMeasuredBy one other) where
 
     together : (bits : Bits) → leads bits ≡ leaf_of one.nodes root (below_from level.0 (read_through map first) (read_through map bits))
     together bits =
-        leaf_of-tested one.nodes is.automaton.ordered root (read_through map (below_from var first bits)) (below_from level.0 (read_through map first) (read_through map bits)) roots.followed.valid
+        leaf_of-tested one.nodes is.ordered root (read_through map (below_from var first bits)) (below_from level.0 (read_through map first) (read_through map bits)) roots.followed.valid
         (λ place tested.
         let at = roots.followed.tests place tested in
         put_together map (length vs) rising var level.0 level.1 first bits place (slice_get_within vs place at.0 at.1))

@@ -1,27 +1,30 @@
 -- Laws of how many states and nodes the automata of a step need.
 use Rattle.std.specs.Prelude.{◌≡◌, ℕ, ◌*◌, ◌<◌, ◌≤◌}
-use Rattle.ms_dfa.specs.Automaton.{IsAutomaton}
+use Rattle.ms_arena.specs.Diagram.{IsOrdered}
 use Rattle.ms_logic_measures.specs.Budgets.{budget}
 use Rattle.ms_logic_measures.specs.CallMeasures.{HasReachedParts, IsCombineMeasure}
 use Rattle.ms_logic_measures.specs.FullContent.{part_count}
 use Rattle.ms_logic_starts.specs.ContentStarts.{HaveDistinctNumbers}
 use Rattle.ms_logic_words.specs.Canonical.{IsCanonical}
-use Rattle.ms_logic_words.specs.Content.{Content}
+use Rattle.ms_logic_words.specs.Content.{Content, IsClosed}
 use Rattle.ms_logic_words.specs.declared.sign.Sign.{Sign}
-use Rattle.ms_minim.specs.Residual.{IsLeast}
+use Rattle.ms_minim.specs.Residual.{AreReached, HaveDifferentResiduals}
 use Rattle.ms_product.specs.Pairing.{AreAtLeast, HaveRisingMaps, Operands}
 use Rattle.ms_product.specs.declared.op.Op.{Op}
 use Rattle.ms_build_parts.specs.SaySame.{SaySame}
 
--- an automaton of fewest states, and the canonical content that says the same
+-- a content of ordered diagrams whose states are reached and differ, and the canonical content that says the same
 pub record IsMeasuredBy (one canonical : Content Sign) : Type 0 where
-  pub automaton : IsAutomaton one
-  pub least : IsLeast one
+  pub ordered : IsOrdered one.nodes
+  pub closed : IsClosed one
+  pub own : HaveDistinctNumbers one.variables
+  pub reached : AreReached one
+  pub differ : HaveDifferentResiduals one
   pub is_canonical : IsCanonical canonical
   pub distinct : HaveDistinctNumbers canonical.variables
   pub same : SaySame one canonical
 
--- what a product of automata of fewest states needs is at most twice the product of the states and nodes of the canonical contents that
+-- what a product of such automata needs is at most twice the product of the states and nodes of the canonical contents that
 -- say the same
 abbrev pub ProductsNeedFewParts : Type 0
 ProductsNeedFewParts =

@@ -1,0 +1,163 @@
+-- The automaton of a child that occurs in a source is measured by the full content of the child's formula.
+use Rattle.std.proofs.Common.{◌≡◌, ℕ, zero, suc, Bool, IsTrue, List, [], ◌∷◌, length, map, slice_get, slice_index, slice_index_or, Option, Some, None, refl, sym, ap, subst, ◌∙◌, arith}
+use Rattle.std.specs.List.Sorted.{IsStrictlyIncreasing}
+use Rattle.std.specs.Option.{option_map}
+use Rattle.std.proofs.lemmas.List.{length-map}
+use Rattle.std.proofs.lemmas.Option.{none-some, same_Some, slice_get-map}
+use Rattle.ms_arena.specs.Diagram.{IsOrdered}
+use Rattle.ms_arena.specs.declared.node.Ref.{Ref}
+use Rattle.ms_build.specs.Built.{IsLeastOf, entries_of, imports_for, node_meaning}
+use Rattle.ms_build.specs.Short.{IsOperand}
+use Rattle.ms_build.specs.declared.plan.Plan.{Plan}
+use Rattle.ms_build.proofs.LawLemmas.{child_has_value}
+use Rattle.ms_build.proofs.PlaceLemmas.{length-by_place}
+use Rattle.ms_build.proofs.WholeLemmas.{rising-by_place}
+use Rattle.ms_build_parts.specs.Laws.{IsMeasuredBy}
+use Rattle.ms_build_parts.specs.SaySame.{SaySame}
+use Rattle.ms_dag.specs.Dag.{IsChild}
+use Rattle.ms_dag.specs.Laws.{HaveTheirOrders}
+use Rattle.ms_dag.specs.Lowered.{IsLoweredRoot}
+use Rattle.ms_dag.specs.Places.{picked}
+use Rattle.ms_dag.specs.declared.node.Child.{Child}
+use Rattle.ms_dag.specs.declared.node.Entry.{Entry}
+use Rattle.ms_dag_steps.specs.NodeSteps.{ChildOccurs}
+use Rattle.ms_dag_steps.specs.Occurrences.{variables_named, whole_formula}
+use Rattle.ms_dag_steps.proofs.OwnLemmas.{own_variables_are_free}
+use Rattle.ms_dfa.specs.Values.{HasValues}
+use Rattle.ms_logic.specs.Assignment.{Variable}
+use Rattle.ms_logic.specs.Lists.{AreRising, Each}
+use Rattle.ms_logic.specs.Truth.{Import}
+use Rattle.ms_logic.specs.declared.mode.Order.{Order}
+use Rattle.ms_logic_core.specs.Calls.{Calls}
+use Rattle.ms_logic_core.specs.CoreForm.{CoreForm}
+use Rattle.ms_logic_core.specs.declared.core_formula.Lowered.{Lowered}
+use Rattle.ms_logic_core.specs.declared.core_formula.Root.{Root}
+use Rattle.ms_logic_measures.specs.Budgets.{IsOwnContent}
+use Rattle.ms_logic_measures.specs.FullContent.{IsFullContent}
+use Rattle.ms_logic_starts.specs.ContentStarts.{HaveDistinctNumbers}
+use Rattle.ms_logic_starts.proofs.RisingLemmas.{rising_distinct}
+use Rattle.ms_logic_words.specs.Content.{Content, HasValueAt, IsClosed, IsFollowed, is_in_letters, is_truth_value, variables_by_place}
+use Rattle.ms_logic_words.specs.declared.sign.Sign.{Sign}
+use Rattle.ms_rename.specs.Renamed.{HasPartsOf, renamed}
+use Rattle.ms_rename.proofs.OrderLemmas.{distinct-same, renamed-rising}
+use Rattle.ms_build_steps.specs.Laws.{IsPlanned}
+use Rattle.ms_build_steps.proofs.NodeSigns.{say_same}
+use Rattle.ms_build_steps.proofs.Ordered.{ordered}
+use Rattle.ms_build_steps.proofs.SameValues.{rising_behind}
+
+-- variables under rising names rise
+named_rising : (names : List ℕ) (os : List Order) → IsStrictlyIncreasing names → AreRising (variables_named names os)
+named_rising [] os rising = tt
+named_rising (x ∷ names) [] rising = tt
+named_rising (x ∷ []) (o ∷ os) rising = (tt, tt)
+named_rising (x ∷ y ∷ names) (o ∷ []) rising = (tt, tt)
+named_rising (x ∷ y ∷ names) (o ∷ p ∷ os) rising = (rising 0 (omega arith), named_rising (y ∷ names) (p ∷ os) (rising_behind x (y ∷ names) rising))
+
+each_at : {A : Type 0} (P : A → Type 0) (xs : List A) → Each P xs → (k : ℕ) (x : A) → slice_get xs k ≡ Some x → P x
+each_at P [] each k x held = absurd (none-some x held)
+each_at P (y ∷ ys) each zero x held = subst P (same_Some y x held) each.0
+each_at P (y ∷ ys) each (suc k) x held = each_at P ys each.1 k x held
+
+-- renamed variables keep their orders
+renamed_orders : (names : List ℕ) (vs : List Variable) → length names ≡ length vs → map (λ (v : Variable). v.order) (renamed names vs) ≡ map (λ (v : Variable). v.order) vs
+renamed_orders [] [] long = refl
+renamed_orders [] (v ∷ vs) long = absurd (omega (arith, long))
+renamed_orders (name ∷ names) [] long = absurd (omega (arith, long))
+renamed_orders (name ∷ names) (v ∷ vs) long = ap (λ (os : List Order). v.order ∷ os) (renamed_orders names vs (omega (arith, long)))
+
+-- at each place stands a variable of the same order
+value_at_place : (has_value : Order → Bool) (vs ws : List Variable) → map (λ (v : Variable). v.order) vs ≡ map (λ (v : Variable). v.order) ws → (place : ℕ) → HasValueAt vs has_value place → HasValueAt ws has_value place
+value_at_place has_value vs ws same place at =
+    let order : option_map (λ (v : Variable). v.order) (slice_get ws place) ≡ Some at.0.order =
+    sym (slice_get-map (λ (v : Variable). v.order) ws place) ∙ ap (λ os. slice_get os place) (sym same) ∙ slice_get-map (λ (v : Variable). v.order) vs place ∙ ap (option_map (λ (v : Variable). v.order)) at.1 in
+    by (slice_get ws place) refl order
+  where
+    by : (found : Option Variable) → slice_get ws place ≡ found → option_map (λ (v : Variable). v.order) found ≡ Some at.0.order → HasValueAt ws has_value place
+    by None held is = absurd (none-some at.0.order is)
+    by (Some w) held is = (w, held, subst (λ o. IsTrue (has_value o)) (sym (same_Some w.order at.0.order is)) at.2)
+
+module _ (one least : Content Sign) (parts : HasPartsOf least one) (orders : map (λ (v : Variable). v.order) one.variables ≡ map (λ (v : Variable). v.order) least.variables) where
+  -- the same content with these parts
+  abbrev own : Content Sign
+  own = record { mode = one.mode; variables = one.variables; start = least.start; states = least.states; nodes = least.nodes }
+
+  pub is_own : one ≡ own
+  is_own = λ i. record { mode = one.mode; variables = one.variables; start = parts.start i; states = parts.states i; nodes = parts.nodes i }
+
+  followed_least : (has_value : Order → Bool) (root : Ref) → IsFollowed own has_value root → IsFollowed least has_value root
+  followed_least has_value root followed = record {
+    valid = followed.valid;
+    states = followed.states;
+    tests = λ place tested. value_at_place has_value one.variables least.variables orders place (followed.tests place tested);
+  }
+
+  pub closed_least : IsClosed one → IsClosed least
+  closed_least closed =
+      let same = subst IsClosed is_own closed in
+      record {
+        start = followed_least is_truth_value least.start same.start;
+        next = λ place other within. followed_least is_in_letters (slice_index_or least.states place other).next (same.next place other within);
+      }
+
+module _ (imports : List Import) (calls : Calls) (lowered : Lowered) (plan : Plan) (is : IsPlanned imports calls lowered plan) (number : ℕ) (root : Root) (is_root : slice_get lowered.roots number ≡ Some root) (names : List ℕ)
+    (child : Child) (f : CoreForm) (at : ChildOccurs (whole_formula calls root) plan.dag.now.entries names f child) (i : ℕ) (outer : List Order) (is_child : IsChild plan.dag.now.entries i outer child)
+    (one : Content Sign) (operand : IsOperand plan child one) (content : Content Sign) (full_own : IsOwnContent imports plan.mode f content) where
+  abbrev entry : Entry
+  entry = operand.is_least.0
+
+  abbrev least : Content Sign
+  least = operand.least
+
+  abbrev own_names : List ℕ
+  own_names = picked names child.map
+
+  least_is : IsLeastOf plan.mode (variables_by_place entry.orders) (node_meaning (imports_for plan) (entries_of plan) child.node) least
+  least_is = operand.is_least.2
+
+  long : length own_names ≡ length entry.orders
+  long = same_Some _ _ (sym at.own ∙ ap (option_map length) (ap (option_map (λ (e : Entry). e.orders)) operand.is_least.1))
+
+  full : IsFullContent imports plan.mode (variables_named own_names entry.orders) f content
+  full = subst (λ vs. IsFullContent imports plan.mode vs f content)
+      (own_variables_are_free imports calls lowered plan.dag.now number root f own_names child.node entry is.lowered_is is.graph is_root operand.is_least.1 at) full_own
+
+  have : HaveTheirOrders imports lowered.orders f
+  have = ordered imports lowered.orders (whole_formula calls root) f (each_at (IsLoweredRoot imports calls lowered.orders) lowered.roots is.lowered_is.roots number root is_root).orders_of_all at.subformula
+
+  pub same : SaySame least content
+  same = say_same imports plan.mode f entry.orders own_names long at.rising least content (node_meaning imports (entries_of plan) child.node) least_is.mode_is least_is.variables_are
+      (subst (λ us. HasValues (node_meaning us (entries_of plan) child.node) least) is.imports_are least_is.values) full
+      (λ e sign means. (child_has_value imports (entries_of plan) lowered.orders f (record { node = child.node; map = own_names }) e sign have at.unfolds).0 means)
+
+  map_long : length child.map ≡ length least.variables
+  map_long =
+      let count = length-map child.map (slice_index names) in
+      let own = long in
+      let placed = ap length least_is.variables_are ∙ length-by_place 0 entry.orders in
+      omega (arith, count, own, placed)
+
+  variables_are : one.variables ≡ renamed child.map least.variables
+  variables_are = operand.variables ∙ distinct-same (renamed child.map least.variables) (renamed-rising child.map least.variables is_child.rising)
+
+  pub orders_are : map (λ (v : Variable). v.order) one.variables ≡ map (λ (v : Variable). v.order) least.variables
+  orders_are = ap (λ vs. map (λ (v : Variable). v.order) vs) variables_are ∙ renamed_orders child.map least.variables map_long
+
+  pub as_long : length one.variables ≡ length least.variables
+  as_long =
+      let first = length-map one.variables (λ (v : Variable). v.order) in
+      let second = length-map least.variables (λ (v : Variable). v.order) in
+      let equal = ap length orders_are in
+      omega (arith, first, second, equal)
+
+  -- so the automaton of the child's node is measured by the content
+  pub measured : IsMeasuredBy least content
+  measured = record {
+    ordered = subst IsOrdered operand.parts.nodes operand.automaton.ordered;
+    closed = closed_least one least operand.parts orders_are operand.automaton.closed;
+    own = rising_distinct least.variables (subst AreRising (sym least_is.variables_are) (rising-by_place 0 entry.orders));
+    reached = least_is.reached;
+    differ = least_is.differ;
+    is_canonical = full.canonical;
+    distinct = subst HaveDistinctNumbers (sym full.same_variables) (rising_distinct (variables_named own_names entry.orders) (named_rising own_names entry.orders at.rising));
+    same = same;
+  }

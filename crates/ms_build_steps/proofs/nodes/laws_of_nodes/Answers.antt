@@ -1,0 +1,13 @@
+use Rattle.ms_build.proofs.LawLemmas.{child_has_value}
+use Rattle.ms_build.specs.Built.{node_meaning}
+use Rattle.ms_build_steps.proofs.NodeSigns.{say_same}
+use Rattle.ms_build_steps.proofs.Pairs.{connectives_are_within_budget}
+use Rattle.ms_build_steps.proofs.nodes.laws_of_nodes.Goals as goal
+
+pub returns-clause-same : goal.returns-clause-same
+returns-clause-same c = λ imports mode entries orders f names i own least content have unfolds rising long is full.
+    say_same imports mode f own names long rising least content (node_meaning imports entries i) is.mode_is is.variables_are is.values full
+    (λ e sign means. (child_has_value imports entries orders f (record { node = i; map = names }) e sign have unfolds).0 means)
+
+pub returns-clause-connectives : goal.returns-clause-connectives
+returns-clause-connectives c = connectives_are_within_budget

@@ -1,0 +1,53 @@
+-- Laws of the automata of nodes and of the steps of their source.
+use Rattle.std.specs.Prelude.{◌≡◌, ℕ, ◌<◌, List, length, slice_get, Some}
+use Rattle.std.specs.List.Sorted.{IsStrictlyIncreasing}
+use Rattle.ms_build.specs.Built.{IsLeastOf, imports_for, node_meaning}
+use Rattle.ms_build.specs.Short.{PairLacks}
+use Rattle.ms_build.specs.declared.plan.Plan.{Plan}
+use Rattle.ms_build_parts.specs.SaySame.{SaySame}
+use Rattle.ms_dag.specs.Dag.{IsChild}
+use Rattle.ms_dag.specs.Laws.{HaveTheirOrders}
+use Rattle.ms_dag.specs.Lowered.{IsLowered}
+use Rattle.ms_dag.specs.Share.{IsDagOf}
+use Rattle.ms_dag.specs.Unfolds.{Unfolds}
+use Rattle.ms_dag.specs.declared.node.Child.{Child}
+use Rattle.ms_dag.specs.declared.node.Entry.{Entry}
+use Rattle.ms_dag_steps.specs.NodeSteps.{ChildOccurs}
+use Rattle.ms_dag_steps.specs.Occurrences.{variables_named, whole_formula}
+use Rattle.ms_logic.specs.Truth.{Answer, Import}
+use Rattle.ms_logic.specs.declared.mode.Mode.{Mode}
+use Rattle.ms_logic.specs.declared.mode.Order.{Order}
+use Rattle.ms_logic_core.specs.Calls.{Calls}
+use Rattle.ms_logic_core.specs.CoreForm.{CoreForm}
+use Rattle.ms_logic_core.specs.declared.core_formula.Lowered.{Lowered}
+use Rattle.ms_logic_core.specs.declared.core_formula.Root.{Root}
+use Rattle.ms_logic_measures.specs.Budgets.{IsMeasureOf, budget}
+use Rattle.ms_logic_measures.specs.FullContent.{IsFullContent}
+use Rattle.ms_logic_measures.specs.Steps.{connective}
+use Rattle.ms_logic_words.specs.Content.{Content, variables_by_place}
+use Rattle.ms_logic_words.specs.declared.sign.Sign.{Sign}
+use Rattle.ms_product.specs.declared.op.Op.{Op}
+
+-- the automaton of a node, over the node's own variables, says what the full content of its formula says, where these have rising names
+abbrev pub NodesSayWhatFormulasSay : Type 0
+NodesSayWhatFormulasSay =
+    (imports : List Import) (mode : Mode) (entries : List Entry) (orders : List Order) (f : CoreForm) (names : List ℕ) (i : ℕ) (own : List Order) (least content : Content Sign)
+    → HaveTheirOrders imports orders f → Unfolds entries f names i → IsStrictlyIncreasing names → length names ≡ length own
+    → IsLeastOf mode (variables_by_place own) (node_meaning imports entries i) least → IsFullContent imports mode (variables_named names own) f content
+    → SaySame least content
+
+-- what is built is the graph of a source, over automata of its imports
+pub record IsPlanned (imports : List Import) (calls : Calls) (lowered : Lowered) (plan : Plan) : Type 0 where
+  pub lowered_is : IsLowered imports calls lowered
+  pub graph : IsDagOf calls lowered plan.dag.now
+  pub imports_are : imports_for plan ≡ imports
+
+-- where two children occur in the formula of a root, their connective lacks nodes only under a limit below each budget of its step
+abbrev pub ConnectivesAreWithinBudget : Type 0
+ConnectivesAreWithinBudget =
+    (imports : List Import) (calls : Calls) (lowered : Lowered) (plan : Plan) (number : ℕ) (root : Root) (names : List ℕ) (op : Op) (left right : Child) (f g : CoreForm) (i : ℕ)
+    (outer : List Order)
+    → IsPlanned imports calls lowered plan → slice_get lowered.roots number ≡ Some root
+    → ChildOccurs (whole_formula calls root) plan.dag.now.entries names f left → ChildOccurs (whole_formula calls root) plan.dag.now.entries names g right
+    → IsChild plan.dag.now.entries i outer left → IsChild plan.dag.now.entries i outer right → PairLacks plan op left right
+    → (files : List (Content Answer)) (m r : ℕ) → IsMeasureOf imports plan.mode files (connective f g) m r → plan.limit < budget m r
