@@ -1,4 +1,4 @@
--- What the parts of the reader tell of the bytes that they are given. Only the contracts and proofs inside this crate cite it.
+-- What the parts of a reader tell of the bytes that they are given. The contracts and proofs inside this crate cite it, and inside those of other texts of lines and fields.
 use Rattle.std.specs.Prelude.{◌≡◌, ◌≢◌, ℕ, ◌<◌, ◌≤◌, ◌^◌, Bool, nat_lt, List, length, slice_index, ◌++◌, ◌∷◌, [], Option, Some, None, Result, Ok, Err, IsTrue}
 use Rattle.std.specs.Borrow.{Bor}
 use Rattle.std.specs.List.{AllByRecursion, flat_map, list_all}

@@ -1,0 +1,83 @@
+-- What the worked examples need.
+use Rattle.std.proofs.Common.{◌≡◌, ℕ, zero, suc, ◌≤◌, Bool, true, false, List, [], ◌∷◌, length, slice_get, slice_index, Some, refl, sym, ap, subst, arith}
+use Rattle.std.proofs.lemmas.Option.{none-some, same_Some}
+use Rattle.ms_list.specs.declared.word.Word.{Word}
+use Rattle.ms_arena.specs.Diagram.{leaf_of}
+use Rattle.ms_dfa.specs.Files.{content_of_file}
+use Rattle.ms_dfa.specs.declared.plain.FileSign.{FileSign}
+use Rattle.ms_dfa.specs.declared.plain.FileSign.TheVariants.{Plus}
+use Rattle.ms_dfafile.specs.inner.Examples.{subset}
+use Rattle.ms_logic_words.specs.Content.{Content, IsWordOver, first_state, last_state, next_state}
+use Rattle.ms_cert.specs.Certificate.{IsCertified, IsLineOver, branch, leaf}
+use Rattle.ms_cert.specs.declared.cert.TreeLine.TheVariants.{At, By}
+use Rattle.ms_cert.specs.inner.Examples.{cert, other_state, too_long, turned_round, word_with}
+use Rattle.ms_cert.proofs.SeparationLemmas.{branch-to, each-apart, leaf-to}
+
+-- what is true of two items is true of each that a list of the two has, and the same of three
+at_two : {X : Type 0} (P : ℕ → X → Type 0) (first second : X) → P 0 first → P 1 second → (place : ℕ) (x : X) → slice_get (first ∷ second ∷ []) place ≡ Some x → P place x
+at_two P first second one two zero x held = subst (P 0) (same_Some first x held) one
+at_two P first second one two (suc zero) x held = subst (P 1) (same_Some second x held) two
+at_two P first second one two (suc (suc place)) x held = absurd (none-some x held)
+
+at_three : {X : Type 0} (P : ℕ → X → Type 0) (first second third : X) → P 0 first → P 1 second → P 2 third → (place : ℕ) (x : X) → slice_get (first ∷ second ∷ third ∷ []) place ≡ Some x → P place x
+at_three P first second third one two three zero x held = subst (P 0) (same_Some first x held) one
+at_three P first second third one two three (suc zero) x held = subst (P 1) (same_Some second x held) two
+at_three P first second third one two three (suc (suc zero)) x held = subst (P 2) (same_Some third x held) three
+at_three P first second third one two three (suc (suc (suc place))) x held = absurd (none-some x held)
+
+abbrev content : Content FileSign
+content = content_of_file subset
+
+abbrev empty_word : Word
+empty_word = word_with []
+
+abbrev short_word : Word
+short_word = word_with ((true ∷ false ∷ []) ∷ [])
+
+at_words : (P : ℕ → Word → Type 0) → P 0 empty_word → P 1 short_word → (place : ℕ) (word : Word) → slice_get cert.words place ≡ Some word → P place word
+at_words P one two = at_two P empty_word short_word one two
+
+first_word : (truth : List Bool) (word : Word) → slice_get cert.words (first_state content truth) ≡ Some word → length word.letters ≡ 0
+unfolding leaf_of
+first_word truth word held = ap (λ (w : Word). length w.letters) (sym (same_Some empty_word word held))
+
+ends_there : (state : ℕ) (word : Word) → slice_get cert.words state ≡ Some word → last_state content word ≡ state
+unfolding leaf_of
+ends_there = at_words (λ state word. last_state content word ≡ state) refl refl
+
+pub certified : IsCertified subset cert
+certified = record {
+  words = record {
+    count = refl;
+    over = at_words (λ state word. IsWordOver content.variables word) (record { truth = refl; letters = tt }) (record { truth = refl; letters = (refl, tt) });
+    ends = ends_there;
+  };
+  lengths = record {
+    start = λ truth word long held. first_word truth word held;
+    step = λ state letter word next long held held_next.
+        let few : length next.letters ≤ 1 = at_words (λ place w. length w.letters ≤ 1) (omega arith) (omega arith) (next_state content state letter) next held_next in
+        omega (arith, few);
+  };
+  letters = at_three (λ place line. IsLineOver content.variables line) (By Plus []) (At 0) (At 1) tt tt tt;
+  tree = record { tree = branch Plus [] (leaf 0) (leaf 1); spelled = refl; separates = (refl, refl) };
+}
+
+-- the word ends in the first state
+pub other_state-fails : ¬ IsCertified subset other_state
+unfolding leaf_of
+other_state-fails is = let ends : 0 ≡ 1 = is.words.ends 1 (word_with ((true ∷ true ∷ []) ∷ [])) refl in omega (arith, ends)
+
+-- one letter leads to the second state
+pub too_long-fails : ¬ IsCertified subset too_long
+unfolding leaf_of
+too_long-fails is =
+    let few : 2 ≤ 1 = is.lengths.step 0 (true ∷ false ∷ []) empty_word (word_with ((false ∷ false ∷ []) ∷ (true ∷ false ∷ []) ∷ [])) refl refl refl in
+    omega (arith, few)
+
+-- the first state alone has the sign
+pub turned_round-fails : ¬ IsCertified subset turned_round
+turned_round-fails is =
+    let each = branch-to content Plus [] (0 ∷ 1 ∷ []) [] (At 1 ∷ At 0 ∷ []) (each-apart content turned_round.tree is.tree) in
+    let only : 0 ∷ [] ≡ 1 ∷ [] = (leaf-to content 1 (0 ∷ []) ((1 ∷ []) ∷ []) (At 0 ∷ []) each).0 in
+    let first : 0 ≡ 1 = ap (λ (states : List ℕ). slice_index states 0) only in
+    omega (arith, first)

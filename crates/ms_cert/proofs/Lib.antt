@@ -1,0 +1,14 @@
+pub mod ContentLemmas
+pub mod ExampleLemmas
+pub mod FewestLemmas
+pub mod LengthsLemmas
+pub mod LettersLemmas
+pub mod LinesLemmas
+pub mod ListLemmas
+pub mod PartsLemmas
+pub mod SeparationLemmas
+pub mod ShortestLemmas
+pub mod SignsLemmas
+pub mod SlotsLemmas
+pub mod TreesLemmas
+pub mod WordsLemmas

@@ -1,0 +1,5 @@
+pub mod Certificate
+pub mod Laws
+pub mod Proven
+pub mod Text
+pub mod inner

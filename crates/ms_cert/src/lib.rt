@@ -1,0 +1,30 @@
+//! Certificates that an automaton file has fewest states: their text, written and read, and whether one certifies a file.
+#![tactic(auto)]
+
+mod cert;
+mod checking;
+mod examples;
+mod field;
+mod laws;
+mod layout;
+mod lengths;
+mod letters;
+mod line;
+mod lines;
+mod reading;
+mod running;
+mod separation;
+mod shortest;
+mod sign;
+mod tree;
+mod tree_line;
+mod word;
+mod words;
+mod writing;
+
+pub use cert::{Cert, Proven, TreeLine};
+pub use checking::checked;
+pub use examples::{worked_certificates, worked_texts};
+pub use laws::laws_of_certificates;
+pub use reading::read_cert;
+pub use writing::write_cert;
