@@ -19,3 +19,4 @@ mod wider;
 pub use built::{Built, build};
 pub use examples::{worked_last_uses, worked_uses};
 pub use laws::laws_of_built;
+pub use plan::Many;

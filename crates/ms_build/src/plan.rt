@@ -14,9 +14,9 @@ pub(crate) struct Plan<'a> {
     pub limit: u64,
 }
 
-/// A connective of many formulas.
+/// A connective of many formulas, of which the causes of a lack of nodes speak.
 #[derive(Clone, Copy)]
-pub(crate) enum Many {
+pub enum Many {
     All,
     Any,
 }

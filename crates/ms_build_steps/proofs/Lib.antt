@@ -1,5 +1,10 @@
+pub mod Lists
+pub mod ManyMeanings
+pub mod ManyVariables
 pub mod NodeSigns
 pub mod Operands
 pub mod Ordered
 pub mod Pairs
 pub mod SameValues
+pub mod Sides
+pub mod Through

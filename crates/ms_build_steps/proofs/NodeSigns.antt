@@ -1,5 +1,6 @@
--- The automaton of a node says what the full content of the node's formula says, whatever the variables of the formula are called.
-use Rattle.std.proofs.Common.{◌≡◌, ℕ, List, length, map, Some, sym, ap, subst, ◌∙◌}
+-- An automaton that has the value of a formula, whose variables have names there, says what the full content of the formula says.
+use Rattle.std.proofs.Common.{◌≡◌, ℕ, List, length, map, Some, sym, ap, subst, ◌∙◌, arith}
+use Rattle.std.proofs.lemmas.Option.{slice_get_within}
 use Rattle.std.specs.List.Sorted.{IsStrictlyIncreasing}
 use Rattle.ms_list.specs.declared.word.Word.{Word}
 use Rattle.ms_build_parts.specs.SaySame.{SaySame}
@@ -18,25 +19,24 @@ use Rattle.ms_logic_words.specs.Content.{Content, IsWordOver, sign_of, variables
 use Rattle.ms_logic_words.specs.Word.{Encodes, IsEncoding}
 use Rattle.ms_logic_words.specs.declared.sign.Sign.{Sign}
 use Rattle.ms_logic_words.specs.declared.sign.Sign.TheVariants.{Yes, No, Undefined, Outside}
-use Rattle.ms_build_steps.proofs.SameValues.{assigned_same, encodes_same, named_by, named_same, read_same, same_orders}
+use Rattle.ms_build.proofs.PlaceLemmas.{own-among}
+use Rattle.ms_build_steps.proofs.SameValues.{assigned_same, encodes_same, named_by}
+use Rattle.ms_build_steps.proofs.Through.{AreNamed, named_through, through, through_named, through_orders, through_read}
 
-module _ (imports : List Import) (mode : Mode) (f : CoreForm) (os : List Order) (names : List ℕ) (long : length names ≡ length os) (rising : IsStrictlyIncreasing names) (one content : Content Sign) (meaning : Meaning)
-    (mode_is : one.mode ≡ mode) (variables_are : one.variables ≡ variables_by_place os) (values : HasValues meaning one) (full : IsFullContent imports mode (variables_named names os) f content)
+module _ (imports : List Import) (mode : Mode) (f : CoreForm) (vs : List Variable) (names : List ℕ) (named : AreNamed names vs) (rising : IsStrictlyIncreasing names) (one content : Content Sign) (meaning : Meaning)
+    (mode_is : one.mode ≡ mode) (variables_are : one.variables ≡ vs) (values : HasValues meaning one) (full : IsFullContent imports mode (through names vs) f content)
     (means : (c : Env) (sign : Sign) → meaning (read_through names c) sign → core_meaning imports f c sign) where
-  abbrev vs : List Variable
-  vs = variables_by_place os
-
   abbrev ws : List Variable
-  ws = variables_named names os
+  ws = through names vs
 
   orders : map (λ v. v.order) content.variables ≡ map (λ v. v.order) one.variables
-  orders = ap (λ us. map (λ (v : Variable). v.order) us) full.same_variables ∙ same_orders names os 0 long ∙ ap (λ us. map (λ (v : Variable). v.order) us) (sym variables_are)
+  orders = ap (λ us. map (λ (v : Variable). v.order) us) full.same_variables ∙ through_orders names vs ∙ ap (λ us. map (λ (v : Variable). v.order) us) (sym variables_are)
 
   -- at what the word encodes under the names, the automaton has the value of the formula
   sign_at_value : (word : Word) (c : Env) (value : Sign) → IsAssignment mode ws c → Encodes ws word c → core_meaning imports f c value → sign_of one word ≡ Some value
   sign_at_value word c value assigned encodes holds =
       let e = read_through names c in
-      let same = read_same names os c long in
+      let same = through_read names c vs in
       let here = subst (λ us. IsAssignment one.mode us e) (sym variables_are) (subst (λ m. IsAssignment m vs e) (sym mode_is) (assigned_same mode vs ws e c same (λ i. c.universe) assigned)) in
       let word_is = subst (λ us. Encodes us word e) (sym variables_are) (encodes_same vs ws e c word same (λ i. c.universe) encodes) in
       let found = values.right word e here word_is in
@@ -48,7 +48,7 @@ module _ (imports : List Import) (mode : Mode) (f : CoreForm) (os : List Order) 
   encoding_named word is =
       let e = is.0 in
       let c = named_by names e in
-      let same = named_same names os e rising long in
+      let same = through_named names rising e vs named in
       let here = subst (λ us. IsAssignment mode us e) variables_are (subst (λ m. IsAssignment m one.variables e) mode_is is.1) in
       (c, assigned_same mode ws vs c e same (λ i. e.universe) here, encodes_same ws vs c e word same (λ i. e.universe) (subst (λ us. Encodes us word e) variables_are is.2))
 
@@ -58,11 +58,20 @@ module _ (imports : List Import) (mode : Mode) (f : CoreForm) (os : List Order) 
   by_value word Undefined over has = sign_at_value word has.0 Undefined has.1 has.2 has.3
   by_value word Outside over has = values.outside word over (λ is. has (encoding_named word is))
 
-  pub say_same : SaySame one content
-  say_same = record {
+  pub says_the_same : SaySame one content
+  says_the_same = record {
     orders = orders;
     signs = λ word over.
         let there = subst (λ us. IsWordOver us word) full.same_variables (over_same one.variables content.variables word orders over) in
         let found = full.values word there in
         found.1 ∙ sym (by_value word found.0 over found.2);
   }
+
+-- so does that of a node, over the node's own variables
+pub say_same : (imports : List Import) (mode : Mode) (f : CoreForm) (os : List Order) (names : List ℕ) → length names ≡ length os → IsStrictlyIncreasing names → (one content : Content Sign) (meaning : Meaning)
+    → one.mode ≡ mode → one.variables ≡ variables_by_place os → HasValues meaning one → IsFullContent imports mode (variables_named names os) f content
+    → ((c : Env) (sign : Sign) → meaning (read_through names c) sign → core_meaning imports f c sign) → SaySame one content
+say_same imports mode f os names long rising one content meaning mode_is variables_are values full means =
+    says_the_same imports mode f (variables_by_place os) names
+    (λ v among. let less = slice_get_within os v.name v.order (own-among os v among) in omega (arith, less, long))
+    rising one content meaning mode_is variables_are values (subst (λ us. IsFullContent imports mode us f content) (named_through names os long) full) means

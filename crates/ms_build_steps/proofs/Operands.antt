@@ -1,5 +1,5 @@
 -- The automaton of a child that occurs in a source is measured by the full content of the child's formula.
-use Rattle.std.proofs.Common.{◌≡◌, ℕ, zero, suc, Bool, IsTrue, List, [], ◌∷◌, length, map, slice_get, slice_index, slice_index_or, Option, Some, None, refl, sym, ap, subst, ◌∙◌, arith}
+use Rattle.std.proofs.Common.{◌≡◌, ℕ, Bool, IsTrue, List, [], ◌∷◌, length, map, slice_get, slice_index, slice_index_or, Option, Some, None, refl, sym, ap, subst, ◌∙◌, arith}
 use Rattle.std.specs.List.Sorted.{IsStrictlyIncreasing}
 use Rattle.std.specs.Option.{option_map}
 use Rattle.std.proofs.lemmas.List.{length-map}
@@ -16,7 +16,6 @@ use Rattle.ms_build_parts.specs.Laws.{IsMeasuredBy}
 use Rattle.ms_build_parts.specs.SaySame.{SaySame}
 use Rattle.ms_dag.specs.Dag.{IsChild}
 use Rattle.ms_dag.specs.Laws.{HaveTheirOrders}
-use Rattle.ms_dag.specs.Lowered.{IsLoweredRoot}
 use Rattle.ms_dag.specs.Places.{picked}
 use Rattle.ms_dag.specs.declared.node.Child.{Child}
 use Rattle.ms_dag.specs.declared.node.Entry.{Entry}
@@ -25,7 +24,7 @@ use Rattle.ms_dag_steps.specs.Occurrences.{variables_named, whole_formula}
 use Rattle.ms_dag_steps.proofs.OwnLemmas.{own_variables_are_free}
 use Rattle.ms_dfa.specs.Values.{HasValues}
 use Rattle.ms_logic.specs.Assignment.{Variable}
-use Rattle.ms_logic.specs.Lists.{AreRising, Each}
+use Rattle.ms_logic.specs.Lists.{AreRising}
 use Rattle.ms_logic.specs.Truth.{Import}
 use Rattle.ms_logic.specs.declared.mode.Order.{Order}
 use Rattle.ms_logic_core.specs.Calls.{Calls}
@@ -42,8 +41,9 @@ use Rattle.ms_rename.specs.Renamed.{HasPartsOf, renamed}
 use Rattle.ms_rename.proofs.OrderLemmas.{distinct-same, renamed-rising}
 use Rattle.ms_build_steps.specs.Laws.{IsPlanned}
 use Rattle.ms_build_steps.proofs.NodeSigns.{say_same}
-use Rattle.ms_build_steps.proofs.Ordered.{ordered}
+use Rattle.ms_build_steps.proofs.Ordered.{ordered_in_root}
 use Rattle.ms_build_steps.proofs.SameValues.{rising_behind}
+use Rattle.ms_build_steps.proofs.Sides.{IsSide}
 
 -- variables under rising names rise
 named_rising : (names : List ℕ) (os : List Order) → IsStrictlyIncreasing names → AreRising (variables_named names os)
@@ -52,11 +52,6 @@ named_rising (x ∷ names) [] rising = tt
 named_rising (x ∷ []) (o ∷ os) rising = (tt, tt)
 named_rising (x ∷ y ∷ names) (o ∷ []) rising = (tt, tt)
 named_rising (x ∷ y ∷ names) (o ∷ p ∷ os) rising = (rising 0 (omega arith), named_rising (y ∷ names) (p ∷ os) (rising_behind x (y ∷ names) rising))
-
-each_at : {A : Type 0} (P : A → Type 0) (xs : List A) → Each P xs → (k : ℕ) (x : A) → slice_get xs k ≡ Some x → P x
-each_at P [] each k x held = absurd (none-some x held)
-each_at P (y ∷ ys) each zero x held = subst P (same_Some y x held) each.0
-each_at P (y ∷ ys) each (suc k) x held = each_at P ys each.1 k x held
 
 -- renamed variables keep their orders
 renamed_orders : (names : List ℕ) (vs : List Variable) → length names ≡ length vs → map (λ (v : Variable). v.order) (renamed names vs) ≡ map (λ (v : Variable). v.order) vs
@@ -81,7 +76,7 @@ module _ (one least : Content Sign) (parts : HasPartsOf least one) (orders : map
   abbrev own : Content Sign
   own = record { mode = one.mode; variables = one.variables; start = least.start; states = least.states; nodes = least.nodes }
 
-  pub is_own : one ≡ own
+  is_own : one ≡ own
   is_own = λ i. record { mode = one.mode; variables = one.variables; start = parts.start i; states = parts.states i; nodes = parts.nodes i }
 
   followed_least : (has_value : Order → Bool) (root : Ref) → IsFollowed own has_value root → IsFollowed least has_value root
@@ -122,9 +117,9 @@ module _ (imports : List Import) (calls : Calls) (lowered : Lowered) (plan : Pla
       (own_variables_are_free imports calls lowered plan.dag.now number root f own_names child.node entry is.lowered_is is.graph is_root operand.is_least.1 at) full_own
 
   have : HaveTheirOrders imports lowered.orders f
-  have = ordered imports lowered.orders (whole_formula calls root) f (each_at (IsLoweredRoot imports calls lowered.orders) lowered.roots is.lowered_is.roots number root is_root).orders_of_all at.subformula
+  have = ordered_in_root imports calls lowered is.lowered_is number root is_root f at.subformula
 
-  pub same : SaySame least content
+  same : SaySame least content
   same = say_same imports plan.mode f entry.orders own_names long at.rising least content (node_meaning imports (entries_of plan) child.node) least_is.mode_is least_is.variables_are
       (subst (λ us. HasValues (node_meaning us (entries_of plan) child.node) least) is.imports_are least_is.values) full
       (λ e sign means. (child_has_value imports (entries_of plan) lowered.orders f (record { node = child.node; map = own_names }) e sign have at.unfolds).0 means)
@@ -139,18 +134,11 @@ module _ (imports : List Import) (calls : Calls) (lowered : Lowered) (plan : Pla
   variables_are : one.variables ≡ renamed child.map least.variables
   variables_are = operand.variables ∙ distinct-same (renamed child.map least.variables) (renamed-rising child.map least.variables is_child.rising)
 
-  pub orders_are : map (λ (v : Variable). v.order) one.variables ≡ map (λ (v : Variable). v.order) least.variables
+  orders_are : map (λ (v : Variable). v.order) one.variables ≡ map (λ (v : Variable). v.order) least.variables
   orders_are = ap (λ vs. map (λ (v : Variable). v.order) vs) variables_are ∙ renamed_orders child.map least.variables map_long
 
-  pub as_long : length one.variables ≡ length least.variables
-  as_long =
-      let first = length-map one.variables (λ (v : Variable). v.order) in
-      let second = length-map least.variables (λ (v : Variable). v.order) in
-      let equal = ap length orders_are in
-      omega (arith, first, second, equal)
-
   -- so the automaton of the child's node is measured by the content
-  pub measured : IsMeasuredBy least content
+  measured : IsMeasuredBy least content
   measured = record {
     ordered = subst IsOrdered operand.parts.nodes operand.automaton.ordered;
     closed = closed_least one least operand.parts orders_are operand.automaton.closed;
@@ -161,3 +149,6 @@ module _ (imports : List Import) (calls : Calls) (lowered : Lowered) (plan : Pla
     distinct = subst HaveDistinctNumbers (sym full.same_variables) (rising_distinct (variables_named own_names entry.orders) (named_rising own_names entry.orders at.rising));
     same = same;
   }
+
+  pub side : IsSide one content
+  side = record { least = least; rising = operand.automaton.rising; parts = operand.parts; orders = orders_are; measured = measured }

@@ -3,8 +3,6 @@ use Rattle.std.proofs.Common.{◌≡◌, ℕ, zero, suc, ◌+◌, ◌<◌, ◌==
 use Rattle.std.specs.List.Sorted.{IsStrictlyIncreasing}
 use Rattle.std.proofs.lemmas.Bool.{eq-eqb, ne_eqb}
 use Rattle.ms_list.specs.declared.word.Word.{Word}
-use Rattle.ms_dag.specs.Values.{read_through}
-use Rattle.ms_dag_steps.specs.Occurrences.{variables_named}
 use Rattle.ms_logic.specs.Assignment.{Env, GivesEach, IsAssignment, IsUniverseOf, IsValueOf, Variable, value_at}
 use Rattle.ms_logic.specs.FiniteSet.{is_member, numbers_below}
 use Rattle.ms_logic.specs.Letters.{bound_at, bound_of, letter_at, truth_values_of, with_bit, with_truth_value}
@@ -12,7 +10,6 @@ use Rattle.ms_logic.specs.declared.assignment.Value.TheVariants as values
 use Rattle.ms_logic.specs.declared.mode.Mode.{Mode}
 use Rattle.ms_logic.specs.declared.mode.Order.{Order}
 use Rattle.ms_logic.specs.declared.mode.Order.TheVariants.{Zero, One, Two}
-use Rattle.ms_logic_words.specs.Content.{variables_from}
 use Rattle.ms_logic_words.specs.Word.{Encodes, HasLength}
 
 -- variables of one order, one after the other, with one value
@@ -96,26 +93,6 @@ assigned_same mode vs ws e c same universe assigned = record {
   values = gives_same vs ws e c same universe assigned.values;
 }
 
--- variables by their places have the values of those that names stand for
-value_through : (o : Order) (names : List ℕ) (place : ℕ) (c : Env) → value_at o place (read_through names c) ≡ value_at o (slice_index names place) c
-value_through Zero names place c = refl
-value_through One names place c = refl
-value_through Two names place c = refl
-
-read_from : (names : List ℕ) (c : Env) (rest : List ℕ) (os : List Order) (base : ℕ) → length rest ≡ length os → ((j : ℕ) → j < length rest → slice_index names (base + j) ≡ slice_index rest j)
-    → HaveSameValues (variables_from base os) (variables_named rest os) (read_through names c) c
-read_from names c [] [] base long are = tt
-read_from names c [] (o ∷ os) base long are = absurd (omega (arith, long))
-read_from names c (x ∷ rest) [] base long are = absurd (omega (arith, long))
-read_from names c (x ∷ rest) (o ∷ os) base long are = (
-  refl,
-  value_through o names base c ∙ ap (λ y. value_at o y c) (ap (slice_index names) (let same : base ≡ base + 0 = omega arith in same) ∙ are 0 (omega arith)),
-  read_from names c rest os (base + 1) (omega (arith, long)) (λ j less. ap (slice_index names) (let same : base + 1 + j ≡ base + suc j = omega arith in same) ∙ are (suc j) (omega (arith, less))),
-)
-
-pub read_same : (names : List ℕ) (os : List Order) (c : Env) → length names ≡ length os → HaveSameValues (variables_from 0 os) (variables_named names os) (read_through names c) c
-read_same names os c long = read_from names c names os 0 long (λ j less. ap (slice_index names) (let same : 0 + j ≡ j = omega arith in same))
-
 -- the place of a name
 abbrev pub place_in : List ℕ → ℕ → ℕ
 place_in [] x = 0
@@ -141,36 +118,10 @@ first_least x (y ∷ ys) rising (suc j) less =
     let next = first_least y ys (rising_behind x (y ∷ ys) rising) j (omega (arith, less)) in
     omega (arith, first, next)
 
-own_place : (names : List ℕ) → IsStrictlyIncreasing names → (j : ℕ) → j < length names → place_in names (slice_index names j) ≡ j
+pub own_place : (names : List ℕ) → IsStrictlyIncreasing names → (j : ℕ) → j < length names → place_in names (slice_index names j) ≡ j
 own_place [] rising j less = absurd (omega (arith, less))
 own_place (x ∷ xs) rising zero less = ap (λ (test : Bool). if test then 0 else suc (place_in xs x)) (eq-eqb x x refl)
 own_place (x ∷ xs) rising (suc j) less =
     let above = first_least x xs rising j (omega (arith, less)) in
     ap (λ (test : Bool). if test then 0 else suc (place_in xs (slice_index xs j))) (ne_eqb x (slice_index xs j) (λ same. omega (arith, above, same)))
     ∙ ap suc (own_place xs (rising_behind x xs rising) j (omega (arith, less)))
-
-value_named : (o : Order) (names : List ℕ) (x : ℕ) (e : Env) → value_at o x (named_by names e) ≡ value_at o (place_in names x) e
-value_named Zero names x e = refl
-value_named One names x e = refl
-value_named Two names x e = refl
-
-named_from : (names : List ℕ) (e : Env) (rest : List ℕ) (os : List Order) (base : ℕ) → length rest ≡ length os → ((j : ℕ) → j < length rest → place_in names (slice_index rest j) ≡ base + j)
-    → HaveSameValues (variables_named rest os) (variables_from base os) (named_by names e) e
-named_from names e [] [] base long are = tt
-named_from names e [] (o ∷ os) base long are = absurd (omega (arith, long))
-named_from names e (x ∷ rest) [] base long are = absurd (omega (arith, long))
-named_from names e (x ∷ rest) (o ∷ os) base long are = (
-  refl,
-  value_named o names x e ∙ ap (λ y. value_at o y e) (are 0 (omega arith) ∙ (let same : base + 0 ≡ base = omega arith in same)),
-  named_from names e rest os (base + 1) (omega (arith, long)) (λ j less. are (suc j) (omega (arith, less)) ∙ (let same : base + suc j ≡ base + 1 + j = omega arith in same)),
-)
-
-pub named_same : (names : List ℕ) (os : List Order) (e : Env) → IsStrictlyIncreasing names → length names ≡ length os → HaveSameValues (variables_named names os) (variables_from 0 os) (named_by names e) e
-named_same names os e rising long = named_from names e names os 0 long (λ j less. own_place names rising j less ∙ (let same : j ≡ 0 + j = omega arith in same))
-
--- one after the other they have one order
-pub same_orders : (names : List ℕ) (os : List Order) (base : ℕ) → length names ≡ length os → map (λ v. v.order) (variables_named names os) ≡ map (λ v. v.order) (variables_from base os)
-same_orders [] [] base long = refl
-same_orders [] (o ∷ os) base long = absurd (omega (arith, long))
-same_orders (x ∷ names) [] base long = absurd (omega (arith, long))
-same_orders (x ∷ names) (o ∷ os) base long = ap (λ (more : List Order). o ∷ more) (same_orders names os (base + 1) (omega (arith, long)))

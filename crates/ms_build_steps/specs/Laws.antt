@@ -1,8 +1,10 @@
 -- Laws of the automata of nodes and of the steps of their source.
-use Rattle.std.specs.Prelude.{◌≡◌, ℕ, ◌<◌, List, length, slice_get, Some}
+use Rattle.std.specs.Prelude.{◌≡◌, ℕ, ◌<◌, List, length, slice_get, Contains, All as Each, Some}
 use Rattle.std.specs.List.Sorted.{IsStrictlyIncreasing}
 use Rattle.ms_build.specs.Built.{IsLeastOf, imports_for, node_meaning}
-use Rattle.ms_build.specs.Short.{PairLacks}
+use Rattle.ms_build.specs.Short.{ManyLacks, PairLacks}
+use Rattle.ms_build.specs.declared.plan.Many.{Many}
+use Rattle.ms_build.specs.declared.plan.Many.TheVariants.{All, Any}
 use Rattle.ms_build.specs.declared.plan.Plan.{Plan}
 use Rattle.ms_build_parts.specs.SaySame.{SaySame}
 use Rattle.ms_dag.specs.Dag.{IsChild}
@@ -12,18 +14,18 @@ use Rattle.ms_dag.specs.Share.{IsDagOf}
 use Rattle.ms_dag.specs.Unfolds.{Unfolds}
 use Rattle.ms_dag.specs.declared.node.Child.{Child}
 use Rattle.ms_dag.specs.declared.node.Entry.{Entry}
-use Rattle.ms_dag_steps.specs.NodeSteps.{ChildOccurs}
+use Rattle.ms_dag_steps.specs.NodeSteps.{ChildOccurs, HasStepsOfList}
 use Rattle.ms_dag_steps.specs.Occurrences.{variables_named, whole_formula}
 use Rattle.ms_logic.specs.Truth.{Answer, Import}
 use Rattle.ms_logic.specs.declared.mode.Mode.{Mode}
 use Rattle.ms_logic.specs.declared.mode.Order.{Order}
 use Rattle.ms_logic_core.specs.Calls.{Calls}
-use Rattle.ms_logic_core.specs.CoreForm.{CoreForm}
+use Rattle.ms_logic_core.specs.CoreForm.{CoreForm, CoreForms, conjunction, disjunction}
 use Rattle.ms_logic_core.specs.declared.core_formula.Lowered.{Lowered}
 use Rattle.ms_logic_core.specs.declared.core_formula.Root.{Root}
 use Rattle.ms_logic_measures.specs.Budgets.{IsMeasureOf, budget}
 use Rattle.ms_logic_measures.specs.FullContent.{IsFullContent}
-use Rattle.ms_logic_measures.specs.Steps.{connective}
+use Rattle.ms_logic_measures.specs.Steps.{Step, connective, steps_of}
 use Rattle.ms_logic_words.specs.Content.{Content, variables_by_place}
 use Rattle.ms_logic_words.specs.declared.sign.Sign.{Sign}
 use Rattle.ms_product.specs.declared.op.Op.{Op}
@@ -51,3 +53,22 @@ ConnectivesAreWithinBudget =
     → ChildOccurs (whole_formula calls root) plan.dag.now.entries names f left → ChildOccurs (whole_formula calls root) plan.dag.now.entries names g right
     → IsChild plan.dag.now.entries i outer left → IsChild plan.dag.now.entries i outer right → PairLacks plan op left right
     → (files : List (Content Answer)) (m r : ℕ) → IsMeasureOf imports plan.mode files (connective f g) m r → plan.limit < budget m r
+
+-- the connective of the operands of a list
+abbrev pub connect_of : Many → CoreForms → CoreForm
+connect_of All = conjunction
+connect_of Any = disjunction
+
+-- a limit is below each budget of one of the steps of a formula
+abbrev pub IsBelowStep : List Import → Mode → CoreForm → ℕ → Type 0
+IsBelowStep imports mode f limit =
+    (step : Step) × Contains (steps_of f) step × ((files : List (Content Answer)) (m r : ℕ) → IsMeasureOf imports mode files step m r → limit < budget m r)
+
+-- where the children of a list occur in the formula of a root, the connective of the first ones with the next one lacks nodes only
+-- under a limit below each budget of its step
+abbrev pub ListsAreWithinBudget : Type 0
+ListsAreWithinBudget =
+    (imports : List Import) (calls : Calls) (lowered : Lowered) (plan : Plan) (number : ℕ) (root : Root) (names : List ℕ) (many : Many) (children : List Child) (i : ℕ) (outer : List Order)
+    → IsPlanned imports calls lowered plan → slice_get lowered.roots number ≡ Some root → IsStrictlyIncreasing names → length names ≡ length outer
+    → HasStepsOfList (whole_formula calls root) (connect_of many) plan.dag.now.entries names i children → Each (IsChild plan.dag.now.entries i outer) children
+    → ManyLacks plan many children → IsBelowStep imports plan.mode (whole_formula calls root) plan.limit

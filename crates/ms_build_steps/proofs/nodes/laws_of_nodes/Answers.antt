@@ -1,5 +1,6 @@
 use Rattle.ms_build.proofs.LawLemmas.{child_has_value}
 use Rattle.ms_build.specs.Built.{node_meaning}
+use Rattle.ms_build_steps.proofs.Lists.{lists_are_within_budget}
 use Rattle.ms_build_steps.proofs.NodeSigns.{say_same}
 use Rattle.ms_build_steps.proofs.Pairs.{connectives_are_within_budget}
 use Rattle.ms_build_steps.proofs.nodes.laws_of_nodes.Goals as goal
@@ -11,3 +12,6 @@ returns-clause-same c = λ imports mode entries orders f names i own least conte
 
 pub returns-clause-connectives : goal.returns-clause-connectives
 returns-clause-connectives c = connectives_are_within_budget
+
+pub returns-clause-lists : goal.returns-clause-lists
+returns-clause-lists c = lists_are_within_budget
