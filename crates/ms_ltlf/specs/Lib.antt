@@ -1,0 +1,5 @@
+pub mod Meaning
+pub mod Trace
+pub mod Tree
+pub mod View
+pub mod inner

@@ -1,0 +1,5 @@
+pub mod Examples
+pub mod Laws
+pub mod Made
+pub mod Source
+pub mod Strings

@@ -1,0 +1,17 @@
+//! Linear temporal logic on finite traces: its formulas, when one holds on a trace, and sources of M2L-Str that say the same.
+#![tactic(auto)]
+
+mod atoms;
+mod examples;
+mod formulas;
+mod laws;
+mod made;
+mod operators;
+mod parts;
+mod strings;
+mod trace;
+
+pub use examples::{worked_formulas, worked_sources, worked_traces, worked_truth};
+pub use laws::laws_of_traces;
+pub use strings::to_strings;
+pub use trace::{Ltl, Trace};
