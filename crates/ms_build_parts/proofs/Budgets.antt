@@ -15,7 +15,7 @@ use Rattle.ms_build_parts.specs.Laws.{CanonicalContentsHaveOneCount, ProductsAre
 use Rattle.ms_build_parts.proofs.ProductParts.{products_need_few_parts}
 
 -- to leave the same of a content is an equivalence
-leave_same : (content : Content Sign) (variables : List Variable) → IsEquivalence (LeaveSame content variables)
+pub leave_same : (content : Content Sign) (variables : List Variable) → IsEquivalence (LeaveSame content variables)
 leave_same content variables = record { symmetric = λ one other same rest. sym (same rest); transitive = λ one two three first second rest. first rest ∙ second rest }
 
 -- an exact count is one from below

@@ -5,6 +5,7 @@ pub mod NodeSigns
 pub mod Operands
 pub mod Ordered
 pub mod Pairs
+pub mod Relations
 pub mod SameValues
 pub mod Sides
 pub mod Through

@@ -2,7 +2,7 @@
 use Rattle.std.specs.Prelude.{◌≡◌, ℕ, ◌<◌, List, length, slice_get, Contains, All as Each, Some}
 use Rattle.std.specs.List.Sorted.{IsStrictlyIncreasing}
 use Rattle.ms_build.specs.Built.{IsLeastOf, imports_for, node_meaning}
-use Rattle.ms_build.specs.Short.{ManyLacks, PairLacks}
+use Rattle.ms_build.specs.Short.{FormLacks, ManyLacks, PairLacks}
 use Rattle.ms_build.specs.declared.plan.Many.{Many}
 use Rattle.ms_build.specs.declared.plan.Many.TheVariants.{All, Any}
 use Rattle.ms_build.specs.declared.plan.Plan.{Plan}
@@ -10,17 +10,20 @@ use Rattle.ms_build_parts.specs.SaySame.{SaySame}
 use Rattle.ms_dag.specs.Dag.{IsChild}
 use Rattle.ms_dag.specs.Laws.{HaveTheirOrders}
 use Rattle.ms_dag.specs.Lowered.{IsLowered}
+use Rattle.ms_dag.specs.Places.{AreBelow}
 use Rattle.ms_dag.specs.Share.{IsDagOf}
-use Rattle.ms_dag.specs.Unfolds.{Unfolds}
+use Rattle.ms_dag.specs.Unfolds.{Unfolds, names_of_basic}
 use Rattle.ms_dag.specs.declared.node.Child.{Child}
+use Rattle.ms_dag.specs.declared.node.DagNode.TheVariants as nodes
 use Rattle.ms_dag.specs.declared.node.Entry.{Entry}
-use Rattle.ms_dag_steps.specs.NodeSteps.{ChildOccurs, HasStepsOfList}
+use Rattle.ms_dag_steps.specs.NodeSteps.{ChildOccurs, HasItsSteps, HasStepsOfList}
 use Rattle.ms_dag_steps.specs.Occurrences.{variables_named, whole_formula}
 use Rattle.ms_logic.specs.Truth.{Answer, Import}
 use Rattle.ms_logic.specs.declared.mode.Mode.{Mode}
 use Rattle.ms_logic.specs.declared.mode.Order.{Order}
 use Rattle.ms_logic_core.specs.Calls.{Calls}
 use Rattle.ms_logic_core.specs.CoreForm.{CoreForm, CoreForms, conjunction, disjunction}
+use Rattle.ms_logic_core.specs.declared.core_formula.Basic.{Basic}
 use Rattle.ms_logic_core.specs.declared.core_formula.Lowered.{Lowered}
 use Rattle.ms_logic_core.specs.declared.core_formula.Root.{Root}
 use Rattle.ms_logic_measures.specs.Budgets.{IsMeasureOf, budget}
@@ -72,3 +75,10 @@ ListsAreWithinBudget =
     → IsPlanned imports calls lowered plan → slice_get lowered.roots number ≡ Some root → IsStrictlyIncreasing names → length names ≡ length outer
     → HasStepsOfList (whole_formula calls root) (connect_of many) plan.dag.now.entries names i children → Each (IsChild plan.dag.now.entries i outer) children
     → ManyLacks plan many children → IsBelowStep imports plan.mode (whole_formula calls root) plan.limit
+
+-- where a relation occurs in a formula, its machine lacks nodes only under a limit below each budget of its step
+abbrev pub RelationsAreBelowTheirSteps : Type 0
+RelationsAreBelowTheirSteps =
+    (imports : List Import) (whole : CoreForm) (plan : Plan) (orders : List Order) (names : List ℕ) (i : ℕ) (b : Basic)
+    → IsStrictlyIncreasing names → AreBelow (length names) (names_of_basic b) → HasItsSteps whole plan.dag.now.entries names i (nodes.Basic b)
+    → FormLacks plan orders (nodes.Basic b) → IsBelowStep imports plan.mode whole plan.limit

@@ -3,6 +3,7 @@ use Rattle.ms_build.specs.Built.{node_meaning}
 use Rattle.ms_build_steps.proofs.Lists.{lists_are_within_budget}
 use Rattle.ms_build_steps.proofs.NodeSigns.{say_same}
 use Rattle.ms_build_steps.proofs.Pairs.{connectives_are_within_budget}
+use Rattle.ms_build_steps.proofs.Relations.{relations_are_below_their_steps}
 use Rattle.ms_build_steps.proofs.nodes.laws_of_nodes.Goals as goal
 
 pub returns-clause-same : goal.returns-clause-same
@@ -15,3 +16,6 @@ returns-clause-connectives c = connectives_are_within_budget
 
 pub returns-clause-lists : goal.returns-clause-lists
 returns-clause-lists c = lists_are_within_budget
+
+pub returns-clause-relations : goal.returns-clause-relations
+returns-clause-relations c = relations_are_below_their_steps

@@ -1,0 +1,6 @@
+pub mod Arranged
+pub mod Arrangement
+pub mod Firsts
+pub mod Names
+pub mod RenameParts
+pub mod Sorted
