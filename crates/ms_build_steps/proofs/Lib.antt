@@ -5,7 +5,9 @@ pub mod NodeSigns
 pub mod Operands
 pub mod Ordered
 pub mod Pairs
+pub mod PlainNodes
 pub mod Relations
 pub mod SameValues
 pub mod Sides
+pub mod SmallLimits
 pub mod Through

@@ -2,7 +2,7 @@
 use Rattle.std.specs.Prelude.{◌≡◌, ℕ, ◌<◌, List, length, slice_get, Contains, All as Each, Some}
 use Rattle.std.specs.List.Sorted.{IsStrictlyIncreasing}
 use Rattle.ms_build.specs.Built.{IsLeastOf, imports_for, node_meaning}
-use Rattle.ms_build.specs.Short.{FormLacks, ManyLacks, PairLacks}
+use Rattle.ms_build.specs.Short.{FormLacks, ManyLacks, NodeLacks, PairLacks}
 use Rattle.ms_build.specs.declared.plan.Many.{Many}
 use Rattle.ms_build.specs.declared.plan.Many.TheVariants.{All, Any}
 use Rattle.ms_build.specs.declared.plan.Plan.{Plan}
@@ -14,10 +14,11 @@ use Rattle.ms_dag.specs.Places.{AreBelow}
 use Rattle.ms_dag.specs.Share.{IsDagOf}
 use Rattle.ms_dag.specs.Unfolds.{Unfolds, names_of_basic}
 use Rattle.ms_dag.specs.declared.node.Child.{Child}
+use Rattle.ms_dag.specs.declared.node.DagNode.{DagNode}
 use Rattle.ms_dag.specs.declared.node.DagNode.TheVariants as nodes
 use Rattle.ms_dag.specs.declared.node.Entry.{Entry}
 use Rattle.ms_dag_steps.specs.NodeSteps.{ChildOccurs, HasItsSteps, HasStepsOfList}
-use Rattle.ms_dag_steps.specs.Occurrences.{variables_named, whole_formula}
+use Rattle.ms_dag_steps.specs.Occurrences.{Occurs, variables_named, whole_formula}
 use Rattle.ms_logic.specs.Truth.{Answer, Import}
 use Rattle.ms_logic.specs.declared.mode.Mode.{Mode}
 use Rattle.ms_logic.specs.declared.mode.Order.{Order}
@@ -82,3 +83,22 @@ RelationsAreBelowTheirSteps =
     (imports : List Import) (whole : CoreForm) (plan : Plan) (orders : List Order) (names : List ℕ) (i : ℕ) (b : Basic)
     → IsStrictlyIncreasing names → AreBelow (length names) (names_of_basic b) → HasItsSteps whole plan.dag.now.entries names i (nodes.Basic b)
     → FormLacks plan orders (nodes.Basic b) → IsBelowStep imports plan.mode whole plan.limit
+
+-- each formula has a step, and each budget is more than 16
+abbrev pub SmallLimitsAreBelowSteps : Type 0
+SmallLimitsAreBelowSteps = (imports : List Import) (mode : Mode) (f : CoreForm) (limit : ℕ) → limit < 16 → IsBelowStep imports mode f limit
+
+-- no import, and no quantifier
+abbrev pub IsPlainForm : DagNode → Type 0
+IsPlainForm (nodes.Import n xs) = ⊥
+IsPlainForm (nodes.Bind q o k d c) = ⊥
+IsPlainForm node = Unit {0}
+
+-- where a node that is no import and no quantifier occurs in the formula of a root, it lacks nodes only under a limit below each budget of
+-- a step of that formula
+abbrev pub PlainNodesAreBelowTheirSteps : Type 0
+PlainNodesAreBelowTheirSteps =
+    (imports : List Import) (calls : Calls) (lowered : Lowered) (plan : Plan) (number : ℕ) (root : Root) (f : CoreForm) (names : List ℕ) (i : ℕ) (entry : Entry)
+    → IsPlanned imports calls lowered plan → slice_get lowered.roots number ≡ Some root → slice_get plan.dag.now.entries i ≡ Some entry
+    → Occurs (whole_formula calls root) plan.dag.now.entries f names i → IsPlainForm entry.node → NodeLacks plan i
+    → IsBelowStep imports plan.mode (whole_formula calls root) plan.limit

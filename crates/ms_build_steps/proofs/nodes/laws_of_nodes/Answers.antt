@@ -2,8 +2,10 @@ use Rattle.ms_build.proofs.LawLemmas.{child_has_value}
 use Rattle.ms_build.specs.Built.{node_meaning}
 use Rattle.ms_build_steps.proofs.Lists.{lists_are_within_budget}
 use Rattle.ms_build_steps.proofs.NodeSigns.{say_same}
+use Rattle.ms_build_steps.proofs.PlainNodes.{plain_nodes_are_below_their_steps}
 use Rattle.ms_build_steps.proofs.Pairs.{connectives_are_within_budget}
 use Rattle.ms_build_steps.proofs.Relations.{relations_are_below_their_steps}
+use Rattle.ms_build_steps.proofs.SmallLimits.{small_limits_are_below_steps}
 use Rattle.ms_build_steps.proofs.nodes.laws_of_nodes.Goals as goal
 
 pub returns-clause-same : goal.returns-clause-same
@@ -19,3 +21,9 @@ returns-clause-lists c = lists_are_within_budget
 
 pub returns-clause-relations : goal.returns-clause-relations
 returns-clause-relations c = relations_are_below_their_steps
+
+pub returns-clause-small : goal.returns-clause-small
+returns-clause-small c = small_limits_are_below_steps
+
+pub returns-clause-plain : goal.returns-clause-plain
+returns-clause-plain c = plain_nodes_are_below_their_steps
