@@ -71,13 +71,22 @@ pub record ManyLacks (plan : Plan) (many : Many) (children : List Child) : Type 
   pub is_next : IsOperand plan child other
   pub short : AreAtLeast plan.limit (op_of many) (operands_of one other)
 
+-- an automaton of fewest states over the variables of another content, which gives each word the same sign
+pub record IsFewestOf (content few : Content Sign) : Type 0 where
+  pub automaton : IsAutomaton few
+  pub mode_is : few.mode ≡ content.mode
+  pub variables : few.variables ≡ content.variables
+  pub signs : HaveEqualSigns content few
+  pub least : IsLeast few
+
 -- an import is short of nodes: its automaton as it is lent, or with fewest states once its variables are renamed
 pub record ImportLacks (plan : Plan) (import : ℕ) (variables : List ℕ) : Type 0 where
   pub content : Content Sign
   pub here : slice_get plan.imports.now import ≡ Some content
+  pub automaton : IsAutomaton content
   pub short :
       (plan.limit < length content.nodes + length content.states)
-      ⊎ ((few : Content Sign) × IsAutomaton few × HaveEqualSigns content few × IsLeast few × NeedsAtLeast plan.limit few (renamed_places variables few.variables))
+      ⊎ ((few : Content Sign) × IsFewestOf content few × NeedsAtLeast plan.limit few (renamed_places variables few.variables))
 
 -- the product of an automaton with one that holds everywhere over some variables is short of nodes
 abbrev pub IsWideShort : ℕ → Content Sign → List Variable → Type 0

@@ -7,7 +7,7 @@ use Rattle.ms_rename.specs.Renamed.{renamed}
 use Rattle.ms_build.proofs.ChildLemmas.{as_long, one_order}
 use Rattle.ms_build.proofs.ImportLemmas.{imported_by}
 use Rattle.ms_rename.specs.Renamed.{NeedsAtLeast, renamed_places}
-use Rattle.ms_build.specs.Short.{ImportLacks}
+use Rattle.ms_build.specs.Short.{ImportLacks, IsFewestOf}
 use Rattle.ms_build.proofs.RefusalLemmas.{fault_more, refused_more}
 use Rattle.ms_build.proofs.leaves.imported.Goals as goal
 
@@ -47,17 +47,27 @@ returns-in_err-few-clause-nodes c =
     let plan = c.args.plan.now in
     let content = c.get-automaton.result.now in
     fault_more (Content Sign) (λ refused. (refused ≡ plan.limit) × (plan.limit < length content.nodes + length content.states)) (λ refused. ImportLacks plan c.args.number c.args.variables.now) c.in_err-few.field-0.0 c.from_residual.result (search rules)
-    (λ refused why. record { content = content; here = c.get-automaton.ensures; short = inl why.1 }) c.in_err-few.ensures.nodes
+    (λ refused why. record { content = content; here = c.get-automaton.ensures; automaton = c.states.ensures.automaton; short = inl why.1 }) c.in_err-few.ensures.nodes
 
 pub returns-clause-nodes : goal.returns-clause-nodes
 returns-clause-nodes c =
     let plan = c.args.plan.now in
     let few = c.in_ok-few.few in
+    let made = c.in_ok-few.ensures in
+    let fewest : IsFewestOf c.get-automaton.result.now few
+    = record {
+      automaton = c.states-2.ensures.automaton;
+      mode_is = made.mode;
+      variables = made.variables;
+      signs = made.signs;
+      least = record { fewest = made.fewest; reached = made.reached; differ = made.differ };
+    } in
     refused_more (λ refused. (refused ≡ plan.limit) × NeedsAtLeast plan.limit few (renamed_places c.slice.result.now few.variables)) (λ refused. ImportLacks plan c.args.number c.args.variables.now) c.rename.result
     (λ refused why.
     record {
       content = c.get-automaton.result.now;
       here = c.get-automaton.ensures;
-      short = inr (few, c.states-2.ensures.automaton, c.in_ok-few.ensures.signs, record { fewest = c.in_ok-few.ensures.fewest; reached = c.in_ok-few.ensures.reached; differ = c.in_ok-few.ensures.differ }, subst (λ map. NeedsAtLeast plan.limit few (renamed_places map few.variables)) c.slice.ensures why.1);
+      automaton = c.states.ensures.automaton;
+      short = inr (few, fewest, subst (λ map. NeedsAtLeast plan.limit few (renamed_places map few.variables)) c.slice.ensures why.1);
     })
     c.rename.ensures.nodes
