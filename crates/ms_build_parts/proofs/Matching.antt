@@ -1,9 +1,8 @@
 -- The states of an automaton of fewest states correspond to those of a canonical content that says the same.
-use Rattle.std.proofs.Common.{◌≡◌, ℕ, zero, suc, ◌<◌, ◌+◌, Bool, false, List, [], ◌∷◌, ◌++◌, length, map, slice_get, Option, Some, None, refl, sym, ap, subst, ◌∙◌, arith}
+use Rattle.std.proofs.Common.{◌≡◌, ℕ, zero, suc, ◌<◌, Bool, false, List, [], ◌∷◌, ◌++◌, length, map, slice_get, Option, Some, None, refl, sym, ap, subst, ◌∙◌, arith}
 use Rattle.std.specs.List.{AllByRecursion}
 use Rattle.std.specs.Option.{option_map}
 use Rattle.std.proofs.lemmas.List.{length-map}
-use Rattle.std.proofs.lemmas.Option.{slice_get_within}
 use Rattle.ms_list.specs.declared.word.Word.{Word}
 use Rattle.ms_arena.specs.declared.node.Ref.{Ref}
 use Rattle.ms_arena.specs.declared.node.Ref.TheVariants.{Leaf, Inner}
@@ -11,11 +10,9 @@ use Rattle.ms_arena.specs.Bits.{below_from}
 use Rattle.ms_arena.specs.Diagram.{Bits, leaf_of}
 use Rattle.ms_arena.proofs.Lists.{slice_get-held}
 use Rattle.ms_arena.proofs.Paths.{leaf_of-leaf}
-use Rattle.ms_arena.proofs.ReachLemmas.{leaf_of-tested}
-use Rattle.ms_diagram.specs.Bring.{read_through}
 use Rattle.ms_logic.specs.Assignment.{Variable}
 use Rattle.ms_logic.specs.declared.mode.Order.{Order}
-use Rattle.ms_logic_words.specs.Content.{Content, IsClosed, IsFollowed, IsWordOver, NamesPart, StateOf, bits_at, count_of, first_state, is_in_letters, is_truth_value, last_state, next_from, next_state, padded, sign_at, state_after}
+use Rattle.ms_logic_words.specs.Content.{Content, IsClosed, IsFollowed, IsWordOver, LeadsToStates, NamesPart, StateOf, bits_at, count_of, first_state, is_in_letters, is_truth_value, last_state, next_from, next_state, padded, sign_at, state_after}
 use Rattle.ms_logic_words.specs.declared.sign.Sign.{Sign}
 use Rattle.ms_logic_measures.specs.FullContent.{part_count}
 use Rattle.ms_logic_starts.specs.FirstBits.{BitsLeave}
@@ -25,11 +22,9 @@ use Rattle.ms_logic_starts.proofs.LeftLemmas.{leaf_of_all}
 use Rattle.ms_logic_starts.proofs.RankLemmas.{length-bits_before, rank_of_all}
 use Rattle.ms_minim_canonical.proofs.ContentLemmas.{IsClosed-content, next_followed}
 use Rattle.ms_minim.proofs.LettersLemmas.{AreLetters-append, state_after-append}
-use Rattle.ms_product.specs.Widened.{IsRisingMap}
 use Rattle.ms_product.proofs.WidenedLemmas.{followed}
 use Rattle.ms_build_parts.specs.Laws.{IsMeasuredBy}
 use Rattle.ms_build_parts.specs.inner.Matched.{IsMatch, IsMatchedBy, LeadToMatches, number_of_part}
-use Rattle.ms_build_parts.proofs.Levels.{IsLevelOf, level_of, put_together}
 
 -- what only depends on the orders of variables
 same_count : (has_bit : Order → Bool) (one other : List Variable) → map (λ v. v.order) other ≡ map (λ v. v.order) one → count_of has_bit other ≡ count_of has_bit one
@@ -59,7 +54,7 @@ same_bits has_bit (suc level) (v ∷ vs) (w ∷ ws) bits same =
     rw (first, same_bits has_bit level vs ws (λ other. bits (suc other)) more) refl
 
 -- a number of a part is below the number of parts
-number_below : (content : Content Sign) (part : Ref) → NamesPart content part → number_of_part content part < part_count content
+pub number_below : (content : Content Sign) (part : Ref) → NamesPart content part → number_of_part content part < part_count content
 number_below content (Inner place) named = omega (arith, named)
 number_below content (Leaf state) named = omega (arith, named)
 
@@ -69,6 +64,13 @@ one_part content (Inner place) (Inner another) named also same = ap Inner same
 one_part content (Inner place) (Leaf state) named also same = absurd (omega (arith, named, same))
 one_part content (Leaf state) (Inner place) named also same = absurd (omega (arith, also, same))
 one_part content (Leaf state) (Leaf another) named also same = ap Leaf (omega (arith, same))
+
+-- what first bits leave of a reference that leads to states is a part
+pub left_named : (content : Content Sign) (root : Ref) (level : ℕ) (first : Bits) (reference : Ref) → LeadsToStates content root → BitsLeave content.nodes root level first reference → NamesPart content reference
+left_named content root level first (Inner place) states leave = leave.valid
+left_named content root level first (Leaf state) states leave =
+    let none : Bits = λ place. false in
+    subst (λ n. n < length content.states) (leave.function none ∙ leaf_of-leaf content.nodes none state) (states (below_from level first none))
 
 module _ (one other : Content Sign) (is : IsMeasuredBy one other) where
   abbrev vs : List Variable
@@ -180,63 +182,26 @@ module _ (one other : Content Sign) (is : IsMeasuredBy one other) where
   one_match p p' q first second = is.differ p p' first.within second.within (λ letters are. first.signs letters are ∙ sym (second.signs letters are))
 
   -- what first bits leave of a reference is matched by what they leave of the other, which is a part
-  module _ (map : List ℕ) (rising : IsRisingMap (length vs) map) (has_bit : Order → Bool) (root canonical : Ref) (roots : AreRoots has_bit root canonical) (var : ℕ) (first : Bits) where
-    abbrev leads : Bits → ℕ
-    leads bits = leaf_of one.nodes root (read_through map (below_from var first bits))
+  module _ (has_bit : Order → Bool) (root canonical : Ref) (roots : AreRoots has_bit root canonical) (level : ℕ) (first : Bits) where
+    left : (reference : Ref) × BitsLeave other.nodes canonical level first reference
+    left = first_bits_leave other.nodes is.is_canonical.rules.ordered canonical level first roots.also.valid
 
-    level : (level : ℕ) × IsLevelOf map (length vs) rising var (length vs) level
-    level = level_of map (length vs) rising var (length vs) (omega arith)
-
-    together : (bits : Bits) → leads bits ≡ leaf_of one.nodes root (below_from level.0 (read_through map first) (read_through map bits))
-    together bits =
-        leaf_of-tested one.nodes is.ordered root (read_through map (below_from var first bits)) (below_from level.0 (read_through map first) (read_through map bits)) roots.followed.valid
-        (λ place tested.
-        let at = roots.followed.tests place tested in
-        put_together map (length vs) rising var level.0 level.1 first bits place (slice_get_within vs place at.0 at.1))
-
-    left : (reference : Ref) × BitsLeave other.nodes canonical level.0 (read_through map first) reference
-    left = first_bits_leave other.nodes is.is_canonical.rules.ordered canonical level.0 (read_through map first) roots.also.valid
-
-    is_named : (reference : Ref) → BitsLeave other.nodes canonical level.0 (read_through map first) reference → NamesPart other reference
-    is_named (Inner place) leave = leave.valid
-    is_named (Leaf state) leave =
-        let none : Bits = λ place. false in
-        subst (λ n. n < length other.states) (leave.function none ∙ leaf_of-leaf other.nodes none state) (roots.also.states (below_from level.0 (read_through map first) none))
-
-    pub matched_part : (number : ℕ) × (number < part_count other) × IsMatchedBy one other (read_through map) leads number
-    matched_part = (
-      number_of_part other left.0,
-      number_below other left.0 (is_named left.0 left.1),
-      record {
-        part = left.0;
-        named = is_named left.0 left.1;
-        is = refl;
-        matches = λ bits.
-            let here = roots.matched (below_from level.0 (read_through map first) (read_through map bits)) in
-            subst (λ q. IsMatch one other (leads bits) q) (left.1.function (read_through map bits))
-            (subst (λ p. IsMatch one other p (leaf_of other.nodes canonical (below_from level.0 (read_through map first) (read_through map bits)))) (sym (together bits)) here);
-      },
-    )
-
-  -- so is a single state
-  pub matched_state : (read : Bits → Bits) (p : ℕ) → p < length one.states → (number : ℕ) × (number < part_count other) × IsMatchedBy one other read (λ bits. p) number
-  matched_state read p within =
-      let match = state_match p within in
-      let held = match_held p match.0 match.1 in
-      let there : match.0 < length other.states = slice_get_within other.states match.0 held.0 held.1 in (
-        length other.nodes + match.0,
-        omega (arith, there),
-        record {
-          part = Leaf match.0;
-          named = there;
-          is = refl;
-          matches = λ bits. subst (λ q. IsMatch one other p q) (sym (leaf_of-leaf other.nodes (read bits) match.0)) match.1;
-        },
-      )
+    pub matched_part : (number : ℕ) × (number < part_count other) × IsMatchedBy one other (λ bits. leaf_of one.nodes root (below_from level first bits)) number
+    matched_part =
+        let named = left_named other canonical level first left.0 roots.also.states left.1 in (
+          number_of_part other left.0,
+          number_below other left.0 named,
+          record {
+            part = left.0;
+            named = named;
+            is = refl;
+            matches = λ bits. subst (λ q. IsMatch one other (leaf_of one.nodes root (below_from level first bits)) q) (left.1.function bits) (roots.matched (below_from level first bits));
+          },
+        )
 
   -- what one part matches is one function
-  pub one_function : (read : Bits → Bits) (leads leads' : Bits → ℕ) (number : ℕ) → IsMatchedBy one other read leads number → IsMatchedBy one other read leads' number → (bits : Bits) → leads bits ≡ leads' bits
-  one_function read leads leads' number first second bits =
+  pub one_function : (leads leads' : Bits → ℕ) (number : ℕ) → IsMatchedBy one other leads number → IsMatchedBy one other leads' number → (bits : Bits) → leads bits ≡ leads' bits
+  one_function leads leads' number first second bits =
       let same : first.part ≡ second.part = one_part other first.part second.part first.named second.named (sym first.is ∙ second.is) in
-      one_match (leads bits) (leads' bits) (leaf_of other.nodes second.part (read bits))
-      (subst (λ (part : Ref). IsMatch one other (leads bits) (leaf_of other.nodes part (read bits))) same (first.matches bits)) (second.matches bits)
+      one_match (leads bits) (leads' bits) (leaf_of other.nodes second.part bits)
+      (subst (λ (part : Ref). IsMatch one other (leads bits) (leaf_of other.nodes part bits)) same (first.matches bits)) (second.matches bits)

@@ -11,6 +11,7 @@ use Rattle.ms_logic_words.specs.declared.sign.Sign.{Sign}
 use Rattle.ms_minim.specs.Residual.{AreReached, HaveDifferentResiduals}
 use Rattle.ms_product.specs.Pairing.{AreAtLeast, HaveRisingMaps, Operands}
 use Rattle.ms_product.specs.declared.op.Op.{Op}
+use Rattle.ms_build_parts.specs.Labels.{IsLabelledBelow}
 use Rattle.ms_build_parts.specs.SaySame.{SaySame}
 
 -- a content of ordered diagrams whose states are reached and differ, and the canonical content that says the same
@@ -24,7 +25,21 @@ pub record IsMeasuredBy (one canonical : Content Sign) : Type 0 where
   pub distinct : HaveDistinctNumbers canonical.variables
   pub same : SaySame one canonical
 
--- what a product of such automata needs is at most twice the product of the states and nodes of the canonical contents that
+-- what a product needs is at most twice the product of as many labels as its operands have
+abbrev pub ProductsNeedFewLabels : Type 0
+ProductsNeedFewLabels =
+    (op : Op) (operands : Operands) (a b : ℕ) → HaveRisingMaps operands → IsLabelledBelow operands.left a → IsLabelledBelow operands.right b
+    → (count : ℕ) → AreAtLeast count op operands → count ≤ 2 * (a * b)
+
+-- a closed content has no more labels than states and nodes, and one of fewest states no more than the canonical content that says
+-- the same
+abbrev pub ClosedContentsHaveLabels : Type 0
+ClosedContentsHaveLabels = (content : Content Sign) → IsOrdered content.nodes → IsClosed content → IsLabelledBelow content (part_count content)
+
+abbrev pub MeasuredContentsHaveLabels : Type 0
+MeasuredContentsHaveLabels = (one canonical : Content Sign) → IsMeasuredBy one canonical → IsLabelledBelow one (part_count canonical)
+
+-- so what a product of such automata needs is at most twice the product of the states and nodes of the canonical contents that
 -- say the same
 abbrev pub ProductsNeedFewParts : Type 0
 ProductsNeedFewParts =

@@ -21,9 +21,9 @@ abbrev pub number_of_part : Content Sign → Ref → ℕ
 number_of_part content (Inner place) = place
 number_of_part content (Leaf state) = length content.nodes + state
 
--- a function that leads to states which match those to which a part of the content leads, where bits are read in another way
-pub record IsMatchedBy (one other : Content Sign) (read : Bits → Bits) (leads : Bits → ℕ) (number : ℕ) : Type 0 where
+-- a function that leads to states which match those to which a part of the content leads
+pub record IsMatchedBy (one other : Content Sign) (leads : Bits → ℕ) (number : ℕ) : Type 0 where
   pub part : Ref
   pub named : NamesPart other part
   pub is : number ≡ number_of_part other part
-  pub matches : (bits : Bits) → IsMatch one other (leads bits) (leaf_of other.nodes part (read bits))
+  pub matches : (bits : Bits) → IsMatch one other (leads bits) (leaf_of other.nodes part bits)

@@ -1,4 +1,5 @@
 use Rattle.std.proofs.Common.{◌≡◌, true, false, [], ◌∷◌, Some, refl, sym, ap, ◌∙◌, arith}
+use Rattle.ms_arena.specs.Diagram.{leaf_of}
 use Rattle.ms_logic.specs.inner.Examples.{set_P_and_Q}
 use Rattle.ms_logic_measures.proofs.FullContents.{full_subset}
 use Rattle.ms_logic_starts.specs.ContentStarts.{HaveDistinctNumbers}
@@ -10,6 +11,7 @@ use Rattle.ms_logic_words.proofs.SubsetRuns.{last_of_subset, last_of_true}
 use Rattle.ms_logic_words.proofs.SubsetWords.{is_within}
 use Rattle.ms_minim_canonical.proofs.ContentLemmas.{IsClosed-content}
 use Rattle.ms_build_parts.specs.SaySame.{SaySame}
+use Rattle.ms_build_parts.proofs.Labels.{closed_contents}
 use Rattle.ms_build_parts.proofs.examples.worked_contents.Goals as goal
 
 pub returns-clause-other_names : goal.returns-clause-other_names
@@ -53,3 +55,20 @@ returns-clause-measured c =
 
 pub returns-clause-not_measured : goal.returns-clause-not_measured
 returns-clause-not_measured c is = says_otherwise is.same
+
+pub returns-clause-four_labels : goal.returns-clause-four_labels
+returns-clause-four_labels c = (let canonical = full_subset.canonical in closed_contents full_subset_content canonical.rules.ordered (IsClosed-content full_subset_content canonical.rules))
+
+pub returns-clause-few_labels : goal.returns-clause-few_labels
+returns-clause-few_labels c is = (let never = is.states in omega (arith, never))
+
+pub returns-clause-behind_start : goal.returns-clause-behind_start
+unfolding leaf_of
+returns-clause-behind_start c = refl
+
+pub returns-clause-behind_letter : goal.returns-clause-behind_letter
+unfolding leaf_of
+returns-clause-behind_letter c = refl
+
+pub returns-clause-behind_nothing : goal.returns-clause-behind_nothing
+returns-clause-behind_nothing c = refl
