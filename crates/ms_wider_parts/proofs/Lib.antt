@@ -1,0 +1,3 @@
+pub mod Encodings
+pub mod Pairs
+pub mod Readings
