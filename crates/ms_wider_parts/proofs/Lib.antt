@@ -1,3 +1,4 @@
 pub mod Encodings
 pub mod Pairs
 pub mod Readings
+pub mod Spread

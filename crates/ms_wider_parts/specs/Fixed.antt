@@ -1,5 +1,6 @@
 -- Contents whose states are fixed by the pairs of states of two others.
-use Rattle.std.specs.Prelude.{◌≡◌, ℕ, ◌<◌, length}
+use Rattle.std.specs.Prelude.{◌≡◌, ℕ, suc, ◌<◌, Bool, false, if◌then◌else◌, nat_eq, List, [], ◌∷◌, length, Option, Some, None}
+use Rattle.std.specs.Option.{option_map}
 use Rattle.ms_arena.specs.declared.node.Ref.{Ref}
 use Rattle.ms_arena.specs.Bits.{below_from}
 use Rattle.ms_arena.specs.Diagram.{Bits, IsOrdered, IsValid, leaf_of}
@@ -15,6 +16,19 @@ abbrev pub KeepsOrder : ℕ → (Bits → Bits) → Type 0
 KeepsOrder count read =
     (var : ℕ) → (level : ℕ) × ((first bits : Bits) (place : ℕ) → place < count
     → read (below_from var first bits) place ≡ below_from level (read first) (read bits) place)
+
+-- where a place stands in a list, if it does
+abbrev pub index_in : List ℕ → ℕ → Option ℕ
+index_in [] place = None
+index_in (first ∷ more) place = if nat_eq place first then Some 0 else option_map suc (index_in more place)
+
+abbrev pub bit_or_zero : Bits → Option ℕ → Bool
+bit_or_zero bits None = false
+bit_or_zero bits (Some i) = bits i
+
+-- each bit at the place that the map gives it among more variables, and 0 at all other places
+abbrev pub spread : List ℕ → Bits → Bits
+spread map bits = λ place. bit_or_zero bits (index_in map place)
 
 -- for each origin of one content a reference of another, which leads to its states, and a way to read its bits
 pub record Follower (wide other : Content Sign) : Type 0 where

@@ -61,3 +61,9 @@ returns-clause-not_fixed c is =
     (is.first.states None tt (is.first.read none)) (is.first.states (Some 1) some (is.first.read none)))
     (one_state (led_to full_subset_content encodings_content is.second None tt none) (led_to full_subset_content encodings_content is.second (Some 1) some none)
     (is.second.states None tt (is.second.read none)) (is.second.states (Some 1) some (is.second.read none))))
+
+pub returns-clause-at_place : goal.returns-clause-at_place
+returns-clause-at_place c = refl
+
+pub returns-clause-elsewhere : goal.returns-clause-elsewhere
+returns-clause-elsewhere c = refl

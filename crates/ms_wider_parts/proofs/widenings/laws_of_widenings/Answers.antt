@@ -1,6 +1,7 @@
 use Rattle.ms_wider_parts.proofs.Encodings.{zeros_keep}
 use Rattle.ms_wider_parts.proofs.Pairs.{pairs_are_labels, products_need_few}
-use Rattle.ms_wider_parts.proofs.Readings.{rising_keep}
+use Rattle.ms_wider_parts.proofs.Readings.{residuals_fix, rising_keep}
+use Rattle.ms_wider_parts.proofs.Spread.{spread_keep}
 use Rattle.ms_wider_parts.proofs.widenings.laws_of_widenings.Goals as goal
 
 pub returns-clause-zeros : goal.returns-clause-zeros
@@ -14,3 +15,9 @@ returns-clause-order c = rising_keep
 
 pub returns-clause-few : goal.returns-clause-few
 returns-clause-few c = products_need_few
+
+pub returns-clause-spread : goal.returns-clause-spread
+returns-clause-spread c = spread_keep
+
+pub returns-clause-fixed : goal.returns-clause-fixed
+returns-clause-fixed c = residuals_fix
