@@ -1,13 +1,6 @@
 //! What products need. The function has an empty body, and its contract states the laws.
 
-ghost use Rattle.ms_build_parts.specs.Laws.{
-  CanonicalContentsHaveOneCount,
-  ClosedContentsHaveLabels,
-  MeasuredContentsHaveLabels,
-  ProductsAreWithinBudget,
-  ProductsNeedFewLabels,
-  ProductsNeedFewParts,
-};
+ghost use Rattle.ms_build_parts.specs.Laws.{CanonicalContentsHaveOneCount, ClosedContentsHaveLabels, MeasuredContentsHaveLabels, ProductsAreWithinBudget, ProductsNeedFewLabels, ProductsNeedFewParts};
 
 /// A product needs at most twice as many states and nodes as there are pairs of labels of its operands. A closed content has no more
 /// labels than states and nodes, and one of fewest states no more than the canonical content that says the same.

@@ -1,4 +1,4 @@
-//! How many labels the automaton of a formula over more variables needs: laws that prepare a bound of what a widening lacks.
+//! How many labels an automaton has whose states two contents fix: laws that prepare a bound of what a widening lacks.
 #![tactic(auto)]
 
 mod examples;
