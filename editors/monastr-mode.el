@@ -37,7 +37,8 @@
    (cons (regexp-opt '("true" "false") 'words) 'font-lock-constant-face)
    (cons (regexp-opt '("ws2s" "tree" "guide" "universe" "type" "assert" "verify" "execute" "prefix" "allpos" "lastpos") 'words)
          'font-lock-warning-face)
-   '("\\<\\(m2l-str\\)[ \t]*;" 1 font-lock-keyword-face))
+   '("\\<\\(m2l-str\\)[ \t]*;" 1 font-lock-keyword-face)
+   '("\\<\\(goal\\)[ \t]*\"" 1 font-lock-keyword-face))
   "Words of the language of monastr, as docs/LANGUAGE.md, \"Tokens\", has them.")
 
 (defun monastr-decide ()

@@ -15,7 +15,9 @@ use Rattle.ms_logic.specs.declared.checked.Global.{Global}
 use Rattle.ms_logic_words.specs.declared.sign.Sign.{Sign}
 use Rattle.ms_logic.specs.declared.source.Loaded.{Loaded}
 use Rattle.ms_logic_words.specs.Content.{Content}
-use Rattle.ms_logic.specs.View.{problem_of, Answers}
+use Rattle.ms_build_source.specs.Values.{HasMainValue}
+use Rattle.ms_logic.specs.declared.checked.Placed.{Placed}
+use Rattle.ms_logic.specs.View.{goal_question, goals_in, main_question, problem_of, Answers}
 use Rattle.ms_report.specs.declared.found.Found.{Found}
 use Rattle.ms_logic.specs.Lists.{Each}
 use Rattle.ms_build_source.specs.Imported.{AreAnswersOf, AreLentFor}
@@ -27,10 +29,11 @@ use Rattle.ms_app.specs.Counts.{HasStats}
 use Rattle.ms_app.specs.Decision.{IsDecided, IsFound}
 use Rattle.ms_app.specs.inner.Files.{AreNames, AreWritable, HaveOwnNames}
 use Rattle.ms_app.specs.inner.Right.{IsRight}
-use Rattle.ms_app.specs.Source.{IsRefused, IsSolved, IsTaken, Origin, file_of, problem_with}
+use Rattle.ms_app.specs.Source.{IsRefused, IsSolved, IsTaken, Origin, file_of}
 use Rattle.ms_app.specs.Written.{AreFilesOf, File}
 use Rattle.ms_app.proofs.Adopted.{are_answers}
 use Rattle.ms_app.proofs.Comparisons.{RefusedWith, unsolved_refused}
+use Rattle.ms_app.proofs.GoalLemmas.{zipped_long}
 use Rattle.ms_app.proofs.Writing.{all_writable, exports_counted, own_names}
 
 module _ (checked : Checked) where
@@ -41,8 +44,7 @@ module _ (checked : Checked) where
   abbrev pub FoundBy : List (Content Sign) → Option (List ℕ) → Bool → FileVersion → ℕ → Found → List File → Type 0
   FoundBy contents out stats format count found files =
       (answers : Answers) → AreAnswersOf checked.mode checked.imports answers contents →
-      IsFound (problem_of checked answers) global_names found × HasStats stats (problem_of checked answers) count found.stats
-      × AreFilesOf format (problem_of checked answers) global_names checked.exports out files
+      IsFound checked answers found × HasStats stats checked answers count found.stats × AreFilesOf format checked answers out files
 
   -- automata that imports have become
   module _ (limit : ℕ) (plains : List Plain) (contents : List (Content Sign)) (adopted : AreAdopted limit checked.mode checked.imports plains contents) where
@@ -69,12 +71,12 @@ module _ (checked : Checked) where
             plains = plains;
             is = solved_of within;
             is_found = all.0;
-            counted = subst (λ n. HasStats stats (problem_with checked plains) n found.stats) same all.1;
+            counted = subst (λ n. HasStats stats checked answers n found.stats) same all.1;
             written = all.2;
           }
 
       pub own_names_of : IsRight checked → (stats : Bool) (format : FileVersion) (count : ℕ) (found : Found) (files : List File) → FoundBy contents out stats format count found files → HaveOwnNames files
-      own_names_of right stats format count found files by = own_names format (problem_with checked plains) global_names checked.exports out files right.meets_rules.names.files taken.free (by answers are).2
+      own_names_of right stats format count found files by = own_names format (problem_of checked answers) (main_question checked answers) global_names checked.exports out files right.meets_rules.names.files taken.free (by answers are).2
 
       pub unsolved_of : (refusal : Refusal) (old new : List (List ℕ)) → new ≡ old ++ loaded.files
           → ((answers : Answers) → length answers ≡ length checked.imports → (refusal ≡ Memory) ⊎ IsUnsolved checked answers contents limit refusal)
@@ -89,10 +91,17 @@ module _ (checked : Checked) where
     are_own : AreAnswersOf checked.mode checked.imports own contents
     are_own = are_own_answers checked.mode checked.imports contents lent
 
-    pub names_good : ((answers : Answers) → AreAnswersOf checked.mode checked.imports answers contents → IsSolution (problem_of checked answers) global_names solution) → AreNames solution.names
+    pub names_good : ((answers : Answers) → AreAnswersOf checked.mode checked.imports answers contents → IsSolution checked answers solution) → AreNames solution.names
     names_good by =
         let same = (by own are_own).names_are in
         record { spelled = subst (All IsName) (sym same) (each_all IsName global_names right.names.globals); different = subst AreDifferent (sym same) right.meets_rules.names.globals }
+
+    -- there is an automaton for each goal
+    pub goals_as_many : ((answers : Answers) → AreAnswersOf checked.mode checked.imports answers contents → IsSolution checked answers solution)
+        → length (goals_in checked) ≡ length solution.goals
+    goals_as_many by =
+        let R : Placed → Content Sign → Type 0 = λ g content. HasMainValue (goal_question checked own g) content in
+        zipped_long R (goals_in checked) solution.goals (by own are_own).goals
 
     module _ (format : FileVersion) (exports : (answers : Answers) → AreAnswersOf checked.mode checked.imports answers contents → HasExports (Some format) (problem_of checked answers) checked.exports solution.exports) where
       pub as_many : length checked.exports ≡ length solution.exports

@@ -1,5 +1,5 @@
 -- What comes of a generated source.
-use Rattle.std.proofs.Common.{◌≡◌, ◌⊎◌, inl, inr, ℕ, true, List, [], ◌∷◌, ◌++◌, length, map, None, refl, sym, ap, subst, ◌∙◌}
+use Rattle.std.proofs.Common.{◌≡◌, ◌⊎◌, inl, inr, ℕ, true, List, [], ◌∷◌, ◌++◌, length, map, Option, None, Some, refl, sym, ap, subst, ◌∙◌}
 use Rattle.ms_dfa.specs.declared.plain.FileVersion.TheVariants as versions
 use Rattle.ms_dfafile_imports.specs.Adopted.{AreAdopted}
 use Rattle.ms_dfafile_imports.specs.Imports.{answers_by}
@@ -14,19 +14,22 @@ use Rattle.ms_logic.specs.declared.checked.ImportUse.{ImportUse}
 use Rattle.ms_logic_words.specs.declared.sign.Sign.{Sign}
 use Rattle.ms_logic_words.specs.Content.{Content}
 use Rattle.ms_logic.specs.Verdict.{IsValid, Problem}
-use Rattle.ms_logic.specs.View.{problem_of}
+use Rattle.ms_logic.specs.declared.checked.Global.{Global}
+use Rattle.ms_logic.specs.declared.checked.Placed.{Placed}
+use Rattle.ms_logic.specs.View.{declared_in, goals_in, main_question, problem_of}
 use Rattle.ms_logic.specs.declared.checked.ExportUse.{ExportUse}
 use Rattle.ms_logic.specs.declared.checked.Checked.{Checked}
 use Rattle.ms_logic.specs.declared.source.Loaded.{Loaded}
+use Rattle.ms_report.specs.declared.found.Answer.{Answer}
 use Rattle.ms_report.specs.declared.found.Found.{Found}
 use Rattle.ms_build_source.specs.Imported.{AreAnswersOf, AreLentFor}
 use Rattle.ms_build_source.specs.Limits.{IsUnsolved, IsWithinLimits}
 use Rattle.ms_app_words.specs.Command.{node_limit}
 use Rattle.ms_app.specs.Answer.{IsNoNumber, generated_name}
 use Rattle.ms_app.specs.Counts.{HasStats}
-use Rattle.ms_app.specs.Decision.{IsDecided, IsFound}
+use Rattle.ms_app.specs.Decision.{AnswersMain, IsAnswer, IsDecided, IsFound, asks_main}
 use Rattle.ms_app.specs.inner.Laws.{GeneratedSourcesAreFoundValid}
-use Rattle.ms_app.specs.Source.{IsAccepted, IsRefused, IsSolved, IsTaken, IsUnaccepted, problem_with, text_of, unaccepted, unsolved}
+use Rattle.ms_app.specs.Source.{IsAccepted, IsRefused, IsSolved, IsTaken, IsUnaccepted, answers_with, problem_with, text_of, unaccepted, unsolved}
 use Rattle.ms_app.specs.Written.{AreFilesFrom, AreFilesOf, File}
 use Rattle.ms_app.proofs.Solvable.{solvable, texts_settle}
 use Rattle.ms_app.proofs.VerdictLemmas.{none_against, valid_alone}
@@ -40,6 +43,20 @@ IsRefusedGeneration number refusal files =
 -- what imports nothing stands for one problem
 alone_problem : (checked : Checked) (plains : List Plain) → checked.imports ≡ [] → problem_of checked [] ≡ problem_with checked plains
 alone_problem checked plains none = ap (λ uses. problem_of checked (answers_by uses plains)) (sym none)
+
+alone_question : (checked : Checked) (plains : List Plain) → checked.imports ≡ [] → main_question checked [] ≡ main_question checked (answers_with checked plains)
+alone_question checked plains none = ap (λ uses. main_question checked (answers_by uses plains)) (sym none)
+
+-- where there is no goal, the main question is asked
+asked_alone : (declared : List Placed) → asks_main declared [] ≡ true
+asked_alone [] = refl
+asked_alone (first ∷ more) = refl
+
+pub only_main : (checked : Checked) → goals_in checked ≡ [] → (problem : Problem) (main : Option Answer) → AnswersMain (asks_main (declared_in checked) (goals_in checked)) problem main
+    → (answer : Answer) × (main ≡ Some answer) × IsAnswer problem answer
+only_main checked none problem main answered =
+    let asked : asks_main (declared_in checked) (goals_in checked) ≡ true = ap (asks_main (declared_in checked)) none ∙ asked_alone (declared_in checked) in
+    subst (λ is_asked. AnswersMain is_asked problem main) asked answered
 
 -- a generated source can be solved
 solved : (number : ℕ) (is : IsNumber number) → let found = sources-are-accepted number generated_name is in IsSolved (text_of generated_name (generated number)) None found.loaded found.checked []
@@ -59,10 +76,10 @@ pub found-valid : GeneratedSourcesAreFoundValid
 found-valid number stats format found files is decided =
     let accepted = decided.is.is.is in
     let uses = decided.is.is.imported.0 in
-    let valid = (sources-are-valid number generated_name decided.loaded decided.checked is accepted.is_loaded accepted.typed).1 in
-    let here = subst IsValid (alone_problem decided.checked decided.plains uses) valid in
-    let problem = problem_with decided.checked decided.plains in
-    let main = decided.is_found.main in
+    let alone = sources-are-valid number generated_name decided.loaded decided.checked is accepted.is_loaded accepted.typed in
+    let here = subst IsValid (alone_question decided.checked decided.plains uses) alone.1 in
+    let problem = main_question decided.checked (answers_with decided.checked decided.plains) in
+    let main = only_main decided.checked alone.0.goals problem found.main decided.is_found.main in
     (main.0, main.1, valid_alone problem here main.0.verdict main.2.verdict, none_against problem here main.0.counterexample main.2.counterexample)
 
 -- so it is refused for want of memory or of nodes alone
@@ -75,12 +92,12 @@ wanting number is refusal files why =
       | inr lacks ↦ inr (inr (is, lacks, why))
     ]
 
--- it imports nothing and exports nothing
+-- it imports nothing, exports nothing and has no goals
 pub generated_alone : (number : ℕ) → IsNumber number → (bytes : List ℕ) → bytes ≡ generated number → (loaded : Loaded) (checked : Checked) → IsAccepted (text_of generated_name bytes) loaded checked
-    → (checked.imports ≡ []) × (checked.exports ≡ [])
+    → (checked.imports ≡ []) × (checked.exports ≡ []) × (goals_in checked ≡ [])
 generated_alone number is bytes same loaded checked accepted =
     let within = sources-are-valid number generated_name loaded checked is (subst (λ text. IsLoadedText generated_name text loaded) same accepted.is_loaded) accepted.typed in
-    (within.0.imports, within.0.exports)
+    (within.0.imports, within.0.exports, within.0.goals)
 
 module _ (number : ℕ) (is_number : IsNumber number) (bytes : List ℕ) (is_text : bytes ≡ generated number) (old new : List (List ℕ)) (none : old ≡ []) where
   only_own : new ≡ old ++ generated_name ∷ [] → generated_name ∷ [] ≡ new
@@ -98,7 +115,7 @@ module _ (number : ℕ) (is_number : IsNumber number) (bytes : List ℕ) (is_tex
   text_unaccepted refusal (inr (grown, why)) = wanting number is_number refusal new (text_refused grown refusal (unaccepted why))
 
   module _ (loaded : Loaded) (checked : Checked) (is : IsAccepted (text_of generated_name bytes) loaded checked) (grown : new ≡ old ++ generated_name ∷ []) where
-    alone : (checked.imports ≡ []) × (checked.exports ≡ [])
+    alone : (checked.imports ≡ []) × (checked.exports ≡ []) × (goals_in checked ≡ [])
     alone = generated_alone number is_number bytes is_text loaded checked is
 
     taken : IsTaken (text_of generated_name bytes) None loaded checked []
@@ -109,16 +126,25 @@ module _ (number : ℕ) (is_number : IsNumber number) (bytes : List ℕ) (is_tex
     text_unsolved contents adopted refusal (inl memory) = inl memory
     text_unsolved contents adopted refusal (inr why) = wanting number is_number refusal new (text_refused grown refusal (unsolved loaded checked [] taken (sym is.is_loaded.files) contents adopted why))
 
-    pub text_decided : (found : Found) (files : List File) → IsFound (problem_with checked []) (map (λ g. g.name) checked.globals) found → IsWithinLimits (problem_with checked [])
-        → HasStats true (problem_with checked []) (length loaded.files) found.stats → AreFilesOf versions.Two (problem_with checked []) (map (λ g. g.name) checked.globals) checked.exports None files
+    pub text_decided : (found : Found) (files : List File) → IsFound checked (answers_with checked []) found → IsWithinLimits (problem_with checked [])
+        → HasStats true checked (answers_with checked []) (length loaded.files) found.stats → AreFilesOf versions.Two checked (answers_with checked []) None files
         → IsDecided (text_of generated_name (generated number)) None true versions.Two found files
     text_decided found files is_found within counted written =
         let P : List ℕ → Type 0 = λ text. IsDecided (text_of generated_name text) None true versions.Two found files in
         subst P is_text (record { loaded = loaded; checked = checked; plains = []; is = record { is = taken; within = within }; is_found = is_found; counted = counted; written = written })
 
+    -- its main question alone is asked
+    pub main_alone : (found : Found) → IsFound checked (answers_with checked []) found
+        → (answer : Answer) × (found.main ≡ Some answer) × IsAnswer (main_question checked (answers_with checked [])) answer
+    main_alone found is = only_main checked alone.2 (main_question checked (answers_with checked [])) found.main is.main
+
     -- and no file is written
-    pub no_files : (names : List (List ℕ)) (problem : Problem) (files : List File) → AreFilesOf versions.Two problem names checked.exports None files → files ≡ []
-    no_files names problem files are = let P : List ExportUse → Type 0 = λ exports. AreFilesFrom versions.Two problem names 0 exports None files in subst P alone.1 are
+    pub no_files : (files : List File) → AreFilesOf versions.Two checked (answers_with checked []) None files → files ≡ []
+    no_files files are =
+        let answers = answers_with checked [] in
+        let names = map (λ (g : Global). g.name) checked.globals in
+        let P : List ExportUse → Type 0 = λ exports. AreFilesFrom versions.Two (problem_of checked answers) (main_question checked answers) names 0 exports None files in
+        subst P alone.1 are
 
     -- its imports need no automata
     pub nothing_lent : (contents : List (Content Sign)) → contents ≡ [] → AreLentFor checked.mode checked.imports contents

@@ -12,6 +12,7 @@ pub mod FileCounts
 pub mod FirstAssignments
 pub mod Generations
 pub mod GlobalLemmas
+pub mod GoalLemmas
 pub mod Moments
 pub mod Printing
 pub mod Requests

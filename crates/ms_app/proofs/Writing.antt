@@ -19,10 +19,10 @@ use Rattle.ms_app.specs.declared.files.AutomatonFile.{AutomatonFile}
 use Rattle.ms_app.specs.Source.{IsOutFree}
 use Rattle.ms_app.specs.Written.{AreFilesFrom, AreFilesOfMain, File}
 
-module _ (version : FileVersion) (problem : Problem) (names : List (List ℕ)) where
+module _ (version : FileVersion) (problem main_is : Problem) (names : List (List ℕ)) where
   -- files of exports, and behind them that of the main value
   pub files_from : (i : ℕ) (uses : List ExportUse) (plains : List Plain) (files rest : List File) (out : Option (List ℕ)) → AreSpelled uses plains files → AreExportFiles version problem i uses plains
-      → AreFilesOfMain version problem names out rest → AreFilesFrom version problem names i uses out (files ++ rest)
+      → AreFilesOfMain version main_is names out rest → AreFilesFrom version problem main_is names i uses out (files ++ rest)
   files_from i [] [] [] rest out spelled exports main = main
   files_from i [] [] (file ∷ files) rest out spelled exports main = absurd spelled
   files_from i [] (plain ∷ plains) files rest out spelled exports main = absurd exports
@@ -36,22 +36,22 @@ module _ (version : FileVersion) (problem : Problem) (names : List (List ℕ)) w
   no_more (file ∷ files) = ap (λ fs. file ∷ fs) (no_more files)
 
   -- where none is asked for
-  pub files_alone : (uses : List ExportUse) (plains : List Plain) (files : List File) → AreSpelled uses plains files → AreExportFiles version problem 0 uses plains → AreFilesFrom version problem names 0 uses None files
-  files_alone uses plains files spelled exports = subst (AreFilesFrom version problem names 0 uses None) (no_more files) (files_from 0 uses plains files [] None spelled exports refl)
+  pub files_alone : (uses : List ExportUse) (plains : List Plain) (files : List File) → AreSpelled uses plains files → AreExportFiles version problem 0 uses plains → AreFilesFrom version problem main_is names 0 uses None files
+  files_alone uses plains files spelled exports = subst (AreFilesFrom version problem main_is names 0 uses None) (no_more files) (files_from 0 uses plains files [] None spelled exports refl)
 
   -- and where one may be
   pub files_with : (uses : List ExportUse) (plains : List Plain) (files more : List File) (out : Option (List ℕ)) (main : Plain) → AreSpelled uses plains files → AreExportFiles version problem 0 uses plains
-      → IsMainFile version problem names main → IsWithMain files out main more → AreFilesFrom version problem names 0 uses out more
-  files_with uses plains files more None main spelled exports is with = subst (AreFilesFrom version problem names 0 uses None) (sym with) (files_alone uses plains files spelled exports)
+      → IsMainFile version main_is names main → IsWithMain files out main more → AreFilesFrom version problem main_is names 0 uses out more
+  files_with uses plains files more None main spelled exports is with = subst (AreFilesFrom version problem main_is names 0 uses None) (sym with) (files_alone uses plains files spelled exports)
   files_with uses plains files more (Some out) main spelled exports is (bytes, are, text) =
-      subst (AreFilesFrom version problem names 0 uses (Some out)) (sym are) (files_from 0 uses plains files ((out, bytes) ∷ []) (Some out) spelled exports (bytes, refl, (main, text, is)))
+      subst (AreFilesFrom version problem main_is names 0 uses (Some out)) (sym are) (files_from 0 uses plains files ((out, bytes) ∷ []) (Some out) spelled exports (bytes, refl, (main, text, is)))
 
   -- the names of the files
   abbrev name_of_out : Option (List ℕ) → List (List ℕ)
   name_of_out None = []
   name_of_out (Some out) = out ∷ []
 
-  names_are : (i : ℕ) (uses : List ExportUse) (out : Option (List ℕ)) (files : List File) → AreFilesFrom version problem names i uses out files
+  names_are : (i : ℕ) (uses : List ExportUse) (out : Option (List ℕ)) (files : List File) → AreFilesFrom version problem main_is names i uses out files
       → map (λ (file : File). file.0) files ≡ map (λ (used : ExportUse). used.name) uses ++ name_of_out out
   names_are i [] None files are = ap (map (λ (file : File). file.0)) are
   names_are i [] (Some out) files are = ap (map (λ (file : File). file.0)) are.1
@@ -66,7 +66,7 @@ module _ (version : FileVersion) (problem : Problem) (names : List (List ℕ)) w
 
   -- no two have one name
   pub own_names : (uses : List ExportUse) (out : Option (List ℕ)) (files : List File) → AreDifferent (map (λ (used : ExportUse). used.name) uses) → IsOutFree out uses
-      → AreFilesFrom version problem names 0 uses out files → HaveOwnNames files
+      → AreFilesFrom version problem main_is names 0 uses out files → HaveOwnNames files
   own_names uses None files different free are =
       subst AreDifferent (sym (names_are 0 uses None files are ∙ nothing_more (map (λ (u : ExportUse). u.name) uses))) different
     where

@@ -7,7 +7,8 @@ use Rattle.ms_edge.specs.Files.{OnlyRead, Seen}
 use Rattle.ms_logic.specs.Verdict.{Agree, Problem}
 use Rattle.ms_logic.specs.declared.checked.Checked.{Checked}
 use Rattle.ms_logic.specs.declared.source.Loaded.{Loaded}
-use Rattle.ms_app.specs.Source.{IsRefused, IsSolved, file_of, problem_with}
+use Rattle.ms_logic.specs.View.{main_question}
+use Rattle.ms_app.specs.Source.{IsRefused, IsSolved, answers_with, file_of}
 
 -- both have one mode and one list of globals, with their names and orders
 pub record HaveSameGlobals (left right : Checked) : Type 0 where
@@ -27,8 +28,9 @@ pub record Taken : Type 0 where
   pub checked : Checked
   pub plains : List Plain
 
-abbrev pub problem_in : Taken → Problem
-problem_in taken = problem_with taken.checked taken.plains
+-- its main question
+abbrev pub question_in : Taken → Problem
+question_in taken = main_question taken.checked (answers_with taken.checked taken.plains)
 
 -- both files are sources that can be solved; those of the right one are numbered on from those of the left one
 pub record AreSolved (left right : List ℕ) (seen : Seen) (one two : Taken) : Type 0 where
@@ -46,7 +48,7 @@ pub record AreCompared (left right : List ℕ) (seen : Seen) (agree : Bool) : Ty
   pub two : Taken
   pub are_solved : AreSolved left right seen one two
   pub same_globals : HaveSameGlobals one.checked two.checked
-  pub agrees : IsTrue agree ↔ Agree (problem_in one) (problem_in two)
+  pub agrees : IsTrue agree ↔ Agree (question_in one) (question_in two)
 
 -- the comparison is refused under a limit on the nodes and states of a step, and these are the files that the refusal may number
 pub data IsRefusedComparison (left right : List ℕ) (limit : ℕ) (seen : Seen) (refusal : Refusal) (files : List (List ℕ)) : Type 0 where

@@ -1,5 +1,6 @@
--- What is found of a problem: its verdict, and the first assignment of each value.
-use Rattle.std.specs.Prelude.{◌≡◌, ℕ, Bool, true, false, List, [], length, map, Option, Some, None}
+-- What is found of a source: for each of its questions the verdict, and the first assignment of each value.
+use Rattle.std.specs.Prelude.{◌≡◌, ℕ, Bool, true, false, List, [], ◌∷◌, length, map, Option, Some, None}
+use Rattle.std.specs.List.{AllZip}
 use Rattle.ms_dfa.specs.declared.plain.FileVersion.{FileVersion}
 use Rattle.ms_dfa.specs.declared.plain.Plain.{Plain}
 use Rattle.ms_logic.specs.declared.assignment.Assignment.{Assignment}
@@ -10,10 +11,13 @@ use Rattle.ms_report.specs.declared.found.Verdict.{Verdict}
 use Rattle.ms_report.specs.declared.found.Verdict.TheVariants.{Valid, Unsatisfiable, Contingent, Vacuous}
 use Rattle.ms_report.specs.declared.found.Answer.{Answer}
 use Rattle.ms_report.specs.declared.found.Found.{Found}
+use Rattle.ms_report.specs.declared.found.GoalAnswer.{GoalAnswer}
 use Rattle.ms_logic.specs.declared.checked.Checked.{Checked}
+use Rattle.ms_logic.specs.declared.checked.Placed.{Placed}
 use Rattle.ms_logic.specs.declared.source.Loaded.{Loaded}
 use Rattle.ms_app.specs.Counts.{HasStats}
-use Rattle.ms_app.specs.Source.{IsSolved, Origin, problem_with}
+use Rattle.ms_logic.specs.View.{Answers, declared_in, goal_question, goals_in, main_question}
+use Rattle.ms_app.specs.Source.{IsSolved, Origin, answers_with}
 use Rattle.ms_app.specs.Written.{AreFilesOf, File}
 
 -- what is shown is the first assignment of the globals that has the property; nothing is shown where none has it
@@ -29,24 +33,40 @@ verdict_by false true = Unsatisfiable
 verdict_by true true = Contingent
 verdict_by false false = Vacuous
 
--- the verdict is the problem's
+-- the verdict is the question's
 abbrev pub IsVerdict : Problem → Verdict → Type 0
 IsVerdict problem Valid = IsValid problem
 IsVerdict problem Unsatisfiable = IsUnsatisfiable problem
 IsVerdict problem Contingent = IsContingent problem
 IsVerdict problem Vacuous = IsVacuous problem
 
--- the answer is true of the problem's main value
+-- the answer is true of the question
 pub record IsAnswer (problem : Problem) (answer : Answer) : Type 0 where
   pub verdict : IsVerdict problem answer.verdict
   pub example : ShowsFirst problem (MainYes problem) answer.example
   pub counterexample : ShowsFirst problem (MainNo problem) answer.counterexample
 
--- What was found is true of the problem, whose globals have these names. Its one question is its main value.
-pub record IsFound (problem : Problem) (names : List (List ℕ)) (found : Found) : Type 0 where
-  pub globals : found.globals ≡ names
-  pub main : (answer : Answer) × (found.main ≡ Some answer) × IsAnswer problem answer
-  pub goals : found.goals ≡ []
+-- the main question is asked of a source that has a formula declaration, or no goal
+abbrev pub asks_main : List Placed → List Placed → Bool
+asks_main [] [] = true
+asks_main [] (goal ∷ goals) = false
+asks_main (declared ∷ more) goals = true
+
+-- an answer to a question, where it is asked
+abbrev pub AnswersMain : Bool → Problem → Option Answer → Type 0
+AnswersMain false problem main = main ≡ None
+AnswersMain true problem main = (answer : Answer) × (main ≡ Some answer) × IsAnswer problem answer
+
+-- the answer to a goal, under its title
+abbrev pub IsGoalAnswer : Checked → Answers → Placed → GoalAnswer → Type 0
+IsGoalAnswer checked answers goal given = (goal.title ≡ Some given.title) × IsAnswer (goal_question checked answers goal) given.answer
+
+-- What was found is true of the source, where its imports have these answers: of its main question, where that is asked, and of each goal,
+-- in order.
+pub record IsFound (checked : Checked) (answers : Answers) (found : Found) : Type 0 where
+  pub globals : found.globals ≡ map (λ g. g.name) checked.globals
+  pub main : AnswersMain (asks_main (declared_in checked) (goals_in checked)) (main_question checked answers) found.main
+  pub goals : AllZip (IsGoalAnswer checked answers) (goals_in checked) found.goals
 
 -- The source can be solved, and what was found is true of it, with counts where they are asked for; and these are the automaton files of its
 -- exports, and of its main value where that is asked for, in a version.
@@ -55,6 +75,6 @@ pub record IsDecided (origin : Origin) (out : Option (List ℕ)) (stats : Bool) 
   pub checked : Checked
   pub plains : List Plain
   pub is : IsSolved origin out loaded checked plains
-  pub is_found : IsFound (problem_with checked plains) (map (λ g. g.name) checked.globals) found
-  pub counted : HasStats stats (problem_with checked plains) (length loaded.files) found.stats
-  pub written : AreFilesOf format (problem_with checked plains) (map (λ g. g.name) checked.globals) checked.exports out files
+  pub is_found : IsFound checked (answers_with checked plains) found
+  pub counted : HasStats stats checked (answers_with checked plains) (length loaded.files) found.stats
+  pub written : AreFilesOf format checked (answers_with checked plains) out files

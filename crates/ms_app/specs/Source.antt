@@ -13,7 +13,7 @@ use Rattle.ms_logic.specs.declared.checked.ImportUse.{ImportUse}
 use Rattle.ms_logic.specs.declared.mode.Mode.{Mode}
 use Rattle.ms_logic.specs.declared.source.Loaded.{Loaded}
 use Rattle.ms_logic.specs.Verdict.{Problem}
-use Rattle.ms_logic.specs.View.{problem_of}
+use Rattle.ms_logic.specs.View.{Answers, problem_of}
 use Rattle.ms_names_rules.specs.Checking.{IsFirstFault}
 use Rattle.ms_names_rules.specs.Declarations.{first_fault_of}
 use Rattle.ms_names_rules.specs.TypedSource.{IsTyped}
@@ -48,9 +48,12 @@ text_of name bytes = record {
   IsUnimported = λ mode limit uses refusal. ⊥;
 }
 
--- the problem that a checked source stands for, where the files of its imports have these contents
+-- the answers of the imports of a checked source, where their files have these contents; and the problem that the source stands for
+abbrev pub answers_with : Checked → List Plain → Answers
+answers_with checked plains = answers_by checked.imports plains
+
 abbrev pub problem_with : Checked → List Plain → Problem
-problem_with checked plains = problem_of checked (answers_by checked.imports plains)
+problem_with checked plains = problem_of checked (answers_with checked plains)
 
 -- it is loaded as a source in which nothing is wrong, and this is its typed tree
 pub record IsAccepted (origin : Origin) (loaded : Loaded) (checked : Checked) : Type 0 where

@@ -4,8 +4,10 @@ use Rattle.ms_dfa.specs.declared.plain.FileVersion.{FileVersion}
 use Rattle.ms_dfa.specs.declared.plain.Plain.{Plain}
 use Rattle.ms_dfafile.specs.File.{IsSpelled}
 use Rattle.ms_edge.specs.Files.{Holding, Holds}
+use Rattle.ms_logic.specs.declared.checked.Checked.{Checked}
 use Rattle.ms_logic.specs.declared.checked.ExportUse.{ExportUse}
 use Rattle.ms_logic.specs.Verdict.{Problem}
+use Rattle.ms_logic.specs.View.{Answers, main_question, problem_of}
 use Rattle.ms_logic.specs.Lists.{Each}
 use Rattle.ms_build_source.specs.Values.{IsExportFile, IsMainFile}
 
@@ -23,14 +25,17 @@ AreFilesOfMain version problem names None files = files ≡ []
 AreFilesOfMain version problem names (Some out) files =
     (bytes : List ℕ) × (files ≡ (out, bytes) ∷ []) × ((plain : Plain) × IsSpelled bytes plain × IsMainFile version problem names plain)
 
--- the files of the exports, in the order of the source, numbered on from a first number, and then that of the main value
-abbrev pub AreFilesFrom : FileVersion → Problem → List (List ℕ) → ℕ → List ExportUse → Option (List ℕ) → List File → Type 0
-AreFilesFrom version problem names i [] out files = AreFilesOfMain version problem names out files
-AreFilesFrom version problem names i (used ∷ uses) out [] = ⊥
-AreFilesFrom version problem names i (used ∷ uses) out (file ∷ files) = IsFileOfExport version problem i used file × AreFilesFrom version problem names (i + 1) uses out files
+-- the files of the exports of a problem, in the order of the source, numbered on from a first number, and then that of the main question's value
+abbrev pub AreFilesFrom : FileVersion → Problem → Problem → List (List ℕ) → ℕ → List ExportUse → Option (List ℕ) → List File → Type 0
+AreFilesFrom version problem main names i [] out files = AreFilesOfMain version main names out files
+AreFilesFrom version problem main names i (used ∷ uses) out [] = ⊥
+AreFilesFrom version problem main names i (used ∷ uses) out (file ∷ files) =
+    IsFileOfExport version problem i used file × AreFilesFrom version problem main names (i + 1) uses out files
 
-abbrev pub AreFilesOf : FileVersion → Problem → List (List ℕ) → List ExportUse → Option (List ℕ) → List File → Type 0
-AreFilesOf version problem names exports out files = AreFilesFrom version problem names 0 exports out files
+-- the files of a source
+abbrev pub AreFilesOf : FileVersion → Checked → Answers → Option (List ℕ) → List File → Type 0
+AreFilesOf version checked answers out files =
+    AreFilesFrom version (problem_of checked answers) (main_question checked answers) (map (λ g. g.name) checked.globals) 0 checked.exports out files
 
 -- every name but these holds what it held, and the holding is told as before
 abbrev pub KeepsAllBut : Option Holding → Option Holding → List (List ℕ) → Type 0

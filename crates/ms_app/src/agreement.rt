@@ -1,7 +1,8 @@
-ghost use Rattle.std.specs.Prelude.{◌≡◌, ◌↔◌, ◌+◌, ◌≤◌, ℕ, List, length, IsTrue, IfErr, IfOk};
+ghost use Rattle.std.specs.Prelude.{◌≡◌, ◌↔◌, ◌+◌, ◌≤◌, length, IsTrue, IfErr, IfOk};
 ghost use Rattle.ms_logic.specs.Verdict.{Agree, Problem, variables_of};
 ghost use Rattle.ms_build.specs.Built.{IsLimit};
-ghost use Rattle.ms_build_source.specs.Solution.{IsNamed, IsSolution};
+ghost use Rattle.ms_build_source.specs.Solution.{IsNamed};
+ghost use Rattle.ms_build_source.specs.Values.{HasMainValue};
 
 use crate::content::canonical_of;
 use ms_arena::Node;
@@ -41,7 +42,7 @@ pub fn agree(alloc: Global, left: &Solution, right: &Solution, limit: u64) -> Re
     requires limit { IsLimit limit }
     requires left_fits { length left.now.automaton.nodes + length left.now.automaton.states ≤ limit }
     requires right_fits { length right.now.automaton.nodes + length right.now.automaton.states ≤ limit }
-    ensures agree { IfOk result (λ agree. (one two : Problem) (names others : List (List ℕ)) → IsSolution one names left.now → IsSolution two others right.now
+    ensures agree { IfOk result (λ agree. (one two : Problem) → HasMainValue one left.now.automaton → HasMainValue two right.now.automaton
         → one.mode ≡ two.mode → variables_of one.globals ≡ variables_of two.globals → IsTrue agree ↔ Agree one two) }
     ensures refused { IfErr result (λ refusal. refusal ≡ Refusal.Memory) }
 {

@@ -1,11 +1,11 @@
-ghost use Rattle.std.specs.Prelude.{◌≡◌, ◌≤◌, ◌⊎◌, ◌+◌, ◌++◌, ℕ, [], List, None, length, map, IfErr, IfOk};
+ghost use Rattle.std.specs.Prelude.{◌≡◌, ◌≤◌, ◌⊎◌, ◌+◌, ◌++◌, ℕ, [], List, None, length, IfErr, IfOk};
 ghost use Rattle.ms_build.specs.Built.{IsLimit};
 ghost use Rattle.ms_dfa.specs.declared.plain.Plain.{Plain};
 ghost use Rattle.ms_edge.specs.Files.{OnlyRead, between};
 ghost use Rattle.ms_logic.specs.declared.source.Loaded.{Loaded as Declarations};
 ghost use Rattle.ms_build_source.specs.Solution.{IsNamed, IsSolution};
 ghost use Rattle.ms_app.specs.Comparison.{AreCompared, IsRefusedComparison};
-ghost use Rattle.ms_app.specs.Source.{IsRefused, IsSolved, file_of, problem_with};
+ghost use Rattle.ms_app.specs.Source.{IsRefused, IsSolved, answers_with, file_of};
 
 use crate::agreement::agree;
 use crate::same_globals::have_same_globals;
@@ -50,7 +50,7 @@ fn solve_file<F: Files>(
     requires limit { IsLimit limit }
     ensures solved { IfOk result (λ made. (loaded : Declarations) × (plains : List Plain)
         × IsSolved (file_of (between (F.told files.old) (F.told files.new)) (length names.old) name.now) None loaded made.source.checked plains
-        × IsSolution (problem_with made.source.checked plains) (map (λ g. g.name) made.source.checked.globals) made.solution
+        × IsSolution made.source.checked (answers_with made.source.checked plains) made.solution
         × (length loaded.files ≤ 64) × (names.new ≡ names.old ++ loaded.files)) }
     ensures fits { IfOk result (λ made. length made.solution.automaton.nodes + length made.solution.automaton.states ≤ limit) }
     ensures named { IfOk result (λ made. IsNamed made.solution) }

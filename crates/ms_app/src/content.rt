@@ -6,8 +6,8 @@ ghost use Rattle.ms_dfafile.specs.File.{names_of};
 ghost use Rattle.ms_logic_words.specs.Canonical.{IsCanonical};
 ghost use Rattle.ms_logic.specs.Verdict.{Problem};
 ghost use Rattle.ms_build_source.specs.inner.Copies.{IsCanonicalCopy};
-ghost use Rattle.ms_build_source.specs.Solution.{IsNamed, IsSolution};
-ghost use Rattle.ms_build_source.specs.Values.{IsMainFile};
+ghost use Rattle.ms_build_source.specs.Solution.{IsNamed};
+ghost use Rattle.ms_build_source.specs.Values.{HasMainValue, IsMainFile};
 ghost use Rattle.ms_app.specs.Counts.{IsCanonicalOf};
 
 use ms_build_source::Solution;
@@ -28,8 +28,8 @@ pub fn canonical_of(
     requires limit { IsLimit limit }
     requires fits { length solution.now.automaton.nodes + length solution.now.automaton.states ≤ limit }
     ensures copy { IfOk result (IsCanonicalCopy version solution.now.automaton solution.now.names) }
-    ensures content { IfOk result (λ made. (problem : Problem) (names : List (List ℕ)) → IsSolution problem names solution.now → IsCanonicalOf version problem (content_of_file made)) }
-    ensures file { IfOk result (λ made. (problem : Problem) (names : List (List ℕ)) → IsSolution problem names solution.now → IsMainFile version problem names made) }
+    ensures content { IfOk result (λ made. (problem : Problem) → HasMainValue problem solution.now.automaton → IsCanonicalOf version problem (content_of_file made)) }
+    ensures file { IfOk result (λ made. (problem : Problem) → HasMainValue problem solution.now.automaton → IsMainFile version problem solution.now.names made) }
     ensures canonical { IfOk result (λ made. IsCanonical (content_of_file made)) }
     ensures signs { IfOk result (λ made. HasSignsOf made.version (content_of_file made)) }
     ensures names { IfOk result (λ made. names_of made ≡ solution.now.names) }
@@ -55,8 +55,8 @@ pub fn in_second_version(
     requires named { IsNamed solution.now }
     requires limit { IsLimit limit }
     requires fits { length solution.now.automaton.nodes + length solution.now.automaton.states ≤ limit }
-    requires content { (problem : Problem) (names : List (List ℕ)) → IsSolution problem names solution.now → IsCanonicalOf content.version problem (content_of_file content) }
-    ensures { IfOk result (λ made. (problem : Problem) (names : List (List ℕ)) → IsSolution problem names solution.now → IsCanonicalOf Two problem (content_of_file made)) }
+    requires content { (problem : Problem) → HasMainValue problem solution.now.automaton → IsCanonicalOf content.version problem (content_of_file content) }
+    ensures { IfOk result (λ made. (problem : Problem) → HasMainValue problem solution.now.automaton → IsCanonicalOf Two problem (content_of_file made)) }
 {
     match content.version {
         FileVersion::Two => Ok(content),

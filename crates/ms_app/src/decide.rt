@@ -1,7 +1,6 @@
-ghost use Rattle.std.specs.Prelude.{◌≡◌, ◌⊎◌, ◌+◌, ◌≤◌, ℕ, List, [], length, map, IfErr, IfOk};
+ghost use Rattle.std.specs.Prelude.{◌≡◌, ◌⊎◌, ◌+◌, ◌≤◌, length, IfErr, IfOk};
 ghost use Rattle.std.specs.Option.{option_copied};
 ghost use Rattle.ms_build.specs.Built.{IsLimit};
-ghost use Rattle.ms_logic.specs.Verdict.{Problem};
 ghost use Rattle.ms_logic.specs.View.{problem_of, Answers};
 ghost use Rattle.ms_build_source.specs.Imported.{AreAnswersOf, AreLentFor};
 ghost use Rattle.ms_build_source.specs.Limits.{IsUnsolved, IsWithinLimits};
@@ -68,10 +67,11 @@ fn made_of(
     requires writable { AreWritable solution.now.exports }
     requires limit { IsLimit options.max_nodes }
     requires fits { length solution.now.automaton.nodes + length solution.now.automaton.states ≤ options.max_nodes }
-    ensures stats { IfOk result (λ made. (problem : Problem) (names : List (List ℕ)) → IsSolution problem names solution.now → HasStats options.entry.stats problem source.now.files made.stats) }
-    ensures files { IfOk result (λ made. (problem : Problem) (names : List (List ℕ)) → IsSolution problem names solution.now →
-        AreExportFiles options.entry.format problem 0 source.now.checked.exports solution.now.exports →
-        AreFilesOf options.entry.format problem names source.now.checked.exports (option_copied options.entry.out) (pairs_of made.files)) }
+    ensures stats { IfOk result (λ made. (answers : Answers) → IsSolution source.now.checked answers solution.now →
+        HasStats options.entry.stats source.now.checked answers source.now.files made.stats) }
+    ensures files { IfOk result (λ made. (answers : Answers) → IsSolution source.now.checked answers solution.now →
+        AreExportFiles options.entry.format (problem_of source.now.checked answers) 0 source.now.checked.exports solution.now.exports →
+        AreFilesOf options.entry.format source.now.checked answers (option_copied options.entry.out) (pairs_of made.files)) }
 {
     let files = match export_files(
         alloc,
@@ -112,10 +112,9 @@ pub fn decide(alloc: Global, taken: &Taken, options: Options) -> Result<Decided,
     requires imports { AreLentFor taken.now.source.checked.mode taken.now.source.checked.imports taken.now.imports }
     requires limit { IsLimit options.max_nodes }
     ensures found { IfOk result (λ made. (answers : Answers) → AreAnswersOf taken.now.source.checked.mode taken.now.source.checked.imports answers taken.now.imports →
-        IsFound (problem_of taken.now.source.checked answers) (map (λ g. g.name) taken.now.source.checked.globals) made.found
-        × HasStats options.entry.stats (problem_of taken.now.source.checked answers) taken.now.source.files made.found.stats
-        × AreFilesOf options.entry.format (problem_of taken.now.source.checked answers) (map (λ g. g.name) taken.now.source.checked.globals) taken.now.source.checked.exports
-        (option_copied options.entry.out) (pairs_of made.files)) }
+        IsFound taken.now.source.checked answers made.found
+        × HasStats options.entry.stats taken.now.source.checked answers taken.now.source.files made.found.stats
+        × AreFilesOf options.entry.format taken.now.source.checked answers (option_copied options.entry.out) (pairs_of made.files)) }
     ensures within { IfOk result (λ made. (answers : Answers) → IsWithinLimits (problem_of taken.now.source.checked answers)) }
     ensures refused { IfErr result (λ refusal. (answers : Answers) → length answers ≡ length taken.now.source.checked.imports →
         (refusal ≡ Refusal.Memory) ⊎ IsUnsolved taken.now.source.checked answers taken.now.imports options.entry.max_nodes refusal) }
@@ -134,7 +133,7 @@ pub fn decide(alloc: Global, taken: &Taken, options: Options) -> Result<Decided,
     let Ok(made) = made_of(alloc, &taken.source, &solution, options) else {
         return Err(Refusal::Memory);
     };
-    match found(alloc, solution, made.stats) {
+    match found(alloc, checked, solution, made.stats) {
         Ok(found) => Ok(Decided {
             found,
             files: made.files,

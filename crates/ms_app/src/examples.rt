@@ -3,11 +3,14 @@
 ghost use Rattle.std.specs.Prelude.{◌≡◌, ◌∷◌, ◌++◌, [], codes, false, true, None, Some};
 ghost use Rattle.ms_dfa.specs.declared.plain.FileVersion.TheVariants.{Two};
 ghost use Rattle.ms_edge.specs.declared.refusal.Refusal.TheVariants.{Twice};
-ghost use Rattle.ms_logic.specs.View.{problem_of};
+ghost use Rattle.ms_logic.specs.inner.Examples.{asks_twice, false_goal, stated};
+ghost use Rattle.ms_logic.specs.View.{declared_in, goals_in, main_question, problem_of};
+ghost use Rattle.ms_logic.specs.declared.formula.Formula.TheVariants.{True};
 ghost use Rattle.ms_build_source.specs.Limits.{IsWithinLimits};
 ghost use Rattle.ms_app.specs.Comparison.{HaveSameGlobals, comparison_text};
 ghost use Rattle.ms_app.specs.Counts.{HasStats};
-ghost use Rattle.ms_app.specs.inner.Examples.{at, export_to, nothing_held, one_held, one_set, other_mode, other_order, turned_round, two_files, two_sets};
+ghost use Rattle.ms_app.specs.Decision.{AnswersMain, IsGoalAnswer, asks_main};
+ghost use Rattle.ms_app.specs.inner.Examples.{at, export_to, found_valid, nothing_held, one_held, one_set, other_mode, other_order, turned_round, two_files, two_sets};
 ghost use Rattle.ms_app.specs.Source.{IsOutFree, IsOutTaken};
 ghost use Rattle.ms_app.specs.Written.{AreFilesOf, AreHeld, AreHeldUpTo, KeepsAllBut};
 
@@ -24,8 +27,19 @@ pub fn worked_globals()
 pub fn worked_answers()
     ensures agree { comparison_text true ≡ codes "agree" ++ 10 ∷ [] }
     ensures differ { comparison_text false ≡ codes "differ" ++ 10 ∷ [] }
-    ensures no_counts { HasStats false (problem_of two_sets []) 1 None }
+    ensures no_counts { HasStats false two_sets [] 1 None }
     ensures small { IsWithinLimits (problem_of two_sets []) }
+{}
+
+/// When the main question of a source is asked, by its formula declarations and its goals.
+pub fn worked_questions()
+    ensures neither { asks_main [] [] ≡ true }
+    ensures declared { asks_main (stated None True ∷ []) [] ≡ true }
+    ensures goal_alone { asks_main [] (false_goal ∷ []) ≡ false }
+    ensures both { asks_main (declared_in asks_twice) (goals_in asks_twice) ≡ true }
+    ensures not_asked { ¬ AnswersMain false (main_question asks_twice []) (Some found_valid) }
+    ensures not_answered { ¬ AnswersMain true (main_question asks_twice []) None }
+    ensures other_title { ¬ IsGoalAnswer asks_twice [] false_goal (record { title = codes "b"; answer = found_valid }) }
 {}
 
 /// Names for the file of the main value, and files where nothing is written.
@@ -37,7 +51,7 @@ pub fn worked_files()
     ensures unnamed { ¬ IsOutTaken None (export_to (codes "e.aut") ∷ []) (Twice (at 7) (codes "e.aut")) }
 
     // A source without exports writes nothing where no name is given, and what is held stays.
-    ensures no_files { AreFilesOf Two (problem_of two_sets []) [] [] None [] }
+    ensures no_files { AreFilesOf Two two_sets [] None [] }
     ensures nothing { AreHeld nothing_held nothing_held [] }
     ensures told { ¬ KeepsAllBut nothing_held None [] }
 {}

@@ -20,6 +20,6 @@ mod top;
 mod write;
 
 pub use complete_examples::{worked_deliveries, worked_requests, worked_runs};
-pub use examples::{worked_answers, worked_files, worked_globals, worked_writes};
+pub use examples::{worked_answers, worked_files, worked_globals, worked_questions, worked_writes};
 pub use laws::law_of_generated;
 pub use top::run;

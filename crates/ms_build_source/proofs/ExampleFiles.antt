@@ -94,7 +94,7 @@ within_at w e is encodes =
     ∙ (ap (λ members. list_all (λ n. is_member n members) (d.set 0)) Q ∙ decoded_within w)
 
 -- each word over P and Q encodes an assignment
-none_outside : (w : Word) → IsWordOver set_P_and_Q w → ¬ ((e : Env) × IsAssignment Ws1s set_P_and_Q e × Encodes set_P_and_Q w e) → ⊥
+pub none_outside : (w : Word) → IsWordOver set_P_and_Q w → ¬ ((e : Env) × IsAssignment Ws1s set_P_and_Q e × Encodes set_P_and_Q w e) → ⊥
 none_outside w over out = let known = decoded_P_and_Q w over in out (decoded Ws1s set_P_and_Q w, known.0, known.1)
 
 abbrev subset_form : Form
@@ -167,13 +167,13 @@ file_of_negation = record {
 }
 
 -- the empty word encodes two empty sets
-abbrev nothing : Word
+abbrev pub nothing : Word
 nothing = word [] []
 
-empty_sets : IsAssignment Ws1s set_P_and_Q naturals
+pub empty_sets : IsAssignment Ws1s set_P_and_Q naturals
 empty_sets = record { universe = refl; values = ((tt, tt), ((tt, tt), tt)) }
 
-encodes_empty_sets : Encodes set_P_and_Q nothing naturals
+pub encodes_empty_sets : Encodes set_P_and_Q nothing naturals
 encodes_empty_sets = record { truth = refl; letters = refl; room = omega arith; string = tt }
 
 -- the sign of the empty word

@@ -1,6 +1,6 @@
--- The canonical contents of the roots of exports are the files of these.
+-- The automata of main roots have their values, and the canonical contents of the roots of exports are the files of these.
 use Rattle.std.proofs.Common.{◌≡◌, ℕ, zero, suc, ◌+◌, List, [], ◌∷◌, ◌++◌, length, take, slice_get, Some, refl, sym, subst, arith}
-use Rattle.std.proofs.lemmas.Option.{none-some, same_Some}
+use Rattle.std.proofs.lemmas.Option.{none-some, same_Some, slice_get_within}
 use Rattle.ms_build.specs.declared.built.Built.{Built}
 use Rattle.ms_build.specs.declared.plan.Plan.{Plan}
 use Rattle.ms_build.specs.Built.{IsBuiltOver, IsLeastOf, child_meaning, imports_of}
@@ -12,10 +12,11 @@ use Rattle.ms_dfa.specs.declared.plain.FileVersion.{FileVersion}
 use Rattle.ms_dfa.specs.declared.plain.Plain.{Plain}
 use Rattle.ms_logic.specs.declared.checked.Checked.{Checked}
 use Rattle.ms_logic.specs.declared.checked.ExportUse.{ExportUse}
+use Rattle.ms_logic.specs.declared.checked.Placed.{Placed}
 use Rattle.ms_logic.specs.declared.mode.Mode.{Mode}
 use Rattle.ms_logic_words.specs.declared.sign.Sign.{Sign}
 use Rattle.ms_logic_words.specs.Content.{Content}
-use Rattle.ms_logic.specs.View.{problem_of, Answers}
+use Rattle.ms_logic.specs.View.{goal_question, goals_in, main_question, problem_of, Answers}
 use Rattle.ms_logic.specs.Lists.{Each}
 use Rattle.ms_names_rules.specs.Numbers.{IsWellNumbered}
 use Rattle.ms_build_source.specs.inner.Copies.{AreRootCopies, HaveRoots, IsRootCopy}
@@ -26,7 +27,7 @@ use Rattle.ms_build_source.specs.Values.{HasMainValue, IsExportFile, IsFileOf, f
 use Rattle.ms_build_source.proofs.ExportNames.{entry_lists}
 use Rattle.ms_build_source.proofs.CopySigns.{signs_of_copy}
 use Rattle.ms_build_source.proofs.FileValues.{file_of}
-use Rattle.ms_build_source.proofs.RootValues.{export_free, export_values, exported, formula, main_value_of, own, own_orders}
+use Rattle.ms_build_source.proofs.RootValues.{export_free, export_values, exported, formula, goal_value_of, main_value_of, own, own_orders}
 
 -- what was built for a graph has the roots of the graph
 module _ (imports : List (Content Sign)) (mode : Mode) (dag : Dag) (automata : Built) (over : IsBuiltOver imports mode dag automata) where
@@ -42,22 +43,29 @@ module _ (imports : List (Content Sign)) (mode : Mode) (dag : Dag) (automata : B
 module _ (checked : Checked) (answers : Answers) (contents : List (Content Sign)) (lent : AreLentFor checked.mode checked.imports contents) (long : length answers ≡ length checked.imports)
     (are : AreAnswersOf checked.mode checked.imports answers contents) (well : IsWellNumbered checked) (exports : ListsFreeVariables checked) (dag : Dag) (graph : IsGraphOf checked answers dag)
     (automata : Built) (over : IsBuiltOver contents checked.mode dag automata) where
-  pub main_root_value : (content : Content Sign) → IsRootAt automata.plan 0 content → HasMainValue (problem_of checked answers) content
+  pub main_root_value : (content : Content Sign) → IsRootAt automata.plan 0 content → HasMainValue (main_question checked answers) content
   main_root_value content at =
       let here = root_here contents checked.mode dag automata over 0 content at in
       main_value_of checked answers contents lent long are well dag graph here.0 here.1 content here.2
+
+  pub goal_root_value : (j : ℕ) (goal : Placed) → slice_get (goals_in checked) j ≡ Some goal → (content : Content Sign)
+      → IsRootAt automata.plan (suc (length checked.exports + j)) content → HasMainValue (goal_question checked answers goal) content
+  goal_root_value j goal held content at =
+      let here = root_here contents checked.mode dag automata over (suc (length checked.exports + j)) content at in
+      goal_value_of checked answers contents lent long are well dag graph j goal held here.0 here.1 content here.2
 
   one_export : (version : FileVersion) (i : ℕ) (used : ExportUse) → slice_get checked.exports i ≡ Some used → (plain : Plain) → IsRootCopy version automata.plan (suc i) used.names plain → IsExportFile version (problem_of checked answers) i used plain
   one_export version i used held plain (content, at, automaton, copy) =
       let here = root_here contents checked.mode dag automata over (suc i) content at in
       let s = here.0 in
+      let less = slice_get_within checked.exports i used held in
       let given = (problem_of checked answers).given in
-      let f = formula checked answers contents lent long are well dag graph i s here.1 content here.2 in
-      let vs = own checked answers contents lent long are well dag graph i s here.1 content here.2 in
-      let values = export_values checked answers contents lent long are well dag graph i s here.1 content here.2 automaton in
-      let free = export_free checked answers contents lent long are well dag graph i s here.1 content here.2 in
-      let orders = own_orders checked answers contents lent long are well dag graph i s here.1 content here.2 in
-      let is = exported checked answers contents lent long are well dag graph i s here.1 content here.2 in
+      let f = formula checked answers contents lent long are well dag graph i less s here.1 content here.2 in
+      let vs = own checked answers contents lent long are well dag graph i less s here.1 content here.2 in
+      let values = export_values checked answers contents lent long are well dag graph i less s here.1 content here.2 automaton in
+      let free = export_free checked answers contents lent long are well dag graph i less s here.1 content here.2 in
+      let orders = own_orders checked answers contents lent long are well dag graph i less s here.1 content here.2 in
+      let is = exported checked answers contents lent long are well dag graph i less s here.1 content here.2 in
       record {
         formula = f;
         is_exported = is;

@@ -3,8 +3,8 @@ use Rattle.std.proofs.Common.{◌≡◌, ℕ, inl, inr, ⊎_elim, List, [], ◌�
 use Rattle.std.proofs.lemmas.List.Elements.{All-contains}
 use Rattle.ms_build.proofs.WholeLemmas.{rising_equal}
 use Rattle.ms_names_checked.specs.Exports.{ExportListsFree, ListsFree, ListsFreeVariables}
+use Rattle.ms_logic_spread.proofs.Questions.{asked_numbered, whole_asked}
 use Rattle.ms_build_source.proofs.SharedRoots.{each_all}
-use Rattle.ms_build_source.proofs.Unexported.{forms_numbered}
 use Rattle.ms_logic.specs.declared.checked.Checked.{Checked}
 use Rattle.ms_logic.specs.declared.checked.ExportUse.{ExportUse}
 use Rattle.ms_logic.specs.declared.mode.Order.{Order}
@@ -82,7 +82,7 @@ module _ (checked : Checked) (answers : Answers) (well : IsWellNumbered checked)
   entry_named =
       let tables = tables_of checked in
       let problem = problem_of checked answers in
-      let all = each_named tables (length tables.predicates) problem.formulas (globals_seen checked) (forms_numbered tables (length tables.predicates) (globals_seen checked) checked.formulas well.formulas) in
+      let all = each_named tables (length tables.predicates) problem.formulas (globals_seen checked) (asked_numbered checked well checked.formulas (whole_asked checked)) in
       let P : Export → Type 0 = HasNames tables (length tables.predicates) in
       at_entry checked.exports i used (λ u. length u.names ≡ length u.variables) held
       (All-contains P (exports_among problem.formulas) (record { number = i; formula = f }) (each_all P (exports_among problem.formulas) all) is)

@@ -20,10 +20,11 @@ use Rattle.ms_names_rules.specs.Numbers as numbers
 use Rattle.ms_names_rules.specs.Numbers.{AreNumbered, CountUp, IsNew, IsNumbered, Tables, globals_seen, tables_of}
 use Rattle.ms_logic.specs.Lists.{Each}
 use Rattle.ms_names_rules.proofs.Fitting.{each-back, each-front}
-use Rattle.ms_logic_spread.proofs.Seen.{IsWithin, ReadSeen, forms_seen, free_seen}
+use Rattle.ms_logic_spread.proofs.Questions.{asked_numbered, whole_asked}
+use Rattle.ms_logic_spread.proofs.Seen.{IsWithin, ReadSeen, free_seen}
 use Rattle.ms_logic_spread.proofs.SeenPredicates.{all_seen}
 use Rattle.ms_build_source.specs.inner.HandoverLaws.{SourcesListVariables}
-use Rattle.ms_build_source.proofs.Unexported.{forms_numbered, globals_read}
+use Rattle.ms_build_source.proofs.Questions.{reads_globals}
 
 -- exports that stand in place are found
 
@@ -188,11 +189,12 @@ sources_list_variables checked answers long well lists =
     let seen = globals_seen checked in
     let reads = all_seen tables seen answers well.predicates in
     let within : IsWithin seen seen = λ w listed. listed in
-    let numbered = forms_numbered tables bound seen checked.formulas well.formulas in
+    let numbered = asked_numbered checked well checked.formulas (whole_asked checked) in
+    let reads_them = reads_globals checked answers well checked.formulas (whole_asked checked) in
     let places = all_in_place problem.formulas (placed_in_place checked.formulas lists.in_place) ∙ all_placed checked.formulas in
     record {
-      restrictions = globals_read checked answers well (globals_from 0 checked.globals) well.globals;
-      formulas = forms_seen tables (reads_of problem.given) bound seen reads problem.formulas seen within numbered;
+      restrictions = reads_them.restrictions;
+      formulas = reads_them.formulas;
       numbers = subst (λ list. CountUp 0 list (length checked.exports)) (sym places) well.exports;
       fit = fits_among tables problem.given bound seen reads problem.formulas seen (globals_over 0 [] checked.globals) within numbered (globals_agree 0 [] checked.globals)
           (lists.variables answers long);

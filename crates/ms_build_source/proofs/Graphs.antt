@@ -27,11 +27,11 @@ module _ (checked : Checked) (well : IsWellNumbered checked) (exports : ListsFre
   lists = sources_list_variables checked answers long well exports
 
   has_roots : HasRoots checked answers lowered.roots
-  has_roots = sources_have_roots checked answers lowered.roots long well lists (roots answers long lists)
+  has_roots = sources_have_roots checked answers lowered.roots long well (roots answers long lists)
 
   -- it is as sharing asks
   lowered_here : IsLowered (problem_of checked answers).given.imports (calls_in checked answers) lowered
-  lowered_here = sources_are_shared checked answers lowered well lists has_roots orders
+  lowered_here = sources_are_shared checked answers lowered well has_roots orders
 
   pub lowered_there : IsLowered (problem_of checked answers).given.imports (source_calls checked) lowered
   lowered_there = subst (λ calls. IsLowered (problem_of checked answers).given.imports calls lowered) (sym (calls_same checked answers long)) lowered_here

@@ -1,16 +1,18 @@
--- The core formulas of a source without exports have imports of its table alone.
-use Rattle.std.proofs.Common.{ℕ, ◌++◌, length, arith}
+-- The main roots of questions have imports of the table of the source alone.
+use Rattle.std.proofs.Common.{ℕ, ◌++◌, List, length, arith}
 use Rattle.ms_logic.specs.declared.checked.Checked.{Checked}
+use Rattle.ms_logic.specs.declared.checked.Placed.{Placed}
 use Rattle.ms_logic_core.specs.CoreForm.{CoreForm, truth, falsity, basic, negation, conjunction, disjunction, implication, equivalence, restrict, imported, quantified, CoreForms, no_forms, more_forms, CoreRestriction, unrestricted, restricted}
 use Rattle.ms_logic_core.specs.Roots.{first_free, main_root}
 use Rattle.ms_logic_core.specs.Spread.{callees_of, own_names, restrictions_of, spread_each}
 use Rattle.ms_logic.specs.Verdict.{variables_of}
-use Rattle.ms_logic.specs.View.{problem_of, Answers}
+use Rattle.ms_logic.specs.View.{question_of, Answers}
 use Rattle.ms_lower.specs.Numbering.{Numbering, renumbered, renumbered_each, renumbered_in}
 use Rattle.ms_names_rules.specs.Numbers.{IsWellNumbered, globals_seen, tables_of}
 use Rattle.ms_dag.specs.Imports.{EachImportsBelow, ImportsBelow, RestrictionImportsBelow}
+use Rattle.ms_logic_spread.specs.RootLaws.{AreFormulasOf}
+use Rattle.ms_logic_spread.proofs.Questions.{asked_numbered}
 use Rattle.ms_build_source.proofs.ImportsOfFormulas.{conjunction_below, each_below, given_below, globals_below, joined_below}
-use Rattle.ms_build_source.proofs.Unexported.{forms_numbered}
 
 -- other numbers of variables leave the imports
 module _ (n : Numbering) (count : ℕ) where
@@ -37,16 +39,16 @@ module _ (n : Numbering) (count : ℕ) where
     renumbered_in_below (restricted d) below = renumbered_below d below
 
 module _ (checked : Checked) (answers : Answers) (well : IsWellNumbered checked) where
-  pub main_below : ImportsBelow (length checked.imports) (main_root (problem_of checked answers)).formula
-  main_below =
-      let problem = problem_of checked answers in
+  pub main_below : (asked : List Placed) → AreFormulasOf checked asked → ImportsBelow (length checked.imports) (main_root (question_of checked answers asked)).formula
+  main_below asked among =
+      let question = question_of checked answers asked in
       let tables = tables_of checked in
-      let c = callees_of problem.given in
-      let bodies = given_below tables problem.given (globals_seen checked) well.predicates in
+      let c = callees_of question.given in
+      let bodies = given_below tables question.given (globals_seen checked) well.predicates in
       let bound = length tables.predicates in
-      let free = first_free (variables_of problem.globals) in
-      let restrictions = restrictions_of c problem.globals own_names free in
-      let formulas = spread_each c problem.formulas own_names free in
+      let free = first_free (variables_of question.globals) in
+      let restrictions = restrictions_of c question.globals own_names free in
+      let formulas = spread_each c question.formulas own_names free in
       conjunction_below (length checked.imports) (restrictions ++ formulas)
-      (joined_below (length checked.imports) restrictions formulas (globals_below tables (length tables.imports) (omega arith) c bodies bound problem.globals (globals_seen checked) own_names free well.globals)
-      (each_below tables (length tables.imports) (omega arith) c bodies bound problem.formulas (globals_seen checked) own_names free (forms_numbered tables bound (globals_seen checked) checked.formulas well.formulas)))
+      (joined_below (length checked.imports) restrictions formulas (globals_below tables (length tables.imports) (omega arith) c bodies bound question.globals (globals_seen checked) own_names free well.globals)
+      (each_below tables (length tables.imports) (omega arith) c bodies bound question.formulas (globals_seen checked) own_names free (asked_numbered checked well asked among)))

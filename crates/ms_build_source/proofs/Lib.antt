@@ -4,6 +4,7 @@ pub mod CopySigns
 pub mod EqualFiles
 pub mod ExampleFiles
 pub mod ExampleLimits
+pub mod ExampleSolutions
 pub mod ExportContents
 pub mod ExportFiles
 pub mod ExportNames
@@ -17,6 +18,7 @@ pub mod FilledSources
 pub mod FilledTerms
 pub mod FormNames
 pub mod GlobalLemmas
+pub mod GoalRoots
 pub mod Graphs
 pub mod ImportAnswers
 pub mod ImportsOfCalls
@@ -26,6 +28,7 @@ pub mod ImportsOfSources
 pub mod ImportsOfTerms
 pub mod MovedWords
 pub mod PredicateNames
+pub mod Questions
 pub mod Renumbering
 pub mod RootNames
 pub mod RootValues

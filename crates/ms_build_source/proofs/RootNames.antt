@@ -1,7 +1,8 @@
 -- There is a root for each export, and a name for each of its variables.
-use Rattle.std.proofs.Common.{◌≡◌, ℕ, zero, suc, ◌+◌, ◌<◌, List, [], ◌∷◌, length, slice_get, Some, refl, sym, ap, subst, ◌∙◌, arith}
+use Rattle.std.proofs.Common.{◌≡◌, ℕ, suc, ◌+◌, List, [], ◌∷◌, length, slice_get, Some, refl, sym, ap, subst, ◌∙◌, arith}
 use Rattle.std.proofs.lemmas.List.{length-map}
 use Rattle.std.proofs.lemmas.Option.{slice_get_within}
+use Rattle.ms_arena.proofs.Lists.{slice_get-held}
 use Rattle.ms_build.specs.declared.built.Built.{Built}
 use Rattle.ms_build.specs.Built.{IsBuiltOver}
 use Rattle.ms_names_checked.specs.Exports.{ListsFreeVariables}
@@ -14,18 +15,13 @@ use Rattle.ms_logic_words.specs.declared.sign.Sign.{Sign}
 use Rattle.ms_logic.specs.Assignment.{Variable}
 use Rattle.ms_logic_words.specs.Content.{Content}
 use Rattle.ms_logic_core.specs.Roots.{Root}
-use Rattle.ms_logic.specs.View.{Answers}
+use Rattle.ms_logic.specs.View.{goals_in, Answers}
 use Rattle.ms_names_rules.specs.Numbers.{IsWellNumbered}
 use Rattle.ms_build_source.specs.inner.Copies.{HaveRoots}
 use Rattle.ms_build_source.specs.Graph.{IsGraphOf, calls_in}
 use Rattle.ms_build_source.proofs.ExportNames.{entry_lists, entry_named}
 use Rattle.ms_build_source.specs.Moved.{HaveSameOrders}
 use Rattle.ms_build_source.proofs.RootValues.{answer_orders, root_beside, roots_counted}
-
-item_at : {X : Type 0} (xs : List X) (k : ℕ) → k < length xs → (x : X) × (slice_get xs k ≡ Some x)
-item_at [] k less = absurd (omega (arith, less))
-item_at (x ∷ xs) zero less = (x, refl)
-item_at (x ∷ xs) (suc k) less = item_at xs k (omega (arith, less))
 
 same_length : (vs ws : List Variable) → HaveSameOrders vs ws → length vs ≡ length ws
 same_length [] [] same = refl
@@ -38,16 +34,16 @@ module _ (checked : Checked) (answers : Answers) (long : length answers ≡ leng
   abbrev Named : ℕ → ExportUse → Type 0
   Named k used = (root : SharedRoot) × (slice_get dag.roots k ≡ Some root) × (length used.names ≡ length root.variables)
 
-  pub count_of_roots : length dag.roots ≡ 1 + length checked.exports
+  pub count_of_roots : length dag.roots ≡ 1 + length checked.exports + length (goals_in checked)
   count_of_roots = sym (roots_counted (calls_in checked answers) graph.lowered.orders dag.entries graph.lowered.roots dag.roots graph.is_dag.roots) ∙ graph.roots.count
 
   root_named : (i : ℕ) (used : ExportUse) → slice_get checked.exports i ≡ Some used → Named (suc i) used
   root_named i used held =
       let within = slice_get_within checked.exports i used held in
       let count = count_of_roots in
-      let found = item_at dag.roots (suc i) (omega (arith, within, count)) in
+      let found = slice_get-held dag.roots (suc i) (omega (arith, within, count)) in
       let beside = root_beside (calls_in checked answers) graph.lowered.orders dag.entries graph.lowered.roots dag.roots graph.is_dag.roots (suc i) found.0 found.1 in
-      let r = graph.roots.each (suc i) beside.0 beside.1 in
+      let r = graph.roots.exports i beside.0 within beside.1 in
       let own_listed = ap (λ (root : Root). root.variables) r.is_root.4 in
       let names = entry_named checked answers well exports long i r.is_root.0 r.is_root.2 used held in
       let lists = entry_lists checked answers well exports long i r.is_root.0 r.is_root.2 used held r.is_root.1 r.is_root.3 in

@@ -1,5 +1,5 @@
 -- The automata of the roots of a source have the values that these stand for.
-use Rattle.std.proofs.Common.{◌≡◌, ℕ, zero, suc, ⊎_elim, List, [], ◌∷◌, length, map, slice_get, Some, refl, sym, ap, ap₂, subst, ◌∙◌}
+use Rattle.std.proofs.Common.{◌≡◌, ℕ, zero, suc, ◌+◌, ◌<◌, ⊎_elim, List, [], ◌∷◌, length, map, slice_get, Some, refl, sym, ap, ap₂, subst, ◌∙◌}
 use Rattle.std.proofs.lemmas.Option.{none-some, same_Some}
 use Rattle.ms_build.specs.Built.{IsLeastOf, child_meaning, imports_of}
 use Rattle.ms_build.specs.Roots.{named}
@@ -14,6 +14,7 @@ use Rattle.ms_dag.specs.Lowered.{IsLoweredRoot}
 use Rattle.ms_dag.specs.Share.{AreRootsOf, IsRootOf}
 use Rattle.ms_build_source.proofs.SharedRoots.{root_listed}
 use Rattle.ms_logic.specs.declared.checked.Checked.{Checked}
+use Rattle.ms_logic.specs.declared.checked.Placed.{Placed}
 use Rattle.ms_logic_core.specs.declared.core_formula.Root as code
 use Rattle.ms_logic.specs.declared.mode.Order.{Order}
 use Rattle.ms_logic_words.specs.declared.sign.Sign.{Sign}
@@ -27,15 +28,16 @@ use Rattle.ms_logic_core.specs.SameUpToBound.{AnswerToEachOther, SameRoot}
 use Rattle.ms_logic.specs.Tree.{Form}
 use Rattle.ms_logic.specs.Truth as truth
 use Rattle.ms_logic.specs.Verdict.{Problem, variables_of}
-use Rattle.ms_logic.specs.View.{problem_of, Answers}
+use Rattle.ms_logic.specs.View.{declared_in, goal_question, goals_in, main_question, problem_of, question_of, Answers}
 use Rattle.ms_logic_words.specs.Word.{Encodes}
 use Rattle.ms_dfa.proofs.OrdersLemmas.{orders_of, over-same}
 use Rattle.ms_dfa.specs.Automaton.{IsAutomaton}
 use Rattle.ms_lower.specs.Lowered.{IsRootFor}
 use Rattle.ms_project.proofs.AlwaysLemmas.{sign_moves}
 use Rattle.ms_names_rules.specs.Numbers.{IsWellNumbered}
-use Rattle.ms_logic_spread.specs.RootLaws.{IsExported, RootNo, RootYes}
+use Rattle.ms_logic_spread.specs.RootLaws.{AreFormulasOf, IsExported, RootNo, RootYes}
 use Rattle.ms_logic_spread.proofs.ExportsOnce.{exports_stand_once}
+use Rattle.ms_logic_spread.proofs.Questions.{declared_asked, goal_asked, whole_asked}
 use Rattle.ms_logic_spread.proofs.Roots.{roots_keep_values}
 use Rattle.ms_logic_spread.proofs.SameRoots.{same_main_root_keeps_value, same_roots_have_one_value}
 use Rattle.ms_dfa.specs.Values.{HasValues, core_meaning, main_meaning, meaning_by}
@@ -116,14 +118,13 @@ module _ (checked : Checked) (answers : Answers) (contents : List (Content Sign)
     abbrev beside : (root : code.Root) × (slice_get graph.lowered.roots k ≡ Some root) × IsRootOf (calls_in checked answers) graph.lowered.orders dag.entries root s
     beside = root_beside (calls_in checked answers) graph.lowered.orders dag.entries graph.lowered.roots dag.roots graph.is_dag.roots k s held
 
-    abbrev root : IsRootFor checked problem k beside.0
-    root = graph.roots.each k beside.0 beside.1
-
-    module _ (listed : Each (HasOrder graph.lowered.orders) root.made.variables) where
+    -- it is a root of a question
+    module _ (asked : List Placed) (among : AreFormulasOf checked asked) (i : ℕ) (root : IsRootFor checked (question_of checked answers asked) i beside.0) where
       over : content.variables ≡ root.made.variables
       over =
           least.variables_are ∙ ap (λ orders. named orders s.variables) graph.is_dag.orders_are
-          ∙ ap (named graph.lowered.orders) (beside.2.variables ∙ sym root.variables) ∙ named_again graph.lowered.orders root.made.variables listed
+          ∙ ap (named graph.lowered.orders) (beside.2.variables ∙ sym root.variables)
+          ∙ named_again graph.lowered.orders root.made.variables (root_listed checked graph.lowered.orders graph.orders answers well asked among i beside.0 root)
 
       core_values : HasValues (core_meaning problem.given.imports root.made.formula) content
       core_values = HasValues-to (child_meaning (imports_of contents) dag.entries s.child) (core_meaning problem.given.imports root.made.formula) content
@@ -141,31 +142,47 @@ module _ (checked : Checked) (answers : Answers) (contents : List (Content Sign)
           sign_moves (CoreYes second root.made.formula) (CoreNo second root.made.formula) (CoreYes first root.made.formula) (CoreNo first root.made.formula) e one.0.1 one.1.1 one.0.0 one.1.0 sign made)
           least.values
 
-  -- the automaton of the main root has the main value
+    -- the automaton of the main root of a question has its value
+    question_value_of : (asked : List Placed) → AreFormulasOf checked asked → IsRootFor checked (question_of checked answers asked) 0 beside.0
+        → HasMainValue (question_of checked answers asked) content
+    question_value_of asked among r =
+        let question = question_of checked answers asked in
+        let same = subst (λ main. SameRoot problem.given.imports (length checked.globals) main r.made) r.is_root r.same in
+        let keeps = same_main_root_keeps_value checked answers asked r.made well among same in
+        let variables : content.variables ≡ variables_of problem.globals = over asked among 0 r ∙ keeps.0 in
+        record {
+          mode = least.mode_is;
+          variables = variables;
+          values = HasValues-to (core_meaning problem.given.imports r.made.formula) (main_meaning question) content
+              (λ word e sign assigned encodes means.
+              let here = subst (λ vs. IsAssignment checked.mode vs e) (variables ∙ sym keeps.0) (subst (λ mode. IsAssignment mode content.variables e) least.mode_is assigned) in
+              let value = keeps.1 e here in
+              sign_moves (CoreYes problem.given.imports r.made.formula) (CoreNo problem.given.imports r.made.formula) (RootYes question 0) (RootNo question 0) e
+              value.0.1 value.1.1 value.0.0 value.1.0 sign means)
+              (core_values asked among 0 r);
+        }
+
+  -- so does that of the main root of the source, and that of the root of a goal
+
   pub main_value_of : (s : SharedRoot) → slice_get dag.roots 0 ≡ Some s → (content : Content Sign)
-      → IsLeastOf checked.mode (named dag.orders s.variables) (child_meaning (imports_of contents) dag.entries s.child) content → HasMainValue problem content
+      → IsLeastOf checked.mode (named dag.orders s.variables) (child_meaning (imports_of contents) dag.entries s.child) content
+      → HasMainValue (main_question checked answers) content
   main_value_of s held content least =
-      let r = root 0 s held content least in
-      let same = subst (λ main. SameRoot problem.given.imports (length checked.globals) main r.made) r.is_root r.same in
-      let keeps = same_main_root_keeps_value checked answers r.made well same in
-      let listed = root_listed checked graph.lowered.orders graph.orders answers well graph.lists 0 (beside 0 s held content least).0 r in
-      let variables : content.variables ≡ variables_of problem.globals = over 0 s held content least listed ∙ keeps.0 in
-      record {
-        mode = least.mode_is;
-        variables = variables;
-        values = HasValues-to (core_meaning problem.given.imports r.made.formula) (main_meaning problem) content
-            (λ word e sign assigned encodes means.
-            let here = subst (λ vs. IsAssignment checked.mode vs e) (variables ∙ sym keeps.0) (subst (λ mode. IsAssignment mode content.variables e) least.mode_is assigned) in
-            let value = keeps.1 e here in
-            sign_moves (CoreYes problem.given.imports r.made.formula) (CoreNo problem.given.imports r.made.formula) (RootYes problem 0) (RootNo problem 0) e value.0.1 value.1.1 value.0.0 value.1.0 sign means)
-            (core_values 0 s held content least listed);
-      }
+      let root = beside 0 s held content least in question_value_of 0 s held content least (declared_in checked) (declared_asked checked) (graph.roots.main root.0 root.1)
+
+  pub goal_value_of : (j : ℕ) (goal : Placed) → slice_get (goals_in checked) j ≡ Some goal
+      → (s : SharedRoot) → slice_get dag.roots (suc (length checked.exports + j)) ≡ Some s → (content : Content Sign)
+      → IsLeastOf checked.mode (named dag.orders s.variables) (child_meaning (imports_of contents) dag.entries s.child) content
+      → HasMainValue (goal_question checked answers goal) content
+  goal_value_of j goal there s held content least =
+      let root = beside (suc (length checked.exports + j)) s held content least in
+      question_value_of (suc (length checked.exports + j)) s held content least (goal ∷ []) (goal_asked checked j goal there) (graph.roots.goals j goal root.0 there root.1)
 
   -- and that of the root of an export the value of what is exported
-  module _ (i : ℕ) (s : SharedRoot) (held : slice_get dag.roots (suc i) ≡ Some s) (content : Content Sign)
+  module _ (i : ℕ) (less : i < length checked.exports) (s : SharedRoot) (held : slice_get dag.roots (suc i) ≡ Some s) (content : Content Sign)
       (least : IsLeastOf checked.mode (named dag.orders s.variables) (child_meaning (imports_of contents) dag.entries s.child) content) where
     abbrev r : IsRootFor checked problem (suc i) (beside (suc i) s held content least).0
-    r = root (suc i) s held content least
+    r = let root = beside (suc i) s held content least in graph.roots.exports i root.0 less root.1
 
     abbrev pub own : List Variable
     own = r.own.variables
@@ -176,11 +193,8 @@ module _ (checked : Checked) (answers : Answers) (contents : List (Content Sign)
     pub exported : IsExported problem i formula
     exported = r.is_root.2
 
-    listed_here : Each (HasOrder graph.lowered.orders) r.made.variables
-    listed_here = root_listed checked graph.lowered.orders graph.orders answers well graph.lists (suc i) (beside (suc i) s held content least).0 r
-
     over_made : content.variables ≡ r.made.variables
-    over_made = over (suc i) s held content least listed_here
+    over_made = over (suc i) s held content least checked.formulas (whole_asked checked) (suc i) r
 
     same_orders : HaveSameOrders own r.made.variables
     same_orders = answer_orders (length checked.globals) own r.made.variables r.same.variables
@@ -212,7 +226,7 @@ module _ (checked : Checked) (answers : Answers) (contents : List (Content Sign)
     -- so over the export's variables the automaton has the value of what is exported
     pub export_values : IsAutomaton content → HasValues (form_meaning problem.given formula) (record content { variables = own })
     export_values automaton =
-        let values = core_values (suc i) s held content least listed_here in
+        let values = core_values (suc i) s held content least checked.formulas (whole_asked checked) (suc i) r in
         let globals = length checked.globals in
         let imports = problem.given.imports in
         let made = r.made.variables in

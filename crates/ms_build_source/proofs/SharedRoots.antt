@@ -13,6 +13,7 @@ use Rattle.ms_dag.specs.Laws.{HasOrder}
 use Rattle.ms_dag.specs.Lowered.{IsLoweredRoot}
 use Rattle.ms_logic.specs.declared.checked.Checked.{Checked}
 use Rattle.ms_logic.specs.declared.checked.Global.{Global}
+use Rattle.ms_logic.specs.declared.checked.Placed.{Placed}
 use Rattle.ms_logic_core.specs.declared.core_formula.Root as code
 use Rattle.ms_logic.specs.declared.mode.Order.{Order}
 use Rattle.ms_logic.specs.Assignment.{Variable}
@@ -21,9 +22,10 @@ use Rattle.ms_logic.specs.FreeVariables.{FreeUnder, IsListed}
 use Rattle.ms_logic_core.specs.Roots.{Export, IsRoot, Root, exports_among, exports_in, first_free}
 use Rattle.ms_logic.specs.Tree.{Form, truth, falsity, truth_variable, negation, conjunction, disjunction, implication, equivalence, comparison, set_comparison, membership, emptiness, quantified, where_let, call, restrict, imported, exported, default_at, Forms, no_forms, more_forms}
 use Rattle.ms_logic.specs.Truth.{Given}
-use Rattle.ms_logic.specs.View.{globals_from, problem_of, Answers}
+use Rattle.ms_logic.specs.Verdict.{Problem}
+use Rattle.ms_logic.specs.View.{globals_from, question_of, Answers}
 use Rattle.ms_lower.specs.Calling.{calls_of}
-use Rattle.ms_lower.specs.Lowered.{IsRootFor, ListsVariables, reads_of}
+use Rattle.ms_lower.specs.Lowered.{IsRootFor, reads_of}
 use Rattle.ms_lower.specs.NumberLaws.{numbering_in}
 use Rattle.ms_lower.specs.Numbering.{number_at, renumbered}
 use Rattle.ms_lower.specs.inner.Orders.{BoundHaveOrders}
@@ -34,12 +36,14 @@ use Rattle.ms_lower.proofs.SameNumbers.{numbers_rise}
 use Rattle.ms_names_rules.specs.Numbers.{AreNumbered, IsNew, IsNumbered, IsWellNumbered, Tables, globals_seen, tables_of}
 use Rattle.ms_logic.specs.Lists.{Each}
 use Rattle.ms_names_rules.proofs.Fitting.{each-append}
+use Rattle.ms_logic_spread.specs.RootLaws.{AreFormulasOf}
+use Rattle.ms_logic_spread.proofs.Questions.{asked_numbered}
 use Rattle.ms_logic_spread.proofs.Seen.{IsWithin, ReadSeen, free_seen}
 use Rattle.ms_logic_spread.proofs.SeenPredicates.{all_seen}
 use Rattle.ms_build_source.specs.inner.HandoverLaws.{SourcesAreShared}
 use Rattle.ms_build_source.proofs.Exported.{listed_below}
 use Rattle.ms_build_source.proofs.Shared.{all_ordered, each_by, renumbered_rise}
-use Rattle.ms_build_source.proofs.Unexported.{forms_numbered}
+use Rattle.ms_build_source.proofs.Questions.{asked_by, reads_globals}
 
 -- the free variables of exports that have numbers of globals are globals
 
@@ -137,36 +141,38 @@ module _ (checked : Checked) (orders : List Order) (are : orders ≡ map (λ g. 
   have_orders kept (v ∷ vs) are_globals =
       (has_order kept v (λ inside. are_globals v (inl (refl, refl)) inside), have_orders kept vs (λ w listed inside. are_globals w (inr listed) inside))
 
-  module _ (answers : Answers) (well : IsWellNumbered checked) (lists : ListsVariables checked (problem_of checked answers)) where
+  module _ (answers : Answers) (well : IsWellNumbered checked) (asked : List Placed) (among : AreFormulasOf checked asked) where
+    abbrev question : Problem
+    question = question_of checked answers asked
+
     -- a variable of a root that has the number of a global is one
-    are_globals : (k : ℕ) (own : Root) → IsRoot (problem_of checked answers) k own → (v : Variable) → IsListed own.variables v → v.name < min (length checked.globals) (first_free own.variables) → IsListed (globals_seen checked) v
+    are_globals : (k : ℕ) (own : Root) → IsRoot question k own → (v : Variable) → IsListed own.variables v → v.name < min (length checked.globals) (first_free own.variables) → IsListed (globals_seen checked) v
     are_globals zero own is v listed inside = subst (λ (s : Root). IsListed s.variables v) is listed
     are_globals (suc i) own is v listed inside =
-        let problem = problem_of checked answers in
         let tables = tables_of checked in
         let globals = length checked.globals in
         let seen = globals_seen checked in
         let all : (x : ℕ) → x < globals → (o : Order) × IsListed seen (record { name = x; order = o }) = λ x less. global_listed 0 checked.globals x (omega arith) (omega (arith, less)) in
         let reads = all_seen tables seen answers well.predicates in
-        let keeps = each_keeps tables problem.given (length tables.predicates) seen reads globals all problem.formulas seen (λ w there. there)
-        (forms_numbered tables (length tables.predicates) seen checked.formulas well.formulas) (λ w there less. there) in
-        let here = All-contains (FreeKeeps tables problem.given (length tables.predicates) seen reads globals all) (exports_among problem.formulas) (record { number = i; formula = is.0 })
-        (each_all (FreeKeeps tables problem.given (length tables.predicates) seen reads globals all) (exports_among problem.formulas) keeps) is.2 in
+        let keeps = each_keeps tables question.given (length tables.predicates) seen reads globals all question.formulas seen (λ w there. there)
+        (asked_numbered checked well asked among) (λ w there less. there) in
+        let here = All-contains (FreeKeeps tables question.given (length tables.predicates) seen reads globals all) (exports_among question.formulas) (record { number = i; formula = is.0 })
+        (each_all (FreeKeeps tables question.given (length tables.predicates) seen reads globals all) (exports_among question.formulas) keeps) is.2 in
         let own_variables : own.variables ≡ is.1 = ap (λ (s : Root). s.variables) is.4 in
         here v ((is.3.free v).0 (subst (λ vs. IsListed vs v) own_variables listed)) (omega (arith, inside))
 
     -- the variables of a root have their orders
-    pub root_listed : (k : ℕ) (root : code.Root) (r : IsRootFor checked (problem_of checked answers) k root) → Each (HasOrder orders) r.made.variables
+    pub root_listed : (k : ℕ) (root : code.Root) (r : IsRootFor checked question k root) → Each (HasOrder orders) r.made.variables
     root_listed k root r =
         subst (λ (s : Root). Each (HasOrder orders) s.variables) (sym r.numbers)
         (have_orders (min (length checked.globals) (first_free r.own.variables)) r.own.variables (are_globals k r.own r.is_root))
 
-    root_lowered : (k : ℕ) (root : code.Root) → IsRootFor checked (problem_of checked answers) k root →
-        IsLoweredRoot (problem_of checked answers).given.imports (calls_of (length checked.globals) (problem_of checked answers).given) orders root
+    root_lowered : (k : ℕ) (root : code.Root) → IsRootFor checked question k root →
+        IsLoweredRoot question.given.imports (calls_of (length checked.globals) question.given) orders root
     root_lowered k root r =
-        let given = (problem_of checked answers).given in
+        let given = question.given in
         let globals = length checked.globals in
-        let known = root_scopes checked answers k r.own r.is_root lists in
+        let known = root_scopes checked answers asked k r.own r.is_root (reads_globals checked answers well asked among) in
         let n = numbering_in globals given.imports r.own in
         let kept = min globals (first_free r.own.variables) in
         let listed = root_listed k root r in
@@ -187,6 +193,7 @@ module _ (checked : Checked) (orders : List Order) (are : orders ≡ map (λ g. 
         }
 
 pub sources_are_shared : SourcesAreShared
-sources_are_shared checked answers lowered well lists has are = record {
-  roots = each_by _ lowered.roots (λ k root is. root_lowered checked lowered.orders are answers well lists k root (has.each k root is));
+sources_are_shared checked answers lowered well has are = record {
+  roots = each_by _ lowered.roots (λ k root is.
+      let r = asked_by (IsRootFor checked) checked answers lowered.roots has k root is in root_lowered checked lowered.orders are answers well r.0 r.1 r.2.0 root r.2.1);
 }

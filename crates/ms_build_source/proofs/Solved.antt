@@ -1,8 +1,9 @@
 -- What the graph of a source gives where it is built for lent automata.
 use Rattle.std.proofs.Common.{◌≡◌, ◌⊎◌, inl, inr, ℕ, suc, ◌+◌, Option, Some, None, ◌<◌, ◌≤◌, List, [], ◌∷◌, length, map, refl, sym, ap, subst, ◌∙◌, arith}
 use Rattle.std.proofs.lemmas.List.{length-map}
+use Rattle.std.specs.List.{AllZip}
 use Rattle.ms_build.specs.declared.built.Built.{Built}
-use Rattle.ms_build.specs.Built.{AreImportsOf, IsBuiltOver, IsLimit}
+use Rattle.ms_build.specs.Built.{AreImportsOf, IsBuiltOver, IsLimit, IsWithin}
 use Rattle.ms_build.specs.Short.{IsPlanOf, IsStepRefused, IsUnbuilt, NodeLacks, RootLacks}
 use Rattle.ms_build.specs.declared.plan.Plan.{Plan}
 use Rattle.ms_build.specs.Roots.{AreRootsRead, IsRootAt}
@@ -19,27 +20,30 @@ use Rattle.ms_edge.specs.declared.refusal.Refusal.TheVariants.{Memory, Nodes}
 use Rattle.ms_build_source.proofs.ImportsOfExports.{all_roots_import}
 use Rattle.ms_logic.specs.declared.checked.Checked.{Checked}
 use Rattle.ms_logic.specs.declared.checked.ExportUse.{ExportUse}
+use Rattle.ms_logic.specs.declared.checked.Placed.{Placed}
 use Rattle.ms_logic.specs.declared.checked.ImportUse.{ImportUse}
 use Rattle.ms_logic.specs.declared.mode.Mode.{Mode}
 use Rattle.ms_logic_words.specs.declared.sign.Sign.{Sign}
 use Rattle.ms_logic_words.specs.Content.{Content, answer_of}
 use Rattle.ms_logic_words.specs.Signs.{answer_for}
 use Rattle.ms_logic_core.specs.Size.{depth_of_source, size_of_source}
-use Rattle.ms_logic.specs.View.{problem_of, Answers}
+use Rattle.ms_logic.specs.View.{goal_question, goals_in, main_question, problem_of, Answers}
 use Rattle.ms_logic.specs.Lists.{Each}
 use Rattle.ms_names_rules.specs.Numbers.{IsWellNumbered}
 use Rattle.ms_build_source.specs.CallsOfSources.{silent_answers}
 use Rattle.ms_build_source.proofs.CallLemmas.{silent_counted}
-use Rattle.ms_build_source.specs.inner.Copies.{AreAskedCopies, HaveRoots, IsReady, IsRootRefused}
+use Rattle.ms_build_source.specs.inner.Copies.{AreAskedCopies, AreRootsFrom, HaveRoots, IsReady, IsRootRefused}
 use Rattle.ms_build_source.specs.Graph.{IsGraphOf, calls_in}
 use Rattle.ms_build_source.specs.Imported.{AreAnswersOf, AreLentFor}
 use Rattle.ms_build_source.specs.Limits.{IsUnsolved, IsWithinLimits, lacks_nodes}
 use Rattle.ms_build_source.specs.Solution.{HasExports, IsSpellable}
 use Rattle.ms_build_source.specs.Values.{HasMainValue}
-use Rattle.ms_build_source.proofs.ExportFiles.{all_exports, all_spellable, main_root_value}
+use Rattle.ms_build_source.proofs.ExportFiles.{all_exports, all_spellable, goal_root_value, main_root_value}
+use Rattle.ms_build_source.proofs.GoalRoots.{zip_by}
 use Rattle.ms_build_source.proofs.Graphs.{graph_within}
 use Rattle.ms_build_source.proofs.ImportAnswers.{lent_to_nodes}
 use Rattle.ms_build_source.proofs.RootNames.{all_have_roots, count_of_roots}
+use Rattle.ms_build_source.proofs.Shared.{each_by}
 
 -- there are as many answers as imports
 pub answers_counted : (mode : Mode) (uses : List ImportUse) (answers : Answers) (contents : List (Content Sign)) → AreAnswersOf mode uses answers contents → length answers ≡ length uses
@@ -94,12 +98,11 @@ module _ (checked : Checked) (well : IsWellNumbered checked) (exports : ListsFre
   pub few_nodes : length dag.entries ≤ 4294967295
   few_nodes = let small = graph.is_dag.graph.small in omega (arith, small)
 
-  pub few_exports : length checked.exports < 4294967295
-  few_exports =
-      let small = graph.is_dag.graph.small in
-      let count = count_of_roots checked answers long well exports dag graph in
-      let roots = length-map dag.roots (λ (root : SharedRoot). root.child) in
-      omega (arith, small, count, roots)
+  pub few_roots : length dag.roots ≤ 4294967295
+  few_roots = let small = graph.is_dag.graph.small in let roots = length-map dag.roots (λ (root : SharedRoot). root.child) in omega (arith, small, roots)
+
+  pub exports_before : length checked.exports < length dag.roots
+  exports_before = let count = count_of_roots checked answers long well exports dag graph in omega (arith, count)
 
   pub nodes_lent : AreImportsOf contents checked.mode dag.entries
   nodes_lent =
@@ -120,11 +123,6 @@ module _ (checked : Checked) (well : IsWellNumbered checked) (exports : ListsFre
       read = subst AreRootsRead (sym over.dag_is) (roots_read (problem_of checked answers).given.imports (calls_in checked answers) graph.lowered dag graph.is_lowered graph.is_dag);
     }
 
-    pub some_root : 0 < length built.plan.dag.now.roots
-    some_root =
-        let count = count_of_roots checked answers long well exports dag graph in
-        subst (λ (d : Dag). 0 < length d.roots) (sym over.dag_is) (omega (arith, count))
-
     pub have_roots : HaveRoots built.plan 1 checked.exports
     have_roots = all_have_roots checked answers long well exports dag graph contents checked.mode built over
 
@@ -133,12 +131,27 @@ module _ (checked : Checked) (answers : Answers) (contents : List (Content Sign)
   abbrev counted : length answers ≡ length checked.imports
   counted = answers_counted checked.mode checked.imports answers contents are
 
-  pub value_of_main : (content : Content Sign) → IsRootAt built.plan 0 content → HasMainValue (problem_of checked answers) content
+  pub value_of_main : (content : Content Sign) → IsRootAt built.plan 0 content → HasMainValue (main_question checked answers) content
   value_of_main = main_root_value checked answers contents lent counted are well exports dag graph built over
+
+  pub values_of_goals : (limit : ℕ) (uses : List ExportUse) → uses ≡ checked.exports → (goals : List (Content Sign)) → AreRootsFrom limit built.plan (length uses + 1) goals
+      → AllZip (λ (goal : Placed) (content : Content Sign). HasMainValue (goal_question checked answers goal) content) (goals_in checked) goals
+  values_of_goals limit uses same goals roots =
+      let count = count_of_roots checked answers counted well exports dag graph in
+      let all = roots.all ∙ ap (λ (d : Dag). length d.roots) over.dag_is in
+      let long = ap (λ (l : List ExportUse). length l) same in
+      zip_by (λ (goal : Placed) (content : Content Sign). HasMainValue (goal_question checked answers goal) content) (goals_in checked) goals (omega (arith, count, all, long))
+      (λ j goal content held there.
+      let place : length uses + 1 + j ≡ suc (length checked.exports + j) = omega (arith, long) in
+      goal_root_value checked answers contents lent counted are well exports dag graph built over j goal held content
+      (subst (λ r. IsRootAt built.plan r content) place (roots.each j content there).0))
 
   pub exports_asked : (asked : Option FileVersion) (plains : List Plain) → AreAskedCopies asked built.plan checked.exports plains → HasExports asked (problem_of checked answers) checked.exports plains
   exports_asked None plains copies = copies
   exports_asked (Some version) plains copies = all_exports checked answers contents lent counted are well exports dag graph built over version plains copies
+
+pub goals_within : (limit : ℕ) (plan : Plan) (first : ℕ) (goals : List (Content Sign)) → AreRootsFrom limit plan first goals → Each (IsWithin limit) goals
+goals_within limit plan first goals roots = each_by (IsWithin limit) goals (λ k content held. (roots.each k content held).1)
 
 pub spellable_asked : (asked : Option FileVersion) (plan : Plan) (uses : List ExportUse) (plains : List Plain) → AreAskedCopies asked plan uses plains → Each IsSpellable plains
 spellable_asked None plan uses plains none = subst (Each IsSpellable) (sym none) tt

@@ -1,22 +1,19 @@
 -- A source whose numbers are in order and that exports nothing lists its variables.
-use Rattle.std.proofs.Common.{◌≡◌, ℕ, ◌+◌, ◌≤◌, ⊎_elim, List, [], ◌∷◌, ◌++◌, flat_map, length, map, slice_get, refl, sym, ap, subst, ◌∙◌, arith}
+use Rattle.std.proofs.Common.{◌≡◌, ℕ, ◌+◌, ◌≤◌, List, [], ◌∷◌, ◌++◌, flat_map, length, map, slice_get, refl, sym, ap, subst, ◌∙◌, arith}
 use Rattle.std.proofs.lemmas.Option.{none-some}
-use Rattle.ms_logic.specs.declared.checked.Checked.{Checked}
 use Rattle.ms_logic.specs.declared.checked.ExportUse.{ExportUse}
 use Rattle.ms_logic.specs.declared.checked.Placed.{Placed}
 use Rattle.ms_logic.specs.Assignment.{Variable}
-use Rattle.ms_logic.specs.FreeVariables.{FreeInRestrictions, IsListed}
 use Rattle.ms_logic_core.specs.Roots as roots
-use Rattle.ms_logic.specs.Tree.{Form, truth, falsity, truth_variable, negation, conjunction, disjunction, implication, equivalence, comparison, set_comparison, membership, emptiness, quantified, where_let, call, restrict, imported, exported, default_at, Forms, no_forms, more_forms, Declaration}
+use Rattle.ms_logic.specs.Tree.{Form, truth, falsity, truth_variable, negation, conjunction, disjunction, implication, equivalence, comparison, set_comparison, membership, emptiness, quantified, where_let, call, restrict, imported, exported, default_at, Forms, no_forms, more_forms}
 use Rattle.ms_logic.specs.Truth.{Given}
-use Rattle.ms_logic.specs.View.{formula_of, forms, globals_from, problem_of, Answers}
-use Rattle.ms_lower.specs.Lowered.{ExportsFit, ExportsFitEach, reads_of}
+use Rattle.ms_logic.specs.View.{formula_of, forms, problem_of}
+use Rattle.ms_lower.specs.Lowered.{ExportsFit, ExportsFitEach}
 use Rattle.ms_names_rules.specs.Numbers as numbers
 use Rattle.ms_names_rules.specs.Numbers.{AreNumbered, CountUp, IsNumbered, IsNumberedRestriction, IsWellNumbered, globals_seen, tables_of}
-use Rattle.ms_logic.specs.Lists.{Each}
-use Rattle.ms_logic_spread.proofs.Seen.{forms_seen, restriction_seen}
-use Rattle.ms_logic_spread.proofs.SeenPredicates.{all_seen}
+use Rattle.ms_logic_spread.proofs.Questions.{whole_asked}
 use Rattle.ms_build_source.specs.inner.HandoverLaws.{SourcesWithoutExportsListVariables}
+use Rattle.ms_build_source.proofs.Questions.{reads_globals}
 
 -- lists that are empty together are empty
 both_empty : {X : Type 0} (xs ys : List X) → xs ++ ys ≡ [] → (xs ≡ []) × (ys ≡ [])
@@ -110,28 +107,13 @@ none_placed (p ∷ placed) none =
     let both = both_empty (numbers.exports_in (formula_of p.formula)) (flat_map (λ q. numbers.exports_in (formula_of q.formula)) placed) none in
     ap (λ list. list ++ numbers.exports_in_all (forms (map (λ q. formula_of q.formula) placed))) both.0 ∙ none_placed placed both.1
 
-pub forms_numbered : (tables : numbers.Tables) (bound : ℕ) (seen : List Variable) (placed : List Placed) → Each (λ p. IsNumbered tables bound seen (formula_of p.formula)) placed
-    → AreNumbered tables bound seen (forms (map (λ p. formula_of p.formula) placed))
-forms_numbered tables bound seen [] each = tt
-forms_numbered tables bound seen (p ∷ placed) each = (each.0, forms_numbered tables bound seen placed each.1)
-
-module _ (checked : Checked) (answers : Answers) (well : IsWellNumbered checked) where
-  pub globals_read : (ds : List Declaration) → Each (λ d. IsNumberedRestriction (tables_of checked) (length (tables_of checked).predicates) (globals_seen checked) d.restriction) ds → (w : Variable)
-      → FreeInRestrictions (reads_of (problem_of checked answers).given) ds w → IsListed (globals_seen checked) w
-  globals_read [] each w free = absurd free
-  globals_read (d ∷ ds) each w free = ⊎_elim
-      (restriction_seen (tables_of checked) (reads_of (problem_of checked answers).given) (length (tables_of checked).predicates) (globals_seen checked)
-      (all_seen (tables_of checked) (globals_seen checked) answers well.predicates) d.restriction (globals_seen checked) (λ v listed. listed) each.0 w)
-      (globals_read ds each.1 w) free
-
 pub lists_variables : SourcesWithoutExportsListVariables
 lists_variables checked answers well unexported =
     let none = none_placed checked.formulas (counts_none _ (subst (CountUp 0 _) unexported well.exports)) in
+    let reads = reads_globals checked answers well checked.formulas (whole_asked checked) in
     record {
-      restrictions = globals_read checked answers well (globals_from 0 checked.globals) well.globals;
-      formulas = forms_seen (tables_of checked) (reads_of (problem_of checked answers).given) (length (tables_of checked).predicates) (globals_seen checked)
-          (all_seen (tables_of checked) (globals_seen checked) answers well.predicates) (problem_of checked answers).formulas (globals_seen checked) (λ v listed. listed)
-          (forms_numbered (tables_of checked) (length (tables_of checked).predicates) (globals_seen checked) checked.formulas well.formulas);
+      restrictions = reads.restrictions;
+      formulas = reads.formulas;
       numbers = subst (λ list. CountUp 0 (map (λ e. e.number) list) (length checked.exports)) (sym (none_among (problem_of checked answers).formulas none)) (sym unexported);
       fit = fits_among (problem_of checked answers).given checked.exports (problem_of checked answers).formulas _ none;
     }

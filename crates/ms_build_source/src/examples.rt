@@ -1,4 +1,4 @@
-//! Worked examples of what gives a value, and of the limits. The functions have empty bodies, and their contracts state the examples.
+//! Worked examples of what gives a value, of the limits, and of solutions. The functions have empty bodies, and their contracts state the examples.
 
 ghost use Rattle.std.specs.Prelude.{[], ◌∷◌, codes};
 ghost use Rattle.ms_dfa.specs.declared.plain.FileVersion.TheVariants.{One, Two};
@@ -8,10 +8,12 @@ ghost use Rattle.ms_logic.specs.inner.Examples.{nothing_given, set_P, set_P_and_
 ghost use Rattle.ms_logic.specs.Tree.{negation};
 ghost use Rattle.ms_logic.specs.Truth.{answer_no, answer_yes};
 ghost use Rattle.ms_logic.specs.View.{problem_of};
+ghost use Rattle.ms_logic.specs.declared.formula.Formula.TheVariants.{False, True};
 ghost use Rattle.ms_logic.specs.declared.mode.Mode.TheVariants.{M2lStr, Ws1s};
-ghost use Rattle.ms_build_source.specs.inner.Examples.{P_and_Q, import_of_sets, second_subset_file, sets_checked, subset_file, subset_file_with};
+ghost use Rattle.ms_build_source.specs.inner.Examples.{P_and_Q, import_of_sets, second_subset_file, sets_checked, sets_solution, sets_with_goal, subset_file, subset_file_with};
 ghost use Rattle.ms_build_source.specs.Imported.{IsAnswerOf, IsLentFor};
 ghost use Rattle.ms_build_source.specs.Limits.{IsWithinLimits};
+ghost use Rattle.ms_build_source.specs.Solution.{IsSolution};
 ghost use Rattle.ms_build_source.specs.Values.{GivesValue, IsFileOf, content_over, form_meaning};
 
 /// Files that give the value of a formula over P and Q, and files that do not.
@@ -50,4 +52,11 @@ pub fn worked_imports()
 /// The source `var2 P, Q;` is within the limits.
 pub fn worked_limits()
     ensures within { IsWithinLimits (problem_of sets_checked []) }
+{}
+
+/// Solutions of the source `var2 P, Q; true; goal "always" f;`, where `f` is `true`, and where it is `false`.
+pub fn worked_solutions()
+    ensures solved { IsSolution (sets_with_goal True) [] (sets_solution (encodings_content ∷ [])) }
+    ensures no_goal { ¬ IsSolution (sets_with_goal True) [] (sets_solution []) }
+    ensures wrong_goal { ¬ IsSolution (sets_with_goal False) [] (sets_solution (encodings_content ∷ [])) }
 {}

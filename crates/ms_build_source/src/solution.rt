@@ -1,5 +1,5 @@
 ghost use Rattle.std.specs.Prelude.{◌≡◌, ◌⊎◌, ◌+◌, ◌≤◌, length, map, IfOk, IfErr};
-ghost use Rattle.ms_build.specs.Built.{IsLimit};
+ghost use Rattle.ms_build.specs.Built.{IsLimit, IsWithin};
 ghost use Rattle.ms_names_checked.specs.Exports.{ListsFreeVariables};
 ghost use Rattle.ms_logic.specs.View.{problem_of, Answers};
 ghost use Rattle.ms_logic.specs.Lists.{Each};
@@ -9,7 +9,7 @@ ghost use Rattle.ms_build_source.specs.Limits.{IsUnsolved, IsWithinLimits};
 ghost use Rattle.ms_build_source.specs.Solution.{HasExports, IsNamed, IsSolution, IsSpellable};
 
 use crate::graph::graph_of;
-use crate::roots::{asked_copies, root_of};
+use crate::roots::{Asking, RootAutomata, root_automata};
 use ms_build::build;
 use ms_dfa::{Automaton, FileVersion, Plain};
 use ms_edge::Refusal;
@@ -17,11 +17,13 @@ use ms_list::{List, Name, NoMemory, push};
 use ms_logic::Checked;
 use std::alloc::Global;
 
-/// The automaton of the main value of a source over its globals, with their names, the source's size and depth, and the
-/// canonical contents of its exports, in order.
+/// The automaton of the main value of a source over its globals, with their names, and those of the values of its goals; the
+/// source's size and depth; and the canonical contents of its exports, in order.
 #[derive(Drop)]
 pub struct Solution {
     pub automaton: Automaton,
+    /// The automaton of each goal over the globals, in the order of the source.
+    pub goals: List<Automaton>,
     pub names: List<Name>,
     pub size: u64,
     pub depth: u32,
@@ -54,12 +56,13 @@ pub fn solve(
     requires imports { AreLentFor checked.now.mode checked.now.imports imports.now }
     requires limit { IsLimit limit }
     ensures solution { IfOk result (λ made. (answers : Answers) → AreAnswersOf checked.now.mode checked.now.imports answers imports.now →
-        IsSolution (problem_of checked.now answers) (map (λ g. g.name) checked.now.globals) made) }
+        IsSolution checked.now answers made) }
     ensures exports { IfOk result (λ made. (answers : Answers) → AreAnswersOf checked.now.mode checked.now.imports answers imports.now →
         HasExports exports (problem_of checked.now answers) checked.now.exports made.exports) }
     ensures spellable { IfOk result (λ made. Each IsSpellable made.exports) }
     ensures named { IfOk result IsNamed }
     ensures fits { IfOk result (λ made. length made.automaton.nodes + length made.automaton.states ≤ limit) }
+    ensures goals_fit { IfOk result (λ made. Each (IsWithin limit) made.goals) }
     ensures within { IfOk result (λ made. (answers : Answers) → IsWithinLimits (problem_of checked.now answers)) }
     ensures refused { IfErr result (λ refusal. (answers : Answers) → length answers ≡ length checked.now.imports →
         (refusal ≡ Refusal.Memory) ⊎ IsUnsolved checked.now answers imports.now limit refusal) }
@@ -72,16 +75,23 @@ pub fn solve(
         Ok(built) => built,
         Err(refusal) => return Err(refusal),
     };
-    let automaton = match root_of(&built, 0, limit) {
-        Ok(automaton) => automaton,
+    let asking = Asking {
+        roots: graph.dag.roots(),
+        limit,
+        exports,
+    };
+    let made = match root_automata(alloc, &built, checked.exports.slice(), asking) {
+        Ok(made) => made,
         Err(refusal) => return Err(refusal),
     };
-    let copies = match asked_copies(alloc, &built, checked.exports.slice(), limit, exports) {
-        Ok(copies) => copies,
-        Err(refusal) => return Err(refusal),
-    };
+    let RootAutomata {
+        automaton,
+        goals,
+        copies,
+    } = made;
     Ok(Solution {
         automaton,
+        goals,
         names,
         size: graph.size,
         depth: graph.depth,

@@ -25,7 +25,7 @@ module _ (number : ℕ) (name : List ℕ) (is : IsNumber number) where
     no_fault = ap (first_fault_of Ws1s) (source-seen last) ∙ no-fault last small;
     checked = checked last name;
     is_typed = is-typed last small name;
-    within = record { imports = refl; exports = refl; depth = omega (arith, depth-is last name); size = omega (arith, size-is last name, small) };
+    within = record { imports = refl; exports = refl; goals = refl; depth = omega (arith, depth-is last name); size = omega (arith, size-is last name, small) };
   }
 
 pub sources-are-accepted : GeneratedSourcesAreAccepted

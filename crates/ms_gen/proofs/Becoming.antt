@@ -136,9 +136,9 @@ abbrev pub second : ℕ → Known
 second last = after_declaration (first last) (globals (plain (set_names sets_start last)))
 
 abbrev pub third : ℕ → Known
-third last = after_declaration (second last) (formula (seen_chain last))
+third last = after_declaration (second last) (formula None (seen_chain last))
 
-no-faults : (k : Known) (e : Expression) → IsHarmless (occurrences k.scope k.before formula_wanted e) → faults_in k (formula e) ≡ []
+no-faults : (k : Known) (e : Expression) → IsHarmless (occurrences k.scope k.before formula_wanted e) → faults_in k (formula None e) ≡ []
 no-faults k e h = λ i. h.faults i ++ faults_of_exports k.files (h.exports i)
 
 sets-keep : (s : Scope) (n : ℕ) → (set_scope s n).default_of_numbers ≡ s.default_of_numbers

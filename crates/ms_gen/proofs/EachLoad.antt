@@ -1,5 +1,5 @@
 -- Each load of a generated text is what it is expected to be.
-use Rattle.std.proofs.Common.{◌≡◌, ◌≤◌, ℕ, ◌-◌, true, List, [], None, map, refl, sym, ap, ◌∙◌, subst}
+use Rattle.std.proofs.Common.{◌≡◌, ◌≤◌, ℕ, ◌-◌, true, List, [], ◌∷◌, None, map, refl, sym, ap, ◌∙◌, subst}
 use Rattle.ms_gen.specs.Generated.{IsNumber, generated}
 use Rattle.ms_text.proofs.OneFault.{one_list}
 use Rattle.ms_logic.specs.declared.checked.Checked.{Checked}
@@ -7,7 +7,7 @@ use Rattle.ms_logic.specs.declared.mode.Mode.TheVariants.{Ws1s}
 use Rattle.ms_logic.specs.declared.source.Loaded.{Loaded}
 use Rattle.ms_logic_core.specs.Size.{depth_of_source, size_of_source}
 use Rattle.ms_logic.specs.Verdict.{IsValid}
-use Rattle.ms_logic.specs.View.{problem_of}
+use Rattle.ms_logic.specs.View.{goals_in, main_question, problem_of}
 use Rattle.ms_parse_grammar.specs.Declarations.{Reads}
 use Rattle.ms_parse_grammar.specs.Symbol.{symbols}
 use Rattle.ms_parse_grammar.specs.Tree.{Document}
@@ -19,14 +19,18 @@ use Rattle.ms_names_rules.specs.TypedSource.{IsTyped, exports_of_source, formula
 use Rattle.ms_names_rules.specs.View.{placed_of}
 use Rattle.ms_gen.specs.inner.AcceptanceLaws.{GeneratedSourcesAreValid, GeneratedSourcesHaveNoFault}
 use Rattle.ms_gen.proofs.Accepting.{accepted}
-use Rattle.ms_gen.proofs.Alike.{imports-alike, problems-alike}
 use Rattle.ms_gen.proofs.Pieces.{tokens_from}
 use Rattle.ms_gen.proofs.Loading.{document-read, tokens-are}
 use Rattle.ms_include_laws.specs.inner.trees.Shown.{shown_declared}
+use Rattle.ms_include_laws.proofs.of_loads.Typing.{one_main_question, one_problem, same_goals_asked}
 use Rattle.ms_include_laws.proofs.of_trees.ShownLemmas.{items-shown}
 use Rattle.ms_gen.proofs.Source.{source}
 use Rattle.ms_gen.proofs.Spelling.{pieces}
 use Rattle.ms_gen.proofs.Validity.{valid}
+
+none-mapped : {A B : Type 0} (f : A → B) (xs : List A) → map f xs ≡ [] → xs ≡ []
+none-mapped f [] none = refl
+none-mapped f (x ∷ xs) none = let never : ⊥ = cc in absurd never
 
 typed-alike : (l k : Loaded) (c : Checked) → l.mode ≡ k.mode → map placed_of l.items ≡ map placed_of k.items → l.files ≡ k.files → IsTyped l c → IsTyped k c
 typed-alike l k c modes items files typed = record {
@@ -68,13 +72,19 @@ module _ (number : ℕ) (name : List ℕ) (is : IsNumber number) (loaded : Loade
 
   module _ (checked : Checked) (typed : IsTyped loaded checked) where
     same-problem : problem_of (accepted number name is).checked [] ≡ problem_of checked []
-    same-problem = sym (problems-alike loaded checked (accepted number name is).checked typed typed-here refl)
+    same-problem = one_problem loaded (accepted number name is).checked checked [] typed-here typed
+
+    same-question : main_question (accepted number name is).checked [] ≡ main_question checked []
+    same-question = one_main_question loaded (accepted number name is).checked checked [] typed-here typed
 
     no-imports : checked.imports ≡ []
-    no-imports = imports-alike loaded checked (accepted number name is).checked typed typed-here refl
+    no-imports = typed.imports_are ∙ sym typed-here.imports_are
 
     no-exports : checked.exports ≡ []
     no-exports = typed.exports_are ∙ sym typed-here.exports_are
+
+    no-goals : goals_in checked ≡ []
+    no-goals = none-mapped _ (goals_in checked) (same_goals_asked loaded checked (accepted number name is).checked [] typed typed-here)
 
 pub sources-have-no-fault : GeneratedSourcesHaveNoFault
 sources-have-no-fault number name loaded is loads = no-fault-here number name is loaded loads
@@ -86,8 +96,9 @@ sources-are-valid number name loaded checked is loads typed =
       record {
         imports = no-imports number name is loaded loads checked typed;
         exports = no-exports number name is loaded loads checked typed;
+        goals = no-goals number name is loaded loads checked typed;
         depth = subst (λ problem. depth_of_source problem ≤ 300) same limits.depth;
         size = subst (λ problem. size_of_source problem ≤ 1000000) same limits.size;
       },
-      subst IsValid same (valid (number - 1) name),
+      subst IsValid (same-question number name is loaded loads checked typed) (valid (number - 1) name),
     )

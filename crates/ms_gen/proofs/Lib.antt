@@ -1,5 +1,4 @@
 pub mod Accepting
-pub mod Alike
 pub mod Becoming
 pub mod EachLoad
 pub mod Judged

@@ -1,5 +1,5 @@
 -- The source as the rules see it.
-use Rattle.std.proofs.Common.{rules, ◌≡◌, ℕ, zero, suc, ◌+◌, List, [], ◌∷◌, ◌++◌, codes, map, ap, ◌∙◌}
+use Rattle.std.proofs.Common.{rules, ◌≡◌, ℕ, zero, suc, ◌+◌, List, [], ◌∷◌, ◌++◌, codes, map, None, ap, ◌∙◌}
 use Rattle.std.proofs.lemmas.List.{map-append}
 use Rattle.ms_gen.specs.Generated.{name_of}
 use Rattle.ms_list.specs.declared.at.At.{At}
@@ -87,8 +87,8 @@ seen_free start last =
 abbrev pub seen : ℕ → List Placed
 seen last =
     record { at = at 6; declaration = globals (plain (set_names sets_start last)) }
-    ∷ record { at = at (chain_start last + 1); declaration = formula (seen_chain last) }
-    ∷ record { at = at (free_start last + 1); declaration = formula (seen_free (free_start last) last) }
+    ∷ record { at = at (chain_start last + 1); declaration = formula None (seen_chain last) }
+    ∷ record { at = at (free_start last + 1); declaration = formula None (seen_free (free_start last) last) }
     ∷ []
 
 -- what the code stands for
@@ -171,6 +171,6 @@ module _ (last : ℕ) where
   pub source-seen : map placed_of (source last).items ≡ seen last
   source-seen = λ i.
       record { at = at 6; declaration = globals (sets-seen sets_start last i) }
-      ∷ record { at = at (chain_start last + 1); declaration = formula (chain-seen i) }
-      ∷ record { at = at (free_start last + 1); declaration = formula (free-seen (free_start last) i) }
+      ∷ record { at = at (chain_start last + 1); declaration = formula None (chain-seen i) }
+      ∷ record { at = at (free_start last + 1); declaration = formula None (free-seen (free_start last) i) }
       ∷ []

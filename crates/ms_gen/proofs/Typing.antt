@@ -108,8 +108,8 @@ checked last name = record {
   predicates = [];
   imports = [];
   exports = [];
-  formulas = record { at = at (chain_start last + 1); item = 1; formula = chain_made last }
-      ∷ record { at = at (free_start last + 1); item = 2; formula = free_made (x_number last) last }
+  formulas = record { at = at (chain_start last + 1); item = 1; title = None; formula = chain_made last }
+      ∷ record { at = at (free_start last + 1); item = 2; title = None; formula = free_made (x_number last) last }
       ∷ [];
   files = name ∷ [];
 }
@@ -129,7 +129,7 @@ module _ (last : ℕ) (small : last ≤ 2000) where
       ++ ((chain-stands last small).harmless.exports i ++ ((free-stands last small).exports i ++ [])))
 
   abbrev one_formula : At → ℕ → Form → TypedFormula
-  one_formula there item f = record { at = there; item = item; formula = f }
+  one_formula there item f = record { at = there; item = item; title = None; formula = f }
 
   formulas-seen : Some (one_formula (at (chain_start last + 1)) 1 (formula_of (chain_made last))) ∷ Some (one_formula (at (free_start last + 1)) 2 (formula_of (free_made (x_number last) last))) ∷ []
       ≡ formulas_of_source Ws1s (seen last)

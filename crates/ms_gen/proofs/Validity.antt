@@ -14,7 +14,7 @@ use Rattle.ms_logic.specs.Tree as tree
 use Rattle.ms_logic.specs.Tree.{Form, Forms, no_forms, more_forms}
 use Rattle.ms_logic.specs.Truth.{AllDefined, AllMet, AllYes, Meanings, NoUnder, SomeNo, YesUnder, meanings_of}
 use Rattle.ms_logic.specs.Verdict.{Assigns, IsValid, MainYes, Problem, variables_of}
-use Rattle.ms_logic.specs.View.{forms, globals_from, problem_of}
+use Rattle.ms_logic.specs.View.{forms, globals_from, main_question}
 use Rattle.ms_logic.specs.Letters.{bound_of_set}
 use Rattle.ms_logic.proofs.Consistent.{yes_is_not_no}
 use Rattle.ms_logic.proofs.Members.{no_member_from_bound}
@@ -134,7 +134,7 @@ gives there x (v ∷ vs) = ((tt, tt), gives there (x + 1) vs)
 
 module _ (last : ℕ) (name : List ℕ) where
   abbrev problem : Problem
-  problem = problem_of (checked last name) []
+  problem = main_question (checked last name) []
 
   main-yes : (e : Env) → Assigns problem e → MainYes problem e
   main-yes e given =

@@ -4,15 +4,16 @@ use Rattle.ms_include.specs.Load.{IsLoadedText}
 use Rattle.ms_logic.specs.declared.checked.Checked.{Checked}
 use Rattle.ms_logic.specs.declared.source.Loaded.{Loaded}
 use Rattle.ms_logic_core.specs.Size.{depth_of_source, size_of_source}
-use Rattle.ms_logic.specs.View.{problem_of}
+use Rattle.ms_logic.specs.View.{goals_in, problem_of}
 use Rattle.ms_names_rules.specs.Declarations.{first_fault_of}
 use Rattle.ms_names_rules.specs.TypedSource.{IsTyped}
 use Rattle.ms_names_rules.specs.View.{placed_of}
 
--- a checked source imports and exports nothing, and is within the limits of depth and size
+-- a checked source imports and exports nothing, has no goals, and is within the limits of depth and size
 pub record IsAloneWithinLimits (checked : Checked) : Type 0 where
   pub imports : checked.imports ≡ []
   pub exports : checked.exports ≡ []
+  pub goals : goals_in checked ≡ []
   pub depth : depth_of_source (problem_of checked []) ≤ 300
   pub size : size_of_source (problem_of checked []) ≤ 1000000
 

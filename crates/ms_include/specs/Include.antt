@@ -6,7 +6,7 @@ use Rattle.ms_edge.specs.declared.refusal.Refusal.{Refusal}
 use Rattle.ms_edge.specs.declared.refusal.Refusal.TheVariants.{NotHere, IncludeCycle, Includes}
 use Rattle.ms_logic.specs.declared.mode.Mode.{Mode}
 use Rattle.ms_logic.specs.declared.source.Decl.{Decl}
-use Rattle.ms_logic.specs.declared.source.Decl.TheVariants.{Vars, Const, Pred, Include, Default, Formula}
+use Rattle.ms_logic.specs.declared.source.Decl.TheVariants.{Vars, Const, Pred, Include, Default, Formula, Goal}
 use Rattle.ms_logic.specs.declared.source.Item.{Item}
 use Rattle.ms_logic.specs.declared.source.Source.{Source}
 use Rattle.ms_include.specs.declared.begun.Begun.{Begun}
@@ -35,6 +35,7 @@ include_of (Pred is_pred at n bounds body) = None
 include_of (Include at file) = Some (at, file)
 include_of (Default o n body) = None
 include_of (Formula e) = None
+include_of (Goal at title e) = None
 
 -- how deep includes may go, the main file being at depth 0, and how many files one source may have
 abbrev pub greatest_depth : ℕ

@@ -1,6 +1,6 @@
 ghost use Rattle.std.specs.Prelude.{[], ◌∷◌, Some};
 ghost use Rattle.ms_edge.specs.declared.refusal.Refusal.TheVariants.{FileMissing, IncludeCycle, NotHere};
-ghost use Rattle.ms_include.specs.inner.Examples.{a, b, c, d, at, mark, include, plain, headed, files_in, gives};
+ghost use Rattle.ms_include.specs.inner.Examples.{a, b, c, d, at, mark, include, goal, plain, headed, files_in, gives};
 ghost use Rattle.ms_include.specs.Load.{IsLoaded, IsRefusedLoad};
 
 /// Sources of several files, and the declarations that they come to.
@@ -17,6 +17,11 @@ pub fn example_loads()
     ensures shared { IsLoaded (files_in
         ((a, plain (include 0 0 b ∷ include 0 13 c ∷ [])) ∷ (b, plain (include 1 0 d ∷ mark 1 ∷ [])) ∷ (c, plain (include 3 0 d ∷ mark 2 ∷ [])) ∷ (d, plain (mark 3 ∷ [])) ∷ [])) a
         (gives (mark 3 ∷ mark 1 ∷ mark 2 ∷ []) (a ∷ b ∷ d ∷ c ∷ [])) }
+
+    // A goal of any file is a goal of the source, under the title that it has there.
+    ensures goals { IsLoaded (files_in
+        ((a, plain (include 0 0 b ∷ goal 0 13 c ∷ [])) ∷ (b, plain (goal 1 0 d ∷ [])) ∷ [])) a
+        (gives (goal 1 0 d ∷ goal 0 13 c ∷ []) (a ∷ b ∷ [])) }
 {}
 
 /// Sources of several files that are refused, each with the files that were read by then.

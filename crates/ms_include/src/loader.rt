@@ -180,6 +180,10 @@ impl Loader {
                 at: place,
                 decl: Decl::Formula(formula),
             }),
+            Decl::Goal(at, title, formula) => self.push(Item {
+                at: place,
+                decl: Decl::Goal(at, title, formula),
+            }),
         }
     }
 

@@ -22,6 +22,7 @@ fn named(decl: &Decl) -> Option<At>
         Decl::Pred(..) => None,
         Decl::Default(..) => None,
         Decl::Formula(_) => None,
+        Decl::Goal(..) => None,
     }
 }
 

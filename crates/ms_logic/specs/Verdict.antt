@@ -1,11 +1,11 @@
--- What a source decides: its main value at each assignment of its globals, and its verdict.
+-- What a source decides of a question, which is a list of its formulas: the value at each assignment of the globals, and the verdict.
 use Rattle.std.specs.Prelude.{◌↔◌, List, map}
 use Rattle.ms_logic.specs.declared.mode.Mode.{Mode}
 use Rattle.ms_logic.specs.Assignment.{Env, Variable, IsAssignment}
 use Rattle.ms_logic.specs.Tree.{Forms, Declaration, conjunction}
 use Rattle.ms_logic.specs.Truth.{Given, Yes, No, AllMet, meanings_of}
 
--- a source whose names are resolved
+-- a source whose names are resolved, with the formulas of a question; those of its main question are the formula declarations
 pub record Problem : Type 0 where
   pub mode : Mode
   pub globals : List Declaration

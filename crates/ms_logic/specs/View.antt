@@ -1,6 +1,6 @@
 -- The mathematical tree that a tree of the code stands for.
-use Rattle.std.specs.Prelude.{ℕ, ◌+◌, List, [], ◌∷◌, Option, Some, None, map}
-use Rattle.std.specs.Option.{option_map}
+use Rattle.std.specs.Prelude.{ℕ, ◌+◌, List, [], ◌∷◌, Option, Some, None, filter, map}
+use Rattle.std.specs.Option.{is_none, is_some, option_map}
 use Rattle.std.specs.List.{zip}
 use Rattle.ms_logic.specs.declared.term.Term1.{Term1}
 use Rattle.ms_logic.specs.declared.term.Term2.{Term2}
@@ -15,6 +15,7 @@ use Rattle.ms_logic.specs.declared.checked.Checked.{Checked}
 use Rattle.ms_logic.specs.declared.checked.Global.{Global}
 use Rattle.ms_logic.specs.declared.checked.ImportUse.{ImportUse}
 use Rattle.ms_logic.specs.declared.checked.Param.{Param}
+use Rattle.ms_logic.specs.declared.checked.Placed.{Placed}
 use Rattle.ms_logic.specs.declared.checked.Predicate as code
 use Rattle.ms_logic.specs.declared.assignment.Value.{Value}
 use Rattle.ms_logic.specs.Assignment.{Universe}
@@ -133,14 +134,33 @@ import_of used answer = record { variables = map (λ p. record { name = p.variab
 abbrev pub Answers : Type 0
 Answers = List (Universe → List Value → Answer)
 
--- the source that a checked one stands for, where its imported automata have these answers
-abbrev pub problem_of : Checked → Answers → Problem
-problem_of checked answers = record {
+-- What some formulas of a source ask, where its imported automata have these answers: their value is that of their conjunction, under the
+-- restrictions of all globals.
+abbrev pub question_of : Checked → Answers → List Placed → Problem
+question_of checked answers asked = record {
   mode = checked.mode;
   globals = globals_from 0 checked.globals;
   given = record {
     predicates = map predicate_of checked.predicates;
     imports = map (λ p. import_of p.0 p.1) (zip checked.imports answers);
   };
-  formulas = forms (map (λ placed. formula_of placed.formula) checked.formulas);
+  formulas = forms (map (λ placed. formula_of placed.formula) asked);
 }
+
+-- the source that a checked one stands for, with all its formulas
+abbrev pub problem_of : Checked → Answers → Problem
+problem_of checked answers = question_of checked answers checked.formulas
+
+-- the formulas of the formula declarations, and the goals
+abbrev pub declared_in : Checked → List Placed
+declared_in checked = filter (λ placed. is_none placed.title) checked.formulas
+
+abbrev pub goals_in : Checked → List Placed
+goals_in checked = filter (λ placed. is_some placed.title) checked.formulas
+
+-- what the formula declarations ask, and what a goal asks
+abbrev pub main_question : Checked → Answers → Problem
+main_question checked answers = question_of checked answers (declared_in checked)
+
+abbrev pub goal_question : Checked → Answers → Placed → Problem
+goal_question checked answers goal = question_of checked answers (goal ∷ [])

@@ -54,12 +54,14 @@ pub struct ExportUse {
     pub names: List<Name>,
 }
 
-/// A formula declaration.
+/// A formula of the source: that of a formula declaration, or that of a goal under its title.
 #[derive(Drop)]
 pub struct Placed {
     pub at: At,
     /// The number of its declaration.
     pub item: u32,
+    /// The title of a goal.
+    pub title: Option<Text>,
     pub formula: Formula,
 }
 
@@ -71,6 +73,7 @@ pub struct Checked {
     pub predicates: List<Predicate>,
     pub imports: List<ImportUse>,
     pub exports: List<ExportUse>,
+    /// The formulas of the formula declarations and of the goals, in the order of the source.
     pub formulas: List<Placed>,
     pub files: List<Text>,
 }

@@ -15,4 +15,4 @@ pub use orders::worked_orders;
 pub use quantifiers::{worked_all, worked_exists};
 pub use restrictions::worked_restrictions;
 pub use terms::{worked_terms, worked_terms_on_strings};
-pub use verdicts::worked_verdicts;
+pub use verdicts::{worked_questions, worked_verdicts};

@@ -14,8 +14,8 @@ pub use assignment::{Assignment, Value};
 pub use checked::{Checked, ExportUse, Global, ImportUse, MapPair, Param, Placed, Predicate};
 pub use examples::{
     worked_all, worked_atoms, worked_calls, worked_connectives, worked_defaults, worked_exists,
-    worked_lets, worked_orders, worked_restrictions, worked_terms, worked_terms_on_strings,
-    worked_verdicts,
+    worked_lets, worked_orders, worked_questions, worked_restrictions, worked_terms,
+    worked_terms_on_strings, worked_verdicts,
 };
 pub use formula::{Arg, Binding, Formula};
 pub use laws::{laws_of_order, laws_of_sets, laws_of_truth};

@@ -172,6 +172,8 @@ pub enum Decl {
     /// A default restriction: the order of its variables, its parameter and its body.
     Default(Order, Name, Expr),
     Formula(Expr),
+    /// A goal: the title's place, the title and the formula.
+    Goal(At, Text, Expr),
 }
 
 /// A declaration with its place.

@@ -6,6 +6,7 @@ pub mod Keeping
 pub mod Numbers
 pub mod Places
 pub mod Predicates
+pub mod Questions
 pub mod Roots
 pub mod SameRoots
 pub mod SameValues

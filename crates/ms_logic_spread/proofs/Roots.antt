@@ -1,27 +1,27 @@
--- The roots of a source have the values that they stand for.
-use Rattle.std.proofs.Common.{ℕ, zero, suc, ◌↔◌, ⊎_elim, List, [], ◌∷◌, length, map, sym, subst}
-use Rattle.ms_logic.specs.declared.assignment.Value.{Value}
+-- The roots of a source, and the main roots of its questions, have the values that they stand for.
+use Rattle.std.proofs.Common.{ℕ, zero, suc, ◌↔◌, ⊎_elim, List, [], ◌∷◌, length, sym, subst}
 use Rattle.ms_logic.specs.declared.checked.Checked.{Checked}
 use Rattle.ms_logic.specs.declared.checked.Placed.{Placed}
-use Rattle.ms_logic.specs.Assignment.{Universe, Env, Variable, IsAssignment}
+use Rattle.ms_logic.specs.Assignment.{Env, Variable, IsAssignment}
 use Rattle.ms_logic_core.specs.CoreForm.{CoreYes, CoreNo}
 use Rattle.ms_logic.specs.FreeVariables.{IsListed, FreeInForms, FreeInRestrictions}
 use Rattle.ms_logic_core.specs.Roots.{Root, IsRoot, main_root, first_free}
 use Rattle.ms_logic_core.specs.Spread.{callees_of, own_names, spread_each}
 use Rattle.ms_logic.specs.Tree.{Declaration, Form}
-use Rattle.ms_logic.specs.Truth.{Answer, meanings_of, Yes, No}
+use Rattle.ms_logic.specs.Truth.{meanings_of, Yes, No}
 use Rattle.ms_logic.specs.Verdict.{Problem, variables_of, MainYes, MainNo}
-use Rattle.ms_logic.specs.View.{formula_of, forms, globals_from, problem_of, Answers}
+use Rattle.ms_logic.specs.View.{globals_from, problem_of, question_of, Answers}
 use Rattle.ms_logic_core.proofs.Saying.{reading-weaker}
-use Rattle.ms_names_rules.specs.Numbers.{Tables, IsNumbered, AreNumbered, IsNumberedRestriction, IsWellNumbered, tables_of, globals_seen}
+use Rattle.ms_names_rules.specs.Numbers.{IsNumberedRestriction, IsWellNumbered, tables_of, globals_seen}
 use Rattle.ms_logic.specs.Lists.{Each}
 use Rattle.ms_logic_spread.specs.SpreadLaws.{HaveOneValue}
-use Rattle.ms_logic_spread.specs.RootLaws.{FreeVariablesAreSeen, NumberedFormulasKeepValue, HasRootValue, RootsKeepValues}
+use Rattle.ms_logic_spread.specs.RootLaws.{AreFormulasOf, FreeVariablesAreSeen, NumberedFormulasKeepValue, HasRootValue, QuestionsKeepValues, RootsKeepValues}
 use Rattle.ms_logic_spread.proofs.Equivalences.{iff_then}
 use Rattle.ms_logic_spread.proofs.ExportsOnce.{exports_stand_once}
 use Rattle.ms_logic_spread.proofs.Formulas.{each_kept, restrictions_kept}
 use Rattle.ms_logic_spread.proofs.Keeping.{restrictions_before}
 use Rattle.ms_logic_spread.proofs.Predicates.{kept_given, reads_of, body_reads_of}
+use Rattle.ms_logic_spread.proofs.Questions.{asked_numbered, whole_asked}
 use Rattle.ms_logic_spread.proofs.Seen.{free_seen, forms_seen, restriction_seen}
 use Rattle.ms_logic_spread.proofs.SeenPredicates.{all_seen}
 use Rattle.ms_logic_spread.proofs.Spreads.{reading_own, spread_keeps_value, spread_keeps_value_under_names}
@@ -58,12 +58,6 @@ main_root_keeps problem e assigned restrictions_listed formulas_listed =
       iff_then (λ h. (h.0, formulas.all_defined.0 h.1.0, formulas.some_no.0 h.1.1), λ h. (h.0, (formulas.all_defined.1 h.1, formulas.some_no.1 h.2))) both.1,
     )
 
--- the formulas and the restrictions of a source whose numbers are in order
-forms_numbered : (tables : Tables) (bound : ℕ) (seen : List Variable) (placed : List Placed) → Each (λ p. IsNumbered tables bound seen (formula_of p.formula)) placed →
-    AreNumbered tables bound seen (forms (map (λ p. formula_of p.formula) placed))
-forms_numbered tables bound seen [] each = tt
-forms_numbered tables bound seen (p ∷ placed) each = (each.0, forms_numbered tables bound seen placed each.1)
-
 module _ (checked : Checked) (answers : Answers) (well : IsWellNumbered checked) where
   globals_read : (ds : List Declaration) → Each (λ d. IsNumberedRestriction (tables_of checked) (length (tables_of checked).predicates) (globals_seen checked) d.restriction) ds →
       (w : Variable) → FreeInRestrictions (reads_of (problem_of checked answers).given) ds w → IsListed (globals_seen checked) w
@@ -74,20 +68,18 @@ module _ (checked : Checked) (answers : Answers) (well : IsWellNumbered checked)
       (all_seen (tables_of checked) (globals_seen checked) answers well.predicates) d.restriction (globals_seen checked) (λ v listed. listed) each.0 w)
       (globals_read ds each.1 w) free
 
-  main_keeps : (e : Env) → IsAssignment checked.mode (globals_seen checked) e →
-      (MainYes (problem_of checked answers) e ↔ CoreYes (problem_of checked answers).given.imports (main_root (problem_of checked answers)).formula e)
-      × (MainNo (problem_of checked answers) e ↔ CoreNo (problem_of checked answers).given.imports (main_root (problem_of checked answers)).formula e)
-  main_keeps e assigned =
-      main_root_keeps (problem_of checked answers) e assigned (globals_read (globals_from 0 checked.globals) well.globals)
-      (forms_seen (tables_of checked) (reads_of (problem_of checked answers).given) (length (tables_of checked).predicates) (globals_seen checked)
-      (all_seen (tables_of checked) (globals_seen checked) answers well.predicates) (problem_of checked answers).formulas (globals_seen checked) (λ v listed. listed)
-      (forms_numbered (tables_of checked) (length (tables_of checked).predicates) (globals_seen checked) checked.formulas well.formulas))
+  -- the main root of a question
+  pub question_keeps : (asked : List Placed) → AreFormulasOf checked asked → HasRootValue (question_of checked answers asked) 0 (main_root (question_of checked answers asked))
+  question_keeps asked among = λ e assigned.
+      let question = question_of checked answers asked in
+      main_root_keeps question e assigned (globals_read (globals_from 0 checked.globals) well.globals)
+      (forms_seen (tables_of checked) (reads_of question.given) (length (tables_of checked).predicates) (globals_seen checked)
+      (all_seen (tables_of checked) (globals_seen checked) answers well.predicates) question.formulas (globals_seen checked) (λ v listed. listed)
+      (asked_numbered checked well asked among))
 
   -- a root by its number
   pub root_keeps : (i : ℕ) (root : Root) → IsRoot (problem_of checked answers) i root → HasRootValue (problem_of checked answers) i root
-  root_keeps zero root is e assigned =
-      let P : Root → Type 0 = λ there. IsAssignment checked.mode there.variables e → (MainYes (problem_of checked answers) e ↔ CoreYes (problem_of checked answers).given.imports there.formula e) × (MainNo (problem_of checked answers) e ↔ CoreNo (problem_of checked answers).given.imports there.formula e) in
-      subst P (sym is) (main_keeps e) assigned
+  root_keeps zero root is e assigned = subst (HasRootValue (problem_of checked answers) 0) (sym is) (question_keeps checked.formulas (whole_asked checked)) e assigned
   root_keeps (suc i) root is e assigned =
       let problem = problem_of checked answers in
       let f = is.0 in
@@ -103,6 +95,9 @@ module _ (checked : Checked) (answers : Answers) (well : IsWellNumbered checked)
           λ fails. (f, is.2, kept.1.1 fails),
         ),
       )
+
+pub questions_keep_values : QuestionsKeepValues
+questions_keep_values checked answers asked well among = question_keeps checked answers well asked among
 
 pub roots_keep_values : RootsKeepValues
 roots_keep_values checked answers i root well is = root_keeps checked answers well i root is

@@ -11,7 +11,7 @@ use Rattle.ms_logic_core.specs.Roots.{main_root}
 use Rattle.ms_logic_core.specs.SameUpToBound.{SameVariable, AnswerToEachOther, pairs_of, SameUnder}
 use Rattle.ms_logic_core.specs.Spread.{is_order}
 use Rattle.ms_logic.specs.Verdict.{variables_of}
-use Rattle.ms_logic.specs.View.{globals_from, problem_of}
+use Rattle.ms_logic.specs.View.{globals_from, problem_of, question_of}
 use Rattle.ms_logic.proofs.Agreement.{order_of_value, universe-assign_all}
 use Rattle.ms_logic.proofs.FreeVariables.{order_of_value_of}
 use Rattle.ms_logic.proofs.AssignedValues.{value_at-assign, value_at-assign_other}
@@ -19,7 +19,7 @@ use Rattle.ms_logic_core.proofs.SpreadKeeps.{value_at-assign_not}
 use Rattle.ms_logic_spread.specs.inner.SameRootLaws.{with_values_of, SameFormulasHaveOneValue, SameRootsHaveOneValue, SameMainRootKeepsValue, SameRootsKeepValues}
 use Rattle.ms_logic_spread.proofs.Equivalences.{iff_then, swapped}
 use Rattle.ms_logic_spread.proofs.Places.{is_order-of, is_order-itself, same_variable}
-use Rattle.ms_logic_spread.proofs.Roots.{roots_keep_values}
+use Rattle.ms_logic_spread.proofs.Roots.{questions_keep_values, roots_keep_values}
 use Rattle.ms_logic_spread.proofs.SameValues.{of_two, same_value}
 
 -- the order of a value that is one of its order
@@ -160,15 +160,15 @@ globals_below (g ∷ gs) count bound is u listed =
     ⊎_elim (λ here. let name = here.0 in omega (arith, is)) (λ later. globals_below gs (count + 1) bound (omega (arith, is)) u later) listed
 
 pub same_main_root_keeps_value : SameMainRootKeepsValue
-same_main_root_keeps_value checked answers root well same =
-    let problem = problem_of checked answers in
-    let globals = variables_of problem.globals in
+same_main_root_keeps_value checked answers asked root well among same =
+    let question = question_of checked answers asked in
+    let globals = variables_of question.globals in
     let are : root.variables ≡ globals = answer_globals (length checked.globals) root.variables globals (answer_swapped (length checked.globals) globals root.variables same.variables) (globals_below checked.globals 0 (length checked.globals) (omega arith)) in (
       are,
       λ e assigned.
-          let kept = roots_keep_values checked answers 0 (main_root problem) well refl e (subst (λ vs. IsAssignment checked.mode vs e) are assigned) in
-          let P : List Variable → Type 0 = λ vs. SameUnder problem.given.imports (pairs_of globals vs) (main_root problem).formula root.formula in
-          let here = same_value problem.given.imports (main_root problem).formula root.formula (pairs_of globals globals) e e (subst P are same.formulas)
+          let kept = questions_keep_values checked answers asked well among e (subst (λ vs. IsAssignment checked.mode vs e) are assigned) in
+          let P : List Variable → Type 0 = λ vs. SameUnder question.given.imports (pairs_of globals vs) (main_root question).formula root.formula in
+          let here = same_value question.given.imports (main_root question).formula root.formula (pairs_of globals globals) e e (subst P are same.formulas)
           (record { universe = refl; values = λ o x y pair. ap (λ k. value_at o k e) (own_pairs globals o x y pair) }) in
           (iff_then kept.0 here.0, iff_then kept.1 here.1),
     )

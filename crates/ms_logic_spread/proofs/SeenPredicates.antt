@@ -5,11 +5,9 @@ use Rattle.std.proofs.lemmas.Bool.Decides.{nat_tests}
 use Rattle.ms_logic.specs.declared.checked.ImportUse.{ImportUse}
 use Rattle.ms_logic.specs.declared.checked.MapPair.{MapPair}
 use Rattle.ms_logic.specs.declared.mode.Order.{Order}
-use Rattle.ms_logic.specs.declared.assignment.Value.{Value}
-use Rattle.ms_logic.specs.Assignment.{Universe, Variable}
+use Rattle.ms_logic.specs.Assignment.{Variable}
 use Rattle.ms_logic.specs.FreeVariables.{IsVariable, IsBound, IsListed, IsReadBy, IsReadFor, Reads, names_of, parameter_orders_of, FreeUnder, FreeInRestrictions, reads_of_imports, reads_with_predicate, reads_with_predicates}
 use Rattle.ms_logic.specs.Tree.{Declaration, Predicate}
-use Rattle.ms_logic.specs.Truth.{Answer}
 use Rattle.ms_logic.specs.View.{import_of, Answers}
 use Rattle.ms_names_rules.specs.Numbers.{Tables, Sees, parameter_orders, HasParameters, IsOnePlain, IsDefault, ImportSees, AreNumberedParameters, AreNumberedPredicates}
 use Rattle.ms_logic.specs.Lists.{Each}

@@ -1,16 +1,17 @@
--- The roots of a source whose numbers are in order have the values that they stand for.
+-- The roots of a source whose numbers are in order, and the main roots of its questions, have the values that they stand for.
 use Rattle.std.specs.Prelude.{◌≡◌, ◌↔◌, ℕ, zero, suc, List, length, Contains}
-use Rattle.ms_logic.specs.declared.assignment.Value.{Value}
 use Rattle.ms_logic.specs.declared.checked.Checked.{Checked}
-use Rattle.ms_logic.specs.Assignment.{Universe, Env, Variable, IsAssignment}
+use Rattle.ms_logic.specs.declared.checked.Placed.{Placed}
+use Rattle.ms_logic.specs.Assignment.{Env, Variable, IsAssignment}
 use Rattle.ms_logic_core.specs.CoreForm.{CoreYes, CoreNo}
 use Rattle.ms_logic.specs.FreeVariables.{IsFree, IsListed}
-use Rattle.ms_logic_core.specs.Roots.{Root, IsRoot, exports_among}
+use Rattle.ms_logic.specs.Lists.{Each}
+use Rattle.ms_logic_core.specs.Roots.{Root, IsRoot, exports_among, main_root}
 use Rattle.ms_logic_core.specs.Spread.{Names, spread}
 use Rattle.ms_logic.specs.Tree.{Form}
-use Rattle.ms_logic.specs.Truth.{Answer, Yes, No}
+use Rattle.ms_logic.specs.Truth.{Yes, No}
 use Rattle.ms_logic.specs.Verdict.{Problem, MainYes, MainNo}
-use Rattle.ms_logic.specs.View.{problem_of, Answers}
+use Rattle.ms_logic.specs.View.{problem_of, question_of, Answers}
 use Rattle.ms_names_rules.specs.Numbers.{IsWellNumbered, IsNumbered, tables_of, globals_seen}
 use Rattle.ms_logic_spread.specs.SpreadLaws.{AreNamed, HaveOneValue}
 
@@ -52,6 +53,17 @@ abbrev pub RootsKeepValues : Type 0
 RootsKeepValues =
     (checked : Checked) (answers : Answers) (i : ℕ) (root : Root)
     → IsWellNumbered checked → IsRoot (problem_of checked answers) i root → HasRootValue (problem_of checked answers) i root
+
+-- the formulas that a question asks are formulas of the source
+abbrev pub AreFormulasOf : Checked → List Placed → Type 0
+AreFormulasOf checked asked = Each (Contains checked.formulas) asked
+
+-- the main root of a question has its value: that of the conjunction of what is asked, under the restrictions of the globals
+abbrev pub QuestionsKeepValues : Type 0
+QuestionsKeepValues =
+    (checked : Checked) (answers : Answers) (asked : List Placed)
+    → IsWellNumbered checked → AreFormulasOf checked asked
+    → HasRootValue (question_of checked answers asked) 0 (main_root (question_of checked answers asked))
 
 -- a number exports one formula
 abbrev pub ExportsStandOnce : Type 0

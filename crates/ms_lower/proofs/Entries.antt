@@ -1,5 +1,5 @@
 -- The extents of one more predicate.
-use Rattle.std.proofs.Common.{◌≡◌, ℕ, zero, suc, ◌+◌, ◌<◌, ◌≤◌, cond, List, [], ◌∷◌, ◌++◌, length, map, take, get_or, slice_get, Some, inl, inr, refl, sym, ap, subst, ◌∙◌, arith}
+use Rattle.std.proofs.Common.{◌≡◌, ℕ, ◌+◌, ◌<◌, ◌≤◌, cond, List, [], ◌∷◌, ◌++◌, length, map, take, get_or, slice_get, Some, inl, inr, refl, sym, ap, subst, ◌∙◌, arith}
 use Rattle.std.proofs.lemmas.Bool.{eq-eqb, ne_eqb, cases_eq}
 use Rattle.std.proofs.lemmas.List.{take_more, map-append, length-append, length-map, length-take-le}
 use Rattle.ms_logic.specs.declared.checked.Predicate as code
@@ -9,12 +9,8 @@ use Rattle.ms_logic.specs.View.{predicate_of}
 use Rattle.ms_lower.specs.declared.called.Called.{Called}
 use Rattle.ms_lower.specs.Counted.{counted, deepest}
 use Rattle.ms_lower.specs.inner.Extents.{HasEntries, called_by}
+use Rattle.ms_lower.proofs.Parts.{slice_get-front}
 use Rattle.ms_lower.proofs.Positive.{form_positive}
-
-get-front : {A : Type 0} (xs : List A) (x : A) (i : ℕ) → i < length xs → slice_get (xs ++ x ∷ []) i ≡ slice_get xs i
-get-front [] x i within = absurd (omega arith)
-get-front (y ∷ ys) x zero within = refl
-get-front (y ∷ ys) x (suc i) within = get-front ys x i (omega arith)
 
 get-last : {A : Type 0} (xs : List A) (x : A) → slice_get (xs ++ x ∷ []) (length xs) ≡ Some x
 get-last [] x = refl
@@ -49,7 +45,7 @@ entries-more x n entries predicate e known count is =
             | inl same ↦
                 ap (slice_get (entries ++ e ∷ [])) (same ∙ sym count) ∙ (get-last entries e ∙ ap (λ c. Some c) (is ∙ (ap (λ parts. made parts (extent_under x predicate.body)) (sym (called_new x n p predicate same)) ∙ ap (made ((extents_with x n predicate).called p)) (sym (default_new x n p predicate same)))))
             | inr other ↦
-                get-front entries e p (omega (arith, count, long)) ∙ (known.within p (omega (arith, count, long)) ∙ ap (λ c. Some c) (ap (λ parts. made parts (x.default p)) (sym (called_old x n p predicate other)) ∙ ap (made ((extents_with x n predicate).called p)) (sym (default_old x n p predicate other))))
+                slice_get-front entries (e ∷ []) p (omega (arith, count, long)) ∙ (known.within p (omega (arith, count, long)) ∙ ap (λ c. Some c) (ap (λ parts. made parts (x.default p)) (sym (called_old x n p predicate other)) ∙ ap (made ((extents_with x n predicate).called p)) (sym (default_old x n p predicate other))))
           ];
       called_beyond = λ p beyond. called_old x n p predicate (λ same. omega (arith, long, same)) ∙ known.called_beyond p (omega (arith, count, long));
       default_beyond = λ p beyond. default_old x n p predicate (λ same. omega (arith, long, same)) ∙ known.default_beyond p (omega (arith, count, long));

@@ -1,5 +1,5 @@
--- The main root.
-use Rattle.std.proofs.Common.{◌≡◌, ℕ, zero, suc, ◌+◌, ◌*◌, ◌-◌, ◌<◌, ◌≤◌, cond, max, min, List, [], ◌∷◌, ◌++◌, length, map, take, get_or, Some, None, refl, sym, ap, ◌∙◌, arith, append-nil}
+-- The main root of a question.
+use Rattle.std.proofs.Common.{◌≡◌, ℕ, zero, suc, ◌+◌, ◌*◌, ◌-◌, ◌<◌, ◌≤◌, cond, max, min, List, [], ◌∷◌, ◌++◌, length, map, take, get_or, Some, None, refl, sym, ap, ap₂, ◌∙◌, arith, append-nil}
 use Rattle.std.proofs.lemmas.Bool.{lt-ltb}
 use Rattle.std.proofs.lemmas.List.{map-append, take_more}
 use Rattle.std.proofs.lemmas.List.FromFn.{map-range_with_len_more}
@@ -8,22 +8,20 @@ use Rattle.std.specs.Option.{option_map}
 use Rattle.ms_logic.specs.declared.checked.Global.{Global}
 use Rattle.ms_logic.specs.declared.checked.Placed.{Placed}
 use Rattle.ms_logic_core.specs.declared.core_formula.Core.{Core}
-use Rattle.ms_logic_core.specs.declared.core_formula.Root as code
 use Rattle.ms_logic.specs.declared.formula.Formula.{Formula}
 use Rattle.ms_logic.specs.declared.mode.Order.{Order}
 use Rattle.ms_logic.specs.Assignment.{Variable}
-use Rattle.ms_logic_core.specs.CoreForm.{core_form_of, restrict}
+use Rattle.ms_logic_core.specs.CoreForm.{CoreForm, core_form_of, restrict}
 use Rattle.ms_logic_core.specs.Roots.{first_free}
 use Rattle.ms_logic_core.specs.Spread.{Callees, Names, conjunction_of, own_names, restriction_before, restrictions_of, spread_each, spread_under}
 use Rattle.ms_logic.specs.Tree.{Declaration}
 use Rattle.ms_logic.specs.View.{formula_of, forms, globals_from, restriction}
 use Rattle.ms_lower.specs.declared.tables.Tables.{Tables}
 use Rattle.ms_lower.specs.Callees.{callees_in}
-use Rattle.ms_lower.specs.NumberedRoots.{NumberedRoot, main_over, numbering_over, renumbered_root, root_of}
+use Rattle.ms_lower.specs.NumberedRoots.{NumberedRoot, main_over, numbering_over, renumbered_root, root_of_forms}
 use Rattle.ms_lower.specs.Numbering.{Numbering, number_at, numbering_of, rank, renumbered, variables_at}
 use Rattle.ms_lower.proofs.Lowering.{conjunction_renumbered}
 use Rattle.ms_lower.proofs.Operands.{restrictions-append, spread_each-append}
-use Rattle.ms_lower.proofs.Parts.{map-more}
 
 global_at : ℕ → Global → Declaration
 global_at name g = record { variable = record { name = name; order = g.order }; restriction = restriction (option_map formula_of g.domain) }
@@ -68,17 +66,18 @@ module _ (n : Numbering) (c : Callees) (names : Names) (free : ℕ) where
       ∙ ap (λ l. map (renumbered n) (restrictions_of c l names free)) (sym (globals-more gs i g below is)))))
 
   -- one formula more
-  pub placed-more : (ps : List Placed) (i : ℕ) (p : Placed) (cores made : List Core) (core : Core) → i < length ps → p ≡ get_or ps i p →
-      map core_form_of cores ≡ map (renumbered n) (spread_each c (forms (map (λ placed. formula_of placed.formula) (take i ps))) names free) → core_form_of core ≡ renumbered n (spread_under c (formula_of p.formula) names free) →
-      made ≡ cores ++ core ∷ [] → map core_form_of made ≡ map (renumbered n) (spread_each c (forms (map (λ placed. formula_of placed.formula) (take (i + 1) ps))) names free)
-  placed-more ps i p cores made core below is before one made_is =
+  pub placed-more : (ps : List Placed) (p : Placed) (cores made : List Core) (core : Core) →
+      map core_form_of cores ≡ map (renumbered n) (spread_each c (forms (map (λ placed. formula_of placed.formula) ps)) names free) →
+      core_form_of core ≡ renumbered n (spread_under c (formula_of p.formula) names free) → made ≡ cores ++ core ∷ [] →
+      map core_form_of made ≡ map (renumbered n) (spread_each c (forms (map (λ placed. formula_of placed.formula) (ps ++ p ∷ []))) names free)
+  placed-more ps p cores made core before one made_is =
+      let front = spread_each c (forms (map (λ placed. formula_of placed.formula) ps)) names free in
       ap (map core_form_of) made_is
       ∙ (map-append core_form_of cores (core ∷ [])
-      ∙ (ap (λ l. l ++ core_form_of core ∷ []) before
-      ∙ (ap (λ k. map (renumbered n) (spread_each c (forms (map (λ placed. formula_of placed.formula) (take i ps))) names free) ++ k ∷ []) one
-      ∙ (sym (map-append (renumbered n) (spread_each c (forms (map (λ placed. formula_of placed.formula) (take i ps))) names free) (spread_under c (formula_of p.formula) names free ∷ []))
-      ∙ (ap (map (renumbered n)) (sym (spread_each-append c (map (λ placed. formula_of placed.formula) (take i ps)) (formula_of p.formula) names free))
-      ∙ ap (λ l. map (renumbered n) (spread_each c (forms l) names free)) (sym (map-more (λ placed. formula_of placed.formula) ps i p below is)))))))
+      ∙ (ap₂ (λ l k. l ++ k ∷ []) before one
+      ∙ (sym (map-append (renumbered n) front (spread_under c (formula_of p.formula) names free ∷ []))
+      ∙ (ap (map (renumbered n)) (sym (spread_each-append c (map (λ placed. formula_of placed.formula) ps) (formula_of p.formula) names free))
+      ∙ ap (λ l. map (renumbered n) (spread_each c (forms l) names free)) (sym (map-append (λ placed. formula_of placed.formula) ps (p ∷ [])))))))
 
 -- the numbers from 0 on
 range_is_map : (a n : ℕ) → map (λ x. let k : ℕ = x in k) (range_with_len a n) ≡ range_with_len a n
@@ -109,23 +108,22 @@ pub first_free_globals : (gs : List Global) → first_free (map (λ d. d.variabl
 first_free_globals [] = refl
 first_free_globals (g ∷ gs) = first_free_from 0 g gs ∙ omega arith
 
-pub main_made : (tables : Tables) (gs : List Global) (fs : List Placed) (front later all : List Core) (core : Core) (numbers : List ℕ) → length gs ≡ tables.globals → tables.kept ≡ tables.globals →
-    map core_form_of front ≡ map (renumbered (numbering_of tables)) (restrictions_of (callees_in tables) (globals_from 0 gs) own_names tables.globals) →
-    map core_form_of later ≡ map (renumbered (numbering_of tables)) (spread_each (callees_in tables) (forms (map (λ placed. formula_of placed.formula) fs)) own_names tables.globals) →
-    all ≡ front ++ later → core_form_of core ≡ conjunction_of (map core_form_of all) → numbers ≡ range_with_len 0 tables.globals →
-    (let root : code.Root = record { variables = numbers; core = core } in root_of root) ≡ renumbered_root tables (main_over tables gs fs)
-main_made tables gs fs front later all core numbers count kept front_is later_is all_is core_is numbers_are =
+-- the main root of a question, by its restrictions and its formulas
+pub main_made : (tables : Tables) (gs : List Global) (asked : List Placed) (free : ℕ) (front later : List CoreForm) (root : NumberedRoot) → length gs ≡ tables.globals → tables.kept ≡ tables.globals → free ≡ tables.globals →
+    front ≡ map (renumbered (numbering_of tables)) (restrictions_of (callees_in tables) (globals_from 0 gs) own_names free) →
+    later ≡ map (renumbered (numbering_of tables)) (spread_each (callees_in tables) (forms (map (λ placed. formula_of placed.formula) asked)) own_names free) →
+    root ≡ root_of_forms tables.globals (front ++ later) → root ≡ renumbered_root tables (main_over tables gs asked)
+main_made tables gs asked free front later root count kept free_is front_is later_is root_is =
     let vs : List Variable = map (λ d. d.variable) (globals_from 0 gs) in
-    let free : tables.globals ≡ first_free vs = sym count ∙ sym (first_free_globals gs) in
-    let own : min tables.globals (first_free vs) ≡ tables.globals = omega (arith, free) in
+    let first : tables.globals ≡ first_free vs = sym count ∙ sym (first_free_globals gs) in
+    let own : min tables.globals (first_free vs) ≡ tables.globals = omega (arith, first) in
     let n : numbering_of tables ≡ numbering_over tables vs = ap (λ k. let m : Numbering = record { number = number_at k tables.globals; imported = variables_at tables } in m) (kept ∙ sym own) in
-    ap (λ l. let r : NumberedRoot = record { variables = l; formula = core_form_of core } in r)
-    (numbers_are ∙ (ap (range_with_len 0) (sym count) ∙ (globals_kept tables.globals 0 gs (omega (arith, count)) ∙ ap (λ k. map (λ v. number_at k tables.globals v.order v.name) vs) (sym own))))
-    ∙ ap (λ g. let r : NumberedRoot = record { variables = map (λ v. (numbering_over tables vs).number v.order v.name) vs; formula = g } in r)
-    (core_is
-    ∙ (ap (λ l. conjunction_of (map core_form_of l)) all_is
-    ∙ (ap conjunction_of (map-append core_form_of front later ∙ (ap (λ l. l ++ map core_form_of later) front_is ∙ (ap (λ l. map (renumbered (numbering_of tables)) (restrictions_of (callees_in tables) (globals_from 0 gs) own_names tables.globals) ++ l) later_is
-    ∙ sym (map-append (renumbered (numbering_of tables)) (restrictions_of (callees_in tables) (globals_from 0 gs) own_names tables.globals) (spread_each (callees_in tables) (forms (map (λ placed. formula_of placed.formula) fs)) own_names tables.globals)))))
-    ∙ (sym (conjunction_renumbered (numbering_of tables) (restrictions_of (callees_in tables) (globals_from 0 gs) own_names tables.globals ++ spread_each (callees_in tables) (forms (map (λ placed. formula_of placed.formula) fs)) own_names tables.globals))
-    ∙ (ap (λ m. renumbered m (conjunction_of (restrictions_of (callees_in tables) (globals_from 0 gs) own_names tables.globals ++ spread_each (callees_in tables) (forms (map (λ placed. formula_of placed.formula) fs)) own_names tables.globals))) n
-    ∙ ap (λ k. renumbered (numbering_over tables vs) (conjunction_of (restrictions_of (callees_in tables) (globals_from 0 gs) own_names k ++ spread_each (callees_in tables) (forms (map (λ placed. formula_of placed.formula) fs)) own_names k))) free)))))
+    let numbers : range_with_len 0 tables.globals ≡ map (λ v. (numbering_over tables vs).number v.order v.name) vs =
+    ap (range_with_len 0) (sym count) ∙ (globals_kept tables.globals 0 gs (omega (arith, count)) ∙ ap (λ k. map (λ v. number_at k tables.globals v.order v.name) vs) (sym own)) in
+    let restrictions : ℕ → List CoreForm = λ k. restrictions_of (callees_in tables) (globals_from 0 gs) own_names k in
+    let formulas : ℕ → List CoreForm = λ k. spread_each (callees_in tables) (forms (map (λ placed. formula_of placed.formula) asked)) own_names k in
+    let formula : conjunction_of (front ++ later) ≡ renumbered (numbering_over tables vs) (conjunction_of (restrictions (first_free vs) ++ formulas (first_free vs))) =
+    ap conjunction_of (ap₂ (λ l k. l ++ k) front_is later_is ∙ sym (map-append (renumbered (numbering_of tables)) (restrictions free) (formulas free)))
+    ∙ (sym (conjunction_renumbered (numbering_of tables) (restrictions free ++ formulas free))
+    ∙ ap₂ (λ m k. renumbered m (conjunction_of (restrictions k ++ formulas k))) n (free_is ∙ first)) in
+    root_is ∙ ap₂ (λ l f. let r : NumberedRoot = record { variables = l; formula = f } in r) numbers formula

@@ -1,7 +1,9 @@
 -- One more part of a source.
-use Rattle.std.proofs.Common.{◌≡◌, ℕ, ◌+◌, ◌<◌, ◌≤◌, List, [], ◌∷◌, ◌++◌, length, map, max, take, get_or, Some, None, inl, inr, refl, sym, ap, ◌∙◌, arith, append_assoc, append-nil}
+use Rattle.std.proofs.Common.{◌≡◌, ℕ, zero, suc, ◌+◌, ◌<◌, ◌≤◌, Bool, true, false, cond, List, [], ◌∷◌, ◌++◌, length, map, max, take, get_or, slice_get, Some, None, inl, inr, refl, sym, ap, ◌∙◌, arith, append_assoc, append-nil}
 use Rattle.std.proofs.lemmas.Bool.{cases_lt}
 use Rattle.std.proofs.lemmas.List.{take_more, map-append}
+use Rattle.std.proofs.lemmas.List.Elements.{filter_more}
+use Rattle.std.specs.Prelude.{filter}
 use Rattle.ms_list.specs.declared.at.At.{At}
 use Rattle.ms_logic_core.specs.Size.{Extent, greatest_depth}
 use Rattle.ms_lower.specs.declared.counted.Counted.{Counted}
@@ -100,3 +102,29 @@ pub map-more : {A B : Type 0} (f : A → B) (xs : List A) (i : ℕ) (x : A) → 
 map-more f xs i x below is =
     let taken : take (i + 1) xs ≡ take i xs ++ x ∷ [] = take_more xs i x below ∙ ap (λ y. take i xs ++ y ∷ []) (sym is) in
     ap (map f) taken ∙ map-append f (take i xs) (x ∷ [])
+
+-- one item more, which a test keeps or does not
+
+filtered-more : {A : Type 0} (test : A → Bool) (xs : List A) (i : ℕ) (x : A) (kept : Bool) → i < length xs → x ≡ get_or xs i x → test x ≡ kept →
+    filter test (take (i + 1) xs) ≡ filter test (take i xs) ++ cond kept (x ∷ []) []
+filtered-more test xs i x kept below is answer =
+    filter_more test xs i x below
+    ∙ (ap (λ y. filter test (take i xs) ++ cond (test y) (y ∷ []) []) (sym is) ∙ ap (λ b. filter test (take i xs) ++ cond b (x ∷ []) []) answer)
+
+pub kept-more : {A : Type 0} (test : A → Bool) (xs : List A) (i : ℕ) (x : A) → i < length xs → x ≡ get_or xs i x → test x ≡ true → filter test (take (i + 1) xs) ≡ filter test (take i xs) ++ x ∷ []
+kept-more test xs i x below is passes = filtered-more test xs i x true below is passes
+
+pub not_kept-more : {A : Type 0} (test : A → Bool) (xs : List A) (i : ℕ) (x : A) → i < length xs → x ≡ get_or xs i x → test x ≡ false → filter test (take (i + 1) xs) ≡ filter test (take i xs)
+not_kept-more test xs i x below is fails = filtered-more test xs i x false below is fails ∙ append-nil (filter test (take i xs))
+
+-- an item of the front of a list, and one behind it
+
+pub slice_get-front : {A : Type 0} (xs ys : List A) (i : ℕ) → i < length xs → slice_get (xs ++ ys) i ≡ slice_get xs i
+slice_get-front [] ys i within = absurd (omega arith)
+slice_get-front (x ∷ xs) ys zero within = refl
+slice_get-front (x ∷ xs) ys (suc i) within = slice_get-front xs ys i (omega arith)
+
+pub slice_get-behind : {A : Type 0} (xs ys : List A) (n i : ℕ) → n ≡ length xs + i → slice_get (xs ++ ys) n ≡ slice_get ys i
+slice_get-behind [] ys n i same = let equal : n ≡ i = omega (arith, same) in ap (slice_get ys) equal
+slice_get-behind (x ∷ xs) ys zero i same = absurd (omega (arith, same))
+slice_get-behind (x ∷ xs) ys (suc n) i same = slice_get-behind xs ys n i (omega (arith, same))

@@ -7,11 +7,10 @@ use Rattle.ms_logic_core.specs.declared.core_formula.Core.{Core}
 use Rattle.ms_logic_core.specs.declared.core_formula.Root as code
 use Rattle.ms_logic_core.specs.CoreForm.{core_form_of}
 use Rattle.ms_logic_core.specs.Spread.{own_names, spread_under}
-use Rattle.ms_logic.specs.declared.formula.Formula.{Formula}
 use Rattle.ms_logic.specs.Assignment.{Variable}
 use Rattle.ms_logic_core.specs.Roots.{first_free}
 use Rattle.ms_logic.specs.Tree.{Form}
-use Rattle.ms_logic.specs.View.{formula_of, forms}
+use Rattle.ms_logic.specs.View.{forms}
 use Rattle.ms_lower.specs.declared.scope.Named.{Named}
 use Rattle.ms_lower.specs.declared.tables.Tables.{Tables}
 use Rattle.ms_lower.specs.NumberedRoots.{NumberedRoot, above_all, numbering_over, order_seen, renumbered_root, root_of, root_over, roots_among, roots_in, seen_over, with_orders}
@@ -56,20 +55,19 @@ pub roots_among-append : (tables : Tables) (exports : List ExportUse) (seen : Li
 roots_among-append tables exports seen [] f = append-nil (roots_in tables exports seen f)
 roots_among-append tables exports seen (g ∷ fs) f = ap (λ l. roots_in tables exports seen g ++ l) (roots_among-append tables exports seen fs f) ∙ sym (append_assoc (roots_in tables exports seen g) (roots_among tables exports seen (forms fs)) (roots_in tables exports seen f))
 
--- the roots of one operand more
-pub roots-more : (tables : Tables) (exports : List ExportUse) (seen : List Variable) (fs : List Formula) (i : ℕ) (f : Formula) (before one made : List code.Root) → i < length fs → f ≡ get_or fs i f →
-    map root_of before ≡ map (renumbered_root tables) (roots_among tables exports seen (forms (map formula_of (take i fs)))) →
-    map root_of one ≡ map (renumbered_root tables) (roots_in tables exports seen (formula_of f)) → made ≡ before ++ one →
-    map root_of made ≡ map (renumbered_root tables) (roots_among tables exports seen (forms (map formula_of (take (i + 1) fs))))
-roots-more tables exports seen fs i f before one made below is before_is one_is made_is =
-    let n = numbering_of tables in
+-- the roots of one formula more
+pub roots-more : {A : Type 0} (view : A → Form) (tables : Tables) (exports : List ExportUse) (seen : List Variable) (fs : List A) (i : ℕ) (f : A) (before one made : List code.Root) → i < length fs → f ≡ get_or fs i f →
+    map root_of before ≡ map (renumbered_root tables) (roots_among tables exports seen (forms (map view (take i fs)))) →
+    map root_of one ≡ map (renumbered_root tables) (roots_in tables exports seen (view f)) → made ≡ before ++ one →
+    map root_of made ≡ map (renumbered_root tables) (roots_among tables exports seen (forms (map view (take (i + 1) fs))))
+roots-more view tables exports seen fs i f before one made below is before_is one_is made_is =
+    let front = roots_among tables exports seen (forms (map view (take i fs))) in
     ap (map root_of) made_is
     ∙ (map-append root_of before one
-    ∙ (ap (λ l. l ++ map root_of one) before_is
-    ∙ (ap (λ l. map (renumbered_root tables) (roots_among tables exports seen (forms (map formula_of (take i fs)))) ++ l) one_is
-    ∙ (sym (map-append (renumbered_root tables) (roots_among tables exports seen (forms (map formula_of (take i fs)))) (roots_in tables exports seen (formula_of f)))
-    ∙ (ap (map (renumbered_root tables)) (sym (roots_among-append tables exports seen (map formula_of (take i fs)) (formula_of f)))
-    ∙ ap (λ l. map (renumbered_root tables) (roots_among tables exports seen (forms l))) (sym (map-more formula_of fs i f below is)))))))
+    ∙ (ap₂ (λ l k. l ++ k) before_is one_is
+    ∙ (sym (map-append (renumbered_root tables) front (roots_in tables exports seen (view f)))
+    ∙ (ap (map (renumbered_root tables)) (sym (roots_among-append tables exports seen (map view (take i fs)) (view f)))
+    ∙ ap (λ l. map (renumbered_root tables) (roots_among tables exports seen (forms l))) (sym (map-more view fs i f below is))))))
 
 -- a root with its numbers and its core formula
 pub root_made : (tables own : Tables) (f : Form) (vs : List Variable) (numbers : List ℕ) (core : Core) (scope : List Named) (free : ℕ) → own.globals ≡ tables.globals → own.predicates.now ≡ tables.predicates.now → own.imports.now ≡ tables.imports.now → callees_in own ≡ callees_in tables →

@@ -1,9 +1,10 @@
--- The roots that are made are those of the mathematical source.
+-- The roots that are made are those of the questions of the mathematical source.
 use Rattle.std.proofs.Common.{◌≡◌, ℕ, zero, suc, ◌+◌, List, [], ◌∷◌, ◌++◌, length, map, slice_get, Some, Contains, refl, sym, ap, subst, ◌∙◌, arith}
-use Rattle.std.proofs.lemmas.Option.{get_or_from_slice_get, none-some, same_Some, slice_get_within}
-use Rattle.std.proofs.lemmas.List.{length-map}
+use Rattle.std.proofs.lemmas.Option.{none-some, same_Some}
+use Rattle.std.proofs.lemmas.List.{length-append, length-map}
 use Rattle.ms_logic.specs.declared.checked.Checked.{Checked}
 use Rattle.ms_logic.specs.declared.checked.ExportUse.{ExportUse}
+use Rattle.ms_logic.specs.declared.checked.Placed.{Placed}
 use Rattle.ms_logic_core.specs.declared.core_formula.Root as code
 use Rattle.ms_logic.specs.Assignment.{Variable}
 use Rattle.ms_logic_core.specs.Roots.{AreFreeVariables, Export, Root, exports_among, exports_in, first_free}
@@ -12,12 +13,14 @@ use Rattle.ms_lower.specs.Calling.{calling}
 use Rattle.ms_logic.specs.Tree as tree
 use Rattle.ms_logic.specs.Tree.{Form, Forms, no_forms, more_forms, truth, falsity as false_form, truth_variable, negation, conjunction, disjunction, implication, equivalence, comparison, set_comparison, membership, emptiness, quantified, where_let, call, imported, exported, default_at}
 use Rattle.ms_logic.specs.Truth.{Given}
-use Rattle.ms_logic.specs.View.{formula_of, forms, globals_from, problem_of, Answers}
+use Rattle.ms_logic.specs.Verdict.{variables_of}
+use Rattle.ms_logic.specs.View.{declared_in, formula_of, forms, globals_from, goals_in, problem_of, question_of, Answers}
 use Rattle.ms_names_rules.specs.Numbers.{CountUp}
 use Rattle.ms_lower.specs.declared.tables.Tables.{Tables}
 use Rattle.ms_lower.specs.Callees.{IsTablesOf, callees_in}
-use Rattle.ms_lower.specs.Lowered.{ExportsFit, ExportsFitEach, HasCallingRoots, IsRootOver, ListsVariables, export_root_over, main_root_over}
-use Rattle.ms_lower.specs.NumberedRoots.{all_roots, globals_over, main_over, renumbered_root, root_of, root_over, roots_among, roots_in, variables_of_export, with_orders}
+use Rattle.ms_lower.specs.Lowered.{ExportsFit, ExportsFitEach, HasCallingRoots, IsCallingRootFor, IsRootOver, ListsVariables, export_root_over, main_root_over}
+use Rattle.ms_lower.specs.NumberedRoots.{all_roots, export_roots, globals_over, goal_roots, main_over, renumbered_root, root_of, root_over, roots_among, roots_in, variables_of_export, with_orders}
+use Rattle.ms_lower.proofs.Parts.{slice_get-behind, slice_get-front}
 use Rattle.ms_lower.proofs.SourceTables.{callees_same, numbers_same}
 use Rattle.ms_lower.specs.Numbering.{Numbering, renumbered}
 use Rattle.ms_logic.proofs.Items.{contains_at}
@@ -108,51 +111,75 @@ mapped f [] k x is = absurd (none-some x is)
 mapped f (y ∷ xs) zero x is = ap (λ z. Some (f z)) (same_Some y x is)
 mapped f (y ∷ xs) (suc k) x is = mapped f xs k x is
 
-main_is : (checked : Checked) (answers : Answers) (tables : Tables) → callees_in tables ≡ calling (problem_of checked answers).given → main_over tables checked.globals checked.formulas ≡ main_root_over (calling (problem_of checked answers).given) (problem_of checked answers)
-main_is checked answers tables same =
-    ap (λ c.
-    let r : Root = record {
-      variables = map (λ declared. declared.variable) (globals_from 0 checked.globals);
-      formula =
-          conjunction_of
-          (restrictions_of c (globals_from 0 checked.globals) own_names (first_free (map (λ declared. declared.variable) (globals_from 0 checked.globals)))
-          ++ spread_each c (forms (map (λ placed. formula_of placed.formula) checked.formulas)) own_names (first_free (map (λ declared. declared.variable) (globals_from 0 checked.globals))));
-    } in r) same
+module _ (checked : Checked) (answers : Answers) (tables : Tables) (are : IsTablesOf checked tables) (same : length answers ≡ length checked.imports) (has : ListsVariables checked (problem_of checked answers)) where
+  abbrev given : Given
+  given = (problem_of checked answers).given
 
-is_root : (checked : Checked) (answers : Answers) (tables : Tables) (k : ℕ) (r : Root) → callees_in tables ≡ calling (problem_of checked answers).given → ListsVariables checked (problem_of checked answers) →
-    slice_get (all_roots tables checked.exports checked.globals checked.formulas) k ≡ Some r → IsRootOver (calling (problem_of checked answers).given) (problem_of checked answers) k r
-is_root checked answers tables zero r same has is = sym (same_Some (main_over tables checked.globals checked.formulas) r is) ∙ main_is checked answers tables same
-is_root checked answers tables (suc k) r same has is =
-    let problem = problem_of checked answers in
-    let found = all_matched problem.given tables checked.exports same problem.formulas (globals_over 0 [] checked.globals) has.fit in
-    let there = match_at problem.given (exports_among problem.formulas) (roots_among tables checked.exports (globals_over 0 [] checked.globals) problem.formulas) k r found is in
-    let number : there.0.number ≡ k = counted_at 0 (length checked.exports) (exports_among problem.formulas) k there.0 has.numbers there.1 ∙ omega arith in (
-      there.0.formula,
-      there.2.0,
-      subst (Contains (exports_among problem.formulas)) (ap (λ m. let e : Export = record { number = m; formula = there.0.formula } in e) number) (contains_at (exports_among problem.formulas) k there.0 there.1),
-      there.2.1,
-      there.2.2,
-    )
+  callees : callees_in tables ≡ calling given
+  callees = callees_same checked answers tables are same
 
-pub roots_for : (checked : Checked) (answers : Answers) (tables : Tables) (roots : List code.Root) → IsTablesOf checked tables → length answers ≡ length checked.imports → ListsVariables checked (problem_of checked answers) →
-    map root_of roots ≡ map (renumbered_root tables) (all_roots tables checked.exports checked.globals checked.formulas) → HasCallingRoots checked answers roots
-roots_for checked answers tables roots are same has made =
-    let problem = problem_of checked answers in
-    let c = callees_same checked answers tables are same in
-    let found = all_matched problem.given tables checked.exports c problem.formulas (globals_over 0 [] checked.globals) has.fit in
-    let rest = roots_among tables checked.exports (globals_over 0 [] checked.globals) problem.formulas in
-    let count = match_length problem.given (exports_among problem.formulas) rest found in
-    let numbers = counted_length 0 (length checked.exports) (exports_among problem.formulas) has.numbers in
-    let long = sym (length-map roots root_of) ∙ (ap length made ∙ length-map (all_roots tables checked.exports checked.globals checked.formulas) (renumbered_root tables)) in
-    record {
-      count = omega (arith, long, count, numbers);
-      each = λ k root is.
-          let there = unmapped (renumbered_root tables) (all_roots tables checked.exports checked.globals checked.formulas) k (root_of root) (ap (λ l. slice_get l k) (sym made) ∙ mapped root_of roots k root is) in
-          let n = numbers_same checked answers tables are same there.0.variables in
-          record {
-            own = there.0;
-            is_root = is_root checked answers tables k there.0 c has there.1;
-            variables = ap (λ (m : Numbering). map (λ (v : Variable). m.number v.order v.name) there.0.variables) (sym n) ∙ ap (λ r. r.variables) there.2;
-            formula = ap (λ m. renumbered m there.0.formula) (sym n) ∙ ap (λ r. r.formula) there.2;
-          };
-    }
+  -- the main root of a question
+  main_is : (asked : List Placed) → main_over tables checked.globals asked ≡ main_root_over (calling given) (question_of checked answers asked)
+  main_is asked =
+      let vs = variables_of (globals_from 0 checked.globals) in
+      ap (λ c.
+      let r : Root = record {
+        variables = vs;
+        formula =
+            conjunction_of
+            (restrictions_of c (globals_from 0 checked.globals) own_names (first_free vs) ++ spread_each c (forms (map (λ placed. formula_of placed.formula) asked)) own_names (first_free vs));
+      } in r) callees
+
+  -- the roots of the exports
+  matching : Match given (exports_among (problem_of checked answers).formulas) (export_roots tables checked)
+  matching = all_matched given tables checked.exports callees (problem_of checked answers).formulas (globals_over 0 [] checked.globals) has.fit
+
+  exports_counted : length (export_roots tables checked) ≡ length checked.exports
+  exports_counted =
+      let found = match_length given (exports_among (problem_of checked answers).formulas) (export_roots tables checked) matching in
+      let count = counted_length 0 (length checked.exports) (exports_among (problem_of checked answers).formulas) has.numbers in
+      omega (arith, found, count)
+
+  export_is : (i : ℕ) (r : Root) → slice_get (export_roots tables checked) i ≡ Some r → IsRootOver (calling given) (problem_of checked answers) (suc i) r
+  export_is i r is =
+      let exports = exports_among (problem_of checked answers).formulas in
+      let there = match_at given exports (export_roots tables checked) i r matching is in
+      let number : there.0.number ≡ i = counted_at 0 (length checked.exports) exports i there.0 has.numbers there.1 ∙ omega arith in (
+        there.0.formula,
+        there.2.0,
+        subst (Contains exports) (ap (λ m. let e : Export = record { number = m; formula = there.0.formula } in e) number) (contains_at exports i there.0 there.1),
+        there.2.1,
+        there.2.2,
+      )
+
+  module _ (roots : List code.Root) (made : map root_of roots ≡ map (renumbered_root tables) (all_roots tables checked)) where
+    -- a root of the answer, by what the root is that it is made of
+    calling_root : (asked : List Placed) (i k : ℕ) (root : code.Root) → slice_get roots k ≡ Some root →
+        ((own : Root) → slice_get (all_roots tables checked) k ≡ Some own → IsRootOver (calling given) (question_of checked answers asked) i own) → IsCallingRootFor checked (question_of checked answers asked) i root
+    calling_root asked i k root is own_is =
+        let there = unmapped (renumbered_root tables) (all_roots tables checked) k (root_of root) (ap (λ l. slice_get l k) (sym made) ∙ mapped root_of roots k root is) in
+        let n = numbers_same checked answers tables are same there.0.variables in
+        record {
+          own = there.0;
+          is_root = own_is there.0 there.1;
+          variables = ap (λ (m : Numbering). map (λ (v : Variable). m.number v.order v.name) there.0.variables) (sym n) ∙ ap (λ r. r.variables) there.2;
+          formula = ap (λ m. renumbered m there.0.formula) (sym n) ∙ ap (λ r. r.formula) there.2;
+        }
+
+    pub roots_for : HasCallingRoots checked answers roots
+    roots_for =
+        let exported = export_roots tables checked in
+        let goals = goal_roots tables checked in
+        record {
+          count =
+              let all = sym (length-map roots root_of) ∙ (ap length made ∙ length-map (all_roots tables checked) (renumbered_root tables)) in
+              let both = length-append exported goals in
+              let asked = length-map (goals_in checked) (λ goal. main_over tables checked.globals (goal ∷ [])) in
+              omega (arith, all, both, asked, exports_counted);
+          main = λ root is. calling_root (declared_in checked) 0 0 root is (λ own at. sym (same_Some (main_over tables checked.globals (declared_in checked)) own at) ∙ main_is (declared_in checked));
+          exports = λ i root within is. calling_root checked.formulas (suc i) (suc i) root is (λ own at. export_is i own (sym (slice_get-front exported goals i (omega (arith, within, exports_counted))) ∙ at));
+          goals = λ j goal root held is.
+              calling_root (goal ∷ []) 0 (suc (length checked.exports + j)) root is (λ own at.
+              let there = mapped (λ g. main_over tables checked.globals (g ∷ [])) (goals_in checked) j goal held in
+              sym (same_Some (main_over tables checked.globals (goal ∷ [])) own (sym there ∙ (sym (slice_get-behind exported goals (length checked.exports + j) j (omega (arith, exports_counted))) ∙ at))) ∙ main_is (goal ∷ []));
+        }

@@ -1,7 +1,8 @@
 -- A source as core formulas.
-use Rattle.std.specs.Prelude.{◌≡◌, ℕ, zero, suc, ◌+◌, List, [], ◌∷◌, ◌++◌, length, map, min, slice_get, Contains, Some}
+use Rattle.std.specs.Prelude.{◌≡◌, ℕ, zero, suc, ◌+◌, ◌<◌, List, [], ◌∷◌, ◌++◌, length, map, min, slice_get, Contains, Some}
 use Rattle.ms_logic.specs.declared.checked.Checked.{Checked}
 use Rattle.ms_logic.specs.declared.checked.ExportUse.{ExportUse}
+use Rattle.ms_logic.specs.declared.checked.Placed.{Placed}
 use Rattle.ms_logic_core.specs.declared.core_formula.Root as code
 use Rattle.ms_logic.specs.Assignment.{Variable}
 use Rattle.ms_logic_core.specs.CoreForm.{core_form_of}
@@ -16,7 +17,7 @@ use Rattle.ms_logic_core.specs.Roots.{AreFreeVariables, first_free, IsRoot, Root
 use Rattle.ms_logic.specs.Tree.{Form, truth, falsity, truth_variable, negation, conjunction, disjunction, implication, equivalence, comparison, set_comparison, membership, emptiness, quantified, where_let, call, restrict, imported, exported, default_at, Forms, no_forms, more_forms}
 use Rattle.ms_logic.specs.Truth.{Given}
 use Rattle.ms_logic.specs.Verdict.{Problem, variables_of}
-use Rattle.ms_logic.specs.View.{problem_of, Answers}
+use Rattle.ms_logic.specs.View.{goal_question, goals_in, main_question, problem_of, Answers}
 use Rattle.ms_names_rules.specs.Numbers.{CountUp}
 use Rattle.ms_lower.specs.NumberedRoots.{globals_over, variables_of_export, with_orders}
 use Rattle.ms_lower.specs.Numbering.{number_at, renumbered, with_new_numbers}
@@ -62,7 +63,7 @@ pub record ListsVariables (checked : Checked) (problem : Problem) : Type 0 where
   pub numbers : CountUp 0 (map (λ e. e.number) (exports_among problem.formulas)) (length checked.exports)
   pub fit : ExportsFitEach problem.given checked.exports (globals_over 0 [] checked.globals) problem.formulas
 
--- the roots of a source over what its calls stand for
+-- the roots of a question over what the calls of the source stand for
 abbrev pub main_root_over : Callees → Problem → Root
 main_root_over c problem = record {
   variables = variables_of problem.globals;
@@ -83,18 +84,28 @@ IsRootOver c problem (suc i) root =
     × AreFreeVariables problem.given f variables
     × (root ≡ export_root_over c variables f)
 
--- A root of the answer is the root of the source with its number in which calls stand as imports, with the numbers of the answer.
+-- The roots of the answer, by what each root of a question is: the main root of the formula declarations; then the roots of the exports,
+-- which stand in any formula of the source; and then the main root of each goal.
+pub record AreRootsOf (IsOne : Problem → ℕ → code.Root → Type 0) (checked : Checked) (answers : Answers) (roots : List code.Root) : Type 0 where
+  pub count : length roots ≡ 1 + length checked.exports + length (goals_in checked)
+  pub main : (root : code.Root) → slice_get roots 0 ≡ Some root → IsOne (main_question checked answers) 0 root
+  pub exports :
+      (i : ℕ) (root : code.Root) → i < length checked.exports → slice_get roots (suc i) ≡ Some root → IsOne (problem_of checked answers) (suc i) root
+  pub goals :
+      (j : ℕ) (goal : Placed) (root : code.Root) → slice_get (goals_in checked) j ≡ Some goal
+      → slice_get roots (suc (length checked.exports + j)) ≡ Some root → IsOne (goal_question checked answers goal) 0 root
+
+-- A root of the answer is the root of a question with its number in which calls stand as imports, with the numbers of the answer.
 pub record IsCallingRootFor (checked : Checked) (problem : Problem) (k : ℕ) (root : code.Root) : Type 0 where
   pub own : Root
   pub is_root : IsRootOver (calling problem.given) problem k own
   pub variables : map (λ v. number_at (min (length checked.globals) (first_free own.variables)) (length checked.globals) v.order v.name) own.variables ≡ root.variables
   pub formula : renumbered (calling_numbers (min (length checked.globals) (first_free own.variables)) (length checked.globals) problem.given) own.formula ≡ core_form_of root.core
 
-pub record HasCallingRoots (checked : Checked) (answers : Answers) (roots : List code.Root) : Type 0 where
-  pub count : length roots ≡ 1 + length checked.exports
-  pub each : (k : ℕ) (root : code.Root) → slice_get roots k ≡ Some root → IsCallingRootFor checked (problem_of checked answers) k root
+abbrev pub HasCallingRoots : Checked → Answers → List code.Root → Type 0
+HasCallingRoots checked answers roots = AreRootsOf (IsCallingRootFor checked) checked answers roots
 
--- A root of the answer with the orders of its variables, and with what its calls stand for in their places, is the root of the source
+-- A root of the answer with the orders of its variables, and with what its calls stand for in their places, is the root of a question
 -- with its number, up to the numbers of bound variables. Its variables stand in their scopes, where a bound variable has a greater number than those in scope.
 pub record IsRootFor (checked : Checked) (problem : Problem) (k : ℕ) (root : code.Root) : Type 0 where
   pub own : Root
@@ -106,6 +117,5 @@ pub record IsRootFor (checked : Checked) (problem : Problem) (k : ℕ) (root : c
   pub stands : Stands problem.given.imports made.variables made.formula
   pub numbers : made ≡ with_new_numbers (numbering_in (length checked.globals) problem.given.imports own) own
 
-pub record HasRoots (checked : Checked) (answers : Answers) (roots : List code.Root) : Type 0 where
-  pub count : length roots ≡ 1 + length checked.exports
-  pub each : (k : ℕ) (root : code.Root) → slice_get roots k ≡ Some root → IsRootFor checked (problem_of checked answers) k root
+abbrev pub HasRoots : Checked → Answers → List code.Root → Type 0
+HasRoots checked answers roots = AreRootsOf (IsRootFor checked) checked answers roots

@@ -1,13 +1,10 @@
 -- The size and the depth of a source, and the limits on them.
-use Rattle.std.specs.Prelude.{◌≡◌, ℕ, ◌<◌, ◌≤◌, List}
+use Rattle.std.specs.Prelude.{◌≡◌, ℕ, ◌<◌, ◌≤◌}
 use Rattle.ms_list.specs.declared.at.At.{At}
 use Rattle.ms_edge.specs.declared.refusal.Refusal.{Refusal}
 use Rattle.ms_edge.specs.declared.refusal.Refusal.TheVariants.{Depth, CoreSize}
-use Rattle.ms_logic.specs.declared.assignment.Value.{Value}
 use Rattle.ms_logic.specs.declared.checked.Checked.{Checked}
-use Rattle.ms_logic.specs.Assignment.{Universe}
 use Rattle.ms_logic_core.specs.Size.{size_of_source, depth_of_source}
-use Rattle.ms_logic.specs.Truth.{Answer}
 use Rattle.ms_logic.specs.Verdict.{Problem}
 use Rattle.ms_logic.specs.View.{problem_of, Answers}
 use Rattle.ms_lower.specs.TooDeep.{IsFirstTooDeep, parts_of}

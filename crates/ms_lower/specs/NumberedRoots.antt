@@ -1,5 +1,7 @@
 -- The roots of a source with the numbers of the answer.
+use Rattle.std.specs.List.{range_with_len}
 use Rattle.std.specs.Prelude.{ℕ, ◌+◌, ◌==◌, max, min, if◌then◌else◌, List, [], ◌∷◌, ◌++◌, map, slice_get, Option, Some, None}
+use Rattle.ms_logic.specs.declared.checked.Checked.{Checked}
 use Rattle.ms_logic.specs.declared.checked.ExportUse.{ExportUse}
 use Rattle.ms_logic.specs.declared.checked.Global.{Global}
 use Rattle.ms_logic.specs.declared.checked.Placed.{Placed}
@@ -11,7 +13,7 @@ use Rattle.ms_logic_core.specs.CoreForm.{CoreForm, core_form_of}
 use Rattle.ms_logic_core.specs.Roots.{Root, first_free}
 use Rattle.ms_logic_core.specs.Spread.{conjunction_of, own_names, restrictions_of, spread_each, spread_under}
 use Rattle.ms_logic.specs.Tree.{Form, truth, falsity, truth_variable, negation, conjunction, disjunction, implication, equivalence, comparison, set_comparison, membership, emptiness, quantified, where_let, call, restrict, imported, exported, default_at, Forms, no_forms, more_forms}
-use Rattle.ms_logic.specs.View.{formula_of, forms, globals_from}
+use Rattle.ms_logic.specs.View.{declared_in, formula_of, forms, globals_from, goals_in}
 use Rattle.ms_lower.specs.declared.scope.Named.{Named}
 use Rattle.ms_lower.specs.declared.tables.Tables.{Tables}
 use Rattle.ms_lower.specs.Callees.{callees_in}
@@ -32,6 +34,10 @@ numbering_over tables vs = record {
   number = number_at (min tables.globals (first_free vs)) tables.globals;
   imported = variables_at tables;
 }
+
+-- the root of the conjunction of some formulas, over so many globals
+abbrev pub root_of_forms : ℕ → List CoreForm → NumberedRoot
+root_of_forms globals fs = record { variables = range_with_len 0 globals; formula = conjunction_of fs }
 
 -- a root of the spread with the numbers of the answer
 abbrev pub renumbered_root : Tables → Root → NumberedRoot
@@ -96,14 +102,14 @@ abbrev pub above_all : List ℕ → ℕ
 above_all [] = 0
 above_all (x ∷ xs) = max (x + 1) (above_all xs)
 
--- the main root, over the globals
+-- the main root of a question that asks some formulas, over the globals
 abbrev pub main_over : Tables → List Global → List Placed → Root
-main_over tables globals formulas = record {
+main_over tables globals asked = record {
   variables = map (λ declared. declared.variable) (globals_from 0 globals);
   formula =
       conjunction_of
       (restrictions_of (callees_in tables) (globals_from 0 globals) own_names (first_free (map (λ declared. declared.variable) (globals_from 0 globals)))
-      ++ spread_each (callees_in tables) (forms (map (λ placed. formula_of placed.formula) formulas)) own_names (first_free (map (λ declared. declared.variable) (globals_from 0 globals))));
+      ++ spread_each (callees_in tables) (forms (map (λ placed. formula_of placed.formula) asked)) own_names (first_free (map (λ declared. declared.variable) (globals_from 0 globals))));
 }
 
 -- the variables that are seen behind some globals, whose numbers go on from a count
@@ -111,7 +117,15 @@ abbrev pub globals_over : ℕ → List Variable → List Global → List Variabl
 globals_over count outer [] = outer
 globals_over count outer (g ∷ more) = globals_over (count + 1) (record { name = count; order = g.order } ∷ outer) more
 
--- the roots of a source: the main root, and then those of its exports
-abbrev pub all_roots : Tables → List ExportUse → List Global → List Placed → List Root
-all_roots tables exports globals formulas =
-    main_over tables globals formulas ∷ roots_among tables exports (globals_over 0 [] globals) (forms (map (λ placed. formula_of placed.formula) formulas))
+-- the roots of the exports of a source, in all its formulas
+abbrev pub export_roots : Tables → Checked → List Root
+export_roots tables checked =
+    roots_among tables checked.exports (globals_over 0 [] checked.globals) (forms (map (λ placed. formula_of placed.formula) checked.formulas))
+
+-- the roots of its goals, each of which asks its formula alone
+abbrev pub goal_roots : Tables → Checked → List Root
+goal_roots tables checked = map (λ goal. main_over tables checked.globals (goal ∷ [])) (goals_in checked)
+
+-- the roots of a source: the main root, of the formula declarations, then those of its exports, and then those of its goals
+abbrev pub all_roots : Tables → Checked → List Root
+all_roots tables checked = main_over tables checked.globals (declared_in checked) ∷ (export_roots tables checked ++ goal_roots tables checked)

@@ -14,6 +14,7 @@ mod exports;
 mod extents;
 mod formulas;
 mod given;
+mod goal_roots;
 mod laws;
 mod main_root;
 mod orders;

@@ -21,8 +21,8 @@ fn roots_of(alloc: Global, checked: &Checked) -> Result<List<Root>, NoMemory>
     Ok(all_roots(&tables, checked)?)
 }
 
-/// The core formulas of a source: its main root, and the root of each export. A call stands in them as an import behind those of the
-/// source; what it becomes `lower_call` gives.
+/// The core formulas of a source: its main root, the root of each export, and the root of each goal. A call stands in them as an import
+/// behind those of the source; what it becomes `lower_call` gives.
 pub fn lower(alloc: Global, checked: &Checked) -> Result<Lowered, Refusal>
     ensures mode { IfOk result (λ lowered. lowered.mode ≡ checked.now.mode) }
     ensures measure { IfOk result (λ lowered. (answers : Answers) →

@@ -9,6 +9,7 @@ pub mod Positions
 pub mod Rules
 pub mod Seen
 pub mod Sources
+pub mod Titles
 pub mod Translated
 pub mod Truths
 pub mod Views

@@ -15,10 +15,11 @@ use Rattle.ms_logic.specs.Tree.{Form, Forms, number_variable, numeral, compariso
 use Rattle.ms_logic.specs.Tree as string
 use Rattle.ms_logic.specs.Truth.{Meanings, AllMet}
 use Rattle.ms_logic.specs.Verdict.{Problem, Assigns, MainYes, MainNo, variables_of}
-use Rattle.ms_logic.specs.View.{Answers, forms, globals_from, import_of, predicate_of, problem_of}
+use Rattle.ms_logic.specs.View.{Answers, forms, globals_from, import_of, main_question, predicate_of, problem_of}
 use Rattle.ms_ltlf.specs.Tree.{Temporal}
 use Rattle.ms_ltlf.specs.Trace.{FiniteTrace, HoldsAt}
 use Rattle.ms_ltlf.specs.Meaning.{length_of, trace_of, TellsTruth, IsOverTraces, TellsVerdict}
+use Rattle.ms_ltlf.proofs.Titles.{main-alone}
 use Rattle.ms_ltlf.specs.inner.Source.{IsStringSource, global_of, string_formulas}
 use Rattle.ms_ltlf.specs.inner.Strings.{two, string_form, at_the_start}
 use Rattle.ms_ltlf.proofs.Agreeing.{Agrees, along, agrees-two, agrees-exists}
@@ -170,11 +171,11 @@ verdict-told names f =
 
 -- for whatever is made as the source says
 
-pub tells-truth : (names : List (List ℕ)) (f : Temporal) (made : Checked) (answers : Answers) → IsStringSource names f made → TellsTruth f (problem_of made answers)
-tells-truth names f made answers is = subst (TellsTruth f) (problem-same names f made answers is) (truth-told names f)
+pub tells-truth : (names : List (List ℕ)) (f : Temporal) (made : Checked) (answers : Answers) → IsStringSource names f made → TellsTruth f (main_question made answers)
+tells-truth names f made answers is = subst (TellsTruth f) (problem-same names f made answers is ∙ main-alone made answers is.titles) (truth-told names f)
 
-pub is-over-traces : (names : List (List ℕ)) (f : Temporal) (made : Checked) (answers : Answers) → IsStringSource names f made → IsOverTraces (length names) (problem_of made answers)
-is-over-traces names f made answers is = subst (IsOverTraces (length names)) (problem-same names f made answers is) (traces-assigned names f)
+pub is-over-traces : (names : List (List ℕ)) (f : Temporal) (made : Checked) (answers : Answers) → IsStringSource names f made → IsOverTraces (length names) (main_question made answers)
+is-over-traces names f made answers is = subst (IsOverTraces (length names)) (problem-same names f made answers is ∙ main-alone made answers is.titles) (traces-assigned names f)
 
-pub tells-verdict : (names : List (List ℕ)) (f : Temporal) (made : Checked) (answers : Answers) → IsStringSource names f made → TellsVerdict (length names) f (problem_of made answers)
-tells-verdict names f made answers is = subst (TellsVerdict (length names) f) (problem-same names f made answers is) (verdict-told names f)
+pub tells-verdict : (names : List (List ℕ)) (f : Temporal) (made : Checked) (answers : Answers) → IsStringSource names f made → TellsVerdict (length names) f (main_question made answers)
+tells-verdict names f made answers is = subst (TellsVerdict (length names) f) (problem-same names f made answers is ∙ main-alone made answers is.titles) (verdict-told names f)

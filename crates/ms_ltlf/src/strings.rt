@@ -1,5 +1,5 @@
 ghost use Rattle.ms_logic.specs.Tree.{Form};
-ghost use Rattle.ms_logic.specs.View.{Answers, formula_of, problem_of};
+ghost use Rattle.ms_logic.specs.View.{Answers, formula_of, goals_in, main_question, problem_of};
 ghost use Rattle.ms_logic.specs.declared.checked.Global.{Global as Variable};
 ghost use Rattle.ms_logic.specs.declared.checked.Placed.{Placed};
 ghost use Rattle.ms_logic.specs.declared.mode.Mode.TheVariants.{M2lStr};
@@ -13,7 +13,7 @@ ghost use Rattle.ms_ltlf.specs.View.{IsWellFormed, temporal_of};
 ghost use Rattle.ms_ltlf.specs.inner.Made.{Gives};
 ghost use Rattle.ms_ltlf.specs.inner.Source.{IsStringSource, global_of, start};
 ghost use Rattle.ms_ltlf.specs.inner.Strings.{at_the_start, some_position};
-ghost use Rattle.std.specs.Prelude.{◌≡◌, ◌≤◌, ◌+◌, ◌*◌, ◌∷◌, [], length, map, IfOk};
+ghost use Rattle.std.specs.Prelude.{◌≡◌, ◌≤◌, ◌+◌, ◌*◌, ◌∷◌, [], None, length, map, IfOk};
 
 use crate::atoms::{is_first, itself};
 use crate::formulas::formula_at;
@@ -76,6 +76,7 @@ fn declared(
         IfOk result (λ made. map (λ (placed : Placed). formula_of placed.formula) made ≡ f ∷ g ∷ []) }
     ensures places { IfOk result (λ made. map (λ (placed : Placed). placed.at) made ≡ start ∷ start ∷ []) }
     ensures items { IfOk result (λ made. map (λ (placed : Placed). placed.item) made ≡ 1 ∷ 2 ∷ []) }
+    ensures titles { IfOk result (λ made. map (λ (placed : Placed). placed.title) made ≡ None ∷ None ∷ []) }
 {
     let (first, second) = both(first, second)?;
     two(alloc, placed(1, first), placed(2, second))
@@ -86,10 +87,12 @@ fn placed(item: u32, formula: Formula) -> Placed
     ensures formula { result.formula ≡ formula }
     ensures place { result.at ≡ start }
     ensures item { result.item ≡ item }
+    ensures title { result.title ≡ None }
 {
     Placed {
         at: At { file: 0, place: 0 },
         item,
+        title: None,
         formula,
     }
 }
@@ -123,10 +126,11 @@ fn string_source(alloc: Global, trace: &Trace) -> Result<Checked, NoMemory>
 /// value is Undefined, and that the formula holds at the first.
 pub fn to_strings(alloc: Global, trace: &Trace) -> Result<Checked, NoMemory>
     requires { IsWellFormed trace.now }
-    ensures truth { IfOk result (λ made. (answers : Answers) → TellsTruth (temporal_of trace.now.formula) (problem_of made answers)) }
-    ensures traces { IfOk result (λ made. (answers : Answers) → IsOverTraces (length trace.now.names) (problem_of made answers)) }
+    ensures truth { IfOk result (λ made. (answers : Answers) → TellsTruth (temporal_of trace.now.formula) (main_question made answers)) }
+    ensures traces { IfOk result (λ made. (answers : Answers) → IsOverTraces (length trace.now.names) (main_question made answers)) }
     ensures verdict { IfOk result (λ made. (answers : Answers) →
-        TellsVerdict (length trace.now.names) (temporal_of trace.now.formula) (problem_of made answers)) }
+        TellsVerdict (length trace.now.names) (temporal_of trace.now.formula) (main_question made answers)) }
+    ensures no_goals { IfOk result (λ made. goals_in made ≡ []) }
     ensures numbered { IfOk result IsWellNumbered }
     ensures exports { IfOk result ListsFreeVariables }
     ensures meets_rules { IfOk result MeetsRules }

@@ -14,7 +14,7 @@ all-made k (constant at n is) h = tt
 all-made k (predicate at n vs e) h = predicate-all k.scope k.before vs e h
 all-made k include h = tt
 all-made k (default o n e) h = default-all k.scope k.before o n e h
-all-made k (formula e) h = formula-here k.scope k.before e (ordered k.scope k.before e) h
+all-made k (formula title e) h = formula-here k.scope k.before e (ordered k.scope k.before e) h
 
 pub made-there : (k : Known) (d : Declaration) → first_fault (faults_in k d) ≡ None → IsMade (made_in k.scope k.globals k.before d)
 made-there k d e = all-made k d (right-there k d e)

@@ -13,10 +13,10 @@ use Rattle.ms_names_rules.specs.declared.fault.Fault.{Fault}
 use Rattle.ms_names_rules.specs.declared.meaning.Meaning.TheVariants.{Variable}
 use Rattle.ms_names_rules.specs.Before.{Before, after_domain}
 use Rattle.ms_names_rules.specs.inner.Binder.{restricted_variable, restricted_variables}
-use Rattle.ms_names_rules.specs.Declarations.{Known, after_declaration, faults_in, first_fault_from, globals_in, occurrences_in, or_later}
+use Rattle.ms_names_rules.specs.Declarations.{Known, after_declaration, faults_in, first_fault_from, globals_in, occurrences_in, or_later, title_in}
 use Rattle.ms_names_rules.specs.Fault.{first_fault}
 use Rattle.ms_names_rules.specs.Scope.{Scope, bind, count_of_bounds}
-use Rattle.ms_names_rules.specs.Syntax.{Bytes, Bounds, no_bounds, more_bounds, Domain, Declaration, globals, constant, predicate, include, default, formula, Placed}
+use Rattle.ms_names_rules.specs.Syntax.{Bytes, Bounds, no_bounds, more_bounds, Domain, Declaration, globals, constant, predicate, include, default, formula, Placed, Title}
 use Rattle.ms_names_rules.specs.Typed.{both, typed_domain}
 use Rattle.ms_names_rules.specs.TypedSource.{TypedFormula, TypedGlobal, collected, formulas_of, globals_of, globals_of_bounds, predicates_of}
 use Rattle.ms_names_rules.specs.Uses.{export_at, import_at}
@@ -59,7 +59,7 @@ globals-counted (constant at n is) = refl
 globals-counted (predicate at n vs e) = refl
 globals-counted include = refl
 globals-counted (default o n e) = refl
-globals-counted (formula e) = refl
+globals-counted (formula title e) = refl
 
 -- what a declaration gives, by what was made of it
 
@@ -72,7 +72,7 @@ globals-made k at item (constant name_at n is) made e = absurd (cc)
 globals-made k at item (predicate name_at n vs b) made e = absurd (cc)
 globals-made k at item include made e = absurd (cc)
 globals-made k at item (default o n b) made e = absurd (cc)
-globals-made k at item (formula b) made e = absurd (cc)
+globals-made k at item (formula title b) made e = absurd (cc)
 
 abbrev pub are_globals : Made → Bool
 are_globals (made_globals vs) = true
@@ -86,11 +86,12 @@ predicates_made (made_predicate p) = p ∷ []
 predicates_made (made_formula f) = []
 predicates_made made_nothing = []
 
-abbrev pub formulas_made : At → ℕ → Made → List (Option TypedFormula)
-formulas_made at item (made_globals vs) = []
-formulas_made at item (made_predicate p) = []
-formulas_made at item (made_formula f) = option_map (λ form. record { at = at; item = item; formula = form }) f ∷ []
-formulas_made at item made_nothing = []
+abbrev pub formulas_made : At → ℕ → Option Title → Made → List (Option TypedFormula)
+formulas_made at item title (made_globals vs) = []
+formulas_made at item title (made_predicate p) = []
+formulas_made at item title (made_formula f) =
+    option_map (λ form. record { at = at; item = item; title = option_map (λ (t : Title). t.text) title; formula = form }) f ∷ []
+formulas_made at item title made_nothing = []
 
 no-globals-in : (k : Known) (at : At) (item : ℕ) (d : Declaration) →
     are_globals (made_in k.scope k.globals k.before d) ≡ false → globals_of k at item d ≡ []
@@ -99,7 +100,7 @@ no-globals-in k at item (constant name_at n is) e = refl
 no-globals-in k at item (predicate name_at n vs b) e = refl
 no-globals-in k at item include e = refl
 no-globals-in k at item (default o n b) e = refl
-no-globals-in k at item (formula b) e = refl
+no-globals-in k at item (formula title b) e = refl
 
 no-globals-made : (k : Known) (at : At) (item : ℕ) (d : Declaration) (made : Made) →
     are_globals made ≡ false → made ≡ made_in k.scope k.globals k.before d → globals_of k at item d ≡ []
@@ -111,24 +112,24 @@ predicates-in k (constant name_at n is) = refl
 predicates-in k (predicate name_at n vs b) = refl
 predicates-in k include = refl
 predicates-in k (default o n b) = refl
-predicates-in k (formula b) = refl
+predicates-in k (formula title b) = refl
 
 predicates-made : (k : Known) (d : Declaration) (made : Made) →
     made ≡ made_in k.scope k.globals k.before d → predicates_made made ≡ predicates_of k d
 predicates-made k d made e = ap predicates_made e ∙ predicates-in k d
 
 formulas-in : (k : Known) (at : At) (item : ℕ) (d : Declaration) →
-    formulas_made at item (made_in k.scope k.globals k.before d) ≡ formulas_of k at item d
+    formulas_made at item (title_in d) (made_in k.scope k.globals k.before d) ≡ formulas_of k at item d
 formulas-in k at item (globals vs) = refl
 formulas-in k at item (constant name_at n is) = refl
 formulas-in k at item (predicate name_at n vs b) = refl
 formulas-in k at item include = refl
 formulas-in k at item (default o n b) = refl
-formulas-in k at item (formula b) = refl
+formulas-in k at item (formula title b) = refl
 
 formulas-made : (k : Known) (at : At) (item : ℕ) (d : Declaration) (made : Made) →
-    made ≡ made_in k.scope k.globals k.before d → formulas_made at item made ≡ formulas_of k at item d
-formulas-made k at item d made e = ap (formulas_made at item) e ∙ formulas-in k at item d
+    made ≡ made_in k.scope k.globals k.before d → formulas_made at item (title_in d) made ≡ formulas_of k at item d
+formulas-made k at item d made e = ap (formulas_made at item (title_in d)) e ∙ formulas-in k at item d
 
 -- what is kept where a declaration gives nothing of a kind, or something
 
@@ -162,7 +163,8 @@ keeps-predicate earlier later d p added same_globals same_formulas = record {
 }
 
 pub keeps-formula : (earlier later : Progress) (d : Placed) (f : Form) →
-    kept_formulas later.formulas ≡ kept_formulas earlier.formulas ++ Some (record { at = d.at; item = earlier.item; formula = f }) ∷ [] →
+    kept_formulas later.formulas ≡ kept_formulas earlier.formulas
+    ++ Some (record { at = d.at; item = earlier.item; title = option_map (λ (t : Title). t.text) (title_in d.declaration); formula = f }) ∷ [] →
     later.globals ≡ earlier.globals → later.predicates ≡ earlier.predicates → Keeps earlier later d (made_formula (Some f))
 keeps-formula earlier later d f added same_globals same_predicates = record {
   globals_are = λ k e. kept-none (kept_globals later.globals) (kept_globals earlier.globals) _

@@ -1,12 +1,13 @@
 ghost use Rattle.ms_logic.specs.View.{declaration_of, formula_of, predicate_of};
 ghost use Rattle.ms_names_rules.specs.inner.Binder.{restricted_variables};
-ghost use Rattle.ms_names_rules.specs.Syntax.{constant, default, formula, globals, predicate};
+ghost use Rattle.ms_names_rules.specs.Syntax.{Title, constant, default, formula, globals, predicate};
 ghost use Rattle.ms_names_rules.specs.Typed.{formula_in, typed};
 ghost use Rattle.ms_names_rules.specs.TypedSource.{typed_default, typed_predicate};
 ghost use Rattle.ms_names_rules.specs.View.{bounds_of, expression_of};
-ghost use Rattle.ms_names_scopes.specs.inner.Declaration.{Files, known_at, told};
+ghost use Rattle.ms_names_scopes.specs.declared.taken.Taken.{Taken};
+ghost use Rattle.ms_names_scopes.specs.inner.Declaration.{known_at, told};
 ghost use Rattle.std.specs.Option.{option_map};
-ghost use Rattle.std.specs.Prelude.{◌≡◌, [], ℕ, true, map, IfOk, OnOk};
+ghost use Rattle.std.specs.Prelude.{◌≡◌, [], ℕ, true, map, IfOk, OnOk, Option};
 
 use crate::declaration::{default_parts, predicate_parts};
 use crate::expression::{expression, variables};
@@ -16,10 +17,10 @@ use ms_names_rules::{Meaning, Wanted};
 use ms_names_scopes::Checker;
 use ms_names_typing::formula_in;
 
-/// A formula declaration.
+/// A formula, of a declaration or of a goal.
 pub(crate) fn declare_formula(checker: &mut Checker, e: &Expr) -> Result<Option<Formula>, NoMemory>
-    ensures state { OnOk result ((count : ℕ) (files : Files)
-        → checker.new ≡ told checker.old (known_at checker.old count files) (formula (expression_of e.now)) checker.new.reads) }
+    ensures state { OnOk result ((count : ℕ) (taken : Taken) (title : Option Title)
+        → checker.new ≡ told checker.old (known_at checker.old count taken) (formula title (expression_of e.now)) checker.new.reads) }
     ensures value { IfOk result (λ made. option_map formula_of made ≡ formula_in (typed checker.old.scope checker.old.before (expression_of e.now))) }
 {
     let value = expression(checker, Wanted::Exactly(Order::Zero), e)?;
@@ -32,8 +33,8 @@ pub(crate) fn declare_globals(
     first: u32,
     bounds: &[Bound],
 ) -> Result<Option<Vec<Param>>, NoMemory>
-    ensures state { OnOk result ((files : Files)
-        → checker.new ≡ told checker.old (known_at checker.old first files) (globals (bounds_of bounds.now)) checker.new.reads) }
+    ensures state { OnOk result ((taken : Taken)
+        → checker.new ≡ told checker.old (known_at checker.old first taken) (globals (bounds_of bounds.now)) checker.new.reads) }
     ensures value { IfOk result (λ made. option_map (λ ps. map declaration_of ps.items) made
         ≡ restricted_variables true checker.old.scope first checker.old.before (bounds_of bounds.now)) }
 {
@@ -49,8 +50,8 @@ pub(crate) fn declare_constant(
     name: &Name,
     ints: &[PlacedInt],
 ) -> Result<(), NoMemory>
-    ensures { OnOk result ((count : ℕ) (files : Files)
-        → checker.new ≡ told checker.old (known_at checker.old count files) (constant at name.now ints.now) checker.new.reads) }
+    ensures { OnOk result ((count : ℕ) (taken : Taken)
+        → checker.new ≡ told checker.old (known_at checker.old count taken) (constant at name.now ints.now) checker.new.reads) }
 {
     let value = checker.constant(at, name, ints)?;
     checker.bind(name, Meaning::Constant(value))?;
@@ -66,8 +67,8 @@ pub(crate) fn declare_predicate(
     body: &Expr,
 ) -> Result<Option<Predicate>, NoMemory>
     requires { checker.old.reads ≡ [] }
-    ensures state { OnOk result ((count : ℕ) (files : Files)
-        → checker.new ≡ told checker.old (known_at checker.old count files)
+    ensures state { OnOk result ((count : ℕ) (taken : Taken)
+        → checker.new ≡ told checker.old (known_at checker.old count taken)
         (predicate at name.now (bounds_of bounds.now) (expression_of body.now)) checker.new.reads) }
     ensures value { IfOk result (λ made. option_map predicate_of made
         ≡ typed_predicate checker.old.scope checker.old.before (bounds_of bounds.now) (expression_of body.now)) }
@@ -87,8 +88,8 @@ pub(crate) fn declare_default(
     body: &Expr,
 ) -> Result<Option<Predicate>, NoMemory>
     requires { checker.old.reads ≡ [] }
-    ensures state { OnOk result ((count : ℕ) (files : Files)
-        → checker.new ≡ told checker.old (known_at checker.old count files) (default order name.now (expression_of body.now)) checker.new.reads) }
+    ensures state { OnOk result ((count : ℕ) (taken : Taken)
+        → checker.new ≡ told checker.old (known_at checker.old count taken) (default order name.now (expression_of body.now)) checker.new.reads) }
     ensures value { IfOk result (λ made. option_map predicate_of made
         ≡ typed_default checker.old.scope checker.old.before order name.now (expression_of body.now)) }
 {

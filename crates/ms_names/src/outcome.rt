@@ -1,6 +1,8 @@
-ghost use Rattle.ms_names_rules.specs.Declarations.{after_declaration};
+ghost use Rattle.ms_names_rules.specs.Declarations.{after_declaration, faults_of_title, title_in, with_title};
 ghost use Rattle.ms_names_rules.specs.View.{declaration_of};
-ghost use Rattle.ms_names_scopes.specs.inner.Declaration.{Files, known_at, told};
+ghost use Rattle.ms_names_scopes.specs.declared.taken.Taken.{Taken};
+ghost use Rattle.ms_names_scopes.specs.inner.Declaration.{known_at, told};
+ghost use Rattle.ms_names_scopes.specs.inner.Found.{with_faults};
 ghost use Rattle.ms_names.specs.inner.Outcome.{declared_in, made_in, outcome_of};
 ghost use Rattle.std.specs.Prelude.{◌≡◌, [], IfOk, OnOk};
 
@@ -9,7 +11,7 @@ use crate::declare::{
 };
 use ms_list::NoMemory;
 use ms_logic::{Decl, Formula, Param, Predicate};
-use ms_names_scopes::{Checker, Seen};
+use ms_names_scopes::{Checker, Seen, Taken};
 
 /// What a declaration gave. Nothing comes of what has a fault.
 #[derive(Drop)]
@@ -23,8 +25,8 @@ pub(crate) enum Outcome {
 // A declaration by its kind, where the globals before it are so many.
 fn kind(checker: &mut Checker, count: u32, decl: &Decl) -> Result<Outcome, NoMemory>
     requires { checker.old.reads ≡ [] }
-    ensures state { OnOk result ((files : Files)
-        → checker.new ≡ told checker.old (known_at checker.old count files) (declaration_of decl.now) checker.new.reads) }
+    ensures state { OnOk result ((taken : Taken)
+        → checker.new ≡ told checker.old (known_at checker.old count taken) (declaration_of decl.now) checker.new.reads) }
     ensures value { IfOk result (λ made. outcome_of made ≡ made_in checker.old.scope count checker.old.before (declaration_of decl.now)) }
 {
     match decl {
@@ -49,6 +51,26 @@ fn kind(checker: &mut Checker, count: u32, decl: &Decl) -> Result<Outcome, NoMem
             let made = declare_formula(checker, e)?;
             Ok(Outcome::Formula(made))
         }
+        Decl::Goal(_, _, e) => {
+            let made = declare_formula(checker, e)?;
+            Ok(Outcome::Formula(made))
+        }
+    }
+}
+
+// Reports the title of a goal that an earlier goal has, and notes it.
+fn check_title(checker: &mut Checker, titles: &mut Seen, decl: &Decl) -> Result<(), NoMemory>
+    ensures state { OnOk result (checker.new ≡ with_faults checker.old (faults_of_title titles.old (title_in (declaration_of decl.now)))) }
+    ensures titles { OnOk result (titles.new ≡ with_title titles.old (title_in (declaration_of decl.now))) }
+{
+    match decl {
+        Decl::Goal(at, title, _) => checker.check_title(*at, title, titles),
+        Decl::Vars(_) => Ok(()),
+        Decl::Const(..) => Ok(()),
+        Decl::Pred(..) => Ok(()),
+        Decl::Include(..) => Ok(()),
+        Decl::Default(..) => Ok(()),
+        Decl::Formula(_) => Ok(()),
     }
 }
 
@@ -56,16 +78,18 @@ fn kind(checker: &mut Checker, count: u32, decl: &Decl) -> Result<Outcome, NoMem
 pub(crate) fn declare(
     checker: &mut Checker,
     count: u32,
-    files: &mut Seen,
+    taken: &mut Taken,
     decl: &Decl,
 ) -> Result<Outcome, NoMemory>
-    ensures state { OnOk result (checker.new ≡ declared_in checker.old (known_at checker.old count files.old) (declaration_of decl.now) checker.new.reads) }
-    ensures files { OnOk result (files.new ≡ (after_declaration (known_at checker.old count files.old) (declaration_of decl.now)).files) }
+    ensures state { OnOk result (checker.new ≡ declared_in checker.old (known_at checker.old count taken.old) (declaration_of decl.now) checker.new.reads) }
+    ensures files { OnOk result (taken.new.files ≡ (after_declaration (known_at checker.old count taken.old) (declaration_of decl.now)).files) }
+    ensures titles { OnOk result (taken.new.titles ≡ with_title taken.old.titles (title_in (declaration_of decl.now))) }
     ensures value { IfOk result (λ made. outcome_of made ≡ made_in checker.old.scope count checker.old.before (declaration_of decl.now)) }
 {
     checker.begin();
+    check_title(checker, &mut taken.titles, decl)?;
     let from = checker.exports_so_far();
     let made = kind(checker, count, decl)?;
-    checker.check_exports(from, files)?;
+    checker.check_exports(from, &mut taken.files)?;
     Ok(made)
 }

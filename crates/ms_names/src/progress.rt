@@ -1,15 +1,17 @@
 ghost use Rattle.ms_logic.specs.View.{declaration_of as parameter_of};
-ghost use Rattle.ms_names_rules.specs.Declarations.{count_of_globals, globals_in};
+ghost use Rattle.ms_names_rules.specs.Declarations.{count_of_globals, globals_in, title_in};
+ghost use Rattle.ms_names_rules.specs.Syntax.{Title};
 ghost use Rattle.ms_names_rules.specs.View.{bounds_of, declaration_of, placed_of};
 ghost use Rattle.ms_names.specs.inner.Outcome.{outcome_of};
 ghost use Rattle.ms_names.specs.inner.Progress.{IsAfter, IsBeginning, IsFirstOf, IsMade, IsNext, Keeps, bounds_in, globals_with, kept_globals, known};
+ghost use Rattle.std.specs.Option.{option_map};
 ghost use Rattle.std.specs.Prelude.{◌≡◌, ◌+◌, ◌∷◌, ◌++◌, ◌⊎◌, [], map, IfErr, IfOk, OnOk};
 
 use crate::outcome::{Outcome, declare};
 use ms_edge::Refusal;
-use ms_list::{At, List, NoMemory, push};
+use ms_list::{At, List, NoMemory, Text, push};
 use ms_logic::{Bound, Decl, Item, Mode, Param, Placed, Predicate};
-use ms_names_scopes::{Checker, Seen, copy_name, small};
+use ms_names_scopes::{Checker, Seen, Taken, copy_name, small};
 use std::alloc::Global;
 
 /// A check of a source that stands between two declarations: what it knows there, and what those before gave.
@@ -17,7 +19,7 @@ use std::alloc::Global;
 pub(crate) struct Progress {
     pub(crate) alloc: Global,
     pub(crate) checker: Checker,
-    pub(crate) files: Seen,
+    pub(crate) taken: Taken,
     pub(crate) count: u32,
     pub(crate) item: u32,
     pub(crate) globals: List<ms_logic::Global>,
@@ -86,6 +88,21 @@ fn add_globals(
     Ok(())
 }
 
+// The title of a declaration that is a goal.
+fn title(alloc: Global, decl: &Decl) -> Result<Option<Text>, NoMemory>
+    ensures { IfOk result (λ title. title ≡ option_map (λ (t : Title). t.text) (title_in (declaration_of decl.now))) }
+{
+    match decl {
+        Decl::Goal(_, title, _) => Ok(Some(Text::new(alloc, title.text())?)),
+        Decl::Vars(_) => Ok(None),
+        Decl::Const(..) => Ok(None),
+        Decl::Pred(..) => Ok(None),
+        Decl::Include(..) => Ok(None),
+        Decl::Default(..) => Ok(None),
+        Decl::Formula(_) => Ok(None),
+    }
+}
+
 impl Progress {
     /// Before the first declaration. Bound names are numbered after all globals.
     pub(crate) fn begin(alloc: Global, mode: Mode, items: &[Item]) -> Result<Progress, NoMemory>
@@ -95,7 +112,10 @@ impl Progress {
         Ok(Progress {
             alloc,
             checker: Checker::new(alloc, mode, next),
-            files: Seen::new(alloc),
+            taken: Taken {
+                files: Seen::new(alloc),
+                titles: Seen::new(alloc),
+            },
             count: 0,
             item: 0,
             globals: List::new(alloc),
@@ -109,7 +129,7 @@ impl Progress {
         requires { IsMade (outcome_of made) }
         ensures kept { OnOk result (Keeps self.old self.new (placed_of item.now) (outcome_of made)) }
         ensures checker { OnOk result (self.new.checker ≡ self.old.checker) }
-        ensures files { OnOk result (self.new.files ≡ self.old.files) }
+        ensures taken { OnOk result (self.new.taken ≡ self.old.taken) }
         ensures count { OnOk result (self.new.count ≡ self.old.count) }
         ensures item { OnOk result (self.new.item ≡ self.old.item) }
     {
@@ -127,6 +147,7 @@ impl Progress {
                 let placed = Placed {
                     at: item.at,
                     item: self.item,
+                    title: title(self.alloc, &item.decl)?,
                     formula,
                 };
                 push(&mut self.formulas, placed)
@@ -157,7 +178,7 @@ impl Progress {
         ensures next { OnOk result (IsNext self.old self.new (placed_of item.now)) }
         ensures refused { IfErr result (λ refusal. (refusal ≡ Refusal.Memory) ⊎ IsFirstOf (known self.old) (placed_of item.now ∷ []) refusal) }
     {
-        let Ok(made) = declare(&mut self.checker, self.count, &mut self.files, &item.decl) else {
+        let Ok(made) = declare(&mut self.checker, self.count, &mut self.taken, &item.decl) else {
             return Err(Refusal::Memory);
         };
         if let Some(fault) = self.checker.take_first() {

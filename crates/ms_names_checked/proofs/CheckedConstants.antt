@@ -1,5 +1,5 @@
 -- The constants and relations of a checked source are in range.
-use Rattle.std.proofs.Common.{◌≡◌, ℕ, ◌+◌, List, [], ◌∷◌, map, refl, sym, subst, ◌∙◌, None}
+use Rattle.std.proofs.Common.{option_map, ◌≡◌, ℕ, ◌+◌, List, [], ◌∷◌, map, refl, sym, subst, ◌∙◌, None}
 use Rattle.ms_list.specs.declared.at.At.{At as Place}
 use Rattle.ms_logic.specs.declared.checked.Global.{Global}
 use Rattle.ms_logic.specs.declared.mode.Mode.{Mode}
@@ -11,7 +11,7 @@ use Rattle.ms_logic.specs.View.{globals_from, predicate_of}
 use Rattle.ms_logic.specs.declared.checked.Checked.{Checked}
 use Rattle.ms_logic.specs.declared.source.Loaded.{Loaded}
 use Rattle.ms_names_rules.specs.declared.meaning.Meaning.TheVariants as meaning
-use Rattle.ms_names_rules.specs.Syntax.{Bytes, Expression, Bounds, no_bounds, more_bounds, Domain, unrestricted, restricted, Declaration, globals, constant, predicate, include, default, formula}
+use Rattle.ms_names_rules.specs.Syntax.{Bytes, Expression, Bounds, no_bounds, more_bounds, Domain, unrestricted, restricted, Declaration, globals, constant, predicate, include, default, formula, Title}
 use Rattle.ms_names_rules.specs.Before.{Before, with_names, after_bounds, after_domain}
 use Rattle.ms_names_rules.specs.inner.Binder.{predicate_with, restricted_variable}
 use Rattle.ms_names_rules.specs.Declarations.{Known, after_declaration, at_the_beginning, occurrences_in, occurrences_in_default, occurrences_in_predicate, with_readings, first_fault_of}
@@ -43,7 +43,7 @@ mode-after mode k (constant at n is) same = same
 mode-after mode k (predicate at n vs e) is = is
 mode-after mode k include is = is
 mode-after mode k (default o n e) is = default-mode (with_readings (occurrences_in k (default o n e)) k.scope) o _ ∙ is
-mode-after mode k (formula e) is = is
+mode-after mode k (formula title e) is = is
 
 module _ (mode : Mode) where
   abbrev GlobalInRange : TypedGlobal → Type 0
@@ -75,7 +75,7 @@ module _ (mode : Mode) where
   globals-in-range k at item (predicate name_at n vs e) is h = tt
   globals-in-range k at item include is h = tt
   globals-in-range k at item (default o n e) is h = tt
-  globals-in-range k at item (formula e) is h = tt
+  globals-in-range k at item (formula title e) is h = tt
 
   parameter-in-range : (s : Scope) (b : Before) (d : Domain) → s.mode ≡ mode → AreRight (inside_domain (without_exports s) b d) → If (IsRestrictionInRange mode) (restriction_of_parameter s b d)
   parameter-in-range s b unrestricted is h = tt
@@ -124,7 +124,7 @@ module _ (mode : Mode) where
   predicates-in-range k (predicate at n vs e) is h = (predicate-in-range k.scope k.before vs e is h, tt)
   predicates-in-range k include is h = tt
   predicates-in-range k (default o n e) is h = (default-in-range k.scope k.before o n e is h, tt)
-  predicates-in-range k (formula e) is h = tt
+  predicates-in-range k (formula title e) is h = tt
 
   formulas-in-range : (k : Known) (at : Place) (item : ℕ) (d : Declaration) → k.scope.mode ≡ mode → AreRight (occurrences_in k d) → Each (If FormulaInRange) (formulas_of k at item d)
   formulas-in-range k at item (globals vs) is h = tt
@@ -132,8 +132,8 @@ module _ (mode : Mode) where
   formulas-in-range k at item (predicate name_at n vs e) is h = tt
   formulas-in-range k at item include is h = tt
   formulas-in-range k at item (default o n e) is h = tt
-  formulas-in-range k at item (formula e) is h = (
-    if-one (IsInRange mode) FormulaInRange (λ form. record { at = at; item = item; formula = form }) (formula_in (typed k.scope k.before e)) (λ f i. i)
+  formulas-in-range k at item (formula title e) is h = (
+    if-one (IsInRange mode) FormulaInRange (λ form. record { at = at; item = item; title = option_map (λ (t : Title). t.text) title; formula = form }) (formula_in (typed k.scope k.before e)) (λ f i. i)
         (formula-in-range mode (typed k.scope k.before e) (in-range mode k.scope k.before formula_wanted e is h)),
     tt,
   )

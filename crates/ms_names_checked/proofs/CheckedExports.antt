@@ -1,9 +1,9 @@
 -- The exports of a checked source stand where they may, and list the free variables of what they export.
-use Rattle.std.proofs.Common.{◌≡◌, ℕ, map, sym, subst, None}
+use Rattle.std.proofs.Common.{option_map, ◌≡◌, ℕ, map, sym, subst, None}
 use Rattle.ms_list.specs.declared.at.At.{At as Place}
 use Rattle.ms_logic.specs.declared.checked.Checked.{Checked}
 use Rattle.ms_logic.specs.declared.source.Loaded.{Loaded}
-use Rattle.ms_names_rules.specs.Syntax.{Declaration, globals, constant, predicate, include, default, formula}
+use Rattle.ms_names_rules.specs.Syntax.{Declaration, globals, constant, predicate, include, default, formula, Title}
 use Rattle.ms_names_rules.specs.Declarations.{Known, at_the_beginning, occurrences_in, first_fault_of}
 use Rattle.ms_logic.specs.Lists.{Each}
 use Rattle.ms_names_rules.specs.Occurrence.{formula_wanted}
@@ -24,8 +24,8 @@ formulas-in-place k at item (constant name_at n is) right = tt
 formulas-in-place k at item (predicate name_at n vs e) right = tt
 formulas-in-place k at item include right = tt
 formulas-in-place k at item (default o n e) right = tt
-formulas-in-place k at item (formula e) right = (
-  if-one HasExportsInPlace (λ (f : TypedFormula). HasExportsInPlace f.formula) (λ form. record { at = at; item = item; formula = form }) (formula_in (typed k.scope k.before e)) (λ f h. h)
+formulas-in-place k at item (formula title e) right = (
+  if-one HasExportsInPlace (λ (f : TypedFormula). HasExportsInPlace f.formula) (λ form. record { at = at; item = item; title = option_map (λ (t : Title). t.text) title; formula = form }) (formula_in (typed k.scope k.before e)) (λ f h. h)
       (formula-in-place (typed k.scope k.before e) (in-place k.scope k.before formula_wanted e right)),
   tt,
 )

@@ -1,5 +1,5 @@
 -- Variables of one number have one order in a checked source.
-use Rattle.std.proofs.Common.{◌≡◌, ℕ, ◌+◌, List, [], ◌∷◌, ◌++◌, length, length-append, map, None, refl, sym, ap, subst, arith}
+use Rattle.std.proofs.Common.{option_map, ◌≡◌, ℕ, ◌+◌, List, [], ◌∷◌, ◌++◌, length, length-append, map, None, refl, sym, ap, subst, arith}
 use Rattle.ms_list.specs.declared.at.At.{At as Place}
 use Rattle.ms_logic.specs.declared.checked.Global.{Global}
 use Rattle.ms_logic.specs.declared.mode.Order.{Order}
@@ -9,7 +9,7 @@ use Rattle.ms_logic.specs.View.{globals_from, predicate_of}
 use Rattle.ms_logic.specs.declared.checked.Checked.{Checked}
 use Rattle.ms_logic.specs.declared.source.Loaded.{Loaded}
 use Rattle.ms_names_rules.specs.declared.meaning.Meaning.TheVariants as meaning
-use Rattle.ms_names_rules.specs.Syntax.{Expression, Bounds, no_bounds, more_bounds, Domain, unrestricted, restricted, Declaration, globals, constant, predicate, include, default, formula, Placed}
+use Rattle.ms_names_rules.specs.Syntax.{Expression, Bounds, no_bounds, more_bounds, Domain, unrestricted, restricted, Declaration, globals, constant, predicate, include, default, formula, Title, Placed}
 use Rattle.ms_names_rules.specs.Before.{Before, with_names, after_bounds, after_domain}
 use Rattle.ms_names_rules.specs.inner.Binder.{predicate_with, restricted_variable}
 use Rattle.ms_names_rules.specs.Declarations.{Known, after_declaration, at_the_beginning, before_after, count_of_globals, globals_in, orders_of_bounds, first_fault_of}
@@ -35,7 +35,7 @@ orders_in_declaration (constant at n is) = []
 orders_in_declaration (predicate at n vs e) = orders_of_bounds vs ++ (orders_in_bounds vs ++ orders_in e)
 orders_in_declaration include = []
 orders_in_declaration (default o n e) = o ∷ orders_in e
-orders_in_declaration (formula e) = orders_in e
+orders_in_declaration (formula title e) = orders_in e
 
 abbrev orders_in_source : List Placed → List Order
 orders_in_source [] = []
@@ -55,7 +55,7 @@ declaration-long b (predicate at n vs e) =
     omega (arith, many, first, second, inner, outer)
 declaration-long b include = omega arith
 declaration-long b (default o n e) = let rest = orders-long (with_names b 1) e in omega (arith, rest)
-declaration-long b (formula e) = orders-long b e
+declaration-long b (formula title e) = orders-long b e
 
 own-orders : (vs : Bounds) → count_of_bounds vs ≡ length (picked_of_bounds (λ o n. o) vs)
 own-orders no_bounds = refl
@@ -67,7 +67,7 @@ own-long (constant at n is) = refl
 own-long (predicate at n vs e) = refl
 own-long include = refl
 own-long (default o n e) = refl
-own-long (formula e) = refl
+own-long (formula title e) = refl
 
 globals-long : (ds : List Placed) → count_of_globals ds ≡ length (orders_of_globals ds)
 globals-long [] = refl
@@ -107,7 +107,7 @@ module _ (T : List Order) where
   globals-in-order k at item (predicate name_at n vs e) h = tt
   globals-in-order k at item include h = tt
   globals-in-order k at item (default o n e) h = tt
-  globals-in-order k at item (formula e) h = tt
+  globals-in-order k at item (formula title e) h = tt
 
   parameter-in-order : (s : Scope) (b : Before) (d : Domain) → Stand T b.next (orders_in_domain d) → If (RestrictionBindsInOrder T) (restriction_of_parameter s b d)
   parameter-in-order s b unrestricted h = tt
@@ -150,7 +150,7 @@ module _ (T : List Order) where
             (formula-in-order T (typed inner here e) (in-order T inner here e h.1)),
         tt,
       )
-  predicates-in-order k (formula e) h = tt
+  predicates-in-order k (formula title e) h = tt
 
   formulas-in-order : (k : Known) (at : Place) (item : ℕ) (d : Declaration) → Stand T k.before.next (orders_in_declaration d) → Each (If FormulaInOrder) (formulas_of k at item d)
   formulas-in-order k at item (globals vs) h = tt
@@ -158,8 +158,8 @@ module _ (T : List Order) where
   formulas-in-order k at item (predicate name_at n vs e) h = tt
   formulas-in-order k at item include h = tt
   formulas-in-order k at item (default o n e) h = tt
-  formulas-in-order k at item (formula e) h = (
-    if-one (BindsInOrder T) FormulaInOrder (λ form. record { at = at; item = item; formula = form }) (formula_in (typed k.scope k.before e)) (λ f i. i)
+  formulas-in-order k at item (formula title e) h = (
+    if-one (BindsInOrder T) FormulaInOrder (λ form. record { at = at; item = item; title = option_map (λ (t : Title). t.text) title; formula = form }) (formula_in (typed k.scope k.before e)) (λ f i. i)
         (formula-in-order T (typed k.scope k.before e) (in-order T k.scope k.before e h)),
     tt,
   )

@@ -32,7 +32,7 @@ declaration-spelled (constant at n is) ns h k = k
 declaration-spelled (predicate at n vs e) ns h k = k
 declaration-spelled include ns h k = k
 declaration-spelled (default o n e) ns h k = k
-declaration-spelled (formula e) ns h k = k
+declaration-spelled (formula title e) ns h k = k
 
 globals-spelled : (ds : List Placed) → Each (λ (d : Placed). DeclaresNames d.declaration) ds → Each IsName (names_of_globals ds)
 globals-spelled [] h = tt
@@ -53,7 +53,7 @@ uses-here k (predicate at n vs e) h names =
 uses-here k include h names = tt
 uses-here k (default o n e) h names =
     named (bind n (meaning.Variable k.before.next o) (without_exports k.scope)) (with_names k.before 1) formula_wanted e (names.0, h) names.1
-uses-here k (formula e) h names = named k.scope k.before formula_wanted e h names
+uses-here k (formula title e) h names = named k.scope k.before formula_wanted e h names
 
 names-after : (k : Known) (d : Declaration) → Each IsNamed k.scope.names → DeclaresNames d → Each IsNamed (after_declaration k d).scope.names
 names-after k (globals vs) h names = bounds-scope k.scope k.globals vs h names
@@ -62,7 +62,7 @@ names-after k (predicate at n vs e) h names = (tt, h)
 names-after k include h names = h
 names-after k (default o n e) h names =
     subst (λ there. Each IsNamed there) (sym (default-names (with_readings (occurrences_in k (default o n e)) k.scope) o _)) h
-names-after k (formula e) h names = h
+names-after k (formula title e) h names = h
 
 flat-exports : (os : List Occurrence) → Each UsesNamed os → Each ExportNamed (flat_map export_at os)
 flat-exports [] h = tt

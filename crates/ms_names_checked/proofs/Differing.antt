@@ -13,7 +13,7 @@ use Rattle.ms_logic.specs.declared.source.Rename.{Rename}
 use Rattle.ms_names_rules.specs.declared.fault.Fault.{Fault}
 use Rattle.ms_names_rules.specs.declared.meaning.Meaning.{Meaning}
 use Rattle.ms_names_rules.specs.declared.meaning.Meaning.TheVariants as meaning
-use Rattle.ms_names_rules.specs.Declarations.{Known, after_declaration, declared_names, exports_in, faults_in, faults_of_declaration, first_fault_from, occurrences_in, with_readings}
+use Rattle.ms_names_rules.specs.Declarations.{Known, after_declaration, declared_names, exports_in, faults_in, faults_of_declaration, faults_of_title, first_fault_from, occurrences_in, title_in, with_readings}
 use Rattle.ms_logic.specs.Lists.{Each}
 use Rattle.ms_names_rules.specs.Occurrence.{Occurrence}
 use Rattle.ms_names_rules.specs.Rules.{faults_at, faults_of_bounds, faults_of_export, faults_of_exports, faults_of_form, faults_of_names, faults_of_order, faults_of_renames, faults_of_repeat, faults_of_variable, first_name_twice, in_case, is_name_among}
@@ -99,14 +99,15 @@ fresh-declaration k (predicate at n vs e) ns right h = fresh-later n (declared_n
 fresh-declaration k include ns right h = h
 fresh-declaration k (default o n e) ns right h =
     subst (λ earlier. Fresh earlier ns) (ap (map (λ entry. entry.0)) (default-names (with_readings (occurrences_in k (default o n e)) k.scope) o (length k.scope.readings))) h
-fresh-declaration k (formula e) ns right h = h
+fresh-declaration k (formula title e) ns right h = h
 
 pub fresh-globals : (k : Known) (ds : List Placed) → first_fault_from k ds ≡ None → Fresh (declared_names k.scope) (names_of_globals ds)
 fresh-globals k [] right = tt
 fresh-globals k (d ∷ ds) right =
     let both = right-both k d ds right in
     let none = no-fault (faults_in k d.declaration) both.0 in
-    fresh-declaration k d.declaration (names_of_globals ds) (front-empty (faults_of_declaration k d.declaration) _ none)
+    fresh-declaration k d.declaration (names_of_globals ds)
+    (front-empty (faults_of_declaration k d.declaration) _ (back-empty (faults_of_title k.titles (title_in d.declaration)) _ none))
     (fresh-globals (after_declaration k d.declaration) ds both.1)
 
 -- exports
@@ -158,10 +159,11 @@ exports-different k item (d ∷ ds) right =
     let none = no-fault (faults_in k d.declaration) both.0 in
     let others = flat_map faults_at (occurrences_in k d.declaration) in
     let last = faults_of_exports k.files (exports_in k d.declaration) in
+    let own = faults_of_declaration k d.declaration in
     let next = after_declaration k d.declaration in
     let rest = exports-different next (item + 1) ds both.1 in
     fresh-exports k.files (exports_in k d.declaration) (collected (λ k item d. flat_map export_at (occurrences_in k d.declaration)) next (item + 1) ds)
-    (back-empty others last (back-empty (faults_of_declaration k d.declaration) (others ++ last) none)) rest.0 rest.1
+    (back-empty others last (back-empty own (others ++ last) (back-empty (faults_of_title k.titles (title_in d.declaration)) (own ++ (others ++ last)) none))) rest.0 rest.1
 
 -- imports
 

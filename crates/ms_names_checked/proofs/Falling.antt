@@ -164,7 +164,7 @@ declaration-falling k (default o n e) enough h =
     let b = k.before in
     let own = later k.globals b.next k.scope.names (omega (arith, enough)) h in
     falling (bind n (meaning.Variable b.next o) (without_exports k.scope)) (with_names b 1) formula_wanted e (one-more b.next o n k.scope.names own)
-declaration-falling k (formula e) enough h = falling k.scope k.before formula_wanted e (later k.globals k.before.next k.scope.names (omega (arith, enough)) h)
+declaration-falling k (formula title e) enough h = falling k.scope k.before formula_wanted e (later k.globals k.before.next k.scope.names (omega (arith, enough)) h)
 
 pub falling-after : (k : Known) (d : Declaration) → AreFalling k.globals k.scope.names → AreFalling (after_declaration k d).globals (after_declaration k d).scope.names
 falling-after k (globals vs) h = falling-bounds k.scope k.globals vs h
@@ -174,4 +174,4 @@ falling-after k include h = later k.globals (k.globals + 0) k.scope.names (omega
 falling-after k (default o n e) h =
     later k.globals (k.globals + 0) _ (omega arith)
     (subst (AreFalling k.globals) (sym (default-names (with_readings (occurrences_in k (default o n e)) k.scope) o _)) h)
-falling-after k (formula e) h = later k.globals (k.globals + 0) k.scope.names (omega arith) h
+falling-after k (formula title e) h = later k.globals (k.globals + 0) k.scope.names (omega arith) h

@@ -26,7 +26,7 @@ module _ {A : Type 0} (pick : Order → Bytes → A) where
   picked_in (predicate at n vs e) = []
   picked_in include = []
   picked_in (default o n e) = []
-  picked_in (formula e) = []
+  picked_in (formula title e) = []
 
   abbrev pub picked_of_globals : List Placed → List A
   picked_of_globals [] = []
@@ -56,7 +56,7 @@ module _ {A : Type 0} (pick : Order → Bytes → A) where
   declaration-has k at item (predicate name_at n vs e) gs xs h = h
   declaration-has k at item include gs xs h = h
   declaration-has k at item (default o n e) gs xs h = h
-  declaration-has k at item (formula e) gs xs h = h
+  declaration-has k at item (formula title e) gs xs h = h
 
   globals-have : (k : Known) (item : ℕ) (ds : List Placed) → Have (collected (λ k item d. globals_of k d.at item d.declaration) k item ds) (picked_of_globals ds)
   globals-have k item [] = tt

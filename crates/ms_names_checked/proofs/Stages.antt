@@ -1,5 +1,5 @@
 -- What is known before each declaration of a source.
-use Rattle.std.proofs.Common.{◌≡◌, ℕ, ◌+◌, ◌≤◌, ◌↔◌, List, [], ◌∷◌, ◌++◌, length, map, Option, Some, None, refl, sym, ap, subst, ◌∙◌, arith}
+use Rattle.std.proofs.Common.{option_map, ◌≡◌, ℕ, ◌+◌, ◌≤◌, ◌↔◌, List, [], ◌∷◌, ◌++◌, length, map, Option, Some, None, refl, sym, ap, subst, ◌∙◌, arith}
 use Rattle.std.specs.Prelude.{flat_map, slice_get}
 use Rattle.ms_list.specs.declared.at.At.{At as Place}
 use Rattle.ms_logic.specs.declared.checked.ImportUse.{ImportUse}
@@ -12,7 +12,7 @@ use Rattle.ms_logic_core.specs.Roots.{exports_in}
 use Rattle.ms_logic.specs.Tree as tree
 use Rattle.ms_logic.specs.Tree.{Predicate}
 use Rattle.ms_names_rules.specs.declared.meaning.Meaning.TheVariants as meaning
-use Rattle.ms_names_rules.specs.Syntax.{Bytes, Expression, Bounds, no_bounds, more_bounds, Declaration, globals, constant, predicate, include, default, formula, Placed}
+use Rattle.ms_names_rules.specs.Syntax.{Bytes, Expression, Bounds, no_bounds, more_bounds, Declaration, globals, constant, predicate, include, default, formula, Title, Placed}
 use Rattle.ms_names_rules.specs.Before.{Before, with_names, after, after_bounds, after_domain}
 use Rattle.ms_names_rules.specs.inner.Binder.{predicate_with}
 use Rattle.ms_names_rules.specs.Declarations.{Known, after_declaration, before_after, count_of_globals, occurrences_in, orders_of_bounds, with_readings}
@@ -78,7 +78,7 @@ declaration-grows b (predicate at n vs e) =
     omega (arith, second, third)
 declaration-grows b include = omega arith
 declaration-grows b (default o n e) = let second = grows (with_names b 1) e in omega (arith, second)
-declaration-grows b (formula e) = grows b e
+declaration-grows b (formula title e) = grows b e
 
 -- Before a declaration: what is known, where all globals have numbers below low and what is bound has greater ones.
 pub record Stage (tables : Tables) (r : Reads) (low : ℕ) (k : Known) (ds : List Placed) : Type 0 where
@@ -224,9 +224,9 @@ module _ (tables : Tables) (r : Reads) (low : ℕ) (k : Known) where
       let enough = h.enough in
       record { knows = h.knows; below = same-below k.scope.names h.below; enough = omega (arith, enough); from = h.from; imports = h.imports }
 
-  stage-formula : (at : Place) (e : Expression) (ds : List Placed) → Stage tables r low k (record { at = at; declaration = formula e } ∷ ds) →
-      Stage tables r low (after_declaration k (formula e)) ds
-  stage-formula at e ds h =
+  stage-formula : (at : Place) (title : Option Title) (e : Expression) (ds : List Placed) → Stage tables r low k (record { at = at; declaration = formula title e } ∷ ds) →
+      Stage tables r low (after_declaration k (formula title e)) ds
+  stage-formula at title e ds h =
       let enough = h.enough in
       let from = h.from in
       let more = grows k.before e in
@@ -252,20 +252,20 @@ formulas-list tables all r low k at item (constant name_at n is) ds agree h uses
 formulas-list tables all r low k at item (predicate name_at n vs e) ds agree h uses = tt
 formulas-list tables all r low k at item include ds agree h uses = tt
 formulas-list tables all r low k at item (default o n e) ds agree h uses = tt
-formulas-list tables all r low k at item (formula e) ds agree h uses =
+formulas-list tables all r low k at item (formula title e) ds agree h uses =
     let R = k.scope.readings in
     let imports : (i : ℕ) (used : ImportUse) (w : Variable) → slice_get tables.imports i ≡ Some used → all.imported i w ↔ IsPaired used.pairs w =
     λ i used w is. let same = agree.imported i w in let first = h.imports i used w is in (λ read. first.0 (same.1 read), λ paired. same.0 (first.1 paired)) in
-    let here = stage-at tables r low k (record { at = at; declaration = formula e } ∷ ds) h in
+    let here = stage-at tables r low k (record { at = at; declaration = formula title e } ∷ ds) h in
     let wide : At all R low k.before.next k.scope k.before.next = record {
       knows = knows-later r all R low k.before.next k.before.next k.scope (omega arith) agree h.knows;
       from = here.from;
       begun = here.begun;
       below = here.below;
     } in
-    let os = occurrences_in k (formula e) in
+    let os = occurrences_in k (formula title e) in
     let last = (after k.before e).next in (
-      if-one (FormTold tables all R low last k.scope.names os) (ListsIn tables all) (λ form. record { at = at; item = item; formula = form })
+      if-one (FormTold tables all R low last k.scope.names os) (ListsIn tables all) (λ form. record { at = at; item = item; title = option_map (λ (t : Title). t.text) title; formula = form })
           (formula_in (typed k.scope k.before e)) (λ f listed. listed.listed)
           (formula-told all tables.exports R low last k.scope.names (λ y. Reaches R os y) (typed k.scope k.before e) (told tables all R low imports k.before.next k.scope k.before formula_wanted e wide uses)),
       tt,
@@ -317,7 +317,7 @@ next-stage tables all r low later k at item (default o n e) ds same predicates h
     next-with tables all r low later k item (default o n e) ds (typed_default k.scope k.before o n e)
     (ap (λ (rs : List Readings). length rs) (default-readings more o (length k.scope.readings)) ∙ one) same predicates
     (λ p is. stage-default tables r low k at o n e ds p h uses is)
-next-stage tables all r low later k at item (formula e) ds same predicates h uses = (r, later, same, predicates, stage-formula tables r low k at e ds h)
+next-stage tables all r low later k at item (formula title e) ds same predicates h uses = (r, later, same, predicates, stage-formula tables r low k at title e ds h)
 
 -- all formulas of the next declarations
 pub lists-from : (tables : Tables) (all r : Reads) (low : ℕ) (later : List Predicate) (k : Known) (item : ℕ) (ds : List Placed) →

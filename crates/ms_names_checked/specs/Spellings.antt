@@ -71,7 +71,7 @@ DeclaresNames (constant at n is) = Unit {0}
 DeclaresNames (predicate at n vs e) = BoundsHaveNames vs × BindsNames e
 DeclaresNames include = Unit {0}
 DeclaresNames (default o n e) = IsName n × BindsNames e
-DeclaresNames (formula e) = BindsNames e
+DeclaresNames (formula title e) = BindsNames e
 
 -- the globals, the variables of exports and those of imported files have names of the language
 pub record HasNames (checked : Checked) : Type 0 where

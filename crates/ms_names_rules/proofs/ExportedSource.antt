@@ -1,5 +1,5 @@
 -- The exports of a checked source count up through its formulas, and stand nowhere else.
-use Rattle.std.proofs.Common.{◌≡◌, ℕ, ◌+◌, ◌≤◌, List, [], ◌∷◌, ◌++◌, length, Option, Some, None, refl, sym, subst, ◌∙◌, arith, add-zero, length-append}
+use Rattle.std.proofs.Common.{option_map, ◌≡◌, ℕ, ◌+◌, ◌≤◌, List, [], ◌∷◌, ◌++◌, length, Option, Some, None, refl, sym, subst, ◌∙◌, arith, add-zero, length-append}
 use Rattle.std.specs.Prelude.{flat_map}
 use Rattle.ms_list.specs.declared.at.At.{At}
 use Rattle.ms_logic.specs.declared.mode.Order.{Order}
@@ -7,7 +7,7 @@ use Rattle.ms_logic.specs.Tree as tree
 use Rattle.ms_logic.specs.Tree.{Form, Predicate}
 use Rattle.ms_names_rules.specs.declared.fault.Fault.{Fault}
 use Rattle.ms_names_rules.specs.declared.meaning.Meaning.TheVariants as meaning
-use Rattle.ms_names_rules.specs.Syntax.{Bytes, Expression, Bounds, no_bounds, more_bounds, Domain, unrestricted, restricted, Declaration, globals, constant, predicate, include, default, formula, Placed}
+use Rattle.ms_names_rules.specs.Syntax.{Bytes, Expression, Bounds, no_bounds, more_bounds, Domain, unrestricted, restricted, Declaration, globals, constant, predicate, include, default, formula, Placed, Title}
 use Rattle.ms_names_rules.specs.Before.{Before, with_names, after, after_bounds, after_domain}
 use Rattle.ms_names_rules.specs.inner.Binder.{predicate_with}
 use Rattle.ms_names_rules.specs.Declarations.{Known, after_declaration, before_after, faults_in, first_fault_from, occurrences_in, or_later}
@@ -61,7 +61,7 @@ globals-empty k at item (constant name_at n is) h = tt
 globals-empty k at item (predicate name_at n vs e) h = tt
 globals-empty k at item include h = tt
 globals-empty k at item (default o n e) h = tt
-globals-empty k at item (formula e) h = tt
+globals-empty k at item (formula title e) h = tt
 
 -- predicates
 
@@ -141,7 +141,7 @@ predicates-empty k (default o n e) h =
           (λ p c. count-none b.exports end.exports (exports_in_predicate p) (default-none k o n e h) c) (default-counts k.scope b o n e),
       tt,
     )
-predicates-empty k (formula e) h = tt
+predicates-empty k (formula title e) h = tt
 
 -- formulas
 
@@ -158,11 +158,11 @@ formulas-count k at item (constant name_at n is) more m h rest = rest
 formulas-count k at item (predicate name_at n vs e) more m h rest = subst (λ l. FormulasCount l more m) (predicate-none k name_at n vs e h) rest
 formulas-count k at item include more m h rest = rest
 formulas-count k at item (default o n e) more m h rest = subst (λ l. FormulasCount l more m) (default-none k o n e h) rest
-formulas-count k at item (formula e) more m h rest =
+formulas-count k at item (formula title e) more m h rest =
     let b = k.before in (
       (after b e).exports,
       if-one (FormCounts b.exports (after b e).exports) (λ (f : TypedFormula). CountUp b.exports (exports_in f.formula) (after b e).exports)
-          (λ form. record { at = at; item = item; formula = form }) (formula_in (typed k.scope b e)) (λ f j. j)
+          (λ form. record { at = at; item = item; title = option_map (λ (t : Title). t.text) title; formula = form }) (formula_in (typed k.scope b e)) (λ f j. j)
           (formula-counts b.exports (after b e).exports (typed k.scope b e) (exports-count k.scope b e)),
       rest,
     )

@@ -8,7 +8,7 @@ use Rattle.ms_names_rules.specs.declared.meaning.Meaning.TheVariants.{Variable}
 use Rattle.ms_names_rules.specs.Syntax.{Bytes, Expression, Bounds, no_bounds, more_bounds, Domain, unrestricted, restricted, Declaration}
 use Rattle.ms_names_rules.specs.Before.{Before, with_names, after_bounds, after_domain}
 use Rattle.ms_names_rules.specs.inner.Binder.{restricted_variables, restriction_in, predicate_with}
-use Rattle.ms_names_rules.specs.Declarations.{Known, exports_in, faults_in, faults_of_declaration, occurrences_in, occurrences_in_default, occurrences_in_predicate}
+use Rattle.ms_names_rules.specs.Declarations.{Known, exports_in, faults_in, faults_of_declaration, faults_of_title, occurrences_in, occurrences_in_default, occurrences_in_predicate, title_in}
 use Rattle.ms_names_rules.specs.Fault.{comes_before, first_fault, first_with}
 use Rattle.ms_names_rules.specs.Occurrence.{occurrences, inside_bounds, inside_domain, formula_wanted}
 use Rattle.ms_names_rules.specs.Rules.{faults_at, faults_of_exports}
@@ -76,5 +76,6 @@ pub right-there : (k : Known) (d : Declaration) → first_fault (faults_in k d) 
 right-there k d e =
     let others = flat_map faults_at (occurrences_in k d) in
     let last = faults_of_exports k.files (exports_in k d) in
-    let empty : faults_of_declaration k d ++ (others ++ last) ≡ [] = no-fault (faults_in k d) e in
-    front-empty others last (back-empty (faults_of_declaration k d) (others ++ last) empty)
+    let own = faults_of_declaration k d ++ (others ++ last) in
+    let empty : faults_of_title k.titles (title_in d) ++ own ≡ [] = no-fault (faults_in k d) e in
+    front-empty others last (back-empty (faults_of_declaration k d) (others ++ last) (back-empty (faults_of_title k.titles (title_in d)) own empty))

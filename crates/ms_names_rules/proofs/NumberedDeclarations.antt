@@ -10,7 +10,7 @@ use Rattle.ms_logic.specs.Tree as tree
 use Rattle.ms_logic.specs.Tree.{Form, Restriction, Predicate}
 use Rattle.ms_names_rules.specs.declared.meaning.Meaning.{Meaning}
 use Rattle.ms_names_rules.specs.declared.meaning.Meaning.TheVariants as meaning
-use Rattle.ms_names_rules.specs.Syntax.{Bytes, Expression, Bounds, no_bounds, more_bounds, Domain, unrestricted, restricted, Declaration, globals, constant, predicate, include, default, formula}
+use Rattle.ms_names_rules.specs.Syntax.{Bytes, Expression, Bounds, no_bounds, more_bounds, Domain, unrestricted, restricted, Declaration, globals, constant, predicate, include, default, formula, Title}
 use Rattle.ms_names_rules.specs.Before.{Before, with_names, after, after_bounds, after_domain}
 use Rattle.ms_names_rules.specs.inner.Binder.{restricted_variable, restricted_variables, restriction_in, predicate_with}
 use Rattle.ms_names_rules.specs.Declarations.{Known, before_after, occurrences_in, occurrences_in_default, occurrences_in_predicate}
@@ -87,7 +87,7 @@ counts-declaration k (default o n e) =
     let here = with_names k.before 1 in
     let inner = bind n (meaning.Variable k.before.next o) (without_exports k.scope) in
     counts-names k.before 1 (after here e) (occurrences inner here formula_wanted e) (counts inner here formula_wanted e)
-counts-declaration k (formula e) = counts k.scope k.before formula_wanted e
+counts-declaration k (formula title e) = counts k.scope k.before formula_wanted e
 
 uses-here : (tables : Tables) (gs : List TypedGlobal) (k : Known) (at : At) (item : ℕ) (d : Declaration) → Stands tables gs k at item d →
     Each (UsesStand tables) (occurrences_in k d)
@@ -104,13 +104,13 @@ formulas-numbered tables gs seen k at item (constant name_at n is) ready here = 
 formulas-numbered tables gs seen k at item (predicate name_at n vs e) ready here = tt
 formulas-numbered tables gs seen k at item include ready here = tt
 formulas-numbered tables gs seen k at item (default o n e) ready here = tt
-formulas-numbered tables gs seen k at item (formula e) ready here =
+formulas-numbered tables gs seen k at item (formula title e) ready here =
     let bound = length tables.predicates in (
       if-one (IsNumbered tables bound seen) (λ (f : TypedFormula). IsNumbered tables bound seen f.formula)
-          (λ form. record { at = at; item = item; formula = form }) (formula_in (typed k.scope k.before e)) (λ f h. h)
+          (λ form. record { at = at; item = item; title = option_map (λ (t : Title). t.text) title; formula = form }) (formula_in (typed k.scope k.before e)) (λ f h. h)
           (formula-numbered tables bound seen (typed k.scope k.before e)
           (numbered tables bound seen k.scope k.before formula_wanted e (fits-weaker tables (length k.scope.readings) bound seen k.scope ready.within ready.fits) ready.new
-          (uses-here tables gs k at item (formula e) here))),
+          (uses-here tables gs k at item (formula title e) here))),
       tt,
     )
 
@@ -188,7 +188,7 @@ globals-numbered tables gs seen k at item (constant name_at n is) are ready here
 globals-numbered tables gs seen k at item (predicate name_at n vs e) are ready here = tt
 globals-numbered tables gs seen k at item include are ready here = tt
 globals-numbered tables gs seen k at item (default o n e) are ready here = tt
-globals-numbered tables gs seen k at item (formula e) are ready here = tt
+globals-numbered tables gs seen k at item (formula title e) are ready here = tt
 
 -- predicates
 
@@ -273,4 +273,4 @@ predicates-numbered tables gs seen k at item (predicate name_at n vs e) ready he
 predicates-numbered tables gs seen k at item include ready here = tt
 predicates-numbered tables gs seen k at item (default o n e) ready here =
     (default-numbered tables (length k.scope.readings) seen k.scope k.before o n e ready.fits ready.new (uses-here tables gs k at item (default o n e) here), tt)
-predicates-numbered tables gs seen k at item (formula e) ready here = tt
+predicates-numbered tables gs seen k at item (formula title e) ready here = tt

@@ -85,7 +85,7 @@ declaration-grows b (default o n e) =
     let first : b.next ≤ here.next = omega arith in
     let second : here.next ≤ (after here e).next = grows here e in
     omega arith
-declaration-grows b (formula e) = grows b e
+declaration-grows b (formula title e) = grows b e
 
 fits-default : (tables : Tables) (bound : ℕ) (seen : List Variable) (s : Scope) (o : Order) (p : ℕ) → Fits tables bound seen s → IsDefault tables bound p o →
     Fits tables bound seen (with_default o p s)
@@ -161,9 +161,9 @@ ready-next tables gs seen k at item (default o n e) are ready here =
       below = subst (λ names. Each (IsBelow (k.globals + 0)) names) (sym (default-names more o (length k.scope.readings))) (same-below k.globals k.scope.names ready.below);
       within = subst (λ rs. length rs ≤ length tables.predicates) (sym same) low;
     }
-ready-next tables gs seen k at item (formula e) are ready here = record {
+ready-next tables gs seen k at item (formula title e) are ready here = record {
   fits = ready.fits;
-  new = new-above seen k.before.next (before_after k.before (formula e)).next ready.new (declaration-grows k.before (formula e));
+  new = new-above seen k.before.next (before_after k.before (formula title e)).next ready.new (declaration-grows k.before (formula title e));
   below = same-below k.globals k.scope.names ready.below;
   within = ready.within;
 }
@@ -198,7 +198,7 @@ globals-long k at item (constant name_at n is) = refl
 globals-long k at item (predicate name_at n vs e) = refl
 globals-long k at item include = refl
 globals-long k at item (default o n e) = refl
-globals-long k at item (formula e) = refl
+globals-long k at item (formula title e) = refl
 
 predicates-long : (k : Known) (d : Declaration) → length k.scope.readings + length (predicates_of k d) ≡ length (scope_after k d).readings
 predicates-long k (globals vs) = add-zero (length k.scope.readings) ∙ sym (ap length (readings-same k.scope k.globals vs))
@@ -209,7 +209,7 @@ predicates-long k (default o n e) =
     let more = with_readings (occurrences_in k (default o n e)) k.scope in
     let one : length k.scope.readings + length (predicates_of k (default o n e)) ≡ length more.readings = omega arith in
     one ∙ sym (ap length (default-readings more o (length k.scope.readings)))
-predicates-long k (formula e) = add-zero (length k.scope.readings)
+predicates-long k (formula title e) = add-zero (length k.scope.readings)
 
 rest-next : (tables : Tables) (gs : List TypedGlobal) (k : Known) (item : ℕ) (d : Placed) (ds : List Placed) → Rest tables gs k item (d ∷ ds) →
     Rest tables gs (after_declaration k d.declaration) (item + 1) ds

@@ -4,7 +4,7 @@ use Rattle.ms_list.specs.declared.at.At.{At}
 use Rattle.ms_logic.specs.declared.checked.ExportUse.{ExportUse}
 use Rattle.ms_logic.specs.declared.mode.Mode.{Mode}
 use Rattle.ms_logic.specs.declared.mode.Order.{Order}
-use Rattle.ms_names_rules.specs.Syntax.{Bytes, Expression, Bounds, no_bounds, more_bounds, Declaration, globals, constant, predicate, include, default, formula, Placed}
+use Rattle.ms_names_rules.specs.Syntax.{Bytes, Expression, Bounds, no_bounds, more_bounds, Declaration, globals, constant, predicate, include, default, formula, Placed, Title}
 use Rattle.ms_names_rules.specs.declared.fault.Fault.{Fault}
 use Rattle.ms_names_rules.specs.declared.fault.Fault.TheVariants.{OutOfRange}
 use Rattle.ms_names_rules.specs.declared.meaning.Meaning.TheVariants.{Variable, Constant, Predicate}
@@ -18,12 +18,13 @@ use Rattle.ms_names_rules.specs.Uses.{export_at, with_files}
 use Rattle.ms_names_rules.specs.Rules.{faults_at, faults_of_repeat, faults_of_bounds, faults_of_placed, faults_of_exports}
 
 -- what is known before a declaration: the scope, what stands before in the text, how many globals there are, and the file
--- names of the exports, the last first
+-- names of the exports and the titles of the goals, the last first
 pub record Known : Type 0 where
   pub scope : Scope
   pub before : Before
   pub globals : ℕ
   pub files : List Bytes
+  pub titles : List Bytes
 
 abbrev pub globals_in : Declaration → ℕ
 globals_in (globals vs) = count_of_bounds vs
@@ -31,7 +32,7 @@ globals_in (constant at n is) = 0
 globals_in (predicate at n vs e) = 0
 globals_in include = 0
 globals_in (default o n e) = 0
-globals_in (formula e) = 0
+globals_in (formula title e) = 0
 
 abbrev pub count_of_globals : List Placed → ℕ
 count_of_globals [] = 0
@@ -44,6 +45,7 @@ at_the_beginning mode ds = record {
   before = record { next = count_of_globals ds; imports = 0; exports = 0 };
   globals = 0;
   files = [];
+  titles = [];
 }
 
 -- the expressions of a predicate: the restrictions of its parameters and its body; no export may stand in them
@@ -65,7 +67,7 @@ occurrences_in k (constant at n is) = []
 occurrences_in k (predicate at n vs e) = occurrences_in_predicate k.scope k.before vs e
 occurrences_in k include = []
 occurrences_in k (default o n e) = occurrences_in_default k.scope k.before o n e
-occurrences_in k (formula e) = occurrences k.scope k.before formula_wanted e
+occurrences_in k (formula title e) = occurrences k.scope k.before formula_wanted e
 
 abbrev pub orders_of_bounds : Bounds → List Order
 orders_of_bounds no_bounds = []
@@ -89,7 +91,7 @@ scope_after k (predicate at n vs e) =
 scope_after k include = k.scope
 scope_after k (default o n e) =
     with_default o (next_predicate k.scope) (with_readings (occurrences_in k (default o n e)) k.scope)
-scope_after k (formula e) = k.scope
+scope_after k (formula title e) = k.scope
 
 abbrev pub before_after : Before → Declaration → Before
 before_after b (globals vs) = after_bounds b vs
@@ -97,11 +99,25 @@ before_after b (constant at n is) = b
 before_after b (predicate at n vs e) = after (after_bounds (with_names b (count_of_bounds vs)) vs) e
 before_after b include = b
 before_after b (default o n e) = after (with_names b 1) e
-before_after b (formula e) = after b e
+before_after b (formula title e) = after b e
 
 -- the exports of a declaration
 abbrev pub exports_in : Known → Declaration → List ExportUse
 exports_in k d = flat_map export_at (occurrences_in k d)
+
+-- the title of a declaration that is a goal
+abbrev pub title_in : Declaration → Option Title
+title_in (globals vs) = None
+title_in (constant at n is) = None
+title_in (predicate at n vs e) = None
+title_in include = None
+title_in (default o n e) = None
+title_in (formula title e) = title
+
+-- with one more title, the last first
+abbrev pub with_title : List Bytes → Option Title → List Bytes
+with_title earlier None = earlier
+with_title earlier (Some title) = title.text ∷ earlier
 
 -- what is known after a declaration
 abbrev pub after_declaration : Known → Declaration → Known
@@ -110,6 +126,7 @@ after_declaration k d = record {
   before = before_after k.before d;
   globals = k.globals + globals_in d;
   files = with_files k.files (exports_in k d);
+  titles = with_title k.titles (title_in d);
 }
 
 -- the globals, constants, predicates and macros that are declared
@@ -122,7 +139,12 @@ faults_of_sum at (sums_to n) = []
 faults_of_sum at leaves_range = OutOfRange at ∷ []
 faults_of_sum at has_no_value = []
 
--- what is wrong with a declaration, beside what is wrong with its expressions. Globals, constants, predicates and macros
+-- 21 at the text of a goal: an earlier goal has this title
+abbrev pub faults_of_title : List Bytes → Option Title → List Fault
+faults_of_title earlier None = []
+faults_of_title earlier (Some title) = faults_of_repeat title.at title.text earlier
+
+-- what is wrong with a declaration, beside what is wrong with its title and its expressions. Globals, constants, predicates and macros
 -- have all different names.
 abbrev pub faults_of_declaration : Known → Declaration → List Fault
 faults_of_declaration k (globals vs) = faults_of_bounds (declared_names k.scope) vs
@@ -133,12 +155,13 @@ faults_of_declaration k (predicate at n vs e) =
     faults_of_repeat at n (declared_names k.scope) ++ faults_of_bounds [] vs
 faults_of_declaration k include = []
 faults_of_declaration k (default o n e) = []
-faults_of_declaration k (formula e) = []
+faults_of_declaration k (formula title e) = []
 
 -- all that is wrong with a declaration
 abbrev pub faults_in : Known → Declaration → List Fault
 faults_in k d =
-    faults_of_declaration k d ++ (flat_map faults_at (occurrences_in k d) ++ faults_of_exports k.files (exports_in k d))
+    faults_of_title k.titles (title_in d)
+    ++ (faults_of_declaration k d ++ (flat_map faults_at (occurrences_in k d) ++ faults_of_exports k.files (exports_in k d)))
 
 abbrev pub or_later : Option Fault → Option Fault → Option Fault
 or_later None later = later

@@ -1,5 +1,5 @@
 -- Expressions and declarations as they are written, as mathematical trees. Names and texts are their bytes.
-use Rattle.std.specs.Prelude.{ℕ, List}
+use Rattle.std.specs.Prelude.{ℕ, List, Option}
 use Rattle.ms_list.specs.declared.at.At.{At}
 use Rattle.ms_logic.specs.declared.mode.Order.{Order}
 use Rattle.ms_logic.specs.declared.mode.Quant.{Quant}
@@ -64,6 +64,11 @@ mutual
     no_parts : Parts
     more_parts : (at : At) (n : Bytes) (e : Expression) (ps : Parts) → Parts
 
+-- the title of a goal, with the place of its text
+pub record Title : Type 0 where
+  pub at : At
+  pub text : Bytes
+
 pub data Declaration : Type 0 where
   globals : (vs : Bounds) → Declaration
   -- the place of the name, the name, and the numbers that are added or taken off one after the other
@@ -74,7 +79,8 @@ pub data Declaration : Type 0 where
   include : Declaration
   -- a default restriction: the order of its variables, its parameter and its body
   default : (o : Order) (n : Bytes) (e : Expression) → Declaration
-  formula : (e : Expression) → Declaration
+  -- a formula, of a goal where it has a title
+  formula : (title : Option Title) (e : Expression) → Declaration
 
 -- a declaration with its place
 pub record Placed : Type 0 where

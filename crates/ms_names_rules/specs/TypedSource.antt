@@ -14,7 +14,7 @@ use Rattle.ms_logic.specs.Tree as tree
 use Rattle.ms_logic.specs.Tree.{Form, Restriction, unrestricted}
 use Rattle.ms_logic.specs.View.{formula_of, predicate_of, restriction}
 use Rattle.ms_names_rules.specs.Syntax as syntax
-use Rattle.ms_names_rules.specs.Syntax.{Bytes, Expression, imported, exported, Bounds, no_bounds, more_bounds, Domain, Declaration, globals, constant, predicate, include, default, formula, Placed}
+use Rattle.ms_names_rules.specs.Syntax.{Bytes, Expression, imported, exported, Bounds, no_bounds, more_bounds, Domain, Declaration, globals, constant, predicate, include, default, formula, Placed, Title}
 use Rattle.ms_names_rules.specs.declared.meaning.Meaning.TheVariants.{Variable}
 use Rattle.ms_names_rules.specs.Scope.{Scope, bind, under_bounds, count_of_bounds}
 use Rattle.ms_names_rules.specs.Before.{Before, with_names, after_bounds, after_domain}
@@ -31,10 +31,11 @@ pub record TypedGlobal : Type 0 where
   pub name : Bytes
   pub restriction : Restriction
 
--- a formula declaration
+-- a formula, of a goal where it has a title
 pub record TypedFormula : Type 0 where
   pub at : At
   pub item : ℕ
+  pub title : Option Bytes
   pub formula : Form
 
 -- the globals of a list, whose numbers go on from x, of the declaration with a place and a number
@@ -79,7 +80,7 @@ globals_of k at item (constant name_at n is) = []
 globals_of k at item (predicate name_at n vs e) = []
 globals_of k at item include = []
 globals_of k at item (default o n e) = []
-globals_of k at item (formula e) = []
+globals_of k at item (formula title e) = []
 
 abbrev pub predicates_of : Known → Declaration → List (Option tree.Predicate)
 predicates_of k (globals vs) = []
@@ -87,7 +88,7 @@ predicates_of k (constant at n is) = []
 predicates_of k (predicate at n vs e) = typed_predicate k.scope k.before vs e ∷ []
 predicates_of k include = []
 predicates_of k (default o n e) = typed_default k.scope k.before o n e ∷ []
-predicates_of k (formula e) = []
+predicates_of k (formula title e) = []
 
 abbrev pub formulas_of : Known → At → ℕ → Declaration → List (Option TypedFormula)
 formulas_of k at item (globals vs) = []
@@ -95,8 +96,8 @@ formulas_of k at item (constant name_at n is) = []
 formulas_of k at item (predicate name_at n vs e) = []
 formulas_of k at item include = []
 formulas_of k at item (default o n e) = []
-formulas_of k at item (formula e) =
-    option_map (λ f. record { at = at; item = item; formula = f }) (formula_in (typed k.scope k.before e)) ∷ []
+formulas_of k at item (formula title e) =
+    option_map (λ f. record { at = at; item = item; title = option_map (λ (t : Title). t.text) title; formula = f }) (formula_in (typed k.scope k.before e)) ∷ []
 
 -- what all declarations give, from the declaration with this number on
 abbrev pub collected : {A : Type 0} → (Known → ℕ → Placed → List A) → Known → ℕ → List Placed → List A
@@ -126,7 +127,7 @@ abbrev pub global_of : Global → TypedGlobal
 global_of g = record { at = g.at; item = g.item; order = g.order; name = g.name; restriction = restriction (option_map formula_of g.domain) }
 
 abbrev pub placed_formula_of : code.Placed → TypedFormula
-placed_formula_of f = record { at = f.at; item = f.item; formula = formula_of f.formula }
+placed_formula_of f = record { at = f.at; item = f.item; title = f.title; formula = formula_of f.formula }
 
 -- the checked source is the typed tree that the loaded source becomes
 pub record IsTyped (loaded : Loaded) (checked : Checked) : Type 0 where

@@ -7,7 +7,7 @@ use Rattle.ms_logic.specs.declared.source.Expr.{Expr}
 use Rattle.ms_logic.specs.declared.source.Form.TheOpen.{Bound-F, Expr-F, Form-F, LetPart-F}
 use Rattle.ms_logic.specs.declared.source.Form.TheFolds.{fold-Bound, fold-Expr, fold-LetPart}
 use Rattle.ms_logic.specs.declared.source.Decl.{Decl}
-use Rattle.ms_logic.specs.declared.source.Decl.TheVariants.{Vars, Const, Pred, Include, Default, Formula}
+use Rattle.ms_logic.specs.declared.source.Decl.TheVariants.{Vars, Const, Pred, Include, Default, Formula, Goal}
 use Rattle.ms_logic.specs.declared.source.Item.{Item}
 use Rattle.ms_logic.specs.declared.source.LetPart.{LetPart}
 use Rattle.ms_names_rules.specs.Syntax.{Bytes, Expression, truth, falsity, whole, empty_set, name, number, pconst, brackets, literal, call, negation, conjunction, disjunction, implication, equivalence, relation, emptiness, union, intersection, difference, shift, minimum, maximum, quantified, where_let, restrict, imported, exported}
@@ -104,7 +104,8 @@ declaration_of (Const at n is) = constant at n is
 declaration_of (Pred is_pred at n vs e) = predicate at n (bounds_of vs) (expression_of e)
 declaration_of (Include at file) = include
 declaration_of (Default o n e) = default o n (expression_of e)
-declaration_of (Formula e) = formula (expression_of e)
+declaration_of (Formula e) = formula None (expression_of e)
+declaration_of (Goal at title e) = formula (Some (record { at = at; text = title })) (expression_of e)
 
 abbrev pub placed_of : Item → Placed
 placed_of item = record { at = item.at; declaration = declaration_of item.decl }

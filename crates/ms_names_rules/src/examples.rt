@@ -2,6 +2,7 @@
 //! of its examples: a source, and its first fault or none, or what it becomes.
 
 mod exports;
+mod goals;
 mod names;
 mod numbers;
 mod orders;
@@ -9,6 +10,7 @@ mod places;
 mod trees;
 
 pub use exports::worked_exports;
+pub use goals::worked_goals;
 pub use names::{worked_lexical_scopes, worked_repeats, worked_unknown_names};
 pub use numbers::{worked_counts_of_arguments, worked_ranges};
 pub use orders::{

@@ -19,6 +19,7 @@ mod repeat;
 mod scope;
 mod seen;
 mod sum;
+mod taken;
 mod value;
 
 pub use checker::Checker;
@@ -26,3 +27,4 @@ pub use export::Begun;
 pub use memory::copy_name;
 pub use name::small;
 pub use seen::Seen;
+pub use taken::Taken;

@@ -1,14 +1,14 @@
-ghost use Rattle.ms_names_rules.specs.Declarations.{declared_names};
+ghost use Rattle.ms_names_rules.specs.Declarations.{declared_names, faults_of_title};
 ghost use Rattle.ms_names_rules.specs.Rules.{faults_of_bounds, faults_of_parts, faults_of_repeat};
 ghost use Rattle.ms_names_rules.specs.View.{bounds_of, parts_of};
 ghost use Rattle.ms_names_rules.specs.declared.fault.Fault.TheVariants.{NamedTwice};
 ghost use Rattle.ms_names_scopes.specs.inner.Found.{with_faults};
-ghost use Rattle.std.specs.Prelude.{◌≡◌, ◌∷◌, [], OnOk};
+ghost use Rattle.std.specs.Prelude.{◌≡◌, ◌∷◌, [], OnOk, Some};
 
 use crate::checker::Checker;
 use crate::memory::name_text;
 use crate::seen::Seen;
-use ms_list::{At, Name, NoMemory};
+use ms_list::{At, Name, NoMemory, Text};
 use ms_logic::{Bound, LetPart};
 use ms_names_rules::Fault;
 
@@ -46,6 +46,15 @@ impl Checker {
             self.report_twice(at, name)?;
         }
         seen.add(name)
+    }
+
+    /// Reports the title of a goal that an earlier goal has, and notes it.
+    pub fn check_title(&mut self, at: At, title: &Text, titles: &mut Seen) -> Result<(), NoMemory>
+        ensures state { OnOk result (self.new ≡ with_faults self.old (faults_of_title titles.old (Some (record { at = at; text = title.now })))) }
+        ensures titles { OnOk result (titles.new ≡ title.now ∷ titles.old) }
+    {
+        let name = Name::new(self.alloc, title.text())?;
+        self.check_repeat(at, &name, titles)
     }
 
     /// Reports the names that stand twice in a list of variables or parameters.

@@ -6,14 +6,14 @@ ghost use Rattle.ms_logic.specs.declared.mode.Rel.TheVariants.{Equal, Member};
 ghost use Rattle.ms_logic.specs.declared.source.Int.TheVariants.{Number, Constant};
 ghost use Rattle.ms_parse_grammar.specs.Continuation.{CanFollow, CanFollowAtAnyDepth};
 ghost use Rattle.ms_parse_grammar.specs.Declarations.{Reads};
-ghost use Rattle.ms_parse.specs.inner.Examples.{bracketed, brackets, at, row, a, b, c, x, y, P, p, a_at, b_at, c_at, x_at, y_at, P_at, one, two, three, ex1_x, only, says, repeated};
+ghost use Rattle.ms_parse.specs.inner.Examples.{bracketed, brackets, at, row, a, b, c, x, y, P, p, goal_name, a_at, b_at, c_at, x_at, y_at, P_at, goal_at, one, two, three, ex1_x, only, says, repeated};
 ghost use Rattle.ms_parse_grammar.specs.Symbol.{name, number, prefix_operator, infix_operator, joining, sign, quantifier, let_word, kind, predicate_word, word_true, word_where, word_empty, word_ws1s, left_out, open_round, close_round, open_curly, close_curly, comma, colon, semicolon, word_const, word_include, text, default_word, word_import, arrow, word_export, word_pconst, word_restrict, dollar};
 ghost use Rattle.ms_parse_grammar.specs.declared.operator.Prefix.TheVariants.{Negation, Minimum};
 ghost use Rattle.ms_parse_grammar.specs.declared.operator.Binary.TheVariants.{Implication, Equivalence, Relation, Union, Difference};
 ghost use Rattle.ms_parse_grammar.specs.declared.operator.Junction.TheVariants.{Conjunction, Disjunction};
 ghost use Rattle.ms_parse_grammar.specs.declared.operator.Bracket.TheVariants.{Parentheses, Emptiness, Export, Restriction};
 ghost use Rattle.ms_parse_grammar.specs.declared.operator.Listing.TheVariants.{Literal, Call};
-ghost use Rattle.ms_parse_grammar.specs.Tree.{truth, empty_set, named, prefixed, binary, joined, shifted, enclosed, listed, let_in, quantified, atom, no_expressions, no_variables, and_variable, unrestricted, restricted, no_parts, and_part, predicate, variables, formula, constant, included, default_restriction, imported, pconst, whole, Document};
+ghost use Rattle.ms_parse_grammar.specs.Tree.{truth, empty_set, named, prefixed, binary, joined, shifted, enclosed, listed, let_in, quantified, atom, no_expressions, no_variables, and_variable, unrestricted, restricted, no_parts, and_part, predicate, variables, formula, goal, constant, included, default_restriction, imported, pconst, whole, Document};
 
 /// Rows of symbols and their trees: how operators group, and how far a body reaches.
 pub fn example_operators()
@@ -81,6 +81,11 @@ pub fn example_declarations()
         (says (shifted (at 0) (prefixed (at 0) Minimum (P_at 1)) (record { at = at 3; value = Number 1; minus = false }))) }
     ensures restrict { Reads true (row (let_word Zero ∷ b ∷ infix_operator (Relation Equal) ∷ word_restrict ∷ open_round ∷ a ∷ close_round ∷ infix_operator (Relation Member) ∷ b ∷ joining Disjunction ∷ prefix_operator Negation ∷ b ∷ semicolon ∷ []))
         (says (let_in (at 0) Zero (and_part no_parts (at 1) (codes "b") (enclosed (at 3) Restriction (a_at 5))) (joined (at 8) Disjunction (two (b_at 8) (prefixed (at 10) Negation (b_at 11)))))) }
+    ensures goal { Reads true (row (goal_name ∷ text (codes "t") ∷ a ∷ semicolon ∷ [])) (only (goal (at 1) (codes "t") (a_at 2))) }
+    ensures goal_of_that_name { Reads true (row (goal_name ∷ text (codes "t") ∷ goal_name ∷ semicolon ∷ [])) (only (goal (at 1) (codes "t") (goal_at 2))) }
+    ensures goal_as_formula { Reads true (row (goal_name ∷ semicolon ∷ [])) (says (goal_at 0)) }
+    ensures goal_as_operand { Reads true (row (goal_name ∷ joining Conjunction ∷ a ∷ semicolon ∷ [])) (says (joined (at 0) Conjunction (two (goal_at 0) (a_at 2)))) }
+    ensures goal_as_variable { Reads true (row (kind Two ∷ goal_name ∷ semicolon ∷ [])) (only (variables (and_variable no_variables (at 1) Two (codes "goal") unrestricted))) }
     ensures two_formulas { Reads true (row (a ∷ semicolon ∷ dollar ∷ semicolon ∷ []))
         (record { header = None; declarations = record { at = at 0; declaration = formula (a_at 0) } ∷ record { at = at 2; declaration = formula (atom (at 2) whole) } ∷ [] }) }
 {}
@@ -100,6 +105,8 @@ pub fn example_refusals()
     ensures no_kind { (d : Document) → ¬ (Reads true (row (predicate_word true ∷ p ∷ open_round ∷ x ∷ close_round ∷ infix_operator (Relation Equal) ∷ word_true ∷ semicolon ∷ [])) d) }
     ensures no_semicolon { (d : Document) → ¬ (Reads true (row (a ∷ [])) d) }
     ensures negated_term { (d : Document) → ¬ (Reads true (row (x ∷ infix_operator (Relation Equal) ∷ prefix_operator Negation ∷ y ∷ semicolon ∷ [])) d) }
+    ensures goal_without_formula { (d : Document) → ¬ (Reads true (row (goal_name ∷ text (codes "t") ∷ semicolon ∷ [])) d) }
+    ensures two_titles { (d : Document) → ¬ (Reads true (row (goal_name ∷ text (codes "t") ∷ text (codes "u") ∷ a ∷ semicolon ∷ [])) d) }
     ensures word_alone { (d : Document) → ¬ (Reads true (row (left_out (codes "tree") ∷ semicolon ∷ [])) d) }
 {}
 
@@ -112,6 +119,12 @@ pub fn example_continuations()
     ensures second_relation { ¬ (CanFollowAtAnyDepth (row (a ∷ infix_operator (Relation Equal) ∷ b ∷ infix_operator (Relation Equal) ∷ []))) }
     ensures without_semicolon { CanFollow (row (word_true ∷ [])) }
     ensures word_left_out { ¬ (CanFollowAtAnyDepth (row (left_out (codes "tree") ∷ []))) }
+    ensures behind_goal { CanFollow (row (goal_name ∷ [])) }
+    ensures behind_a_title { CanFollow (row (goal_name ∷ text (codes "t") ∷ [])) }
+    ensures title_without_formula { ¬ (CanFollowAtAnyDepth (row (goal_name ∷ text (codes "t") ∷ semicolon ∷ []))) }
+    ensures second_title { ¬ (CanFollowAtAnyDepth (row (goal_name ∷ text (codes "t") ∷ text (codes "u") ∷ []))) }
+    ensures title_behind_another_name { ¬ (CanFollowAtAnyDepth (row (a ∷ text (codes "t") ∷ []))) }
+    ensures title_in_a_formula { ¬ (CanFollowAtAnyDepth (row (prefix_operator Negation ∷ goal_name ∷ text (codes "t") ∷ []))) }
     ensures behind_the_mode { CanFollow (row (word_ws1s ∷ [])) }
     ensures mode_without_semicolon { ¬ (CanFollowAtAnyDepth (row (word_ws1s ∷ word_true ∷ []))) }
     ensures string_mode { CanFollow (row (name (codes "m2l") ∷ sign true ∷ name (codes "str") ∷ [])) }

@@ -13,7 +13,7 @@ use Rattle.ms_parse_grammar.specs.declared.operator.Listing.TheVariants.{Literal
 use Rattle.ms_parse_grammar.specs.Symbol.{Symbol, Placed}
 use Rattle.ms_parse_grammar.specs.Tree.{Atom, truth, falsity, whole, empty_set, named, numeral, pconst, imported}
 use Rattle.ms_parse_grammar.specs.Tree.{Expression, atom, prefixed, binary, joined, shifted, enclosed, listed, quantified, let_in, Expressions, no_expressions, and_expression, Variables, no_variables, and_variable, unrestricted, restricted, Parts, no_parts, and_part}
-use Rattle.ms_parse_grammar.specs.Tree.{Declaration, variables, constant, predicate, included, default_restriction, formula, Declared, Document}
+use Rattle.ms_parse_grammar.specs.Tree.{Declaration, variables, constant, predicate, included, default_restriction, formula, goal, Declared, Document}
 use Rattle.ms_parse_grammar.specs.Grammar.{IsGrammatical, AreGrammatical, AreOperands, HaveGrammaticalDomains, HaveGrammaticalValues}
 use Rattle.ms_parse_grammar.specs.Reads.{Starts, Follows, ReadsPairs, ReadsAtom, ReadsOpening, ReadsListOpening, ReadsExpression, ReadsSeparated, ReadsList, ReadsDomain, ReadsVariables, ReadsParts}
 use Rattle.ms_parse_grammar.specs.Declarations.{ReadsKind, ReadsParameters, ReadsParameterList, ReadsFurther, ReadsSum, ReadsDeclaration, ReadsDeclarations, ReadsHeader, Reads, AreDomains, IsDeclaration, AreDeclarations}
@@ -157,6 +157,8 @@ declaration-fits exact (included at file) from behind (f1, word, names) are =
 declaration-fits exact (default_restriction o n body) from behind (f1, f2, f3, f4, f5, word, opens, names, closes, equals, reads) is =
     omega (arith, follows _ from f1 word, follows _ f1 f2 opens, follows _ f2 f3 names, follows _ f3 f4 closes, follows _ f4 f5 equals, expression-fits exact body f5 behind reads is.grammatical)
 declaration-fits exact (formula e) from behind reads is = omega (arith, expression-fits exact e from behind reads is.grammatical)
+declaration-fits exact (goal at title e) from behind (f1, f2, word, titled, reads) is =
+    omega (arith, follows _ from f1 word, starts exact _ at f1 f2 titled, expression-fits exact e f2 behind reads is.grammatical)
 
 declarations-fit : (exact : Bool) (ds : List Declared) (from behind : List Placed) → ReadsDeclarations exact ds from behind → AreDeclarations ds → size_of_declarations ds + length behind ≤ length from
 declarations-fit exact [] from behind none are = omega (arith, ap length none)

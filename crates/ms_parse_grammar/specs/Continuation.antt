@@ -3,7 +3,7 @@ use Rattle.std.specs.Prelude.{List, [], ◌∷◌, ◌++◌, true}
 use Rattle.ms_parse_grammar.specs.Declarations.{ReadsDocument, Reads}
 use Rattle.ms_parse_grammar.specs.Grammar.{IsGrammatical, HaveGrammaticalDomains}
 use Rattle.ms_parse_grammar.specs.Symbol.{Placed}
-use Rattle.ms_parse_grammar.specs.Tree.{Declaration, variables, constant, predicate, included, default_restriction, formula, Declared, Document}
+use Rattle.ms_parse_grammar.specs.Tree.{Declaration, variables, constant, predicate, included, default_restriction, formula, goal, Declared, Document}
 
 -- some list of symbols that begins so reads as a document
 abbrev pub CanFollow : List Placed → Type 0
@@ -17,6 +17,7 @@ IsGrammaticalDeclaration (predicate is_pred at n parameters body) = HaveGrammati
 IsGrammaticalDeclaration (included at file) = Unit {0}
 IsGrammaticalDeclaration (default_restriction o n body) = IsGrammatical body
 IsGrammaticalDeclaration (formula e) = IsGrammatical e
+IsGrammaticalDeclaration (goal at title e) = IsGrammatical e
 
 abbrev pub AreGrammaticalDeclarations : List Declared → Type 0
 AreGrammaticalDeclarations [] = Unit {0}

@@ -10,7 +10,7 @@ use Rattle.ms_logic.specs.declared.source.PlacedInt.{PlacedInt}
 use Rattle.ms_logic.specs.declared.source.Source.{Source}
 use Rattle.ms_parse_grammar.specs.Symbol.{name, text, infix_operator, sign, kind, predicate_word, default_word, word_const, word_include, word_ws1s, open_round, close_round, comma, semicolon, Placed, placed, symbols}
 use Rattle.ms_parse_grammar.specs.Tree.{Relation, Variables, no_variables, and_variable, unrestricted, restricted}
-use Rattle.ms_parse_grammar.specs.Tree.{Declaration, variables, constant, predicate, included, default_restriction, formula, Declared, Document}
+use Rattle.ms_parse_grammar.specs.Tree.{Declaration, variables, constant, predicate, included, default_restriction, formula, goal, Declared, Document}
 use Rattle.ms_parse_grammar.specs.View.{document_of}
 use Rattle.ms_parse_grammar.specs.Grammar.{AreOfOrder, IsExpression}
 use Rattle.ms_parse_grammar.specs.Reads.{IsAt, Starts, Follows, ReadsInt, ReadsExpression, ReadsDomain, ReadsVariables}
@@ -64,6 +64,9 @@ ReadsDeclaration exact (default_restriction o n body) from behind =
     × Follows (name n) f2 f3 × Follows close_round f3 f4 × Follows (infix_operator (Relation Equal)) f4 f5
     × ReadsExpression exact body f5 behind
 ReadsDeclaration exact (formula e) from behind = ReadsExpression exact e from behind
+ReadsDeclaration exact (goal at title e) from behind =
+    (f1 f2 : List Placed) × Follows (name (codes "goal")) from f1 × Starts exact (text title) at f1 f2
+    × ReadsExpression exact e f2 behind
 
 -- the place of the first symbol
 abbrev pub BeginsAt : Bool → At → List Placed → Type 0
@@ -107,6 +110,7 @@ IsDeclaration (predicate is_pred at n parameters body) = AreDomains parameters �
 IsDeclaration (included at file) = Unit {0}
 IsDeclaration (default_restriction o n body) = IsExpression body
 IsDeclaration (formula e) = IsExpression e
+IsDeclaration (goal at title e) = IsExpression e
 
 abbrev pub AreDeclarations : List Declared → Type 0
 AreDeclarations [] = Unit {0}

@@ -4,7 +4,7 @@ use Rattle.std.specs.Prelude.{ℕ, suc, ◌+◌, List, [], ◌∷◌, length, ma
 use Rattle.ms_logic.specs.declared.source.Item.{Item}
 use Rattle.ms_parse_grammar.specs.Tree.{Atom, truth, falsity, whole, empty_set, named, numeral, pconst, imported}
 use Rattle.ms_parse_grammar.specs.Tree.{Expression, atom, prefixed, binary, joined, shifted, enclosed, listed, quantified, let_in, Expressions, no_expressions, and_expression, Variables, no_variables, and_variable, unrestricted, restricted, Parts, no_parts, and_part}
-use Rattle.ms_parse_grammar.specs.Tree.{Declaration, variables, constant, predicate, included, default_restriction, formula, Declared}
+use Rattle.ms_parse_grammar.specs.Tree.{Declaration, variables, constant, predicate, included, default_restriction, formula, goal, Declared}
 use Rattle.ms_parse_grammar.specs.View.{declared_of}
 
 abbrev pub pairs_in : Atom → ℕ
@@ -49,6 +49,7 @@ size_of_declaration (predicate is_pred at n parameters body) = suc (size_of_vari
 size_of_declaration (included at file) = 1
 size_of_declaration (default_restriction o n body) = suc (size body)
 size_of_declaration (formula e) = suc (size e)
+size_of_declaration (goal at title e) = suc (size e)
 
 abbrev pub size_of_declarations : List Declared → ℕ
 size_of_declarations [] = 0

@@ -70,6 +70,8 @@ pub data Declaration : Type 0 where
   included : (at : At) (file : List ℕ) → Declaration
   default_restriction : (o : Order) (n : List ℕ) (body : Expression) → Declaration
   formula : (e : Expression) → Declaration
+  -- a formula under a title, with the place of the title's text
+  goal : (at : At) (title : List ℕ) (e : Expression) → Declaration
 
 -- a declaration, with the place of its first symbol
 pub record Declared : Type 0 where

@@ -14,7 +14,7 @@ use Rattle.ms_logic.specs.declared.source.Form.TheOpen.{Bound-F, LetPart-F, Expr
 use Rattle.ms_logic.specs.declared.source.Form.TheFolds.{fold-Bound, fold-LetPart, fold-Expr, fold-Form}
 use Rattle.ms_parse_grammar.specs.Tree.{truth, falsity, whole, empty_set, named, numeral, pconst, imported, Negation, Minimum, Maximum, Implication, Equivalence, Relation, Union, Intersection, Difference, Conjunction, Disjunction, Parentheses, Emptiness, Restriction, Export, Literal, Call}
 use Rattle.ms_parse_grammar.specs.Tree.{Expression, atom, prefixed, binary, joined, shifted, enclosed, listed, quantified, let_in, Expressions, no_expressions, and_expression, Variables, no_variables, and_variable, Domain, unrestricted, restricted, Parts, no_parts, and_part}
-use Rattle.ms_parse_grammar.specs.Tree.{Declaration, variables, constant, predicate, included, default_restriction, formula, Declared, Document}
+use Rattle.ms_parse_grammar.specs.Tree.{Declaration, variables, constant, predicate, included, default_restriction, formula, goal, Declared, Document}
 
 -- a variable with its restriction, and a name of a `let` with its right side, as the lists take them
 pub record Variable : Type 0 where
@@ -117,6 +117,7 @@ declaration_of (decls.Pred is_pred at n bounds body) = predicate is_pred at n (v
 declaration_of (decls.Include at file) = included at file
 declaration_of (decls.Default o n body) = default_restriction o n (expression_of body)
 declaration_of (decls.Formula e) = formula (expression_of e)
+declaration_of (decls.Goal at title e) = goal at title (expression_of e)
 
 abbrev pub declared_of : Item → Declared
 declared_of item = record { at = item.at; declaration = declaration_of item.decl }

@@ -11,7 +11,7 @@ use Rattle.ms_logic.specs.declared.source.Source.{Source}
 use Rattle.ms_parse_grammar.specs.declared.operator.Binary.TheVariants.{Relation}
 use Rattle.ms_parse_grammar.specs.Symbol.{Symbol, name, text, left_out, infix_operator, sign, kind, predicate_word, default_word, word_const, word_include, word_ws1s, open_round, close_round, comma, semicolon, Placed, symbols}
 use Rattle.ms_parse_grammar.specs.Tree.{Expression, Variables, no_variables, and_variable}
-use Rattle.ms_parse_grammar.specs.Tree.{Declaration, variables, constant, predicate, included, default_restriction, formula, Declared}
+use Rattle.ms_parse_grammar.specs.Tree.{Declaration, variables, constant, predicate, included, default_restriction, formula, goal, Declared}
 use Rattle.ms_parse_grammar.specs.View.{declared_of, document_of}
 use Rattle.ms_parse_grammar.specs.Grammar.{IsVariableList, AreOfOrder}
 use Rattle.ms_parse_grammar.specs.Reads.{int_symbol, ReadsVariables}
@@ -132,6 +132,10 @@ declaration_kept exact (default_restriction o n body) from behind (f1, f2, f3, f
     let e5 = follows_said (infix_operator (Relation Equal)) f4 f5 equal_is in
     (tt, kept (default_word o ∷ open_round ∷ name n ∷ close_round ∷ infix_operator (Relation Equal) ∷ printed single body) from behind (rw (e1, e2, e3, e4, e5, said exact body f5 behind inner) refl) good)
 declaration_kept exact (formula e) from behind reads good = (tt, kept (printed single e) from behind (said exact e from behind reads) good)
+declaration_kept exact (goal at title e) from behind (f1, f2, word_is, starts, inner) good =
+    let e1 = follows_said (name (codes "goal")) from f1 word_is in
+    let e2 = starts_said exact (text title) at f1 f2 starts in
+    (tt, kept (name (codes "goal") ∷ text title ∷ printed single e) from behind (rw (e1, e2, said exact e f2 behind inner) refl) good)
 
 declarations_kept : (exact : Bool) (ds : List Declared) (from behind : List Placed) → ReadsDeclarations exact ds from behind → AreSpellable (unplaced from) → AreDeclarations ds → ArePrintable ds
 declarations_kept exact [] from behind reads good are = tt
@@ -168,6 +172,7 @@ begins_with_name (predicate is_pred at n parameters body) rest more e = let neve
 begins_with_name (included at file) rest more e = let never : ⊥ = cc in absurd never
 begins_with_name (default_restriction o n body) rest more e = let never : ⊥ = cc in absurd never
 begins_with_name (formula x) rest more e = (x, refl)
+begins_with_name (goal at title x) rest more e = let never : ⊥ = cc in absurd never
 
 declarations_clear : (exact : Bool) (ds : List Declared) (from behind : List Placed) → ReadsDeclarations exact ds from behind → AreSpellable (unplaced from) → ((at : At) (f : List Placed) → ¬ (ReadsString false at from f)) → BeginWithNoHeader (flat_map (printed_declared single) ds)
 declarations_clear exact [] from behind reads good none more e = let never : ⊥ = cc in absurd never

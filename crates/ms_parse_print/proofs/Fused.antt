@@ -15,7 +15,7 @@ use Rattle.ms_parse_grammar.specs.declared.operator.Listing.TheVariants.{Literal
 use Rattle.ms_parse_grammar.specs.Symbol.{Symbol}
 use Rattle.ms_parse_grammar.specs.Tree.{Atom, truth, falsity, whole, empty_set, named, numeral, pconst, imported}
 use Rattle.ms_parse_grammar.specs.Tree.{Expression, atom, prefixed, binary, joined, shifted, enclosed, listed, quantified, let_in, Expressions, no_expressions, and_expression, Variables, no_variables, and_variable, Domain, unrestricted, restricted, Parts, no_parts, and_part}
-use Rattle.ms_parse_grammar.specs.Tree.{Declaration, variables, constant, predicate, included, default_restriction, formula, Declared, Document}
+use Rattle.ms_parse_grammar.specs.Tree.{Declaration, variables, constant, predicate, included, default_restriction, formula, goal, Declared, Document}
 use Rattle.ms_parse_print.specs.inner.Printed.{single, printed, printed_all, printed_atom, printed_domain, printed_pair, printed_opening, printed_list_opening, printed_variables, printed_parts, printed_parameters, printed_parameter_list, printed_shift, printed_sum, printed_declaration, printed_declared, printed_header, printed_document}
 
 -- entries of a list, each of which is written as its symbols are
@@ -107,6 +107,7 @@ fused_declaration f (predicate is_pred at n parameters body) = rw (fused_paramet
 fused_declaration f (included at file) = simp append-nil
 fused_declaration f (default_restriction o n body) = rw (fused f body) (simp (flat_map-append, append_assoc, append-nil))
 fused_declaration f (formula e) = fused f e
+fused_declaration f (goal at title e) = rw (fused f e) (simp (flat_map-append, append_assoc, append-nil))
 
 fused_declared : {A : Type 0} (f : Symbol → List A) (d : Declared) → printed_declared f d ≡ flat_map f (printed_declared single d)
 fused_declared f d = rw (fused_declaration f d.declaration) (simp (flat_map-append, append_assoc, append-nil))

@@ -21,7 +21,7 @@ use Rattle.ms_parse_grammar.specs.Grammar.{HasTwo, IsGrammatical}
 use Rattle.ms_parse_grammar.specs.Reads.{int_symbol, closing}
 use Rattle.ms_parse_grammar.specs.Tree.{Atom, truth, falsity, whole, empty_set, named, numeral, pconst, imported}
 use Rattle.ms_parse_grammar.specs.Tree.{Expression, atom, prefixed, binary, joined, shifted, enclosed, listed, quantified, let_in, Expressions, no_expressions, and_expression, Variables, no_variables, and_variable, Domain, unrestricted, restricted, Parts, no_parts, and_part}
-use Rattle.ms_parse_grammar.specs.Tree.{Declaration, variables, constant, predicate, included, default_restriction, formula, Declared}
+use Rattle.ms_parse_grammar.specs.Tree.{Declaration, variables, constant, predicate, included, default_restriction, formula, goal, Declared}
 use Rattle.ms_parse_print.specs.inner.Header.{IsNameOf, IsNamed, IsHeaderLike, IsHeaderFormula, BeginsLikeHeader}
 use Rattle.ms_parse_print.specs.inner.Printable.{ArePrintable, BeginWithNoHeader, IsClear}
 use Rattle.ms_parse_print.specs.inner.Printed.{single, printed, printed_all, printed_atom, printed_domain, printed_pair, printed_opening, printed_list_opening, printed_variables, printed_parts, printed_declaration, printed_declared}
@@ -280,6 +280,7 @@ formula_symbols (predicate is_pred at n vs body) is = absurd is
 formula_symbols (included at file) is = absurd is
 formula_symbols (default_restriction o n body) is = absurd is
 formula_symbols (formula x) is = like_symbols x is
+formula_symbols (goal at title x) is = absurd is
 
 pub not_clear_with : (ds : List Declared) → BeginsLikeHeader ds → ¬ (BeginWithNoHeader (flat_map (printed_declared single) ds))
 not_clear_with [] begins clear = begins

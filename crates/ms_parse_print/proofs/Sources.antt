@@ -20,13 +20,13 @@ use Rattle.ms_logic.specs.declared.source.Source.{Source}
 use Rattle.ms_parse_grammar.specs.declared.operator.Binary.TheVariants.{Relation}
 use Rattle.ms_parse_grammar.specs.Symbol.{Symbol, name, text, infix_operator, sign, kind, predicate_word, default_word, word_const, word_include, word_ws1s, open_round, close_round, comma, semicolon, Placed, placed, symbols}
 use Rattle.ms_parse_grammar.specs.Tree.{Variables, no_variables, and_variable, Domain, unrestricted, restricted}
-use Rattle.ms_parse_grammar.specs.Tree.{Declaration, variables, constant, predicate, included, default_restriction, formula, Declared, Document}
+use Rattle.ms_parse_grammar.specs.Tree.{Declaration, variables, constant, predicate, included, default_restriction, formula, goal, Declared, Document}
 use Rattle.ms_parse_grammar.specs.View.{document_of}
 use Rattle.ms_parse_grammar.specs.Grammar.{IsVariableList, HaveGrammaticalDomains}
 use Rattle.ms_parse_grammar.specs.Reads.{int_symbol}
 use Rattle.ms_parse_grammar.specs.Declarations.{ReadsParameters, ReadsParameterList, ReadsFurther, ReadsSum, ReadsDeclaration, BeginsAt, ReadsDeclarations, ReadsString, ReadsHeader, ReadsDocument, AreDomains, IsDeclaration, AreDeclarations}
 use Rattle.ms_parse_print.specs.inner.Printable.{HasSummand, IsFormed, ArePrintable, IsClear, IsPrintableDocument}
-use Rattle.ms_parse_print.specs.inner.Printed.{AreSpellable, first_order, spelled, single, printed, printed_domain, printed_variables, printed_parameters, printed_parameter_list, printed_shift, printed_sum, printed_declaration, printed_declared, printed_header, symbols_of, text_of}
+use Rattle.ms_parse_print.specs.inner.Printed.{IsSpellable, AreSpellable, first_order, spelled, single, printed, printed_domain, printed_variables, printed_parameters, printed_parameter_list, printed_shift, printed_sum, printed_declaration, printed_declared, printed_header, symbols_of, text_of}
 use Rattle.ms_parse_print.specs.Text.{IsTextOf}
 use Rattle.ms_parse_print.proofs.Back.{Back, follows_back, starts_back, unsigned_back, GoodDomain, back, domain_back, variables_back}
 use Rattle.ms_parse_print.proofs.Fused.{fused_document}
@@ -133,6 +133,11 @@ declaration_back (default_restriction o n body) formed is from more e good =
     let r = back body is.grammatical x.0 more x.2 x.3 in
     (r.0, (a.0, b.0, c.0, d.0, x.0, a.1, b.1, c.1, d.1, x.1, r.1), r.2, r.3)
 declaration_back (formula x) formed is from more e good = back x is.grammatical from more e good
+declaration_back (goal at title x) formed is from more e good =
+    let a = follows_back (name (codes "goal")) from (text title ∷ (printed single x ++ more)) e good in
+    let b = starts_back (text title) at a.0 (printed single x ++ more) a.2 a.3 in
+    let c = back x is.grammatical b.0 more b.2 b.3 in
+    (c.0, (a.0, b.0, a.1, b.1, c.1), c.2, c.3)
 
 begins_anywhere : (at : At) (from : List Placed) (xs : List Symbol) (s : Symbol) (more : List Symbol) → unplaced from ≡ xs ++ s ∷ more → BeginsAt false at from
 begins_anywhere at [] [] s more e = let never : ⊥ = cc in absurd never
@@ -149,6 +154,19 @@ declarations_back (d ∷ ds) are from more e good =
     let b = follows_back semicolon a.0 tail a.2 a.3 in
     let c = declarations_back ds are.1 b.0 more b.2 b.3 in
     (c.0, (a.0, b.0, begins_anywhere d.at from (printed_declaration single d.declaration) semicolon tail grouped, a.1, b.1, c.1), c.2, c.3)
+
+-- the word of a goal is no word of the language, so that it can be said as a name
+
+no_word_goal : (word : Keyword) → codes "goal" ≢ word_spelling word
+no_word_goal words.Ws1s same = false≢true (sym (ap (pointwise eqb (codes "goal")) same))
+no_word_goal _ same = false≢true (sym (ap (pointwise eqb (codes "goal")) same))
+
+not_left_out_goal : (word : LeftOutWord) → codes "goal" ≢ left_out_spelling word
+not_left_out_goal others.Ws2s same = false≢true (sym (ap (pointwise eqb (codes "goal")) same))
+not_left_out_goal _ same = false≢true (sym (ap (pointwise eqb (codes "goal")) same))
+
+pub goal_said : IsSpellable (name (codes "goal"))
+goal_said = (refl, (λ w. no_word_goal w.0 w.1), (λ w. not_left_out_goal w.0 w.1))
 
 -- the header
 

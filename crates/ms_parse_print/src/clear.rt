@@ -54,6 +54,7 @@ fn is_header_formula(declaration: &Decl) -> bool
         Decl::Pred(_, _, _, _, _) => false,
         Decl::Include(_, _) => false,
         Decl::Default(_, _, _) => false,
+        Decl::Goal(_, _, _) => false,
     }
 }
 

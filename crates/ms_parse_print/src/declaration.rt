@@ -1,4 +1,4 @@
-ghost use Rattle.std.specs.Prelude.{◌≡◌, ◌++◌, ◌∷◌, [], map, OnOk, string_bytes};
+ghost use Rattle.std.specs.Prelude.{◌≡◌, ◌++◌, ◌∷◌, [], codes, map, OnOk, string_bytes};
 ghost use Rattle.std.specs.List.{flat_map};
 ghost use Rattle.ms_logic.specs.declared.mode.Rel.TheVariants.{Equal};
 ghost use Rattle.ms_parse_grammar.specs.declared.operator.Binary.TheVariants.{Relation};
@@ -153,6 +153,14 @@ fn push_default(
     push_expression(text, body)
 }
 
+fn push_goal(text: &mut String, title: &Text, body: &Expr) -> Result<(), AllocError>
+    ensures { OnOk result (string_bytes text.new ≡ string_bytes text.old ++ (spelled (symbol.name (codes "goal")) ++ spelled (symbol.text title.now) ++ printed spelled (expression_of body.now))) }
+{
+    text.push_str("goal ")?;
+    push_quoted(text, title)?;
+    push_expression(text, body)
+}
+
 fn push_declaration(text: &mut String, declaration: &Decl) -> Result<(), AllocError>
     ensures { OnOk result (string_bytes text.new ≡ string_bytes text.old ++ printed_declaration spelled (declaration_of declaration.now)) }
 {
@@ -165,6 +173,7 @@ fn push_declaration(text: &mut String, declaration: &Decl) -> Result<(), AllocEr
         Decl::Include(_, file) => push_include(text, file),
         Decl::Default(order, called, body) => push_default(text, *order, called, body),
         Decl::Formula(e) => push_expression(text, e),
+        Decl::Goal(_, title, body) => push_goal(text, title, body),
     }
 }
 

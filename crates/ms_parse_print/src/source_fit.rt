@@ -102,6 +102,13 @@ fn default_fits(order: Order, called: &Name, body: &Expr) -> bool
     has_default_word(order) && can_name(called) && expression_fits(body)
 }
 
+#[tactic(auto, using(crate::proofs::Sources::goal_said))]
+fn goal_fits(title: &Text, body: &Expr) -> bool
+    ensures { (at : At) → IsTrue result ↔ IsPrintable (tree.goal at title.now (expression_of body.now)) }
+{
+    can_quote(title) && expression_fits(body)
+}
+
 fn declaration_fits(declaration: &Decl) -> bool
     ensures { IsTrue result ↔ IsPrintable (declaration_of declaration.now) }
 {
@@ -112,6 +119,7 @@ fn declaration_fits(declaration: &Decl) -> bool
         Decl::Include(_, file) => include_fits(file),
         Decl::Default(order, called, body) => default_fits(*order, called, body),
         Decl::Formula(e) => expression_fits(e),
+        Decl::Goal(_, title, body) => goal_fits(title, body),
     }
 }
 

@@ -2,7 +2,7 @@
 use Rattle.std.proofs.Common.{ℕ, ◌≤◌, max, List, [], ◌∷◌, ◌++◌, arith}
 use Rattle.ms_parse_grammar.specs.Symbol.{Placed}
 use Rattle.ms_parse_grammar.specs.Tree.{Variables, no_variables, and_variable, unrestricted, restricted}
-use Rattle.ms_parse_grammar.specs.Tree.{Declaration, variables, constant, predicate, included, default_restriction, formula, Declared}
+use Rattle.ms_parse_grammar.specs.Tree.{Declaration, variables, constant, predicate, included, default_restriction, formula, goal, Declared}
 use Rattle.ms_parse_grammar.specs.Grammar.{HaveGrammaticalDomains, depth, depth_of_domains, greatest_depth}
 use Rattle.ms_parse_grammar.specs.Continuation.{CanFollow, IsGrammaticalDeclaration, AreGrammaticalDeclarations, CanFollowAtAnyDepth}
 use Rattle.ms_parse_steps.proofs.Following.{CanFollowWithin}
@@ -16,6 +16,7 @@ deepest_in (predicate is_pred at n vs body) = max (depth_of_domains vs) (depth b
 deepest_in (included at file) = 0
 deepest_in (default_restriction o n body) = depth body
 deepest_in (formula e) = depth e
+deepest_in (goal at title e) = depth e
 
 abbrev deepest : List Declared → ℕ
 deepest [] = 0
@@ -35,6 +36,7 @@ declaration_within limit (predicate is_pred at n vs body) good deep =
 declaration_within limit (included at file) good deep = tt
 declaration_within limit (default_restriction o n body) good deep = record { grammatical = good; shallow = deep }
 declaration_within limit (formula e) good deep = record { grammatical = good; shallow = deep }
+declaration_within limit (goal at title e) good deep = record { grammatical = good; shallow = deep }
 
 declarations_within : (limit : ℕ) (ds : List Declared) → AreGrammaticalDeclarations ds → deepest ds ≤ limit → AreDeclarationsWithin limit ds
 declarations_within limit [] good deep = tt
@@ -53,6 +55,7 @@ declaration_grammatical limit (predicate is_pred at n vs body) good = (domains_g
 declaration_grammatical limit (included at file) good = tt
 declaration_grammatical limit (default_restriction o n body) good = good.grammatical
 declaration_grammatical limit (formula e) good = good.grammatical
+declaration_grammatical limit (goal at title e) good = good.grammatical
 
 declarations_grammatical : (limit : ℕ) (ds : List Declared) → AreDeclarationsWithin limit ds → AreGrammaticalDeclarations ds
 declarations_grammatical limit [] good = tt

@@ -10,10 +10,10 @@ use Rattle.ms_parse_grammar.specs.Tree.{truth}
 use Rattle.ms_parse_grammar.specs.Tree.{Expression, atom, prefixed, binary, joined, enclosed, listed, quantified, let_in, and_expression, and_variable, restricted, and_part, Document}
 use Rattle.ms_parse_grammar.specs.Grammar.{right_level, operand_level, junction_level, depth}
 use Rattle.ms_parse_grammar.specs.Reads.{place}
-use Rattle.ms_parse_grammar.specs.Symbol.{Symbol, infix_operator, word_true, open_round, close_round, close_curly, colon, semicolon, Placed, placed}
-use Rattle.ms_parse_steps.specs.inner.Machine.{Frame, prefix_frame, left_frame, joined_frame, bracket_frame, list_frame, domain_frame, body_frame, part_frame, let_frame, Context, in_formula, in_global, in_parameter, in_predicate, in_default, Configuration, wanted, holding, in_part, frame_depth, ends, completed, bound, step, Runs, took, too_deep}
+use Rattle.ms_parse_grammar.specs.Symbol.{Symbol, infix_operator, word_true, close_round, close_curly, colon, semicolon, Placed, placed}
+use Rattle.ms_parse_steps.specs.inner.Machine.{Frame, prefix_frame, left_frame, joined_frame, bracket_frame, list_frame, domain_frame, body_frame, part_frame, let_frame, Context, in_formula, in_global, in_parameter, in_predicate, in_default, in_goal, Configuration, wanted, holding, in_part, frame_depth, ends, completed, bound, step, Runs, took, too_deep}
 use Rattle.ms_parse_steps.proofs.Frames.{chosen_yes}
-use Rattle.ms_parse_steps.proofs.Lookahead.{lacks}
+use Rattle.ms_parse_steps.proofs.Lookahead.{stands_alone}
 use Rattle.ms_parse_steps.proofs.Moves.{depth_positive}
 use Rattle.ms_parse_steps.proofs.Steps.{by_step, ended, entered}
 
@@ -46,38 +46,39 @@ closing c (body_frame at q o vs ∷ st) = closing c st
 closing c (part_frame at o parts at_n n ∷ st) = symbol (infix_operator (Relation Member)) ∷ symbol word_true ∷ closing c st
 closing c (let_frame at o parts ∷ st) = closing c st
 
--- the first symbol of it ends each frame that it can end
+-- the first symbol of it ends each frame that it can end, and a name before it stands alone
 record Closes (inside : Bool) (ts : List Placed) : Type 0 where
   pub first : Symbol
   pub at : At
   pub more : List Placed
   pub split : ts ≡ placed first at ∷ more
   pub loose : bound inside first ≡ 0
-  pub apart : lacks open_round ts ≡ true
+  pub apart : (may : Bool) → stands_alone may ts ≡ true
 
 ending_closes : (c : Context) → Closes false (ending c)
 ending_closes (in_parameter d head vs o at_v n) =
-    record { first = close_round; at = anywhere; more = symbol (infix_operator (Relation Equal)) ∷ symbol word_true ∷ symbol semicolon ∷ []; split = refl; loose = refl; apart = refl }
-ending_closes (in_formula d at) = record { first = semicolon; at = anywhere; more = []; split = refl; loose = refl; apart = refl }
-ending_closes (in_global d at o vs at_v n) = record { first = semicolon; at = anywhere; more = []; split = refl; loose = refl; apart = refl }
-ending_closes (in_predicate d head vs) = record { first = semicolon; at = anywhere; more = []; split = refl; loose = refl; apart = refl }
-ending_closes (in_default d at o n) = record { first = semicolon; at = anywhere; more = []; split = refl; loose = refl; apart = refl }
+    record { first = close_round; at = anywhere; more = symbol (infix_operator (Relation Equal)) ∷ symbol word_true ∷ symbol semicolon ∷ []; split = refl; loose = refl; apart = λ may. refl }
+ending_closes (in_formula d at) = record { first = semicolon; at = anywhere; more = []; split = refl; loose = refl; apart = λ may. refl }
+ending_closes (in_global d at o vs at_v n) = record { first = semicolon; at = anywhere; more = []; split = refl; loose = refl; apart = λ may. refl }
+ending_closes (in_predicate d head vs) = record { first = semicolon; at = anywhere; more = []; split = refl; loose = refl; apart = λ may. refl }
+ending_closes (in_default d at o n) = record { first = semicolon; at = anywhere; more = []; split = refl; loose = refl; apart = λ may. refl }
+ending_closes (in_goal d at at_title title) = record { first = semicolon; at = anywhere; more = []; split = refl; loose = refl; apart = λ may. refl }
 
 closes : (c : Context) (st : List Frame) → Closes (in_part st) (closing c st)
 closes c [] = ending_closes c
 closes c (prefix_frame at op ∷ st) = closes c st
 closes c (left_frame op l ∷ st) = closes c st
 closes c (joined_frame at op es ∷ st) = closes c st
-closes c (bracket_frame at b ∷ st) = record { first = close_round; at = anywhere; more = closing c st; split = refl; loose = refl; apart = refl }
-closes c (list_frame at Literal es ∷ st) = record { first = close_curly; at = anywhere; more = closing c st; split = refl; loose = refl; apart = refl }
-closes c (list_frame at (Call p) es ∷ st) = record { first = close_round; at = anywhere; more = closing c st; split = refl; loose = refl; apart = refl }
-closes c (domain_frame at q o vs at_v n ∷ st) = record { first = colon; at = anywhere; more = symbol word_true ∷ closing c st; split = refl; loose = refl; apart = refl }
+closes c (bracket_frame at b ∷ st) = record { first = close_round; at = anywhere; more = closing c st; split = refl; loose = refl; apart = λ may. refl }
+closes c (list_frame at Literal es ∷ st) = record { first = close_curly; at = anywhere; more = closing c st; split = refl; loose = refl; apart = λ may. refl }
+closes c (list_frame at (Call p) es ∷ st) = record { first = close_round; at = anywhere; more = closing c st; split = refl; loose = refl; apart = λ may. refl }
+closes c (domain_frame at q o vs at_v n ∷ st) = record { first = colon; at = anywhere; more = symbol word_true ∷ closing c st; split = refl; loose = refl; apart = λ may. refl }
 closes c (body_frame at q o vs ∷ st) = closes c st
 closes c (part_frame at o parts at_n n ∷ st) =
-    record { first = infix_operator (Relation Member); at = anywhere; more = symbol word_true ∷ closing c st; split = refl; loose = refl; apart = refl }
+    record { first = infix_operator (Relation Member); at = anywhere; more = symbol word_true ∷ closing c st; split = refl; loose = refl; apart = λ may. refl }
 closes c (let_frame at o parts ∷ st) = closes c st
 
-pub closing_apart : (c : Context) (st : List Frame) → lacks open_round (closing c st) ≡ true
+pub closing_apart : (c : Context) (st : List Frame) (may : Bool) → stands_alone may (closing c st) ≡ true
 closing_apart c st = (closes c st).apart
 
 -- each frame, with the expressions in it, leaves room for one expression more
@@ -117,6 +118,7 @@ whole_ends limit (in_formula d at) e = (_, (1, refl))
 whole_ends limit (in_global d at o vs at_v n) e = (_, (1, refl))
 whole_ends limit (in_predicate d head vs) e = (_, (1, refl))
 whole_ends limit (in_default d at o n) e = (_, (1, refl))
+whole_ends limit (in_goal d at at_title title) e = (_, (1, refl))
 
 pub held_ends : (limit : ℕ) (c : Context) (st : List Frame) (e : Expression) → FramesFit limit st → length st + depth e ≤ limit → RunsToEnd limit (holding c e st) (closing c st)
 held_ends limit c [] e fit deep = whole_ends limit c e

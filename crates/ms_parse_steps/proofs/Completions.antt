@@ -1,5 +1,5 @@
 -- Symbols that lead each configuration that fits the depth to the end of a document.
-use Rattle.std.proofs.Common.{◌≡◌, ℕ, suc, ◌+◌, ◌≤◌, true, List, [], ◌∷◌, length, codes, refl, arith}
+use Rattle.std.proofs.Common.{◌≡◌, ℕ, suc, ◌+◌, ◌≤◌, Bool, true, false, List, [], ◌∷◌, length, codes, refl, sym, ◌∙◌, arith}
 use Rattle.std.proofs.lemmas.Bool.{le-leb}
 use Rattle.ms_logic.specs.declared.mode.Order.TheVariants.{Zero}
 use Rattle.ms_logic.specs.declared.mode.Rel.TheVariants.{Equal}
@@ -8,16 +8,20 @@ use Rattle.ms_parse_grammar.specs.declared.operator.Listing.TheVariants.{Literal
 use Rattle.ms_parse_grammar.specs.Tree.{truth, empty_set, named, imported}
 use Rattle.ms_parse_grammar.specs.Tree.{Expression, atom, no_expressions, and_expression, no_variables, and_variable, unrestricted}
 use Rattle.ms_parse_grammar.specs.Grammar.{depth, depth_of_domains, depth_of_values}
-use Rattle.ms_parse_grammar.specs.Symbol.{name, kind, infix_operator, word_true, open_round, close_round, colon, semicolon, Placed}
+use Rattle.ms_parse_grammar.specs.Symbol.{name, kind, infix_operator, word_true, close_round, colon, semicolon, Placed}
 use Rattle.ms_parse_steps.specs.inner.Machine.{Frame, list_frame, body_frame, part_frame, Context, Configuration, outside, wanted, holding, variable_wanted, part_wanted, pair_wanted, global_wanted, parameter_wanted, summand_wanted, completed}
-use Rattle.ms_parse_steps.proofs.Lookahead.{lacks, may_follow}
+use Rattle.ms_parse_steps.proofs.Lookahead.{stands_alone, may_begin_goal, bracket_lacks, may_follow}
 use Rattle.ms_parse_steps.proofs.Closing.{anywhere, symbol, closing, closing_apart, FramesFit, RunsToEnd, further, body_ends, held_ends}
 use Rattle.ms_parse_steps.proofs.Steps.{entered}
+
+-- A name begins no goal here: the formula of a declaration is begun with its first symbol, and never wanted alone.
+abbrev pub IsBegun : List Frame → Context → Type 0
+IsBegun st c = (n : List ℕ) → may_begin_goal st c n ≡ false
 
 -- there is room for the least of what the configuration wants
 abbrev pub Fits : ℕ → Configuration → Type 0
 Fits limit (outside d) = Unit {0}
-Fits limit (wanted c st) = FramesFit limit st × (suc (length st) ≤ limit)
+Fits limit (wanted c st) = FramesFit limit st × (suc (length st) ≤ limit) × IsBegun st c
 Fits limit (holding c e st) = FramesFit limit st × (length st + depth e ≤ limit)
 Fits limit (variable_wanted c st at q o vs) = FramesFit limit st × (suc (suc (length st)) ≤ limit) × (suc (length st) + depth_of_domains vs ≤ limit)
 Fits limit (part_wanted c st at o parts) = FramesFit limit st × (suc (suc (length st)) ≤ limit) × (suc (length st) + depth_of_values parts ≤ limit)
@@ -40,9 +44,9 @@ wanted_follows c (list_frame at (Call p) no_expressions ∷ st) ts = refl
 wanted_follows c (list_frame at l (and_expression es e) ∷ st) ts = refl
 wanted_follows c (_ ∷ st) ts = refl
 
-holding_follows : (c : Context) (e : Expression) (st : List Frame) (ts : List Placed) → lacks open_round ts ≡ true → may_follow (holding c e st) ts ≡ true
-holding_follows c (atom at (named n)) st ts apart = apart
-holding_follows c (atom at empty_set) st ts apart = apart
+holding_follows : (c : Context) (e : Expression) (st : List Frame) (ts : List Placed) → ((may : Bool) → stands_alone may ts ≡ true) → may_follow (holding c e st) ts ≡ true
+holding_follows c (atom at (named n)) st ts apart = apart (may_begin_goal st c n)
+holding_follows c (atom at empty_set) st ts apart = sym (bracket_lacks ts) ∙ apart false
 holding_follows c _ st ts apart = refl
 
 -- a name without a restriction

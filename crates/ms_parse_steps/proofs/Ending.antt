@@ -7,7 +7,7 @@ use Rattle.ms_parse_grammar.specs.Tree.{Expression}
 use Rattle.ms_parse_steps.specs.declared.terminal.Terminal.{Terminal}
 use Rattle.ms_parse_steps.specs.declared.terminal.Terminal.TheVariants as terminals
 use Rattle.ms_parse_steps.specs.inner.Ends.{IsEnd, IsOperator}
-use Rattle.ms_parse_steps.specs.inner.Machine.{Frame, Context, in_formula, in_global, in_parameter, in_predicate, in_default, shift, in_at, semicolon_at, settle, bound, collapse, on_top, in_part, go_on, misplaced}
+use Rattle.ms_parse_steps.specs.inner.Machine.{Frame, Context, in_formula, in_global, in_parameter, in_predicate, in_default, in_goal, shift, in_at, semicolon_at, settle, bound, collapse, on_top, in_part, go_on, misplaced}
 use Rattle.ms_parse_steps.specs.inner.Terminals.{symbol_with}
 use Rattle.ms_parse_steps.proofs.Frames.{chosen_yes, chosen_no}
 
@@ -30,6 +30,7 @@ semicolon_inside (in_global d at o vs at_v n) e f st from ts = refl
 semicolon_inside (in_parameter d head vs o at_v n) e f st from ts = refl
 semicolon_inside (in_predicate d head vs) e f st from ts = refl
 semicolon_inside (in_default d at o n) e f st from ts = refl
+semicolon_inside (in_goal d at at_title title) e f st from ts = refl
 
 -- the terminals that end nothing in a frame
 abbrev pub IsStray : Terminal → Type 0

@@ -202,7 +202,7 @@ symbol_tells limit f opens finds = record { opens = opens; finds = symbol_finds 
 
 -- a symbol, or nothing more
 
-negated : (b : Bool) → cond b false true ≡ true → b ≡ false
+pub negated : (b : Bool) → cond b false true ≡ true → b ≡ false
 negated true h = sym h
 negated false h = refl
 
@@ -222,6 +222,27 @@ mark_or_finds limit m f s tells fits free (placed x a ∷ ts) =
 
 pub mark_or_tells : (limit : ℕ) (m : Symbol) (f : ℕ → List Placed → Move) (s : Configuration) → Tells limit f → Fits limit s → ((ts : List Placed) → may_follow s ts ≡ lacks m ts) → Tells limit (λ l. either_mark m (f l) (took s))
 mark_or_tells limit m f s tells fits free = record { opens = ([], s, refl); finds = mark_or_finds limit m f s tells fits free }
+
+-- a step that ends in a configuration before any symbols that may stand there, and tells of each other symbol
+
+pub either : (A : Type 0) (b : Bool) → (b ≡ true → A) → (b ≡ false → A) → A
+either A true one other = one refl
+either A false one other = other refl
+
+looked_finds : (limit : ℕ) (g : ℕ → List Placed → Move) (s : Configuration) → Fits limit s → may_follow s [] ≡ true
+    → ((l : ℕ) (ts : List Placed) → may_follow s ts ≡ true → g l ts ≡ took s ts)
+    → ((y : Placed) (ts : List Placed) → may_follow s (y ∷ ts) ≡ false → Finds limit g (y ∷ ts) (g limit (y ∷ ts))) → (ts : List Placed) → Finds limit g ts (g limit ts)
+looked_finds limit g s fits free alone others [] =
+    subst (Finds limit g []) (sym (alone limit [] free)) (leave limit g [] s fits free (λ l other above may. alone l other may))
+looked_finds limit g s fits free alone others (y ∷ ts) =
+    either (Finds limit g (y ∷ ts) (g limit (y ∷ ts))) (may_follow s (y ∷ ts))
+    (λ is. subst (Finds limit g (y ∷ ts)) (sym (alone limit (y ∷ ts) is)) (leave limit g (y ∷ ts) s fits is (λ l other above may. alone l other may)))
+    (others y ts)
+
+pub looked_tells : (limit : ℕ) (g : ℕ → List Placed → Move) (s : Configuration) → Fits limit s → may_follow s [] ≡ true
+    → ((l : ℕ) (ts : List Placed) → may_follow s ts ≡ true → g l ts ≡ took s ts)
+    → ((y : Placed) (ts : List Placed) → may_follow s (y ∷ ts) ≡ false → Finds limit g (y ∷ ts) (g limit (y ∷ ts))) → Tells limit g
+looked_tells limit g s fits free alone others = record { opens = ([], s, alone limit [] free); finds = looked_finds limit g s fits free alone others }
 
 -- one of two symbols
 
@@ -250,7 +271,7 @@ pub entered_at : (limit : ℕ) (c : Context) (f : Frame) (st : List Frame) (othe
 entered_at limit c f st otherwise ts room = chosen_yes (leb (suc (length st) + max 1 (frame_depth f)) limit) (took (wanted c (f ∷ st)) ts) otherwise (le-leb (suc (length st) + max 1 (frame_depth f)) limit room)
 
 pub wanted_fits : (limit : ℕ) (c : Context) (f : Frame) (st : List Frame) → FramesFit limit st → suc (length st) + max 1 (frame_depth f) ≤ limit → Fits limit (wanted c (f ∷ st))
-wanted_fits limit c f st fit room = ((fit, omega arith), omega arith)
+wanted_fits limit c f st fit room = ((fit, omega arith), omega arith, λ n. refl)
 
 -- a symbol that opens a frame
 pub enter_finds : (limit : ℕ) (c : Context) (f : Frame) (st : List Frame) (g : ℕ → List Placed → Move) (y : Placed) (ts : List Placed) → FramesFit limit st → ((more : List Placed) → may_follow (wanted c (f ∷ st)) more ≡ true)

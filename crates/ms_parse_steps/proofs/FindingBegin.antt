@@ -1,5 +1,5 @@
 -- What a step at the beginning of an expression finds.
-use Rattle.std.proofs.Common.{◌≡◌, ℕ, suc, ◌+◌, ◌≤◌, max, leb, true, false, inr, List, [], ◌∷◌, length, refl, sym, ◌∙◌, subst, arith}
+use Rattle.std.proofs.Common.{◌≡◌, ℕ, suc, ◌+◌, ◌≤◌, max, leb, true, false, inr, List, [], ◌∷◌, length, refl, sym, ap, ◌∙◌, subst, arith}
 use Rattle.std.proofs.lemmas.Bool.{false≢true, le-leb, leb-true}
 use Rattle.ms_list.specs.declared.at.At.{At}
 use Rattle.ms_parse_grammar.specs.Reads.{closing}
@@ -15,7 +15,7 @@ use Rattle.ms_parse_steps.proofs.Closing.{symbol, FramesFit}
 use Rattle.ms_parse_steps.proofs.Completions.{Fits}
 use Rattle.ms_parse_steps.proofs.Finding.{Opens, Dead, Finds, Tells, dead, stuck_deep, first, first_deep, refuse, takes, leave, goes, took_tells, marked, mark_tells, text_tells, int_tells, unmarked, mark_or_tells, entered_at, wanted_fits, enter_finds, room_finds}
 use Rattle.ms_parse_steps.proofs.Frames.{chosen, chosen_yes, chosen_no}
-use Rattle.ms_parse_steps.proofs.Lookahead.{lacks, may_follow}
+use Rattle.ms_parse_steps.proofs.Lookahead.{lacks, may_begin_goal, stands_alone, bracket_lacks, may_follow}
 use Rattle.ms_parse_steps.proofs.Steps.{IsStuck, roomy}
 
 pconst_tells : (limit : ℕ) (c : Context) (st : List Frame) (at : At) → FramesFit limit st → suc (length st) ≤ limit → Tells limit (λ l. begin_pconst c st at)
@@ -146,18 +146,19 @@ list_finds limit c st at k s0 fit room fits0 free0 (placed s a ∷ ts) =
     leave limit g (y ∷ ts) (wanted c (f ∷ st)) (wanted_fits limit c f st fit wide) (chosen_no (is_mark (closing k) s) false true other) (λ l others more may. list_entered limit l c st at k s0 others wide more may))
     (λ full. full_list_finds limit c st at k s0 s a ts room other full))
 
-list_tells : (limit : ℕ) (c : Context) (st : List Frame) (at : At) (k : Listing) (s0 : Configuration) → FramesFit limit st → suc (length st) ≤ limit → Fits limit s0 → ((ts : List Placed) → may_follow s0 ts ≡ true)
+pub list_tells : (limit : ℕ) (c : Context) (st : List Frame) (at : At) (k : Listing) (s0 : Configuration) → FramesFit limit st → suc (length st) ≤ limit → Fits limit s0 → ((ts : List Placed) → may_follow s0 ts ≡ true)
     → Tells limit (λ l. either_mark (closing k) (took s0) (enter_list l c at k st))
 list_tells limit c st at k s0 fit room fits0 free0 = record {
   opens = (symbol (closing k) ∷ [], s0, marked (closing k) (took s0) (enter_list limit c at k st) [] (closing_mark k));
   finds = list_finds limit c st at k s0 fit room fits0 free0;
 }
 
-name_begins : (limit : ℕ) (c : Context) (st : List Frame) (at : At) (n : List ℕ) → FramesFit limit st → suc (length st) ≤ limit → Tells limit (λ l. begin_name l c st at n)
-name_begins limit c st at n fit room =
+name_begins : (limit : ℕ) (c : Context) (st : List Frame) (at : At) (n : List ℕ) → FramesFit limit st → suc (length st) ≤ limit → may_begin_goal st c n ≡ false
+    → Tells limit (λ l. begin_name l c st at n)
+name_begins limit c st at n fit room no_goal =
     let call = holding c (listed at (Call n) no_expressions) st in
     mark_or_tells limit open_round (λ l. either_mark close_round (took call) (enter_list l c at (Call n) st)) (holding c (atom at (named n)) st)
-    (list_tells limit c st at (Call n) call fit room (fit, omega arith) (λ ts. refl)) (fit, omega arith) (λ ts. refl)
+    (list_tells limit c st at (Call n) call fit room (fit, omega arith) (λ ts. refl)) (fit, omega arith) (λ ts. ap (λ may. stands_alone may ts) no_goal ∙ bracket_lacks ts)
 
 empty_finds : (limit : ℕ) (c : Context) (st : List Frame) (at : At) → FramesFit limit st → suc (length st) ≤ limit → (ts : List Placed) → Finds limit (λ l. begin_empty l c st at) ts (begin_empty limit c st at ts)
 empty_finds limit c st at fit room [] =
@@ -172,44 +173,49 @@ empty_finds limit c st at fit room (placed x a ∷ ts) =
     (λ is. enter_finds limit c f st g y ts fit (λ more. refl) (λ l more above. chosen_yes (is_mark open_round x) (enter l c f st (too_deep (y ∷ more)) more) (took s (y ∷ more)) is) (omega arith))
     (λ other. leave limit g (y ∷ ts) s (fit, omega arith) (chosen_no (is_mark open_round x) false true other) (λ l others more may. unmarked open_round (enter l c f st (too_deep others)) (took s) others may))
 
+-- no name that may begin a goal
+abbrev pub BeginsNoGoal : List Frame → Context → Symbol → Type 0
+BeginsNoGoal st c (name n) = may_begin_goal st c n ≡ false
+BeginsNoGoal st c s = Unit {0}
+
 -- a symbol with which an expression begins
-pub begin_finds : (limit : ℕ) (c : Context) (st : List Frame) (at : At) (s : Symbol) (ts : List Placed) (g : ℕ → List Placed → Move) → FramesFit limit st → suc (length st) ≤ limit
+pub begin_finds : (limit : ℕ) (c : Context) (st : List Frame) (at : At) (s : Symbol) (ts : List Placed) (g : ℕ → List Placed → Move) → FramesFit limit st → suc (length st) ≤ limit → BeginsNoGoal st c s
     → ((l : ℕ) (more : List Placed) → limit ≤ l → g l (placed s at ∷ more) ≡ begin l c st at s (placed s at ∷ more) more) → Finds limit g (placed s at ∷ ts) (begin limit c st at s (placed s at ∷ ts) ts)
-begin_finds limit c st at word_true ts g fit room same = takes limit g (placed word_true at) ts (holding c (atom at truth) st) (fit, omega arith) refl (λ l more above may. same l more above)
-begin_finds limit c st at word_false ts g fit room same = takes limit g (placed word_false at) ts (holding c (atom at falsity) st) (fit, omega arith) refl (λ l more above may. same l more above)
-begin_finds limit c st at dollar ts g fit room same = takes limit g (placed dollar at) ts (holding c (atom at whole) st) (fit, omega arith) refl (λ l more above may. same l more above)
-begin_finds limit c st at (number n) ts g fit room same = takes limit g (placed (number n) at) ts (holding c (atom at (numeral n)) st) (fit, omega arith) refl (λ l more above may. same l more above)
-begin_finds limit c st at (name n) ts g fit room same = goes limit (λ l. begin_name l c st at n) g (placed (name n) at) ts same (name_begins limit c st at n fit room)
-begin_finds limit c st at word_empty ts g fit room same =
+begin_finds limit c st at word_true ts g fit room no_goal same = takes limit g (placed word_true at) ts (holding c (atom at truth) st) (fit, omega arith) refl (λ l more above may. same l more above)
+begin_finds limit c st at word_false ts g fit room no_goal same = takes limit g (placed word_false at) ts (holding c (atom at falsity) st) (fit, omega arith) refl (λ l more above may. same l more above)
+begin_finds limit c st at dollar ts g fit room no_goal same = takes limit g (placed dollar at) ts (holding c (atom at whole) st) (fit, omega arith) refl (λ l more above may. same l more above)
+begin_finds limit c st at (number n) ts g fit room no_goal same = takes limit g (placed (number n) at) ts (holding c (atom at (numeral n)) st) (fit, omega arith) refl (λ l more above may. same l more above)
+begin_finds limit c st at (name n) ts g fit room no_goal same = goes limit (λ l. begin_name l c st at n) g (placed (name n) at) ts same (name_begins limit c st at n fit room no_goal)
+begin_finds limit c st at word_empty ts g fit room no_goal same =
     goes limit (λ l. begin_empty l c st at) g (placed word_empty at) ts same (record { opens = ([], holding c (atom at empty_set) st, refl); finds = empty_finds limit c st at fit room })
-begin_finds limit c st at word_pconst ts g fit room same = goes limit (λ l. begin_pconst c st at) g (placed word_pconst at) ts same (pconst_tells limit c st at fit room)
-begin_finds limit c st at word_import ts g fit room same = goes limit (λ l. begin_import c st at) g (placed word_import at) ts same (import_tells limit c st at fit room)
-begin_finds limit c st at word_restrict ts g fit room same =
+begin_finds limit c st at word_pconst ts g fit room no_goal same = goes limit (λ l. begin_pconst c st at) g (placed word_pconst at) ts same (pconst_tells limit c st at fit room)
+begin_finds limit c st at word_import ts g fit room no_goal same = goes limit (λ l. begin_import c st at) g (placed word_import at) ts same (import_tells limit c st at fit room)
+begin_finds limit c st at word_restrict ts g fit room no_goal same =
     room_finds limit st (begin_restrict c st at) g (placed word_restrict at) ts (symbol open_round ∷ [], _, refl) (λ wide. restrict_tells limit c st at fit wide) same room
-begin_finds limit c st at word_export ts g fit room same =
+begin_finds limit c st at word_export ts g fit room no_goal same =
     room_finds limit st (begin_export c st at) g (placed word_export at) ts (symbol open_round ∷ symbol (text []) ∷ symbol comma ∷ [], _, refl) (λ wide. export_tells limit c st at fit wide) same room
-begin_finds limit c st at open_round ts g fit room same = enter_finds limit c (bracket_frame at Parentheses) st g (placed open_round at) ts fit (λ more. refl) same (omega arith)
-begin_finds limit c st at open_curly ts g fit room same =
+begin_finds limit c st at open_round ts g fit room no_goal same = enter_finds limit c (bracket_frame at Parentheses) st g (placed open_round at) ts fit (λ more. refl) same (omega arith)
+begin_finds limit c st at open_curly ts g fit room no_goal same =
     goes limit (λ l. begin_literal l c st at) g (placed open_curly at) ts same (list_tells limit c st at Literal (holding c (listed at Literal no_expressions) st) fit room (fit, omega arith) (λ more. refl))
-begin_finds limit c st at (prefix_operator op) ts g fit room same =
+begin_finds limit c st at (prefix_operator op) ts g fit room no_goal same =
     let y = placed (prefix_operator op) at in
     let f = prefix_frame at op in
     chosen (Finds limit g (y ∷ ts)) (leb (need st) (prefix_level op)) (enter limit c f st (too_deep (y ∷ ts)) ts) (misplaced (y ∷ ts))
     (λ low. enter_finds limit c f st g y ts fit (λ more. refl)
     (λ l more above. same l more above ∙ chosen_yes (leb (need st) (prefix_level op)) (enter l c f st (too_deep (y ∷ more)) more) (misplaced (y ∷ more)) low) (omega arith))
     (λ high. refuse limit g y ts (λ l more above. same l more above ∙ chosen_no (leb (need st) (prefix_level op)) (enter l c f st (too_deep (y ∷ more)) more) (misplaced (y ∷ more)) high))
-begin_finds limit c st at (quantifier q o) ts g fit room same =
+begin_finds limit c st at (quantifier q o) ts g fit room no_goal same =
     let y = placed (quantifier q o) at in
     let s = variable_wanted c st at q o no_variables in
     chosen (Finds limit g (y ∷ ts)) (leb (need st) 4) (with_room limit st (y ∷ ts) (took s ts)) (misplaced (y ∷ ts))
     (λ low. room_finds limit st (took s) g y ts ([], s, refl) (λ wide. took_tells limit s (fit, wide, omega arith) (λ more. refl))
     (λ l more above. same l more above ∙ chosen_yes (leb (need st) 4) (with_room l st (y ∷ more) (took s more)) (misplaced (y ∷ more)) low) room)
     (λ high. refuse limit g y ts (λ l more above. same l more above ∙ chosen_no (leb (need st) 4) (with_room l st (y ∷ more) (took s more)) (misplaced (y ∷ more)) high))
-begin_finds limit c st at (let_word o) ts g fit room same =
+begin_finds limit c st at (let_word o) ts g fit room no_goal same =
     let y = placed (let_word o) at in
     let s = part_wanted c st at o no_parts in
     chosen (Finds limit g (y ∷ ts)) (leb (need st) 4) (with_room limit st (y ∷ ts) (took s ts)) (misplaced (y ∷ ts))
     (λ low. room_finds limit st (took s) g y ts ([], s, refl) (λ wide. took_tells limit s (fit, wide, omega arith) (λ more. refl))
     (λ l more above. same l more above ∙ chosen_yes (leb (need st) 4) (with_room l st (y ∷ more) (took s more)) (misplaced (y ∷ more)) low) room)
     (λ high. refuse limit g y ts (λ l more above. same l more above ∙ chosen_no (leb (need st) 4) (with_room l st (y ∷ more) (took s more)) (misplaced (y ∷ more)) high))
-begin_finds limit c st at s ts g fit room same = refuse limit g (placed s at) ts same
+begin_finds limit c st at s ts g fit room no_goal same = refuse limit g (placed s at) ts same

@@ -22,7 +22,7 @@ equal_tells limit f tells = mark_tells limit (infix_operator (Relation Equal)) f
 
 pub body_tells : (limit : ℕ) (d : Document) (head : Head) (vs : Variables) → 1 ≤ limit → Tells limit (λ l. body_of d head vs)
 body_tells limit d head vs some =
-    let s = wanted (in_predicate d head vs) [] in equal_tells limit (λ l. took s) (took_tells limit s (tt, some) (λ ts. refl))
+    let s = wanted (in_predicate d head vs) [] in equal_tells limit (λ l. took s) (took_tells limit s (tt, some, λ n. refl) (λ ts. refl))
 
 -- a variable of a binder
 
@@ -81,7 +81,7 @@ pair_tells limit c st at file pairs fit room =
 global_finds : (limit : ℕ) (d : Document) (at : At) (o : Order) (vs : Variables) (at_v : At) (n : List ℕ) → 1 ≤ limit → (a : At) (s : Symbol) (ts : List Placed)
     → Finds limit (λ l. symbol_then (λ a. behind_global d at o vs at_v n)) (placed s a ∷ ts) (behind_global d at o vs at_v n s (placed s a ∷ ts) ts)
 global_finds limit d at o vs at_v n some a word_where ts =
-    takes limit (λ l. symbol_then (λ a. behind_global d at o vs at_v n)) (placed word_where a) ts (wanted (in_global d at o vs at_v n) []) (tt, some) refl (λ l more above may. refl)
+    takes limit (λ l. symbol_then (λ a. behind_global d at o vs at_v n)) (placed word_where a) ts (wanted (in_global d at o vs at_v n) []) (tt, some, λ n. refl) refl (λ l more above may. refl)
 global_finds limit d at o vs at_v n some a comma ts =
     takes limit (λ l. symbol_then (λ a. behind_global d at o vs at_v n)) (placed comma a) ts (global_wanted d at o (and_variable vs at_v o n unrestricted)) tt refl (λ l more above may. refl)
 global_finds limit d at o vs at_v n some a semicolon ts =
@@ -98,7 +98,7 @@ global_tells limit d at o vs some =
 parameter_finds : (limit : ℕ) (d : Document) (head : Head) (vs : Variables) (o : Order) (at_v : At) (n : List ℕ) → 1 ≤ limit → (a : At) (s : Symbol) (ts : List Placed)
     → Finds limit (λ l. symbol_then (λ a. behind_parameter d head vs o at_v n)) (placed s a ∷ ts) (behind_parameter d head vs o at_v n s (placed s a ∷ ts) ts)
 parameter_finds limit d head vs o at_v n some a word_where ts =
-    takes limit (λ l. symbol_then (λ a. behind_parameter d head vs o at_v n)) (placed word_where a) ts (wanted (in_parameter d head vs o at_v n) []) (tt, some) refl (λ l more above may. refl)
+    takes limit (λ l. symbol_then (λ a. behind_parameter d head vs o at_v n)) (placed word_where a) ts (wanted (in_parameter d head vs o at_v n) []) (tt, some, λ n. refl) refl (λ l more above may. refl)
 parameter_finds limit d head vs o at_v n some a comma ts =
     takes limit (λ l. symbol_then (λ a. behind_parameter d head vs o at_v n)) (placed comma a) ts (parameter_wanted d head (and_variable vs at_v o n unrestricted)) tt refl (λ l more above may. refl)
 parameter_finds limit d head vs o at_v n some a close_round ts =
@@ -152,7 +152,7 @@ predicate_tells limit d at is_pred some =
     name_tells limit (λ at_p p l. behind_predicate d (head_with at is_pred at_p p)) (λ at_p p.
     let s = wanted (in_predicate d (head_with at is_pred at_p p) no_variables) [] in
     let t = parameter_wanted d (head_with at is_pred at_p p) no_variables in
-    two_marks_tells limit (infix_operator (Relation Equal)) open_round (λ l. took s) (λ l. either_mark close_round (body_of d (head_with at is_pred at_p p) no_variables) (took t)) refl (took_tells limit s (tt, some) (λ ts. refl))
+    two_marks_tells limit (infix_operator (Relation Equal)) open_round (λ l. took s) (λ l. either_mark close_round (body_of d (head_with at is_pred at_p p) no_variables) (took t)) refl (took_tells limit s (tt, some, λ n. refl) (λ ts. refl))
     (mark_or_tells limit close_round (λ l. body_of d (head_with at is_pred at_p p) no_variables) t (body_tells limit d (head_with at is_pred at_p p) no_variables some) tt (λ ts. refl)))
 
 pub include_tells : (limit : ℕ) (d : Document) (at : At) → Tells limit (λ l. begin_include d at)
@@ -165,4 +165,4 @@ default_tells limit d at o some =
     mark_tells limit open_round (λ l. name_then (λ a n. mark_then close_round (equal_then (took (wanted (in_default d at o n) []))))) refl
     (name_tells limit (λ a n l. mark_then close_round (equal_then (took (wanted (in_default d at o n) []))))
     (λ a n. mark_tells limit close_round (λ l. equal_then (took (wanted (in_default d at o n) []))) refl
-    (equal_tells limit (λ l. took (wanted (in_default d at o n) [])) (took_tells limit (wanted (in_default d at o n) []) (tt, some) (λ ts. refl)))))
+    (equal_tells limit (λ l. took (wanted (in_default d at o n) [])) (took_tells limit (wanted (in_default d at o n) []) (tt, some, λ n. refl) (λ ts. refl)))))

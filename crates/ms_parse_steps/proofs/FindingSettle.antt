@@ -9,10 +9,10 @@ use Rattle.ms_parse_grammar.specs.declared.operator.Junction.{Junction}
 use Rattle.ms_parse_grammar.specs.declared.operator.Junction.TheVariants.{Conjunction, Disjunction}
 use Rattle.ms_parse_grammar.specs.declared.operator.Listing.TheVariants.{Literal, Call}
 use Rattle.ms_parse_grammar.specs.Tree.{Expression, shifted, enclosed, listed, no_expressions, and_expression, and_variable, restricted, and_part}
-use Rattle.ms_parse_grammar.specs.Tree.{variables, predicate, default_restriction, formula}
+use Rattle.ms_parse_grammar.specs.Tree.{variables, predicate, default_restriction, formula, goal}
 use Rattle.ms_parse_grammar.specs.Grammar.{left_level, junction_level, level, is_in, depth}
 use Rattle.ms_parse_grammar.specs.Reads.{place}
-use Rattle.ms_parse_steps.specs.inner.Machine.{Frame, left_frame, joined_frame, bracket_frame, list_frame, domain_frame, body_frame, part_frame, let_frame, Context, in_formula, in_global, in_parameter, in_predicate, in_default, outside, holding, variable_wanted, part_wanted, global_wanted, parameter_wanted, Move, took, misplaced, too_deep, Top, enter, int_then, shift, join_new, join, shift_int, declare, body_of, hold, close_round_at, close_curly_at, comma_at, colon_at, in_at, semicolon_at, settle}
+use Rattle.ms_parse_steps.specs.inner.Machine.{Frame, left_frame, joined_frame, bracket_frame, list_frame, domain_frame, body_frame, part_frame, let_frame, Context, in_formula, in_global, in_parameter, in_predicate, in_default, in_goal, outside, holding, variable_wanted, part_wanted, global_wanted, parameter_wanted, Move, took, misplaced, too_deep, Top, enter, int_then, shift, join_new, join, shift_int, declare, body_of, hold, close_round_at, close_curly_at, comma_at, colon_at, in_at, semicolon_at, settle}
 use Rattle.ms_parse_steps.proofs.Closing.{symbol, FramesFit}
 use Rattle.ms_parse_steps.proofs.Finding.{Finds, first_deep, stuck_deep, refuse, takes, goes, took_tells, int_tells, enter_finds}
 use Rattle.ms_parse_steps.proofs.FindingNames.{body_tells}
@@ -119,6 +119,8 @@ semicolon_finds limit (in_formula d at) e [] g y ts same = takes limit g y ts (o
 semicolon_finds limit (in_global d at o vs at_v n) e [] g y ts same = takes limit g y ts (outside (declare d at (variables (and_variable vs at_v o n (restricted e))))) tt refl (λ l more above may. same l more above)
 semicolon_finds limit (in_predicate d head vs) e [] g y ts same = takes limit g y ts (outside (declare d head.at (predicate head.is_pred head.at_name head.name vs e))) tt refl (λ l more above may. same l more above)
 semicolon_finds limit (in_default d at o n) e [] g y ts same = takes limit g y ts (outside (declare d at (default_restriction o n e))) tt refl (λ l more above may. same l more above)
+semicolon_finds limit (in_goal d at at_title title) e [] g y ts same =
+    takes limit g y ts (outside (declare d at (goal at_title title e))) tt refl (λ l more above may. same l more above)
 semicolon_finds limit c e _ g y ts same = refuse limit g y ts same
 
 pub settle_finds : (limit : ℕ) (c : Context) (s : Symbol) (inside : Bool) (top : Top) (g : ℕ → List Placed → Move) (a : At) (ts : List Placed) → 1 ≤ limit → FramesFit limit top.1 → length top.1 + depth top.0 ≤ limit

@@ -1,18 +1,20 @@
 -- What a step finds.
-use Rattle.std.proofs.Common.{◌≡◌, ℕ, suc, ◌+◌, ◌≤◌, leb, Bool, true, false, cond, List, [], ◌∷◌, length, Some, None, refl, sym, ap, ◌∙◌, subst, arith}
-use Rattle.std.proofs.lemmas.Bool.{le-leb}
+use Rattle.std.proofs.Common.{◌≡◌, ℕ, suc, ◌+◌, ◌≤◌, leb, true, false, cond, List, [], ◌∷◌, length, codes, bytes_eq, Some, None, refl, sym, ap, ◌∙◌, subst, arith}
+use Rattle.std.proofs.lemmas.Bool.{false≢true, le-leb}
 use Rattle.ms_list.specs.declared.at.At.{At}
-use Rattle.ms_parse_grammar.specs.Symbol.{Symbol, kind, predicate_word, default_word, word_const, word_include, Placed, placed}
-use Rattle.ms_parse_grammar.specs.Tree.{Expression, no_variables, Document}
+use Rattle.ms_parse_grammar.specs.Symbol.{Symbol, name, text, kind, predicate_word, default_word, word_const, word_include, open_round, close_round, Placed, placed}
+use Rattle.ms_parse_grammar.specs.Tree.{Expression, atom, named, listed, no_expressions, no_variables, Document}
+use Rattle.ms_parse_grammar.specs.declared.operator.Listing.TheVariants.{Call}
 use Rattle.ms_parse_grammar.specs.Grammar.{depth}
-use Rattle.ms_parse_steps.specs.inner.Machine.{Frame, prefix_frame, left_frame, joined_frame, bracket_frame, list_frame, domain_frame, body_frame, part_frame, let_frame, Context, in_formula, Configuration, outside, wanted, holding, variable_wanted, part_wanted, pair_wanted, global_wanted, parameter_wanted, summand_wanted, Top, in_part, frame_depth, ends, completed, collapse, on_top, bound, settle, go_on, begin, begin_constant, begin_predicate, begin_include, begin_default, begin_declaration, step}
+use Rattle.ms_parse_steps.specs.inner.Machine.{Frame, prefix_frame, left_frame, joined_frame, bracket_frame, list_frame, domain_frame, body_frame, part_frame, let_frame, Context, in_formula, in_goal, Configuration, outside, wanted, holding, variable_wanted, part_wanted, pair_wanted, global_wanted, parameter_wanted, summand_wanted, Move, took, Top, in_part, frame_depth, ends, completed, collapse, on_top, bound, settle, go_on, either_mark, enter_list, begin, begin_name, begin_constant, begin_predicate, begin_include, begin_default, begin_named, begin_declaration, step}
 use Rattle.ms_parse_steps.proofs.Closing.{FramesFit}
-use Rattle.ms_parse_steps.proofs.Completions.{Fits}
-use Rattle.ms_parse_steps.proofs.Finding.{Finds, takes, goes, symbol_finds}
-use Rattle.ms_parse_steps.proofs.FindingBegin.{begin_finds}
+use Rattle.ms_parse_steps.proofs.Completions.{IsBegun, Fits}
+use Rattle.ms_parse_steps.proofs.Finding.{Finds, Tells, takes, goes, took_tells, symbol_finds, negated, either, looked_tells}
+use Rattle.ms_parse_steps.proofs.FindingBegin.{list_tells, BeginsNoGoal, begin_finds}
 use Rattle.ms_parse_steps.proofs.FindingNames.{variable_tells, part_tells, pair_tells, global_tells, parameter_tells, summand_tells, constant_tells, predicate_tells, include_tells, default_tells}
 use Rattle.ms_parse_steps.proofs.FindingSettle.{settle_finds}
-use Rattle.ms_parse_steps.proofs.Frames.{chosen_yes, chosen_no}
+use Rattle.ms_parse_steps.proofs.Frames.{chosen, chosen_yes, chosen_no}
+use Rattle.ms_parse_steps.proofs.Lookahead.{stands_alone}
 
 completed_fits : (limit n : ℕ) (f : Frame) (e : Expression) → suc n + depth e ≤ limit → suc n + frame_depth f ≤ limit → n + depth (completed f e) ≤ limit
 completed_fits limit n (prefix_frame at op) e deep below = omega arith
@@ -50,10 +52,6 @@ fitted_stays limit b e f st is fit deep = record {
   same = λ above more. chosen_no (ends b f) (cond (leb (depth (completed f e)) above) (collapse above b (completed f e) st) None) (Some (e, f ∷ st)) is;
 }
 
-either : (A : Type 0) (b : Bool) → (b ≡ true → A) → (b ≡ false → A) → A
-either A true one other = one refl
-either A false one other = other refl
-
 fitted : (limit b : ℕ) (e : Expression) (st : List Frame) → FramesFit limit st → length st + depth e ≤ limit → Fitted limit b e st
 fitted limit b e [] fit deep = record { top = (e, []); fit = fit; deep = deep; same = λ above more. refl }
 fitted limit b e (f ∷ st) fit deep =
@@ -70,6 +68,40 @@ holding_finds limit c e st some fit deep a s ts =
     (settle_finds limit c s (in_part st) is.top (λ l. step l (holding c e st)) a ts some is.fit is.deep
     (λ l more above. ap (on_top (λ top. settle l c s (in_part st) top (placed s a ∷ more) more) (placed s a ∷ more)) (is.same l above)))
 
+-- a name that begins a declaration, alone or before what it does not take
+named_alone : (limit : ℕ) (d : Document) (at : At) (n : List ℕ) (ts : List Placed) → stands_alone (bytes_eq n (codes "goal")) ts ≡ true
+    → begin_named limit d at n ts ≡ took (holding (in_formula d at) (atom at (named n)) []) ts
+named_alone limit d at n [] alone = refl
+named_alone limit d at n (placed (text title) a ∷ ts) alone =
+    chosen_no (bytes_eq n (codes "goal")) (took (wanted (in_goal d at a title) []) ts) (begin_name limit (in_formula d at) [] at n (placed (text title) a ∷ ts))
+    (negated (bytes_eq n (codes "goal")) alone)
+named_alone limit d at n (placed open_round a ∷ ts) alone = absurd (false≢true alone)
+named_alone limit d at n (placed _ a ∷ ts) alone = refl
+
+-- before its title, where it is `goal`, or before the bracket of a call
+named_followed : (limit : ℕ) (d : Document) (at : At) (n : List ℕ) → 1 ≤ limit → (y : Placed) (ts : List Placed)
+    → stands_alone (bytes_eq n (codes "goal")) (y ∷ ts) ≡ false → Finds limit (λ l. begin_named l d at n) (y ∷ ts) (begin_named limit d at n (y ∷ ts))
+named_followed limit d at n some (placed (text title) a) ts other =
+    let g : ℕ → List Placed → Move = λ l. begin_named l d at n in
+    let from = placed (text title) a ∷ ts in
+    chosen (Finds limit g from) (bytes_eq n (codes "goal")) (took (wanted (in_goal d at a title) []) ts) (begin_name limit (in_formula d at) [] at n from)
+    (λ is. goes limit (λ l. took (wanted (in_goal d at a title) [])) g (placed (text title) a) ts
+    (λ l more above. chosen_yes (bytes_eq n (codes "goal")) (took (wanted (in_goal d at a title) []) more)
+    (begin_name l (in_formula d at) [] at n (placed (text title) a ∷ more)) is)
+    (took_tells limit (wanted (in_goal d at a title) []) (tt, some, λ m. refl) (λ more. refl)))
+    (λ is_not. absurd (false≢true (sym other ∙ ap (λ b. cond b false true) is_not)))
+named_followed limit d at n some (placed open_round a) ts other =
+    let call = holding (in_formula d at) (listed at (Call n) no_expressions) [] in
+    goes limit (λ l. either_mark close_round (took call) (enter_list l (in_formula d at) at (Call n) [])) (λ l. begin_named l d at n) (placed open_round a) ts
+    (λ l more above. refl)
+    (list_tells limit (in_formula d at) [] at (Call n) call tt some (tt, some) (λ more. refl))
+named_followed limit d at n some (placed _ a) ts other = absurd (false≢true (sym other))
+
+named_tells : (limit : ℕ) (d : Document) (at : At) (n : List ℕ) → 1 ≤ limit → Tells limit (λ l. begin_named l d at n)
+named_tells limit d at n some =
+    looked_tells limit (λ l. begin_named l d at n) (holding (in_formula d at) (atom at (named n)) []) (tt, some) refl
+    (λ l. named_alone l d at n) (named_followed limit d at n some)
+
 -- a declaration begins
 declaration_finds : (limit : ℕ) (d : Document) → 1 ≤ limit → (at : At) (s : Symbol) (ts : List Placed) → Finds limit (λ l. step l (outside d)) (placed s at ∷ ts) (begin_declaration limit d at s (placed s at ∷ ts) ts)
 declaration_finds limit d some at (kind o) ts = takes limit (λ l. step l (outside d)) (placed (kind o) at) ts (global_wanted d at o no_variables) tt refl (λ l more above may. refl)
@@ -78,12 +110,18 @@ declaration_finds limit d some at (predicate_word is_pred) ts =
     goes limit (λ l. begin_predicate d at is_pred) (λ l. step l (outside d)) (placed (predicate_word is_pred) at) ts (λ l more above. refl) (predicate_tells limit d at is_pred some)
 declaration_finds limit d some at word_include ts = goes limit (λ l. begin_include d at) (λ l. step l (outside d)) (placed word_include at) ts (λ l more above. refl) (include_tells limit d at)
 declaration_finds limit d some at (default_word o) ts = goes limit (λ l. begin_default d at o) (λ l. step l (outside d)) (placed (default_word o) at) ts (λ l more above. refl) (default_tells limit d at o some)
-declaration_finds limit d some at s ts = begin_finds limit (in_formula d at) [] at s ts (λ l. step l (outside d)) tt some (λ l more above. refl)
+declaration_finds limit d some at (name n) ts =
+    goes limit (λ l. begin_named l d at n) (λ l. step l (outside d)) (placed (name n) at) ts (λ l more above. refl) (named_tells limit d at n some)
+declaration_finds limit d some at s ts = begin_finds limit (in_formula d at) [] at s ts (λ l. step l (outside d)) tt some tt (λ l more above. refl)
+
+begun_no_goal : (c : Context) (st : List Frame) (s : Symbol) → IsBegun st c → BeginsNoGoal st c s
+begun_no_goal c st (name n) is = is n
+begun_no_goal c st s is = tt
 
 pub step_finds : (limit : ℕ) (s : Configuration) (ts : List Placed) → 1 ≤ limit → Fits limit s → Finds limit (λ l. step l s) ts (step limit s ts)
 step_finds limit (outside d) ts some fits = symbol_finds limit (λ l. begin_declaration l d) (declaration_finds limit d some) ts
 step_finds limit (wanted c st) ts some fits =
-    symbol_finds limit (λ l. begin l c st) (λ a s more. begin_finds limit c st a s more (λ l. step l (wanted c st)) fits.0 fits.1 (λ l other above. refl)) ts
+    symbol_finds limit (λ l. begin l c st) (λ a s more. begin_finds limit c st a s more (λ l. step l (wanted c st)) fits.0 fits.1 (begun_no_goal c st s fits.2) (λ l other above. refl)) ts
 step_finds limit (holding c e st) ts some fits = symbol_finds limit (λ l a. go_on l c e st) (holding_finds limit c e st some fits.0 fits.1) ts
 step_finds limit (variable_wanted c st at q o vs) ts some fits = (variable_tells limit c st at q o vs fits.0 fits.1 fits.2).finds ts
 step_finds limit (part_wanted c st at o parts) ts some fits = (part_tells limit c st at o parts fits.0 fits.1 fits.2).finds ts

@@ -6,7 +6,7 @@ use Rattle.ms_list.specs.declared.at.At.{At}
 use Rattle.ms_logic.specs.declared.mode.Mode.{Mode}
 use Rattle.ms_logic.specs.declared.mode.Mode.TheVariants.{Ws1s, M2lStr}
 use Rattle.ms_parse_grammar.specs.Symbol.{Symbol, name, sign, word_ws1s, semicolon, Placed, placed}
-use Rattle.ms_parse_grammar.specs.Tree.{Declaration, variables, constant, predicate, included, default_restriction, formula, Declared, Document}
+use Rattle.ms_parse_grammar.specs.Tree.{Declaration, variables, constant, predicate, included, default_restriction, formula, goal, Declared, Document}
 use Rattle.ms_parse_grammar.specs.Declarations.{ReadsDeclaration, ReadsDeclarations, ReadsString, ReadsHeader}
 use Rattle.ms_parse_steps.specs.inner.Machine.{outside, headed, start, starter, Runs}
 use Rattle.ms_parse_steps.proofs.Moves.{begins}
@@ -30,6 +30,7 @@ declaration_starts (constant at n sum) from f1 (g1, g2, g3, words, starts, follo
 declaration_starts (predicate is_pred at n vs body) from f1 (g1, g2, g3, g4, words, starts, parameters, follow, read_body) = ap is_header_word words.1
 declaration_starts (included at file) from f1 (g1, words, starts) = ap is_header_word words.1
 declaration_starts (default_restriction o n body) from f1 (g1, g2, g3, g4, g5, words, opens, name_is, closes, follow, read_body) = ap is_header_word words.1
+declaration_starts (goal at title e) from f1 (g1, g2, words, titled, reads) = ap is_header_word words.1
 declaration_starts (formula e) from f1 reads =
     let first = begins true e from f1 reads in ap is_header_word first.3 ∙ started first.0 first.1 first.2 first.4
 

@@ -2,7 +2,7 @@
 use Rattle.std.proofs.Common.{ℕ, ◌≤◌, true, List, [], ◌∷◌}
 use Rattle.ms_parse_grammar.specs.Symbol.{Placed}
 use Rattle.ms_parse_grammar.specs.Tree.{Expression, Variables, no_variables, and_variable, unrestricted, restricted}
-use Rattle.ms_parse_grammar.specs.Tree.{Declaration, variables, constant, predicate, included, default_restriction, formula, Declared, Document}
+use Rattle.ms_parse_grammar.specs.Tree.{Declaration, variables, constant, predicate, included, default_restriction, formula, goal, Declared, Document}
 use Rattle.ms_parse_grammar.specs.Grammar.{IsGrammatical, depth, greatest_depth}
 use Rattle.ms_parse_grammar.specs.Declarations.{ReadsDocument, AreDomains, IsDeclaration, AreDeclarations, Reads}
 
@@ -23,6 +23,7 @@ IsDeclarationWithin limit (predicate is_pred at n parameters body) = AreDomainsW
 IsDeclarationWithin limit (included at file) = Unit {0}
 IsDeclarationWithin limit (default_restriction o n body) = IsWithin limit body
 IsDeclarationWithin limit (formula e) = IsWithin limit e
+IsDeclarationWithin limit (goal at title e) = IsWithin limit e
 
 abbrev pub AreDeclarationsWithin : ℕ → List Declared → Type 0
 AreDeclarationsWithin limit [] = Unit {0}
@@ -47,6 +48,7 @@ declaration_within (predicate is_pred at n vs body) good =
 declaration_within (included at file) good = tt
 declaration_within (default_restriction o n body) good = record { grammatical = good.grammatical; shallow = good.shallow }
 declaration_within (formula e) good = record { grammatical = good.grammatical; shallow = good.shallow }
+declaration_within (goal at title e) good = record { grammatical = good.grammatical; shallow = good.shallow }
 
 declarations_within : (ds : List Declared) → AreDeclarations ds → AreDeclarationsWithin greatest_depth ds
 declarations_within [] good = tt
@@ -70,6 +72,7 @@ declaration_grammar (predicate is_pred at n vs body) good =
 declaration_grammar (included at file) good = tt
 declaration_grammar (default_restriction o n body) good = record { grammatical = good.grammatical; shallow = good.shallow }
 declaration_grammar (formula e) good = record { grammatical = good.grammatical; shallow = good.shallow }
+declaration_grammar (goal at title e) good = record { grammatical = good.grammatical; shallow = good.shallow }
 
 declarations_grammar : (ds : List Declared) → AreDeclarationsWithin greatest_depth ds → AreDeclarations ds
 declarations_grammar [] good = tt

@@ -1,14 +1,14 @@
 -- Where the automaton has come to, whatever follows.
-use Rattle.std.proofs.Common.{◌≡◌, ℕ, ◌<◌, ◌≤◌, length, arith, true, List, [], ◌∷◌, ◌++◌, None, refl, sym, ap, ◌∙◌, subst, append_assoc}
+use Rattle.std.proofs.Common.{◌≡◌, ℕ, ◌<◌, ◌≤◌, length, arith, Bool, true, List, [], ◌∷◌, ◌++◌, None, refl, sym, ap, ◌∙◌, subst, append_assoc}
 use Rattle.ms_parse_grammar.specs.Reads.{closing}
-use Rattle.ms_parse_grammar.specs.Symbol.{Symbol, open_round, close_round, Placed, placed}
+use Rattle.ms_parse_grammar.specs.Symbol.{Symbol, text, open_round, close_round, Placed, placed}
 use Rattle.ms_parse_grammar.specs.Tree.{empty_set, named}
 use Rattle.ms_parse_grammar.specs.Tree.{atom, no_expressions, no_variables, and_variable, Document}
 use Rattle.ms_parse_steps.specs.inner.Machine.{list_frame, Configuration, outside, wanted, holding, variable_wanted, part_wanted, pair_wanted, global_wanted, parameter_wanted, summand_wanted, took, step, finished}
 use Rattle.ms_parse_steps.proofs.Completions.{Fits}
 use Rattle.ms_parse_steps.proofs.Finding.{Takes, Finds}
 use Rattle.ms_parse_steps.proofs.FindingSteps.{step_finds}
-use Rattle.ms_parse_steps.proofs.Lookahead.{lacks, may_follow}
+use Rattle.ms_parse_steps.proofs.Lookahead.{lacks, may_begin_goal, stands_alone, may_follow}
 use Rattle.ms_parse_steps.proofs.Loops.{SameRuns, same_runs, runs_on}
 use Rattle.ms_parse_steps.proofs.Steps.{IsStuck}
 
@@ -17,8 +17,12 @@ use Rattle.ms_parse_steps.proofs.Steps.{IsStuck}
 lacks_first : (m : Symbol) (x : Placed) (ts other : List Placed) → lacks m (x ∷ ts) ≡ lacks m (x ∷ other)
 lacks_first m (placed s a) ts other = refl
 
+alone_first : (may : Bool) (x : Placed) (ts other : List Placed) → stands_alone may (x ∷ ts) ≡ stands_alone may (x ∷ other)
+alone_first may (placed (text t) a) ts other = refl
+alone_first may (placed s a) ts other = refl
+
 pub may_follow_first : (s : Configuration) (x : Placed) (ts other : List Placed) → may_follow s (x ∷ ts) ≡ may_follow s (x ∷ other)
-may_follow_first (holding c (atom at (named n)) st) x ts other = lacks_first open_round x ts other
+may_follow_first (holding c (atom at (named n)) st) x ts other = alone_first (may_begin_goal st c n) x ts other
 may_follow_first (holding c (atom at empty_set) st) x ts other = lacks_first open_round x ts other
 may_follow_first (wanted c (list_frame at l no_expressions ∷ st)) x ts other = lacks_first (closing l) x ts other
 may_follow_first (parameter_wanted d head no_variables) x ts other = lacks_first close_round x ts other

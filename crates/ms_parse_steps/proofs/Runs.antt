@@ -17,7 +17,7 @@ use Rattle.ms_parse_grammar.specs.Tree.{variables, constant, included, Document}
 use Rattle.ms_parse_grammar.specs.Grammar.{domain_bare_in, HaveGrammaticalDomains, AreOfOrder, depth_of_domains}
 use Rattle.ms_parse_grammar.specs.Reads.{Starts, Follows}
 use Rattle.ms_parse_grammar.specs.Declarations.{ReadsString}
-use Rattle.ms_parse_steps.specs.inner.Machine.{Head, head_with, Frame, domain_frame, body_frame, part_frame, Context, in_formula, Configuration, outside, wanted, holding, variable_wanted, part_wanted, pair_wanted, global_wanted, parameter_wanted, summand_wanted, Move, took, misplaced, too_deep, need, in_part, Top, on_top, settle, ends, collapse, bound, behind_variable, next_variable, next_part, next_pair, behind_global, next_global, behind_parameter, next_parameter, next_summand, begin_constant, begin_predicate, begin_include, begin_default, begin_declaration, step, headed, start, finished, goes_on, run, Runs}
+use Rattle.ms_parse_steps.specs.inner.Machine.{Head, head_with, Frame, domain_frame, body_frame, part_frame, Context, in_formula, in_goal, Configuration, outside, wanted, holding, variable_wanted, part_wanted, pair_wanted, global_wanted, parameter_wanted, summand_wanted, Move, took, misplaced, too_deep, need, in_part, Top, on_top, settle, ends, collapse, bound, behind_variable, next_variable, next_part, next_pair, behind_global, next_global, behind_parameter, next_parameter, next_summand, begin_constant, begin_predicate, begin_include, begin_default, begin_name, begin_named, begin_declaration, step, headed, start, finished, goes_on, run, Runs}
 use Rattle.ms_parse_steps.proofs.Frames.{VariablesSoFar, InFrames, CollapsedTo, chosen, collapsed}
 use Rattle.ms_parse_steps.proofs.Extensions.{variables_extended, ParametersSoFar, ParameterKind, parameters_extended, pairs_extended, sum_extended}
 use Rattle.ms_parse_steps.proofs.Settling.{declared_good, begins_with, body_of_good, settle_good}
@@ -277,12 +277,28 @@ default_good limit some all d at o (placed open_round a1 ∷ placed (name n) a2 
 )
 default_good limit some all d at o _ so_far = tt
 
+named_good : (limit : ℕ) (some : 1 ≤ limit) (all here : List Placed) (d : Document) (at : At) (n : List ℕ) (ts : List Placed) → SoFar limit d all (placed (name n) at ∷ ts)
+    → GoodNext limit all (begin_named limit d at n ts)
+named_good limit some all here d at n (placed (text title) a ∷ ts) so_far =
+    let behind = placed (text title) a ∷ ts in
+    chosen (GoodNext limit all) (bytes_eq n (codes "goal")) (took (wanted (in_goal d at a title) []) ts) (begin_name limit (in_formula d at) [] at n behind)
+    (λ is. let same : n ≡ codes "goal" = (bytes_eq-Decides n (codes "goal")).0 is in (
+      ts,
+      (placed (name n) at ∷ behind, behind, so_far, (at, ap (λ x. placed (name x) at ∷ behind) same, refl), (a, refl, refl)),
+      refl,
+      omega arith,
+    ))
+    (λ other. begin_good limit all here (in_formula d at) [] at (name n) (placed (name n) at ∷ behind) behind (so_far, refl) refl (omega arith))
+named_good limit some all here d at n ts so_far =
+    begin_good limit all here (in_formula d at) [] at (name n) (placed (name n) at ∷ ts) ts (so_far, refl) refl (omega arith)
+
 declaration_good : (limit : ℕ) (some : 1 ≤ limit) (all here : List Placed) (d : Document) (at : At) (s : Symbol) (ts : List Placed) → SoFar limit d all (placed s at ∷ ts) → GoodNext limit all (begin_declaration limit d at s here ts)
 declaration_good limit some all here d at (kind o) ts so_far = (placed (kind o) at ∷ ts, ts, so_far, (at, refl, refl), refl, tt, tt)
 declaration_good limit some all here d at word_const ts so_far = constant_good limit all d at ts so_far
 declaration_good limit some all here d at (predicate_word is_pred) ts so_far = predicate_good limit some all d at is_pred ts so_far
 declaration_good limit some all here d at word_include ts so_far = include_good limit all d at ts so_far
 declaration_good limit some all here d at (default_word o) ts so_far = default_good limit some all d at o ts so_far
+declaration_good limit some all here d at (name n) ts so_far = named_good limit some all here d at n ts so_far
 declaration_good limit some all here d at s ts so_far = begin_good limit all here (in_formula d at) [] at s (placed s at ∷ ts) ts (so_far, refl) refl (omega arith)
 
 top_good : (limit : ℕ) (some : 1 ≤ limit) (all here : List Placed) (c : Context) (s : Symbol) (inside : Bool) (top : Option Top) (from ts : List Placed) (a : At) → InContext limit c all from → CollapsedTo limit (bound inside s) inside top from (placed s a ∷ ts)

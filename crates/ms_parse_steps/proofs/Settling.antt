@@ -1,5 +1,5 @@
 -- Where an expression goes on or ends, what the automaton has read is in the grammar.
-use Rattle.std.proofs.Common.{◌≡◌, ℕ, suc, ◌+◌, ◌≤◌, leb, Bool, true, false, cond, ◌&&◌, List, [], ◌∷◌, length, refl, sym, ap, ◌∙◌, subst, arith}
+use Rattle.std.proofs.Common.{◌≡◌, ℕ, suc, ◌+◌, ◌≤◌, leb, Bool, true, false, cond, ◌&&◌, List, [], ◌∷◌, length, codes, refl, sym, ap, ◌∙◌, subst, arith}
 use Rattle.std.proofs.lemmas.Bool.{false≢true, leb-true, leb-false}
 use Rattle.ms_list.specs.declared.at.At.{At}
 use Rattle.ms_logic.specs.declared.mode.Rel.TheVariants.{Equal, Differs, Less, AtMost, Greater, AtLeast, Member, NotMember, Sub}
@@ -13,11 +13,11 @@ use Rattle.ms_parse_grammar.specs.declared.operator.Junction.TheVariants.{Conjun
 use Rattle.ms_parse_grammar.specs.declared.operator.Listing.TheVariants.{Literal, Call}
 use Rattle.ms_parse_grammar.specs.Tree.{enclosed, listed}
 use Rattle.ms_parse_grammar.specs.Tree.{Expression, shifted, Expressions, no_expressions, and_expression, Variables, and_variable, restricted, and_part}
-use Rattle.ms_parse_grammar.specs.Tree.{Declaration, variables, predicate, default_restriction, formula, Document}
+use Rattle.ms_parse_grammar.specs.Tree.{Declaration, variables, predicate, default_restriction, formula, goal, Document}
 use Rattle.ms_parse_grammar.specs.Grammar.{binary_level, left_level, junction_level, level, ends_open, is_in, right_level, operand_level, has_bare_in, some_bare_in, domain_bare_in, depth}
 use Rattle.ms_parse_grammar.specs.Reads.{Starts, ReadsInt, place, FirstIsAt, ReadsExpression}
 use Rattle.ms_parse_grammar.specs.Declarations.{ReadsParameterList, ReadsDeclaration, BeginsAt}
-use Rattle.ms_parse_steps.specs.inner.Machine.{Head, Frame, prefix_frame, left_frame, joined_frame, bracket_frame, list_frame, domain_frame, body_frame, part_frame, let_frame, Context, in_formula, in_global, in_parameter, in_predicate, in_default, holding, need, enter, ends, bound, shift, join_new, join, took, misplaced, too_deep, int_then, shift_int, declare, body_of, close_round_at, close_curly_at, comma_at, colon_at, in_at, semicolon_at, settle}
+use Rattle.ms_parse_steps.specs.inner.Machine.{Head, Frame, prefix_frame, left_frame, joined_frame, bracket_frame, list_frame, domain_frame, body_frame, part_frame, let_frame, Context, in_formula, in_global, in_parameter, in_predicate, in_default, in_goal, holding, need, enter, ends, bound, shift, join_new, join, took, misplaced, too_deep, int_then, shift_int, declare, body_of, close_round_at, close_curly_at, comma_at, colon_at, in_at, semicolon_at, settle}
 use Rattle.ms_parse_steps.proofs.Frames.{Held, both_false, Stands, Collapsed, chosen}
 use Rattle.ms_parse_steps.proofs.Extensions.{entries_extended, variables_extended, parts_extended, parameters_extended, declarations_extended, all_declared}
 use Rattle.ms_parse_steps.proofs.Soundness.{SoFar, InContext, Good, GoodNext, need_small, enter_good}
@@ -378,6 +378,10 @@ semicolon_good limit all here (in_predicate d head vs) e [] from ts a (f, g, h, 
 semicolon_good limit all here (in_default d at o n) e [] from ts a (f, g, h, i, j, so_far, words, opens, names, closes, equal) held =
     declared_good limit all d at (default_restriction o n e) f (placed semicolon a ∷ ts) ts a so_far (begins_with (default_word o) at f g words)
     (g, h, i, j, from, (words.0, words.1), opens, names, closes, equal, whole_reads limit e from (placed semicolon a ∷ ts) held) refl
+    (whole_expression limit e from (placed semicolon a ∷ ts) held)
+semicolon_good limit all here (in_goal d at at_title title) e [] from ts a (f, g, so_far, words, titled) held =
+    declared_good limit all d at (goal at_title title e) f (placed semicolon a ∷ ts) ts a so_far (begins_with (name (codes "goal")) at f g words)
+    (g, from, (words.0, words.1), titled, whole_reads limit e from (placed semicolon a ∷ ts) held) refl
     (whole_expression limit e from (placed semicolon a ∷ ts) held)
 semicolon_good limit all here c e _ from ts a context held = tt
 

@@ -1,5 +1,5 @@
 -- What the automaton has read is in the grammar.
-use Rattle.std.proofs.Common.{◌≡◌, ℕ, suc, ◌+◌, ◌≤◌, max, leb, true, false, List, [], ◌∷◌, length, refl, arith}
+use Rattle.std.proofs.Common.{◌≡◌, ℕ, suc, ◌+◌, ◌≤◌, max, leb, true, false, List, [], ◌∷◌, length, codes, refl, arith}
 use Rattle.std.proofs.lemmas.Bool.{leb-true}
 use Rattle.ms_list.specs.declared.at.At.{At}
 use Rattle.ms_logic.specs.declared.mode.Rel.TheVariants.{Equal}
@@ -17,7 +17,7 @@ use Rattle.ms_parse_grammar.specs.Tree.{Document}
 use Rattle.ms_parse_grammar.specs.Grammar.{ends_open, domain_bare_in, HaveGrammaticalDomains, HaveGrammaticalValues, AreOfOrder, prefix_level, depth_of_domains, depth_of_values}
 use Rattle.ms_parse_grammar.specs.Reads.{Starts, Follows, ReadsPairs, ReadsAtom, ReadsListOpening, closing}
 use Rattle.ms_parse_grammar.specs.Declarations.{ReadsParameterList, ReadsSum, BeginsAt, ReadsDeclarations, ReadsHeader}
-use Rattle.ms_parse_steps.specs.inner.Machine.{Frame, prefix_frame, left_frame, joined_frame, bracket_frame, list_frame, domain_frame, body_frame, part_frame, let_frame, Context, in_formula, in_global, in_parameter, in_predicate, in_default, Configuration, outside, wanted, holding, variable_wanted, part_wanted, pair_wanted, global_wanted, parameter_wanted, summand_wanted, Move, took, misplaced, too_deep, starter, unopened, enter_list, need, in_part, frame_depth, enter, begin_name, begin_empty, begin_literal, begin_pconst, begin_import, begin_restrict, begin_export, begin, with_room}
+use Rattle.ms_parse_steps.specs.inner.Machine.{Frame, prefix_frame, left_frame, joined_frame, bracket_frame, list_frame, domain_frame, body_frame, part_frame, let_frame, Context, in_formula, in_global, in_parameter, in_predicate, in_default, in_goal, Configuration, outside, wanted, holding, variable_wanted, part_wanted, pair_wanted, global_wanted, parameter_wanted, summand_wanted, Move, took, misplaced, too_deep, starter, unopened, enter_list, need, in_part, frame_depth, enter, begin_name, begin_empty, begin_literal, begin_pconst, begin_import, begin_restrict, begin_export, begin, with_room}
 use Rattle.ms_parse_steps.proofs.Frames.{VariablesSoFar, PartsSoFar, FrameReads, FrameGood, InFrames, Held, chosen}
 use Rattle.ms_parse_steps.proofs.Extensions.{ParametersSoFar, ParameterKind}
 use Rattle.ms_parse_steps.proofs.Limits.{AreDomainsWithin, AreDeclarationsWithin}
@@ -39,6 +39,8 @@ InContext limit (in_predicate d head vs) all ts =
 InContext limit (in_default d at o n) all ts =
     (f g h i j : List Placed) × SoFar limit d all f × Starts true (default_word o) at f g × Follows open_round g h × Follows (name n) h i × Follows close_round i j
     × Follows (infix_operator (Relation Equal)) j ts
+InContext limit (in_goal d at at_title title) all ts =
+    (f g : List Placed) × SoFar limit d all f × Starts true (name (codes "goal")) at f g × Starts true (text title) at_title g ts
 
 abbrev pub Good : ℕ → Configuration → List Placed → List Placed → Type 0
 Good limit (outside d) all ts = SoFar limit d all ts

@@ -1,5 +1,5 @@
 -- The automaton reads each document that the grammar reads.
-use Rattle.std.proofs.Common.{◌≡◌, ℕ, zero, suc, Bool, true, false, ⊎_elim, List, [], ◌∷◌, ◌++◌, Some, refl, sym, ap, ◌∙◌, subst, arith, append_assoc}
+use Rattle.std.proofs.Common.{◌≡◌, ℕ, zero, suc, Bool, true, false, ⊎_elim, List, [], ◌∷◌, ◌++◌, codes, Some, refl, sym, ap, ◌∙◌, subst, arith, append_assoc}
 use Rattle.std.proofs.lemmas.Bool.{false≢true}
 use Rattle.std.proofs.lemmas.List.{append-nil}
 use Rattle.ms_list.specs.declared.at.At.{At}
@@ -11,11 +11,11 @@ use Rattle.ms_logic.specs.declared.source.PlacedInt.{PlacedInt}
 use Rattle.ms_parse_grammar.specs.Symbol.{Symbol, name, text, infix_operator, sign, kind, predicate_word, default_word, word_where, word_const, word_include, open_round, close_round, comma, semicolon, Placed, placed}
 use Rattle.ms_parse_grammar.specs.declared.operator.Binary.TheVariants.{Relation}
 use Rattle.ms_parse_grammar.specs.Tree.{Expression, Variables, no_variables, and_variable, Domain, unrestricted, restricted}
-use Rattle.ms_parse_grammar.specs.Tree.{Declaration, variables, constant, predicate, included, default_restriction, formula, Declared, Document}
+use Rattle.ms_parse_grammar.specs.Tree.{Declaration, variables, constant, predicate, included, default_restriction, formula, goal, Declared, Document}
 use Rattle.ms_parse_grammar.specs.Grammar.{AreOfOrder}
 use Rattle.ms_parse_grammar.specs.Reads.{int_symbol, Starts, Follows, ReadsExpression, ReadsDomain, ReadsVariables}
 use Rattle.ms_parse_grammar.specs.Declarations.{ReadsParameters, ReadsParameterList, ReadsFurther, ReadsDeclaration, BeginsAt, ReadsDeclarations}
-use Rattle.ms_parse_steps.specs.inner.Machine.{Head, head_with, Context, in_formula, in_global, in_parameter, in_predicate, in_default, outside, wanted, holding, global_wanted, parameter_wanted, summand_wanted, Move, took, starter, declare, body_of, behind_parameter, step, finished, goes_on, run, Runs}
+use Rattle.ms_parse_steps.specs.inner.Machine.{Head, head_with, Context, in_formula, in_global, in_parameter, in_predicate, in_default, in_goal, outside, wanted, holding, global_wanted, parameter_wanted, summand_wanted, Move, took, starter, declare, body_of, behind_parameter, step, finished, goes_on, run, Runs}
 use Rattle.ms_parse_steps.proofs.Levels.{yields-zero}
 use Rattle.ms_parse_steps.proofs.Moves.{begins}
 use Rattle.ms_parse_steps.proofs.Steps.{by_step, Leads, by_lead, at_start}
@@ -183,17 +183,36 @@ constant_step limit d at at_n n (Constant k) a b x ts = refl
 
 -- a formula
 
-begun : (limit : ℕ) (d : Document) (s : Symbol) (a : At) (more : List Placed) → starter s ≡ true → step limit (outside d) (placed s a ∷ more) ≡ step limit (wanted (in_formula d a) []) (placed s a ∷ more)
-begun limit d (kind o) a more starts = absurd (false≢true starts)
-begun limit d word_const a more starts = absurd (false≢true starts)
-begun limit d (predicate_word is_pred) a more starts = absurd (false≢true starts)
-begun limit d word_include a more starts = absurd (false≢true starts)
-begun limit d (default_word o) a more starts = absurd (false≢true starts)
-begun limit d _ a more starts = refl
+-- no text stands behind a first name
+abbrev IsUntitled : Symbol → List Placed → Type 0
+IsUntitled (name n) (placed (text t) b ∷ ts) = ⊥
+IsUntitled s more = Unit {0}
+
+-- where an expression is read, it begins with no name and text
+untitled : (limit : ℕ) (c : Context) (s : Symbol) (a : At) (more : List Placed) (dd : Document) → Runs limit (wanted c []) (placed s a ∷ more) dd → IsUntitled s more
+untitled limit c (name n) a (placed (text t) b ∷ ts) dd (zero, read) = let never : ⊥ = cc in never
+untitled limit c (name n) a (placed (text t) b ∷ ts) dd (suc zero, read) = let never : ⊥ = cc in never
+untitled limit c (name n) a (placed (text t) b ∷ ts) dd (suc (suc m), read) = let never : ⊥ = cc in never
+untitled limit c (name n) a [] dd runs = tt
+untitled limit c (name n) a (placed t b ∷ ts) dd runs = tt
+untitled limit c s a more dd runs = tt
+
+begun : (limit : ℕ) (d : Document) (s : Symbol) (a : At) (more : List Placed) → starter s ≡ true → IsUntitled s more
+    → step limit (outside d) (placed s a ∷ more) ≡ step limit (wanted (in_formula d a) []) (placed s a ∷ more)
+begun limit d (kind o) a more starts none = absurd (false≢true starts)
+begun limit d word_const a more starts none = absurd (false≢true starts)
+begun limit d (predicate_word is_pred) a more starts none = absurd (false≢true starts)
+begun limit d word_include a more starts none = absurd (false≢true starts)
+begun limit d (default_word o) a more starts none = absurd (false≢true starts)
+begun limit d (name n) a (placed (text t) b ∷ ts) starts none = absurd none
+begun limit d (name n) a [] starts none = refl
+begun limit d (name n) a (placed t b ∷ ts) starts none = refl
+begun limit d _ a more starts none = refl
 
 formula_begun : (limit : ℕ) (d : Document) (s : Symbol) (a : At) (more : List Placed) (dd : Document) → starter s ≡ true → Runs limit (wanted (in_formula d a) []) (placed s a ∷ more) dd → Runs limit (outside d) (placed s a ∷ more) dd
 formula_begun limit d s a more dd starts (zero, read) = let never : ⊥ = cc in absurd never
-formula_begun limit d s a more dd starts (suc n, read) = (suc n, ap (goes_on (run limit n)) (begun limit d s a more starts) ∙ read)
+formula_begun limit d s a more dd starts (suc n, read) =
+    (suc n, ap (goes_on (run limit n)) (begun limit d s a more starts (untitled limit (in_formula d a) s a more dd (suc n, read))) ∙ read)
 
 begins_here : (at a : At) (s : Symbol) (from more : List Placed) → BeginsAt true at from → from ≡ placed s a ∷ more → at ≡ a
 begins_here at a s from more begins_at here = subst (λ f. BeginsAt true at f) here begins_at
@@ -280,6 +299,13 @@ declaration_read limit (default_restriction o n body) d at from f1 ts dd good be
     (whole_read limit body (in_default d words.0 o n) g5 ts semicolon ends.0 dd good refl (subst (λ f. ReadsExpression true body g5 f) ends.1 read_body)
     (by_step limit (holding (in_default d words.0 o n) body []) (placed semicolon ends.0 ∷ ts) (placed semicolon ends.0 ∷ ts) (outside (declare d words.0 (default_restriction o n body))) ts dd refl refl
     (subst (λ a. Runs limit (outside (declare d a (default_restriction o n body))) ts dd) (begins_here at words.0 (default_word o) from g1 begins_at words.1) runs)))
+declaration_read limit (goal at_title title e) d at from f1 ts dd good begins_at (g1, g2, words, titled, read_e) ends runs =
+    by_step limit (outside d) from (placed (name (codes "goal")) words.0 ∷ placed (text title) at_title ∷ g2) (wanted (in_goal d words.0 at_title title) []) g2 dd
+    (words.1 ∙ ap (λ f. placed (name (codes "goal")) words.0 ∷ f) (at_start (text title) at_title g1 g2 titled)) refl
+    (whole_read limit e (in_goal d words.0 at_title title) g2 ts semicolon ends.0 dd good refl (subst (λ f. ReadsExpression true e g2 f) ends.1 read_e)
+    (by_step limit (holding (in_goal d words.0 at_title title) e []) (placed semicolon ends.0 ∷ ts) (placed semicolon ends.0 ∷ ts)
+    (outside (declare d words.0 (goal at_title title e))) ts dd refl refl
+    (subst (λ a. Runs limit (outside (declare d a (goal at_title title e))) ts dd) (begins_here at words.0 (name (codes "goal")) from g1 begins_at words.1) runs)))
 declaration_read limit (formula e) d at from f1 ts dd good begins_at reads ends runs =
     let first = begins true e from f1 reads in
     subst (λ f. Runs limit (outside d) f dd) (sym first.3)

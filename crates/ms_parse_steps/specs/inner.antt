@@ -2,6 +2,7 @@ pub mod Configurations
 pub mod Ends
 pub mod Followed
 pub mod Frames
+pub mod Goals
 pub mod Headers
 pub mod Kinds
 pub mod Links

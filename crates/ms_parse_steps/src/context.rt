@@ -11,7 +11,7 @@ use crate::input::Input;
 use crate::operand::Identifier;
 use crate::parser::Parser;
 use crate::stop::Stop;
-use ms_list::{At, List, Name};
+use ms_list::{At, List, Name, Text};
 use ms_logic::{Bound, Order, PlacedInt};
 
 /// A constant whose declaration has been begun: the place of its word, its name, and its numbers so far.
@@ -60,6 +60,8 @@ pub enum Context {
     Predicate(Signature),
     /// A default restriction of an order, with its parameter.
     Default(At, Order, Name),
+    /// A goal: the places of `goal` and of its title, and the title.
+    Goal(At, At, Text),
 }
 
 impl Drop for Context {
@@ -73,6 +75,7 @@ impl Drop for Context {
             Context::Parameter(parameter) => drop(parameter),
             Context::Predicate(signature) => drop(signature),
             Context::Default(_, _, name) => drop(name),
+            Context::Goal(_, _, title) => drop(title),
         }
     }
 }
@@ -96,6 +99,7 @@ impl Context {
             Context::Parameter(parameter) => input.end_parameter(parser, parameter, followed),
             Context::Predicate(signature) => parser.end_predicate(signature, followed),
             Context::Default(at, order, name) => parser.end_default(at, order, name, followed),
+            Context::Goal(at, at_title, title) => parser.end_goal(at, at_title, title, followed),
         }
     }
 }

@@ -1,9 +1,11 @@
-ghost use Rattle.std.specs.Prelude.{◌≡◌, [], ℕ, List};
+ghost use Rattle.std.specs.Prelude.{◌≡◌, ◌+◌, ◌<◌, [], ℕ, List, IfNone, IfOk, IfSome};
 ghost use Rattle.ms_text.specs.TokenList.{Lexed};
+ghost use Rattle.ms_parse_grammar.specs.Symbol.{name};
 ghost use Rattle.ms_parse_grammar.specs.Tree.{no_variables};
 ghost use Rattle.ms_parse_grammar.specs.View.{document_of};
 ghost use Rattle.ms_parse_steps.specs.inner.Machine.{begin_constant, begin_default, begin_include, behind_predicate, begin_predicate, global_wanted, in_formula, next_summand, outside, step, wanted, took};
-ghost use Rattle.ms_parse_steps.specs.inner.Terminals.{behind};
+ghost use Rattle.ms_parse_steps.specs.inner.Goals.{BeginsGoal, IsNoGoal};
+ghost use Rattle.ms_parse_steps.specs.inner.Terminals.{behind, IsNext};
 ghost use Rattle.ms_parse_steps.specs.inner.Configurations.{head_of, StepsAs};
 ghost use Rattle.ms_parse_steps.specs.declared.parser.Parser.{Parser};
 ghost use Rattle.ms_parse_grammar.specs.Grammar.{greatest_depth};
@@ -11,13 +13,13 @@ ghost use Rattle.ms_parse_grammar.specs.Grammar.{greatest_depth};
 use crate::configuration::Configuration;
 use crate::context::{Constant, Context, Globals, Signature};
 use crate::declare::inside;
-use crate::input::Input;
+use crate::input::{Input, name_with};
 use crate::memory::push;
 use crate::parser::Parser;
 use crate::punctuation::Punctuation;
 use crate::stop::Stop;
 use crate::terminal::Terminal;
-use ms_list::{At, List};
+use ms_list::{At, List, NoMemory, Text};
 use ms_logic::{Decl, Order};
 use std::alloc::Global;
 
@@ -172,6 +174,18 @@ impl Input<'_> {
         parser.begin_expression(Context::Default(at, order, name), next)
     }
 
+    /// The title behind the name `goal`, and its place, where the token with a number is that name and a text follows.
+    fn title_at(self, i: u32) -> Result<Option<(Text, At)>, NoMemory>
+        ensures next { IfOk result (λ found. IfSome found (λ one. BeginsGoal self.entry.file self.entry.tokens.now i one.0 one.1)) }
+        ensures within { IfOk result (λ found. IfSome found (λ one. i + 1 < 67108864)) }
+        ensures other { IfOk result (λ found. IfNone found (IsNoGoal (behind self.entry.file self.entry.tokens.now i))) }
+    {
+        match name_with(self.tokens, self.file, i, b"goal") {
+            Some(_) => self.text_at(i + 1),
+            None => Ok(None),
+        }
+    }
+
     /// A formula begins a declaration.
     fn begin_formula(
         self,
@@ -184,6 +198,19 @@ impl Input<'_> {
         parser.stack.clear();
         let taken = self.begin(&mut parser.stack, i);
         inside(Context::Formula(at), taken)
+    }
+
+    /// A name begins a declaration.
+    fn begin_named(self, parser: &mut Parser, at: At, i: u32) -> Result<(Configuration, u32), Stop>
+        ensures { (n : List ℕ) → IsNext self.entry.file self.entry.tokens.now i (name n) at →
+            StepsAs self.entry.file self.entry.tokens.now (step greatest_depth (outside (document_of parser.old.source)) (behind self.entry.file self.entry.tokens.now i)) parser.new result }
+    {
+        match self.title_at(i)? {
+            Some((title, at_title)) => {
+                parser.begin_expression(Context::Goal(at, at_title, title), i + 2)
+            }
+            None => self.begin_formula(parser, at, i),
+        }
     }
 }
 
@@ -214,6 +241,7 @@ impl Input<'_> {
             Terminal::Predicate(is_pred) => { self.begin_predicate(parser, at, is_pred, i + 1) }
             Terminal::Include => self.begin_include(parser, at, i + 1),
             Terminal::Default(order) => self.begin_default(parser, at, order, i + 1),
+            Terminal::Name => self.begin_named(parser, at, i),
             _ => self.begin_formula(parser, at, i),
         }
     }

@@ -4,7 +4,7 @@ ghost use Rattle.ms_parse_grammar.specs.View.{document_of, expression_of, variab
 ghost use Rattle.ms_parse_steps.specs.inner.Ends.{ends_part, IsEnd, IsOperator};
 ghost use Rattle.ms_parse_steps.specs.inner.Followed.{settled};
 ghost use Rattle.ms_parse_steps.specs.inner.Machine as machine;
-ghost use Rattle.ms_parse_steps.specs.inner.Machine.{holding, in_default, in_formula, in_predicate, step};
+ghost use Rattle.ms_parse_steps.specs.inner.Machine.{holding, in_default, in_formula, in_goal, in_predicate, step};
 ghost use Rattle.ms_parse_steps.specs.inner.Frames.{frame_of};
 ghost use Rattle.ms_parse_steps.specs.inner.Outcomes.{ActsAs};
 ghost use Rattle.ms_parse_steps.specs.inner.Terminals.{behind, symbol_with};
@@ -27,7 +27,7 @@ use crate::settle::shift;
 use crate::stack::{collapse, pop_frame};
 use crate::stop::Stop;
 use crate::terminal::Terminal;
-use ms_list::{At, Name};
+use ms_list::{At, Name, Text};
 use ms_logic::{Decl, Order};
 use std::alloc::Global;
 
@@ -160,6 +160,29 @@ impl Parser {
         let Operand { expr, .. } = operand;
         match terminal {
             Terminal::Semicolon => self.declared(at, Decl::Default(order, name, expr), next),
+            _ => Err(Stop::Refused(next.saturating_sub(1))),
+        }
+    }
+
+    /// What ends the formula of a goal.
+    pub fn end_goal(
+        &mut self,
+        at: At,
+        at_title: At,
+        title: Text,
+        followed: Followed,
+    ) -> Result<(Configuration, u32), Stop>
+        ensures { (file : ℕ) (lexed : Lexed) (bytes : List ℕ) (inside : Bool) → IsEnd inside (symbol_with followed.terminal bytes) →
+            StepsAs file lexed (settled file lexed (in_goal (document_of self.old.source) at at_title title) bytes inside followed []) self.new result }
+    {
+        let Followed {
+            operand,
+            terminal,
+            next,
+        } = followed;
+        let Operand { expr, .. } = operand;
+        match terminal {
+            Terminal::Semicolon => self.declared(at, Decl::Goal(at_title, title, expr), next),
             _ => Err(Stop::Refused(next.saturating_sub(1))),
         }
     }

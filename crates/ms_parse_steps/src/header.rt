@@ -7,31 +7,12 @@ ghost use Rattle.ms_parse_steps.specs.inner.Punctuations.{IsNot};
 ghost use Rattle.ms_parse_steps.specs.inner.Terminals.{behind, IsNext};
 ghost use Rattle.ms_parse_grammar.specs.View.{document_of};
 
-use crate::input::{at_of, is_name, terminal_at};
+use crate::input::{name_with, terminal_at};
 use crate::punctuation::{Punctuation, behind_mark};
 use ms_list::{At, List};
 use ms_logic::{Mode, Source};
 use ms_text::Tokens;
 use std::alloc::Global;
-
-/// The place of the token with a number, where it is the name with these bytes.
-fn name_with(tokens: &Tokens, file: u32, i: u32, bytes: &[u8]) -> Option<At>
-    ensures some { IfSome result (λ at. IsNext file tokens.now i (name bytes.now) at) }
-    ensures none { IfNone result (IsNot (name bytes.now) (behind file tokens.now i)) }
-{
-    if i >= tokens.len() {
-        return None;
-    }
-    let token = tokens.get(i);
-    if !is_name(token.kind) {
-        return None;
-    }
-    if tokens.slice(i) == bytes {
-        Some(at_of(file, token.place))
-    } else {
-        None
-    }
-}
 
 /// The place of the header `ws1s;`, and the number behind it.
 fn ws1s_header(tokens: &Tokens, file: u32) -> Option<(At, u32)>

@@ -1,6 +1,7 @@
 ghost use Rattle.std.specs.Prelude.{◌≡◌, ◌<◌, ◌↔◌, ℕ, List, [], IfSome, IfNone, IfOk, IsTrue};
 ghost use Rattle.ms_parse_steps.specs.inner.Terminals.{symbol_with, behind, IsNext, NoName, NoText};
 ghost use Rattle.ms_parse_grammar.specs.Symbol.{name, text, between_quotes};
+ghost use Rattle.ms_parse_steps.specs.inner.Punctuations.{IsNot};
 
 use crate::terminal::{Terminal, terminal_of};
 use ms_list::{At, Name, NoMemory, Text};
@@ -36,7 +37,7 @@ pub fn terminal_at(tokens: &Tokens, file: u32, i: u32) -> Option<(Terminal, At)>
     }
 }
 
-pub fn is_name(kind: Kind) -> bool
+fn is_name(kind: Kind) -> bool
     ensures { IsTrue result ↔ (kind ≡ Kind.Name) }
 {
     matches!(kind, Kind::Name)
@@ -46,6 +47,26 @@ fn is_text(kind: Kind) -> bool
     ensures { IsTrue result ↔ (kind ≡ Kind.Text) }
 {
     matches!(kind, Kind::Text)
+}
+
+/// The place of the token with a number, where it is the name with these bytes.
+pub fn name_with(tokens: &Tokens, file: u32, i: u32, bytes: &[u8]) -> Option<At>
+    ensures some { IfSome result (λ at. IsNext file tokens.now i (name bytes.now) at) }
+    ensures within { IfSome result (λ at. i < 67108864) }
+    ensures none { IfNone result (IsNot (name bytes.now) (behind file tokens.now i)) }
+{
+    if i >= tokens.len() {
+        return None;
+    }
+    let token = tokens.get(i);
+    if !is_name(token.kind) {
+        return None;
+    }
+    if tokens.slice(i) == bytes {
+        Some(at_of(file, token.place))
+    } else {
+        None
+    }
 }
 
 impl Input<'_> {

@@ -33,7 +33,13 @@ fn source(alloc: Global, formulas: u32, negations: u32) -> Result<Checked, NoMem
             file: 0,
             place: u64::from(item) + 5,
         };
-        push(&mut placed, Placed { at, item, formula })?;
+        let placed_formula = Placed {
+            at,
+            item,
+            title: None,
+            formula,
+        };
+        push(&mut placed, placed_formula)?;
     }
     Ok(Checked {
         mode: Mode::Ws1s,

@@ -34,6 +34,7 @@ fn last_shape(alloc: Global, items: &[Item]) -> Result<String, AllocError> {
     match items.last() {
         Some(item) => match &item.decl {
             Decl::Formula(expr) => shape(alloc, expr),
+            Decl::Goal(_, _, expr) => shape(alloc, expr),
             _ => String::from_str(alloc, "no formula"),
         },
         None => String::from_str(alloc, "nothing"),

@@ -15,7 +15,8 @@ pub fn tell(rt: &HostRuntime) -> Result<()> {
     println!(rt; "Typed trees")?;
     check_text(rt, SOURCE)?;
     check_text(rt, "var1 x; ex1 y: x < y;")?;
-    check_text(rt, "var1 x; ex1 y: z < y;")
+    check_text(rt, "var1 x; ex1 y: z < y;")?;
+    check_text(rt, "true; goal \"some\" ex1 x: x < 1; goal \"\" true;")
 }
 
 fn check_text(rt: &HostRuntime, text: &str) -> Result<()> {
@@ -82,6 +83,9 @@ fn print_parameters(rt: &HostRuntime, params: &[Param]) -> Result<()> {
 
 fn print_formulas(rt: &HostRuntime, formulas: &[Placed]) -> Result<()> {
     for placed in formulas {
+        if let Some(title) = &placed.title {
+            println!(rt; "goal {}:", title.text())?;
+        }
         println!(rt;
             "a formula at {}, declaration {}",
             placed.at.place, placed.item

@@ -12,6 +12,7 @@ syntax keyword monastrOperator in notin sub empty min max union inter pconst
 syntax keyword monastrBoolean true false
 syntax keyword monastrLeftOut ws2s tree guide universe type assert verify execute prefix allpos lastpos
 syntax match monastrKeyword /\<m2l-str\ze\s*;/
+syntax match monastrKeyword /\<goal\ze\s*"/
 syntax match monastrNumber /\<\d\+/
 syntax match monastrString /"[^"]*"/
 syntax match monastrComment /#.*/ contains=monastrTodo

@@ -10,6 +10,8 @@ use Rattle.ms_logic.specs.declared.mode.Mode.{Mode}
 use Rattle.ms_logic.specs.declared.mode.Mode.TheVariants.{Ws1s, M2lStr}
 use Rattle.ms_logic.specs.declared.mode.Order.{Order}
 use Rattle.ms_logic.specs.declared.mode.Order.TheVariants.{One, Two}
+use Rattle.ms_report.specs.declared.found.Answer.{Answer}
+use Rattle.ms_report.specs.declared.found.Verdict.TheVariants.{Valid}
 use Rattle.ms_app.specs.Written.{File}
 
 abbrev pub at : ℕ → At
@@ -18,6 +20,10 @@ at place = record { file = 0; place = place }
 -- an export to a file of this name, of a formula without free variables
 abbrev pub export_to : List ℕ → ExportUse
 export_to name = record { at = at 7; name = name; variables = []; names = [] }
+
+-- valid, by an assignment of nothing
+abbrev pub found_valid : Answer
+found_valid = record { verdict = Valid; example = Some (record { length = 0; values = [] }); counterexample = None }
 
 -- files that hold nothing
 abbrev pub nothing_held : Option Holding

@@ -3,7 +3,7 @@ use Rattle.std.specs.Prelude.{◌≡◌, ℕ, ◌+◌, ◌<◌, ◌≤◌, ◌�
 use Rattle.std.specs.Option.{option_map}
 use Rattle.ms_build.specs.declared.built.Built.{Built}
 use Rattle.ms_build.specs.declared.plan.Plan.{Plan}
-use Rattle.ms_build.specs.Built.{AreBuiltFor, IsLimit, entries_of}
+use Rattle.ms_build.specs.Built.{AreBuiltFor, IsLimit, IsWithin, entries_of}
 use Rattle.ms_build.specs.Roots.{AreRootsRead, IsRootAt}
 use Rattle.ms_build.specs.Short.{RootLacks}
 use Rattle.ms_edge.specs.declared.refusal.Refusal.{Refusal}
@@ -45,6 +45,11 @@ IsRootRefused built root limit refusal = (refusal ≡ Memory) ⊎ ((refusal ≡ 
 -- the same of the root of an export
 abbrev pub IsExportRefused : Built → List ExportUse → ℕ → Refusal → Type 0
 IsExportRefused built uses limit refusal = (place : ℕ) × (place < length uses) × IsRootRefused built (place + 1) limit refusal
+
+-- the automata of all roots from one on, in order, each within the limit
+pub record AreRootsFrom (limit : ℕ) (plan : Plan) (first : ℕ) (contents : List (Content Sign)) : Type 0 where
+  pub all : first + length contents ≡ length plan.dag.now.roots
+  pub each : (place : ℕ) (content : Content Sign) → slice_get contents place ≡ Some content → IsRootAt plan (first + place) content × IsWithin limit content
 
 -- the canonical content of the automaton of a root
 abbrev pub IsRootCopy : FileVersion → Plan → ℕ → List (List ℕ) → Plain → Type 0

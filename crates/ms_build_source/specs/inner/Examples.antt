@@ -1,5 +1,5 @@
 -- Files, an import and a source for worked examples of what gives a value.
-use Rattle.std.specs.Prelude.{ℕ, List, [], ◌∷◌, codes, None}
+use Rattle.std.specs.Prelude.{ℕ, List, [], ◌∷◌, codes, Some, None}
 use Rattle.ms_arena.specs.declared.node.Ref.TheVariants.{Leaf, Inner}
 use Rattle.ms_dfa.specs.declared.plain.FileSign.{FileSign}
 use Rattle.ms_dfa.specs.declared.plain.FileSign.TheVariants.{Plus, Minus}
@@ -10,8 +10,15 @@ use Rattle.ms_logic.specs.declared.checked.Checked.{Checked}
 use Rattle.ms_logic.specs.declared.checked.Global.{Global}
 use Rattle.ms_logic.specs.declared.checked.ImportUse.{ImportUse}
 use Rattle.ms_logic.specs.declared.checked.MapPair.{MapPair}
+use Rattle.ms_logic.specs.declared.formula.Formula.{Formula}
+use Rattle.ms_logic.specs.declared.formula.Formula.TheVariants.{True}
 use Rattle.ms_logic.specs.declared.mode.Mode.TheVariants.{Ws1s}
 use Rattle.ms_logic.specs.declared.mode.Order.TheVariants.{Two}
+use Rattle.ms_logic.specs.inner.Examples.{stated}
+use Rattle.ms_logic_words.specs.declared.sign.Sign.{Sign}
+use Rattle.ms_logic_words.specs.Content.{Content}
+use Rattle.ms_logic_words.specs.inner.ContentExamples.{encodings_content}
+use Rattle.ms_build_source.specs.declared.solution.Solution.{Solution}
 
 abbrev pub P_and_Q : List (List ℕ)
 P_and_Q = codes "P" ∷ codes "Q" ∷ []
@@ -59,3 +66,11 @@ sets_checked = record {
   formulas = [];
   files = codes "t.mona" ∷ [];
 }
+
+-- var2 P, Q; true; goal "always" f;
+abbrev pub sets_with_goal : Formula → Checked
+sets_with_goal f = record sets_checked { formulas = stated None True ∷ stated (Some (codes "always")) f ∷ [] }
+
+-- what may be made of it: an automaton of `true` over P and Q, and those of goals
+abbrev pub sets_solution : List (Content Sign) → Solution
+sets_solution goals = record { automaton = encodings_content; goals = goals; names = P_and_Q; size = 5; depth = 2; exports = [] }

@@ -22,16 +22,16 @@ SourcesListVariables =
     (checked : Checked) (answers : Answers) → length answers ≡ length checked.imports → IsWellNumbered checked → ListsFreeVariables checked
     → ListsVariables checked (problem_of checked answers)
 
--- what lowering gives for such a source has the roots of the source, where its calls stand for what they become
+-- what lowering gives for a source whose numbers are in order has the roots of its questions, where its calls stand for what they become
 abbrev pub SourcesHaveRoots : Type 0
 SourcesHaveRoots =
     (checked : Checked) (answers : Answers) (roots : List Root) → length answers ≡ length checked.imports → IsWellNumbered checked
-    → ListsVariables checked (problem_of checked answers) → HasCallingRoots checked answers roots → HasRoots checked answers roots
+    → HasCallingRoots checked answers roots → HasRoots checked answers roots
 
 -- and it is what sharing asks
 abbrev pub SourcesAreShared : Type 0
 SourcesAreShared =
-    (checked : Checked) (answers : Answers) (lowered : Lowered) → IsWellNumbered checked → ListsVariables checked (problem_of checked answers)
+    (checked : Checked) (answers : Answers) (lowered : Lowered) → IsWellNumbered checked
     → HasRoots checked answers lowered.roots → lowered.orders ≡ map (λ g. g.order) checked.globals
     → IsLowered (problem_of checked answers).given.imports (calls_of (length checked.globals) (problem_of checked answers).given) lowered
 

@@ -5,7 +5,7 @@ use Rattle.ms_include.specs.Load.{IsLoadedText}
 use Rattle.ms_logic.specs.declared.checked.Checked.{Checked}
 use Rattle.ms_logic.specs.declared.source.Loaded.{Loaded}
 use Rattle.ms_logic.specs.Verdict.{IsValid}
-use Rattle.ms_logic.specs.View.{problem_of}
+use Rattle.ms_logic.specs.View.{main_question}
 use Rattle.ms_names_rules.specs.TypedSource.{IsTyped}
 use Rattle.ms_gen.specs.Accepted.{HasNoFault, IsAccepted, IsAloneWithinLimits}
 
@@ -22,4 +22,4 @@ GeneratedSourcesHaveNoFault =
 abbrev pub GeneratedSourcesAreValid : Type 0
 GeneratedSourcesAreValid =
     (number : ℕ) (name : List ℕ) (loaded : Loaded) (checked : Checked) → IsNumber number → IsLoadedText name (generated number) loaded →
-    IsTyped loaded checked → IsAloneWithinLimits checked × IsValid (problem_of checked [])
+    IsTyped loaded checked → IsAloneWithinLimits checked × IsValid (main_question checked [])

@@ -3,7 +3,8 @@ use Rattle.std.specs.Prelude.{◌≡◌, ℕ, ◌+◌, cond, bytes_eq, List, [],
 use Rattle.ms_list.specs.declared.at.At.{At}
 use Rattle.ms_edge.specs.declared.refusal.Refusal.TheVariants.{FileMissing}
 use Rattle.ms_logic.specs.declared.mode.Mode.TheVariants.{Ws1s}
-use Rattle.ms_logic.specs.declared.source.Decl.TheVariants.{Const, Include}
+use Rattle.ms_logic.specs.declared.source.Decl.TheVariants.{Const, Include, Goal}
+use Rattle.ms_logic.specs.declared.source.Form.TheVariants.{True}
 use Rattle.ms_logic.specs.declared.source.Item.{Item}
 use Rattle.ms_logic.specs.declared.source.Loaded.{Loaded}
 use Rattle.ms_logic.specs.declared.source.Source.{Source}
@@ -32,6 +33,10 @@ mark n = record { at = at 0 0; decl = Const (at 0 0) (n ∷ []) [] }
 -- `include "NAME";` at a place of the file with this number; the name stands 8 bytes behind it
 abbrev pub include : ℕ → ℕ → List ℕ → Item
 include file place name = record { at = at file place; decl = Include (at file (place + 8)) name }
+
+-- `goal "TITLE" true;` at a place of the file with this number; the title stands 5 bytes behind it, and has one letter
+abbrev pub goal : ℕ → ℕ → List ℕ → Item
+goal file place title = record { at = at file place; decl = Goal (at file (place + 5)) title (record { at = at file (place + 9); form = True }) }
 
 -- a file without header, and one that begins with `ws1s;`
 abbrev pub plain : List Item → Source

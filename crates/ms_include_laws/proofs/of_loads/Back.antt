@@ -24,7 +24,7 @@ use Rattle.ms_parse_grammar.specs.declared.operator.Listing.{Listing}
 use Rattle.ms_parse_grammar.specs.declared.operator.Listing.TheVariants.{Literal, Call}
 use Rattle.ms_parse_grammar.specs.Tree.{Atom, truth, falsity, whole, empty_set, named, numeral, pconst, imported}
 use Rattle.ms_parse_grammar.specs.Tree.{Expression, atom, prefixed, binary, joined, shifted, enclosed, listed, quantified, let_in, Expressions, no_expressions, and_expression, Variables, no_variables, and_variable, Domain, unrestricted, restricted, Parts, no_parts, and_part}
-use Rattle.ms_parse_grammar.specs.Tree.{Declaration, variables, constant, predicate, included, default_restriction, formula, Declared, Document}
+use Rattle.ms_parse_grammar.specs.Tree.{Declaration, variables, constant, predicate, included, default_restriction, formula, goal, Declared, Document}
 use Rattle.ms_parse_grammar.specs.View.{Variable, Part, form_at, variable_at, expression_at, part_at, expression_of, variable_of, part_of, form_of, expressions_of, variables_of, parts_of, declaration_of, declared_of, document_of, expressions_behind, variables_behind, parts_behind}
 
 -- one level of a tree of the code, over what stands below it
@@ -281,6 +281,7 @@ declaration_back (predicate is_pred at n parameters body) = decls.Pred is_pred a
 declaration_back (included at file) = decls.Include at file
 declaration_back (default_restriction o n body) = decls.Default o n (back body)
 declaration_back (formula e) = decls.Formula (back e)
+declaration_back (goal at title e) = decls.Goal at title (back e)
 
 variables_again : (vs : List Bound) → bounds_back (variables_of vs) [] ≡ vs
 unfolding bounds_back
@@ -296,6 +297,7 @@ declaration_again (decls.Pred is_pred at n bounds body) =
 declaration_again (decls.Include at file) = refl
 declaration_again (decls.Default o n body) = ap (λ x. decls.Default o n x) (expression_again body)
 declaration_again (decls.Formula e) = ap (λ x. decls.Formula x) (expression_again e)
+declaration_again (decls.Goal at title e) = ap (λ x. decls.Goal at title x) (expression_again e)
 
 abbrev item_back : Declared → Item
 item_back d = record { at = d.at; decl = declaration_back d.declaration }

@@ -1,11 +1,11 @@
 -- What holds of each place of a declaration holds of those of the expressions in it.
-use Rattle.std.proofs.Common.{List, [], ◌∷◌, map}
+use Rattle.std.proofs.Common.{List, [], ◌∷◌, map, Option, Some, None}
 use Rattle.ms_list.specs.declared.at.At.{At}
 use Rattle.ms_logic.specs.declared.source.Decl.{Decl}
 use Rattle.ms_logic.specs.declared.source.Decl.TheVariants as declared
 use Rattle.ms_logic.specs.declared.source.Item.{Item}
 use Rattle.ms_names_rules.specs.declared.meaning.Meaning.TheVariants as meaning
-use Rattle.ms_names_rules.specs.Syntax.{Declaration, globals, constant, predicate, include, default, formula, Placed}
+use Rattle.ms_names_rules.specs.Syntax.{Declaration, globals, constant, predicate, include, default, formula, Placed, Title}
 use Rattle.ms_names_rules.specs.Before.{with_names, after_bounds}
 use Rattle.ms_names_rules.specs.Declarations.{Known, occurrences_in}
 use Rattle.ms_logic.specs.Lists.{Each}
@@ -17,6 +17,11 @@ use Rattle.ms_include_laws.specs.inner.places.Places.{EachPlaceIn, EachPlaceInBo
 use Rattle.ms_include_laws.proofs.of_places.Occurrences.{StandsAt, bounds-stand, stand-at}
 
 module _ (P : At → Type 0) where
+  -- P holds of the place of a title, where there is one
+  abbrev pub TitleAt : Option Title → Type 0
+  TitleAt None = Unit {0}
+  TitleAt (Some title) = P title.at
+
   -- P holds of each place of a declaration, as a mathematical tree
   abbrev pub StatesAt : Declaration → Type 0
   StatesAt (globals vs) = EachPlaceInBounds P vs
@@ -24,7 +29,7 @@ module _ (P : At → Type 0) where
   StatesAt (predicate at n vs e) = P at × EachPlaceInBounds P vs × EachPlaceIn P e
   StatesAt include = Unit {0}
   StatesAt (default o n e) = EachPlaceIn P e
-  StatesAt (formula e) = EachPlaceIn P e
+  StatesAt (formula title e) = TitleAt title × EachPlaceIn P e
 
   abbrev pub PlacedAt : Placed → Type 0
   PlacedAt d = P d.at × StatesAt d.declaration
@@ -35,7 +40,8 @@ module _ (P : At → Type 0) where
   states-at (declared.Pred is_pred at n vs e) h = h
   states-at (declared.Include at file) h = tt
   states-at (declared.Default o n e) h = h
-  states-at (declared.Formula e) h = h
+  states-at (declared.Formula e) h = (tt, h)
+  states-at (declared.Goal at title e) h = h
 
   pub items-at : (items : List Item) → Each (EachPlaceInItem P) items → Each PlacedAt (map placed_of items)
   items-at [] h = tt
@@ -54,4 +60,4 @@ module _ (P : At → Type 0) where
       (stand-at P inner (after_bounds here vs) formula_wanted e h.2)
   occurrences-stand k include h = tt
   occurrences-stand k (default o n e) h = stand-at P (bind n (meaning.Variable k.before.next o) (without_exports k.scope)) (with_names k.before 1) formula_wanted e h
-  occurrences-stand k (formula e) h = stand-at P k.scope k.before formula_wanted e h
+  occurrences-stand k (formula title e) h = stand-at P k.scope k.before formula_wanted e h.1

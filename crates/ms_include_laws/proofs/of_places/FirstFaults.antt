@@ -6,10 +6,10 @@ use Rattle.ms_edge.specs.declared.refusal.Refusal.{Refusal}
 use Rattle.ms_logic.specs.declared.source.Loaded.{Loaded}
 use Rattle.ms_logic.specs.declared.source.PlacedInt.{PlacedInt}
 use Rattle.ms_names_rules.specs.declared.fault.Fault.{Fault}
-use Rattle.ms_names_rules.specs.Syntax.{Declaration, globals, constant, predicate, include, default, formula, Placed}
+use Rattle.ms_names_rules.specs.Syntax.{Bytes, Declaration, globals, constant, predicate, include, default, formula, Placed}
 use Rattle.ms_names_rules.specs.Checking.{IsFirstFault}
 use Rattle.ms_names_rules.specs.Constant.{Sum, sums_to, leaves_range, has_no_value, sum_from}
-use Rattle.ms_names_rules.specs.Declarations.{Known, after_declaration, at_the_beginning, declared_names, exports_in, faults_in, faults_of_declaration, faults_of_sum, first_fault_from, occurrences_in, or_later}
+use Rattle.ms_names_rules.specs.Declarations.{Known, after_declaration, at_the_beginning, declared_names, exports_in, faults_in, faults_of_declaration, faults_of_sum, faults_of_title, first_fault_from, occurrences_in, or_later, title_in}
 use Rattle.ms_names_rules.specs.Fault.{first_fault}
 use Rattle.ms_logic.specs.Lists.{Each}
 use Rattle.ms_names_rules.specs.Rules.{faults_at, faults_of_bounds, faults_of_exports, faults_of_placed, faults_of_repeat}
@@ -43,15 +43,25 @@ module _ (P : At → Type 0) where
       both-at P (faults_of_repeat at n (declared_names k.scope)) (faults_of_bounds [] vs) (repeat-at P at n (declared_names k.scope) h.0) (bounds-at P [] vs h.1)
   declaration-at k include h = tt
   declaration-at k (default o n e) h = tt
-  declaration-at k (formula e) h = tt
+  declaration-at k (formula title e) h = tt
+
+  title-at : (earlier : List Bytes) (d : Declaration) → StatesAt P d → FaultsAt P (faults_of_title earlier (title_in d))
+  title-at earlier (globals vs) h = tt
+  title-at earlier (constant at n is) h = tt
+  title-at earlier (predicate at n vs e) h = tt
+  title-at earlier include h = tt
+  title-at earlier (default o n e) h = tt
+  title-at earlier (formula None e) h = tt
+  title-at earlier (formula (Some title) e) h = repeat-at P title.at title.text earlier h.0
 
   faults-at : (k : Known) (d : Declaration) → StatesAt P d → FaultsAt P (faults_in k d)
   faults-at k d h =
       let stands = occurrences-stand P k d h in
       let inside = flat_map faults_at (occurrences_in k d) in
       let exports = faults_of_exports k.files (exports_in k d) in
-      both-at P (faults_of_declaration k d) (inside ++ exports) (declaration-at k d h)
-      (both-at P inside exports (occurrences-at P (occurrences_in k d) stands) (export-faults-at P k.files (exports_in k d) (exports-at P (occurrences_in k d) stands)))
+      both-at P (faults_of_title k.titles (title_in d)) (faults_of_declaration k d ++ (inside ++ exports)) (title-at k.titles d h)
+      (both-at P (faults_of_declaration k d) (inside ++ exports) (declaration-at k d h)
+      (both-at P inside exports (occurrences-at P (occurrences_in k d) stands) (export-faults-at P k.files (exports_in k d) (exports-at P (occurrences_in k d) stands))))
 
   later-at : (found later : Option Fault) → If (FaultAt P) found → If (FaultAt P) later → If (FaultAt P) (or_later found later)
   later-at None later h k = k

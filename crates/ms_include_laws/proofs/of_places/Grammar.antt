@@ -4,7 +4,7 @@ use Rattle.ms_parse_grammar.specs.declared.operator.Bracket.{Bracket}
 use Rattle.ms_parse_grammar.specs.Tree.{Atom, truth, falsity, whole, empty_set, named, numeral, pconst, imported}
 use Rattle.ms_parse_grammar.specs.declared.operator.Bracket.TheVariants.{Parentheses, Emptiness, Restriction, Export}
 use Rattle.ms_parse_grammar.specs.Tree.{Expression, atom, prefixed, binary, joined, shifted, enclosed, listed, quantified, let_in, Expressions, no_expressions, and_expression, Variables, no_variables, and_variable, Domain, unrestricted, restricted, Parts, no_parts, and_part}
-use Rattle.ms_parse_grammar.specs.Tree.{Declaration, variables, constant, predicate, included, default_restriction, formula, Declared}
+use Rattle.ms_parse_grammar.specs.Tree.{Declaration, variables, constant, predicate, included, default_restriction, formula, goal, Declared}
 use Rattle.ms_include_laws.specs.inner.places.Places.{EachPlaceInRenames, EachPlaceInSum}
 
 abbrev pub ReadAtomAt : (At → Type 0) → Atom → Type 0
@@ -58,6 +58,7 @@ ReadDeclarationAt P (predicate is_pred at n parameters body) = P at × ReadVaria
 ReadDeclarationAt P (included at file) = P at
 ReadDeclarationAt P (default_restriction o n body) = ReadAt P body
 ReadDeclarationAt P (formula e) = ReadAt P e
+ReadDeclarationAt P (goal at title e) = P at × ReadAt P e
 
 abbrev pub ReadDeclaredAt : (At → Type 0) → Declared → Type 0
 ReadDeclaredAt P d = P d.at × ReadDeclarationAt P d.declaration

@@ -7,7 +7,7 @@ use Rattle.ms_edge.specs.declared.refusal.Refusal.TheVariants as refusals
 use Rattle.ms_edge.specs.Files.{Seen}
 use Rattle.ms_logic.specs.declared.mode.Mode.{Mode}
 use Rattle.ms_logic.specs.declared.source.Decl.{Decl}
-use Rattle.ms_logic.specs.declared.source.Decl.TheVariants.{Vars, Const, Pred, Include, Default, Formula}
+use Rattle.ms_logic.specs.declared.source.Decl.TheVariants.{Vars, Const, Pred, Include, Default, Formula, Goal}
 use Rattle.ms_logic.specs.declared.source.Item.{Item}
 use Rattle.ms_logic.specs.declared.source.Loaded.{Loaded}
 use Rattle.ms_include.specs.declared.begun.Begun.{Begun}
@@ -56,6 +56,7 @@ include-at P (Pred is_pred at n bounds body) h = tt
 include-at P (Include at file) h = h
 include-at P (Default o n body) h = tt
 include-at P (Formula e) h = tt
+include-at P (Goal at title e) h = tt
 
 -- All places are in so many files from `base` on, where no more files are read.
 module _ (seen : Seen) (base count : ℕ) where

@@ -13,7 +13,7 @@ use Rattle.ms_parse_grammar.specs.declared.operator.Listing.TheVariants.{Literal
 use Rattle.ms_parse_grammar.specs.Symbol.{Symbol, Placed, placed}
 use Rattle.ms_parse_grammar.specs.Tree.{Atom, truth, falsity, whole, empty_set, named, numeral, pconst, imported}
 use Rattle.ms_parse_grammar.specs.Tree.{Expression, atom, prefixed, binary, joined, shifted, enclosed, listed, quantified, let_in, Expressions, no_expressions, and_expression, Variables, no_variables, and_variable, Domain, unrestricted, restricted, Parts, no_parts, and_part}
-use Rattle.ms_parse_grammar.specs.Tree.{Declaration, variables, constant, predicate, included, default_restriction, formula, Declared, Document}
+use Rattle.ms_parse_grammar.specs.Tree.{Declaration, variables, constant, predicate, included, default_restriction, formula, goal, Declared, Document}
 use Rattle.ms_parse_grammar.specs.Reads.{Starts, Follows, FirstIsAt, place, ReadsPairs, ReadsAtom, ReadsOpening, ReadsListOpening, ReadsExpression, ReadsSeparated, ReadsList, ReadsDomain, ReadsVariables, ReadsParts}
 use Rattle.ms_parse_grammar.specs.Declarations.{BeginsAt, ReadsKind, ReadsParameters, ReadsParameterList, ReadsFurther, ReadsSum, ReadsDeclaration, ReadsDeclarations, ReadsString, ReadsHeader, ReadsDocument}
 use Rattle.ms_logic.specs.Lists.{Each}
@@ -226,6 +226,10 @@ module _ (P : At → Type 0) where
   declaration-at (default_restriction o n body) from behind (f1, f2, f3, f4, f5, word, opens, names, closes, equals, reads) h =
       expression-at body f5 behind reads (follows _ f4 f5 equals (follows _ f3 f4 closes (follows _ f2 f3 names (follows _ f1 f2 opens (follows _ from f1 word h)))))
   declaration-at (formula e) from behind reads h = expression-at e from behind reads h
+  declaration-at (goal at title e) from behind (f1, f2, word, titled, reads) h =
+      let first = starts _ at f1 f2 titled (follows _ from f1 word h) in
+      let rest = expression-at e f2 behind reads first.1 in
+      ((first.0, rest.0), rest.1)
 
   begins-at : (at : At) (from : List Placed) → BeginsAt true at from → SymbolsAt from → P at
   begins-at at [] begins h = absurd begins

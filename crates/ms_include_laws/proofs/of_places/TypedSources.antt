@@ -12,7 +12,7 @@ use Rattle.ms_logic.specs.Tree.{Form, Restriction}
 use Rattle.ms_logic.specs.declared.mode.Order.{Order}
 use Rattle.ms_logic.specs.declared.source.Loaded.{Loaded}
 use Rattle.ms_names_rules.specs.declared.meaning.Meaning.TheVariants as meaning
-use Rattle.ms_names_rules.specs.Syntax.{Bytes, Bounds, no_bounds, more_bounds, Declaration, globals, constant, predicate, include, default, formula, Placed}
+use Rattle.ms_names_rules.specs.Syntax.{Bytes, Bounds, no_bounds, more_bounds, Declaration, globals, constant, predicate, include, default, formula, Placed, Title}
 use Rattle.ms_names_rules.specs.Before.{Before, after_domain}
 use Rattle.ms_names_rules.specs.Declarations.{Known, after_declaration, at_the_beginning, occurrences_in}
 use Rattle.ms_logic.specs.Lists.{Each}
@@ -60,11 +60,11 @@ module _ (P : At → Type 0) where
   globals-here k at item (predicate name_at n vs e) h = tt
   globals-here k at item include h = tt
   globals-here k at item (default o n e) h = tt
-  globals-here k at item (formula e) h = tt
+  globals-here k at item (formula title e) h = tt
 
-  formula-at : (at : At) (item : ℕ) (found : Option Form) → P at → If FormulaAt (option_map (λ f. record { at = at; item = item; formula = f }) found)
-  formula-at at item None h = tt
-  formula-at at item (Some f) h = h
+  formula-at : (at : At) (item : ℕ) (title : Option Bytes) (found : Option Form) → P at → If FormulaAt (option_map (λ f. record { at = at; item = item; title = title; formula = f }) found)
+  formula-at at item title None h = tt
+  formula-at at item title (Some f) h = h
 
   formulas-here : (k : Known) (at : At) (item : ℕ) (d : Declaration) → P at → Each (If FormulaAt) (formulas_of k at item d)
   formulas-here k at item (globals vs) h = tt
@@ -72,7 +72,7 @@ module _ (P : At → Type 0) where
   formulas-here k at item (predicate name_at n vs e) h = tt
   formulas-here k at item include h = tt
   formulas-here k at item (default o n e) h = tt
-  formulas-here k at item (formula e) h = (formula-at at item (formula_in (typed k.scope k.before e)) h, tt)
+  formulas-here k at item (formula title e) h = (formula-at at item (option_map (λ (t : Title). t.text) title) (formula_in (typed k.scope k.before e)) h, tt)
 
   kept-globals : (gs : List Global) → Each (If GlobalAt) (map (λ g. Some (global_of g)) gs) → Each (λ (g : Global). P g.at) gs
   kept-globals [] h = tt

@@ -112,6 +112,7 @@ module _ (P : At → Type 0) where
   declaration-placed (declared.Include at file) h = h
   declaration-placed (declared.Default o n e) h = expression-placed e h
   declaration-placed (declared.Formula e) h = expression-placed e h
+  declaration-placed (declared.Goal at title e) h = (h.0, expression-placed e h.1)
 
   pub items-placed : (items : List Item) → Each (ReadDeclaredAt P) (map read_view.declared_of items) → Each (EachPlaceInItem P) items
   items-placed [] h = tt

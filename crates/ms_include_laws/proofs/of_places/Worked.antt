@@ -7,7 +7,7 @@ use Rattle.ms_logic.specs.declared.source.Form.TheVariants as form
 use Rattle.ms_logic.specs.declared.mode.Order.TheVariants.{One}
 use Rattle.ms_names_rules.specs.Syntax.{truth, unrestricted}
 use Rattle.ms_names_rules.specs.View.{OneBound, bound_of, bounds, expression_of}
-use Rattle.ms_include_laws.specs.inner.places.Examples.{at, default_at, global_at, predicate_at, source, truth_at}
+use Rattle.ms_include_laws.specs.inner.places.Examples.{at, default_at, global_at, goal_at, predicate_at, source, truth_at}
 use Rattle.ms_include_laws.specs.inner.places.Places.{EachPlaceIn, EachPlaceInBounds, EachPlaceInItem, HasPlacesInFiles, IsAmongFiles}
 
 truth-of : (place : At) → expression_of (record { at = place; form = form.True }) ≡ truth place
@@ -61,3 +61,9 @@ predicate-body-outside h = omega (arith, (subst (EachPlaceIn (IsAmongFiles 0 1))
 
 pub default-outside : HasPlacesInFiles 0 (source (default_at (at 0) (at 1) ∷ [])) → ⊥
 default-outside h = omega (arith, (subst (EachPlaceIn (IsAmongFiles 0 1)) (truth-of (at 1)) h.0.1).1)
+
+pub goal-inside : HasPlacesInFiles 0 (source (goal_at (at 0) (at 0) (at 0) ∷ []))
+goal-inside = (((omega arith, omega arith), ((omega arith, omega arith), body-in (IsAmongFiles 0 1) (at 0) (omega arith, omega arith))), tt)
+
+pub goal-outside : HasPlacesInFiles 0 (source (goal_at (at 0) (at 0) (at 1) ∷ [])) → ⊥
+goal-outside h = omega (arith, (subst (EachPlaceIn (IsAmongFiles 0 1)) (truth-of (at 1)) h.0.1.1).1)

@@ -3,7 +3,7 @@ use Rattle.ms_names_checked.specs.Spellings.{IsName}
 use Rattle.ms_logic.specs.declared.source.Rename.{Rename}
 use Rattle.ms_parse_grammar.specs.Tree.{Atom, truth, falsity, whole, empty_set, named, numeral, pconst, imported}
 use Rattle.ms_parse_grammar.specs.Tree.{Expression, atom, prefixed, binary, joined, shifted, enclosed, listed, quantified, let_in, Expressions, no_expressions, and_expression, Variables, no_variables, and_variable, Domain, unrestricted, restricted, Parts, no_parts, and_part}
-use Rattle.ms_parse_grammar.specs.Tree.{Declaration, variables, constant, predicate, included, default_restriction, formula, Declared}
+use Rattle.ms_parse_grammar.specs.Tree.{Declaration, variables, constant, predicate, included, default_restriction, formula, goal, Declared}
 use Rattle.ms_logic.specs.Lists.{Each}
 
 abbrev pub AtomNames : Atom → Type 0
@@ -51,6 +51,7 @@ DeclarationNames (predicate is_pred at n parameters body) = VariablesNames param
 DeclarationNames (included at file) = Unit {0}
 DeclarationNames (default_restriction o n body) = IsName n × ExpressionNames body
 DeclarationNames (formula e) = ExpressionNames e
+DeclarationNames (goal at title e) = ExpressionNames e
 
 abbrev pub DeclaredNames : Declared → Type 0
 DeclaredNames d = DeclarationNames d.declaration

@@ -14,7 +14,7 @@ use Rattle.ms_parse_grammar.specs.declared.operator.Listing.TheVariants.{Literal
 use Rattle.ms_parse_grammar.specs.Symbol.{Symbol, name, Placed, placed}
 use Rattle.ms_parse_grammar.specs.Tree.{Atom, truth, falsity, whole, empty_set, named, numeral, pconst, imported}
 use Rattle.ms_parse_grammar.specs.Tree.{Expression, atom, prefixed, binary, joined, shifted, enclosed, listed, quantified, let_in, Expressions, no_expressions, and_expression, Variables, no_variables, and_variable, Domain, unrestricted, restricted, Parts, no_parts, and_part}
-use Rattle.ms_parse_grammar.specs.Tree.{Declaration, variables, constant, predicate, included, default_restriction, formula, Declared, Document}
+use Rattle.ms_parse_grammar.specs.Tree.{Declaration, variables, constant, predicate, included, default_restriction, formula, goal, Declared, Document}
 use Rattle.ms_parse_grammar.specs.Reads.{Starts, Follows, ReadsPairs, ReadsAtom, ReadsOpening, ReadsListOpening, ReadsExpression, ReadsSeparated, ReadsList, ReadsDomain, ReadsVariables, ReadsParts}
 use Rattle.ms_parse_grammar.specs.Declarations.{ReadsKind, ReadsParameters, ReadsParameterList, ReadsFurther, ReadsSum, ReadsDeclaration, ReadsDeclarations, ReadsString, ReadsHeader, ReadsDocument}
 use Rattle.ms_logic.specs.Lists.{Each}
@@ -200,6 +200,7 @@ declaration-named (default_restriction o n body) from behind (f1, f2, f3, f4, f5
     let rest = expression-named body f5 behind reads (past _ f4 f5 equals (past _ f3 f4 closes first.1)) in
     ((first.0, rest.0), rest.1)
 declaration-named (formula e) from behind reads h = expression-named e from behind reads h
+declaration-named (goal at title e) from behind (f1, f2, word, titled, reads) h = expression-named e f2 behind reads (starts _ at f1 f2 titled (past _ from f1 word h)).1
 
 declarations-named : (ds : List Declared) (from behind : List Placed) → ReadsDeclarations true ds from behind → Names from → Each DeclaredNames ds
 declarations-named [] from behind none h = tt

@@ -111,6 +111,7 @@ declaration-named (declared.Pred is_pred at n vs e) h = (variables-named vs h.0,
 declaration-named (declared.Include at file) h = tt
 declaration-named (declared.Default o n e) h = (h.0, expression-named e h.1)
 declaration-named (declared.Formula e) h = expression-named e h
+declaration-named (declared.Goal at title e) h = expression-named e h
 
 -- what an item declares and binds has names of the language
 abbrev pub ItemNames : Item → Type 0

@@ -179,7 +179,8 @@ declaration-kept (declared.Const at n is) = refl
 declaration-kept (declared.Pred is_pred at n vs e) = λ i. syntax.predicate at n (variables-shown vs i) (expression-shown e i)
 declaration-kept (declared.Include at file) = refl
 declaration-kept (declared.Default o n e) = ap (syntax.default o n) (expression-shown e)
-declaration-kept (declared.Formula e) = ap syntax.formula (expression-shown e)
+declaration-kept (declared.Formula e) = ap (syntax.formula None) (expression-shown e)
+declaration-kept (declared.Goal at title e) = ap (syntax.formula (Some (record { at = at; text = title }))) (expression-shown e)
 
 pub items-shown : (items : List Item) → map shown_declared (map read_view.declared_of items) ≡ map view.placed_of items
 items-shown [] = refl

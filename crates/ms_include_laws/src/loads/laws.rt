@@ -1,6 +1,6 @@
 //! Laws of the definitions. The functions have empty bodies, and their contracts state the laws.
 
-ghost use Rattle.ms_include_laws.specs.inner.loads.Checks.{FaultlessSourcesPass, ShallowSourcesPass, SmallSourcesPass, TypedSourcesAreOneProblem};
+ghost use Rattle.ms_include_laws.specs.inner.loads.Checks.{FaultlessSourcesPass, ShallowSourcesPass, SmallSourcesPass, TypedSourcesAreOneProblem, TypedSourcesAskTheSame};
 ghost use Rattle.ms_include_laws.specs.inner.loads.Loads.{FilesAreOneSource, LoadableSourcesLoad, LoadableTextsLoad, LoadsAreOne, SourceFilesAreRead, TextLoadsAreOne};
 ghost use Rattle.ms_include_laws.specs.inner.loads.Reading.{GrammarFaultsAreOne, ReadAsOneSource, RefusalsAreOne, SourcesAreRead};
 
@@ -28,11 +28,12 @@ pub fn laws_of_texts()
     ensures loadable { LoadableTextsLoad }
 {}
 
-/// A source without a fault passes the check, and becomes one problem, whichever tree of the code stands for it. One within the
-/// limits on depth and size is refused for neither.
+/// A source without a fault passes the check, becomes one problem, and asks the same of its formulas and of its goals, whichever
+/// tree of the code stands for it. One within the limits on depth and size is refused for neither.
 pub fn laws_of_checks()
     ensures faultless { FaultlessSourcesPass }
     ensures shallow { ShallowSourcesPass }
     ensures small { SmallSourcesPass }
     ensures problem { TypedSourcesAreOneProblem }
+    ensures questions { TypedSourcesAskTheSame }
 {}

@@ -1,7 +1,7 @@
 //! Worked examples of the definitions. The functions have empty bodies, and their contracts state the examples.
 
 ghost use Rattle.ms_edge.specs.declared.refusal.Refusal.TheVariants.{Grammar, Memory, SinkFault};
-ghost use Rattle.ms_include_laws.specs.inner.places.Examples.{IsInside, at, call_at, constant_at, default_at, export_at, global_at, holds_at, implied_at, import_at, include_at, joined_at, let_at, pconst_at, predicate_at, quantified_at, shift_at, source, truth_at};
+ghost use Rattle.ms_include_laws.specs.inner.places.Examples.{IsInside, at, call_at, constant_at, default_at, export_at, global_at, goal_at, holds_at, implied_at, import_at, include_at, joined_at, let_at, pconst_at, predicate_at, quantified_at, shift_at, source, truth_at};
 ghost use Rattle.ms_include_laws.specs.inner.places.Places.{HasPlacesInFiles, IsToldOver, KeepsPlacesInFiles};
 ghost use Rattle.std.specs.Prelude.{[], ◌∷◌, codes};
 
@@ -30,6 +30,11 @@ pub fn worked_sources()
     ensures predicate_outside { ¬ HasPlacesInFiles 0 (source (predicate_at (at 0) (at 1) (at 0) ∷ [])) }
     ensures predicate_body_outside { ¬ HasPlacesInFiles 0 (source (predicate_at (at 0) (at 0) (at 1) ∷ [])) }
     ensures default_outside { ¬ HasPlacesInFiles 0 (source (default_at (at 0) (at 1) ∷ [])) }
+
+    // goal "a" true;
+    ensures goal { HasPlacesInFiles 0 (source (goal_at (at 0) (at 0) (at 0) ∷ [])) }
+    ensures title_outside { ¬ HasPlacesInFiles 0 (source (goal_at (at 0) (at 1) (at 0) ∷ [])) }
+    ensures goal_outside { ¬ HasPlacesInFiles 0 (source (goal_at (at 0) (at 0) (at 1) ∷ [])) }
 {}
 
 /// Expressions of the file with the number 0.

@@ -1,5 +1,10 @@
 -- Environments, trees and predicates for worked examples.
-use Rattle.std.specs.Prelude.{ℕ, ◌==◌, Bool, true, false, if◌then◌else◌, List, [], ◌∷◌, Some, None}
+use Rattle.std.specs.Prelude.{ℕ, ◌==◌, Bool, true, false, if◌then◌else◌, List, [], ◌∷◌, codes, Option, Some, None}
+use Rattle.ms_list.specs.declared.at.At.{At}
+use Rattle.ms_logic.specs.declared.checked.Checked.{Checked}
+use Rattle.ms_logic.specs.declared.checked.Placed.{Placed}
+use Rattle.ms_logic.specs.declared.formula.Formula.{Formula}
+use Rattle.ms_logic.specs.declared.formula.Formula.TheVariants as code
 use Rattle.ms_logic.specs.declared.mode.Mode.{Mode}
 use Rattle.ms_logic.specs.declared.mode.Mode.TheVariants.{Ws1s}
 use Rattle.ms_logic.specs.declared.mode.Order.{Order}
@@ -301,3 +306,23 @@ dependent_given = record {
 
 abbrev pub call_between : Term → Term → Form
 call_between t u = call 0 (two_arguments (number_argument t) (number_argument u))
+
+-- a formula of a source, of a goal where it has a title
+abbrev pub stated : Option (List ℕ) → Formula → Placed
+stated title f = record { at = record { file = 0; place = 0 }; item = 0; title = title; formula = f }
+
+-- goal "a" false;
+abbrev pub false_goal : Placed
+false_goal = stated (Some (codes "a")) code.False
+
+-- true; goal "a" false;
+abbrev pub asks_twice : Checked
+asks_twice = record {
+  mode = Ws1s;
+  globals = [];
+  predicates = [];
+  imports = [];
+  exports = [];
+  formulas = stated None code.True ∷ false_goal ∷ [];
+  files = [];
+}

@@ -1,8 +1,9 @@
-ghost use Rattle.ms_logic.specs.inner.Examples.{x_at, var_x, var_y, less, ex1, all1, ex1_where, all1_where, ex1_y, one_form, undecided, set_global, problem, zero_source};
+ghost use Rattle.ms_logic.specs.inner.Examples.{asks_twice, both, false_goal, x_at, var_x, var_y, less, ex1, all1, ex1_where, all1_where, ex1_y, one_form, undecided, set_global, problem, zero_source};
 ghost use Rattle.ms_logic.specs.Tree.{truth, falsity, restricted, no_forms};
 ghost use Rattle.ms_logic.specs.Verdict.{MainYes, MainNo, IsValid, IsUnsatisfiable, IsContingent, IsVacuous};
+ghost use Rattle.ms_logic.specs.View.{goal_question, goals_in, main_question, problem_of};
 ghost use Rattle.ms_logic.specs.declared.mode.Mode.TheVariants.{Ws1s, M2lStr};
-ghost use Rattle.std.specs.Prelude.{[], ◌∷◌};
+ghost use Rattle.std.specs.Prelude.{◌≡◌, [], ◌∷◌};
 
 /// Main values and verdicts.
 pub fn worked_verdicts()
@@ -30,4 +31,12 @@ pub fn worked_verdicts()
     ensures main_yes { MainYes zero_source (x_at 0) }
     ensures main_not_yes { ¬ MainYes zero_source (x_at 1) }
     ensures main_not_no { ¬ MainNo zero_source (x_at 1) }
+{}
+
+/// What the source true; goal "a" false; asks: its main question leaves the goal out, and the goal's leaves the formula declaration out.
+pub fn worked_questions()
+    ensures main { main_question asks_twice [] ≡ problem Ws1s [] (one_form truth) }
+    ensures goals { goals_in asks_twice ≡ false_goal ∷ [] }
+    ensures goal { goal_question asks_twice [] false_goal ≡ problem Ws1s [] (one_form falsity) }
+    ensures all { problem_of asks_twice [] ≡ problem Ws1s [] (both truth falsity) }
 {}

@@ -1,17 +1,17 @@
 -- Core formulas and roots that are the same up to the numbers of their bound variables have one value.
 use Rattle.std.specs.Prelude.{◌≡◌, ◌↔◌, ℕ, List, length, map}
-use Rattle.ms_logic.specs.declared.assignment.Value.{Value}
 use Rattle.ms_logic.specs.declared.checked.Checked.{Checked}
+use Rattle.ms_logic.specs.declared.checked.Placed.{Placed}
 use Rattle.ms_logic.specs.declared.mode.Mode.{Mode}
-use Rattle.ms_logic.specs.Assignment.{Universe, Env, Variable, assign_all, value_at, IsAssignment}
+use Rattle.ms_logic.specs.Assignment.{Env, Variable, assign_all, value_at, IsAssignment}
 use Rattle.ms_logic_core.specs.CoreForm.{CoreForm, CoreYes, CoreNo}
 use Rattle.ms_logic_core.specs.Roots.{Root, IsRoot, main_root}
 use Rattle.ms_logic_core.specs.SameUpToBound.{SameUpToBound, SameRoot}
-use Rattle.ms_logic.specs.Truth.{Answer, Import}
+use Rattle.ms_logic.specs.Truth.{Import}
 use Rattle.ms_logic.specs.Verdict.{variables_of}
-use Rattle.ms_logic.specs.View.{problem_of, Answers}
+use Rattle.ms_logic.specs.View.{problem_of, question_of, Answers}
 use Rattle.ms_names_rules.specs.Numbers.{IsWellNumbered}
-use Rattle.ms_logic_spread.specs.RootLaws.{RootYes, RootNo, HasRootValue}
+use Rattle.ms_logic_spread.specs.RootLaws.{AreFormulasOf, RootYes, RootNo, HasRootValue}
 
 -- two core formulas, each at an environment, are Yes, No or Undefined alike
 abbrev pub HaveOneCoreValue : List Import → CoreForm → Env → CoreForm → Env → Type 0
@@ -39,12 +39,13 @@ SameRootsHaveOneValue =
     → IsAssignment mode left.variables (with_values_of right.variables left.variables e)
     × HaveOneCoreValue imports left.formula (with_values_of right.variables left.variables e) right.formula e)
 
--- what is the main root up to bound variables has the main value, over the globals
+-- what is the main root of a question up to bound variables has the value of the question, over the globals
 abbrev pub SameMainRootKeepsValue : Type 0
 SameMainRootKeepsValue =
-    (checked : Checked) (answers : Answers) (root : Root)
-    → IsWellNumbered checked → SameRoot (problem_of checked answers).given.imports (length checked.globals) (main_root (problem_of checked answers)) root
-    → (root.variables ≡ variables_of (problem_of checked answers).globals) × HasRootValue (problem_of checked answers) 0 root
+    (checked : Checked) (answers : Answers) (asked : List Placed) (root : Root)
+    → IsWellNumbered checked → AreFormulasOf checked asked
+    → SameRoot (question_of checked answers asked).given.imports (length checked.globals) (main_root (question_of checked answers asked)) root
+    → (root.variables ≡ variables_of (question_of checked answers asked).globals) × HasRootValue (question_of checked answers asked) 0 root
 
 -- what is a root of a source up to bound variables has the value that this root stands for, at each assignment of the variables of this
 -- root, where its own have the same values

@@ -3,6 +3,7 @@ use Rattle.std.specs.Prelude.{◌≡◌, ℕ, List, [], ◌∷◌, None, length,
 use Rattle.ms_list.specs.declared.at.At.{At}
 use Rattle.ms_logic.specs.declared.checked.Checked.{Checked}
 use Rattle.ms_logic.specs.declared.checked.Global.{Global}
+use Rattle.ms_logic.specs.declared.checked.Placed.{Placed}
 use Rattle.ms_logic.specs.declared.mode.Mode.TheVariants.{M2lStr}
 use Rattle.ms_logic.specs.declared.mode.Order.TheVariants.{Two}
 use Rattle.ms_logic.specs.Tree.{Form}
@@ -29,3 +30,4 @@ pub record IsStringSource (names : List (List ℕ)) (f : Temporal) (made : Check
   pub imports : made.imports ≡ []
   pub exports : made.exports ≡ []
   pub formulas : map (λ placed. formula_of placed.formula) made.formulas ≡ string_formulas (length names) f
+  pub titles : map (λ (placed : Placed). placed.title) made.formulas ≡ None ∷ None ∷ []

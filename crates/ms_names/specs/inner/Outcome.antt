@@ -31,7 +31,7 @@ made_in s x b (constant at n is) = made_nothing
 made_in s x b (predicate at n vs e) = made_predicate (typed_predicate s b vs e)
 made_in s x b include = made_nothing
 made_in s x b (default o n e) = made_predicate (typed_default s b o n e)
-made_in s x b (formula e) = made_formula (formula_in (typed s b e))
+made_in s x b (formula title e) = made_formula (formula_in (typed s b e))
 
 abbrev pub outcome_of : Outcome → Made
 outcome_of (Globals vs) = made_globals (option_map (λ ps. map code.declaration_of ps.items) vs)

@@ -24,7 +24,7 @@ use Rattle.ms_names.specs.inner.Outcome.{Made, made_globals, made_predicate, mad
 
 -- what is known there
 abbrev pub known : Progress → Known
-known p = known_at p.checker p.count p.files
+known p = known_at p.checker p.count p.taken
 
 -- what is kept of the declarations so far
 
@@ -51,7 +51,7 @@ bounds_in (constant at n is) = no_bounds
 bounds_in (predicate at n vs e) = no_bounds
 bounds_in include = no_bounds
 bounds_in (default o n e) = no_bounds
-bounds_in (formula e) = no_bounds
+bounds_in (formula title e) = no_bounds
 
 -- globals with their restrictions, of the declaration with a place and a number
 abbrev pub globals_with : At → ℕ → List tree.Declaration → Bounds → List (Option TypedGlobal)

@@ -30,7 +30,7 @@ abbrev pub export_to : Bytes → List ℕ → List Bytes → ExportUse
 export_to file xs ns = record { at = nowhere; name = file; variables = xs; names = ns }
 
 abbrev pub holds : Formula → Placed
-holds f = record { at = nowhere; item = 0; formula = f }
+holds f = record { at = nowhere; item = 0; title = None; formula = f }
 
 -- a source of natural numbers without predicates and imports
 abbrev pub source : List Global → List ExportUse → List Placed → Checked

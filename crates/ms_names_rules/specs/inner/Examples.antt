@@ -1,5 +1,5 @@
 -- Sources for worked examples. A number in front is the place of a token, in bytes from 0.
-use Rattle.std.specs.Prelude.{ℕ, Bool, List, [], ◌∷◌, map, codes, Option}
+use Rattle.std.specs.Prelude.{ℕ, Bool, List, [], ◌∷◌, map, codes, Option, Some, None}
 use Rattle.std.specs.Option.{option_map}
 use Rattle.ms_list.specs.declared.at.At.{At}
 use Rattle.ms_logic.specs.declared.mode.Mode.TheVariants.{Ws1s, M2lStr}
@@ -56,7 +56,10 @@ abbrev pub default_is : ℕ → Order → Bytes → Expression → Placed
 default_is p o n e = declared p (syntax.default o n e)
 
 abbrev pub holds : ℕ → Expression → Placed
-holds p e = declared p (syntax.formula e)
+holds p e = declared p (syntax.formula None e)
+
+abbrev pub goal_is : ℕ → ℕ → Bytes → Expression → Placed
+goal_is p q title e = declared p (syntax.formula (Some (record { at = byte q; text = title })) e)
 
 -- variables, names of a `let`, numbers and names of constants, pairs of imports
 

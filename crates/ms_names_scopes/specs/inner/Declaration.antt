@@ -10,12 +10,10 @@ use Rattle.ms_names_rules.specs.Rules.{faults_at}
 use Rattle.ms_names_rules.specs.Scope.{bind}
 use Rattle.ms_names_rules.specs.Syntax.{Bytes, Declaration}
 use Rattle.ms_names_rules.specs.Uses.{import_at}
+use Rattle.ms_names_scopes.specs.declared.taken.Taken.{Taken}
 use Rattle.ms_names_scopes.specs.declared.sum.Total.{Total}
 use Rattle.ms_names_scopes.specs.declared.sum.Total.TheVariants.{Value, LeavesRange, HasNoValue}
 use Rattle.ms_names_scopes.specs.inner.Found.{Found}
-
-abbrev pub Files : Type 0
-Files = List Bytes
 
 abbrev pub sum_of : Total → Sum
 sum_of (Value n) = sums_to n
@@ -23,10 +21,10 @@ sum_of LeavesRange = leaves_range
 sum_of HasNoValue = has_no_value
 
 -- what is known before a declaration, where a check stands there
-abbrev pub known_at : Found → ℕ → Files → Known
-known_at s globals files = record { scope = s.scope; before = s.before; globals = globals; files = files }
+abbrev pub known_at : Found → ℕ → Taken → Known
+known_at s globals taken = record { scope = s.scope; before = s.before; globals = globals; files = taken.files; titles = taken.titles }
 
--- after a declaration but for its exports, with what it reads
+-- after a declaration but for its title and its exports, with what it reads
 abbrev pub told : Found → Known → Declaration → List Reading → Found
 told s k d reads = record {
   scope = scope_after k d;

@@ -42,6 +42,9 @@ P = name (codes "P")
 abbrev pub p : Symbol
 p = name (codes "p")
 
+abbrev pub goal_name : Symbol
+goal_name = name (codes "goal")
+
 -- names as expressions, at their places
 
 abbrev pub a_at : ℕ → Expression
@@ -61,6 +64,9 @@ y_at n = atom (at n) (named (codes "y"))
 
 abbrev pub P_at : ℕ → Expression
 P_at n = atom (at n) (named (codes "P"))
+
+abbrev pub goal_at : ℕ → Expression
+goal_at n = atom (at n) (named (codes "goal"))
 
 abbrev pub one : Expression → Expressions
 one e = and_expression no_expressions e

@@ -3,7 +3,7 @@ use Rattle.std.specs.Prelude.{◌≡◌, List, [], ◌∷◌, ℕ, true, codes}
 use Rattle.ms_parse_grammar.specs.Symbol.{name}
 use Rattle.ms_parse_grammar.specs.Reads.{int_symbol}
 use Rattle.ms_parse_grammar.specs.Tree.{Atom, truth, falsity, whole, empty_set, named, numeral, pconst, imported}
-use Rattle.ms_parse_grammar.specs.Tree.{Expression, atom, prefixed, binary, joined, shifted, enclosed, listed, quantified, let_in, Declaration, variables, constant, predicate, included, default_restriction, formula, Declared}
+use Rattle.ms_parse_grammar.specs.Tree.{Expression, atom, prefixed, binary, joined, shifted, enclosed, listed, quantified, let_in, Declaration, variables, constant, predicate, included, default_restriction, formula, goal, Declared}
 
 abbrev pub IsNameOf : List ℕ → Atom → Type 0
 IsNameOf n (named m) = m ≡ n
@@ -44,6 +44,7 @@ IsHeaderFormula (predicate is_pred at n parameters body) = ⊥
 IsHeaderFormula (included at file) = ⊥
 IsHeaderFormula (default_restriction o n body) = ⊥
 IsHeaderFormula (formula e) = IsHeaderLike e
+IsHeaderFormula (goal at title e) = ⊥
 
 -- the first declaration, with its semicolon, would be read as the header
 abbrev pub BeginsLikeHeader : List Declared → Type 0

@@ -5,7 +5,7 @@ use Rattle.ms_list.specs.declared.at.At.{At}
 use Rattle.ms_logic.specs.declared.mode.Mode.{Mode}
 use Rattle.ms_logic.specs.declared.source.PlacedInt.{PlacedInt}
 use Rattle.ms_parse_grammar.specs.Symbol.{Symbol, name, sign, semicolon}
-use Rattle.ms_parse_grammar.specs.Tree.{Declaration, variables, constant, predicate, included, default_restriction, formula, Declared, Document}
+use Rattle.ms_parse_grammar.specs.Tree.{Declaration, variables, constant, predicate, included, default_restriction, formula, goal, Declared, Document}
 use Rattle.ms_parse_grammar.specs.Grammar.{IsVariableList, AreOfOrder}
 use Rattle.ms_parse_grammar.specs.Declarations.{IsDeclaration}
 use Rattle.ms_parse_print.specs.inner.Printed.{AreSpellable, first_order, single, printed_declaration, printed_declared}
@@ -23,6 +23,7 @@ IsFormed (predicate is_pred at n parameters body) = Unit {0}
 IsFormed (included at file) = Unit {0}
 IsFormed (default_restriction o n body) = Unit {0}
 IsFormed (formula e) = Unit {0}
+IsFormed (goal at title e) = Unit {0}
 
 -- each symbol of the declaration can be said, and they read as the declaration
 abbrev pub IsPrintable : Declaration → Type 0

@@ -27,7 +27,7 @@ use Rattle.ms_parse_grammar.specs.declared.operator.Listing.{Listing}
 use Rattle.ms_parse_grammar.specs.declared.operator.Listing.TheVariants.{Literal, Call}
 use Rattle.ms_parse_grammar.specs.Tree.{Atom, truth, falsity, whole, empty_set, named, numeral, pconst, imported}
 use Rattle.ms_parse_grammar.specs.Tree.{Expression, atom, prefixed, binary, joined, shifted, enclosed, listed, quantified, let_in, Expressions, no_expressions, and_expression, Variables, no_variables, and_variable, Domain, unrestricted, restricted, Parts, no_parts, and_part}
-use Rattle.ms_parse_grammar.specs.Tree.{Declaration, variables, constant, predicate, included, default_restriction, formula, Declared, Document}
+use Rattle.ms_parse_grammar.specs.Tree.{Declaration, variables, constant, predicate, included, default_restriction, formula, goal, Declared, Document}
 use Rattle.ms_parse_grammar.specs.Reads.{int_symbol, closing}
 
 -- the kind of the token that is written for a symbol
@@ -235,6 +235,7 @@ printed_declaration f (included at file) = f word_include ++ f (text file)
 printed_declaration f (default_restriction o n body) =
     f (default_word o) ++ f open_round ++ f (name n) ++ f close_round ++ f (infix_operator (Relation Equal)) ++ printed f body
 printed_declaration f (formula e) = printed f e
+printed_declaration f (goal at title e) = f (name (codes "goal")) ++ f (text title) ++ printed f e
 
 abbrev pub printed_declared : {A : Type 0} → (Symbol → List A) → Declared → List A
 printed_declared f d = printed_declaration f d.declaration ++ f semicolon

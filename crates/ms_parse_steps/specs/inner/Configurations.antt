@@ -25,6 +25,7 @@ context_of d (contexts.Global g v) = machine.in_global d g.at g.order (variables
 context_of d (contexts.Parameter p) = machine.in_parameter d (head_of p.signature) (variables_of p.signature.parameters) p.order p.variable.at p.variable.name
 context_of d (contexts.Predicate s) = machine.in_predicate d (head_of s) (variables_of s.parameters)
 context_of d (contexts.Default at o n) = machine.in_default d at o n
+context_of d (contexts.Goal at at_title title) = machine.in_goal d at at_title title
 
 abbrev pub configuration_of : Document → List machine.Frame → Configuration → machine.Configuration
 configuration_of d st states.Outside = machine.outside d

@@ -22,7 +22,7 @@ use Rattle.ms_parse_grammar.specs.declared.operator.Listing.{Listing}
 use Rattle.ms_parse_grammar.specs.declared.operator.Listing.TheVariants.{Literal, Call}
 use Rattle.ms_parse_grammar.specs.Tree.{truth, falsity, whole, empty_set, named, numeral, pconst, imported}
 use Rattle.ms_parse_grammar.specs.Tree.{Expression, atom, prefixed, binary, joined, shifted, enclosed, listed, quantified, let_in, Expressions, no_expressions, and_expression, Variables, no_variables, and_variable, unrestricted, restricted, Parts, no_parts, and_part}
-use Rattle.ms_parse_grammar.specs.Tree.{Declaration, variables, constant, predicate, included, default_restriction, formula, Document}
+use Rattle.ms_parse_grammar.specs.Tree.{Declaration, variables, constant, predicate, included, default_restriction, formula, goal, Document}
 use Rattle.ms_parse_grammar.specs.Grammar.{binary_level, left_level, right_level, prefix_level, operand_level, junction_level, level, is_in, depth, depth_of_all, depth_of_domains, depth_of_values}
 use Rattle.ms_parse_grammar.specs.Reads.{place}
 
@@ -62,6 +62,7 @@ pub data Context : Type 0 where
   in_parameter : (d : Document) (head : Head) (vs : Variables) (o : Order) (at_v : At) (n : List ℕ) → Context
   in_predicate : (d : Document) (head : Head) (vs : Variables) → Context
   in_default : (d : Document) (at : At) (o : Order) (n : List ℕ) → Context
+  in_goal : (d : Document) (at : At) (at_title : At) (title : List ℕ) → Context
 
 pub data Configuration : Type 0 where
   -- between two declarations
@@ -365,6 +366,7 @@ semicolon_at (in_formula d at) e [] from ts = took (outside (declare d at (formu
 semicolon_at (in_global d at o vs at_v n) e [] from ts = took (outside (declare d at (variables (and_variable vs at_v o n (restricted e))))) ts
 semicolon_at (in_predicate d head vs) e [] from ts = took (outside (declare d head.at (predicate head.is_pred head.at_name head.name vs e))) ts
 semicolon_at (in_default d at o n) e [] from ts = took (outside (declare d at (default_restriction o n e))) ts
+semicolon_at (in_goal d at at_title title) e [] from ts = took (outside (declare d at (goal at_title title e))) ts
 semicolon_at c e _ from ts = misplaced from
 
 abbrev pub settle : ℕ → Context → Symbol → Bool → Top → List Placed → List Placed → Move
@@ -449,12 +451,19 @@ begin_include d at ts = text_then (λ a file. mark_then semicolon (took (outside
 abbrev pub begin_default : Document → At → Order → List Placed → Move
 begin_default d at o ts = mark_then open_round (name_then (λ a n. mark_then close_round (equal_then (took (wanted (in_default d at o n) []))))) ts
 
+-- a name begins a goal where it is `goal` and a text follows, which is the title, and else a formula
+abbrev pub begin_named : ℕ → Document → At → List ℕ → List Placed → Move
+begin_named limit d at n (placed (text title) a ∷ ts) =
+    cond (bytes_eq n (codes "goal")) (took (wanted (in_goal d at a title) []) ts) (begin_name limit (in_formula d at) [] at n (placed (text title) a ∷ ts))
+begin_named limit d at n ts = begin_name limit (in_formula d at) [] at n ts
+
 abbrev pub begin_declaration : ℕ → Document → At → Symbol → List Placed → List Placed → Move
 begin_declaration limit d at (kind o) from ts = took (global_wanted d at o no_variables) ts
 begin_declaration limit d at word_const from ts = begin_constant d at ts
 begin_declaration limit d at (predicate_word is_pred) from ts = begin_predicate d at is_pred ts
 begin_declaration limit d at word_include from ts = begin_include d at ts
 begin_declaration limit d at (default_word o) from ts = begin_default d at o ts
+begin_declaration limit d at (name n) from ts = begin_named limit d at n ts
 begin_declaration limit d at s from ts = begin limit (in_formula d at) [] at s from ts
 
 -- one step; each takes a symbol at least

@@ -1,9 +1,9 @@
-use Rattle.std.proofs.Common.{map, refl, sym, ◌∙◌}
+use Rattle.std.proofs.Common.{refl, sym, ◌∙◌}
 use Rattle.std.proofs.lemmas.Bool.{false≢true}
 use Rattle.std.proofs.lemmas.Result.{IfErr-weaker, IfOk-weaker}
 use Rattle.ms_edge.specs.Files.{between}
 use Rattle.ms_dfafile_imports.specs.Imports.{answers_by}
-use Rattle.ms_app.specs.Comparison.{Taken, no_memory, not_comparable, problem_in}
+use Rattle.ms_app.specs.Comparison.{Taken, no_memory, not_comparable, question_in}
 use Rattle.ms_app.proofs.Comparisons.{both_solved, left_fails, right_fails}
 use Rattle.ms_app.proofs.GlobalLemmas.{same_variables}
 use Rattle.ms_app.proofs.compare.compare.Goals as goal
@@ -47,7 +47,7 @@ returns-clause-compared g c =
       two = two;
       are_solved = solved;
       same_globals = same;
-      agrees = decides (problem_in one) (problem_in two) (map (λ g. g.name) one.checked.globals) (map (λ g. g.name) two.checked.globals) left.3 right.3 same.mode
+      agrees = decides (question_in one) (question_in two) left.3.value right.3.value same.mode
           (same_variables one.checked two.checked (answers_by one.checked.imports one.plains) (answers_by two.checked.imports two.plains) same);
     })
     c.agree.ensures.agree

@@ -6,7 +6,7 @@ use Rattle.ms_dfa.specs.Files.{content_of_file}
 use Rattle.ms_app.proofs.found.counts.Goals as goal
 
 pub returns : goal.returns
-returns c = λ problem names is canonical. record {
+returns c = λ checked answers is canonical. record {
   files_are = refl;
   size = is.size;
   depth = is.depth;

@@ -1,11 +1,10 @@
-use Rattle.std.proofs.Common.{◌≤◌, ℕ, true, List, [], length, ap, map, sym, subst, ◌∙◌}
+use Rattle.std.proofs.Common.{◌≤◌, ℕ, true, List, [], length, ap, sym, subst, ◌∙◌}
 use Rattle.ms_gen.proofs.Lengths.{generated_short}
 use Rattle.ms_dfafile_imports.specs.Imports.{answers_by}
 use Rattle.ms_report.specs.Report.{summary_of}
 use Rattle.ms_app.specs.Counts.{HasStats}
 use Rattle.ms_app.specs.inner.Files.{pairs_of}
-use Rattle.ms_app.specs.Source.{problem_with}
-use Rattle.ms_app.proofs.Generations.{no_files, nothing_adopted, nothing_answers, nothing_counted, nothing_lent, text_decided, text_unaccepted, text_unsolved}
+use Rattle.ms_app.proofs.Generations.{main_alone, no_files, nothing_adopted, nothing_answers, nothing_counted, nothing_lent, text_decided, text_unaccepted, text_unsolved}
 use Rattle.ms_app.proofs.text.generation_summary.Goals as goal
 
 pub accept_text-requires : goal.accept_text-requires
@@ -43,7 +42,8 @@ summary-requires c =
     let checked = c.in-Ok-accept_text.source.checked in
     let names = c.in-Ok-accept_text.ensures.names in
     let answers = nothing_answers number is_number bytes same c.args.names.now c.accept_text.new.names c.requires.first made.0 checked made.1 names c.new.result c.new.ensures in
-    let main = (c.in-Ok-decide.ensures.found (answers_by checked.imports []) answers).0.main in
+    let all = c.in-Ok-decide.ensures.found (answers_by checked.imports []) answers in
+    let main = main_alone number is_number bytes same c.args.names.now c.accept_text.new.names c.requires.first made.0 checked made.1 names c.in-Ok-decide.decided.found all.0 in
     record { main = (main.0, main.1) }
 
 pub returns-in-Ok-summary-clause-given : goal.returns-in-Ok-summary-clause-given
@@ -60,11 +60,11 @@ returns-in-Ok-summary-clause-given c = λ seen.
     let names = c.in-Ok-accept_text.ensures.names in
     let answers = nothing_answers number is_number bytes same c.args.names.now c.accept_text.new.names c.requires.first made.0 checked made.1 names c.new.result c.new.ensures in
     let all = c.in-Ok-decide.ensures.found (answers_by checked.imports []) answers in
-    let counted = subst (λ n. HasStats true (problem_with checked []) n found.stats) made.2 all.1 in
+    let counted = subst (λ n. HasStats true checked (answers_by checked.imports []) n found.stats) made.2 all.1 in
     let within = c.in-Ok-decide.ensures.within (answers_by checked.imports []) in
     let is = text_decided number is_number bytes same c.args.names.now c.accept_text.new.names c.requires.first made.0 checked made.1 names found files all.0 within counted all.2 in
-    let none = no_files number is_number bytes same c.args.names.now c.accept_text.new.names c.requires.first made.0 checked made.1 names (map (λ g. g.name) checked.globals) (problem_with checked []) files all.2 in
-    let main = all.0.main in (
+    let none = no_files number is_number bytes same c.args.names.now c.accept_text.new.names c.requires.first made.0 checked made.1 names files all.2 in
+    let main = main_alone number is_number bytes same c.args.names.now c.accept_text.new.names c.requires.first made.0 checked made.1 names found all.0 in (
       none,
       is_number,
       (found, main.0, is, main.1, c.in-Ok-summary.ensures main.0 main.1 ∙ ap (λ n. summary_of number n main.0 found.stats) (c.len-bytes.ensures ∙ ap (λ (t : List ℕ). length t) same)),
@@ -81,5 +81,4 @@ returns-in-Ok-summary-clause-no_files c =
     let names = c.in-Ok-accept_text.ensures.names in
     let answers = nothing_answers number is_number bytes same c.args.names.now c.accept_text.new.names c.requires.first made.0 checked made.1 names c.new.result c.new.ensures in
     let all = c.in-Ok-decide.ensures.found (answers_by checked.imports []) answers in
-    no_files number is_number bytes same c.args.names.now c.accept_text.new.names c.requires.first made.0 checked made.1 names (map (λ g. g.name) checked.globals) (problem_with checked [])
-    (pairs_of c.in-Ok-decide.decided.files) all.2
+    no_files number is_number bytes same c.args.names.now c.accept_text.new.names c.requires.first made.0 checked made.1 names (pairs_of c.in-Ok-decide.decided.files) all.2

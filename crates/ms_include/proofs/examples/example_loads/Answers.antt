@@ -26,3 +26,18 @@ returns-clause-shared c = record {
   mode = refl;
   items = (files.a ∷ files.b ∷ files.d ∷ [], mark 3 ∷ mark 1 ∷ [], mark 2 ∷ [], inr (refl, (plain (include 1 0 files.d ∷ mark 1 ∷ []), omega arith, refl, refl, (files.a ∷ files.b ∷ files.d ∷ [], mark 3 ∷ [], mark 1 ∷ [], inr (refl, (plain (mark 3 ∷ []), omega arith, refl, refl, (files.a ∷ files.b ∷ files.d ∷ [], mark 3 ∷ [], [], (refl, refl), (refl, refl), refl))), (files.a ∷ files.b ∷ files.d ∷ [], mark 1 ∷ [], [], (refl, refl), (refl, refl), refl), refl))), (files.a ∷ files.b ∷ files.d ∷ files.c ∷ [], mark 2 ∷ [], [], inr (refl, (plain (include 3 0 files.d ∷ mark 2 ∷ []), omega arith, refl, refl, (files.a ∷ files.b ∷ files.d ∷ files.c ∷ [], [], mark 2 ∷ [], inl ((refl, refl), refl, refl), (files.a ∷ files.b ∷ files.d ∷ files.c ∷ [], mark 2 ∷ [], [], (refl, refl), (refl, refl), refl), refl))), (refl, refl), refl), refl);
 }
+
+pub returns-clause-goals : goal.returns-clause-goals
+returns-clause-goals c = record {
+  source = plain (include 0 0 files.b ∷ files.goal 0 13 files.c ∷ []);
+  is = refl;
+  mode = refl;
+  items = (
+    files.a ∷ files.b ∷ [],
+    files.goal 1 0 files.d ∷ [],
+    files.goal 0 13 files.c ∷ [],
+    inr (refl, (plain (files.goal 1 0 files.d ∷ []), omega arith, refl, refl, (files.a ∷ files.b ∷ [], files.goal 1 0 files.d ∷ [], [], (refl, refl), (refl, refl), refl))),
+    (files.a ∷ files.b ∷ [], files.goal 0 13 files.c ∷ [], [], (refl, refl), (refl, refl), refl),
+    refl,
+  );
+}

@@ -1,9 +1,11 @@
 -- Which loaded sources are not refused further on.
-use Rattle.std.specs.Prelude.{◌≡◌, ◌≤◌, map, None}
+use Rattle.std.specs.Prelude.{◌≡◌, ℕ, ◌≤◌, List, map, Option, None}
 use Rattle.ms_edge.specs.declared.refusal.Refusal.{Refusal}
 use Rattle.ms_logic_core.specs.Size.{depth_of_source, size_of_source}
-use Rattle.ms_logic.specs.View.{problem_of, Answers}
+use Rattle.ms_logic.specs.Verdict.{Problem}
+use Rattle.ms_logic.specs.View.{problem_of, main_question, goal_question, goals_in, Answers}
 use Rattle.ms_logic.specs.declared.checked.Checked.{Checked}
+use Rattle.ms_logic.specs.declared.checked.Placed.{Placed}
 use Rattle.ms_logic.specs.declared.source.Loaded.{Loaded}
 use Rattle.ms_lower.specs.Measure.{IsDepthRefusal, IsSizeRefusal}
 use Rattle.ms_names_rules.specs.Checking.{IsFirstFault}
@@ -28,3 +30,13 @@ SmallSourcesPass =
 abbrev pub TypedSourcesAreOneProblem : Type 0
 TypedSourcesAreOneProblem =
     (loaded : Loaded) (one other : Checked) (answers : Answers) → IsTyped loaded one → IsTyped loaded other → problem_of one answers ≡ problem_of other answers
+
+-- what the goals of a source ask, each under its title
+abbrev pub goals_asked : Checked → Answers → List (Option (List ℕ) × Problem)
+goals_asked checked answers = map (λ (goal : Placed). (goal.title, goal_question checked answers goal)) (goals_in checked)
+
+-- a loaded source asks one main question, and its goals the same, whichever tree of the code stands for it
+abbrev pub TypedSourcesAskTheSame : Type 0
+TypedSourcesAskTheSame =
+    (loaded : Loaded) (one other : Checked) (answers : Answers) → IsTyped loaded one → IsTyped loaded other →
+    (main_question one answers ≡ main_question other answers) × (goals_asked one answers ≡ goals_asked other answers)

@@ -7,7 +7,7 @@ use Rattle.ms_logic.specs.declared.mode.Mode.TheVariants.{Ws1s}
 use Rattle.ms_logic.specs.declared.mode.Order.TheVariants.{One, Two}
 use Rattle.ms_logic.specs.declared.mode.Quant.TheVariants.{Ex}
 use Rattle.ms_logic.specs.declared.source.Bound.{roll-Bound}
-use Rattle.ms_logic.specs.declared.source.Decl.TheVariants.{Const, Default, Formula, Include, Pred, Vars}
+use Rattle.ms_logic.specs.declared.source.Decl.TheVariants.{Const, Default, Formula, Goal, Include, Pred, Vars}
 use Rattle.ms_logic.specs.declared.source.Form.TheVariants as form
 use Rattle.ms_logic.specs.declared.source.Int.TheVariants.{Number}
 use Rattle.ms_logic.specs.declared.source.Item.{Item}
@@ -48,6 +48,10 @@ predicate_at place name_at body_at = record { at = place; decl = Pred true name_
 abbrev pub default_at : At → At → Item
 default_at place body_at = record { at = place; decl = Default One (codes "x") (record { at = body_at; form = form.True }) }
 
+-- `goal "a" true;` with the places of the declaration, of the title and of the formula
+abbrev pub goal_at : At → At → At → Item
+goal_at place title_at inside = record { at = place; decl = Goal title_at (codes "a") (record { at = inside; form = form.True }) }
+
 -- these declarations, loaded from one file
 abbrev pub source : List Item → Loaded
 source items = record { mode = Ws1s; items = items; files = codes "a" ∷ [] }
@@ -60,7 +64,7 @@ holds_at place = record {
   predicates = [];
   imports = [];
   exports = [];
-  formulas = record { at = place; item = 0; formula = checked_form.True } ∷ [];
+  formulas = record { at = place; item = 0; title = None; formula = checked_form.True } ∷ [];
   files = codes "a" ∷ [];
 }
 

@@ -84,6 +84,7 @@ EachPlaceInDeclaration P (declared.Pred is_pred at n vs e) = P at × EachPlaceIn
 EachPlaceInDeclaration P (declared.Include at file) = P at
 EachPlaceInDeclaration P (declared.Default o n e) = EachPlaceIn P (expression_of e)
 EachPlaceInDeclaration P (declared.Formula e) = EachPlaceIn P (expression_of e)
+EachPlaceInDeclaration P (declared.Goal at title e) = P at × EachPlaceIn P (expression_of e)
 
 -- P holds of the place of a declaration and of each place in it
 abbrev pub EachPlaceInItem : (At → Type 0) → Item → Type 0

@@ -29,3 +29,10 @@ name_b = syntax.name nowhere (codes "b")
 -- ~true, as it is read
 abbrev pub negation_read : read.Expression
 negation_read = read.prefixed nowhere Negation (read.atom nowhere read.truth)
+
+-- goal "a" ~true;, as it is read
+abbrev pub goal_read : read.Declaration
+goal_read = read.goal nowhere (codes "a") negation_read
+
+abbrev pub title_a : syntax.Title
+title_a = record { at = nowhere; text = codes "a" }

@@ -1,5 +1,6 @@
 -- The tree that the rules look at, from the tree that the grammar reads. That one has lists which grow at their ends, and forms by
 -- the kinds of their operators; this one has a form for each operator.
+use Rattle.std.specs.Prelude.{Some, None}
 use Rattle.ms_list.specs.declared.at.At.{At}
 use Rattle.ms_parse_grammar.specs.declared.operator.Binary.{Binary}
 use Rattle.ms_parse_grammar.specs.declared.operator.Binary.TheVariants.{Implication, Equivalence, Relation, Union, Intersection, Difference}
@@ -88,7 +89,8 @@ shown_declaration (read.constant at n is) = syntax.constant at n is
 shown_declaration (read.predicate is_pred at n vs e) = syntax.predicate at n (shown_bounds vs syntax.no_bounds) (shown e)
 shown_declaration (read.included at file) = syntax.include
 shown_declaration (read.default_restriction o n e) = syntax.default o n (shown e)
-shown_declaration (read.formula e) = syntax.formula (shown e)
+shown_declaration (read.formula e) = syntax.formula None (shown e)
+shown_declaration (read.goal at title e) = syntax.formula (Some (record { at = at; text = title })) (shown e)
 
 abbrev pub shown_declared : read.Declared → syntax.Placed
 shown_declared d = record { at = d.at; declaration = shown_declaration d.declaration }

@@ -1,22 +1,20 @@
-use Rattle.std.proofs.Common.{◌<◌, [], get_or, length, map, ap, ◌∙◌, arith}
-use Rattle.ms_lower.specs.NumberedRoots.{globals_over, main_over, renumbered_root, roots_in, seen_over}
-use Rattle.ms_logic.specs.View.{formula_of}
-use Rattle.ms_lower.proofs.AllRoots.{declaration_roots}
+use Rattle.std.proofs.Common.{[], ◌∷◌, ◌++◌, map, ap, ap₂, ◌∙◌}
+use Rattle.std.proofs.lemmas.Result.{IfOk-weaker}
+use Rattle.std.specs.Option.{is_none, is_some}
+use Rattle.std.specs.Prelude.{filter}
+use Rattle.ms_lower.specs.NumberedRoots.{main_over, renumbered_root}
+use Rattle.ms_lower.proofs.AllRoots.{roots_joined}
 use Rattle.ms_lower.proofs.all_roots.all_roots.Goals as goal
 
-pub loop-placed-preserved : goal.loop-placed-preserved
-loop-placed-preserved c =
+pub returns : goal.returns
+returns c =
     let T = c.args.tables.now in
-    let checked = c.args.checked.now in
-    let inv = c.loop-placed.invariant in
-    let p = c.placed-item.result in
-    let same = c.slice-placed-items.ensures in
-    let below : c.loop-placed.placed-index < length checked.formulas = let k = ap length same in omega arith in
-    record {
-      roots =
-          declaration_roots T checked.exports (globals_over 0 [] checked.globals) (seen_over [] c.loop-placed.seen) (main_over T checked.globals checked.formulas) checked.formulas c.loop-placed.placed-index p c.loop-placed.all c.in_ok-inside.inside c.in_ok-all.all
-          below (c.placed-item.is ∙ ap (λ l. get_or l c.loop-placed.placed-index p) same) inv.seen inv.roots
-          (c.in_ok-inside.ensures.roots ∙ ap (λ e. map (renumbered_root T) (roots_in T e (seen_over [] c.loop-placed.seen) (formula_of p.formula))) c.slice-exports.ensures)
-          c.in_ok-all.ensures;
-      seen = ap (seen_over []) c.in_ok-inside.ensures.seen ∙ inv.seen;
-    }
+    let main = c.in_ok-main_root.field-0 in
+    IfOk-weaker _ _ _
+    (λ all is.
+    roots_joined T c.args.checked.now main c.push.new.list c.in_ok-export_roots.field-0 c.in_ok-front.front c.in_ok-goals.goals all
+    (c.in_ok-main_root.ensures ∙ ap₂ (λ gs fs. renumbered_root T (main_over T gs (filter (λ placed. is_none placed.title) fs))) c.slice-globals.ensures c.slice-formulas.ensures)
+    (c.in_ok-push.ensures.ok ∙ ap (λ l. l ++ main ∷ []) c.new-main.ensures) c.in_ok-export_roots.ensures (c.in_ok-front.ensures ∙ ap (λ l. l ++ c.in_ok-export_roots.field-0) c.main-2.view_is)
+    (c.in_ok-goals.ensures
+    ∙ ap₂ (λ gs fs. map (renumbered_root T) (map (λ goal. main_over T gs (goal ∷ [])) (filter (λ placed. is_some placed.title) fs))) c.slice-globals.ensures c.slice-formulas.ensures) is)
+    c.joined-2.ensures

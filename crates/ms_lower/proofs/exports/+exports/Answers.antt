@@ -20,7 +20,7 @@ roots_of_each-loop-operand-preserved t c =
     let inv = c.loop-operand.invariant in
     record {
       roots =
-          roots-more T c.args.exports.now (seen_over [] c.args.seen.now) c.args.operands.now c.loop-operand.operand-index c.operand-item.result c.loop-operand.all c.in_ok-inside.inside c.in_ok-all.all (omega arith) c.operand-item.is inv.roots
+          roots-more formula_of T c.args.exports.now (seen_over [] c.args.seen.now) c.args.operands.now c.loop-operand.operand-index c.operand-item.result c.loop-operand.all c.in_ok-inside.inside c.in_ok-all.all (omega arith) c.operand-item.is inv.roots
           (c.in_ok-inside.ensures.roots ∙ ap (λ s. map (renumbered_root T) (roots_in T c.args.exports.now (seen_over [] s) (formula_of c.operand-item.result))) inv.seen) c.in_ok-all.ensures;
       seen = c.in_ok-inside.ensures.seen ∙ inv.seen;
     }

@@ -1,4 +1,4 @@
-use Rattle.std.proofs.Common.{◌≡◌, ℕ, map, refl, ap, ◌∙◌}
+use Rattle.std.proofs.Common.{◌≡◌, ℕ, [], ◌∷◌, None, map, refl, ap, ◌∙◌}
 use Rattle.std.proofs.lemmas.Result.{IfOk-at_ok}
 use Rattle.ms_logic.specs.View.{formula_of}
 use Rattle.ms_logic.specs.declared.checked.Placed.{Placed}
@@ -23,4 +23,6 @@ returns-clause-source c =
           IfOk-at_ok (λ made. map (λ (placed : Placed). formula_of placed.formula) made ≡ string_formulas x f) c.in_ok-globals.ensures.other
           (c.declared-formulas.ensures.formulas (some_position x) (at_the_start x (string_form f x)) c.some_position.ensures (c.at_the_start-formula.ensures (string_form f x) c.formula_at.ensures))
           ∙ ap (λ (n : ℕ). string_formulas n f) c.len-x.ensures;
+      titles =
+          IfOk-at_ok (λ made. map (λ (placed : Placed). placed.title) made ≡ None ∷ None ∷ []) c.in_ok-globals.ensures.other c.declared-formulas.ensures.titles;
     }

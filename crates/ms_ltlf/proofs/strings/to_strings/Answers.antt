@@ -1,6 +1,6 @@
 use Rattle.std.proofs.Common.{◌≡◌, ◌≤◌, ◌+◌, ◌*◌, [], length, map}
 use Rattle.std.proofs.lemmas.Result.{IfOk-weaker}
-use Rattle.ms_logic.specs.View.{Answers, problem_of}
+use Rattle.ms_logic.specs.View.{Answers, goals_in, main_question, problem_of}
 use Rattle.ms_logic.specs.declared.checked.Checked.{Checked}
 use Rattle.ms_logic.specs.declared.checked.Global.{Global}
 use Rattle.ms_logic.specs.declared.mode.Mode.TheVariants.{M2lStr}
@@ -15,6 +15,7 @@ use Rattle.ms_ltlf.proofs.Extents.{is-deep, is-large}
 use Rattle.ms_ltlf.specs.inner.Source.{IsStringSource}
 use Rattle.ms_ltlf.proofs.Numbers.{is-well-numbered, lists-free-variables, names-kept}
 use Rattle.ms_ltlf.proofs.Rules.{meets-rules}
+use Rattle.ms_ltlf.proofs.Titles.{no-goals}
 use Rattle.ms_ltlf.proofs.Sources.{tells-truth, is-over-traces, tells-verdict}
 use Rattle.ms_ltlf.proofs.strings.to_strings.Goals as goal
 
@@ -22,22 +23,29 @@ pub returns-clause-truth : goal.returns-clause-truth
 returns-clause-truth c =
     let names = c.args.trace.now.names in
     let f = temporal_of c.args.trace.now.formula in
-    IfOk-weaker c.string_source.result (IsStringSource names f) (λ made. (answers : Answers) → TellsTruth f (problem_of made answers))
+    IfOk-weaker c.string_source.result (IsStringSource names f) (λ made. (answers : Answers) → TellsTruth f (main_question made answers))
     (λ made is answers. tells-truth names f made answers is) c.string_source.ensures.source
 
 pub returns-clause-traces : goal.returns-clause-traces
 returns-clause-traces c =
     let names = c.args.trace.now.names in
     let f = temporal_of c.args.trace.now.formula in
-    IfOk-weaker c.string_source.result (IsStringSource names f) (λ made. (answers : Answers) → IsOverTraces (length names) (problem_of made answers))
+    IfOk-weaker c.string_source.result (IsStringSource names f) (λ made. (answers : Answers) → IsOverTraces (length names) (main_question made answers))
     (λ made is answers. is-over-traces names f made answers is) c.string_source.ensures.source
 
 pub returns-clause-verdict : goal.returns-clause-verdict
 returns-clause-verdict c =
     let names = c.args.trace.now.names in
     let f = temporal_of c.args.trace.now.formula in
-    IfOk-weaker c.string_source.result (IsStringSource names f) (λ made. (answers : Answers) → TellsVerdict (length names) f (problem_of made answers))
+    IfOk-weaker c.string_source.result (IsStringSource names f) (λ made. (answers : Answers) → TellsVerdict (length names) f (main_question made answers))
     (λ made is answers. tells-verdict names f made answers is) c.string_source.ensures.source
+
+pub returns-clause-no_goals : goal.returns-clause-no_goals
+returns-clause-no_goals c =
+    let names = c.args.trace.now.names in
+    let f = temporal_of c.args.trace.now.formula in
+    IfOk-weaker c.string_source.result (IsStringSource names f) (λ (made : Checked). goals_in made ≡ [])
+    (λ made is. no-goals made is.titles) c.string_source.ensures.source
 
 pub returns-clause-numbered : goal.returns-clause-numbered
 returns-clause-numbered c =

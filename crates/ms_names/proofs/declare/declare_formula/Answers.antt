@@ -3,5 +3,5 @@ use Rattle.ms_names.proofs.Told.{formula-told}
 use Rattle.ms_names.proofs.declare.declare_formula.Goals as goal
 
 pub returns-clause-state : goal.returns-clause-state
-returns-clause-state c = λ count files.
-    formula-told c.args.checker.now c.expression.new.checker count files (expression_of c.args.e.now) c.in_ok-value.ensures.state
+returns-clause-state c = λ count taken title.
+    formula-told c.args.checker.now c.expression.new.checker count taken title (expression_of c.args.e.now) c.in_ok-value.ensures.state

@@ -8,10 +8,10 @@ use Rattle.ms_names.proofs.Told.{predicate-told}
 use Rattle.ms_names.proofs.declare.declare_predicate.Goals as goal
 
 pub returns-clause-state : goal.returns-clause-state
-returns-clause-state c = λ count files.
+returns-clause-state c = λ count taken.
     let t = c.predicate_parts.new.checker in
     let orders = orders_of_bounds (bounds_of c.args.bounds.now) in
-    predicate-told c.args.checker.now c.check_declared.new.self c.check_bounds.new.self t (read_through t) c.name_predicate.new.self count files
+    predicate-told c.args.checker.now c.check_declared.new.self c.check_bounds.new.self t (read_through t) c.name_predicate.new.self count taken
     c.args.at c.args.name.now (bounds_of c.args.bounds.now) (expression_of c.args.body.now) (next_predicate t.scope) orders
     c.requires c.in_ok-check_declared.ensures c.in_ok-check_bounds.ensures c.in_ok-made.ensures.state
     refl refl refl c.in_ok-name_predicate.ensures

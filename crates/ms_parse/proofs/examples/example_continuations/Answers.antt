@@ -1,8 +1,9 @@
 use Rattle.std.proofs.Common.{refl, true, [], ◌∷◌, codes}
 use Rattle.ms_logic.specs.declared.mode.Rel.TheVariants.{Equal}
 use Rattle.ms_parse_grammar.specs.declared.operator.Binary.TheVariants.{Relation}
-use Rattle.ms_parse_grammar.specs.Symbol.{name, infix_operator, sign, left_out, word_true, open_round, open_curly, close_curly, comma, placed}
-use Rattle.ms_parse.specs.inner.Examples.{at, row, a, b, x, p, repeated}
+use Rattle.ms_parse_grammar.specs.declared.operator.Prefix.TheVariants.{Negation}
+use Rattle.ms_parse_grammar.specs.Symbol.{name, text, prefix_operator, infix_operator, sign, semicolon, left_out, word_true, open_round, open_curly, close_curly, comma, placed}
+use Rattle.ms_parse.specs.inner.Examples.{at, row, a, b, x, p, goal_name, repeated}
 use Rattle.ms_parse.proofs.Continuations.{follows_by_trial, misplaced_by_trial, too_deep_by_trial}
 use Rattle.ms_parse_steps.proofs.Refusals.{word_follows, word_shuts}
 use Rattle.ms_parse.proofs.examples.example_continuations.Goals as goal
@@ -57,3 +58,21 @@ returns-clause-argument_at_any_depth c = (too_deep_by_trial 400 (row (repeated 2
 
 pub returns-clause-no_argument_at_any_depth : goal.returns-clause-no_argument_at_any_depth
 returns-clause-no_argument_at_any_depth c = misplaced_by_trial 400 (row (repeated 299 open_round (p ∷ open_round ∷ []))) (placed comma (at 301)) refl (λ none. refl)
+
+pub returns-clause-behind_goal : goal.returns-clause-behind_goal
+returns-clause-behind_goal c = follows_by_trial 40 (row (goal_name ∷ [])) refl
+
+pub returns-clause-behind_a_title : goal.returns-clause-behind_a_title
+returns-clause-behind_a_title c = follows_by_trial 40 (row (goal_name ∷ text (codes "t") ∷ [])) refl
+
+pub returns-clause-title_without_formula : goal.returns-clause-title_without_formula
+returns-clause-title_without_formula c = misplaced_by_trial 40 (row (goal_name ∷ text (codes "t") ∷ [])) (placed semicolon (at 2)) refl (λ none. refl)
+
+pub returns-clause-second_title : goal.returns-clause-second_title
+returns-clause-second_title c = misplaced_by_trial 40 (row (goal_name ∷ text (codes "t") ∷ [])) (placed (text (codes "u")) (at 2)) refl (λ none. refl)
+
+pub returns-clause-title_behind_another_name : goal.returns-clause-title_behind_another_name
+returns-clause-title_behind_another_name c = misplaced_by_trial 40 (row (a ∷ [])) (placed (text (codes "t")) (at 1)) refl (λ none. refl)
+
+pub returns-clause-title_in_a_formula : goal.returns-clause-title_in_a_formula
+returns-clause-title_in_a_formula c = misplaced_by_trial 40 (row (prefix_operator Negation ∷ goal_name ∷ [])) (placed (text (codes "t")) (at 2)) refl (λ none. refl)

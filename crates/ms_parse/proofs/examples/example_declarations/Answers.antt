@@ -34,3 +34,18 @@ returns-clause-restrict c = reads_by_trial 40 _ _ refl
 
 pub returns-clause-two_formulas : goal.returns-clause-two_formulas
 returns-clause-two_formulas c = reads_by_trial 40 _ _ refl
+
+pub returns-clause-goal : goal.returns-clause-goal
+returns-clause-goal c = reads_by_trial 40 _ _ refl
+
+pub returns-clause-goal_of_that_name : goal.returns-clause-goal_of_that_name
+returns-clause-goal_of_that_name c = reads_by_trial 40 _ _ refl
+
+pub returns-clause-goal_as_formula : goal.returns-clause-goal_as_formula
+returns-clause-goal_as_formula c = reads_by_trial 40 _ _ refl
+
+pub returns-clause-goal_as_operand : goal.returns-clause-goal_as_operand
+returns-clause-goal_as_operand c = reads_by_trial 40 _ _ refl
+
+pub returns-clause-goal_as_variable : goal.returns-clause-goal_as_variable
+returns-clause-goal_as_variable c = reads_by_trial 40 _ _ refl

@@ -25,3 +25,9 @@ returns-clause-negated_term c = refused_by_trial 40 _ refl
 
 pub returns-clause-word_alone : goal.returns-clause-word_alone
 returns-clause-word_alone c = refused_by_trial 40 _ refl
+
+pub returns-clause-goal_without_formula : goal.returns-clause-goal_without_formula
+returns-clause-goal_without_formula c = refused_by_trial 40 _ refl
+
+pub returns-clause-two_titles : goal.returns-clause-two_titles
+returns-clause-two_titles c = refused_by_trial 40 _ refl

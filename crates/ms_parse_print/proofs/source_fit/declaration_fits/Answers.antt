@@ -16,3 +16,7 @@ returns-in-Pred c =
 pub returns-in-Include : goal.returns-in-Include
 returns-in-Include c =
     by_declaration c.args.declaration.now (decls.Include c.in-Include.field-0 c.in-Include.file) c.include_fits.result c.in-Include.is (c.include_fits.ensures c.in-Include.field-0)
+
+pub returns-in-Goal : goal.returns-in-Goal
+returns-in-Goal c =
+    by_declaration c.args.declaration.now (decls.Goal c.in-Goal.field-0 c.in-Goal.title c.in-Goal.body) c.goal_fits.result c.in-Goal.is (c.goal_fits.ensures c.in-Goal.field-0)

@@ -1,4 +1,4 @@
-use Rattle.ms_include_laws.proofs.of_places.Worked.{before, behind, default-outside, formula-outside, global-inside, global-outside, inside, predicate-body-outside, predicate-inside, second-outside}
+use Rattle.ms_include_laws.proofs.of_places.Worked.{before, behind, default-outside, formula-outside, global-inside, global-outside, goal-inside, goal-outside, inside, predicate-body-outside, predicate-inside, second-outside}
 use Rattle.ms_include_laws.proofs.places.examples.worked_sources.Goals as goal
 
 pub returns-clause-inside : goal.returns-clause-inside
@@ -30,3 +30,9 @@ returns-clause-predicate_body_outside c = predicate-body-outside
 
 pub returns-clause-default_outside : goal.returns-clause-default_outside
 returns-clause-default_outside c = default-outside
+
+pub returns-clause-goal : goal.returns-clause-goal
+returns-clause-goal c = goal-inside
+
+pub returns-clause-goal_outside : goal.returns-clause-goal_outside
+returns-clause-goal_outside c = goal-outside

@@ -15,3 +15,9 @@ returns-clause-import c = import
 
 pub returns-clause-import_of_word : goal.returns-clause-import_of_word
 returns-clause-import_of_word c = import-of-word-refused
+
+pub returns-clause-goal : goal.returns-clause-goal
+returns-clause-goal c = import
+
+pub returns-clause-goal_of_word : goal.returns-clause-goal_of_word
+returns-clause-goal_of_word c = import-of-word-refused

@@ -1,14 +1,13 @@
 use Rattle.std.proofs.Common.{◌++◌, ◌∷◌, [], map, Some, refl, sym, subst, ap, ◌∙◌}
 use Rattle.std.proofs.lemmas.List.{map-append}
 use Rattle.std.proofs.lemmas.Result.{on_ok_weaker}
-use Rattle.ms_logic.specs.View.{declaration_of as parameter_of, formula_of, predicate_of}
-use Rattle.ms_names_rules.specs.TypedSource.{placed_formula_of}
+use Rattle.ms_logic.specs.View.{declaration_of as parameter_of, predicate_of}
 use Rattle.ms_names_rules.specs.View.{placed_of}
-use Rattle.ms_names.specs.declared.outcome.Outcome.TheVariants.{Formula, Globals, Predicate}
+use Rattle.ms_names.specs.declared.outcome.Outcome.TheVariants.{Globals, Predicate}
 use Rattle.ms_names.specs.declared.progress.Progress.{Progress}
 use Rattle.ms_names.specs.inner.Outcome.{Made, outcome_of}
-use Rattle.ms_names.specs.inner.Progress.{Keeps, globals_with, kept_formulas, kept_globals, kept_predicates}
-use Rattle.ms_names.proofs.Sources.{keeps-formula, keeps-globals, keeps-nothing, keeps-predicate}
+use Rattle.ms_names.specs.inner.Progress.{Keeps, globals_with, kept_globals, kept_predicates}
+use Rattle.ms_names.proofs.Sources.{keeps-globals, keeps-nothing, keeps-predicate}
 use Rattle.ms_names.proofs.progress.Progress.keep.Goals as goal
 
 pub returns-in-Globals-Some-clause-kept : goal.returns-in-Globals-Some-clause-kept
@@ -34,19 +33,6 @@ returns-in-Predicate-Some-clause-kept c =
     (λ added. subst P (ap (λ made. outcome_of (Predicate made)) (sym c.in-Predicate-Some.field-0-is) ∙ ap outcome_of (sym c.in-Predicate-Some.is))
     (keeps-predicate old new d (predicate_of p) (ap kept_predicates added ∙ map-append (λ q. Some (predicate_of q)) old.predicates (p ∷ [])) refl refl))
     c.push.ensures.ok
-
-pub returns-in-Formula-Some-clause-kept : goal.returns-in-Formula-Some-clause-kept
-returns-in-Formula-Some-clause-kept c =
-    let old : Progress = c.args.self.now in
-    let new : Progress = record old { formulas = c.push-in-Formula-Some.new.list } in
-    let d = placed_of c.args.item.now in
-    let f = c.in-Formula-Some.formula in
-    let P : Made → Type 0 = λ made. Keeps old new d made in
-    on_ok_weaker c.push-in-Formula-Some.result
-    (λ added. subst P (ap (λ made. outcome_of (Formula made)) (sym c.in-Formula-Some.field-0-is) ∙ ap outcome_of (sym c.in-Formula-Some.is))
-    (keeps-formula old new d (formula_of f)
-    (ap kept_formulas added ∙ map-append (λ g. Some (placed_formula_of g)) old.formulas (record { at = d.at; item = old.item; formula = f } ∷ [])) refl refl))
-    c.push-in-Formula-Some.ensures.ok
 
 pub returns-in-Nothing-clause-kept : goal.returns-in-Nothing-clause-kept
 returns-in-Nothing-clause-kept c =

@@ -40,3 +40,11 @@ returns-in-Default c bytes inside is =
     let lexed = c.args.input.tokens.now in
     steps_by file lexed (λ x. settled file lexed (context_of (document_of c.args.parser.now.source) x) bytes inside c.args.followed []) c.args.self (contexts.Default c.in-Default.at c.in-Default.order c.in-Default.name) c.end_default.new.self c.end_default.result c.in-Default.is
     (c.end_default.ensures file lexed bytes inside is)
+
+pub returns-in-Goal : goal.returns-in-Goal
+returns-in-Goal c bytes inside is =
+    let file = c.args.input.file in
+    let lexed = c.args.input.tokens.now in
+    steps_by file lexed (λ x. settled file lexed (context_of (document_of c.args.parser.now.source) x) bytes inside c.args.followed []) c.args.self
+    (contexts.Goal c.in-Goal.at c.in-Goal.at_title c.in-Goal.title) c.end_goal.new.self c.end_goal.result c.in-Goal.is
+    (c.end_goal.ensures file lexed bytes inside is)

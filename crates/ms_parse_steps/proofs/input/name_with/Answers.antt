@@ -5,7 +5,7 @@ use Rattle.ms_parse_grammar.specs.Symbol.{name}
 use Rattle.ms_parse_steps.specs.inner.Terminals.{behind, IsNext}
 use Rattle.ms_parse_steps.proofs.Tokens.{name_apart, not_named, not_this}
 use Rattle.ms_parse_steps.proofs.Inputs.{name_symbol, no_name, terminal_next}
-use Rattle.ms_parse_steps.proofs.header.name_with.Goals as goal
+use Rattle.ms_parse_steps.proofs.input.name_with.Goals as goal
 
 pub returns-then-not-is_name-clause-none : goal.returns-then-not-is_name-clause-none
 returns-then-not-is_name-clause-none c =

@@ -1,0 +1,14 @@
+use Rattle.std.proofs.Common.{[], ◌∷◌, map}
+use Rattle.std.proofs.lemmas.Result.{IfOk-weaker}
+use Rattle.ms_logic_core.specs.CoreForm.{core_form_of}
+use Rattle.ms_lower.specs.NumberedRoots.{root_of}
+use Rattle.ms_lower.proofs.MainRoot.{main_made}
+use Rattle.ms_lower.proofs.goal_roots.goal_root.Goals as goal
+
+pub returns : goal.returns
+returns c =
+    IfOk-weaker _ _ _
+    (λ root is.
+    main_made c.args.tables.now c.args.globals.now (c.args.goal.now ∷ []) c.from-free.result (map core_form_of c.in_ok-front.front) (map core_form_of c.in_ok-later.later) (root_of root)
+    c.requires.globals c.requires.kept c.from-free.ensures c.in_ok-front.ensures c.in_ok-later.ensures is)
+    c.over_globals.ensures
