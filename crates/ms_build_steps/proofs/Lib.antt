@@ -1,6 +1,9 @@
+pub mod FixedWidenings
+pub mod Imports
 pub mod Lists
 pub mod ManyMeanings
 pub mod ManyVariables
+pub mod Moved
 pub mod NodeSigns
 pub mod Operands
 pub mod Ordered
@@ -10,4 +13,8 @@ pub mod Relations
 pub mod SameValues
 pub mod Sides
 pub mod SmallLimits
+pub mod SpreadWords
 pub mod Through
+pub mod WideBodies
+pub mod WideResiduals
+pub mod Widenings

@@ -59,7 +59,7 @@ module _ {A B : Type 0} (R : A → B → Type 0) where
   zip_at (x ∷ xs) (z ∷ ys) zipped zero y held = (x, refl, subst (R x) (same_Some z y held) zipped.0)
   zip_at (x ∷ xs) (z ∷ ys) zipped (suc k) y held = zip_at xs ys zipped.1 k y held
 
-all_at : {A : Type 0} (P : A → Type 0) (xs : List A) → All P xs → (k : ℕ) (x : A) → slice_get xs k ≡ Some x → P x
+pub all_at : {A : Type 0} (P : A → Type 0) (xs : List A) → All P xs → (k : ℕ) (x : A) → slice_get xs k ≡ Some x → P x
 all_at P [] all k x held = absurd (none-some x held)
 all_at P (y ∷ ys) all zero x held = subst P (same_Some y x held) (All-head P y ys all)
 all_at P (y ∷ ys) all (suc k) x held = all_at P ys (All-tail P y ys all) k x held

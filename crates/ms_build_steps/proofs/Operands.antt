@@ -46,7 +46,7 @@ use Rattle.ms_build_steps.proofs.SameValues.{rising_behind}
 use Rattle.ms_build_steps.proofs.Sides.{IsSide}
 
 -- variables under rising names rise
-named_rising : (names : List ℕ) (os : List Order) → IsStrictlyIncreasing names → AreRising (variables_named names os)
+pub named_rising : (names : List ℕ) (os : List Order) → IsStrictlyIncreasing names → AreRising (variables_named names os)
 named_rising [] os rising = tt
 named_rising (x ∷ names) [] rising = tt
 named_rising (x ∷ []) (o ∷ os) rising = (tt, tt)

@@ -31,7 +31,7 @@ module _ (one measure : Content Sign) (side : IsSide one measure) where
   abbrev own : Content Sign
   own = record { mode = one.mode; variables = one.variables; start = side.least.start; states = side.least.states; nodes = side.least.nodes }
 
-  is_own : one ≡ own
+  pub is_own : one ≡ own
   is_own = λ i. record { mode = one.mode; variables = one.variables; start = side.parts.start i; states = side.parts.states i; nodes = side.parts.nodes i }
 
   as_long : length one.variables ≡ length side.least.variables

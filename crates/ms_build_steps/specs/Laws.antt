@@ -1,8 +1,8 @@
 -- Laws of the automata of nodes and of the steps of their source.
-use Rattle.std.specs.Prelude.{◌≡◌, ℕ, ◌<◌, List, length, slice_get, Contains, All as Each, Some}
+use Rattle.std.specs.Prelude.{◌≡◌, ℕ, ◌<◌, List, [], ◌∷◌, ◌++◌, length, slice_get, Contains, All as Each, Option, Some}
 use Rattle.std.specs.List.Sorted.{IsStrictlyIncreasing}
-use Rattle.ms_build.specs.Built.{IsLeastOf, imports_for, node_meaning}
-use Rattle.ms_build.specs.Short.{FormLacks, ManyLacks, NodeLacks, PairLacks}
+use Rattle.ms_build.specs.Built.{IsImportOf, IsLeastOf, IsWithin, imports_for, node_meaning}
+use Rattle.ms_build.specs.Short.{ChildLacks, FormLacks, ManyLacks, NodeLacks, PairLacks}
 use Rattle.ms_build.specs.declared.plan.Many.{Many}
 use Rattle.ms_build.specs.declared.plan.Many.TheVariants.{All, Any}
 use Rattle.ms_build.specs.declared.plan.Plan.{Plan}
@@ -22,14 +22,16 @@ use Rattle.ms_dag_steps.specs.Occurrences.{Occurs, variables_named, whole_formul
 use Rattle.ms_logic.specs.Truth.{Answer, Import}
 use Rattle.ms_logic.specs.declared.mode.Mode.{Mode}
 use Rattle.ms_logic.specs.declared.mode.Order.{Order}
+use Rattle.ms_logic.specs.declared.mode.Quant.{Quant}
 use Rattle.ms_logic_core.specs.Calls.{Calls}
-use Rattle.ms_logic_core.specs.CoreForm.{CoreForm, CoreForms, conjunction, disjunction}
+use Rattle.ms_logic_core.specs.CoreForm.{CoreForm, CoreForms, CoreRestriction, conjunction, disjunction}
+use Rattle.ms_logic_core.specs.Operands.{variable}
 use Rattle.ms_logic_core.specs.declared.core_formula.Basic.{Basic}
 use Rattle.ms_logic_core.specs.declared.core_formula.Lowered.{Lowered}
 use Rattle.ms_logic_core.specs.declared.core_formula.Root.{Root}
-use Rattle.ms_logic_measures.specs.Budgets.{IsMeasureOf, budget}
+use Rattle.ms_logic_measures.specs.Budgets.{IsMeasureOf, IsWideningMeasure, budget}
 use Rattle.ms_logic_measures.specs.FullContent.{IsFullContent}
-use Rattle.ms_logic_measures.specs.Steps.{Step, connective, steps_of}
+use Rattle.ms_logic_measures.specs.Steps.{Step, binding, connective, steps_of}
 use Rattle.ms_logic_words.specs.Content.{Content, variables_by_place}
 use Rattle.ms_logic_words.specs.declared.sign.Sign.{Sign}
 use Rattle.ms_product.specs.declared.op.Op.{Op}
@@ -102,3 +104,34 @@ PlainNodesAreBelowTheirSteps =
     → IsPlanned imports calls lowered plan → slice_get lowered.roots number ≡ Some root → slice_get plan.dag.now.entries i ≡ Some entry
     → Occurs (whole_formula calls root) plan.dag.now.entries f names i → IsPlainForm entry.node → NodeLacks plan i
     → IsBelowStep imports plan.mode (whole_formula calls root) plan.limit
+
+-- where an import occurs in the formula of a root, over lent automata within the limit, it lacks nodes only under a limit below each
+-- budget of a step of that formula
+abbrev pub ImportsAreBelowTheirSteps : Type 0
+ImportsAreBelowTheirSteps =
+    (imports : List Import) (calls : Calls) (lowered : Lowered) (plan : Plan) (number : ℕ) (root : Root) (f : CoreForm) (names : List ℕ) (i : ℕ)
+    (entry : Entry) (import : ℕ) (xs : List ℕ)
+    → IsPlanned imports calls lowered plan → slice_get lowered.roots number ≡ Some root → slice_get plan.dag.now.entries i ≡ Some entry
+    → entry.node ≡ nodes.Import import xs → IsImportOf plan.imports.now plan.mode entry.orders import xs → Each (IsWithin plan.limit) plan.imports.now
+    → Occurs (whole_formula calls root) plan.dag.now.entries f names i → NodeLacks plan i → IsBelowStep imports plan.mode (whole_formula calls root) plan.limit
+
+-- where a child occurs in the formula of a root, it lacks nodes, on the way to the variables at which it is read, only under a limit below
+-- each budget of the widening of its formula to these variables
+abbrev pub WideningsAreWithinBudget : Type 0
+WideningsAreWithinBudget =
+    (imports : List Import) (calls : Calls) (lowered : Lowered) (plan : Plan) (number : ℕ) (root : Root) (names : List ℕ) (child : Child) (f : CoreForm) (i : ℕ) (outer : List Order)
+    → IsPlanned imports calls lowered plan → slice_get lowered.roots number ≡ Some root → IsStrictlyIncreasing names → length names ≡ length outer
+    → ChildOccurs (whole_formula calls root) plan.dag.now.entries names f child → IsChild plan.dag.now.entries i outer child
+    → ChildLacks plan child (variables_by_place outer)
+    → (m r : ℕ) → IsWideningMeasure imports plan.mode f (variables_named names outer) m r → plan.limit < budget m r
+
+-- where a quantifier occurs in the formula of a root, one of the steps binds the variable in a body that lacks nodes, on the way to the
+-- quantifier's own variables and the bound one, only under a limit below each budget of the body's widening to these
+abbrev pub BodiesWidenWithinBudget : Type 0
+BodiesWidenWithinBudget =
+    (imports : List Import) (calls : Calls) (lowered : Lowered) (plan : Plan) (number : ℕ) (root : Root) (f : CoreForm) (names : List ℕ) (i : ℕ) (entry : Entry)
+    (q : Quant) (o : Order) (k : ℕ) (d : Option Child) (c : Child)
+    → IsPlanned imports calls lowered plan → slice_get lowered.roots number ≡ Some root → slice_get plan.dag.now.entries i ≡ Some entry
+    → entry.node ≡ nodes.Bind q o k d c → Occurs (whole_formula calls root) plan.dag.now.entries f names i → ChildLacks plan c (variables_by_place (entry.orders ++ o ∷ []))
+    → (x : ℕ) × (r : CoreRestriction) × (body : CoreForm) × Contains (steps_of (whole_formula calls root)) (binding (variable x o) r body)
+    × ((m n : ℕ) → IsWideningMeasure imports plan.mode body (variables_named (names ++ x ∷ []) (entry.orders ++ o ∷ [])) m n → plan.limit < budget m n)

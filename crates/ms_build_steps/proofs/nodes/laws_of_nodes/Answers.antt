@@ -1,11 +1,13 @@
 use Rattle.ms_build.proofs.LawLemmas.{child_has_value}
 use Rattle.ms_build.specs.Built.{node_meaning}
+use Rattle.ms_build_steps.proofs.Imports.{imports_are_below_their_steps}
 use Rattle.ms_build_steps.proofs.Lists.{lists_are_within_budget}
 use Rattle.ms_build_steps.proofs.NodeSigns.{say_same}
 use Rattle.ms_build_steps.proofs.PlainNodes.{plain_nodes_are_below_their_steps}
 use Rattle.ms_build_steps.proofs.Pairs.{connectives_are_within_budget}
 use Rattle.ms_build_steps.proofs.Relations.{relations_are_below_their_steps}
 use Rattle.ms_build_steps.proofs.SmallLimits.{small_limits_are_below_steps}
+use Rattle.ms_build_steps.proofs.Widenings.{bodies_widen_within_budget, widenings_are_within_budget}
 use Rattle.ms_build_steps.proofs.nodes.laws_of_nodes.Goals as goal
 
 pub returns-clause-same : goal.returns-clause-same
@@ -27,3 +29,12 @@ returns-clause-small c = small_limits_are_below_steps
 
 pub returns-clause-plain : goal.returns-clause-plain
 returns-clause-plain c = plain_nodes_are_below_their_steps
+
+pub returns-clause-of_imports : goal.returns-clause-of_imports
+returns-clause-of_imports c = imports_are_below_their_steps
+
+pub returns-clause-widenings : goal.returns-clause-widenings
+returns-clause-widenings c = widenings_are_within_budget
+
+pub returns-clause-bodies : goal.returns-clause-bodies
+returns-clause-bodies c = bodies_widen_within_budget

@@ -1,0 +1,178 @@
+-- The automaton of a body over some more variables has its states fixed by the full content of the body's formula and by a content that
+-- tells which words encode an assignment of all variables that are wanted.
+use Rattle.std.proofs.Common.{◌≡◌, ◌≢◌, ℕ, ◌⊎◌, ◌↔◌, ⊎_elim, inl, Bool, false, if◌then◌else◌, List, [], ◌∷◌, length, map, replicate, slice_get, Option, Some, None, refl, sym, ap, subst, ◌∙◌}
+use Rattle.std.proofs.lemmas.List.{length-replicate}
+use Rattle.ms_arena.specs.Diagram.{leaf_of}
+use Rattle.ms_build.specs.Wider.{IsWider}
+use Rattle.ms_build_parts.proofs.Matching.{over_same}
+use Rattle.ms_dfa.specs.Automaton.{IsAutomaton}
+use Rattle.ms_dfa.specs.Narrow.{narrowed}
+use Rattle.ms_dfa.proofs.EncodingLemmas.{sign_of_encoding}
+use Rattle.ms_dfa.proofs.NarrowLemmas.{narrowed_assigned, narrowed_encodes, narrowed_over}
+use Rattle.ms_dfa_explore.specs.Tracks.{places_among}
+use Rattle.ms_dfa_explore.proofs.AmongLemmas.{reads_through_places}
+use Rattle.ms_list.specs.declared.word.Word.{Word}
+use Rattle.ms_logic.specs.Assignment.{IsAssignment, Variable}
+use Rattle.ms_logic.specs.Lists.{AreRising, IsAmong}
+use Rattle.ms_logic.specs.declared.mode.Mode.{Mode}
+use Rattle.ms_logic.specs.declared.mode.Order.{Order}
+use Rattle.ms_logic_words.specs.Canonical.{IsCanonical}
+use Rattle.ms_logic_words.specs.Content.{AreLetters, Content, IsClosed, IsWordOver, StateOf, bits_at, count_of, first_state, head_bit, is_in_letters, is_truth_value, last_state, next_from, next_state, padded, sign_at, sign_of, state_after, tail_bits}
+use Rattle.ms_logic_words.specs.Word.{IsEncoding}
+use Rattle.ms_logic_words.specs.declared.sign.Sign.{Sign}
+use Rattle.ms_logic_words.specs.declared.sign.Sign.TheVariants.{Outside}
+use Rattle.ms_logic_words.specs.inner.Decoding.{HasOneBit, HaveOneBit, column_after}
+use Rattle.ms_logic_words.proofs.DecodedWords.{encodings_are}
+use Rattle.ms_minim.specs.Residual.{AreReached, HaveDifferentResiduals, IsLeast}
+use Rattle.ms_minim_canonical.proofs.ContentLemmas.{IsClosed-content}
+use Rattle.ms_wider_parts.specs.Fixed.{IsFixedBy}
+use Rattle.ms_build_steps.proofs.Operands.{closed_least}
+use Rattle.ms_build_steps.proofs.Sides.{IsSide, is_own}
+use Rattle.ms_build_steps.proofs.WideResiduals.{IsSaidBy, said_fixes}
+
+abbrev pub orders_of : List Variable → List Order
+orders_of vs = map (λ (v : Variable). v.order) vs
+
+-- padded bits depend on the orders of the variables alone
+padded_same : (has_value : Order → Bool) (one other : List Variable) (values : List Bool) → orders_of other ≡ orders_of one → padded has_value other values ≡ padded has_value one values
+padded_same has_value [] [] values same = refl
+padded_same has_value [] (w ∷ ws) values same = cc
+padded_same has_value (v ∷ vs) [] values same = cc
+padded_same has_value (v ∷ vs) (w ∷ ws) values same =
+    let first : w.order ≡ v.order = cc in
+    let more : orders_of ws ≡ orders_of vs = cc in
+    ap (λ o. if has_value o then head_bit values ∷ padded has_value ws (tail_bits values) else false ∷ padded has_value ws values) first
+    ∙ ap (λ (rest : List Bool). if has_value v.order then head_bit values ∷ rest else false ∷ padded has_value ws values) (padded_same has_value vs ws (tail_bits values) more)
+    ∙ ap (λ (rest : List Bool). if has_value v.order then head_bit values ∷ padded has_value vs (tail_bits values) else false ∷ rest) (padded_same has_value vs ws values more)
+
+-- and so does whether a word encodes an assignment
+one_bit_same : (letters : List (List Bool)) (column : ℕ) (one other : List Variable) → orders_of other ≡ orders_of one → HaveOneBit letters column one → HaveOneBit letters column other
+one_bit_same letters column [] [] same have = tt
+one_bit_same letters column [] (w ∷ ws) same have = let never : ⊥ = cc in absurd never
+one_bit_same letters column (v ∷ vs) [] same have = let never : ⊥ = cc in absurd never
+one_bit_same letters column (v ∷ vs) (w ∷ ws) same have =
+    let first : v.order ≡ w.order = cc in
+    let more : orders_of ws ≡ orders_of vs = cc in (
+      subst (λ o. HasOneBit letters o column) first have.0,
+      subst (λ o. HaveOneBit letters (column_after o column) ws) first (one_bit_same letters (column_after v.order column) vs ws more have.1),
+    )
+
+pub encoding_same : (mode mode' : Mode) (one other : List Variable) → orders_of other ≡ orders_of one → AreRising one → AreRising other → (word : Word)
+    → IsEncoding mode one word → IsEncoding mode' other word
+encoding_same mode mode' one other same rising also word encoding =
+    let is = (encodings_are mode one word rising).0 encoding in
+    (encodings_are mode' other word also).1 (over_same one other word same is.0, one_bit_same word.letters 0 one other same is.1)
+
+-- the parts of a content, over other variables of the same orders
+abbrev pub over : Mode → List Variable → Content Sign → Content Sign
+over mode us content = record { mode = mode; variables = us; start = content.start; states = content.states; nodes = content.nodes }
+
+module _ (content : Content Sign) (mode : Mode) (us : List Variable) (same : orders_of us ≡ orders_of content.variables) where
+  next_same : (found : Option (StateOf Sign)) (letter : List Bool) → next_from (over mode us content) found letter ≡ next_from content found letter
+  next_same None letter = refl
+  next_same (Some state) letter = ap (λ bits. leaf_of content.nodes state.next (bits_at bits)) (padded_same is_in_letters content.variables us letter same)
+
+  after_same : (letters : List (List Bool)) (state : ℕ) → state_after (over mode us content) state letters ≡ state_after content state letters
+  after_same [] state = refl
+  after_same (letter ∷ letters) state =
+      after_same letters (next_state (over mode us content) state letter)
+      ∙ ap (λ s. state_after content s letters) (next_same (slice_get content.states state) letter)
+
+  last_same : (word : Word) → last_state (over mode us content) word ≡ last_state content word
+  last_same word =
+      after_same word.letters (first_state (over mode us content) word.truth)
+      ∙ ap (λ bits. state_after content (leaf_of content.nodes content.start (bits_at bits)) word.letters) (padded_same is_truth_value content.variables us word.truth same)
+
+  sign_same : (word : Word) → sign_of (over mode us content) word ≡ sign_of content word
+  sign_same word = ap (sign_at content) (last_same word)
+
+  reached_same : AreReached content → AreReached (over mode us content)
+  reached_same reached state within =
+      let found = reached state within in
+      (found.0, over_same content.variables us found.0 same found.1, last_same found.0 ∙ found.2)
+
+  letters_same : (letters : List (List Bool)) → AreLetters content.variables letters → AreLetters us letters
+  letters_same letters are = (over_same content.variables us (record { truth = zeros; letters = letters }) same (record { truth = long; letters = are })).letters
+    where
+      zeros : List Bool
+      zeros = replicate (count_of is_truth_value content.variables) false
+
+      long : length zeros ≡ count_of is_truth_value content.variables
+      long = length-replicate (count_of is_truth_value content.variables) false
+
+  differ_same : HaveDifferentResiduals content → HaveDifferentResiduals (over mode us content)
+  differ_same differ one other first second equal = differ one other first second (λ letters are.
+      ap (sign_at content) (sym (after_same letters one))
+      ∙ equal letters (letters_same letters are)
+      ∙ ap (sign_at content) (after_same letters other))
+
+  closed_same : IsClosed content → IsClosed (over mode us content)
+  closed_same closed = closed_least content (over mode us content) (record { start = refl; states = refl; nodes = refl }) (sym same) closed
+
+module _ (part wide content encodings : Content Sign) (side : IsSide part content) (automaton : IsAutomaton part) (added : List Variable) (is_wide : IsWider part added wide)
+    (wide_is : IsAutomaton wide) (least : (wide ≡ part) ⊎ IsLeast wide)
+    (wanted : List Variable) (wanted_rising : AreRising wanted) (among : (v : Variable) → IsAmong wide.variables v → IsAmong wanted v)
+    (canonical : IsCanonical encodings) (orders : orders_of wanted ≡ orders_of encodings.variables)
+    (tells : (word : Word) → IsWordOver wanted word → IsEncoding wide.mode wanted word ↔ (sign_of encodings word ≢ Some Outside)) where
+  abbrev us : List Variable
+  us = part.variables
+
+  abbrev vs : List Variable
+  vs = wide.variables
+
+  part_among : (v : Variable) → IsAmong us v → IsAmong vs v
+  part_among v there = (is_wide.variables v).1 (inl there)
+
+  part_reached : AreReached part
+  part_reached = subst AreReached (sym (is_own part content side)) (reached_same side.least part.mode us side.orders side.measured.reached)
+
+  part_differ : HaveDifferentResiduals part
+  part_differ = subst HaveDifferentResiduals (sym (is_own part content side)) (differ_same side.least part.mode us side.orders side.measured.differ)
+
+  own_orders : orders_of us ≡ orders_of content.variables
+  own_orders = side.orders ∙ sym side.measured.same.orders
+
+  -- the content says what the part says
+  part_says : (word : Word) → IsWordOver us word → sign_of part word ≡ sign_of (over content.mode us content) word
+  part_says word is_over =
+      ap (λ c. sign_of c word) (is_own part content side)
+      ∙ sign_same side.least part.mode us side.orders word
+      ∙ sym (side.measured.same.signs word (over_same us side.least.variables word (sym side.orders) is_over))
+      ∙ sym (sign_same content content.mode us own_orders word)
+
+  wide_says : (word : Word) → IsEncoding wide.mode vs word → sign_of wide word ≡ sign_of (over content.mode us content) (narrowed (places_among us vs) us vs word)
+  wide_says word encoding =
+      let e = encoding.0 in
+      let narrow = narrowed (places_among us vs) us vs word in
+      let found = is_wide.values.right word e encoding.1 encoding.2 in
+      let reads = reads_through_places us vs automaton.rising wide_is.rising part_among e in
+      let encodes = narrowed_encodes (places_among us vs) us vs e e reads word encoding.2 in
+      let assigned = subst (λ m. IsAssignment m us e) is_wide.mode_is (narrowed_assigned (places_among us vs) us vs e e reads wide.mode encoding.1) in
+      found.1
+      ∙ sym found.2
+      ∙ sym (sign_of_encoding part automaton e assigned narrow encodes)
+      ∙ part_says narrow (narrowed_over (places_among us vs) us vs word)
+
+  said : IsSaidBy wide (over content.mode us content) (over encodings.mode wanted encodings)
+  said = record {
+    automaton = wide_is;
+    reached = ⊎_elim (λ same. subst AreReached (sym same) part_reached) (λ few. few.reached) least;
+    differ = ⊎_elim (λ same. subst HaveDifferentResiduals (sym same) part_differ) (λ few. few.differ) least;
+    left_ordered = side.measured.is_canonical.rules.ordered;
+    left_closed = closed_same content content.mode us own_orders (IsClosed-content content side.measured.is_canonical.rules);
+    left_rising = automaton.rising;
+    left_among = part_among;
+    right_ordered = canonical.rules.ordered;
+    right_closed = closed_same encodings encodings.mode wanted orders (IsClosed-content encodings canonical.rules);
+    right_rising = wanted_rising;
+    right_among = among;
+    says = wide_says;
+    tells = λ word is_over. (
+      λ encoding. subst (λ sign. sign ≢ Some Outside) (sym (sign_same encodings encodings.mode wanted orders word)) ((tells word is_over).0 encoding),
+      λ inside. (tells word is_over).1 (subst (λ sign. sign ≢ Some Outside) (sign_same encodings encodings.mode wanted orders word) inside),
+    );
+  }
+
+  -- both contents, over variables of the same orders, fix its states
+  pub bodies_are_fixed : IsFixedBy wide (over content.mode us content) (over encodings.mode wanted encodings)
+  bodies_are_fixed = said_fixes wide (over content.mode us content) (over encodings.mode wanted encodings) said
