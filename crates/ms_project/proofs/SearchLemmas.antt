@@ -35,7 +35,7 @@ use Rattle.ms_project.specs.Subsetting.{Subsetting, paired, subset_findings, IsR
 use Rattle.ms_project.proofs.LeaveLemmas.{length-places_left, places_left-rise}
 
 -- what was paired stays so in a longer list
-IsPairedIn-extends : (old new : List Node) → IsOrdered old → Extends old new → (body domain : Content Sign) (pairs : List (ℕ × ℕ)) (start : Ref) (states : List State)
+pub IsPairedIn-extends : (old new : List Node) → IsOrdered old → Extends old new → (body domain : Content Sign) (pairs : List (ℕ × ℕ)) (start : Ref) (states : List State)
     → IsPairedIn old And (operands_for body domain) pairs start states → IsPairedIn new And (operands_for body domain) pairs start states
 IsPairedIn-extends old new ordered extends body domain pairs start states is =
     let findings = product_findings And (operands_for body domain) pairs in

@@ -8,7 +8,7 @@ use Rattle.ms_dfa.specs.declared.state.State.{State}
 use Rattle.ms_dfa_explore.specs.Explored.{OnRefused, Explores}
 use Rattle.ms_project.specs.Subsetting.{Subsetting, subset_findings, IsReadyForSets, IsLaterSubsetting, SetsAreAtLeast}
 
-module _ (A : Type 0) (begun_with inside seen : Subsetting) (same : inside ≡ seen) (later : IsLaterSubsetting begun_with seen) (ready : IsReadyForSets begun_with)
+module _ (A : Type 0) (begun_with inside seen : Subsetting) (same : inside ≡ seen) (later : IsLaterSubsetting begun_with seen) (ready : IsReadyForSets begun_with) (none_yet : begun_with.sets ≡ [])
     (begun_store : IsStore begun_with.inner.nodes begun_with.inner.limit) (zero store : Contents) (empty : zero.nodes ≡ []) (limit_is : zero.limit ≡ begun_with.inner.limit)
     (numbering : IsSetNumbering inside.sets) (states : List State) where
   pub refused_sets : (fault : StepFault) → Explores zero store (subset_findings seen) states (Err fault)
@@ -26,6 +26,7 @@ module _ (A : Type 0) (begun_with inside seen : Subsetting) (same : inside ≡ s
           later = later;
           numbering = subst (λ (v : Subsetting). IsSetNumbering v.sets) same numbering;
           members = (later.ready ready).members;
+          reached = later.reached (λ number within. let none_there = ap length none_yet in absurd (omega (arith, within, none_there)));
           outer = store.nodes;
           ordered = explores.grows.store.ordered;
           reduced = explores.grows.store.reduced;

@@ -1,6 +1,7 @@
 -- One collection of a subset construction: what is found stays, and what is handed on leads where it should.
 use Rattle.std.proofs.Common.{◌≡◌, ◌≢◌, ℕ, ◌+◌, ◌<◌, ◌≤◌, ◌⊎◌, inl, inr, ⊎_elim, Bool, true, false, All, List, [], ◌∷◌, Contains, length, get_or, slice_get, slice_index, Option, Some, None, Result, Ok, Err, refl, sym, ap, subst, ◌∙◌, arith}
 use Rattle.std.specs.Prelude.{map as map_list}
+use Rattle.std.proofs.Math.Nat.{lt_of_lt_of_le}
 use Rattle.std.proofs.lemmas.Bool.{cases_lt, cases_eq}
 use Rattle.std.proofs.lemmas.List.{length-append, length-map, get_or_default, get_or-map}
 use Rattle.ms_diagram.proofs.ListLemmas.{Contains-cases, Contains-first, Contains-rest, Contains-none}
@@ -42,7 +43,7 @@ use Rattle.ms_dfa_explore.proofs.RunLemmas.{length-states_of}
 use Rattle.ms_project.specs.Subsets.{next_of, next_in, next_ref, opened, start_sets, sets_behind}
 use Rattle.ms_quotient.specs.Closure.{LeadsWithin}
 use Rattle.ms_project.specs.Signed.{TestBelow, zero_step}
-use Rattle.ms_project.specs.Subsetting.{Subsetting, paired, sets_at_start, sets_at, collected_findings, subset_findings, IsFullWithin, MembersAreStates, IsReadyForSets, IsLaterSubsetting, IsHanded, IsHandable}
+use Rattle.ms_project.specs.Subsetting.{Subsetting, paired, sets_at_start, sets_at, collected_findings, subset_findings, IsFullWithin, MembersAreStates, IsReachedNumber, from_start, from_set, AreReachedNumbers, IsReadyForSets, IsLaterSubsetting, IsHanded, IsHandable}
 
 -- a followed reference stays one in a longer list
 IsFollowed-extends : (content : Content Sign) (new : List Node) (has_value : Order → Bool) (reference : Ref) → IsOrdered content.nodes → Extends content.nodes new
@@ -69,6 +70,14 @@ at-behind : (content : Content Sign) (back : List ℕ) (bound : ℕ) (sets : Lis
     → sets_at content bound sets found (read_through back bits) number → sets_behind content back bound sets found bits number
 at-behind content back bound sets None bits number right = right
 at-behind content back bound sets (Some from) bits number right = right
+
+-- a set that leads somewhere has a number
+sets_at-found : (content : Content Sign) (bound : ℕ) (sets : List (List ℕ)) (from : ℕ) (bits : Bits) (number : ℕ) → sets_at content bound sets (slice_get sets from) bits number → from < length sets
+sets_at-found content bound sets from bits number right =
+    elim (slice_get sets from) as (λ at. slice_get sets from ≡ at → sets_at content bound sets at bits number → from < length sets) [
+      | None ↦ λ is none. absurd none
+      | Some set ↦ λ is found. slice_get_within sets from set is
+    ] refl right
 
 -- more found over all places is more found over the rest
 AreMore-rest : (early late : Subsetting) → late.back ≡ early.back → AreMore (collected_findings early) (collected_findings late) → AreMore (subset_findings early) (subset_findings late)
@@ -167,6 +176,21 @@ module _ (inside : Subsetting) (ready : IsReadyForSets inside) (store : IsStore 
     most_nodes = refl;
   }
 
+  found_late : (origin : Origin) → IsFound (collected_findings inside) origin → IsFound (collected_findings late) origin
+  found_late None found = tt
+  found_late (Some state) found = lt_of_lt_of_le found more_sets
+
+  -- what words reach they reach afterwards, and the sets behind an origin that they reach
+  still_reached : (number : ℕ) → IsReachedNumber inside number → IsReachedNumber late number
+  still_reached _ (from_start bits number right) = from_start bits number (more_collected.starts bits number right)
+  still_reached _ (from_set before bits number was right) =
+      from_set before bits number (still_reached before was) (more_collected.steps before (sets_at-found (paired inside) inside.bound inside.sets before bits number right) bits number right)
+
+  reached_behind : (origin : Origin) → IsFound (collected_findings inside) origin → AreReachedNumbers inside → (bits : Bits) (number : ℕ)
+      → target_of (collected_findings late) origin bits number → IsReachedNumber late number
+  reached_behind None found reached bits number right = from_start bits number right
+  reached_behind (Some state) found reached bits number right = from_set state bits number (still_reached state (reached state found)) right
+
   -- what is collected can be handed on
   valid_roots : All (IsValid inside.inner.nodes) roots
   valid_roots k d within = (followed (get_or roots k d) (k, within, get_or_default roots k (get_or roots k d) d within)).valid
@@ -212,7 +236,7 @@ module _ (inside : Subsetting) (ready : IsReadyForSets inside) (store : IsStore 
   handable = is_handable collected builds
 
   -- the origin from which the roots lead
-  module _ (origin : Origin) (found : IsFound (collected_findings late) origin) (implies : Implies (SetNumber inner.nodes sets roots inside.bound) (target_of (collected_findings late) origin))
+  module _ (origin : Origin) (found_before : IsFound (collected_findings inside) origin) (implies : Implies (SetNumber inner.nodes sets roots inside.bound) (target_of (collected_findings late) origin))
       (rest_target : Target) (rest_is : (bits : Bits) (number : ℕ) → target_of (collected_findings late) origin (read_through inside.back bits) number → rest_target bits number) where
     weaker : Implies (SetNumber inside.inner.nodes sets roots inside.bound) (target_of (collected_findings late) origin)
     weaker bits number right = implies bits number (
@@ -228,7 +252,16 @@ module _ (inside : Subsetting) (ready : IsReadyForSets inside) (store : IsStore 
     collected_grows =
         let built = Builds-implies inside.inner inner (SetNumber inside.inner.nodes sets roots inside.bound) (target_of (collected_findings late) origin) (LacksSet inside.inner.nodes sets roots inside.bound)
         (LacksSet inside.inner.nodes sets roots inside.bound) weaker (λ lacks. lacks) collected builds in
-        GrowsForSome-one inside.inner inner (collected_findings late) origin found built.grows
+        GrowsForSome-one inside.inner inner (collected_findings late) origin (found_late origin found_before) built.grows
+
+    all_reached : AreReachedNumbers inside → AreReachedNumbers late
+    all_reached reached number within = ⊎_elim
+        (λ before. still_reached number (reached number before))
+        (λ behind.
+        let held = slice_get-held sets number within in
+        let has = added number held.0 behind held.1 in
+        reached_behind origin found_before reached has.0 number (weaker has.0 number (held.0, held.1, has.1)))
+        (cases_lt number (length inside.sets))
 
     pub later : IsLaterSubsetting inside late
     later = record {
@@ -238,6 +271,7 @@ module _ (inside : Subsetting) (ready : IsReadyForSets inside) (store : IsStore 
       more_collected = more_collected;
       grows = λ was. collected_grows;
       ready = λ was. ready_late;
+      reached = all_reached;
     }
 
     -- and what is handed on leads where it should

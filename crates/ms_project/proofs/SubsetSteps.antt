@@ -98,13 +98,13 @@ module _ (inside seen : Subsetting) (same : inside ≡ seen) (seen_ready : IsRea
         pub next_later : IsLaterSubsetting seen after_next
         next_later = subst (λ v. IsLaterSubsetting v after_next) same
             (later inside ready store is_in_letters roots own_followed inner sets collected builds extends added numbering
-            (Some state) (slice_get_within sets state set held_later) implies_own (sets_behind (paired after_next) inside.back inside.bound sets (slice_get sets state))
+            (Some state) (slice_get_within inside.sets state set held) implies_own (sets_behind (paired after_next) inside.back inside.bound sets (slice_get sets state))
             (λ bits number right. at_behind (paired after_next) inside.back inside.bound sets (slice_get sets state) bits number right))
 
         pub next_builds : (back : List ℕ) → back ≡ inside.back → (old new : Contents) (result : Result Ref StepFault) → IsStore old.nodes old.limit → IsHanded old new inner.nodes back collected result
             → Builds old new (sets_behind (paired after_next) inside.back inside.bound sets (slice_get sets state)) (IsFullWithin after_next) result
         next_builds back is old new result is_store was =
             handed inside ready store is_in_letters roots own_followed inner sets collected builds extends added numbering
-            (Some state) (slice_get_within sets state set held_later) implies_own (sets_behind (paired after_next) inside.back inside.bound sets (slice_get sets state))
+            (Some state) (slice_get_within inside.sets state set held) implies_own (sets_behind (paired after_next) inside.back inside.bound sets (slice_get sets state))
             (λ bits number right. at_behind (paired after_next) inside.back inside.bound sets (slice_get sets state) bits number right)
             old new result is_store (subst (λ b. IsHanded old new inner.nodes b collected result) is was)

@@ -78,6 +78,16 @@ abbrev pub MembersAreStates : List State → List (List ℕ) → Type 0
 MembersAreStates states sets =
     (number : ℕ) (set : List ℕ) → slice_get sets number ≡ Some set → (member : ℕ) → Contains set member → member < length states
 
+-- words reach the set of this number: bits over all places lead to it from the start, or from a set that words reach
+pub data IsReachedNumber (v : Subsetting) : ℕ → Type 0 where
+  from_start : (bits : Bits) (number : ℕ) → sets_at_start (paired v) v.bound v.sets bits number → IsReachedNumber v number
+  from_set :
+      (before : ℕ) (bits : Bits) (number : ℕ) → IsReachedNumber v before → sets_at (paired v) v.bound v.sets (slice_get v.sets before) bits number
+      → IsReachedNumber v number
+
+abbrev pub AreReachedNumbers : Subsetting → Type 0
+AreReachedNumbers v = (number : ℕ) → number < length v.sets → IsReachedNumber v number
+
 -- the states lead to states, and the places of the rest rise
 pub record IsReadyForSets (v : Subsetting) : Type 0 where
   pub closed : IsClosed (paired v)
@@ -98,6 +108,7 @@ pub record IsLaterSubsetting (early late : Subsetting) : Type 0 where
   pub more_collected : AreMore (collected_findings early) (collected_findings late)
   pub grows : IsStore early.inner.nodes early.inner.limit → GrowsForSome early.inner late.inner (collected_findings late)
   pub ready : IsReadyForSets early → IsReadyForSets late
+  pub reached : AreReachedNumbers early → AreReachedNumbers late
 
 -- what a store is handed: the diagram that another has collected, over the places of the rest, or the refusal of the other
 abbrev pub IsHanded : Contents → Contents → List Node → List ℕ → Result Ref StepFault → Result Ref StepFault → Type 0
@@ -123,13 +134,14 @@ pub record AreSetsFound (v : Subsetting) (held : Contents) (start : Ref) (states
   pub all : length states ≡ length v.sets
   pub follows : Follows held.nodes (subset_findings v) states
 
--- the nodes of both stores and the sets are together at least so many; the nodes behind those that one began with are needed
--- for sets that have been found
+-- the nodes of both stores and the sets are together at least so many; words reach each of the sets, and the nodes behind those
+-- that one began with are needed for sets that have been found
 pub record SetsAreAtLeast (count : ℕ) (begun_with : Subsetting) : Type 0 where
   pub found : Subsetting
   pub later : IsLaterSubsetting begun_with found
   pub numbering : IsSetNumbering found.sets
   pub members : MembersAreStates found.states found.sets
+  pub reached : AreReachedNumbers found
   pub outer : List Node
   pub ordered : IsOrdered outer
   pub reduced : IsReduced outer

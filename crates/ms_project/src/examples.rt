@@ -3,9 +3,10 @@ ghost use Rattle.ms_diagram.specs.Numbering.{AreOwnPairs};
 ghost use Rattle.ms_logic.specs.declared.mode.Mode.TheVariants.{M2lStr, Ws1s};
 ghost use Rattle.ms_logic.specs.declared.mode.Quant.TheVariants.{All, Ex};
 ghost use Rattle.ms_logic_words.specs.declared.sign.Sign.TheVariants.{No, Outside, Undefined, Yes};
-ghost use Rattle.ms_project.specs.inner.Examples.{everywhere, number_and_set, only_set};
+ghost use Rattle.ms_project.specs.inner.Examples.{everywhere, number_and_set, of_one_state, only_set};
 ghost use Rattle.ms_project.specs.Marks.{can_be_empty, marks_of, sign_by};
 ghost use Rattle.ms_project.specs.Paired.{IsTruth};
+ghost use Rattle.ms_project.specs.Subsetting.{IsReachedNumber};
 ghost use Rattle.ms_logic.specs.Lists.{without};
 ghost use Rattle.ms_quotient.specs.Closure.{no_marks};
 
@@ -41,4 +42,11 @@ pub fn worked_truth()
     ensures own { AreOwnPairs 2 ((0, 0) ∷ (1, 0) ∷ []) }
     ensures too_many { ¬ AreOwnPairs 1 ((0, 0) ∷ (1, 0) ∷ []) }
     ensures turned_round { ¬ AreOwnPairs 2 ((1, 0) ∷ (0, 0) ∷ []) }
+{}
+
+/// Where one state is all that is reached, words lead to the set of it alone.
+pub fn worked_sets()
+    ensures alone { IsReachedNumber (of_one_state ((0 ∷ []) ∷ [])) 0 }
+    ensures no_set { ¬ IsReachedNumber (of_one_state ((0 ∷ []) ∷ [])) 1 }
+    ensures no_state { ¬ IsReachedNumber (of_one_state ((0 ∷ []) ∷ (0 ∷ 1 ∷ []) ∷ [])) 1 }
 {}

@@ -12,6 +12,6 @@ mod search;
 mod signs;
 mod subsets;
 
-pub use examples::{worked_marks, worked_quantifiers, worked_truth};
+pub use examples::{worked_marks, worked_quantifiers, worked_sets, worked_truth};
 pub use quantifier::Quantifier;
 pub use quantify::project;

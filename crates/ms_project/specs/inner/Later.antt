@@ -59,6 +59,7 @@ subsetting_later_itself v = record {
   more_collected = AreMore-same (collected_findings v);
   grows = λ store. GrowsForSome-none v.inner (collected_findings v) store;
   ready = λ ready. ready;
+  reached = λ reached. reached;
 }
 
 pub subsetting_later_later : (one two three : Subsetting) → IsLaterSubsetting one two → IsLaterSubsetting two three → IsLaterSubsetting one three
@@ -71,6 +72,7 @@ subsetting_later_later one two three first second = record {
       let begun = first.grows store in
       GrowsForSome-further (collected_findings two) (collected_findings three) second.more_collected one.inner two.inner three.inner begun (second.grows begun.store);
   ready = λ ready. second.ready (first.ready ready);
+  reached = λ reached. second.reached (first.reached reached);
 }
 
 pub subsetting_later_findings : (early late : Subsetting) → IsLaterSubsetting early late → AreMore (subset_findings early) (subset_findings late)

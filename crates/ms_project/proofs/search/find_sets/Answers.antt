@@ -1,4 +1,4 @@
-use Rattle.std.proofs.Common.{ℕ, List, subst, ◌∙◌, arith}
+use Rattle.std.proofs.Common.{ℕ, List, refl, subst, ◌∙◌, arith}
 use Rattle.ms_project.specs.declared.search.SetsFound.{SetsFound}
 use Rattle.ms_project.specs.Subsetting.{Subsetting, IsLaterSubsetting, begun}
 use Rattle.ms_project.proofs.SearchSteps.{refused_sets}
@@ -9,7 +9,7 @@ returns-in-Err-clause-nodes c =
     let at_first : Subsetting = begun c.args.body.now c.args.paired.store c.args.paired.start c.args.paired.states c.args.bound c.args.back in
     let seen = c.explore-explored.new.machine.subsets in
     let later = subst (λ (sets : List (List ℕ)). IsLaterSubsetting (record at_first { sets = sets }) seen) c.new.ensures c.explore-explored.ensures.later in
-    refused_sets SetsFound at_first _ seen c.subsets.view_is later c.requires.ready c.len.ensures.store c.new-store.result c.explore-explored.new.store
+    refused_sets SetsFound at_first _ seen c.subsets.view_is later c.requires.ready refl c.len.ensures.store c.new-store.result c.explore-explored.new.store
     c.new-store.ensures.empty (c.new-store.ensures.limit ∙ c.limit.ensures) c.len-2.ensures.numbering c.explore-explored.new.states c.in-Err.fault c.in-Err.ensures.explored
 
 pub returns-clause-within : goal.returns-clause-within
