@@ -1,0 +1,9 @@
+pub mod Budgets
+pub mod Few
+pub mod Given
+pub mod Matches
+pub mod Needed
+pub mod Places
+pub mod Reading
+pub mod Sets
+pub mod Words
