@@ -1,19 +1,17 @@
 -- The body of a quantifier, over more variables, lacks nodes only below a budget that counts the parts of two contents which fix its states.
-use Rattle.std.proofs.Common.{◌≡◌, ℕ, ◌+◌, ◌*◌, ◌<◌, ◌≤◌, ⊎_elim, inl, inr, List, subst, sym, arith}
+use Rattle.std.proofs.Common.{◌≡◌, ℕ, ◌+◌, ◌*◌, ◌<◌, ◌≤◌, ⊎_elim, inl, inr, List, slice_get, ap, subst, sym, ◌∙◌, arith}
+use Rattle.std.proofs.lemmas.Option.{same_Some}
 use Rattle.std.proofs.Math.Nat.{mul-le-mul}
 use Rattle.ms_build.specs.Short.{ChildLacks, IsWideShort}
 use Rattle.ms_build.specs.declared.plan.Plan.{Plan}
-use Rattle.ms_build.proofs.PartLemmas.{one_by_place}
-use Rattle.ms_dag.specs.Dag.{IsChild}
 use Rattle.ms_dag.specs.declared.node.Child.{Child}
-use Rattle.ms_dfa_explore.specs.Tracks.{merged}
-use Rattle.ms_dfa_explore.proofs.TracksLemmas.{merged-left, merged-right, merged-rising}
+use Rattle.ms_dfa_explore.specs.Tracks.{merged, place_of}
+use Rattle.ms_dfa_explore.proofs.TracksLemmas.{merged-left, merged-right, merged-rising, place_of-among}
 use Rattle.ms_logic.specs.Assignment.{Variable}
 use Rattle.ms_logic.specs.Lists.{AreRising, IsAmong}
-use Rattle.ms_logic.specs.declared.mode.Order.{Order}
 use Rattle.ms_logic_measures.specs.Budgets.{budget}
 use Rattle.ms_logic_measures.specs.FullContent.{part_count}
-use Rattle.ms_logic_words.specs.Content.{Content, variables_by_place}
+use Rattle.ms_logic_words.specs.Content.{Content}
 use Rattle.ms_logic_words.specs.declared.sign.Sign.{Sign}
 use Rattle.ms_product.specs.Combined.{HaveEqualOrders}
 use Rattle.ms_product.specs.Pairing.{AreAtLeast, HaveRisingMaps, operands_of}
@@ -70,21 +68,19 @@ fixed_widenings_are_below limit wide content encodings next rising equal fixed s
         let below = pairs_are_below (part_count content) (part_count encodings) (part_count other) m r read (omega (arith, few)) in
         omega (arith, needs, below)
 
--- its variables are among those that are wanted
-pub wide_among : (plan : Plan) (child : Child) (outer : List Order) (i : ℕ) → IsChild plan.dag.now.entries i outer child
-    → (lacks : ChildLacks plan child (variables_by_place outer)) → (v : Variable) → IsAmong lacks.short.wide.variables v → IsAmong (variables_by_place outer) v
-wide_among plan child outer i is_child lacks v there = ⊎_elim
-    (λ inner. (lacks.is_part.brought outer is_child.ordered).among v inner)
-    (λ more. lacks.short.among v (inl more))
-    ((lacks.short.is_wide.variables v).0 there)
+-- two lists of variables among rising ones have no two variables of one number
+equal_among : (wanted left right : List Variable) → AreRising wanted → ((v : Variable) → IsAmong left v → IsAmong wanted v) → ((v : Variable) → IsAmong right v → IsAmong wanted v) → HaveEqualOrders left right
+equal_among wanted left right rising left_among right_among v w is also same =
+    same_Some v w (sym (place_of-among wanted v rising (left_among v is)) ∙ ap (λ n. slice_get wanted (place_of n wanted)) same ∙ place_of-among wanted w rising (right_among w also))
 
--- so the body of a quantifier, over more variables, lacks nodes only under a limit below each such budget, where two contents fix the
--- states of its automaton over some of these variables
-pub fixed_children_are_below : (plan : Plan) (child : Child) (outer : List Order) (i : ℕ) → IsChild plan.dag.now.entries i outer child
-    → (lacks : ChildLacks plan child (variables_by_place outer)) → (content encodings : Content Sign) → IsFixedBy lacks.short.wide content encodings
-    → (m r : ℕ) → r ≡ part_count content + part_count encodings → plan.limit < budget m r
-fixed_children_are_below plan child outer i is_child lacks content encodings fixed m r read =
-    fixed_widenings_are_below plan.limit lacks.short.wide content encodings lacks.short.next lacks.short.automaton.rising equal fixed lacks.short.short m r read
-  where
-    equal : HaveEqualOrders lacks.short.wide.variables lacks.short.next
-    equal = one_by_place outer lacks.short.wide.variables lacks.short.next (wide_among plan child outer i is_child lacks) (λ v there. lacks.short.among v (inr there))
+-- a child that lacks nodes on the way to variables among which its own are
+module _ (plan : Plan) (child : Child) (wanted : List Variable) (rising : AreRising wanted) (lacks : ChildLacks plan child wanted) (part_among : (v : Variable) → IsAmong lacks.part.variables v → IsAmong wanted v) where
+  pub wide_among : (v : Variable) → IsAmong lacks.short.wide.variables v → IsAmong wanted v
+  wide_among v there = ⊎_elim (λ inner. part_among v inner) (λ more. lacks.short.among v (inl more)) ((lacks.short.is_wide.variables v).0 there)
+
+  -- it lacks them only under a limit below each such budget, where two contents fix the states of its automaton over some of these
+  -- variables
+  pub fixed_children_are_below : (content encodings : Content Sign) → IsFixedBy lacks.short.wide content encodings → (m r : ℕ) → r ≡ part_count content + part_count encodings → plan.limit < budget m r
+  fixed_children_are_below content encodings fixed m r read =
+      fixed_widenings_are_below plan.limit lacks.short.wide content encodings lacks.short.next lacks.short.automaton.rising
+      (equal_among wanted lacks.short.wide.variables lacks.short.next rising wide_among (λ v there. lacks.short.among v (inr there))) fixed lacks.short.short m r read

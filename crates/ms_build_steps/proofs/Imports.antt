@@ -42,7 +42,9 @@ use Rattle.ms_logic_words.specs.declared.sign.Sign.{Sign}
 use Rattle.ms_rename.specs.Renamed.{NeedsAtLeast, renamed_places}
 use Rattle.ms_rename.proofs.RenamedLemmas.{HasValues-same}
 use Rattle.ms_rename_parts.proofs.RenameParts.{renamings_are_within_budget}
-use Rattle.ms_build_steps.specs.Laws.{ImportsAreBelowTheirSteps, IsBelowStep}
+use Rattle.ms_build_steps.specs.Kinds.{IsBelowStep}
+use Rattle.ms_build_steps.specs.Laws.{ImportsAreBelowTheirSteps}
+use Rattle.ms_build_steps.proofs.StepKinds.{below_itself, itself_there}
 use Rattle.ms_build_steps.proofs.Lists.{all_at}
 use Rattle.ms_build_steps.proofs.Moved.{places_under_names}
 use Rattle.ms_build_steps.proofs.NodeSigns.{says_the_same}
@@ -194,8 +196,9 @@ imports_are_below_their_steps imports calls lowered plan number root f names i e
         let variables_are = subst (λ (c : Content Sign). c.variables ≡ variables_by_place lent.3.0) same lent.3.1 in (
           import_at import (picked names xs),
           steps,
-          subst (λ us. IsBelow us (import_at import (picked names xs))) is.imports_are
+          below_itself imports plan.mode plan.limit (import_at import (picked names xs)) itself_there
+              (subst (λ us. IsBelow us (import_at import (picked names xs))) is.imports_are
               (below_budget plan.imports.now plan.mode import short.content few.0 short.here short.automaton mode_is lent.3.0 variables_are few.1
-              entry.orders names xs occurs.rising long lent.3.2 plan.limit few.2),
+              entry.orders names xs occurs.rising long lent.3.2 plan.limit few.2)),
         ))
         short.short

@@ -34,7 +34,9 @@ use Rattle.ms_logic_starts.proofs.RisingLemmas.{rising_distinct}
 use Rattle.ms_logic_words.specs.Content.{Content}
 use Rattle.ms_logic_words.specs.declared.sign.Sign.{Sign}
 use Rattle.ms_product.specs.Pairing.{AreAtLeast, operands_of}
-use Rattle.ms_build_steps.specs.Laws.{IsBelowStep, IsPlanned, ListsAreWithinBudget, connect_of}
+use Rattle.ms_build_steps.specs.Kinds.{IsBelowStep}
+use Rattle.ms_build_steps.specs.Laws.{IsPlanned, ListsAreWithinBudget, connect_of}
+use Rattle.ms_build_steps.proofs.StepKinds.{below_itself, itself_there}
 use Rattle.ms_build_steps.proofs.ManyMeanings.{many_means}
 use Rattle.ms_build_steps.proofs.ManyVariables.{AreOfPlaces, IsOperandOf, are_named, free_through, have_each}
 use Rattle.ms_build_steps.proofs.NodeSigns.{says_the_same}
@@ -53,7 +55,7 @@ module _ {A B : Type 0} (R : A → B → Type 0) where
   zip_take (x ∷ xs) (y ∷ ys) zero zipped = tt
   zip_take (x ∷ xs) (y ∷ ys) (suc n) zipped = (zipped.0, zip_take xs ys n zipped.1)
 
-  zip_at : (xs : List A) (ys : List B) → AllZip R xs ys → (k : ℕ) (y : B) → slice_get ys k ≡ Some y → (x : A) × (slice_get xs k ≡ Some x) × R x y
+  pub zip_at : (xs : List A) (ys : List B) → AllZip R xs ys → (k : ℕ) (y : B) → slice_get ys k ≡ Some y → (x : A) × (slice_get xs k ≡ Some x) × R x y
   zip_at xs [] zipped k y held = absurd (none-some y held)
   zip_at [] (z ∷ ys) zipped k y held = absurd zipped
   zip_at (x ∷ xs) (z ∷ ys) zipped zero y held = (x, refl, subst (R x) (same_Some z y held) zipped.0)
@@ -194,11 +196,13 @@ lists_are_within_budget imports calls lowered plan number root names many childr
         let alone = first.alone refl in (
           connective (connected (connect_of many) (take 1 steps.operands)) each.0.next,
           each.1,
-          first_with_next imports calls lowered plan is number root is_root names many children i outer rising long steps are_children each.0 alone.0 lacks.child lacks.one lacks.other alone.1 here alone.2 lacks.is_next lacks.short,
+          below_itself imports plan.mode plan.limit (connective (connected (connect_of many) (take 1 steps.operands)) each.0.next) itself_there
+              (first_with_next imports calls lowered plan is number root is_root names many children i outer rising long steps are_children each.0 alone.0 lacks.child lacks.one lacks.other alone.1 here alone.2 lacks.is_next lacks.short),
         )
     by (suc (suc k)) some here first =
         let each = steps.each (suc k) (slice_get_within children (suc (suc k)) lacks.child here) in (
           connective (connected (connect_of many) (take (suc (suc k)) steps.operands)) each.0.next,
           each.1,
-          more_with_next imports calls lowered plan is number root is_root names many children i outer rising long steps are_children k each.0 lacks.one first lacks.child lacks.other here lacks.is_next lacks.short,
+          below_itself imports plan.mode plan.limit (connective (connected (connect_of many) (take (suc (suc k)) steps.operands)) each.0.next) itself_there
+              (more_with_next imports calls lowered plan is number root is_root names many children i outer rising long steps are_children k each.0 lacks.one first lacks.child lacks.other here lacks.is_next lacks.short),
         )

@@ -1,6 +1,6 @@
--- The connective of the children of a list has the value of that of the operands which they are.
+-- A child has the value of the operand that it is, and the connective of the children of a list that of their connective.
 use Rattle.std.proofs.Common.{ℕ, List, [], ◌∷◌, refl, sym}
-use Rattle.ms_build.specs.Built.{ManyNo, ManyYes, many_meaning}
+use Rattle.ms_build.specs.Built.{ChildNo, ChildYes, ManyNo, ManyYes, child_meaning, many_meaning}
 use Rattle.ms_build.specs.declared.plan.Many.{Many}
 use Rattle.ms_build.specs.declared.plan.Many.TheVariants.{All, Any}
 use Rattle.ms_build.proofs.ChildLemmas.{value_through}
@@ -36,6 +36,14 @@ module _ (imports : List Import) (entries : List Entry) (orders : List Order) (n
       let law = node_has_value_of_formula imports entries orders f (picked names child.map) child.node (read_through child.map (read_through names c)) c have read.1
       (ReadsAs-child orders names child.map (read_through names c) c own read.0.within) in
       record { yes_to = λ h. law.0.0 h; yes_from = λ h. law.0.1 h; no_to = λ h. law.1.0 h; no_from = λ h. law.1.1 h }
+
+  -- a child has the value of the formula that it is
+  pub child_means : (f : CoreForm) (child : Child) → HaveTheirOrders imports orders f → ReadAs (λ given j. Unfolds entries f given j) names i child
+      → (c : Env) (sign : Sign) → child_meaning imports entries child (read_through names c) sign → core_meaning imports f c sign
+  child_means f child have read c sign =
+      let same = child_same c f child have read in
+      sign_moves (λ there. ChildYes imports entries child (read_through names there)) (λ there. ChildNo imports entries child (read_through names there)) (CoreYes imports f) (CoreNo imports f) c
+      same.yes_to same.no_to same.yes_from same.no_from sign
 
   forms_same : (c : Env) (fs : CoreForms) (children : List Child) → EachHasItsOrders imports orders fs → UnfoldEach entries fs names i children
       → SameOfEach (EachIs Y children (read_through names c)) (EachIs N children (read_through names c)) (EachIsDefined Y N children (read_through names c)) (SomeIs Y children (read_through names c))

@@ -23,7 +23,9 @@ use Rattle.ms_logic_core.specs.declared.core_formula.Lowered.{Lowered}
 use Rattle.ms_logic_core.specs.declared.core_formula.Root.{Root}
 use Rattle.ms_logic_measures.specs.Steps.{connective}
 use Rattle.ms_product.specs.declared.op.Op.TheVariants as op_of
-use Rattle.ms_build_steps.specs.Laws.{IsBelowStep, IsPlanned, IsPlainForm, PlainNodesAreBelowTheirSteps}
+use Rattle.ms_build_steps.specs.Kinds.{IsBelowStep}
+use Rattle.ms_build_steps.specs.Laws.{IsPlanned, IsPlainForm, PlainNodesAreBelowTheirSteps}
+use Rattle.ms_build_steps.proofs.StepKinds.{below_itself, itself_there}
 use Rattle.ms_build_steps.proofs.Lists.{lists_are_within_budget}
 use Rattle.ms_build_steps.proofs.Pairs.{connectives_are_within_budget}
 use Rattle.ms_build_steps.proofs.Relations.{relations_are_below_their_steps}
@@ -59,14 +61,16 @@ module _ (imports : List Imported) (calls : Calls) (lowered : Lowered) (plan : P
       let second = All-head (IsChild entries i orders) d [] (All-tail (IsChild entries i orders) c (d ∷ []) children) in (
         connective steps.0 steps.1,
         steps.4,
-        λ files m r measure. connectives_are_within_budget imports calls lowered plan number root names op_of.Implies c d steps.0 steps.1 i orders is is_root steps.2 steps.3 first second lacks files m r measure,
+        below_itself imports plan.mode plan.limit (connective steps.0 steps.1) itself_there
+            (connectives_are_within_budget imports calls lowered plan number root names op_of.Implies c d steps.0 steps.1 i orders is is_root steps.2 steps.3 first second lacks),
       )
   by_form (Iff c d) plain steps children own lacks =
       let first = All-head (IsChild entries i orders) c (d ∷ []) children in
       let second = All-head (IsChild entries i orders) d [] (All-tail (IsChild entries i orders) c (d ∷ []) children) in (
         connective steps.0 steps.1,
         steps.4,
-        λ files m r measure. connectives_are_within_budget imports calls lowered plan number root names op_of.Iff c d steps.0 steps.1 i orders is is_root steps.2 steps.3 first second lacks files m r measure,
+        below_itself imports plan.mode plan.limit (connective steps.0 steps.1) itself_there
+            (connectives_are_within_budget imports calls lowered plan number root names op_of.Iff c d steps.0 steps.1 i orders is is_root steps.2 steps.3 first second lacks),
       )
   by_form (Restrict c) plain steps children own lacks = absurd lacks
   by_form (Import n xs) plain steps children own lacks = absurd plain

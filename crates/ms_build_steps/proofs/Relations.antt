@@ -11,6 +11,7 @@ use Rattle.ms_logic_core.specs.declared.core_formula.Basic.{Basic}
 use Rattle.ms_logic_core.specs.declared.core_formula.Basic.TheVariants.{Truth, Number, Plus, Less, Member, Sub, Union, Inter, Diff, Up, Down, Min, Max, Bits}
 use Rattle.ms_logic_measures.specs.Steps.{relation}
 use Rattle.ms_build_steps.specs.Laws.{RelationsAreBelowTheirSteps}
+use Rattle.ms_build_steps.proofs.StepKinds.{below_itself, itself_there}
 
 module _ (names : List ℕ) (rising : IsStrictlyIncreasing names) where
   abbrev name : ℕ → ℕ
@@ -57,8 +58,9 @@ pub relations_are_below_their_steps : RelationsAreBelowTheirSteps
 relations_are_below_their_steps imports whole plan orders names i b rising below steps lacks = (
   relation (renamed (slice_index names) b),
   steps,
-  λ files m r measure.
+  below_itself imports plan.mode plan.limit (relation (renamed (slice_index names) b)) itself_there
+      (λ files m r measure.
       let own = same_states names rising b below in
       let needs = relations_are_within_budget plan.mode (renamed (slice_index names) b) m r measure in
-      omega (arith, own, needs, lacks),
+      omega (arith, own, needs, lacks)),
 )

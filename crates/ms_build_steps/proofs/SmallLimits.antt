@@ -7,6 +7,7 @@ use Rattle.ms_logic_core.specs.Operands.{variable}
 use Rattle.ms_logic_measures.specs.Budgets.{budget}
 use Rattle.ms_logic_measures.specs.Steps.{Step, constant, of_one, relation, connective, binding, import_at, steps_among, steps_in, steps_of, steps_of_list}
 use Rattle.ms_build_steps.specs.Laws.{SmallLimitsAreBelowSteps}
+use Rattle.ms_build_steps.proofs.StepKinds.{some_kind}
 
 abbrev HasStep : List Step → Type 0
 HasStep steps = (step : Step) × Contains steps step
@@ -40,4 +41,6 @@ large m r =
 
 pub small_limits_are_below_steps : SmallLimitsAreBelowSteps
 small_limits_are_below_steps imports mode f limit small =
-    let one = some_step f in (one.0, one.1, λ files m r measure. let enough = large m r in omega (arith, small, enough))
+    let one = some_step f in
+    let kind = some_kind one.0 in
+    (one.0, one.1, record { kind = kind.0; has = kind.1; below = λ files m r measure. let enough = large m r in omega (arith, small, enough) })

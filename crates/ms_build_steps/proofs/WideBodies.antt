@@ -1,8 +1,6 @@
 -- The automaton of a body over some more variables has its states fixed by the full content of the body's formula and by a content that
 -- tells which words encode an assignment of all variables that are wanted.
-use Rattle.std.proofs.Common.{◌≡◌, ◌≢◌, ℕ, ◌⊎◌, ◌↔◌, ⊎_elim, inl, Bool, false, if◌then◌else◌, List, [], ◌∷◌, length, map, replicate, slice_get, Option, Some, None, refl, sym, ap, subst, ◌∙◌}
-use Rattle.std.proofs.lemmas.List.{length-replicate}
-use Rattle.ms_arena.specs.Diagram.{leaf_of}
+use Rattle.std.proofs.Common.{◌≡◌, ◌≢◌, ℕ, ◌⊎◌, ◌↔◌, ⊎_elim, inl, Bool, List, [], ◌∷◌, Some, sym, ap, subst, ◌∙◌}
 use Rattle.ms_build.specs.Wider.{IsWider}
 use Rattle.ms_build_parts.proofs.Matching.{over_same}
 use Rattle.ms_dfa.specs.Automaton.{IsAutomaton}
@@ -15,9 +13,8 @@ use Rattle.ms_list.specs.declared.word.Word.{Word}
 use Rattle.ms_logic.specs.Assignment.{IsAssignment, Variable}
 use Rattle.ms_logic.specs.Lists.{AreRising, IsAmong}
 use Rattle.ms_logic.specs.declared.mode.Mode.{Mode}
-use Rattle.ms_logic.specs.declared.mode.Order.{Order}
 use Rattle.ms_logic_words.specs.Canonical.{IsCanonical}
-use Rattle.ms_logic_words.specs.Content.{AreLetters, Content, IsClosed, IsWordOver, StateOf, bits_at, count_of, first_state, head_bit, is_in_letters, is_truth_value, last_state, next_from, next_state, padded, sign_at, sign_of, state_after, tail_bits}
+use Rattle.ms_logic_words.specs.Content.{Content, IsWordOver, sign_of}
 use Rattle.ms_logic_words.specs.Word.{IsEncoding}
 use Rattle.ms_logic_words.specs.declared.sign.Sign.{Sign}
 use Rattle.ms_logic_words.specs.declared.sign.Sign.TheVariants.{Outside}
@@ -26,24 +23,9 @@ use Rattle.ms_logic_words.proofs.DecodedWords.{encodings_are}
 use Rattle.ms_minim.specs.Residual.{AreReached, HaveDifferentResiduals, IsLeast}
 use Rattle.ms_minim_canonical.proofs.ContentLemmas.{IsClosed-content}
 use Rattle.ms_wider_parts.specs.Fixed.{IsFixedBy}
-use Rattle.ms_build_steps.proofs.Operands.{closed_least}
+use Rattle.ms_build_steps.proofs.SameParts.{closed_same, orders_of, over, parts_differ, parts_reached, sign_same}
 use Rattle.ms_build_steps.proofs.Sides.{IsSide, is_own}
 use Rattle.ms_build_steps.proofs.WideResiduals.{IsSaidBy, said_fixes}
-
-abbrev pub orders_of : List Variable → List Order
-orders_of vs = map (λ (v : Variable). v.order) vs
-
--- padded bits depend on the orders of the variables alone
-padded_same : (has_value : Order → Bool) (one other : List Variable) (values : List Bool) → orders_of other ≡ orders_of one → padded has_value other values ≡ padded has_value one values
-padded_same has_value [] [] values same = refl
-padded_same has_value [] (w ∷ ws) values same = cc
-padded_same has_value (v ∷ vs) [] values same = cc
-padded_same has_value (v ∷ vs) (w ∷ ws) values same =
-    let first : w.order ≡ v.order = cc in
-    let more : orders_of ws ≡ orders_of vs = cc in
-    ap (λ o. if has_value o then head_bit values ∷ padded has_value ws (tail_bits values) else false ∷ padded has_value ws values) first
-    ∙ ap (λ (rest : List Bool). if has_value v.order then head_bit values ∷ rest else false ∷ padded has_value ws values) (padded_same has_value vs ws (tail_bits values) more)
-    ∙ ap (λ (rest : List Bool). if has_value v.order then head_bit values ∷ padded has_value vs (tail_bits values) else false ∷ rest) (padded_same has_value vs ws values more)
 
 -- and so does whether a word encodes an assignment
 one_bit_same : (letters : List (List Bool)) (column : ℕ) (one other : List Variable) → orders_of other ≡ orders_of one → HaveOneBit letters column one → HaveOneBit letters column other
@@ -63,52 +45,6 @@ encoding_same mode mode' one other same rising also word encoding =
     let is = (encodings_are mode one word rising).0 encoding in
     (encodings_are mode' other word also).1 (over_same one other word same is.0, one_bit_same word.letters 0 one other same is.1)
 
--- the parts of a content, over other variables of the same orders
-abbrev pub over : Mode → List Variable → Content Sign → Content Sign
-over mode us content = record { mode = mode; variables = us; start = content.start; states = content.states; nodes = content.nodes }
-
-module _ (content : Content Sign) (mode : Mode) (us : List Variable) (same : orders_of us ≡ orders_of content.variables) where
-  next_same : (found : Option (StateOf Sign)) (letter : List Bool) → next_from (over mode us content) found letter ≡ next_from content found letter
-  next_same None letter = refl
-  next_same (Some state) letter = ap (λ bits. leaf_of content.nodes state.next (bits_at bits)) (padded_same is_in_letters content.variables us letter same)
-
-  after_same : (letters : List (List Bool)) (state : ℕ) → state_after (over mode us content) state letters ≡ state_after content state letters
-  after_same [] state = refl
-  after_same (letter ∷ letters) state =
-      after_same letters (next_state (over mode us content) state letter)
-      ∙ ap (λ s. state_after content s letters) (next_same (slice_get content.states state) letter)
-
-  last_same : (word : Word) → last_state (over mode us content) word ≡ last_state content word
-  last_same word =
-      after_same word.letters (first_state (over mode us content) word.truth)
-      ∙ ap (λ bits. state_after content (leaf_of content.nodes content.start (bits_at bits)) word.letters) (padded_same is_truth_value content.variables us word.truth same)
-
-  sign_same : (word : Word) → sign_of (over mode us content) word ≡ sign_of content word
-  sign_same word = ap (sign_at content) (last_same word)
-
-  reached_same : AreReached content → AreReached (over mode us content)
-  reached_same reached state within =
-      let found = reached state within in
-      (found.0, over_same content.variables us found.0 same found.1, last_same found.0 ∙ found.2)
-
-  letters_same : (letters : List (List Bool)) → AreLetters content.variables letters → AreLetters us letters
-  letters_same letters are = (over_same content.variables us (record { truth = zeros; letters = letters }) same (record { truth = long; letters = are })).letters
-    where
-      zeros : List Bool
-      zeros = replicate (count_of is_truth_value content.variables) false
-
-      long : length zeros ≡ count_of is_truth_value content.variables
-      long = length-replicate (count_of is_truth_value content.variables) false
-
-  differ_same : HaveDifferentResiduals content → HaveDifferentResiduals (over mode us content)
-  differ_same differ one other first second equal = differ one other first second (λ letters are.
-      ap (sign_at content) (sym (after_same letters one))
-      ∙ equal letters (letters_same letters are)
-      ∙ ap (sign_at content) (after_same letters other))
-
-  closed_same : IsClosed content → IsClosed (over mode us content)
-  closed_same closed = closed_least content (over mode us content) (record { start = refl; states = refl; nodes = refl }) (sym same) closed
-
 module _ (part wide content encodings : Content Sign) (side : IsSide part content) (automaton : IsAutomaton part) (added : List Variable) (is_wide : IsWider part added wide)
     (wide_is : IsAutomaton wide) (least : (wide ≡ part) ⊎ IsLeast wide)
     (wanted : List Variable) (wanted_rising : AreRising wanted) (among : (v : Variable) → IsAmong wide.variables v → IsAmong wanted v)
@@ -124,10 +60,10 @@ module _ (part wide content encodings : Content Sign) (side : IsSide part conten
   part_among v there = (is_wide.variables v).1 (inl there)
 
   part_reached : AreReached part
-  part_reached = subst AreReached (sym (is_own part content side)) (reached_same side.least part.mode us side.orders side.measured.reached)
+  part_reached = parts_reached part side.least side.parts side.orders side.measured.reached
 
   part_differ : HaveDifferentResiduals part
-  part_differ = subst HaveDifferentResiduals (sym (is_own part content side)) (differ_same side.least part.mode us side.orders side.measured.differ)
+  part_differ = parts_differ part side.least side.parts side.orders side.measured.differ
 
   own_orders : orders_of us ≡ orders_of content.variables
   own_orders = side.orders ∙ sym side.measured.same.orders

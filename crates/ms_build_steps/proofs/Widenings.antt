@@ -1,9 +1,11 @@
 -- A child that occurs in a source lacks nodes, on the way to more variables, only below each budget of the widening of its formula.
-use Rattle.std.proofs.Common.{◌≡◌, ◌≢◌, ◌↔◌, All, List, [], ◌∷◌, ◌++◌, length, Option, Some, None, sym, ap, subst, ◌∙◌, arith}
+use Rattle.std.proofs.Common.{◌≡◌, ◌≢◌, ◌↔◌, ℕ, ◌<◌, All, List, [], ◌∷◌, ◌++◌, length, Option, Some, None, sym, ap, subst, ◌∙◌, arith}
 use Rattle.std.specs.Option.{option_map}
 use Rattle.std.proofs.lemmas.List.{length_push}
 use Rattle.std.proofs.lemmas.List.Elements.{All-head, All-tail}
 use Rattle.std.proofs.lemmas.Option.{same_Some}
+use Rattle.ms_build.specs.Short.{ChildLacks}
+use Rattle.ms_build.specs.declared.plan.Plan.{Plan}
 use Rattle.ms_build.proofs.WholeLemmas.{rising-by_place}
 use Rattle.ms_build_parts.proofs.Matching.{over_same}
 use Rattle.ms_dag.specs.Dag.{IsChild, children_of, children_of_binder, orders_inside}
@@ -17,10 +19,11 @@ use Rattle.ms_dag_steps.specs.Occurrences.{variables_named, whole_formula}
 use Rattle.ms_dag_steps.proofs.StepLemmas.{nodes_have_their_steps}
 use Rattle.ms_list.specs.declared.word.Word.{Word}
 use Rattle.ms_logic.specs.Assignment.{Variable}
-use Rattle.ms_logic.specs.Lists.{AreRising}
+use Rattle.ms_logic.specs.Lists.{AreRising, IsAmong}
 use Rattle.ms_logic.specs.Truth.{Import}
 use Rattle.ms_logic.specs.declared.mode.Mode.{Mode}
 use Rattle.ms_logic_core.specs.CoreForm.{CoreForm, truth}
+use Rattle.ms_logic_measures.specs.Budgets.{IsOwnContent, IsWideningMeasure, budget}
 use Rattle.ms_logic_measures.specs.FullContent.{HasValueOn, IsFullContent}
 use Rattle.ms_logic_words.specs.Content.{Content, IsWordOver, sign_of, variables_by_place, variables_from}
 use Rattle.ms_logic_words.specs.Word.{IsEncoding}
@@ -30,8 +33,10 @@ use Rattle.ms_wider_parts.specs.Fixed.{IsFixedBy}
 use Rattle.ms_build_steps.specs.Laws.{BodiesWidenWithinBudget, WideningsAreWithinBudget}
 use Rattle.ms_build_steps.proofs.FixedWidenings.{fixed_children_are_below, wide_among}
 use Rattle.ms_build_steps.proofs.Operands.{named_rising, side}
+use Rattle.ms_build_steps.proofs.SameParts.{orders_of, over}
+use Rattle.ms_build_steps.proofs.Sides.{IsSide}
 use Rattle.ms_build_steps.proofs.Through.{named_through, through_orders}
-use Rattle.ms_build_steps.proofs.WideBodies.{bodies_are_fixed, encoding_same, orders_of, over}
+use Rattle.ms_build_steps.proofs.WideBodies.{bodies_are_fixed, encoding_same}
 
 -- the full content of a formula tells which words encode an assignment, by whatever names and in whatever mode
 module _ (imports : List Import) (mode : Mode) (ws : List Variable) (f : CoreForm) (content : Content Sign) (full : IsFullContent imports mode ws f content) (rising : AreRising ws) where
@@ -55,23 +60,31 @@ module _ (imports : List Import) (mode : Mode) (ws : List Variable) (f : CoreFor
         λ differs. encoding_same mode mode' ws wanted (sym same) rising wanted_rising word (encoded word found.0 found.1 found.2 differs),
       )
 
-pub widenings_are_within_budget : WideningsAreWithinBudget
-widenings_are_within_budget imports calls lowered plan number root names child f i outer is is_root rising long at is_child lacks m r measure =
-    fixed_children_are_below plan child outer i is_child lacks (over measure.content.mode lacks.part.variables measure.content) (over measure.encodings.mode (variables_by_place outer) measure.encodings) fixed m r measure.read
+-- a child whose automaton is measured by the full content of a formula lacks nodes, on the way to more variables, only below each budget
+-- of the widening of the formula to variables of the same orders
+pub lacking_widenings_are_below : (imports : List Import) (plan : Plan) (child : Child) (f : CoreForm) (wanted us : List Variable) → AreRising wanted → AreRising us → orders_of us ≡ orders_of wanted
+    → (lacks : ChildLacks plan child wanted) → ((v : Variable) → IsAmong lacks.part.variables v → IsAmong wanted v)
+    → ((content : Content Sign) → IsOwnContent imports plan.mode f content → IsSide lacks.part content)
+    → (m r : ℕ) → IsWideningMeasure imports plan.mode f us m r → plan.limit < budget m r
+lacking_widenings_are_below imports plan child f wanted us rising us_rise same lacks among is_side m r measure =
+    fixed_children_are_below plan child wanted rising lacks among (over measure.content.mode lacks.part.variables measure.content) (over measure.encodings.mode wanted measure.encodings) fixed m r measure.read
   where
-    same : orders_of (variables_named names outer) ≡ orders_of (variables_by_place outer)
-    same = ap (λ (vs : List Variable). orders_of vs) (named_through names outer long) ∙ through_orders names (variables_from 0 outer)
-
-    fixed : IsFixedBy lacks.short.wide (over measure.content.mode lacks.part.variables measure.content) (over measure.encodings.mode (variables_by_place outer) measure.encodings)
-    fixed = bodies_are_fixed lacks.part lacks.short.wide measure.content measure.encodings
-        (side imports calls lowered plan is number root is_root names child f at i outer is_child lacks.part lacks.is_part measure.content measure.of_formula)
-        lacks.is_part.automaton lacks.short.added lacks.short.is_wide lacks.short.automaton lacks.short.least (variables_by_place outer) (rising-by_place 0 outer)
-        (wide_among plan child outer i is_child lacks) measure.of_true.canonical
+    fixed : IsFixedBy lacks.short.wide (over measure.content.mode lacks.part.variables measure.content) (over measure.encodings.mode wanted measure.encodings)
+    fixed = bodies_are_fixed lacks.part lacks.short.wide measure.content measure.encodings (is_side measure.content measure.of_formula)
+        lacks.is_part.automaton lacks.short.added lacks.short.is_wide lacks.short.automaton lacks.short.least wanted rising
+        (wide_among plan child wanted rising lacks among) measure.of_true.canonical
         (sym same ∙ ap (λ (vs : List Variable). orders_of vs) (sym measure.of_true.same_variables))
-        (full_tells imports plan.mode (variables_named names outer) truth measure.encodings measure.of_true (named_rising names outer rising) lacks.short.wide.mode (variables_by_place outer) (rising-by_place 0 outer) same)
+        (full_tells imports plan.mode us truth measure.encodings measure.of_true us_rise lacks.short.wide.mode wanted rising same)
+
+pub widenings_are_within_budget : WideningsAreWithinBudget
+widenings_are_within_budget imports calls lowered plan number root names child f i outer is is_root rising long at is_child lacks =
+    lacking_widenings_are_below imports plan child f (variables_by_place outer) (variables_named names outer) (rising-by_place 0 outer) (named_rising names outer rising)
+    (ap (λ (vs : List Variable). orders_of vs) (named_through names outer long) ∙ through_orders names (variables_from 0 outer))
+    lacks (lacks.is_part.brought outer is_child.ordered).among
+    (side imports calls lowered plan is number root is_root names child f at i outer is_child lacks.part lacks.is_part)
 
 -- the body is the last child of a quantifier
-body_of : (P : Child → Type 0) (d : Option Child) (c : Child) → All P (children_of_binder d c) → P c
+pub body_of : (P : Child → Type 0) (d : Option Child) (c : Child) → All P (children_of_binder d c) → P c
 body_of P None c all = All-head P c [] all
 body_of P (Some domain) c all = All-head P c [] (All-tail P domain (c ∷ []) all)
 

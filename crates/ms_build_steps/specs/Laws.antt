@@ -1,8 +1,9 @@
 -- Laws of the automata of nodes and of the steps of their source.
-use Rattle.std.specs.Prelude.{◌≡◌, ℕ, ◌<◌, List, [], ◌∷◌, ◌++◌, length, slice_get, Contains, All as Each, Option, Some}
+use Rattle.std.specs.Prelude.{◌≡◌, ◌⊎◌, ℕ, ◌<◌, List, [], ◌∷◌, ◌++◌, length, slice_get, Contains, All as Each, Option, Some}
 use Rattle.std.specs.List.Sorted.{IsStrictlyIncreasing}
-use Rattle.ms_build.specs.Built.{IsImportOf, IsLeastOf, IsWithin, imports_for, node_meaning}
-use Rattle.ms_build.specs.Short.{ChildLacks, FormLacks, ManyLacks, NodeLacks, PairLacks}
+use Rattle.ms_build.specs.Built.{AreImportsOf, IsImportOf, IsLeastOf, IsWithin, imports_for, node_meaning}
+use Rattle.ms_build.specs.Roots.{named}
+use Rattle.ms_build.specs.Short.{ChildLacks, FormLacks, ManyLacks, NodeLacks, PairLacks, QuantifierLacks, RootLacks}
 use Rattle.ms_build.specs.declared.plan.Many.{Many}
 use Rattle.ms_build.specs.declared.plan.Many.TheVariants.{All, Any}
 use Rattle.ms_build.specs.declared.plan.Plan.{Plan}
@@ -13,6 +14,7 @@ use Rattle.ms_dag.specs.Lowered.{IsLowered}
 use Rattle.ms_dag.specs.Places.{AreBelow}
 use Rattle.ms_dag.specs.Share.{IsDagOf}
 use Rattle.ms_dag.specs.Unfolds.{Unfolds, names_of_basic}
+use Rattle.ms_dag.specs.declared.dag.Dag.{Dag}
 use Rattle.ms_dag.specs.declared.node.Child.{Child}
 use Rattle.ms_dag.specs.declared.node.DagNode.{DagNode}
 use Rattle.ms_dag.specs.declared.node.DagNode.TheVariants as nodes
@@ -24,17 +26,19 @@ use Rattle.ms_logic.specs.declared.mode.Mode.{Mode}
 use Rattle.ms_logic.specs.declared.mode.Order.{Order}
 use Rattle.ms_logic.specs.declared.mode.Quant.{Quant}
 use Rattle.ms_logic_core.specs.Calls.{Calls}
-use Rattle.ms_logic_core.specs.CoreForm.{CoreForm, CoreForms, CoreRestriction, conjunction, disjunction}
+use Rattle.ms_logic_core.specs.CoreForm.{CoreForm, CoreForms, CoreRestriction, conjunction, disjunction, quantified}
 use Rattle.ms_logic_core.specs.Operands.{variable}
+use Rattle.ms_logic_core.specs.Roots.{Root as Whole}
 use Rattle.ms_logic_core.specs.declared.core_formula.Basic.{Basic}
 use Rattle.ms_logic_core.specs.declared.core_formula.Lowered.{Lowered}
 use Rattle.ms_logic_core.specs.declared.core_formula.Root.{Root}
-use Rattle.ms_logic_measures.specs.Budgets.{IsMeasureOf, IsWideningMeasure, budget}
+use Rattle.ms_logic_measures.specs.Budgets.{IsMeasureOf, IsWideningMeasure, budget, variables_inside}
 use Rattle.ms_logic_measures.specs.FullContent.{IsFullContent}
-use Rattle.ms_logic_measures.specs.Steps.{Step, binding, connective, steps_of}
+use Rattle.ms_logic_measures.specs.Steps.{binding, connective, steps_of, root as step_of_root}
 use Rattle.ms_logic_words.specs.Content.{Content, variables_by_place}
 use Rattle.ms_logic_words.specs.declared.sign.Sign.{Sign}
 use Rattle.ms_product.specs.declared.op.Op.{Op}
+use Rattle.ms_build_steps.specs.Kinds.{IsBelowKind, IsBelowOneOf, IsBelowStep}
 
 -- the automaton of a node, over the node's own variables, says what the full content of its formula says, where these have rising names
 abbrev pub NodesSayWhatFormulasSay : Type 0
@@ -64,11 +68,6 @@ ConnectivesAreWithinBudget =
 abbrev pub connect_of : Many → CoreForms → CoreForm
 connect_of All = conjunction
 connect_of Any = disjunction
-
--- a limit is below each budget of one of the steps of a formula
-abbrev pub IsBelowStep : List Import → Mode → CoreForm → ℕ → Type 0
-IsBelowStep imports mode f limit =
-    (step : Step) × Contains (steps_of f) step × ((files : List (Content Answer)) (m r : ℕ) → IsMeasureOf imports mode files step m r → limit < budget m r)
 
 -- where the children of a list occur in the formula of a root, the connective of the first ones with the next one lacks nodes only
 -- under a limit below each budget of its step
@@ -135,3 +134,57 @@ BodiesWidenWithinBudget =
     → entry.node ≡ nodes.Bind q o k d c → Occurs (whole_formula calls root) plan.dag.now.entries f names i → ChildLacks plan c (variables_by_place (entry.orders ++ o ∷ []))
     → (x : ℕ) × (r : CoreRestriction) × (body : CoreForm) × Contains (steps_of (whole_formula calls root)) (binding (variable x o) r body)
     × ((m n : ℕ) → IsWideningMeasure imports plan.mode body (variables_named (names ++ x ∷ []) (entry.orders ++ o ∷ [])) m n → plan.limit < budget m n)
+
+-- where a quantifier occurs in the formula of a root, the variables inside it are its own and behind them the bound one
+abbrev pub VariablesInsideAreOwnAndBound : Type 0
+VariablesInsideAreOwnAndBound =
+    (imports : List Import) (mode : Mode) (calls : Calls) (lowered : Lowered) (dag : Dag) (number : ℕ) (root : Root) (q : Quant) (o : Order) (x : ℕ) (r : CoreRestriction)
+    (body : CoreForm) (names : List ℕ) (i : ℕ) (entry : Entry)
+    → IsLowered imports calls lowered → IsDagOf calls lowered dag → slice_get lowered.roots number ≡ Some root → slice_get dag.entries i ≡ Some entry
+    → Occurs (whole_formula calls root) dag.entries (quantified q o x r body) names i
+    → variables_inside imports mode (variable x o) r body ≡ variables_named (names ++ x ∷ []) (entry.orders ++ o ∷ [])
+
+-- where a quantifier occurs in the formula of a root, it lacks nodes only under a limit below each budget of a step of that formula, of one
+-- of the step's kinds
+abbrev pub QuantifiersAreBelowTheirSteps : Type 0
+QuantifiersAreBelowTheirSteps =
+    (imports : List Import) (calls : Calls) (lowered : Lowered) (plan : Plan) (number : ℕ) (root : Root) (f : CoreForm) (names : List ℕ) (i : ℕ) (entry : Entry)
+    (q : Quant) (o : Order) (k : ℕ) (d : Option Child) (c : Child)
+    → IsPlanned imports calls lowered plan → slice_get lowered.roots number ≡ Some root → slice_get plan.dag.now.entries i ≡ Some entry
+    → entry.node ≡ nodes.Bind q o k d c → Occurs (whole_formula calls root) plan.dag.now.entries f names i
+    → QuantifierLacks plan entry.orders (record { name = k; order = o }) d c → IsBelowStep imports plan.mode (whole_formula calls root) plan.limit
+
+-- where a node occurs in the formula of a root, over lent automata of its imports that are within the limit, it lacks nodes only under a
+-- limit below each budget of a step of that formula, of one of the step's kinds
+abbrev pub NodesAreBelowTheirSteps : Type 0
+NodesAreBelowTheirSteps =
+    (imports : List Import) (calls : Calls) (lowered : Lowered) (plan : Plan) (number : ℕ) (root : Root) (f : CoreForm) (names : List ℕ) (i : ℕ)
+    → IsPlanned imports calls lowered plan → slice_get lowered.roots number ≡ Some root
+    → AreImportsOf plan.imports.now plan.mode plan.dag.now.entries → Each (IsWithin plan.limit) plan.imports.now
+    → Occurs (whole_formula calls root) plan.dag.now.entries f names i → NodeLacks plan i → IsBelowStep imports plan.mode (whole_formula calls root) plan.limit
+
+-- a root of the source, over its variables with their orders, with what its imports stand for in their places
+abbrev pub whole_root : Calls → List Order → Root → Whole
+whole_root calls orders root = record { variables = named orders root.variables; formula = whole_formula calls root }
+
+-- a root lacks nodes only under a limit below each budget of its step, which is the widening of its formula to its variables
+abbrev pub RootsAreBelowTheirSteps : Type 0
+RootsAreBelowTheirSteps =
+    (imports : List Import) (calls : Calls) (lowered : Lowered) (plan : Plan) (number : ℕ) (root : Root)
+    → IsPlanned imports calls lowered plan → slice_get lowered.roots number ≡ Some root → RootLacks plan number
+    → IsBelowKind imports plan.mode (step_of_root (whole_root calls lowered.orders root)) plan.limit
+
+-- a limit is below each budget of one of the steps of the roots of a source, of one of the step's kinds
+pub record IsBelowRoots (imports : List Import) (calls : Calls) (mode : Mode) (lowered : Lowered) (limit : ℕ) : Type 0 where
+  pub number : ℕ
+  pub root : Root
+  pub is_root : slice_get lowered.roots number ≡ Some root
+  pub below : IsBelowOneOf imports mode (step_of_root (whole_root calls lowered.orders root) ∷ steps_of (whole_formula calls root)) limit
+
+-- so whatever lacks nodes, over lent automata of the imports that are within the limit, lacks them only under a limit below each budget of
+-- one of the steps of the roots, of one of the step's kinds
+abbrev pub LackingIsBelowRoots : Type 0
+LackingIsBelowRoots =
+    (imports : List Import) (calls : Calls) (lowered : Lowered) (plan : Plan) (step : ℕ)
+    → IsPlanned imports calls lowered plan → AreImportsOf plan.imports.now plan.mode plan.dag.now.entries → Each (IsWithin plan.limit) plan.imports.now
+    → NodeLacks plan step ⊎ RootLacks plan step → IsBelowRoots imports calls plan.mode lowered plan.limit

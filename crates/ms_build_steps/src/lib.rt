@@ -2,7 +2,9 @@
 #![tactic(auto)]
 
 mod examples;
+mod graphs;
 mod nodes;
 
-pub use examples::worked_steps;
+pub use examples::{worked_kinds, worked_steps};
+pub use graphs::laws_of_graphs;
 pub use nodes::laws_of_nodes;

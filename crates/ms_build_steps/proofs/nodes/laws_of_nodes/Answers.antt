@@ -5,6 +5,7 @@ use Rattle.ms_build_steps.proofs.Lists.{lists_are_within_budget}
 use Rattle.ms_build_steps.proofs.NodeSigns.{say_same}
 use Rattle.ms_build_steps.proofs.PlainNodes.{plain_nodes_are_below_their_steps}
 use Rattle.ms_build_steps.proofs.Pairs.{connectives_are_within_budget}
+use Rattle.ms_build_steps.proofs.Quantifiers.{quantifiers_are_below_their_steps, variables_inside_are_own_and_bound}
 use Rattle.ms_build_steps.proofs.Relations.{relations_are_below_their_steps}
 use Rattle.ms_build_steps.proofs.SmallLimits.{small_limits_are_below_steps}
 use Rattle.ms_build_steps.proofs.Widenings.{bodies_widen_within_budget, widenings_are_within_budget}
@@ -38,3 +39,9 @@ returns-clause-widenings c = widenings_are_within_budget
 
 pub returns-clause-bodies : goal.returns-clause-bodies
 returns-clause-bodies c = bodies_widen_within_budget
+
+pub returns-clause-inside : goal.returns-clause-inside
+returns-clause-inside c = variables_inside_are_own_and_bound
+
+pub returns-clause-quantifiers : goal.returns-clause-quantifiers
+returns-clause-quantifiers c = quantifiers_are_below_their_steps

@@ -1,0 +1,13 @@
+//! What a whole graph lacks. The function has an empty body, and its contract states the laws.
+
+ghost use Rattle.ms_build_steps.specs.Kinds.{MeasuresAreOfKinds};
+ghost use Rattle.ms_build_steps.specs.Laws.{LackingIsBelowRoots, NodesAreBelowTheirSteps, RootsAreBelowTheirSteps};
+
+/// The measures of a step are those of its kinds. Whatever lacks nodes in the graph of a source, a node or a root, over lent automata
+/// within the limit, lacks them only under a limit below each budget of a step of a root of the source, of one of the step's kinds.
+pub fn laws_of_graphs()
+    ensures kinds { MeasuresAreOfKinds }
+    ensures nodes { NodesAreBelowTheirSteps }
+    ensures roots { RootsAreBelowTheirSteps }
+    ensures lacking { LackingIsBelowRoots }
+{}
