@@ -5,8 +5,9 @@ use Rattle.ms_edge.specs.declared.refusal.Refusal.TheVariants.{Memory}
 use Rattle.ms_build.specs.Built.{IsLimit}
 use Rattle.ms_app_words.specs.Command.{HasLimit, IsCommand}
 use Rattle.ms_app_words.specs.declared.command.Command.{Command}
-use Rattle.ms_app_words.specs.declared.command.Command.TheVariants.{Decide, Same, Gen}
+use Rattle.ms_app_words.specs.declared.command.Command.TheVariants.{Decide, Same, Gen, Ltl}
 use Rattle.ms_app.specs.Answer.{IsLimited, IsRefusedFor}
+use Rattle.ms_ltlf_decide.specs.Formula as formulas
 use Rattle.ms_app.specs.Comparison as comparisons
 use Rattle.ms_app.specs.Source as sources
 
@@ -18,6 +19,7 @@ pub limited : (words : List (List ℕ)) (command : Command) → IsCommand words 
 limited words (Decide file out max_nodes stats format) asked = limit_by _ max_nodes asked.asked.2
 limited words (Same left right max_nodes) asked = limit_by _ max_nodes asked.asked.2
 limited words (Gen number decide) asked = tt
+limited words (Ltl file max_nodes) asked = limit_by _ max_nodes asked.asked.1
 
 -- want of memory needs no cause
 pub memory_refuses : (command : Command) (seen : Seen) (files : List (List ℕ)) → IsRefusedFor command seen Memory files
@@ -25,3 +27,4 @@ memory_refuses (Decide file out max_nodes stats format) seen files = sources.no_
 memory_refuses (Same left right max_nodes) seen files = comparisons.no_memory refl
 memory_refuses (Gen number false) seen files = inl refl
 memory_refuses (Gen number true) seen files = inl refl
+memory_refuses (Ltl file max_nodes) seen files = formulas.no_memory refl

@@ -27,12 +27,13 @@ use Rattle.ms_build_source.specs.Limits.{IsUnsolved, IsWithinLimits}
 use Rattle.ms_app_words.specs.Command.{node_limit}
 use Rattle.ms_app.specs.Answer.{IsNoNumber, generated_name}
 use Rattle.ms_app.specs.Counts.{HasStats}
-use Rattle.ms_app.specs.Decision.{AnswersMain, IsAnswer, IsDecided, IsFound, asks_main}
+use Rattle.ms_app.specs.Decision.{AnswersMain, IsDecided, IsFound, asks_main}
 use Rattle.ms_app.specs.inner.Laws.{GeneratedSourcesAreFoundValid}
 use Rattle.ms_app.specs.Source.{IsAccepted, IsRefused, IsSolved, IsTaken, IsUnaccepted, answers_with, problem_with, text_of, unaccepted, unsolved}
 use Rattle.ms_app.specs.Written.{AreFilesFrom, AreFilesOf, File}
 use Rattle.ms_app.proofs.Solvable.{solvable, texts_settle}
-use Rattle.ms_app.proofs.VerdictLemmas.{none_against, valid_alone}
+use Rattle.ms_app_answer.specs.Answer.{IsAnswer}
+use Rattle.ms_app_answer.proofs.VerdictLemmas.{none_against, valid_alone}
 
 -- why the generation is refused
 abbrev pub IsRefusedGeneration : ℕ → Refusal → List (List ℕ) → Type 0

@@ -9,7 +9,6 @@ pub mod Decisions
 pub mod EqualLemmas
 pub mod ExampleFiles
 pub mod FileCounts
-pub mod FirstAssignments
 pub mod Generations
 pub mod GlobalLemmas
 pub mod GoalLemmas
@@ -21,6 +20,5 @@ pub mod Solvable
 pub mod Sources
 pub mod Taking
 pub mod Told
-pub mod VerdictLemmas
 pub mod Writing
 pub mod Written

@@ -31,7 +31,8 @@ use Rattle.ms_include_laws.proofs.of_places.TypedSources.{typed-sources}
 use Rattle.ms_logic.specs.Lists.{Each}
 use Rattle.ms_names_rules.proofs.Fitting.{each-append}
 use Rattle.ms_app_words.specs.declared.command.Command.{Command}
-use Rattle.ms_app_words.specs.declared.command.Command.TheVariants.{Decide, Same, Gen}
+use Rattle.ms_app_words.specs.declared.command.Command.TheVariants.{Decide, Same, Gen, Ltl}
+use Rattle.ms_ltlf_decide.proofs.Lines.{lines}
 use Rattle.ms_app.specs.Answer.{IsRefusedFor}
 use Rattle.ms_app.specs.Comparison.{IsRefusedComparison, left_refused, right_refused, not_comparable}
 use Rattle.ms_app.specs.Comparison as comparisons
@@ -184,3 +185,4 @@ command-told (Gen number false) seen refusal files (inr range) = subst (IsToldOv
 command-told (Gen number true) seen refusal files (inl memory) = memory-told files refusal memory
 command-told (Gen number true) seen refusal files (inr (inl range)) = subst (IsToldOver files) (sym range.0) (tt, tt)
 command-told (Gen number true) seen refusal files (inr (inr (is_number, (step, is), why))) = subst (IsToldOver files) (sym is) (tt, tt)
+command-told (Ltl file max_nodes) seen refusal files why = lines seen file max_nodes refusal files why

@@ -18,7 +18,8 @@ use Rattle.ms_report.specs.Line.{line_of}
 use Rattle.ms_report.specs.Report.{report_of, summary_of}
 use Rattle.ms_app_words.specs.Command.{IsCommand, node_limit}
 use Rattle.ms_app_words.specs.declared.command.Command.{Command}
-use Rattle.ms_app_words.specs.declared.command.Command.TheVariants.{Decide, Same, Gen}
+use Rattle.ms_app_words.specs.declared.command.Command.TheVariants.{Decide, Same, Gen, Ltl}
+use Rattle.ms_ltlf_decide.specs.Formula.{IsDecidedFormula, IsRefusedFormula}
 use Rattle.ms_app.specs.Comparison.{AreCompared, IsRefusedComparison, comparison_text}
 use Rattle.ms_app.specs.Decision.{IsDecided}
 use Rattle.ms_app.specs.Source.{IsRefused, file_of, text_of}
@@ -66,7 +67,8 @@ abbrev pub generated_name : List ℕ
 generated_name = codes "generated"
 
 -- What a command asks for where it is done, by what was seen while the files were read: the text to print, and the files to write. A file is
--- decided: the report on it, and its automaton files; two files are compared; a source is generated, or the summary of it made.
+-- decided: the report on it, and its automaton files; two files are compared; a source is generated, or the summary of it made; a formula of
+-- temporal logic is decided over all traces.
 abbrev pub IsGivenFor : Command → Seen → List ℕ → List File → Type 0
 IsGivenFor (Decide file out max_nodes stats format) seen text written =
     (found : Found) × IsDecided (file_of seen 0 file) out stats format found written × (text ≡ report_of found)
@@ -76,18 +78,21 @@ IsGivenFor (Gen number true) seen text written =
     (written ≡ []) × IsNumber number
     × ((found : Found) × (main : answers.Answer) × IsDecided (text_of generated_name (generated number)) None true Two found written × (found.main ≡ Some main)
     × (text ≡ summary_of number (length (generated number)) main found.stats))
+IsGivenFor (Ltl file max_nodes) seen text written = (written ≡ []) × IsDecidedFormula seen.before.held file text
 
 -- the command asks for a generated source
 abbrev pub IsGeneration : Command → Type 0
 IsGeneration (Decide file out max_nodes stats format) = ⊥
 IsGeneration (Same left right max_nodes) = ⊥
 IsGeneration (Gen number decide) = Unit {0}
+IsGeneration (Ltl file max_nodes) = ⊥
 
 -- a limit that a command names is one
 abbrev pub IsLimited : Command → Type 0
 IsLimited (Decide file out max_nodes stats format) = IsLimit max_nodes
 IsLimited (Same left right max_nodes) = IsLimit max_nodes
 IsLimited (Gen number decide) = Unit {0}
+IsLimited (Ltl file max_nodes) = IsLimit max_nodes
 
 -- the number of a source to generate is out of range
 abbrev pub IsNoNumber : ℕ → Refusal → Type 0
@@ -102,6 +107,7 @@ IsRefusedFor (Gen number false) seen refusal files = (refusal ≡ Memory) ⊎ Is
 IsRefusedFor (Gen number true) seen refusal files =
     (refusal ≡ Memory) ⊎ IsNoNumber number refusal
     ⊎ (IsNumber number × ((step : ℕ) × (refusal ≡ Nodes step node_limit)) × IsRefused (text_of generated_name (generated number)) None node_limit refusal files)
+IsRefusedFor (Ltl file max_nodes) seen refusal files = IsRefusedFormula seen file max_nodes refusal files
 
 -- The files were read, up to some moment; what the command asks for came of that; and its files are written since.
 pub record IsDelivered (command : Command) (seen : Seen) (text : List ℕ) : Type 0 where

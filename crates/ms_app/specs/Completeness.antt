@@ -10,10 +10,13 @@ use Rattle.ms_edge.specs.Sink.{SinkTold, grown}
 use Rattle.ms_gen.specs.Generated.{IsNumber}
 use Rattle.ms_logic.specs.declared.checked.Checked.{Checked}
 use Rattle.ms_logic.specs.declared.source.Loaded.{Loaded}
+use Rattle.ms_ltlf.specs.Tree.{Temporal}
+use Rattle.ms_ltlf_decide.specs.Formula.{IsSolvable}
+use Rattle.ms_ltlf_parse.specs.Grammar.{Names}
 use Rattle.ms_report.specs.Line.{line_of}
 use Rattle.ms_app_words.specs.Command.{IsCommand, node_limit}
 use Rattle.ms_app_words.specs.declared.command.Command.{Command}
-use Rattle.ms_app_words.specs.declared.command.Command.TheVariants.{Decide, Same, Gen}
+use Rattle.ms_app_words.specs.declared.command.Command.TheVariants.{Decide, Same, Gen, Ltl}
 use Rattle.ms_app.specs.Answer.{IsDelivered, IsRefusedFor}
 use Rattle.ms_app.specs.Comparison.{AreSolved, HaveSameGlobals, Taken}
 use Rattle.ms_app.specs.Source.{IsSolved, Origin, file_of}
@@ -35,17 +38,23 @@ abbrev pub CanBeCompared : List ℕ → List ℕ → Seen → Type 0
 CanBeCompared left right seen =
     (one two : Taken) × AreSolved left right seen one two × HaveSameGlobals one.checked two.checked
 
+-- the file has a formula, whose source of strings is within the limits
+abbrev pub FormulaCanBeDecided : List ℕ → Seen → Type 0
+FormulaCanBeDecided file seen = (names : Names) × (f : Temporal) × IsSolvable seen.before.held file names f
+
 -- what the command asks for can be done
 abbrev pub CanBeDone : Command → Seen → Type 0
 CanBeDone (Decide file out max_nodes stats format) seen = CanBeSolved (file_of seen 0 file) out
 CanBeDone (Same left right max_nodes) seen = CanBeCompared left right seen
 CanBeDone (Gen number decide) seen = IsNumber number
+CanBeDone (Ltl file max_nodes) seen = FormulaCanBeDecided file seen
 
 -- the limit on the nodes and states of a step
 abbrev pub limit_of : Command → ℕ
 limit_of (Decide file out max_nodes stats format) = max_nodes
 limit_of (Same left right max_nodes) = max_nodes
 limit_of (Gen number decide) = node_limit
+limit_of (Ltl file max_nodes) = max_nodes
 
 -- it was done: its text was printed, and its files written
 abbrev pub WasDone : Command → SinkTold → SinkTold → Seen → Status → Type 0

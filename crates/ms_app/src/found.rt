@@ -1,6 +1,6 @@
 ghost use Rattle.std.specs.List.{AllZip};
 ghost use Rattle.std.specs.Option.{is_none, is_some};
-ghost use Rattle.std.specs.Prelude.{◌≡◌, ◌⊎◌, filter, length, IfOk};
+ghost use Rattle.std.specs.Prelude.{◌≡◌, filter, length, IfOk};
 ghost use Rattle.ms_dfa.specs.declared.plain.FileVersion.TheVariants.{Two};
 ghost use Rattle.ms_dfa.specs.Files.{content_of_file};
 ghost use Rattle.ms_logic.specs.Verdict.{Problem};
@@ -9,45 +9,19 @@ ghost use Rattle.ms_logic.specs.declared.checked.Placed.{Placed as Goal};
 ghost use Rattle.ms_logic.specs.View.{Answers, declared_in, goal_question, goals_in, main_question};
 ghost use Rattle.ms_logic_words.specs.Content.{Content};
 ghost use Rattle.ms_logic_words.specs.declared.sign.Sign.{Sign};
+ghost use Rattle.ms_app_answer.specs.Answer.{IsAnswer};
 ghost use Rattle.ms_app.specs.Counts.{HasCounts, IsCanonicalOf};
-ghost use Rattle.ms_app.specs.Decision.{AnswersMain, IsAnswer, IsFound, IsGoalAnswer, ShowsFirst, asks_main, verdict_by};
+ghost use Rattle.ms_app.specs.Decision.{AnswersMain, IsFound, IsGoalAnswer, asks_main};
 ghost use Rattle.ms_build_source.specs.Solution.{IsSolution};
 ghost use Rattle.ms_build_source.specs.Values.{HasMainValue};
-ghost use Rattle.ms_dfa.specs.Values.{main_meaning};
 
-use ms_best::{assignment, first};
+use ms_app_answer::answer;
 use ms_build_source::Solution;
-use ms_dfa::{Automaton, Plain, Sign};
+use ms_dfa::{Automaton, Plain};
 use ms_list::{List, NoMemory, Text, push};
-use ms_logic::{Assignment, Checked, Placed};
-use ms_report::{Answer, Found, GoalAnswer, Stats, Verdict};
+use ms_logic::{Checked, Placed};
+use ms_report::{Answer, Found, GoalAnswer, Stats};
 use std::alloc::Global;
-
-/// The first assignment at which the automaton has the sign, if there is one.
-fn shown(alloc: Global, automaton: &Automaton, sign: Sign) -> Result<Option<Assignment>, NoMemory>
-    requires { (sign ≡ Sign.Yes) ⊎ (sign ≡ Sign.No) }
-    ensures { IfOk result (λ found. (problem : Problem) → HasMainValue problem automaton.now → ShowsFirst problem (λ e. main_meaning problem e sign) found) }
-{
-    match first(alloc, automaton, sign)? {
-        Some(word) => {
-            let found = assignment(alloc, &word, automaton.tracks(), automaton.mode())?;
-            Ok(Some(found))
-        }
-        None => Ok(None),
-    }
-}
-
-/// The verdict, by whether there is an example and a counterexample.
-fn verdict(example: bool, counterexample: bool) -> Verdict
-    ensures { result ≡ verdict_by example counterexample }
-{
-    match (example, counterexample) {
-        (true, false) => Verdict::Valid,
-        (false, true) => Verdict::Unsatisfiable,
-        (true, true) => Verdict::Contingent,
-        (false, false) => Verdict::Vacuous,
-    }
-}
 
 /// The counts of a source of so many files, by its solution and the canonical content of its main value in version 2.
 pub fn counts(solution: &Solution, content: &Plain, files: u32) -> Stats
@@ -61,19 +35,6 @@ pub fn counts(solution: &Solution, content: &Plain, files: u32) -> Stats
         states: content.states.len() as u64,
         nodes: content.nodes.len() as u64,
     }
-}
-
-/// The answer that an automaton gives to the question whose value it has.
-fn answer(alloc: Global, automaton: &Automaton) -> Result<Answer, NoMemory>
-    ensures { IfOk result (λ answer. (problem : Problem) → HasMainValue problem automaton.now → IsAnswer problem answer) }
-{
-    let example = shown(alloc, automaton, Sign::Yes)?;
-    let counterexample = shown(alloc, automaton, Sign::No)?;
-    Ok(Answer {
-        verdict: verdict(example.is_some(), counterexample.is_some()),
-        example,
-        counterexample,
-    })
 }
 
 /// Whether the main question is asked of a source with these formulas.

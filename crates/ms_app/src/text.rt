@@ -2,7 +2,7 @@ ghost use Rattle.std.specs.Prelude.{◌≡◌, [], true, IfErr, IfOk};
 ghost use Rattle.std.specs.Option.{option_copied};
 ghost use Rattle.ms_build.specs.Built.{IsLimit};
 ghost use Rattle.ms_edge.specs.Files.{OnlyRead, Seen, between};
-ghost use Rattle.ms_app_words.specs.declared.command.Command.TheVariants.{Decide, Same, Gen};
+ghost use Rattle.ms_app_words.specs.declared.command.Command.TheVariants.{Decide, Same, Gen, Ltl};
 ghost use Rattle.ms_app.specs.Answer.{IsGivenFor, IsRefusedFor};
 ghost use Rattle.ms_app.specs.Comparison.{comparison_text};
 ghost use Rattle.ms_app.specs.inner.Files.{HaveOwnNames, pairs_of};
@@ -17,6 +17,7 @@ use ms_dfa::FileVersion;
 use ms_edge::{Files, Refusal};
 use ms_gen::generate;
 use ms_list::{Bytes, List, Text};
+use ms_ltlf_decide::decide_formula;
 use ms_report::{report, summary};
 use std::alloc::Global;
 
@@ -129,6 +130,27 @@ pub fn comparison<F: Files>(
     match comparison_line(alloc, agree) {
         Ok(text) => Ok(text_alone(alloc, text)),
         Err(_) => Err(Refusal::Memory),
+    }
+}
+
+/// The report on a formula of temporal logic.
+pub fn formula_report<F: Files>(
+    alloc: Global,
+    name: &Text,
+    limit: u64,
+    files: &mut F,
+    names: &mut List<Text>,
+) -> Result<Given, Refusal>
+    requires first { names.old ≡ [] }
+    requires limit { IsLimit limit }
+    ensures given { IfOk result (λ given. IsGivenFor (Ltl name.now limit) (between (F.told files.old) (F.told files.new)) given.text (pairs_of given.files)) }
+    ensures no_files { IfOk result (λ given. pairs_of given.files ≡ []) }
+    ensures refused { IfErr result (λ refusal. IsRefusedFor (Ltl name.now limit) (between (F.told files.old) (F.told files.new)) refusal names.new) }
+    ensures only_read { OnlyRead (F.told files.old) (F.told files.new) }
+{
+    match decide_formula(alloc, name, limit, files, names) {
+        Ok(text) => Ok(text_alone(alloc, text)),
+        Err(refusal) => Err(refusal),
     }
 }
 

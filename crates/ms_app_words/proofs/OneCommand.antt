@@ -5,7 +5,7 @@ use Rattle.ms_app_words.specs.Command.{Asks, AsksBy, HasFormat, HasLimit, HasNum
 use Rattle.ms_dfa.specs.declared.plain.FileVersion.{FileVersion}
 use Rattle.ms_dfa.specs.declared.plain.FileVersion.TheVariants.{One, Two}
 use Rattle.ms_app_words.specs.declared.command.Command.{Command}
-use Rattle.ms_app_words.specs.declared.command.Command.TheVariants.{Decide, Same, Gen}
+use Rattle.ms_app_words.specs.declared.command.Command.TheVariants.{Decide, Same, Gen, Ltl}
 use Rattle.ms_app_words.specs.declared.command.Verb.{Verb}
 
 same_verb : (one other : Verb) → Some one ≡ Some other → one ≡ other
@@ -40,12 +40,20 @@ same_asked rows (Same left right limit) (Same left' right' limit') same asks ask
     ∙ (ap (λ r. Same left' r limit) (same_text _ right right' asks.1 asks'.1) ∙ ap (λ n. Same left' right' n) (same_limit _ limit limit' asks.2 asks'.2))
 same_asked rows (Gen number decide) (Gen number' decide') same asks asks' =
     ap (λ n. Gen n decide) (same_number _ number number' asks.0 asks'.0) ∙ ap (λ d. Gen number' d) (asks.1 ∙ sym asks'.1)
+same_asked rows (Ltl file limit) (Ltl file' limit') same asks asks' =
+    ap (λ f. Ltl f limit) (same_text _ file file' asks.0 asks'.0) ∙ ap (λ n. Ltl file' n) (same_limit _ limit limit' asks.1 asks'.1)
 same_asked rows (Decide file out limit stats format) (Same left right limit') same asks asks' = absurd (cc)
 same_asked rows (Decide file out limit stats format) (Gen number decide) same asks asks' = absurd (cc)
 same_asked rows (Same left right limit) (Decide file out limit' stats format) same asks asks' = absurd (cc)
 same_asked rows (Same left right limit) (Gen number decide) same asks asks' = absurd (cc)
 same_asked rows (Gen number decide) (Decide file out limit stats format) same asks asks' = absurd (cc)
 same_asked rows (Gen number decide) (Same left right limit) same asks asks' = absurd (cc)
+same_asked rows (Decide file out limit stats format) (Ltl file' limit') same asks asks' = absurd (cc)
+same_asked rows (Same left right limit) (Ltl file limit') same asks asks' = absurd (cc)
+same_asked rows (Gen number decide) (Ltl file limit) same asks asks' = absurd (cc)
+same_asked rows (Ltl file limit) (Decide file' out limit' stats format) same asks asks' = absurd (cc)
+same_asked rows (Ltl file limit) (Same left right limit') same asks asks' = absurd (cc)
+same_asked rows (Ltl file limit) (Gen number decide) same asks asks' = absurd (cc)
 
 pub one_command : (words : List Text) (one other : Command) → IsCommand words one → IsCommand words other → one ≡ other
 one_command words one other is is' =

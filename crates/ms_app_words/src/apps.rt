@@ -1,6 +1,6 @@
 ghost use Rattle.std.specs.Prelude.{◌≡◌, false, IfOk};
 ghost use Rattle.clap.specs.Words.{app_of, new_app, rule_of};
-ghost use Rattle.ms_app_words.specs.Command.{app_for, command, decide_app, decide_front, flag, gen_app, option, required, same_app};
+ghost use Rattle.ms_app_words.specs.Command.{app_for, command, decide_app, decide_front, flag, gen_app, ltl_app, option, required, same_app};
 
 use crate::command::Verb;
 use clap::{Arg, ArgAction, Command};
@@ -76,6 +76,15 @@ fn gen_app<'a>(alloc: Global) -> Result<Command<'a>, AllocError>
     Ok(whole)
 }
 
+/// The command `ltl FILE [--max-nodes N]`.
+fn ltl_app<'a>(alloc: Global) -> Result<Command<'a>, AllocError>
+    ensures { IfOk result (λ made. app_of made ≡ ltl_app) }
+{
+    let with_file = command(alloc, "ltl").arg(required(alloc, "FILE"))?;
+    let whole = with_file.arg(option(alloc, "max-nodes"))?;
+    Ok(whole)
+}
+
 /// The command with this first word, as `clap` is told of it.
 pub(crate) fn app<'a>(alloc: Global, verb: Verb) -> Result<Command<'a>, AllocError>
     ensures { IfOk result (λ made. app_of made ≡ app_for verb) }
@@ -84,5 +93,6 @@ pub(crate) fn app<'a>(alloc: Global, verb: Verb) -> Result<Command<'a>, AllocErr
         Verb::Decide => decide_app(alloc),
         Verb::Same => same_app(alloc),
         Verb::Gen => gen_app(alloc),
+        Verb::Ltl => ltl_app(alloc),
     }
 }

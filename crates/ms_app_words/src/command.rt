@@ -7,6 +7,7 @@ pub enum Verb {
     Decide,
     Same,
     Gen,
+    Ltl,
 }
 
 /// What the words of a command line ask for.
@@ -34,6 +35,12 @@ pub enum Command {
     Gen {
         number: u64,
         decide: bool,
+    },
+
+    /// To decide a formula of temporal logic on finite traces, where nodes and states of a step are together at most `max_nodes`.
+    Ltl {
+        file: Text,
+        max_nodes: u64,
     },
 }
 

@@ -2,17 +2,18 @@
 
 ghost use Rattle.std.specs.Prelude.{◌≡◌, [], codes, false, true, None, Some};
 ghost use Rattle.clap.specs.Words.{fault_of, first_of, matches_of};
-ghost use Rattle.ms_app_words.specs.Command.{HasFormat, HasLimit, HasNumber, decide_app, first_verb, gen_app, is_given, same_app};
+ghost use Rattle.ms_app_words.specs.Command.{HasFormat, HasLimit, HasNumber, decide_app, first_verb, gen_app, is_given, ltl_app, same_app};
 ghost use Rattle.ms_dfa.specs.declared.plain.FileVersion.{FileVersion};
 ghost use Rattle.ms_dfa.specs.declared.plain.FileVersion.TheVariants.{One, Two};
-ghost use Rattle.ms_app_words.specs.inner.Examples.{for_help, gen_and_decide, gen_by_number, no_file, one_file, only_left, two_files, two_to_compare, with_counts, with_format, with_limit, with_out};
-ghost use Rattle.ms_app_words.specs.declared.command.Verb.TheVariants.{Decide, Gen, Same};
+ghost use Rattle.ms_app_words.specs.inner.Examples.{for_help, formula_with_limit, formula_with_out, gen_and_decide, gen_by_number, no_file, one_file, one_formula, only_left, two_files, two_to_compare, with_counts, with_format, with_limit, with_out};
+ghost use Rattle.ms_app_words.specs.declared.command.Verb.TheVariants.{Decide, Gen, Ltl, Same};
 
 /// The first word says which command it is.
 pub fn worked_verbs()
     ensures decide { first_verb one_file ≡ Some Decide }
     ensures compare { first_verb two_to_compare ≡ Some Same }
     ensures generate { first_verb gen_by_number ≡ Some Gen }
+    ensures traces { first_verb one_formula ≡ Some Ltl }
     ensures none { first_verb [] ≡ None }
 {}
 
@@ -53,6 +54,16 @@ pub fn worked_generations()
     ensures not_decided { is_given (codes "decide") (matches_of gen_app gen_by_number) ≡ false }
     ensures and_decide { fault_of gen_app gen_and_decide ≡ [] }
     ensures decided { is_given (codes "decide") (matches_of gen_app gen_and_decide) ≡ true }
+{}
+
+/// What is taken after `ltl`.
+pub fn worked_formulas()
+    ensures one_formula { fault_of ltl_app one_formula ≡ [] }
+    ensures the_file { first_of (codes "FILE") (matches_of ltl_app one_formula) ≡ Some (codes "f.ltl") }
+    ensures no_limit { first_of (codes "max-nodes") (matches_of ltl_app one_formula) ≡ None }
+    ensures with_limit { fault_of ltl_app formula_with_limit ≡ [] }
+    ensures the_limit { first_of (codes "max-nodes") (matches_of ltl_app formula_with_limit) ≡ Some (codes "5") }
+    ensures no_out { ¬ (fault_of ltl_app formula_with_out ≡ []) }
 {}
 
 /// Versions of files.

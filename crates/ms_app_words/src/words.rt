@@ -195,6 +195,21 @@ fn gen_by(matches: &ArgMatches) -> Result<Command, WordsFault>
     Ok(Command::Gen { number, decide })
 }
 
+/// What the matches of `ltl FILE [--max-nodes N]` ask for.
+fn ltl_by(alloc: Global, matches: &ArgMatches) -> Result<Command, WordsFault>
+    ensures command { IfOk result (AsksBy Verb.Ltl (rows_of (found_of matches.now))) }
+    ensures usage { IfErr result (λ fault. fault ≡ WordsFault.Usage → (command : Asked) → ¬ AsksBy Verb.Ltl (rows_of (found_of matches.now)) command) }
+{
+    let Some(max_nodes) = limit_of(matches) else {
+        return Err(WordsFault::Usage);
+    };
+    let file = match text_of(alloc, matches, "FILE") {
+        Ok(file) => file,
+        Err(fault) => return Err(fault),
+    };
+    Ok(Command::Ltl { file, max_nodes })
+}
+
 /// What the matches of a command's words ask for.
 fn asked_by(alloc: Global, verb: Verb, matches: &ArgMatches) -> Result<Command, WordsFault>
     ensures command { IfOk result (AsksBy verb (rows_of (found_of matches.now))) }
@@ -204,6 +219,7 @@ fn asked_by(alloc: Global, verb: Verb, matches: &ArgMatches) -> Result<Command, 
         Verb::Decide => decide_by(alloc, matches),
         Verb::Same => same_by(alloc, matches),
         Verb::Gen => gen_by(matches),
+        Verb::Ltl => ltl_by(alloc, matches),
     }
 }
 
@@ -244,6 +260,8 @@ fn verb_in(word: &str) -> Option<Verb>
         Some(Verb::Same)
     } else if word == "gen" {
         Some(Verb::Gen)
+    } else if word == "ltl" {
+        Some(Verb::Ltl)
     } else {
         None
     }

@@ -13,14 +13,15 @@ use std::alloc::Global;
 const SOURCE_LIMIT: u64 = 1_048_576;
 
 /// The bytes of a source file, which is named at a place.
-fn read<F: Files>(
+pub fn read_source<F: Files>(
     alloc: Global,
     files: &mut F,
     named: Option<At>,
     name: &Text,
 ) -> Result<Bytes, Refusal>
     ensures read { IfOk result (AreBytes (F.told files.old).held name.now) }
-    ensures refused { (request : Seen) → IsPart (between (F.told files.old) (F.told files.new)) request →
+    ensures refused { IfErr result (λ refusal. (refusal ≡ Refusal.Memory) ⊎ IsUnread (between (F.told files.old) (F.told files.new)) named name.now refusal) }
+    ensures refused_within { (request : Seen) → IsPart (between (F.told files.old) (F.told files.new)) request →
         IfErr result (λ refusal. (refusal ≡ Refusal.Memory) ⊎ IsUnread request named name.now refusal) }
 
     ensures only_read { OnlyRead (F.told files.old) (F.told files.new) }
@@ -87,7 +88,7 @@ pub fn open<F: Files>(
 
     ensures only_read { OnlyRead (F.told files.old) (F.told files.new) }
 {
-    let bytes = match read(alloc, files, named, name) {
+    let bytes = match read_source(alloc, files, named, name) {
         Ok(bytes) => bytes,
         Err(refusal) => return Err(refusal),
     };

@@ -10,5 +10,6 @@ mod text;
 
 pub use begun::Begun;
 pub use examples::{example_loads, example_refused_loads};
+pub use file::read_source;
 pub use source::load;
 pub use text::load_bytes;

@@ -6,7 +6,7 @@ use Rattle.ms_logic.specs.Tree.{Form, truth, falsity, negation, conjunction, dis
 use Rattle.ms_logic.specs.Truth.{Meanings, YesUnder, NoUnder, AllYes, AllNo, AllDefined, SomeYes, SomeNo}
 use Rattle.ms_logic.proofs.Consistent.{IsConsistent, never_both}
 use Rattle.ms_logic.proofs.Values.{each_value}
-use Rattle.ms_ltlf.specs.inner.Strings.{exists, every}
+use Rattle.ms_ltlf.specs.Strings.{exists, every}
 use Rattle.ms_ltlf.proofs.Bounded.{some_or_each}
 
 abbrev pub Agrees : Meanings → Form → Env → Type 0 → Type 0

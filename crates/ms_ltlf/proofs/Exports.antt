@@ -5,7 +5,7 @@ use Rattle.ms_logic_core.specs.Roots as roots
 use Rattle.ms_names_rules.specs.Numbers.{exports_in, exports_in_all}
 use Rattle.ms_names_checked.specs.Exports.{HasExportsInPlace, HaveExportsInPlace}
 use Rattle.ms_ltlf.specs.Tree.{Temporal, truth, falsity, proposition, brackets, negation, conjunction, disjunction, implication, equivalence, next, weak_next, eventually, always, until, release, Temporals, no_temporals, more_temporals}
-use Rattle.ms_ltlf.specs.inner.Strings.{string_form, string_forms}
+use Rattle.ms_ltlf.specs.Strings.{string_form, string_forms}
 
 -- two empty lists, and one with nothing behind it
 none-of-two : {A : Type 0} (left right : List A) → left ≡ [] → right ≡ [] → left ++ right ≡ []

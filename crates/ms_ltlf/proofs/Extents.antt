@@ -5,9 +5,9 @@ use Rattle.ms_logic.specs.Verdict.{Problem}
 use Rattle.ms_logic.specs.View.{Answers, globals_from, problem_of}
 use Rattle.ms_logic_core.specs.Size.{Extents, depth_of_source, extent_under, extents_of_each, extents_of_restrictions, greatest_depth, no_extents, size_of_source, total_size}
 use Rattle.ms_ltlf.specs.Tree.{Temporal, truth, falsity, proposition, brackets, negation, conjunction, disjunction, implication, equivalence, next, weak_next, eventually, always, until, release, Temporals, no_temporals, more_temporals, depth, depth_of_all, size, size_of_all}
-use Rattle.ms_ltlf.specs.inner.Source.{IsStringSource, global_of}
-use Rattle.ms_ltlf.specs.inner.Strings.{string_form, string_forms}
-use Rattle.ms_ltlf.proofs.Sources.{problem-same, string_problem}
+use Rattle.ms_ltlf.specs.Source.{IsStringSource, global_of, string_problem}
+use Rattle.ms_ltlf.specs.Strings.{string_form, string_forms}
+use Rattle.ms_ltlf.proofs.Sources.{problem-same}
 
 depth-positive : (f : Temporal) → 1 ≤ depth f
 depth-positive truth = omega arith

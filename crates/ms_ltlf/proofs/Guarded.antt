@@ -9,7 +9,7 @@ use Rattle.ms_logic.specs.Tree as string
 use Rattle.ms_logic.specs.Truth.{Given, Meanings, YesUnder, NoUnder, meanings_of}
 use Rattle.ms_logic.proofs.Consistent.{IsConsistent, consistent_given, never_both}
 use Rattle.ms_logic.proofs.Values.{each_value}
-use Rattle.ms_ltlf.specs.inner.Strings.{two, some_position}
+use Rattle.ms_ltlf.specs.Strings.{two, some_position}
 use Rattle.ms_ltlf.proofs.Agreeing.{Agrees, agrees-exists, below-string}
 use Rattle.ms_ltlf.proofs.Positions.{stands-bound, value-variable, agrees-equal}
 

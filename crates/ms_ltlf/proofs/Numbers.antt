@@ -19,7 +19,7 @@ use Rattle.ms_logic_core.specs.Roots.{Export}
 use Rattle.ms_names_rules.specs.Numbers.{IsWellNumbered, IsNumbered, IsNumberedRestriction, CountUp, Tables, tables_of, exports_in, exports_in_restriction}
 use Rattle.ms_names_checked.specs.Exports.{ExportListsFree, HasExportsInPlace, ListsFreeVariables}
 use Rattle.ms_ltlf.specs.Tree.{Temporal, IsOver}
-use Rattle.ms_ltlf.specs.inner.Source.{IsStringSource, global_of, string_formulas}
+use Rattle.ms_ltlf.specs.Source.{IsStringSource, global_of, string_formulas}
 use Rattle.ms_ltlf.proofs.Exports.{no-numbers, no-exports, none-out-of-place}
 use Rattle.ms_ltlf.proofs.Seen.{propositions_seen, position-numbered, start-numbered}
 

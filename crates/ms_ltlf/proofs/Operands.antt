@@ -7,7 +7,7 @@ use Rattle.ms_ltlf.specs.declared.trace.Ltl.{Ltl}
 use Rattle.ms_ltlf.specs.declared.trace.Ltl.TheVariants.{And, Or}
 use Rattle.ms_ltlf.specs.Tree.{Temporal, depth, depth_of_all}
 use Rattle.ms_ltlf.specs.View.{temporal_of, temporals}
-use Rattle.ms_ltlf.specs.inner.Strings.{string_form, string_forms}
+use Rattle.ms_ltlf.specs.Strings.{string_form, string_forms}
 use Rattle.ms_ltlf.proofs.Views.{temporal_of-And, temporal_of-Or}
 
 -- each is translated by itself

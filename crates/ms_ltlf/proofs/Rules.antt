@@ -16,8 +16,8 @@ use Rattle.ms_names_checked.specs.Constants.{AreInRange, HasConstantsInRange, Is
 use Rattle.ms_names_checked.specs.Names.{NamesDiffer}
 use Rattle.ms_names_checked.specs.Orders.{BindsInOrder, DeclaresInOrder, EachBindsInOrder, HasOneOrder, HasOrder}
 use Rattle.ms_ltlf.specs.Tree.{Temporal, truth, falsity, proposition, brackets, negation, conjunction, disjunction, implication, equivalence, next, weak_next, eventually, always, until, release, Temporals, no_temporals, more_temporals, depth, depth_of_all}
-use Rattle.ms_ltlf.specs.inner.Source.{IsStringSource, global_of, string_formulas}
-use Rattle.ms_ltlf.specs.inner.Strings.{string_form, string_forms}
+use Rattle.ms_ltlf.specs.Source.{IsStringSource, global_of, string_formulas}
+use Rattle.ms_ltlf.specs.Strings.{string_form, string_forms}
 use Rattle.ms_ltlf.proofs.Numbers.{each-formula, lists-free-variables, names-of-globals, source_with, source-same}
 
 -- constants

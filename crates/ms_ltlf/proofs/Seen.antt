@@ -7,8 +7,8 @@ use Rattle.ms_logic.specs.Verdict.{variables_of}
 use Rattle.ms_logic.specs.View.{globals_from}
 use Rattle.ms_names_rules.specs.Numbers.{Tables, Sees, IsNew, seeing, IsNumbered, AreNumbered}
 use Rattle.ms_ltlf.specs.Tree.{Temporal, truth, falsity, proposition, brackets, negation, conjunction, disjunction, implication, equivalence, next, weak_next, eventually, always, until, release, Temporals, no_temporals, more_temporals, IsOver, AreOver}
-use Rattle.ms_ltlf.specs.inner.Source.{global_of}
-use Rattle.ms_ltlf.specs.inner.Strings.{string_form, string_forms, some_position, at_the_start}
+use Rattle.ms_ltlf.specs.Source.{global_of}
+use Rattle.ms_ltlf.specs.Strings.{string_form, string_forms, some_position, at_the_start}
 
 -- the position is seen, it has the greatest number, and so are the propositions
 record SeesPosition (seen : List Variable) (count x : ℕ) : Type 0 where

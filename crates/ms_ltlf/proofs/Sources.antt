@@ -6,7 +6,6 @@ use Rattle.ms_logic.specs.declared.assignment.Value.TheVariants.{Number, Set}
 use Rattle.ms_logic.specs.declared.checked.Checked.{Checked}
 use Rattle.ms_logic.specs.declared.checked.Global.{Global}
 use Rattle.ms_logic.specs.declared.mode.Mode.{Mode}
-use Rattle.ms_logic.specs.declared.mode.Mode.TheVariants.{M2lStr}
 use Rattle.ms_logic.specs.declared.mode.Order.TheVariants.{Two}
 use Rattle.ms_logic.specs.declared.mode.Rel.TheVariants.{Equal}
 use Rattle.ms_logic.specs.Assignment.{Universe, Env, AllWithin, IsValueOf, GivesEach, assign}
@@ -14,27 +13,18 @@ use Rattle.ms_logic.specs.Lists.{Each}
 use Rattle.ms_logic.specs.Tree.{Form, Forms, number_variable, numeral, comparison, Predicate}
 use Rattle.ms_logic.specs.Tree as string
 use Rattle.ms_logic.specs.Truth.{Meanings, AllMet}
-use Rattle.ms_logic.specs.Verdict.{Problem, Assigns, MainYes, MainNo, variables_of}
+use Rattle.ms_logic.specs.Verdict.{Assigns, MainYes, MainNo, variables_of}
 use Rattle.ms_logic.specs.View.{Answers, forms, globals_from, import_of, main_question, predicate_of, problem_of}
 use Rattle.ms_ltlf.specs.Tree.{Temporal}
 use Rattle.ms_ltlf.specs.Trace.{FiniteTrace, HoldsAt}
 use Rattle.ms_ltlf.specs.Meaning.{length_of, trace_of, TellsTruth, IsOverTraces, TellsVerdict}
 use Rattle.ms_ltlf.proofs.Titles.{main-alone}
-use Rattle.ms_ltlf.specs.inner.Source.{IsStringSource, global_of, string_formulas}
-use Rattle.ms_ltlf.specs.inner.Strings.{two, string_form, at_the_start}
+use Rattle.ms_ltlf.specs.Source.{IsStringSource, global_of, string_problem}
+use Rattle.ms_ltlf.specs.Strings.{two, string_form, at_the_start}
 use Rattle.ms_ltlf.proofs.Agreeing.{Agrees, along, agrees-two, agrees-exists}
-use Rattle.ms_ltlf.proofs.Guarded.{nothing, meanings, consistent, guarded-yes, guarded-no, guarded-never}
+use Rattle.ms_ltlf.proofs.Guarded.{meanings, consistent, guarded-yes, guarded-no, guarded-never}
 use Rattle.ms_ltlf.proofs.Positions.{StandsAt, stands-bound, value-variable, value-zero, agrees-equal}
 use Rattle.ms_ltlf.proofs.Translated.{translated}
-
--- the source as a problem
-abbrev pub string_problem : List (List ℕ) → Temporal → Problem
-string_problem names f = record {
-  mode = M2lStr;
-  globals = globals_from 0 (map global_of names);
-  given = nothing;
-  formulas = forms (string_formulas (length names) f);
-}
 
 -- whatever its imports answer, since it has none
 pub problem-same : (names : List (List ℕ)) (f : Temporal) (made : Checked) (answers : Answers) → IsStringSource names f made → string_problem names f ≡ problem_of made answers

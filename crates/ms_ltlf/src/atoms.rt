@@ -2,7 +2,7 @@ ghost use Rattle.ms_logic.specs.Tree.{numeral, number_variable, comparison};
 ghost use Rattle.ms_logic.specs.View.{formula_of};
 ghost use Rattle.ms_logic.specs.declared.mode.Rel.TheVariants.{Equal};
 ghost use Rattle.ms_ltlf.specs.inner.Made.{Gives};
-ghost use Rattle.ms_ltlf.specs.inner.Strings.{at_most, follows, is_in, less};
+ghost use Rattle.ms_ltlf.specs.Strings.{at_most, follows, is_in, less};
 ghost use Rattle.std.specs.Prelude.{◌≡◌, ◌+◌, ◌<◌, ◌^◌};
 
 use ms_list::{NoMemory, on_heap};

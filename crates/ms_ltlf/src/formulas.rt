@@ -2,7 +2,7 @@ ghost use Rattle.ms_logic.specs.View.{formula_of};
 ghost use Rattle.ms_ltlf.specs.Tree.{depth, depth_of_all};
 ghost use Rattle.ms_ltlf.specs.View.{temporal_of, temporals};
 ghost use Rattle.ms_ltlf.specs.inner.Made.{Gives};
-ghost use Rattle.ms_ltlf.specs.inner.Strings.{string_form};
+ghost use Rattle.ms_ltlf.specs.Strings.{string_form};
 ghost use Rattle.std.specs.Prelude.{◌≡◌, ◌+◌, ◌*◌, ◌<◌, ◌^◌, map, IfOk};
 
 use crate::atoms::is_in;

@@ -3,7 +3,7 @@
 
 ghost use Rattle.ms_logic.specs.Tree.{Form};
 ghost use Rattle.ms_ltlf.specs.inner.Made.{Gives};
-ghost use Rattle.ms_ltlf.specs.inner.Strings.{always_at, between, eventually_at, freed_at, kept_at, next_at, release_at, until_at, weak_next_at};
+ghost use Rattle.ms_ltlf.specs.Strings.{always_at, between, eventually_at, freed_at, kept_at, next_at, release_at, until_at, weak_next_at};
 ghost use Rattle.std.specs.Prelude.{◌+◌, ◌<◌, ◌^◌};
 
 use crate::atoms::{at_most, follows, less};

@@ -3,7 +3,7 @@
 ghost use Rattle.ms_logic.specs.Tree.{Form, conjunction, disjunction, equivalence, implication, negation, restrict};
 ghost use Rattle.ms_logic.specs.View.{forms};
 ghost use Rattle.ms_ltlf.specs.inner.Made.{GiveAll, Gives};
-ghost use Rattle.ms_ltlf.specs.inner.Strings.{every, exists, three, two};
+ghost use Rattle.ms_ltlf.specs.Strings.{every, exists, three, two};
 ghost use Rattle.std.specs.Prelude.{◌∷◌, ◌++◌, [], List as Sequence};
 
 use crate::made::{both, heaped};

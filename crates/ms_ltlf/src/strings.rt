@@ -11,8 +11,8 @@ ghost use Rattle.ms_ltlf.specs.Meaning.{IsOverTraces, TellsTruth, TellsVerdict};
 ghost use Rattle.ms_ltlf.specs.Tree.{depth, size};
 ghost use Rattle.ms_ltlf.specs.View.{IsWellFormed, temporal_of};
 ghost use Rattle.ms_ltlf.specs.inner.Made.{Gives};
-ghost use Rattle.ms_ltlf.specs.inner.Source.{IsStringSource, global_of, start};
-ghost use Rattle.ms_ltlf.specs.inner.Strings.{at_the_start, some_position};
+ghost use Rattle.ms_ltlf.specs.Source.{IsStringSource, global_of, start};
+ghost use Rattle.ms_ltlf.specs.Strings.{at_the_start, some_position};
 ghost use Rattle.std.specs.Prelude.{◌≡◌, ◌≤◌, ◌+◌, ◌*◌, ◌∷◌, [], None, length, map, IfOk};
 
 use crate::atoms::{is_first, itself};
@@ -126,6 +126,7 @@ fn string_source(alloc: Global, trace: &Trace) -> Result<Checked, NoMemory>
 /// value is Undefined, and that the formula holds at the first.
 pub fn to_strings(alloc: Global, trace: &Trace) -> Result<Checked, NoMemory>
     requires { IsWellFormed trace.now }
+    ensures source { IfOk result (IsStringSource trace.now.names (temporal_of trace.now.formula)) }
     ensures truth { IfOk result (λ made. (answers : Answers) → TellsTruth (temporal_of trace.now.formula) (main_question made answers)) }
     ensures traces { IfOk result (λ made. (answers : Answers) → IsOverTraces (length trace.now.names) (main_question made answers)) }
     ensures verdict { IfOk result (λ made. (answers : Answers) →

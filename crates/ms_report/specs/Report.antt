@@ -1,5 +1,5 @@
 -- The report of a decision (docs/FORMATS.md, "Report"): for each question the verdict, the example and the counterexample; and the
--- counts where they are asked for.
+-- counts where they are asked for. The same of a formula of temporal logic, and the summary of a generated source.
 use Rattle.std.specs.Prelude.{ℕ, Bool, true, false, List, [], ◌∷◌, ◌++◌, codes, Option, Some, None}
 use Rattle.std.specs.List.{flat_map}
 use Rattle.std.specs.Fmt.{decimal}
@@ -76,6 +76,14 @@ goal_text globals goal = codes "goal " ++ goal.title ++ 10 ∷ [] ++ answer_text
 
 abbrev pub report_of : Found → List ℕ
 report_of found = main_text found.globals found.main ++ flat_map (goal_text found.globals) found.goals ++ stats_text found.stats
+
+-- the report on a formula of temporal logic, over the names of its propositions: the verdict, a trace on which it holds and one on which it
+-- does not
+abbrev pub trace_report_of : List (List ℕ) → Answer → List ℕ
+trace_report_of names answer =
+    verdict_text answer.verdict ++ 10 ∷ []
+    ++ assignment_text (codes "trace") names answer.example
+    ++ assignment_text (codes "countertrace") names answer.counterexample
 
 -- the length of the example or of the counterexample, by the word for it
 abbrev pub length_text : List ℕ → Option Assignment → List ℕ

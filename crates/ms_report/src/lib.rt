@@ -6,8 +6,10 @@ mod number;
 mod refusal_text;
 mod report_text;
 mod summary_text;
+mod trace_text;
 
 pub use found::{Answer, Found, GoalAnswer, Stats, Verdict};
 pub use refusal_text::refusal_line;
 pub use report_text::report;
 pub use summary_text::summary;
+pub use trace_text::trace_report;

@@ -76,7 +76,7 @@ pub(crate) fn verdict(verdict: Verdict) -> &'static str
     }
 }
 
-fn push_assignment(
+pub(crate) fn push_assignment(
     text: &mut String,
     word: &str,
     names: &List<Name>,

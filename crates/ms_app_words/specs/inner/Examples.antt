@@ -37,3 +37,12 @@ gen_by_number = codes "gen" ∷ codes "3" ∷ []
 
 abbrev pub gen_and_decide : List Text
 gen_and_decide = codes "gen" ∷ codes "3" ∷ codes "--decide" ∷ []
+
+abbrev pub one_formula : List Text
+one_formula = codes "ltl" ∷ codes "f.ltl" ∷ []
+
+abbrev pub formula_with_limit : List Text
+formula_with_limit = codes "ltl" ∷ codes "f.ltl" ∷ codes "--max-nodes" ∷ codes "5" ∷ []
+
+abbrev pub formula_with_out : List Text
+formula_with_out = codes "ltl" ∷ codes "f.ltl" ∷ codes "--out" ∷ codes "f.dfa" ∷ []

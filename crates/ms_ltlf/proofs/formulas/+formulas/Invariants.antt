@@ -1,7 +1,7 @@
 use Rattle.std.proofs.Common.{◌≡◌, map, take}
 use Rattle.ms_logic.specs.View.{formula_of}
 use Rattle.ms_ltlf.specs.View.{temporal_of}
-use Rattle.ms_ltlf.specs.inner.Strings.{string_form}
+use Rattle.ms_ltlf.specs.Strings.{string_form}
 use Rattle.ms_ltlf.proofs.formulas.+formulas.Given as goal
 
 abbrev pub invariant-formulas_at-loop-operand : goal.invariant-formulas_at-loop-operand

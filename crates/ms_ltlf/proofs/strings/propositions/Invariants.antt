@@ -1,5 +1,5 @@
 use Rattle.std.proofs.Common.{◌≡◌, map, take}
-use Rattle.ms_ltlf.specs.inner.Source.{global_of}
+use Rattle.ms_ltlf.specs.Source.{global_of}
 use Rattle.ms_ltlf.proofs.strings.propositions.Given as goal
 
 abbrev pub invariant-loop-name : goal.invariant-loop-name

@@ -3,8 +3,8 @@ use Rattle.std.proofs.lemmas.Result.{IfOk-at_ok}
 use Rattle.ms_logic.specs.View.{formula_of}
 use Rattle.ms_logic.specs.declared.checked.Placed.{Placed}
 use Rattle.ms_ltlf.specs.View.{temporal_of}
-use Rattle.ms_ltlf.specs.inner.Source.{global_of, string_formulas}
-use Rattle.ms_ltlf.specs.inner.Strings.{at_the_start, some_position, string_form}
+use Rattle.ms_ltlf.specs.Source.{global_of, start, string_formulas}
+use Rattle.ms_ltlf.specs.Strings.{at_the_start, some_position, string_form}
 use Rattle.ms_ltlf.proofs.strings.string_source.Goals as goal
 
 pub returns-clause-source : goal.returns-clause-source
@@ -25,4 +25,8 @@ returns-clause-source c =
           ∙ ap (λ (n : ℕ). string_formulas n f) c.len-x.ensures;
       titles =
           IfOk-at_ok (λ made. map (λ (placed : Placed). placed.title) made ≡ None ∷ None ∷ []) c.in_ok-globals.ensures.other c.declared-formulas.ensures.titles;
+      places =
+          IfOk-at_ok (λ made. map (λ (placed : Placed). placed.at) made ≡ start ∷ start ∷ []) c.in_ok-globals.ensures.other c.declared-formulas.ensures.places;
+      items =
+          IfOk-at_ok (λ made. map (λ (placed : Placed). placed.item) made ≡ 1 ∷ 2 ∷ []) c.in_ok-globals.ensures.other c.declared-formulas.ensures.items;
     }

@@ -12,7 +12,7 @@ use Rattle.ms_logic_core.specs.Size.{depth_of_source, size_of_source}
 use Rattle.ms_ltlf.specs.Tree.{depth, size}
 use Rattle.ms_ltlf.specs.View.{temporal_of}
 use Rattle.ms_ltlf.proofs.Extents.{is-deep, is-large}
-use Rattle.ms_ltlf.specs.inner.Source.{IsStringSource}
+use Rattle.ms_ltlf.specs.Source.{IsStringSource}
 use Rattle.ms_ltlf.proofs.Numbers.{is-well-numbered, lists-free-variables, names-kept}
 use Rattle.ms_ltlf.proofs.Rules.{meets-rules}
 use Rattle.ms_ltlf.proofs.Titles.{no-goals}

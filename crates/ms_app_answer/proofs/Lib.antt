@@ -1,0 +1,2 @@
+pub mod FirstAssignments
+pub mod VerdictLemmas

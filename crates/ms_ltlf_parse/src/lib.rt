@@ -1,0 +1,30 @@
+//! Reads the tokens of a text as a formula of linear temporal logic on finite traces, or refuses them.
+#![tactic(auto)]
+
+mod complete;
+mod enter;
+mod examples;
+mod formula;
+mod frame;
+mod laws;
+mod levels;
+mod link;
+mod memory;
+mod operand;
+mod operands;
+mod operator;
+mod read;
+mod sights;
+mod stack;
+mod state;
+mod step;
+mod stop;
+mod terminal;
+
+pub use examples::{
+    worked_continuations, worked_depths, worked_names, worked_operators, worked_refusals,
+    worked_rows,
+};
+pub use laws::one_trace;
+pub use operator::{Binary, Junction, Prefix};
+pub use read::read_trace;

@@ -1,0 +1,20 @@
+use crate::frame::Frame;
+use crate::operand::Operand;
+
+/// What has been begun, and the depth of the shortest formula that begins so.
+#[derive(Drop)]
+pub struct Begun {
+    pub frames: Vec<Frame>,
+    pub deepest: u32,
+}
+
+/// What has been read last.
+#[derive(Drop)]
+pub enum Outcome {
+    /// An operand is wanted.
+    Wanted,
+    /// An operand has been read.
+    Holding(Operand),
+    /// The semicolon has been read.
+    Done(Operand),
+}
