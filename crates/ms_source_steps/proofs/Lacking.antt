@@ -19,7 +19,7 @@ use Rattle.ms_dag.proofs.ImportLemmas.{nodes_import_as_roots_do}
 use Rattle.ms_logic.specs.Assignment.{Variable}
 use Rattle.ms_logic.specs.Lists.{Each}
 use Rattle.ms_logic.specs.Truth.{Import}
-use Rattle.ms_logic.specs.View.{Answers, question_of}
+use Rattle.ms_logic.specs.View.{Answers}
 use Rattle.ms_logic.specs.declared.checked.Checked.{Checked}
 use Rattle.ms_logic.specs.declared.mode.Order.{Order}
 use Rattle.ms_logic_core.specs.Calls.{Calls}
@@ -59,7 +59,7 @@ module _ (checked : Checked) (answers : Answers) (contents : List (Content Sign)
       (subst (λ mode. AreImportsOf lacks.plan.imports.now mode lacks.dag.entries) (sym lacks.is_plan.mode_is)
       (subst (λ cs. AreImportsOf cs checked.mode lacks.dag.entries) (sym lacks.is_plan.imports_are) there))
 
-  below_roots : All (IsWithin limit) contents → IsBelowRoots (imports_of contents) calls checked.mode lacks.is_graph.lowered limit
+  pub below_roots : All (IsWithin limit) contents → IsBelowRoots (imports_of contents) calls checked.mode lacks.is_graph.lowered limit
   below_roots within =
       let here = subst (λ n. All (IsWithin n) lacks.plan.imports.now) (sym lacks.is_plan.limit_is) (subst (λ cs. All (IsWithin limit) cs) (sym lacks.is_plan.imports_are) within) in
       let by = λ (k : ℕ) (short : NodeLacks lacks.plan k ⊎ RootLacks lacks.plan k). lacking_is_below_roots (imports_of contents) calls lacks.is_graph.lowered lacks.plan k planned nodes_lent here short in
@@ -67,8 +67,9 @@ module _ (checked : Checked) (answers : Answers) (contents : List (Content Sign)
       (subst (λ n. IsBelowRoots (imports_of contents) calls lacks.plan.mode lacks.is_graph.lowered n) lacks.is_plan.limit_is
       (⊎_elim (λ node. by step (inl node)) (λ of_root. by of_root.0 (inr of_root.2)) lacks.lacks))
 
-  below_source : IsBelowRoots (imports_of contents) calls checked.mode lacks.is_graph.lowered limit → IsBelowSource checked answers (imports_of contents) limit
-  below_source found =
+  -- the root of the graph is that of a question
+  pub below_source : (imports : List Import) → IsBelowRoots imports calls checked.mode lacks.is_graph.lowered limit → IsBelowSource checked answers imports limit
+  below_source imports found =
       let orders = lacks.is_graph.lowered.orders in
       let r = asked_by (IsRootFor checked) checked answers lacks.is_graph.lowered.roots lacks.is_graph.roots found.number found.root found.is_root in
       let one = r.2.1 in
@@ -83,9 +84,9 @@ module _ (checked : Checked) (answers : Answers) (contents : List (Content Sign)
         is_root = one.is_root;
         made = one.made;
         same = one.same;
-        below = subst (λ (whole : Root). IsBelowOneOf (imports_of contents) checked.mode (step_of_root whole ∷ steps_of whole.formula) limit) same found.below;
+        below = subst (λ (whole : Root). IsBelowOneOf imports checked.mode (step_of_root whole ∷ steps_of whole.formula) limit) same found.below;
       }
 
 pub lacking_sources_are_below_steps : LackingSourcesAreBelowSteps
 lacking_sources_are_below_steps checked answers contents limit step well long lent within lacks =
-    below_source checked answers contents limit step well long lent lacks (below_roots checked answers contents limit step well long lent lacks within)
+    below_source checked answers contents limit step well long lent lacks (imports_of contents) (below_roots checked answers contents limit step well long lent lacks within)

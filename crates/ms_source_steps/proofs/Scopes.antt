@@ -1,5 +1,5 @@
 -- The scope in which a core formula stands may be narrowed to what has its free variables.
-use Rattle.std.proofs.Common.{◌≡◌, ℕ, ◌<◌, inl, inr, ⊎_elim, List, [], ◌∷◌, Contains, slice_get, sym, ap, subst, ◌∙◌, refl}
+use Rattle.std.proofs.Common.{◌≡◌, ◌<◌, inl, inr, ⊎_elim, List, [], ◌∷◌, Contains, slice_get, sym, ap, subst, ◌∙◌, refl}
 use Rattle.std.proofs.lemmas.Bool.{cases_eq}
 use Rattle.std.proofs.lemmas.List.Elements.{All-contains}
 use Rattle.ms_dag.specs.Laws.{EachHasItsOrders, HasOrder, HaveTheirOrders, RestrictionHasItsOrders}

@@ -1,11 +1,11 @@
 -- What a source lacks, by the steps of the roots of its questions.
 use Rattle.std.specs.Prelude.{◌≡◌, ℕ, List, ◌∷◌, length, All as Each}
 use Rattle.ms_build.specs.Built.{IsWithin, imports_of}
-use Rattle.ms_build_source.specs.Imported.{AreLentFor}
+use Rattle.ms_build_source.specs.Imported.{AreAnswersOf, AreLentFor}
 use Rattle.ms_build_source.specs.Limits.{LacksNodes}
 use Rattle.ms_build_steps.specs.Kinds.{IsBelowOneOf}
 use Rattle.ms_logic.specs.Truth.{Import}
-use Rattle.ms_logic.specs.View.{Answers, question_of}
+use Rattle.ms_logic.specs.View.{Answers, problem_of, question_of}
 use Rattle.ms_logic.specs.declared.checked.Checked.{Checked}
 use Rattle.ms_logic.specs.declared.checked.Placed.{Placed}
 use Rattle.ms_logic_core.specs.Roots.{IsRoot, Root}
@@ -35,3 +35,10 @@ LackingSourcesAreBelowSteps =
     (checked : Checked) (answers : Answers) (contents : List (Content Sign)) (limit step : ℕ)
     → IsWellNumbered checked → length answers ≡ length checked.imports → AreLentFor checked.mode checked.imports contents → Each (IsWithin limit) contents
     → LacksNodes checked answers contents limit step → IsBelowSource checked answers (imports_of contents) limit
+
+-- and so with the imports of the source itself, which have these answers, where the automata answer as these do
+abbrev pub LackingSourcesAreBelowOwnSteps : Type 0
+LackingSourcesAreBelowOwnSteps =
+    (checked : Checked) (answers : Answers) (contents : List (Content Sign)) (limit step : ℕ)
+    → IsWellNumbered checked → AreLentFor checked.mode checked.imports contents → AreAnswersOf checked.mode checked.imports answers contents → Each (IsWithin limit) contents
+    → LacksNodes checked answers contents limit step → IsBelowSource checked answers (problem_of checked answers).given.imports limit

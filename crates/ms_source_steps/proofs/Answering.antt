@@ -1,0 +1,69 @@
+-- What is below each budget where imports answer as automata is so where they answer as the source's imports do.
+use Rattle.std.proofs.Common.{◌≡◌, ℕ, zero, suc, ⊎_elim, List, [], ◌∷◌, Contains, slice_get, Some, sym, subst}
+use Rattle.std.proofs.lemmas.Option.{none-some, same_Some}
+use Rattle.ms_build.specs.Built.{imports_of}
+use Rattle.ms_build_source.specs.Graph.{calls_in}
+use Rattle.ms_build_source.specs.inner.Asked.{AnswerAlike}
+use Rattle.ms_build_source.proofs.ImportAnswers.{answers_alike, given_by, variables_alike}
+use Rattle.ms_build_source.proofs.Solved.{answers_counted}
+use Rattle.ms_build_steps.specs.Laws.{IsBelowRoots, whole_root}
+use Rattle.ms_dag.specs.Lowered.{IsLowered, IsLoweredRoot}
+use Rattle.ms_dag_steps.specs.Occurrences.{whole_formula}
+use Rattle.ms_diagram.proofs.ListLemmas.{Contains-cases}
+use Rattle.ms_logic.specs.Lists.{Each}
+use Rattle.ms_logic.specs.Truth.{Import}
+use Rattle.ms_logic.specs.View.{problem_of}
+use Rattle.ms_logic.specs.declared.mode.Mode.{Mode}
+use Rattle.ms_logic_core.specs.Calls.{Calls}
+use Rattle.ms_logic_core.specs.Spread.{variables_of_import}
+use Rattle.ms_logic_core.specs.declared.core_formula.Lowered.{Lowered}
+use Rattle.ms_logic_core.specs.declared.core_formula.Root.{Root}
+use Rattle.ms_logic_measures.specs.Steps.{Step, root as step_of_root, steps_of}
+use Rattle.ms_source_steps.specs.Laws.{LackingSourcesAreBelowOwnSteps}
+use Rattle.ms_source_steps.proofs.Alike.{kind_alike}
+use Rattle.ms_source_steps.proofs.Known.{IsKnownStep, steps_known}
+use Rattle.ms_source_steps.proofs.Lacking.{below_roots, below_source}
+use Rattle.ms_source_steps.proofs.Standing.{orders_of}
+
+each_at : {A : Type 0} (P : A → Type 0) (xs : List A) → Each P xs → (k : ℕ) (x : A) → slice_get xs k ≡ Some x → P x
+each_at P [] each k x held = absurd (none-some x held)
+each_at P (y ∷ ys) each zero x held = subst P (same_Some y x held) each.0
+each_at P (y ∷ ys) each (suc k) x held = each_at P ys each.1 k x held
+
+module _ (mode : Mode) (first second : List Import) (orders : (i : ℕ) → orders_of (variables_of_import (slice_get first i)) ≡ orders_of (variables_of_import (slice_get second i)))
+    (alike : AnswerAlike mode first second) (calls : Calls) (lowered : Lowered) (is : IsLowered first calls lowered) where
+  -- each step of a root stands in some scope
+  step_known : (root : Root) → IsLoweredRoot first calls lowered.orders root → (step : Step) → Contains (step_of_root (whole_root calls lowered.orders root) ∷ steps_of (whole_formula calls root)) step
+      → IsKnownStep first lowered.orders step
+  step_known root of_root step there = ⊎_elim
+      (λ same. subst (IsKnownStep first lowered.orders) (sym same) (of_root.own, of_root.stands, of_root.orders_of_all))
+      (λ later. steps_known first lowered.orders (whole_formula calls root) of_root.own of_root.stands of_root.orders_of_all step later)
+      (Contains-cases (step_of_root (whole_root calls lowered.orders root)) (steps_of (whole_formula calls root)) step there)
+
+  below_alike : (limit : ℕ) → IsBelowRoots second calls mode lowered limit → IsBelowRoots first calls mode lowered limit
+  below_alike limit found =
+      let step = found.below.0 in
+      let one = found.below.2 in
+      let known = step_known found.root (each_at (IsLoweredRoot first calls lowered.orders) lowered.roots is.roots found.number found.root found.is_root) step found.below.1 in
+      record {
+        number = found.number;
+        root = found.root;
+        is_root = found.is_root;
+        below = (
+          step,
+          found.below.1,
+          record {
+            kind = one.kind;
+            has = one.has;
+            below = λ files m r measure. one.below files m r (kind_alike mode first second lowered.orders orders alike files step known one.kind m r measure);
+          },
+        );
+      }
+
+pub lacking_sources_are_below_own_steps : LackingSourcesAreBelowOwnSteps
+lacking_sources_are_below_own_steps checked answers contents limit step well lent are within lacks =
+    let long = answers_counted checked.mode checked.imports answers contents are in
+    let lowered = lacks.is_graph.lowered in
+    below_source checked answers contents limit step well long lent lacks (problem_of checked answers).given.imports
+    (below_alike checked.mode (given_by checked.imports answers) (imports_of contents) (variables_alike checked.mode checked.imports answers contents lent long)
+    (answers_alike checked.mode checked.imports answers contents lent are) (calls_in checked answers) lowered lacks.is_graph.is_lowered limit (below_roots checked answers contents limit step well long lent lacks within))
