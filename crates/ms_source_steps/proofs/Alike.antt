@@ -7,7 +7,6 @@ use Rattle.ms_build.proofs.PlaceLemmas.{gives_among, length-by_place}
 use Rattle.ms_build_source.specs.inner.Asked.{AnswerAlike}
 use Rattle.ms_build_source.proofs.AgreeingImports.{IsIn, one_value}
 use Rattle.ms_build_steps.specs.Kinds.{IsMeasureOfKind, Kind, itself, widening}
-use Rattle.ms_dag.specs.Laws.{HaveTheirOrders}
 use Rattle.ms_dag_steps.proofs.JoinedLemmas.{joined_there}
 use Rattle.ms_dag_steps.proofs.SubformulaLemmas.{only}
 use Rattle.ms_diagram.proofs.ListLemmas.{Contains-cases, Contains-first, Contains-none, Contains-rest}
@@ -29,7 +28,7 @@ use Rattle.ms_logic_words.specs.Content.{Content, variables_by_place, variables_
 use Rattle.ms_logic_words.specs.declared.sign.Sign.{Sign}
 use Rattle.ms_logic_words.specs.declared.sign.Sign.TheVariants.{Yes, No, Undefined, Outside}
 use Rattle.ms_source_steps.proofs.Known.{AreKnownInside, IsKnown, IsKnownStep}
-use Rattle.ms_source_steps.proofs.Scopes.{free_in_scope, narrow, restriction_in_scope}
+use Rattle.ms_source_steps.proofs.Scopes.{AreApart, free_in_scope, narrow, restriction_in_scope}
 use Rattle.ms_source_steps.proofs.Standing.{orders_of, variables_by_orders}
 
 contains_among : (vs : List Variable) (v : Variable) → Contains vs v → IsAmong vs v
@@ -54,7 +53,7 @@ at_numbers base vs count same = subst (λ n. variables_at (range_with_len base n
     by first [] = refl
     by first (w ∷ ws) = ap (λ (us : List Variable). variable first w.order ∷ us) (by (first + 1) ws)
 
-module _ (mode : Mode) (first second : List Import) (globals : List Order)
+module _ (mode : Mode) (first second : List Import)
     (orders : (i : ℕ) → orders_of (variables_of_import (slice_get first i)) ≡ orders_of (variables_of_import (slice_get second i))) (alike : AnswerAlike mode first second) where
   mutual
     free_alike : (f : CoreForm) → free_variables first f ≡ free_variables second f
@@ -99,20 +98,20 @@ module _ (mode : Mode) (first second : List Import) (globals : List Order)
     values = λ word over. let found = full.values word over in (found.0, found.1, value_alike f vs stands word found.0 found.2);
   }
 
-  full_alike : (f : CoreForm) (scope vs : List Variable) (content : Content Sign) → Stands first scope f → HaveTheirOrders first globals f → ((v : Variable) → IsAmong vs v → IsAmong scope v)
+  full_alike : (f : CoreForm) (scope vs : List Variable) (content : Content Sign) → AreApart scope → Stands first scope f → ((v : Variable) → IsAmong vs v → IsAmong scope v)
       → IsFullContent first mode vs f content → IsFullContent second mode vs f content
-  full_alike f scope vs content stands have inside full =
-      full_standing f vs content (narrow first globals f scope vs stands have inside (λ v there. contains_among vs v (full.covers v there))) full
+  full_alike f scope vs content apart stands inside full =
+      full_standing f vs content (narrow first f scope vs apart stands inside (λ v there. contains_among vs v (full.covers v there))) full
 
-  own_alike : (f : CoreForm) (content : Content Sign) → IsKnown first globals f → IsOwnContent first mode f content → IsOwnContent second mode f content
+  own_alike : (f : CoreForm) (content : Content Sign) → IsKnown first f → IsOwnContent first mode f content → IsOwnContent second mode f content
   own_alike f content known full =
       subst (λ vs. IsFullContent second mode vs f content) (free_alike f)
-      (full_alike f known.0 (free_variables first f) content known.1 known.2 (λ v among. free_in_scope first f known.0 known.1 v (among_contains (free_variables first f) v among)) full)
+      (full_alike f known.0 (free_variables first f) content known.1 known.2 (λ v among. free_in_scope first f known.0 known.2 v (among_contains (free_variables first f) v among)) full)
 
-  count_alike : (f : CoreForm) (n : ℕ) → IsKnown first globals f → HasPartCount first mode (free_variables first f) f n → HasPartCount second mode (free_variables second f) f n
+  count_alike : (f : CoreForm) (n : ℕ) → IsKnown first f → HasPartCount first mode (free_variables first f) f n → HasPartCount second mode (free_variables second f) f n
   count_alike f n known has = (has.0, own_alike f has.0 known has.1, has.2)
 
-  widening_alike : (f : CoreForm) (vs : List Variable) (m r : ℕ) → IsKnown first globals f → IsWideningMeasure first mode f vs m r → IsWideningMeasure second mode f vs m r
+  widening_alike : (f : CoreForm) (vs : List Variable) (m r : ℕ) → IsKnown first f → IsWideningMeasure first mode f vs m r → IsWideningMeasure second mode f vs m r
   widening_alike f vs m r known measure = record {
     content = measure.content;
     encodings = measure.encodings;
@@ -123,7 +122,7 @@ module _ (mode : Mode) (first second : List Import) (globals : List Order)
   }
 
   -- inside a quantifier
-  module _ (x : Variable) (d : CoreRestriction) (f : CoreForm) (known : AreKnownInside first globals x d f) where
+  module _ (x : Variable) (d : CoreRestriction) (f : CoreForm) (known : AreKnownInside first x d f) where
     inside_alike : variables_inside first mode x d f ≡ variables_inside second mode x d f
     inside_alike = ap₂ (λ vs ws. joined (x ∷ []) (joined vs ws)) (range_alike d) (free_alike f)
 
@@ -132,18 +131,18 @@ module _ (mode : Mode) (first second : List Import) (globals : List Order)
         let range = free_variables_in first d in
         let body = free_variables first f in
         ⊎_elim (λ bound. inl (sym (only v x bound)))
-        (λ other. ⊎_elim (λ left. restriction_in_scope first d (x ∷ known.0) known.1 v left) (λ right. free_in_scope first f (x ∷ known.0) known.2 v right) (joined_there range body v other))
+        (λ other. ⊎_elim (λ left. restriction_in_scope first d (x ∷ known.0) known.2 v left) (λ right. free_in_scope first f (x ∷ known.0) known.3 v right) (joined_there range body v other))
         (joined_there (x ∷ []) (joined range body) v (among_contains (variables_inside first mode x d f) v among))
 
     body_alike : (content : Content Sign) → IsFullContent first mode (variables_inside first mode x d f) f content → IsFullContent second mode (variables_inside second mode x d f) f content
     body_alike content full =
         subst (λ vs. IsFullContent second mode vs f content) inside_alike
-        (full_alike f (x ∷ known.0) (variables_inside first mode x d f) content known.2 known.4 inside_scope full)
+        (full_alike f (x ∷ known.0) (variables_inside first mode x d f) content known.1 known.3 inside_scope full)
 
-  binding_alike : (x : Variable) (d : CoreRestriction) (f : CoreForm) (m r : ℕ) → AreKnownInside first globals x d f → IsBindingMeasure first mode x d f m r → IsBindingMeasure second mode x d f m r
+  binding_alike : (x : Variable) (d : CoreRestriction) (f : CoreForm) (m r : ℕ) → AreKnownInside first x d f → IsBindingMeasure first mode x d f m r → IsBindingMeasure second mode x d f m r
   binding_alike x unrestricted f m r known measure = (measure.0, body_alike x unrestricted f known measure.0 measure.1, measure.2)
   binding_alike x (restricted d) f m r known measure =
-      (measure.0, measure.1, body_alike x (restricted d) f known measure.0 measure.2, own_alike d measure.1 (x ∷ known.0, known.1, known.3) measure.3, measure.4)
+      (measure.0, measure.1, body_alike x (restricted d) f known measure.0 measure.2, own_alike d measure.1 (x ∷ known.0, known.1, known.2) measure.3, measure.4)
 
   -- an import at its own pairs
   module _ (i : ℕ) where
@@ -169,7 +168,7 @@ module _ (mode : Mode) (first second : List Import) (globals : List Order)
         (full_standing (imported i (numbers_below (length (pair_variables first i)))) (pair_variables first i) content import_stands full)
 
   -- the measures of a step that is known
-  pub kind_alike : (files : List (Content Answer)) (step : Step) → IsKnownStep first globals step → (kind : Kind) (m r : ℕ) → IsMeasureOfKind first mode files step kind m r → IsMeasureOfKind second mode files step kind m r
+  pub kind_alike : (files : List (Content Answer)) (step : Step) → IsKnownStep first step → (kind : Kind) (m r : ℕ) → IsMeasureOfKind first mode files step kind m r → IsMeasureOfKind second mode files step kind m r
   kind_alike files (constant f) known itself m r measure = (count_alike f m known measure.0, measure.1)
   kind_alike files (constant f) known widening m r measure = absurd measure
   kind_alike files (of_one f g) known itself m r measure = (count_alike f m known.0 measure.0, count_alike g r known.1 measure.1)
@@ -180,7 +179,7 @@ module _ (mode : Mode) (first second : List Import) (globals : List Order)
   kind_alike files (connective f g) known widening m r measure = absurd measure
   kind_alike files (binding x d f) known itself m r measure = binding_alike x d f m r known measure
   kind_alike files (binding x d f) known widening m r measure =
-      subst (λ vs. IsWideningMeasure second mode f vs m r) (inside_alike x d f known) (widening_alike f (variables_inside first mode x d f) m r (x ∷ known.0, known.2, known.4) measure)
+      subst (λ vs. IsWideningMeasure second mode f vs m r) (inside_alike x d f known) (widening_alike f (variables_inside first mode x d f) m r (x ∷ known.0, known.1, known.3) measure)
   kind_alike files (import_at i xs) known itself m r measure = (measure.0, import_alike i measure.0 measure.1, measure.2)
   kind_alike files (import_at i xs) known widening m r measure = absurd measure
   kind_alike files (import_of_source i) known kind m r measure = absurd known

@@ -1,5 +1,6 @@
 -- What is below each budget where imports answer as automata is so where they answer as the source's imports do.
 use Rattle.std.proofs.Common.{◌≡◌, ℕ, zero, suc, ⊎_elim, List, [], ◌∷◌, Contains, slice_get, Some, sym, subst}
+use Rattle.std.specs.List.Sorted.{IsStrictlyIncreasing}
 use Rattle.std.proofs.lemmas.Option.{none-some, same_Some}
 use Rattle.ms_build.specs.Built.{imports_of}
 use Rattle.ms_build_source.specs.Graph.{calls_in}
@@ -23,6 +24,7 @@ use Rattle.ms_source_steps.specs.Laws.{LackingSourcesAreBelowOwnSteps}
 use Rattle.ms_source_steps.proofs.Alike.{kind_alike}
 use Rattle.ms_source_steps.proofs.Known.{IsKnownStep, steps_known}
 use Rattle.ms_source_steps.proofs.Lacking.{below_roots, below_source}
+use Rattle.ms_source_steps.proofs.Scopes.{AreApart, rising_apart}
 use Rattle.ms_source_steps.proofs.Standing.{orders_of}
 
 each_at : {A : Type 0} (P : A → Type 0) (xs : List A) → Each P xs → (k : ℕ) (x : A) → slice_get xs k ≡ Some x → P x
@@ -32,12 +34,15 @@ each_at P (y ∷ ys) each (suc k) x held = each_at P ys each.1 k x held
 
 module _ (mode : Mode) (first second : List Import) (orders : (i : ℕ) → orders_of (variables_of_import (slice_get first i)) ≡ orders_of (variables_of_import (slice_get second i)))
     (alike : AnswerAlike mode first second) (calls : Calls) (lowered : Lowered) (is : IsLowered first calls lowered) where
+  own_apart : (root : Root) (of_root : IsLoweredRoot first calls lowered.orders root) → AreApart of_root.own
+  own_apart root of_root = rising_apart of_root.own (subst (λ list. IsStrictlyIncreasing list) (sym of_root.variables) of_root.rising)
+
   -- each step of a root stands in some scope
   step_known : (root : Root) → IsLoweredRoot first calls lowered.orders root → (step : Step) → Contains (step_of_root (whole_root calls lowered.orders root) ∷ steps_of (whole_formula calls root)) step
-      → IsKnownStep first lowered.orders step
+      → IsKnownStep first step
   step_known root of_root step there = ⊎_elim
-      (λ same. subst (IsKnownStep first lowered.orders) (sym same) (of_root.own, of_root.stands, of_root.orders_of_all))
-      (λ later. steps_known first lowered.orders (whole_formula calls root) of_root.own of_root.stands of_root.orders_of_all step later)
+      (λ same. subst (IsKnownStep first) (sym same) (of_root.own, own_apart root of_root, of_root.stands))
+      (λ later. steps_known first (whole_formula calls root) of_root.own (own_apart root of_root) of_root.stands step later)
       (Contains-cases (step_of_root (whole_root calls lowered.orders root)) (steps_of (whole_formula calls root)) step there)
 
   below_alike : (limit : ℕ) → IsBelowRoots second calls mode lowered limit → IsBelowRoots first calls mode lowered limit
@@ -55,7 +60,7 @@ module _ (mode : Mode) (first second : List Import) (orders : (i : ℕ) → orde
           record {
             kind = one.kind;
             has = one.has;
-            below = λ files m r measure. one.below files m r (kind_alike mode first second lowered.orders orders alike files step known one.kind m r measure);
+            below = λ files m r measure. one.below files m r (kind_alike mode first second orders alike files step known one.kind m r measure);
           },
         );
       }
