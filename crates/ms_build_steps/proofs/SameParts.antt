@@ -33,11 +33,11 @@ padded_same has_value (v ∷ vs) (w ∷ ws) values same =
     ∙ ap (λ (rest : List Bool). if has_value v.order then head_bit values ∷ padded has_value vs (tail_bits values) else false ∷ rest) (padded_same has_value vs ws values more)
 
 -- the parts of a content, over other variables of the same orders
-abbrev pub over : Mode → List Variable → Content Sign → Content Sign
+abbrev pub over : {S : Type 0} → Mode → List Variable → Content S → Content S
 over mode us content = record { mode = mode; variables = us; start = content.start; states = content.states; nodes = content.nodes }
 
-module _ (content : Content Sign) (mode : Mode) (us : List Variable) (same : orders_of us ≡ orders_of content.variables) where
-  next_same : (found : Option (StateOf Sign)) (letter : List Bool) → next_from (over mode us content) found letter ≡ next_from content found letter
+module _ {S : Type 0} (content : Content S) (mode : Mode) (us : List Variable) (same : orders_of us ≡ orders_of content.variables) where
+  next_same : (found : Option (StateOf S)) (letter : List Bool) → next_from (over mode us content) found letter ≡ next_from content found letter
   next_same None letter = refl
   next_same (Some state) letter = ap (λ bits. leaf_of content.nodes state.next (bits_at bits)) (padded_same is_in_letters content.variables us letter same)
 
@@ -47,7 +47,7 @@ module _ (content : Content Sign) (mode : Mode) (us : List Variable) (same : ord
       after_same letters (next_state (over mode us content) state letter)
       ∙ ap (λ s. state_after content s letters) (next_same (slice_get content.states state) letter)
 
-  last_same : (word : Word) → last_state (over mode us content) word ≡ last_state content word
+  pub last_same : (word : Word) → last_state (over mode us content) word ≡ last_state content word
   last_same word =
       after_same word.letters (first_state (over mode us content) word.truth)
       ∙ ap (λ bits. state_after content (leaf_of content.nodes content.start (bits_at bits)) word.letters) (padded_same is_truth_value content.variables us word.truth same)
@@ -75,8 +75,8 @@ module _ (content : Content Sign) (mode : Mode) (us : List Variable) (same : ord
       ∙ equal letters (letters_same letters are)
       ∙ ap (sign_at content) (after_same letters other))
 
-  pub closed_same : IsClosed content → IsClosed (over mode us content)
-  closed_same closed = closed_least content (over mode us content) (record { start = refl; states = refl; nodes = refl }) (sym same) closed
+pub closed_same : (content : Content Sign) (mode : Mode) (us : List Variable) → orders_of us ≡ orders_of content.variables → IsClosed content → IsClosed (over mode us content)
+closed_same content mode us same closed = closed_least content (over mode us content) (record { start = refl; states = refl; nodes = refl }) (sym same) closed
 
 -- so a content with the parts of another, over variables of the same orders, has its signs, and reached and different states
 module _ (one least : Content Sign) (parts : HasPartsOf least one) (orders : orders_of one.variables ≡ orders_of least.variables) where

@@ -16,7 +16,6 @@ use Rattle.ms_logic.specs.FiniteSet.{numbers_below}
 use Rattle.ms_logic.specs.Lists.{Each, IsAmong, without}
 use Rattle.ms_logic.specs.Truth.{Answer, Import}
 use Rattle.ms_logic.specs.declared.mode.Mode.{Mode}
-use Rattle.ms_logic.specs.declared.mode.Order.{Order}
 use Rattle.ms_logic_core.specs.CoreForm.{CoreForm, truth, falsity, basic, negation, conjunction, disjunction, implication, equivalence, restrict, imported, quantified, CoreForms, no_forms, more_forms, CoreRestriction, unrestricted, restricted}
 use Rattle.ms_logic_core.specs.Operands.{variable, variables_at}
 use Rattle.ms_logic_core.specs.Spread.{variables_of_import}
@@ -31,7 +30,7 @@ use Rattle.ms_source_steps.proofs.Known.{AreKnownInside, IsKnown, IsKnownStep}
 use Rattle.ms_source_steps.proofs.Scopes.{AreApart, free_in_scope, narrow, restriction_in_scope}
 use Rattle.ms_source_steps.proofs.Standing.{orders_of, variables_by_orders}
 
-contains_among : (vs : List Variable) (v : Variable) → Contains vs v → IsAmong vs v
+pub contains_among : (vs : List Variable) (v : Variable) → Contains vs v → IsAmong vs v
 contains_among [] v there = absurd (Contains-none v there)
 contains_among (w ∷ vs) v there = ⊎_elim (λ first. inl (sym first)) (λ later. inr (contains_among vs v later)) (Contains-cases w vs v there)
 
@@ -175,7 +174,7 @@ module _ (mode : Mode) (first second : List Import)
   kind_alike files (of_one f g) known widening m r measure = absurd measure
   kind_alike files (relation b) known itself m r measure = measure
   kind_alike files (relation b) known widening m r measure = absurd measure
-  kind_alike files (connective f g) known itself m r measure = (measure.0, measure.1, own_alike f measure.0 known.0 measure.2, own_alike g measure.1 known.1 measure.3, measure.4)
+  kind_alike files (connective f g) known itself m r measure = (measure.0, measure.1, own_alike f measure.0 (known.0, known.1, known.2) measure.2, own_alike g measure.1 (known.0, known.1, known.3) measure.3, measure.4)
   kind_alike files (connective f g) known widening m r measure = absurd measure
   kind_alike files (binding x d f) known itself m r measure = binding_alike x d f m r known measure
   kind_alike files (binding x d f) known widening m r measure =
@@ -184,4 +183,4 @@ module _ (mode : Mode) (first second : List Import)
   kind_alike files (import_at i xs) known widening m r measure = absurd measure
   kind_alike files (import_of_source i) known kind m r measure = absurd known
   kind_alike files (root whole) known itself m r measure = absurd measure
-  kind_alike files (root whole) known widening m r measure = widening_alike whole.formula whole.variables m r known measure
+  kind_alike files (root whole) known widening m r measure = widening_alike whole.formula whole.variables m r (whole.variables, known.0, known.1) measure

@@ -19,15 +19,19 @@ module _ (imports : List Import) where
   abbrev pub AreKnownInside : Variable → CoreRestriction → CoreForm → Type 0
   AreKnownInside x d f = (scope : List Variable) × AreApart (x ∷ scope) × RestrictionStands imports (x ∷ scope) d × Stands imports (x ∷ scope) f
 
+  -- so do two formulas
+  abbrev pub AreKnown : CoreForm → CoreForm → Type 0
+  AreKnown f g = (scope : List Variable) × AreApart scope × Stands imports scope f × Stands imports scope g
+
   abbrev pub IsKnownStep : Step → Type 0
   IsKnownStep (constant f) = IsKnown f
   IsKnownStep (of_one f g) = IsKnown f × IsKnown g
   IsKnownStep (relation b) = IsKnown (basic b)
-  IsKnownStep (connective f g) = IsKnown f × IsKnown g
+  IsKnownStep (connective f g) = AreKnown f g
   IsKnownStep (binding x d f) = AreKnownInside x d f
   IsKnownStep (import_at i xs) = IsKnown (imported i xs)
   IsKnownStep (import_of_source i) = ⊥
-  IsKnownStep (root whole) = IsKnown whole.formula
+  IsKnownStep (root whole) = AreApart whole.variables × Stands imports whole.variables whole.formula
 
   -- a step of some is the first or a later one
   first_or : (first : Step) (steps : List Step) → IsKnownStep first → ((s : Step) → Contains steps s → IsKnownStep s) → (s : Step) → Contains (first ∷ steps) s → IsKnownStep s
@@ -45,20 +49,20 @@ module _ (imports : List Import) where
   stands_push scope (g ∷ before) f stands one = (stands.0, stands_push scope before f stands.1 one)
 
   -- the steps of a list of operands
-  module _ (connect : CoreForms → CoreForm) (scope : List Variable) (apart : AreApart scope) (known_list : (fs : CoreForms) → EachStands imports scope fs → IsKnown (connect fs)) where
-    known_connected : (first : CoreForm) (before : List CoreForm) → EachStands imports scope (core_forms (first ∷ before)) → IsKnown (connected connect (first ∷ before))
-    known_connected first [] stands = (scope, apart, stands.0)
+  module _ (connect : CoreForms → CoreForm) (scope : List Variable) (apart : AreApart scope) (known_list : (fs : CoreForms) → EachStands imports scope fs → Stands imports scope (connect fs)) where
+    known_connected : (first : CoreForm) (before : List CoreForm) → EachStands imports scope (core_forms (first ∷ before)) → Stands imports scope (connected connect (first ∷ before))
+    known_connected first [] stands = stands.0
     known_connected first (second ∷ more) stands = known_list (core_forms (first ∷ second ∷ more)) stands
 
     behind_known : (first : CoreForm) (before : List CoreForm) (fs : CoreForms) → EachStands imports scope (core_forms (first ∷ before)) → EachStands imports scope fs
         → (s : Step) → Contains (steps_of_list connect (first ∷ before) fs) s → IsKnownStep s
     behind_known first before no_forms stands rest s there = none s there
     behind_known first before (more_forms f fs) stands rest s there =
-        first_or (connective (connected connect (first ∷ before)) f) (steps_of_list connect ((first ∷ before) ++ f ∷ []) fs) (known_connected first before stands, (scope, apart, rest.0))
+        first_or (connective (connected connect (first ∷ before)) f) (steps_of_list connect ((first ∷ before) ++ f ∷ []) fs) (scope, apart, known_connected first before stands, rest.0)
         (λ one later. behind_known first (before ++ f ∷ []) fs (stands.0, stands_push scope before f stands.1 rest.0) rest.1 one later) s there
 
     list_known : (fs : CoreForms) → EachStands imports scope fs → (s : Step) → Contains (steps_of_list connect [] fs) s → IsKnownStep s
-    list_known no_forms stands s there = first_or (constant (connect no_forms)) [] (known_list no_forms stands) none s there
+    list_known no_forms stands s there = first_or (constant (connect no_forms)) [] (scope, apart, known_list no_forms stands) none s there
     list_known (more_forms f fs) stands s there = behind_known f [] fs (stands.0, tt) stands.1 s there
 
   mutual
@@ -69,16 +73,16 @@ module _ (imports : List Import) where
     steps_known (negation f) scope apart stands s there =
         first_or (of_one (negation f) f) (steps_of f) ((scope, apart, stands), (scope, apart, stands)) (λ one later. steps_known f scope apart stands one later) s there
     steps_known (conjunction fs) scope apart stands s there =
-        either (steps_of_list conjunction [] fs) (steps_among fs) (λ one within. list_known conjunction scope apart (λ gs gs_stand. (scope, apart, gs_stand)) fs stands one within)
+        either (steps_of_list conjunction [] fs) (steps_among fs) (λ one within. list_known conjunction scope apart (λ gs gs_stand. gs_stand) fs stands one within)
         (λ one within. among_known fs scope apart stands one within) s there
     steps_known (disjunction fs) scope apart stands s there =
-        either (steps_of_list disjunction [] fs) (steps_among fs) (λ one within. list_known disjunction scope apart (λ gs gs_stand. (scope, apart, gs_stand)) fs stands one within)
+        either (steps_of_list disjunction [] fs) (steps_among fs) (λ one within. list_known disjunction scope apart (λ gs gs_stand. gs_stand) fs stands one within)
         (λ one within. among_known fs scope apart stands one within) s there
     steps_known (implication f g) scope apart stands s there =
-        first_or (connective f g) (steps_of f ++ steps_of g) ((scope, apart, stands.0), (scope, apart, stands.1))
+        first_or (connective f g) (steps_of f ++ steps_of g) (scope, apart, stands.0, stands.1)
         (λ one later. either (steps_of f) (steps_of g) (λ t within. steps_known f scope apart stands.0 t within) (λ t within. steps_known g scope apart stands.1 t within) one later) s there
     steps_known (equivalence f g) scope apart stands s there =
-        first_or (connective f g) (steps_of f ++ steps_of g) ((scope, apart, stands.0), (scope, apart, stands.1))
+        first_or (connective f g) (steps_of f ++ steps_of g) (scope, apart, stands.0, stands.1)
         (λ one later. either (steps_of f) (steps_of g) (λ t within. steps_known f scope apart stands.0 t within) (λ t within. steps_known g scope apart stands.1 t within) one later) s there
     steps_known (restrict f) scope apart stands s there =
         first_or (of_one (restrict f) f) (steps_of f) ((scope, apart, stands), (scope, apart, stands)) (λ one later. steps_known f scope apart stands one later) s there

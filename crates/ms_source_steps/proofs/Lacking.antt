@@ -1,5 +1,5 @@
 -- A source that lacks nodes lacks them below each budget of a step of one of its roots.
-use Rattle.std.proofs.Common.{◌≡◌, ◌⊎◌, ℕ, ⊎_elim, inl, inr, List, [], ◌∷◌, All, length, map, refl, sym, ap, ap₂, subst, ◌∙◌}
+use Rattle.std.proofs.Common.{◌≡◌, ◌⊎◌, ℕ, ⊎_elim, inl, inr, List, [], ◌∷◌, All, length, map, refl, sym, ap, ap₂, subst}
 use Rattle.ms_build.specs.Built.{AreImportsOf, IsWithin, imports_of}
 use Rattle.ms_build.specs.Roots.{named}
 use Rattle.ms_build.specs.Short.{NodeLacks, RootLacks}
@@ -8,32 +8,24 @@ use Rattle.ms_build_source.specs.Imported.{AreLentFor}
 use Rattle.ms_build_source.specs.Limits.{LacksNodes}
 use Rattle.ms_build_source.proofs.ImportAnswers.{given_by, lent_to_nodes, variables_alike}
 use Rattle.ms_build_source.proofs.ImportsOfExports.{all_roots_import}
-use Rattle.ms_build_source.proofs.Questions.{asked_by}
-use Rattle.ms_build_source.proofs.SharedRoots.{root_listed}
-use Rattle.ms_build_steps.specs.Kinds.{IsBelowOneOf}
-use Rattle.ms_build_steps.specs.Laws.{IsBelowRoots, IsPlanned, whole_root}
+use Rattle.ms_build_steps.specs.Laws.{IsBelowRoots, IsPlanned}
 use Rattle.ms_build_steps.proofs.Graph.{lacking_is_below_roots}
 use Rattle.ms_dag.specs.Laws.{HasOrder}
 use Rattle.ms_dag.specs.Share.{IsDagOf}
 use Rattle.ms_dag.proofs.ImportLemmas.{nodes_import_as_roots_do}
 use Rattle.ms_logic.specs.Assignment.{Variable}
 use Rattle.ms_logic.specs.Lists.{Each}
-use Rattle.ms_logic.specs.Truth.{Import}
 use Rattle.ms_logic.specs.View.{Answers}
 use Rattle.ms_logic.specs.declared.checked.Checked.{Checked}
 use Rattle.ms_logic.specs.declared.mode.Order.{Order}
 use Rattle.ms_logic_core.specs.Calls.{Calls}
-use Rattle.ms_logic_core.specs.Roots.{Root}
-use Rattle.ms_logic_measures.specs.Steps.{root as step_of_root, steps_of}
 use Rattle.ms_logic_words.specs.Content.{Content}
 use Rattle.ms_logic_words.specs.declared.sign.Sign.{Sign}
-use Rattle.ms_lower.specs.Lowered.{IsRootFor}
 use Rattle.ms_names_rules.specs.Numbers.{IsWellNumbered}
-use Rattle.ms_source_steps.specs.Laws.{IsBelowSource, LackingSourcesAreBelowSteps}
 use Rattle.ms_source_steps.proofs.Standing.{lowered_alike}
 
 -- variables that have their orders, by their numbers
-named_again : (orders : List Order) (vs : List Variable) → Each (HasOrder orders) vs → named orders (map (λ v. v.name) vs) ≡ vs
+pub named_again : (orders : List Order) (vs : List Variable) → Each (HasOrder orders) vs → named orders (map (λ v. v.name) vs) ≡ vs
 named_again orders [] each = refl
 named_again orders (v ∷ vs) each = ap₂ (λ (u : Variable) us. u ∷ us) (ap (λ o. record { name = v.name; order = o }) each.0) (named_again orders vs each.1)
 
@@ -66,27 +58,3 @@ module _ (checked : Checked) (answers : Answers) (contents : List (Content Sign)
       subst (λ mode. IsBelowRoots (imports_of contents) calls mode lacks.is_graph.lowered limit) lacks.is_plan.mode_is
       (subst (λ n. IsBelowRoots (imports_of contents) calls lacks.plan.mode lacks.is_graph.lowered n) lacks.is_plan.limit_is
       (⊎_elim (λ node. by step (inl node)) (λ of_root. by of_root.0 (inr of_root.2)) lacks.lacks))
-
-  -- the root of the graph is that of a question
-  pub below_source : (imports : List Import) → IsBelowRoots imports calls checked.mode lacks.is_graph.lowered limit → IsBelowSource checked answers imports limit
-  below_source imports found =
-      let orders = lacks.is_graph.lowered.orders in
-      let r = asked_by (IsRootFor checked) checked answers lacks.is_graph.lowered.roots lacks.is_graph.roots found.number found.root found.is_root in
-      let one = r.2.1 in
-      let variables : named orders found.root.variables ≡ one.made.variables
-      = ap (named orders) (sym one.variables) ∙ named_again orders one.made.variables (root_listed checked orders lacks.is_graph.orders answers well r.0 r.1 r.2.0 found.root one) in
-      let same : whole_root calls orders found.root ≡ one.made = λ i. record { variables = variables i; formula = sym one.formula i } in
-      record {
-        asked = r.0;
-        are_asked = r.1;
-        number = r.2.0;
-        own = one.own;
-        is_root = one.is_root;
-        made = one.made;
-        same = one.same;
-        below = subst (λ (whole : Root). IsBelowOneOf imports checked.mode (step_of_root whole ∷ steps_of whole.formula) limit) same found.below;
-      }
-
-pub lacking_sources_are_below_steps : LackingSourcesAreBelowSteps
-lacking_sources_are_below_steps checked answers contents limit step well long lent within lacks =
-    below_source checked answers contents limit step well long lent lacks (imports_of contents) (below_roots checked answers contents limit step well long lent lacks within)

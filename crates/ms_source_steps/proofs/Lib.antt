@@ -1,6 +1,14 @@
 pub mod Alike
 pub mod Answering
+pub mod InOrder
 pub mod Known
 pub mod Lacking
+pub mod NumberedContents
+pub mod NumberedMeasures
+pub mod NumberedStarts
+pub mod NumberedSteps
+pub mod NumberedValues
+pub mod Numbers
+pub mod OwnSteps
 pub mod Scopes
 pub mod Standing

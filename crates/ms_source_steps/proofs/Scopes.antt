@@ -1,5 +1,5 @@
 -- The scope in which a core formula stands may be narrowed to what has its free variables.
-use Rattle.std.proofs.Common.{◌≡◌, ℕ, ◌<◌, ◌<◌, inl, inr, ⊎_elim, List, [], ◌∷◌, Contains, length, map, slice_get, slice_index, Some, suc, sym, ap, subst, ◌∙◌, refl, arith}
+use Rattle.std.proofs.Common.{◌≡◌, ℕ, ◌<◌, ◌<◌, inl, inr, ⊎_elim, List, [], ◌∷◌, Contains, map, slice_get, slice_index, Some, suc, sym, ap, subst, ◌∙◌, refl, arith}
 use Rattle.std.specs.List.Sorted.{IsStrictlyIncreasing}
 use Rattle.std.specs.Option.{option_map}
 use Rattle.std.proofs.lemmas.Bool.{cases_eq, cases_lt}
@@ -24,7 +24,7 @@ pub contained_each : (P : Variable → Type 0) (vs : List Variable) → Each P v
 contained_each P [] each v there = absurd (Contains-none v there)
 contained_each P (w ∷ vs) each v there = ⊎_elim (λ first. subst P (sym first) each.0) (λ later. contained_each P vs each.1 v later) (Contains-cases w vs v there)
 
-each_contained : (P : Variable → Type 0) (vs : List Variable) → ((v : Variable) → Contains vs v → P v) → Each P vs
+pub each_contained : (P : Variable → Type 0) (vs : List Variable) → ((v : Variable) → Contains vs v → P v) → Each P vs
 each_contained P [] each = tt
 each_contained P (w ∷ vs) each = (each w (Contains-first w vs), each_contained P vs (λ v there. each v (Contains-rest w vs v there)))
 
