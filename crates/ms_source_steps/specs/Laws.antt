@@ -1,24 +1,34 @@
 -- What a source lacks, by its steps.
-use Rattle.std.specs.Prelude.{ℕ, List, All as Each}
+use Rattle.std.specs.Prelude.{ℕ, suc, List, ◌∷◌, Contains, All as Each}
 use Rattle.ms_build.specs.Built.{IsWithin}
 use Rattle.ms_build_source.specs.Imported.{AreAnswersOf, AreLentFor}
 use Rattle.ms_build_source.specs.Limits.{LacksNodes}
 use Rattle.ms_build_steps.specs.Kinds.{IsBelowKind}
-use Rattle.ms_logic.specs.View.{Answers, problem_of, question_of}
+use Rattle.ms_logic.specs.Verdict.{Problem}
+use Rattle.ms_logic.specs.View.{Answers, goal_question, goals_in, main_question, problem_of}
 use Rattle.ms_logic.specs.declared.checked.Checked.{Checked}
 use Rattle.ms_logic.specs.declared.checked.Placed.{Placed}
-use Rattle.ms_logic_measures.specs.Steps.{IsStepOf, Step}
-use Rattle.ms_logic_spread.specs.RootLaws.{AreFormulasOf}
+use Rattle.ms_logic_core.specs.Roots.{IsRoot, Root}
+use Rattle.ms_logic_measures.specs.Steps.{Step, root, steps_of}
 use Rattle.ms_logic_words.specs.Content.{Content}
 use Rattle.ms_logic_words.specs.declared.sign.Sign.{Sign}
 use Rattle.ms_names_rules.specs.Numbers.{IsWellNumbered}
 
--- a limit is below each budget of a step of a question of the source, of one of the step's kinds, where its imports have these answers
+-- a step of the root of a question with this number: the root itself, or a step of its formula
+abbrev pub IsStepOfRoot : Problem → ℕ → Step → Type 0
+IsStepOfRoot problem i step = (whole : Root) × IsRoot problem i whole × Contains (root whole ∷ steps_of whole.formula) step
+
+-- a step of a source: of the main root of its formula declarations, of the root of an export, which may stand in a goal too, or of the main
+-- root of a goal
+pub data IsStepOfSource (checked : Checked) (answers : Answers) (step : Step) : Type 0 where
+  of_declarations : (is : IsStepOfRoot (main_question checked answers) 0 step) → IsStepOfSource checked answers step
+  of_export : (i : ℕ) (is : IsStepOfRoot (problem_of checked answers) (suc i) step) → IsStepOfSource checked answers step
+  of_goal : (goal : Placed) (among : Contains (goals_in checked) goal) (is : IsStepOfRoot (goal_question checked answers goal) 0 step) → IsStepOfSource checked answers step
+
+-- a limit is below each budget of a step of a source, of one of the step's kinds, where the imports have these answers
 pub record IsBelowSource (checked : Checked) (answers : Answers) (limit : ℕ) : Type 0 where
-  pub asked : List Placed
-  pub are_asked : AreFormulasOf checked asked
   pub step : Step
-  pub is_step : IsStepOf (question_of checked answers asked) step
+  pub is_step : IsStepOfSource checked answers step
   pub below : IsBelowKind (problem_of checked answers).given.imports checked.mode step limit
 
 -- a source lacks nodes, over automata that are lent for its imports, answer as these do and are within the limit, only under a limit below
