@@ -52,7 +52,7 @@ use Rattle.ms_build_steps.proofs.SmallLimits.{small_limits_are_below_steps}
 use Rattle.ms_build_steps.proofs.Through.{AreNamed, through}
 
 -- variables by their places have the orders that are given
-orders_from : (base : ℕ) (os : List Order) → map (λ (v : Variable). v.order) (variables_from base os) ≡ os
+pub orders_from : (base : ℕ) (os : List Order) → map (λ (v : Variable). v.order) (variables_from base os) ≡ os
 orders_from base [] = refl
 orders_from base (o ∷ os) = ap (λ (ps : List Order). o ∷ ps) (orders_from (base + 1) os)
 

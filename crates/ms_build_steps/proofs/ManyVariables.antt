@@ -27,12 +27,12 @@ use Rattle.ms_logic_core.specs.Orders.{order_at}
 use Rattle.ms_logic_measures.specs.Steps.{free_variables, free_variables_among}
 use Rattle.ms_build_steps.proofs.Through.{AreNamed, among_through, through, through_among, through_rises}
 
-among_contains : (vs : List Variable) (x : Variable) → IsAmong vs x → Contains vs x
+pub among_contains : (vs : List Variable) (x : Variable) → IsAmong vs x → Contains vs x
 among_contains [] x among = absurd among
 among_contains (v ∷ vs) x (inl same) = subst (Contains (v ∷ vs)) same (Contains-first v vs)
 among_contains (v ∷ vs) x (inr there) = Contains-rest v vs x (among_contains vs x there)
 
-contains_among : (vs : List Variable) (x : Variable) → Contains vs x → IsAmong vs x
+pub contains_among : (vs : List Variable) (x : Variable) → Contains vs x → IsAmong vs x
 contains_among [] x there = absurd (Contains-none x there)
 contains_among (v ∷ vs) x there = ⊎_elim (λ first. inl (sym first)) (λ later. inr (contains_among vs x later)) (Contains-cases v vs x there)
 

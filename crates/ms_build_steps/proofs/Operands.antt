@@ -64,7 +64,7 @@ renamed_orders (name ∷ names) [] long = absurd (omega (arith, long))
 renamed_orders (name ∷ names) (v ∷ vs) long = ap (λ (os : List Order). v.order ∷ os) (renamed_orders names vs (omega (arith, long)))
 
 -- at each place stands a variable of the same order
-value_at_place : (has_value : Order → Bool) (vs ws : List Variable) → map (λ (v : Variable). v.order) vs ≡ map (λ (v : Variable). v.order) ws → (place : ℕ) → HasValueAt vs has_value place → HasValueAt ws has_value place
+pub value_at_place : (has_value : Order → Bool) (vs ws : List Variable) → map (λ (v : Variable). v.order) vs ≡ map (λ (v : Variable). v.order) ws → (place : ℕ) → HasValueAt vs has_value place → HasValueAt ws has_value place
 value_at_place has_value vs ws same place at =
     let order : option_map (λ (v : Variable). v.order) (slice_get ws place) ≡ Some at.0.order =
     sym (slice_get-map (λ (v : Variable). v.order) ws place) ∙ ap (λ os. slice_get os place) (sym same) ∙ slice_get-map (λ (v : Variable). v.order) vs place ∙ ap (option_map (λ (v : Variable). v.order)) at.1 in

@@ -50,7 +50,7 @@ module _ (imports : List Import) (orders : List Order) where
     ordered_restriction unrestricted f have is = absurd is
     ordered_restriction (restricted g) f have is = ordered g f have is
 
-each_at : {A : Type 0} (P : A → Type 0) (xs : List A) → Each P xs → (k : ℕ) (x : A) → slice_get xs k ≡ Some x → P x
+pub each_at : {A : Type 0} (P : A → Type 0) (xs : List A) → Each P xs → (k : ℕ) (x : A) → slice_get xs k ≡ Some x → P x
 each_at P [] each k x held = absurd (none-some x held)
 each_at P (y ∷ ys) each zero x held = subst P (same_Some y x held) each.0
 each_at P (y ∷ ys) each (suc k) x held = each_at P ys each.1 k x held

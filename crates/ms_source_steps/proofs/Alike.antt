@@ -7,9 +7,9 @@ use Rattle.ms_build.proofs.PlaceLemmas.{gives_among, length-by_place}
 use Rattle.ms_build_source.specs.inner.Asked.{AnswerAlike}
 use Rattle.ms_build_source.proofs.AgreeingImports.{IsIn, one_value}
 use Rattle.ms_build_steps.specs.Kinds.{IsMeasureOfKind, Kind, itself, widening}
+use Rattle.ms_build_steps.proofs.ManyVariables.{among_contains, contains_among}
 use Rattle.ms_dag_steps.proofs.JoinedLemmas.{joined_there}
 use Rattle.ms_dag_steps.proofs.SubformulaLemmas.{only}
-use Rattle.ms_diagram.proofs.ListLemmas.{Contains-cases, Contains-first, Contains-none, Contains-rest}
 use Rattle.ms_list.specs.declared.word.Word.{Word}
 use Rattle.ms_logic.specs.Assignment.{Env, IsAssignment, Variable}
 use Rattle.ms_logic.specs.FiniteSet.{numbers_below}
@@ -29,15 +29,6 @@ use Rattle.ms_logic_words.specs.declared.sign.Sign.TheVariants.{Yes, No, Undefin
 use Rattle.ms_source_steps.proofs.Known.{AreKnownInside, IsKnown, IsKnownStep}
 use Rattle.ms_source_steps.proofs.Scopes.{AreApart, free_in_scope, narrow, restriction_in_scope}
 use Rattle.ms_source_steps.proofs.Standing.{orders_of, variables_by_orders}
-
-pub contains_among : (vs : List Variable) (v : Variable) → Contains vs v → IsAmong vs v
-contains_among [] v there = absurd (Contains-none v there)
-contains_among (w ∷ vs) v there = ⊎_elim (λ first. inl (sym first)) (λ later. inr (contains_among vs v later)) (Contains-cases w vs v there)
-
-among_contains : (vs : List Variable) (v : Variable) → IsAmong vs v → Contains vs v
-among_contains [] v among = absurd among
-among_contains (w ∷ vs) v (inl same) = subst (Contains (w ∷ vs)) same (Contains-first w vs)
-among_contains (w ∷ vs) v (inr there) = Contains-rest w vs v (among_contains vs v there)
 
 -- each of a list is among it
 all_among : (vs : List Variable) (ws : List Variable) → ((v : Variable) → IsAmong vs v → IsAmong ws v) → Each (IsAmong ws) vs

@@ -1,19 +1,18 @@
 -- What is below each budget where imports answer as automata is so where they answer as the source's imports do.
-use Rattle.std.proofs.Common.{◌≡◌, ℕ, zero, suc, ⊎_elim, List, [], ◌∷◌, Contains, length, slice_get, Some, sym, ap, subst, ◌∙◌}
+use Rattle.std.proofs.Common.{◌≡◌, ℕ, ⊎_elim, List, ◌∷◌, Contains, length, slice_get, sym, ap, subst, ◌∙◌}
 use Rattle.std.specs.List.Sorted.{IsStrictlyIncreasing}
-use Rattle.std.proofs.lemmas.Option.{none-some, same_Some}
 use Rattle.ms_build.specs.Built.{imports_of}
 use Rattle.ms_build.specs.Roots.{named}
 use Rattle.ms_build_source.specs.Graph.{IsGraphOf, calls_in}
 use Rattle.ms_build_source.specs.Imported.{AreAnswersOf, AreLentFor}
 use Rattle.ms_build_source.specs.inner.Asked.{AnswerAlike}
 use Rattle.ms_build_source.proofs.ImportAnswers.{answers_alike, given_by, variables_alike}
+use Rattle.ms_build_steps.proofs.Ordered.{each_at}
 use Rattle.ms_build_steps.specs.Laws.{IsBelowRoots, whole_root}
 use Rattle.ms_dag.specs.declared.dag.Dag.{Dag}
 use Rattle.ms_dag.specs.Lowered.{IsLowered, IsLoweredRoot}
 use Rattle.ms_dag_steps.specs.Occurrences.{whole_formula}
 use Rattle.ms_diagram.proofs.ListLemmas.{Contains-cases}
-use Rattle.ms_logic.specs.Lists.{Each}
 use Rattle.ms_logic.specs.Truth.{Import}
 use Rattle.ms_logic.specs.View.{Answers, problem_of}
 use Rattle.ms_logic.specs.declared.checked.Checked.{Checked}
@@ -31,11 +30,6 @@ use Rattle.ms_source_steps.proofs.Known.{IsKnownStep, steps_known}
 use Rattle.ms_source_steps.proofs.Lacking.{named_again}
 use Rattle.ms_source_steps.proofs.Scopes.{AreApart, rising_apart}
 use Rattle.ms_source_steps.proofs.Standing.{orders_of}
-
-each_at : {A : Type 0} (P : A → Type 0) (xs : List A) → Each P xs → (k : ℕ) (x : A) → slice_get xs k ≡ Some x → P x
-each_at P [] each k x held = absurd (none-some x held)
-each_at P (y ∷ ys) each zero x held = subst P (same_Some y x held) each.0
-each_at P (y ∷ ys) each (suc k) x held = each_at P ys each.1 k x held
 
 module _ (mode : Mode) (first second : List Import) (orders : (i : ℕ) → orders_of (variables_of_import (slice_get first i)) ≡ orders_of (variables_of_import (slice_get second i)))
     (alike : AnswerAlike mode first second) (calls : Calls) (lowered : Lowered) (is : IsLowered first calls lowered) where

@@ -1,8 +1,9 @@
 -- Variables in the order of some numbers are in the order of other numbers that keep theirs.
-use Rattle.std.proofs.Common.{◌≡◌, ℕ, ◌+◌, nat_le, ⊎_elim, Bool, true, false, if◌then◌else◌, List, [], ◌∷◌, map, refl, ap, ap₂, subst, ◌∙◌, arith}
+use Rattle.std.proofs.Common.{◌≡◌, ℕ, nat_le, ⊎_elim, Bool, true, false, if◌then◌else◌, List, [], ◌∷◌, map, refl, ap, ap₂, subst, ◌∙◌, arith}
 use Rattle.std.specs.List.{zip}
 use Rattle.std.proofs.lemmas.Bool.{cases_lt}
 use Rattle.std.proofs.lemmas.Bool.Decides.{nat_tests}
+use Rattle.ms_build_steps.proofs.Imports.{orders_from}
 use Rattle.ms_build_steps.proofs.SameParts.{orders_of}
 use Rattle.ms_logic.specs.Assignment.{Variable}
 use Rattle.ms_logic.specs.Lists.{Each, IsAmong}
@@ -10,15 +11,10 @@ use Rattle.ms_logic.specs.declared.mode.Order.{Order}
 use Rattle.ms_logic_core.specs.Operands.{variable, variables_at, variables_of_basic}
 use Rattle.ms_logic_core.specs.declared.core_formula.Basic.{Basic}
 use Rattle.ms_logic_measures.specs.CallMeasures.{in_order_of, inserted, place_variables, sorted}
-use Rattle.ms_logic_words.specs.Content.{variables_by_place, variables_from}
+use Rattle.ms_logic_words.specs.Content.{variables_by_place}
 use Rattle.ms_lower.specs.Numbering.{Numbering, renumbered_basic}
 use Rattle.ms_source_steps.proofs.Numbers.{NumbersRise, moved_all, moved_basic, push_map}
 use Rattle.ms_source_steps.proofs.Scopes.{AreApart}
-
--- the variables by their places have the orders that are given
-pub orders_from : (base : ℕ) (os : List Order) → orders_of (variables_from base os) ≡ os
-orders_from base [] = refl
-orders_from base (o ∷ os) = ap (λ (ps : List Order). o ∷ ps) (orders_from (base + 1) os)
 
 module _ (n : Numbering) (rise : NumbersRise n) (scope : List Variable) (apart : AreApart scope) where
   -- a variable that stands for one of this order under a number, and under the new number

@@ -1,9 +1,8 @@
 -- The full content of a formula is that of the formula with other numbers, over variables with these numbers.
-use Rattle.std.proofs.Common.{◌≡◌, ℕ, Bool, List, [], ◌∷◌, Contains, length, slice_get, Option, Some, None, IsTrue, refl, sym, ap, subst, ◌∙◌, arith}
-use Rattle.std.specs.Option.{option_map}
+use Rattle.std.proofs.Common.{◌≡◌, List, [], ◌∷◌, Contains, length, refl, sym, ap, subst, ◌∙◌, arith}
 use Rattle.std.proofs.lemmas.List.{length-map}
-use Rattle.std.proofs.lemmas.Option.{none-some, same_Some, slice_get-map}
 use Rattle.ms_build_parts.proofs.Matching.{over_same}
+use Rattle.ms_build_steps.proofs.Operands.{value_at_place}
 use Rattle.ms_build_steps.proofs.SameParts.{differ_same, orders_of, over, reached_same, sign_same}
 use Rattle.ms_build_steps.proofs.SameValues.{assigned_same, encodes_same}
 use Rattle.ms_diagram.proofs.RootLemmas.{Contains-from_mapped, Contains-mapped}
@@ -18,24 +17,13 @@ use Rattle.ms_logic_core.specs.Stands.{Stands}
 use Rattle.ms_logic_measures.specs.FullContent.{HasValueOn, IsFullContent}
 use Rattle.ms_logic_measures.specs.Steps.{free_variables}
 use Rattle.ms_logic_words.specs.Canonical.{IsCanonical}
-use Rattle.ms_logic_words.specs.Content.{Content, HasValueAt}
+use Rattle.ms_logic_words.specs.Content.{Content}
 use Rattle.ms_logic_words.specs.declared.sign.Sign.{Sign}
 use Rattle.ms_logic_words.specs.declared.sign.Sign.TheVariants.{Yes, No, Undefined, Outside}
 use Rattle.ms_lower.specs.Numbering.{Numbering, renumbered, renumbered_variable}
 use Rattle.ms_source_steps.proofs.NumberedValues.{given_by, read_moved, same_given, same_read, value_moved}
 use Rattle.ms_source_steps.proofs.Numbers.{KnowsImports, NumbersRise, free_moved, moved_all}
 use Rattle.ms_source_steps.proofs.Scopes.{AreApart}
-
--- at each place stands a variable of the same order
-value_at_place : (has_value : Order → Bool) (vs ws : List Variable) → orders_of vs ≡ orders_of ws → (place : ℕ) → HasValueAt vs has_value place → HasValueAt ws has_value place
-value_at_place has_value vs ws same place at =
-    let order : option_map (λ (v : Variable). v.order) (slice_get ws place) ≡ Some at.0.order =
-    sym (slice_get-map (λ (v : Variable). v.order) ws place) ∙ ap (λ os. slice_get os place) (sym same) ∙ slice_get-map (λ (v : Variable). v.order) vs place ∙ ap (option_map (λ (v : Variable). v.order)) at.1 in
-    by (slice_get ws place) refl order
-  where
-    by : (found : Option Variable) → slice_get ws place ≡ found → option_map (λ (v : Variable). v.order) found ≡ Some at.0.order → HasValueAt ws has_value place
-    by None held is = absurd (none-some at.0.order is)
-    by (Some w) held is = (w, held, subst (λ o. IsTrue (has_value o)) (sym (same_Some w.order at.0.order is)) at.2)
 
 -- a canonical content is one over other variables of the same orders
 canonical_over : (content : Content Sign) (mode : Mode) (us : List Variable) → orders_of us ≡ orders_of content.variables → IsCanonical content → IsCanonical (over mode us content)

@@ -3,6 +3,8 @@ use Rattle.std.proofs.Common.{◌≡◌, ℕ, inl, refl, List, [], ◌∷◌, �
 use Rattle.std.specs.List.{zip}
 use Rattle.std.proofs.lemmas.List.{map_push}
 use Rattle.ms_build_steps.specs.Kinds.{IsMeasureOfKind, Kind, itself, widening}
+use Rattle.ms_build_steps.proofs.Imports.{orders_from}
+use Rattle.ms_build_steps.proofs.ManyVariables.{contains_among}
 use Rattle.ms_build_steps.proofs.SameParts.{orders_of}
 use Rattle.ms_dag_steps.proofs.JoinedLemmas.{without_there}
 use Rattle.ms_logic.specs.Assignment.{Variable}
@@ -22,13 +24,12 @@ use Rattle.ms_logic_measures.specs.Steps.{Step, constant, of_one, relation, conn
 use Rattle.ms_logic_words.specs.Content.{Content}
 use Rattle.ms_logic_words.specs.declared.sign.Sign.{Sign}
 use Rattle.ms_lower.specs.Numbering.{Numbering, renumbered, renumbered_basic, renumbered_in, renumbered_variable}
-use Rattle.ms_source_steps.proofs.InOrder.{in_order_moved, orders_from, places_moved}
+use Rattle.ms_source_steps.proofs.InOrder.{in_order_moved, places_moved}
 use Rattle.ms_source_steps.proofs.Known.{AreKnown, AreKnownInside, IsKnown, IsKnownStep}
 use Rattle.ms_source_steps.proofs.NumberedContents.{content_moved, full_moved}
 use Rattle.ms_source_steps.proofs.NumberedStarts.{one_number, pairs_moved, parts_moved, same_from, same_to, start_from, start_to}
 use Rattle.ms_source_steps.proofs.NumberedSteps.{moved_step, numbers_at}
 use Rattle.ms_source_steps.proofs.Numbers.{AreInside, KnowsImports, NumbersRise, free_moved, joined_inside, joined_moved, moved_all, moved_places, range_moved, without_moved}
-use Rattle.ms_source_steps.proofs.Alike.{contains_among}
 use Rattle.ms_source_steps.proofs.Scopes.{AreApart, contained_each, each_contained, free_in_scope, restriction_in_scope}
 
 -- a quantifier over a body and a domain
