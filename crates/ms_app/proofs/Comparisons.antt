@@ -11,9 +11,11 @@ use Rattle.ms_logic.specs.declared.source.Loaded.{Loaded}
 use Rattle.ms_build_source.specs.Limits.{IsUnsolved}
 use Rattle.ms_logic_words.specs.Content.{Content}
 use Rattle.ms_logic_words.specs.declared.sign.Sign.{Sign}
+use Rattle.ms_names_rules.specs.Numbers.{IsWellNumbered}
 use Rattle.ms_app.specs.Comparison.{AreParts, AreSolved, IsRefusedComparison, Taken, left_refused, no_memory, right_refused}
 use Rattle.ms_app.specs.Source as sources
 use Rattle.ms_app.specs.Source.{IsRefused, IsSolved, IsTaken, Origin, file_of, unsolved}
+use Rattle.ms_app.proofs.Budgets.{below_budgets}
 
 -- a refusal for want of memory, or one of this kind with the files of a source that were read by then
 abbrev pub RefusedWith : List (List ℕ) → List (List ℕ) → (List (List ℕ) → Type 0) → Refusal → Type 0
@@ -25,10 +27,11 @@ more_refused old new refusal more (inr (read, grown, why)) = inr (read, grown, m
 
 pub unsolved_refused : (origin : Origin) (out : Option (List ℕ)) (limit : ℕ) (refusal : Refusal) (old new : List (List ℕ)) (loaded : Loaded) (checked : Checked) (plains : List Plain)
     → IsTaken origin out loaded checked plains → new ≡ old ++ loaded.files → (contents : List (Content Sign)) → AreAdopted limit checked.mode checked.imports plains contents
-    → (refusal ≡ Memory) ⊎ IsUnsolved checked (answers_by checked.imports plains) contents limit refusal
+    → IsWellNumbered checked → (refusal ≡ Memory) ⊎ IsUnsolved checked (answers_by checked.imports plains) contents limit refusal
     → RefusedWith old new (IsRefused origin out limit refusal) refusal
-unsolved_refused origin out limit refusal old new loaded checked plains is grown contents adopted (inl memory) = inl memory
-unsolved_refused origin out limit refusal old new loaded checked plains is grown contents adopted (inr why) = inr (loaded.files, grown, unsolved loaded checked plains is refl contents adopted why)
+unsolved_refused origin out limit refusal old new loaded checked plains is grown contents adopted numbered (inl memory) = inl memory
+unsolved_refused origin out limit refusal old new loaded checked plains is grown contents adopted numbered (inr why) =
+    inr (loaded.files, grown, unsolved loaded checked plains is refl contents adopted why (below_budgets limit checked plains contents numbered adopted refusal why))
 
 -- the files of the first source are all that were read
 pub first_refused : (name : List ℕ) (out : Option (List ℕ)) (limit : ℕ) (seen : Seen) (old new : List (List ℕ)) (refusal : Refusal) → old ≡ [] → RefusedWith old new (IsRefused (file_of seen (length old) name) out limit refusal) refusal

@@ -78,10 +78,10 @@ module _ (checked : Checked) where
       pub own_names_of : IsRight checked → (stats : Bool) (format : FileVersion) (count : ℕ) (found : Found) (files : List File) → FoundBy contents out stats format count found files → HaveOwnNames files
       own_names_of right stats format count found files by = own_names format (problem_of checked answers) (main_question checked answers) global_names checked.exports out files right.meets_rules.names.files taken.free (by answers are).2
 
-      pub unsolved_of : (refusal : Refusal) (old new : List (List ℕ)) → new ≡ old ++ loaded.files
+      pub unsolved_of : IsRight checked → (refusal : Refusal) (old new : List (List ℕ)) → new ≡ old ++ loaded.files
           → ((answers : Answers) → length answers ≡ length checked.imports → (refusal ≡ Memory) ⊎ IsUnsolved checked answers contents limit refusal)
           → RefusedWith old new (IsRefused origin out limit refusal) refusal
-      unsolved_of refusal old new grown why = unsolved_refused origin out limit refusal old new loaded checked plains taken grown contents adopted (why answers counted)
+      unsolved_of right refusal old new grown why = unsolved_refused origin out limit refusal old new loaded checked plains taken grown contents adopted right.numbered (why answers counted)
 
   -- what is made of automata that are lent can be written
   module _ (right : IsRight checked) (contents : List (Content Sign)) (lent : AreLentFor checked.mode checked.imports contents) (solution : Solution) where

@@ -31,6 +31,8 @@ use Rattle.ms_app.specs.Decision.{AnswersMain, IsDecided, IsFound, asks_main}
 use Rattle.ms_app.specs.inner.Laws.{GeneratedSourcesAreFoundValid}
 use Rattle.ms_app.specs.Source.{IsAccepted, IsRefused, IsSolved, IsTaken, IsUnaccepted, answers_with, problem_with, text_of, unaccepted, unsolved}
 use Rattle.ms_app.specs.Written.{AreFilesFrom, AreFilesOf, File}
+use Rattle.ms_names_rules.specs.Numbers.{IsWellNumbered}
+use Rattle.ms_app.proofs.Budgets.{below_budgets}
 use Rattle.ms_app.proofs.Solvable.{solvable, texts_settle}
 use Rattle.ms_app_answer.specs.Answer.{IsAnswer}
 use Rattle.ms_app_answer.proofs.VerdictLemmas.{none_against, valid_alone}
@@ -122,10 +124,12 @@ module _ (number : ℕ) (is_number : IsNumber number) (bytes : List ℕ) (is_tex
     taken : IsTaken (text_of generated_name bytes) None loaded checked []
     taken = record { is = is; free = tt; imported = (alone.0, refl) }
 
-    pub text_unsolved : (contents : List (Content Sign)) → AreAdopted node_limit checked.mode checked.imports [] contents → (refusal : Refusal)
+    pub text_unsolved : IsWellNumbered checked → (contents : List (Content Sign)) → AreAdopted node_limit checked.mode checked.imports [] contents → (refusal : Refusal)
         → (refusal ≡ Memory) ⊎ IsUnsolved checked (answers_by checked.imports []) contents node_limit refusal → IsRefusedGeneration number refusal new
-    text_unsolved contents adopted refusal (inl memory) = inl memory
-    text_unsolved contents adopted refusal (inr why) = wanting number is_number refusal new (text_refused grown refusal (unsolved loaded checked [] taken (sym is.is_loaded.files) contents adopted why))
+    text_unsolved numbered contents adopted refusal (inl memory) = inl memory
+    text_unsolved numbered contents adopted refusal (inr why) =
+        wanting number is_number refusal new
+        (text_refused grown refusal (unsolved loaded checked [] taken (sym is.is_loaded.files) contents adopted why (below_budgets node_limit checked [] contents numbered adopted refusal why)))
 
     pub text_decided : (found : Found) (files : List File) → IsFound checked (answers_with checked []) found → IsWithinLimits (problem_with checked [])
         → HasStats true checked (answers_with checked []) (length loaded.files) found.stats → AreFilesOf versions.Two checked (answers_with checked []) None files

@@ -1,5 +1,6 @@
 pub mod Adopted
 pub mod AgreementLemmas
+pub mod Budgets
 pub mod Commands
 pub mod Compared
 pub mod Comparisons

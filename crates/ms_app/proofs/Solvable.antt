@@ -122,7 +122,7 @@ module _ (origin other : Origin) (settles : Settles origin other) (out : Option 
       absurd (free_or_taken out checked'.exports refusal (subst (IsOutFree out) (exports_are loaded' checked' is') is.is.free) why)
   solvable limit refusal read (sources.unimported loaded' checked' is' free all why) =
       settles.imports checked'.mode limit checked'.imports plains refusal (imported loaded' checked' is') why
-  solvable limit refusal read (sources.unsolved loaded' checked' plains' taken all contents adopted why) =
+  solvable limit refusal read (sources.unsolved loaded' checked' plains' taken all contents adopted why below) =
       let is' = taken.is in
       let one : plains ≡ plains' = settles.one_content checked'.mode checked'.imports plains plains' (imported loaded' checked' is') taken.imported in
       let answers = answers_by checked'.imports plains' in

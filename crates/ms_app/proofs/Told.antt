@@ -167,7 +167,7 @@ module _ (before : List (List ℕ)) (origin : Origin) (tells : Tells before orig
   refused-told out limit refusal read (unaccepted why) = unaccepted-told refusal read why
   refused-told out limit refusal read (out_taken loaded checked is all why) = out-told loaded checked out read refusal is all why
   refused-told out limit refusal read (unimported loaded checked is free all why) = imports-told loaded checked read limit refusal is all why
-  refused-told out limit refusal read (unsolved loaded checked plains is all contents adopted why) = unsolved-told loaded checked (answers_by checked.imports plains) contents read limit refusal is.is all why
+  refused-told out limit refusal read (unsolved loaded checked plains is all contents adopted why below) = unsolved-told loaded checked (answers_by checked.imports plains) contents read limit refusal is.is all why
   refused-told out limit refusal read (sources.no_memory why) = memory-told (before ++ read) refusal why
 
 comparison-told : (left right : List ℕ) (limit : ℕ) (seen : Seen) (refusal : Refusal) (files : List (List ℕ)) → IsRefusedComparison left right limit seen refusal files → IsToldOver files refusal

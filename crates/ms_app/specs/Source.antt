@@ -2,7 +2,7 @@
 use Rattle.std.specs.Prelude.{◌≡◌, ◌≢◌, ℕ, List, [], ◌∷◌, All, Contains, map, Option, Some, None}
 use Rattle.ms_dfa.specs.declared.plain.Plain.{Plain}
 use Rattle.ms_edge.specs.declared.refusal.Refusal.{Refusal}
-use Rattle.ms_edge.specs.declared.refusal.Refusal.TheVariants.{Twice, Memory}
+use Rattle.ms_edge.specs.declared.refusal.Refusal.TheVariants.{Twice, Nodes, Memory}
 use Rattle.ms_edge.specs.Files.{Seen}
 use Rattle.ms_dfafile_imports.specs.Adopted.{AreAdopted}
 use Rattle.ms_dfafile_imports.specs.Imports.{AreImported, IsUnimported, answers_by}
@@ -19,6 +19,7 @@ use Rattle.ms_names_rules.specs.Declarations.{first_fault_of}
 use Rattle.ms_names_rules.specs.TypedSource.{IsTyped}
 use Rattle.ms_names_rules.specs.View.{placed_of}
 use Rattle.ms_build_source.specs.Limits.{IsUnsolved, IsWithinLimits}
+use Rattle.ms_source_steps.specs.Laws.{IsBelowSource}
 use Rattle.ms_logic_words.specs.Content.{Content}
 use Rattle.ms_logic_words.specs.declared.sign.Sign.{Sign}
 
@@ -88,6 +89,11 @@ pub data IsUnaccepted (origin : Origin) (refusal : Refusal) (read : List (List �
   -- it is loaded, and has a fault of names, orders, numbers or places, of which this is the first
   faulty : (loaded : Loaded) (is_loaded : origin.Loads loaded) (all : read ≡ loaded.files) (why : IsFirstFault loaded refusal) → IsUnaccepted origin refusal read
 
+-- for want of nodes alone: the limit is below each budget of a step of the source, whose imports have these answers
+abbrev pub IsBelowBudgets : Checked → Answers → ℕ → Refusal → Type 0
+IsBelowBudgets checked answers limit refusal =
+    (step : ℕ) → refusal ≡ Nodes step limit → IsBelowSource checked answers limit
+
 -- The source is refused under a limit on the nodes and states of a step.
 pub data IsRefused (origin : Origin) (out : Option (List ℕ)) (limit : ℕ) (refusal : Refusal) (read : List (List ℕ)) : Type 0 where
   -- before anything is imported
@@ -98,9 +104,11 @@ pub data IsRefused (origin : Origin) (out : Option (List ℕ)) (limit : ℕ) (re
   -- a file that it imports cannot be taken
   unimported : (loaded : Loaded) (checked : Checked) (is : IsAccepted origin loaded checked) (free : IsOutFree out checked.exports) (all : read ≡ loaded.files)
       (why : origin.IsUnimported checked.mode limit checked.imports refusal) → IsRefused origin out limit refusal read
-  -- all are taken, and it is not solved over the automata of its imports: they answer what the files say, and are within the limit
+  -- all are taken, and it is not solved over the automata of its imports: they answer what the files say, and are within the limit; if nodes
+  -- are wanting, the limit is below the budgets of a step
   unsolved : (loaded : Loaded) (checked : Checked) (plains : List Plain) (is : IsTaken origin out loaded checked plains) (all : read ≡ loaded.files)
       (contents : List (Content Sign)) (adopted : AreAdopted limit checked.mode checked.imports plains contents)
-      (why : IsUnsolved checked (answers_by checked.imports plains) contents limit refusal) → IsRefused origin out limit refusal read
+      (why : IsUnsolved checked (answers_by checked.imports plains) contents limit refusal)
+      (below : IsBelowBudgets checked (answers_by checked.imports plains) limit refusal) → IsRefused origin out limit refusal read
   -- want of memory needs no cause
   no_memory : (why : refusal ≡ Memory) → IsRefused origin out limit refusal read

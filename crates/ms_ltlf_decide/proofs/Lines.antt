@@ -16,7 +16,7 @@ use Rattle.ms_lower.specs.Measure.{IsDepthRefusal}
 use Rattle.ms_lower.specs.TooDeep.{HasTooDeep, Part, part_of_formula, part_of_global, parts_of}
 use Rattle.ms_ltlf.specs.Source.{IsStringSource, global_of, start}
 use Rattle.ms_ltlf.specs.Tree.{Temporal}
-use Rattle.ms_ltlf_decide.specs.Formula.{IsNoText, IsRefusedFormula, IsUnsolvedFormula, no_formula, no_memory, unread, unsolved}
+use Rattle.ms_ltlf_decide.specs.Formula.{IsNoText, IsRefusedFormula, no_formula, no_memory, unread, unsolved}
 use Rattle.ms_ltlf_decide.specs.Laws.{RefusalsHaveLines}
 use Rattle.ms_ltlf_parse.specs.Grammar.{Names}
 use Rattle.ms_ltlf_parse.specs.Refused.{IsTraceFault, NamesFault}
@@ -77,15 +77,16 @@ deep-start names f source item at is deep =
     let P : List Global → Type 0 = λ gs. HasTooDeep item at (map (part_of_global x) gs ++ map (part_of_formula x) source.formulas) in
     globals-start x names item at (map (part_of_formula x) source.formulas) (formulas-start x source.formulas item at is.places) (subst P is.globals deep)
 
-unsolved-told : (name : List ℕ) (names : Names) (f : Temporal) (limit : ℕ) (refusal : Refusal) → IsUnsolvedFormula names f limit refusal → IsTold (name ∷ []) refusal
-unsolved-told name names f limit refusal (source, is, not_made (too_deep deep)) =
+unsolved-at : (name : List ℕ) (names : Names) (f : Temporal) (limit : ℕ) (refusal : Refusal) (source : Checked) → IsStringSource names f source → IsUnsolved source [] [] limit refusal
+    → IsTold (name ∷ []) refusal
+unsolved-at name names f limit refusal source is (not_made (too_deep deep)) =
     let at-start = deep-start names f source deep.first.item deep.at is deep.first.deep in
     subst (IsTold (name ∷ [])) (sym deep.is) (tt, first-file name deep.at (ap (λ (a : At). a.file) at-start))
-unsolved-told name names f limit refusal (source, is, not_made (too_large large)) = subst (IsTold (name ∷ [])) (sym large.is) (tt, tt)
-unsolved-told name names f limit refusal (source, is, lacks_nodes within step why nodes) = subst (IsTold (name ∷ [])) (sym nodes) (tt, tt)
+unsolved-at name names f limit refusal source is (not_made (too_large large)) = subst (IsTold (name ∷ [])) (sym large.is) (tt, tt)
+unsolved-at name names f limit refusal source is (lacks_nodes within step why nodes) = subst (IsTold (name ∷ [])) (sym nodes) (tt, tt)
 
 pub lines : RefusalsHaveLines
 lines seen name limit refusal files (unread why none) = subst (λ read. IsTold read refusal) (sym none) (unread-told name seen refusal why)
 lines seen name limit refusal files (no_formula bytes are why one) = subst (λ read. IsTold read refusal) (sym one) (text-told name bytes refusal why)
-lines seen name limit refusal files (unsolved names f is why one) = subst (λ read. IsTold read refusal) (sym one) (unsolved-told name names f limit refusal why)
+lines seen name limit refusal files (unsolved names f is why one) = subst (λ read. IsTold read refusal) (sym one) (unsolved-at name names f limit refusal why.source why.is why.why)
 lines seen name limit refusal files (no_memory why) = subst (IsTold files) (sym why) (tt, tt)

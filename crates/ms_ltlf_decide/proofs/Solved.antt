@@ -1,7 +1,7 @@
 -- A file whose formula can be solved is refused for want of memory or of nodes alone, where nothing outside fails.
 use Rattle.std.proofs.Common.{◌≡◌, ℕ, ◌≤◌, ◌<◌, ◌⊎◌, inl, inr, List, [], length, Option, None, Some, refl, sym, ap, subst, ◌∙◌, arith}
 use Rattle.std.proofs.lemmas.Option.{none-some, same_Some}
-use Rattle.ms_build_source.specs.Limits.{IsTooLarge, IsWithinLimits, lacks_nodes, not_made, too_deep, too_large}
+use Rattle.ms_build_source.specs.Limits.{IsTooLarge, IsUnsolved, IsWithinLimits, lacks_nodes, not_made, too_deep, too_large}
 use Rattle.ms_edge.specs.Counts.{Rose}
 use Rattle.ms_edge.specs.declared.refusal.Refusal.{Refusal}
 use Rattle.ms_edge.specs.declared.refusal.Refusal.TheVariants.{Memory, Nodes}
@@ -13,7 +13,7 @@ use Rattle.ms_logic.specs.View.{problem_of}
 use Rattle.ms_ltlf.specs.Source.{IsStringSource, string_problem}
 use Rattle.ms_ltlf.specs.Tree.{Temporal}
 use Rattle.ms_ltlf.proofs.Sources.{problem-same}
-use Rattle.ms_ltlf_decide.specs.Formula.{IsFormulaOf, IsNoText, IsRefusedFormula, IsSolvable, IsText, IsUnsolvedFormula, no_formula, no_memory, unread, unsolved}
+use Rattle.ms_ltlf_decide.specs.Formula.{IsFormulaOf, IsNoText, IsRefusedFormula, IsSolvable, IsText, no_formula, no_memory, unread, unsolved}
 use Rattle.ms_ltlf_decide.specs.Laws.{SolvableFormulasAreSolved}
 use Rattle.ms_ltlf_parse.specs.Grammar.{Names}
 use Rattle.ms_ltlf_parse.specs.Reading.{Reads}
@@ -93,16 +93,17 @@ module _ (seen : Seen) (holding : Holding) (name : List ℕ) (names : Names) (f 
         | too_large large ↦ omega (arith, within.size, large.too_large)
       ]
 
-  wanted : (others : Names) (g : Temporal) (refusal : Refusal) → IsFormulaOf seen.before.held name others g → IsUnsolvedFormula others g limit refusal → IsWant limit refusal
-  wanted others g refusal other (source, made, not_made why) = absurd (not-too-large others g refusal source other made why)
-  wanted others g refusal other (source, made, lacks_nodes within step why nodes) = inr (step, nodes)
+  wanted-by : (others : Names) (g : Temporal) (refusal : Refusal) (source : Checked) → IsFormulaOf seen.before.held name others g → IsStringSource others g source
+      → IsUnsolved source [] [] limit refusal → IsWant limit refusal
+  wanted-by others g refusal source other made (not_made why) = absurd (not-too-large others g refusal source other made why)
+  wanted-by others g refusal source other made (lacks_nodes within step why nodes) = inr (step, nodes)
 
   solved-there : (refusal : Refusal) (files : List (List ℕ)) → IsRefusedFormula seen name limit refusal files → IsWant limit refusal
   solved-there refusal files (unread why none) = inl (read refusal why)
   solved-there refusal files (no_formula bytes are why single) =
       let same : bytes ≡ formula.bytes = one-bytes holding seen.before.held told name bytes formula.bytes are formula.are_bytes in
       inl (text-taken formula.bytes names f refusal formula.text (subst (λ b. IsNoText b refusal) same why))
-  solved-there refusal files (unsolved others g other why single) = wanted others g refusal other why
+  solved-there refusal files (unsolved others g other why single) = wanted-by others g refusal why.source other why.is why.why
   solved-there refusal files (no_memory why) = inl why
 
 pub solved : SolvableFormulasAreSolved

@@ -30,7 +30,7 @@ returns-in-Err-decide-clause-refused g c =
     let made = c.in-Ok.ensures.taken in
     let refusal = c.in-Err-decide.refusal in
     first_refused name out limit seen old new refusal c.requires.first
-    (unsolved_of c.in-Ok.taken.source.checked limit made.1 c.in-Ok.taken.imports made.3 (file_of seen (length old) name) out made.0 made.2 refusal old new made.6 c.in-Err-decide.ensures.refused)
+    (unsolved_of c.in-Ok.taken.source.checked limit made.1 c.in-Ok.taken.imports made.3 (file_of seen (length old) name) out made.0 made.2 c.in-Ok.ensures.right refusal old new made.6 c.in-Err-decide.ensures.refused)
 
 pub returns-in-Ok-report-clause-given : goal.returns-in-Ok-report-clause-given
 returns-in-Ok-report-clause-given g c =

@@ -30,7 +30,7 @@ returns-in-Err-decide-clause-refused c = λ seen.
     let adopted = nothing_adopted c.args.number c.in-Ok.ensures.is_number c.in-Ok.text c.in-Ok.ensures.text c.args.names.now c.accept_text.new.names c.requires.first made.0 checked made.1
     c.in-Ok-accept_text.ensures.names c.new.result c.new.ensures in
     text_unsolved c.args.number c.in-Ok.ensures.is_number c.in-Ok.text c.in-Ok.ensures.text c.args.names.now c.accept_text.new.names c.requires.first made.0 checked made.1
-    c.in-Ok-accept_text.ensures.names c.new.result adopted c.in-Err-decide.refusal (c.in-Err-decide.ensures.refused (answers_by checked.imports []) long)
+    c.in-Ok-accept_text.ensures.names c.in-Ok-accept_text.ensures.right.numbered c.new.result adopted c.in-Err-decide.refusal (c.in-Err-decide.ensures.refused (answers_by checked.imports []) long)
 
 pub summary-requires : goal.summary-requires
 summary-requires c =

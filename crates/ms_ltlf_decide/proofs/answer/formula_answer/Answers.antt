@@ -27,4 +27,4 @@ returns-in-Err-clause-refused c =
     let trace = c.args.trace.now in
     let is = c.in-Ok.ensures.source in
     let none = ap (λ (uses : List ImportUse). length uses) is.imports in
-    refused-for trace.names (temporal_of trace.formula) c.in-Ok.source is c.new.result c.args.limit c.in-Err.refusal c.new.ensures (c.in-Err.ensures.refused [] (sym none))
+    refused-for trace.names (temporal_of trace.formula) c.in-Ok.source is c.in-Ok.ensures.numbered c.new.result c.args.limit c.in-Err.refusal c.new.ensures (c.in-Err.ensures.refused [] (sym none))
