@@ -1,0 +1,328 @@
+-- The forms of a translation export nothing, their constants are in range, and variables of one number have one order.
+use Rattle.std.proofs.Common.{◌≡◌, ℕ, ◌+◌, ◌*◌, ◌^◌, ◌<◌, ◌≤◌, ◌==◌, zero, suc, inr, true, max, ⊎_elim, List, [], ◌∷◌, ◌++◌, length, map, refl, sym, ◌∙◌, ap, subst, arith}
+use Rattle.std.proofs.lemmas.Bool.{cases_lt}
+use Rattle.std.proofs.lemmas.Bool.Decides.{nat_tests}
+use Rattle.std.proofs.lemmas.Nat.Bits.{bit_at_above}
+use Rattle.ms_logic.specs.declared.mode.Mode.{Mode}
+use Rattle.ms_logic.specs.declared.mode.Order.{Order}
+use Rattle.ms_logic.specs.declared.mode.Order.TheVariants.{One, Two}
+use Rattle.ms_logic.specs.declared.mode.Rel.TheVariants.{Equal}
+use Rattle.ms_logic.specs.FiniteSet.{is_member, one_bits}
+use Rattle.ms_logic.specs.Lists.{Each}
+use Rattle.ms_logic.specs.Tree.{Form, truth, falsity, truth_variable, negation, conjunction, disjunction, implication, equivalence, comparison, set_comparison, membership, emptiness, set_variable, quantified, where_let, call, restrict, imported, exported, default_at, Forms, no_forms, more_forms, Restriction, unrestricted, restricted}
+use Rattle.ms_logic.specs.View.{globals_from}
+use Rattle.ms_logic.proofs.Members.{either_true}
+use Rattle.ms_logic.proofs.SetLaws.{one_bits_law}
+use Rattle.ms_logic_core.specs.Roots as roots
+use Rattle.ms_names_rules.specs.Numbers.{exports_in, exports_in_all}
+use Rattle.ms_names_checked.specs.Constants.{AreInRange, IsInRange}
+use Rattle.ms_names_checked.specs.Exports.{HasExportsInPlace, HaveExportsInPlace}
+use Rattle.ms_names_checked.specs.Orders.{BindsInOrder, DeclaresInOrder, EachBindsInOrder, HasOrder}
+use Rattle.ms_presburger.specs.declared.linear.Part.{Part}
+use Rattle.ms_presburger.specs.declared.linear.Part.TheVariants.{Number, Var, Times}
+use Rattle.ms_presburger.specs.declared.summand.Summand.{Summand}
+use Rattle.ms_presburger.specs.declared.summand.Summand.TheVariants.{Constant, Shifted}
+use Rattle.ms_presburger.specs.Sets.{Scope, summands_of_part, summands_of, term_of_summand, set_form}
+use Rattle.ms_presburger.specs.Source.{global_of}
+use Rattle.ms_presburger.specs.Tree.{Arithmetic, Arithmetics, no_arithmetics, more_arithmetics}
+use Rattle.ms_presburger.specs.Tree as numbers
+use Rattle.ms_presburger.specs.inner.Scopes.{AreAllFactorsSmall, AreFactorsSmall, IsFactorSmall}
+use Rattle.ms_presburger.proofs.Shapes.{IsClosed, HasSummands, HaveSummands, shape}
+
+none-of-two : {A : Type 0} (left right : List A) → left ≡ [] → right ≡ [] → left ++ right ≡ []
+none-of-two left right one other = ap (λ es. es ++ right) one ∙ other
+
+-- any summands
+
+abbrev Any : Summand → Type 0
+Any t = Unit {0}
+
+each-any : (terms : List Summand) → Each Any terms
+each-any [] = tt
+each-any (t ∷ more) = (tt, each-any more)
+
+mutual
+  has-any : (f : Arithmetic) → HasSummands Any f
+  has-any numbers.truth = tt
+  has-any numbers.falsity = tt
+  has-any (numbers.comparison r left right) = λ scope. (each-any (summands_of scope left), each-any (summands_of scope right))
+  has-any (numbers.brackets f) = has-any f
+  has-any (numbers.negation f) = has-any f
+  has-any (numbers.conjunction fs) = have-any fs
+  has-any (numbers.disjunction fs) = have-any fs
+  has-any (numbers.implication f g) = (has-any f, has-any g)
+  has-any (numbers.equivalence f g) = (has-any f, has-any g)
+  has-any (numbers.quantified q xs f) = has-any f
+
+  have-any : (fs : Arithmetics) → HaveSummands Any fs
+  have-any no_arithmetics = tt
+  have-any (more_arithmetics f fs) = (has-any f, have-any fs)
+
+-- exports
+
+pub record ExportsNothing (f : Form) : Type 0 where
+  pub numbers : exports_in f ≡ []
+  pub exports : roots.exports_in f ≡ []
+  pub in_place : HasExportsInPlace f
+
+record ExportNothing (fs : Forms) : Type 0 where
+  numbers : exports_in_all fs ≡ []
+  exports : roots.exports_among fs ≡ []
+  in_place : HaveExportsInPlace fs
+
+abbrev Anywhere : ℕ → Type 0
+Anywhere x = Unit {0}
+
+exports-closed : IsClosed ExportsNothing ExportNothing Anywhere Any
+exports-closed = record {
+  next = λ x from. tt;
+  none = record { numbers = refl; exports = refl; in_place = tt };
+  more = λ f fs one other. record {
+    numbers = none-of-two (exports_in f) (exports_in_all fs) one.numbers other.numbers;
+    exports = none-of-two (roots.exports_in f) (roots.exports_among fs) one.exports other.exports;
+    in_place = (one.in_place, other.in_place);
+  };
+  truth = record { numbers = refl; exports = refl; in_place = tt };
+  falsity = record { numbers = refl; exports = refl; in_place = tt };
+  negation = λ f one. record { numbers = one.numbers; exports = one.exports; in_place = one.in_place };
+  conjunction = λ fs each. record { numbers = each.numbers; exports = each.exports; in_place = each.in_place };
+  disjunction = λ fs each. record { numbers = each.numbers; exports = each.exports; in_place = each.in_place };
+  implication = λ f g one other. record {
+    numbers = none-of-two (exports_in f) (exports_in g) one.numbers other.numbers;
+    exports = none-of-two (roots.exports_in f) (roots.exports_in g) one.exports other.exports;
+    in_place = (one.in_place, other.in_place);
+  };
+  equivalence = λ f g one other. record {
+    numbers = none-of-two (exports_in f) (exports_in g) one.numbers other.numbers;
+    exports = none-of-two (roots.exports_in f) (roots.exports_in g) one.exports other.exports;
+    in_place = (one.in_place, other.in_place);
+  };
+  before = λ p q. record { numbers = refl; exports = refl; in_place = tt };
+  place_in = λ positive p s. record { numbers = refl; exports = refl; in_place = tt };
+  first_in = λ s. record { numbers = refl; exports = refl; in_place = tt };
+  next_in = λ p s. record { numbers = refl; exports = refl; in_place = tt };
+  empty = λ y. record { numbers = refl; exports = refl; in_place = tt };
+  same = λ u v. record { numbers = refl; exports = refl; in_place = tt };
+  differ = λ u v. record { numbers = refl; exports = refl; in_place = tt };
+  term = λ y t any. record { numbers = refl; exports = refl; in_place = tt };
+  some_set = λ x d f from one other. record { numbers = none-of-two (exports_in d) (exports_in f) one.numbers other.numbers; exports = other.exports; in_place = (one.numbers, other.in_place) };
+  a_set = λ q x f from one. record { numbers = one.numbers; exports = one.exports; in_place = (refl, one.in_place) };
+  a_place = λ q x f from one. record { numbers = one.numbers; exports = one.exports; in_place = (refl, one.in_place) };
+  a_later_place = λ q x f from one. record { numbers = one.numbers; exports = one.exports; in_place = (refl, one.in_place) };
+}
+
+pub exports-nothing : (f : Arithmetic) (scope : Scope) (x : ℕ) → ExportsNothing (set_form f scope x)
+exports-nothing f scope x = shape ExportsNothing ExportNothing Anywhere Any exports-closed f (has-any f) scope x tt
+
+-- constants
+
+abbrev IsTermSmall : Summand → Type 0
+IsTermSmall (Constant n) = Unit {0}
+IsTermSmall (Shifted y j) = j ≤ 65535
+
+term-in-range : (mode : Mode) (y : ℕ) (t : Summand) → IsTermSmall t → IsInRange mode (set_comparison Equal (set_variable y) (term_of_summand t))
+term-in-range mode y (Constant n) small = (tt, tt, tt)
+term-in-range mode y (Shifted x j) small = (tt, tt, (tt, small))
+
+range-closed : (mode : Mode) → IsClosed (IsInRange mode) (AreInRange mode) Anywhere IsTermSmall
+range-closed mode = record {
+  next = λ x from. tt;
+  none = tt;
+  more = λ f fs one other. (one, other);
+  truth = tt;
+  falsity = tt;
+  negation = λ f one. one;
+  conjunction = λ fs each. each;
+  disjunction = λ fs each. each;
+  implication = λ f g one other. (one, other);
+  equivalence = λ f g one other. (one, other);
+  before = λ p q. (tt, tt, tt);
+  place_in = λ positive p s. (tt, tt);
+  first_in = λ s. (omega arith, tt);
+  next_in = λ p s. ((tt, omega arith), tt);
+  empty = λ y. tt;
+  same = λ u v. (tt, tt, tt);
+  differ = λ u v. (tt, tt, tt);
+  term = term-in-range mode;
+  some_set = λ x d f from one other. (one, other);
+  a_set = λ q x f from one. (tt, one);
+  a_place = λ q x f from one. (tt, one);
+  a_later_place = λ q x f from one. (tt, one);
+}
+
+-- a member of a list is its first, or one of the others
+first_member : (j : ℕ) (places : List ℕ) → is_member j (j ∷ places) ≡ true
+first_member j places = grind (arith, nat_tests)
+
+later : (i j : ℕ) (places : List ℕ) → is_member i places ≡ true → is_member i (j ∷ places) ≡ true
+later i j places member = (either_true (j == i) (is_member i places)).1 (inr member)
+
+small-places : (x : ℕ) (places : List ℕ) → Each (λ j. j ≤ 65535) places → Each IsTermSmall (map (λ j. Shifted x j) places)
+small-places x [] each = tt
+small-places x (j ∷ places) each = (each.0, small-places x places each.1)
+
+each-place : (P : ℕ → Type 0) (places : List ℕ) → ((j : ℕ) → is_member j places ≡ true → P j) → Each P places
+each-place P [] each = tt
+each-place P (j ∷ places) each =
+    (each j (first_member j places), each-place P places (λ i member. each i (later i j places member)))
+
+small-bits : (n : ℕ) → n < 2 ^ 64 → Each (λ j. j ≤ 65535) (one_bits n)
+small-bits n small =
+    each-place (λ j. j ≤ 65535) (one_bits n) (λ j member.
+    ⊎_elim (λ below. omega (arith, below)) (λ above. absurd (omega (arith, bit_at_above n 64 j small above, ((one_bits_law n).exactly j).0 member))) (cases_lt j 64))
+
+small-part : (scope : Scope) (part : Part) → IsFactorSmall part → Each IsTermSmall (summands_of_part scope part)
+small-part scope (Number zero) small = tt
+small-part scope (Number (suc n)) small = (tt, tt)
+small-part scope (Var name) small = (omega arith, tt)
+small-part scope (Times n name) small = small-places (scope name) (one_bits n) (small-bits n small)
+
+each-both : (P : Summand → Type 0) (left right : List Summand) → Each P left → Each P right → Each P (left ++ right)
+each-both P [] right one other = other
+each-both P (t ∷ more) right one other = (one.0, each-both P more right one.1 other)
+
+small-sum : (scope : Scope) (parts : List Part) → Each IsFactorSmall parts → Each IsTermSmall (summands_of scope parts)
+small-sum scope [] small = tt
+small-sum scope (part ∷ more) small = each-both IsTermSmall (summands_of_part scope part) (summands_of scope more) (small-part scope part small.0) (small-sum scope more small.1)
+
+mutual
+  has-small : (f : Arithmetic) → AreFactorsSmall f → HasSummands IsTermSmall f
+  has-small numbers.truth small = tt
+  has-small numbers.falsity small = tt
+  has-small (numbers.comparison r left right) small = λ scope. (small-sum scope left small.0, small-sum scope right small.1)
+  has-small (numbers.brackets f) small = has-small f small
+  has-small (numbers.negation f) small = has-small f small
+  has-small (numbers.conjunction fs) small = have-small fs small
+  has-small (numbers.disjunction fs) small = have-small fs small
+  has-small (numbers.implication f g) small = (has-small f small.0, has-small g small.1)
+  has-small (numbers.equivalence f g) small = (has-small f small.0, has-small g small.1)
+  has-small (numbers.quantified q xs f) small = has-small f small
+
+  have-small : (fs : Arithmetics) → AreAllFactorsSmall fs → HaveSummands IsTermSmall fs
+  have-small no_arithmetics small = tt
+  have-small (more_arithmetics f fs) small = (has-small f small.0, have-small fs small.1)
+
+pub in-range : (mode : Mode) (f : Arithmetic) → AreFactorsSmall f → (scope : Scope) (x : ℕ) → IsInRange mode (set_form f scope x)
+in-range mode f small scope x = shape (IsInRange mode) (AreInRange mode) Anywhere IsTermSmall (range-closed mode) f (has-small f small) scope x tt
+
+-- orders: behind the globals, which are sets, sets and places take turns
+
+-- the least number above the variables that a form binds
+abbrev mutual
+  pub top : Form → ℕ
+  top truth = 0
+  top falsity = 0
+  top (truth_variable x) = 0
+  top (negation f) = top f
+  top (conjunction fs) = top_of_all fs
+  top (disjunction fs) = top_of_all fs
+  top (implication f g) = max (top f) (top g)
+  top (equivalence f g) = max (top f) (top g)
+  top (comparison r t u) = 0
+  top (set_comparison r s t) = 0
+  top (membership positive t s) = 0
+  top (emptiness s) = 0
+  top (quantified q o x d f) = max (suc x) (max (top_of_restriction d) (top f))
+  top (where_let xs sides f) = 0
+  top (call p given) = 0
+  top (restrict f) = 0
+  top (imported i) = 0
+  top (exported i f) = 0
+  top (default_at p x) = 0
+
+  pub top_of_all : Forms → ℕ
+  top_of_all no_forms = 0
+  top_of_all (more_forms f fs) = max (top f) (top_of_all fs)
+
+  pub top_of_restriction : Restriction → ℕ
+  top_of_restriction unrestricted = 0
+  top_of_restriction (restricted d) = top d
+
+turns : ℕ → List Order
+turns zero = []
+turns (suc n) = Two ∷ (One ∷ turns n)
+
+pub orders : ℕ → ℕ → List Order
+orders zero many = turns many
+orders (suc count) many = Two ∷ orders count many
+
+set-turn : (n k : ℕ) → k < n → HasOrder (turns n) (2 * k) Two
+unfolding turns
+set-turn zero k below = absurd (omega (arith, below))
+set-turn (suc n) zero below = refl
+set-turn (suc n) (suc k) below = let next : suc (suc (2 * k)) ≡ 2 * suc k = omega arith in let P : ℕ → Type 0 = λ i. HasOrder (turns (suc n)) i Two in subst P next (set-turn n k (omega (arith, below)))
+
+place-turn : (n k : ℕ) → k < n → HasOrder (turns n) (2 * k + 1) One
+unfolding turns
+place-turn zero k below = absurd (omega (arith, below))
+place-turn (suc n) zero below = refl
+place-turn (suc n) (suc k) below = let next : suc (suc (2 * k + 1)) ≡ 2 * suc k + 1 = omega arith in let P : ℕ → Type 0 = λ i. HasOrder (turns (suc n)) i One in subst P next (place-turn n k (omega (arith, below)))
+
+behind-globals : (count many k : ℕ) (o : Order) → HasOrder (turns many) k o → HasOrder (orders count many) (count + k) o
+unfolding orders
+behind-globals zero many k o has = let same : k ≡ 0 + k = omega arith in let P : ℕ → Type 0 = λ i. HasOrder (turns many) i o in subst P same has
+behind-globals (suc count) many k o has = let same : suc (count + k) ≡ suc count + k = omega arith in let P : ℕ → Type 0 = λ i. HasOrder (orders (suc count) many) i o in subst P same (behind-globals count many k o has)
+
+pub global-order : (count many x : ℕ) → x < count → HasOrder (orders count many) x Two
+unfolding orders
+global-order zero many x below = absurd (omega (arith, below))
+global-order (suc count) many zero below = refl
+global-order (suc count) many (suc x) below = global-order count many x (omega (arith, below))
+
+module _ (count : ℕ) where
+  -- a set's turn
+  abbrev SetsFrom : ℕ → Type 0
+  SetsFrom x = (k : ℕ) × (x ≡ count + 2 * k)
+
+  abbrev InTurn : Form → Type 0
+  InTurn f = (many : ℕ) → top f ≤ many → BindsInOrder (orders count many) f
+
+  abbrev EachInTurn : Forms → Type 0
+  EachInTurn fs = (many : ℕ) → top_of_all fs ≤ many → EachBindsInOrder (orders count many) fs
+
+  set-order : (x many : ℕ) → SetsFrom x → x < many → HasOrder (orders count many) x Two
+  set-order x many from below = let P : ℕ → Type 0 = λ i. HasOrder (orders count many) i Two in subst P (sym from.1) (behind-globals count many (2 * from.0) Two (set-turn many from.0 (omega (arith, from.1, below))))
+
+  place-order : (x many : ℕ) → SetsFrom x → x + 1 < many → HasOrder (orders count many) (x + 1) One
+  place-order x many from below =
+      let same : count + (2 * from.0 + 1) ≡ x + 1 = omega (arith, from.1) in
+      let P : ℕ → Type 0 = λ i. HasOrder (orders count many) i One in subst P same (behind-globals count many (2 * from.0 + 1) One (place-turn many from.0 (omega (arith, from.1, below))))
+
+  next-set : (x : ℕ) → SetsFrom x → SetsFrom (x + 2)
+  next-set x from = (from.0 + 1, omega (arith, from.1))
+
+  turns-closed : IsClosed InTurn EachInTurn SetsFrom Any
+  turns-closed = record {
+    next = next-set;
+    none = λ many above. tt;
+    more = λ f fs one other many above. (one many (omega (arith, above)), other many (omega (arith, above)));
+    truth = λ many above. tt;
+    falsity = λ many above. tt;
+    negation = λ f one. one;
+    conjunction = λ fs each. each;
+    disjunction = λ fs each. each;
+    implication = λ f g one other many above. (one many (omega (arith, above)), other many (omega (arith, above)));
+    equivalence = λ f g one other many above. (one many (omega (arith, above)), other many (omega (arith, above)));
+    before = λ p q many above. tt;
+    place_in = λ positive p s many above. tt;
+    first_in = λ s many above. tt;
+    next_in = λ p s many above. tt;
+    empty = λ y many above. tt;
+    same = λ u v many above. tt;
+    differ = λ u v many above. tt;
+    term = λ y t any many above. tt;
+    some_set = λ x d f from one other many above. (set-order x many from (omega (arith, above)), one many (omega (arith, above)), other many (omega (arith, above)));
+    a_set = λ q x f from one many above. (set-order x many from (omega (arith, above)), tt, one many (omega (arith, above)));
+    a_place = λ q x f from one many above. (place-order x many from (omega (arith, above)), tt, one many (omega (arith, above)));
+    a_later_place = λ q x f from one many above.
+        let same : x + 2 + 1 ≡ x + 3 = omega arith in
+        let P : ℕ → Type 0 = λ i. HasOrder (orders count many) i One in
+        (subst P same (place-order (x + 2) many (next-set x from) (omega (arith, above))), tt, one many (omega (arith, above)));
+  }
+
+  pub in-turn : (f : Arithmetic) (scope : Scope) → (many : ℕ) → top (set_form f scope count) ≤ many → BindsInOrder (orders count many) (set_form f scope count)
+  in-turn f scope = shape InTurn EachInTurn SetsFrom Any turns-closed f (has-any f) scope count (0, omega arith)
+
+  pub declared-in-turn : (many : ℕ) (names : List (List ℕ)) (from : ℕ) → from + length names ≤ count → Each (DeclaresInOrder (orders count many)) (globals_from from (map global_of names))
+  declared-in-turn many [] from within = tt
+  declared-in-turn many (name ∷ names) from within = ((global-order count many from (omega (arith, within)), tt), declared-in-turn many names (from + 1) (omega (arith, within)))

@@ -1,0 +1,114 @@
+use Rattle.std.proofs.Common.{◌≡◌, ℕ, ◌+◌, ◌*◌, ◌≤◌, ◌^◌, ◌∷◌, [], length, map}
+use Rattle.std.proofs.lemmas.Result.{IfOk-weaker}
+use Rattle.ms_logic.specs.View.{Answers, goals_in, main_question, problem_of}
+use Rattle.ms_logic_core.specs.Size.{depth_of_source, size_of_source}
+use Rattle.ms_presburger.specs.Tree.{extent, reach, size}
+use Rattle.ms_presburger.proofs.Extents.{is-deep, is-large}
+use Rattle.ms_logic.specs.declared.checked.Checked.{Checked}
+use Rattle.ms_logic.specs.declared.checked.Global.{Global}
+use Rattle.ms_logic.specs.declared.checked.Placed.{Placed}
+use Rattle.ms_logic.specs.declared.mode.Mode.TheVariants.{Ws1s}
+use Rattle.ms_names_checked.specs.Checked.{MeetsRules}
+use Rattle.ms_names_checked.specs.Exports.{ListsFreeVariables}
+use Rattle.ms_names_rules.specs.Numbers.{IsWellNumbered}
+use Rattle.ms_presburger.specs.Meaning.{IsOverNumbers, TellsTruth, TellsVerdict}
+use Rattle.ms_presburger.specs.Source.{IsSetSource, start}
+use Rattle.ms_presburger.specs.inner.Scopes.{AreFactorsSmall}
+use Rattle.ms_presburger.specs.View.{arithmetic_of}
+use Rattle.ms_presburger.proofs.Kept.{with-kept}
+use Rattle.ms_presburger.proofs.Numbering.{is-well-numbered, lists-free-variables, meets-rules, names-kept}
+use Rattle.ms_presburger.proofs.Sources.{tells-truth, is-over-numbers, tells-verdict}
+use Rattle.ms_presburger.proofs.Titles.{no-goals}
+use Rattle.ms_presburger.proofs.sets.to_sets.Goals as goal
+
+pub returns-clause-truth : goal.returns-clause-truth
+returns-clause-truth c =
+    let names = c.args.problem.now.names in
+    let f = arithmetic_of c.args.problem.now.formula in
+    IfOk-weaker c.set_source.result (IsSetSource names f) (λ made. (answers : Answers) → TellsTruth names f (main_question made answers)) (λ made is answers. tells-truth names f made answers c.requires.names is) c.set_source.ensures.source
+
+pub returns-clause-numbers : goal.returns-clause-numbers
+returns-clause-numbers c =
+    let names = c.args.problem.now.names in
+    let f = arithmetic_of c.args.problem.now.formula in
+    IfOk-weaker c.set_source.result (IsSetSource names f) (λ made. (answers : Answers) → IsOverNumbers names (main_question made answers)) (λ made is answers. is-over-numbers names f made answers c.requires.names is) c.set_source.ensures.source
+
+pub returns-clause-verdict : goal.returns-clause-verdict
+returns-clause-verdict c =
+    let names = c.args.problem.now.names in
+    let f = arithmetic_of c.args.problem.now.formula in
+    IfOk-weaker c.set_source.result (IsSetSource names f) (λ made. (answers : Answers) → TellsVerdict f (main_question made answers)) (λ made is answers. tells-verdict names f made answers c.requires.names is) c.set_source.ensures.source
+
+pub returns-clause-no_goals : goal.returns-clause-no_goals
+returns-clause-no_goals c =
+    let names = c.args.problem.now.names in
+    let f = arithmetic_of c.args.problem.now.formula in
+    IfOk-weaker c.set_source.result (IsSetSource names f) (λ (made : Checked). goals_in made ≡ []) (λ made is. no-goals made is.titles) c.set_source.ensures.source
+
+pub returns-clause-mode : goal.returns-clause-mode
+returns-clause-mode c =
+    let names = c.args.problem.now.names in
+    let f = arithmetic_of c.args.problem.now.formula in
+    IfOk-weaker c.set_source.result (IsSetSource names f) (λ (made : Checked). made.mode ≡ Ws1s) (λ made is. is.mode) c.set_source.ensures.source
+
+pub returns-clause-names : goal.returns-clause-names
+returns-clause-names c =
+    let names = c.args.problem.now.names in
+    let f = arithmetic_of c.args.problem.now.formula in
+    IfOk-weaker c.set_source.result (IsSetSource names f) (λ (made : Checked). map (λ (g : Global). g.name) made.globals ≡ names) (λ made is. names-kept names f made is) c.set_source.ensures.source
+
+pub returns-clause-imports_nothing : goal.returns-clause-imports_nothing
+returns-clause-imports_nothing c =
+    let names = c.args.problem.now.names in
+    let f = arithmetic_of c.args.problem.now.formula in
+    IfOk-weaker c.set_source.result (IsSetSource names f) (λ (made : Checked). made.imports ≡ []) (λ made is. is.imports) c.set_source.ensures.source
+
+pub returns-clause-exports_nothing : goal.returns-clause-exports_nothing
+returns-clause-exports_nothing c =
+    let names = c.args.problem.now.names in
+    let f = arithmetic_of c.args.problem.now.formula in
+    IfOk-weaker c.set_source.result (IsSetSource names f) (λ (made : Checked). made.exports ≡ []) (λ made is. is.exports) c.set_source.ensures.source
+
+pub returns-clause-places : goal.returns-clause-places
+returns-clause-places c =
+    let names = c.args.problem.now.names in
+    let f = arithmetic_of c.args.problem.now.formula in
+    IfOk-weaker c.set_source.result (IsSetSource names f) (λ (made : Checked). map (λ (placed : Placed). placed.at) made.formulas ≡ start ∷ []) (λ made is. is.places) c.set_source.ensures.source
+
+pub returns-clause-items : goal.returns-clause-items
+returns-clause-items c =
+    let names = c.args.problem.now.names in
+    let f = arithmetic_of c.args.problem.now.formula in
+    IfOk-weaker c.set_source.result (IsSetSource names f) (λ (made : Checked). map (λ (placed : Placed). placed.item) made.formulas ≡ 1 ∷ []) (λ made is. is.items) c.set_source.ensures.source
+
+pub returns-clause-numbered : goal.returns-clause-numbered
+returns-clause-numbered c =
+    let names = c.args.problem.now.names in
+    let f = arithmetic_of c.args.problem.now.formula in
+    with-kept c.set_source.result (IsSetSource names f) IsWellNumbered (AreFactorsSmall f) (λ made is small. is-well-numbered names f made c.requires.names small is) c.set_source.ensures.source c.set_source.ensures.small
+
+pub returns-clause-exports : goal.returns-clause-exports
+returns-clause-exports c =
+    let names = c.args.problem.now.names in
+    let f = arithmetic_of c.args.problem.now.formula in
+    with-kept c.set_source.result (IsSetSource names f) ListsFreeVariables (AreFactorsSmall f) (λ made is small. lists-free-variables names f made c.requires.names small is) c.set_source.ensures.source c.set_source.ensures.small
+
+pub returns-clause-meets_rules : goal.returns-clause-meets_rules
+returns-clause-meets_rules c =
+    let names = c.args.problem.now.names in
+    let f = arithmetic_of c.args.problem.now.formula in
+    with-kept c.set_source.result (IsSetSource names f) MeetsRules (AreFactorsSmall f) (λ made is small. meets-rules names f made c.requires.names small is) c.set_source.ensures.source c.set_source.ensures.small
+
+pub returns-clause-depth : goal.returns-clause-depth
+returns-clause-depth c =
+    let names = c.args.problem.now.names in
+    let f = arithmetic_of c.args.problem.now.formula in
+    with-kept c.set_source.result (IsSetSource names f) (λ made. (answers : Answers) (levels : ℕ) → 64 * extent f ≤ 2 ^ levels → depth_of_source (problem_of made answers) ≤ reach f + 2 * levels + 12) (AreFactorsSmall f)
+    (λ made is small answers levels few. is-deep names f small made answers is levels few) c.set_source.ensures.source c.set_source.ensures.small
+
+pub returns-clause-size : goal.returns-clause-size
+returns-clause-size c =
+    let names = c.args.problem.now.names in
+    let f = arithmetic_of c.args.problem.now.formula in
+    with-kept c.set_source.result (IsSetSource names f) (λ made. (answers : Answers) → size_of_source (problem_of made answers) ≤ 27 * size f + 3520 * extent f + length names + 1) (AreFactorsSmall f)
+    (λ made is small answers. is-large names f small made answers is) c.set_source.ensures.source c.set_source.ensures.small

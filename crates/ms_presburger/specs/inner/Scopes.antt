@@ -1,0 +1,52 @@
+-- The variables of the names in scope, as code keeps them: the free names, and those bound around, the innermost last.
+use Rattle.std.specs.Prelude.{ℕ, zero, suc, ◌+◌, ◌*◌, ◌<◌, ◌^◌, List, [], ◌∷◌, length}
+use Rattle.ms_logic.specs.declared.mode.Order.TheVariants.{Two}
+use Rattle.ms_logic.specs.declared.mode.Quant.{Quant}
+use Rattle.ms_logic.specs.Lists.{Each}
+use Rattle.ms_logic.specs.Tree.{Form, unrestricted}
+use Rattle.ms_logic.specs.Tree as sets
+use Rattle.ms_presburger.specs.declared.linear.Part.{Part}
+use Rattle.ms_presburger.specs.declared.linear.Part.TheVariants.{Number, Var, Times}
+use Rattle.ms_presburger.specs.Sets.{Scope, with_variable}
+use Rattle.ms_presburger.specs.Source.{place_of}
+use Rattle.ms_presburger.specs.Tree.{Arithmetic, truth, falsity, comparison, brackets, negation, conjunction, disjunction, implication, equivalence, quantified, Arithmetics, no_arithmetics, more_arithmetics}
+
+-- with these names bound from x on, one after the other
+abbrev pub bound_in : ℕ → Scope → List (List ℕ) → Scope
+bound_in x scope [] = scope
+bound_in x scope (name ∷ names) = bound_in (x + 2) (with_variable name x scope) names
+
+abbrev pub scope_of : List (List ℕ) → List (List ℕ) → Scope
+scope_of names bound = bound_in (length names) (place_of names) bound
+
+-- the next variable for a set
+abbrev pub next_of : List (List ℕ) → List (List ℕ) → ℕ
+next_of names bound = length names + 2 * length bound
+
+-- a formula with as many sets bound around it, from x on
+abbrev pub wrapped : Quant → ℕ → ℕ → Form → Form
+wrapped q zero x f = f
+wrapped q (suc count) x f = sets.quantified q Two x unrestricted (wrapped q count (x + 2) f)
+
+-- the factors of a formula have 64 bits
+abbrev pub IsFactorSmall : Part → Type 0
+IsFactorSmall (Number n) = Unit {0}
+IsFactorSmall (Var x) = Unit {0}
+IsFactorSmall (Times n x) = n < 2 ^ 64
+
+abbrev mutual
+  pub AreFactorsSmall : Arithmetic → Type 0
+  AreFactorsSmall truth = Unit {0}
+  AreFactorsSmall falsity = Unit {0}
+  AreFactorsSmall (comparison r left right) = Each IsFactorSmall left × Each IsFactorSmall right
+  AreFactorsSmall (brackets f) = AreFactorsSmall f
+  AreFactorsSmall (negation f) = AreFactorsSmall f
+  AreFactorsSmall (conjunction fs) = AreAllFactorsSmall fs
+  AreFactorsSmall (disjunction fs) = AreAllFactorsSmall fs
+  AreFactorsSmall (implication f g) = AreFactorsSmall f × AreFactorsSmall g
+  AreFactorsSmall (equivalence f g) = AreFactorsSmall f × AreFactorsSmall g
+  AreFactorsSmall (quantified q xs f) = AreFactorsSmall f
+
+  pub AreAllFactorsSmall : Arithmetics → Type 0
+  AreAllFactorsSmall no_arithmetics = Unit {0}
+  AreAllFactorsSmall (more_arithmetics f fs) = AreFactorsSmall f × AreAllFactorsSmall fs

@@ -1,0 +1,123 @@
+//! What a formula says of the sets for the names in scope: `names`, which are free, and `bound`, those bound around it.
+
+ghost use Rattle.ms_logic.specs.Tree.{Form};
+ghost use Rattle.ms_logic.specs.View.{formula_of};
+ghost use Rattle.ms_presburger.specs.Sets.{compared, set_form, summands_of};
+ghost use Rattle.ms_presburger.specs.Tree.{extent, extent_of_all};
+ghost use Rattle.ms_presburger.specs.View.{arithmetic_of, arithmetics};
+ghost use Rattle.ms_presburger.specs.inner.Made.{Gives};
+ghost use Rattle.ms_presburger.specs.inner.Scopes.{AreAllFactorsSmall, AreFactorsSmall, IsFactorSmall, next_of, scope_of, wrapped};
+ghost use Rattle.ms_logic.specs.Lists.{Each};
+ghost use Rattle.std.specs.Prelude.{◌≡◌, ◌+◌, ◌*◌, ◌<◌, ◌≤◌, ◌^◌, length, map, IfOk, OnOk};
+
+use crate::linear::{Linear, Part};
+use crate::parts::{bound as bind, conjunction, disjunction, equivalence, implication, negation};
+use crate::scope::extended;
+use crate::summands::summands;
+use crate::sums::compared;
+use ms_list::{List, Name, NoMemory, push};
+use ms_logic::{Formula, Order, Quant, Rel};
+use std::alloc::Global;
+
+/// The relation of two sums.
+fn relation(
+    alloc: Global,
+    names: &[Name],
+    bound: &[Name],
+    rel: Rel,
+    sides: (&[Part], &[Part]),
+) -> Result<Formula, NoMemory>
+    requires room { next_of names.now bound.now + 136 < 2 ^ 32 }
+    requires few { length sides.0.now ≤ 67108864 }
+    requires few_too { length sides.1.now ≤ 67108864 }
+    ensures made { let scope = scope_of names.now bound.now in
+        Gives result (compared rel (summands_of scope sides.entry.0.now) (summands_of scope sides.entry.1.now) (next_of names.now bound.now)) }
+    ensures small { OnOk result (Each IsFactorSmall sides.entry.0.now × Each IsFactorSmall sides.entry.1.now) }
+{
+    let left = summands(alloc, names, bound, sides.0)?;
+    let right = summands(alloc, names, bound, sides.1)?;
+    let x = names.len() as u32 + 2 * bound.len() as u32;
+    compared(alloc, rel, left.slice(), right.slice(), x)
+}
+
+/// Sets bound around the body, from `x` on.
+fn wrapped(
+    alloc: Global,
+    quant: Quant,
+    count: u32,
+    x: u32,
+    body: Result<Formula, NoMemory>,
+) -> Result<Formula, NoMemory>
+    requires { x + 2 * count < 2 ^ 32 }
+    ensures { (f : Form) → Gives body f → Gives result (wrapped quant count x f) }
+{
+    let mut made = body;
+    let mut left = count;
+    while left > 0 {
+        left -= 1;
+        made = bind(alloc, quant, Order::Two, x + 2 * left, made);
+    }
+    made
+}
+
+/// What a formula says of the sets for the names in scope.
+#[cycle(formulas)]
+pub(crate) fn formula_at(
+    alloc: Global,
+    names: &[Name],
+    bound: &[Name],
+    formula: &Linear,
+) -> Result<Formula, NoMemory>
+    requires room { next_of names.now bound.now + 2 * extent (arithmetic_of formula.now) + 136 < 2 ^ 32 }
+    requires few { extent (arithmetic_of formula.now) ≤ 67108864 }
+    ensures made { Gives result (set_form (arithmetic_of formula.now) (scope_of names.now bound.now) (next_of names.now bound.now)) }
+    ensures small { OnOk result (AreFactorsSmall (arithmetic_of formula.now)) }
+{
+    match formula {
+        Linear::True => Ok(Formula::True),
+        Linear::False => Ok(Formula::False),
+        Linear::Compare(rel, left, right) => {
+            relation(alloc, names, bound, *rel, (left.slice(), right.slice()))
+        }
+        Linear::Paren(body) => formula_at(alloc, names, bound, body.get()),
+        Linear::Not(body) => negation(alloc, formula_at(alloc, names, bound, body.get())),
+        Linear::And(operands) => { conjunction(formulas_at(alloc, names, bound, operands.slice())) }
+        Linear::Or(operands) => disjunction(formulas_at(alloc, names, bound, operands.slice())),
+        Linear::Implies(left, right) => {
+            let left = formula_at(alloc, names, bound, left.get());
+            implication(alloc, left, formula_at(alloc, names, bound, right.get()))
+        }
+        Linear::Iff(left, right) => {
+            let left = formula_at(alloc, names, bound, left.get());
+            equivalence(alloc, left, formula_at(alloc, names, bound, right.get()))
+        }
+        Linear::Bind(quant, list, body) => {
+            let inner = extended(alloc, bound, list.slice())?;
+            let x = names.len() as u32 + 2 * bound.len() as u32;
+            let count = list.len() as u32;
+            let body = formula_at(alloc, names, inner.slice(), body.get());
+            wrapped(alloc, *quant, count, x, body)
+        }
+    }
+}
+
+/// The same for each formula of a list.
+#[cycle(formulas)]
+fn formulas_at(
+    alloc: Global,
+    names: &[Name],
+    bound: &[Name],
+    operands: &[Linear],
+) -> Result<List<Formula>, NoMemory>
+    requires room { next_of names.now bound.now + 2 * extent_of_all (arithmetics (map arithmetic_of operands.now)) + 136 < 2 ^ 32 }
+    requires few { extent_of_all (arithmetics (map arithmetic_of operands.now)) ≤ 67108864 }
+    ensures made { let scope = scope_of names.now bound.now in
+        IfOk result (λ made. map formula_of made ≡ map (λ operand. set_form (arithmetic_of operand) scope (next_of names.now bound.now)) operands.now) }
+    ensures small { OnOk result (AreAllFactorsSmall (arithmetics (map arithmetic_of operands.now))) }
+{
+    let mut made = List::new(alloc);
+    for operand in operands {
+        push(&mut made, formula_at(alloc, names, bound, operand)?)?;
+    }
+    Ok(made)
+}

@@ -1,0 +1,26 @@
+ghost use Rattle.std.specs.Prelude.{◌≡◌, Ok, IfOk};
+
+use ms_list::{Boxed, NoMemory, on_heap};
+use std::alloc::Global;
+
+/// What was made, on the heap.
+pub(crate) fn heaped<T: Drop>(
+    alloc: Global,
+    made: Result<T, NoMemory>,
+) -> Result<Boxed<T>, NoMemory>
+    ensures { IfOk result (λ boxed. made ≡ Ok boxed) }
+{
+    on_heap(alloc, made?)
+}
+
+/// Both, where both were made.
+pub(crate) fn both<A: Drop, B: Drop>(
+    one: Result<A, NoMemory>,
+    other: Result<B, NoMemory>,
+) -> Result<(A, B), NoMemory>
+    ensures one { IfOk result (λ made. one ≡ Ok made.0) }
+    ensures other { IfOk result (λ made. other ≡ Ok made.1) }
+{
+    let one = one?;
+    Ok((one, other?))
+}
