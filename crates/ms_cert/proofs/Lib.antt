@@ -1,11 +1,15 @@
+pub mod BegunLemmas
 pub mod ContentLemmas
 pub mod ExampleLemmas
 pub mod FewestLemmas
+pub mod GatherLemmas
 pub mod LengthsLemmas
 pub mod LettersLemmas
+pub mod LevelsLemmas
 pub mod LinesLemmas
 pub mod ListLemmas
 pub mod PartsLemmas
+pub mod ReachedLemmas
 pub mod SeparationLemmas
 pub mod ShortestLemmas
 pub mod SignsLemmas
