@@ -56,7 +56,9 @@ fn status(refusal: &Refusal) -> Status
         | Refusal::ImportText { .. }
         | Refusal::ImportMode { .. }
         | Refusal::ImportVars { .. }
-        | Refusal::ImportOpen { .. } => Status::Refused,
+        | Refusal::ImportOpen { .. }
+        | Refusal::AutomatonText { .. }
+        | Refusal::CertText { .. } => Status::Refused,
     }
 }
 

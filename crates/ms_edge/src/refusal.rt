@@ -94,6 +94,14 @@ pub enum Refusal {
         length: u64,
         word: Word,
     },
+    /// 45: bytes that are no automaton file, where a certificate is checked.
+    AutomatonText {
+        name: Text,
+    },
+    /// 46: bytes that are no certificate.
+    CertText {
+        name: Text,
+    },
     /// 50: a file longer than its limit.
     FileSize {
         name: Text,
@@ -160,6 +168,8 @@ impl Refusal {
             | Refusal::Depth { at } => Some(*at),
             Refusal::ConstRange { at } | Refusal::FileMissing { at, .. } => *at,
             Refusal::VarsDiffer
+            | Refusal::AutomatonText { .. }
+            | Refusal::CertText { .. }
             | Refusal::FileSize { .. }
             | Refusal::CoreSize
             | Refusal::Nodes { .. }

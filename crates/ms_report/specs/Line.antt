@@ -5,7 +5,7 @@ use Rattle.std.specs.Fmt.{decimal}
 use Rattle.ms_list.specs.declared.at.At.{At}
 use Rattle.ms_edge.specs.Refusal.{place_of}
 use Rattle.ms_edge.specs.declared.refusal.Refusal.{Refusal}
-use Rattle.ms_edge.specs.declared.refusal.Refusal.TheVariants.{Word, NumberTooLarge, Grammar, Unclosed, UnknownName, Twice, WrongOrder, Arity, ConstRange, NotHere, LeftOut, VarsDiffer, FileMissing, IncludeCycle, ImportMissing, ImportText, ImportMode, ImportVars, ImportOpen, FileSize, Includes, Depth, CoreSize, Nodes, ReadFault, WriteFault, SinkFault, Memory}
+use Rattle.ms_edge.specs.declared.refusal.Refusal.TheVariants.{Word, NumberTooLarge, Grammar, Unclosed, UnknownName, Twice, WrongOrder, Arity, ConstRange, NotHere, LeftOut, VarsDiffer, FileMissing, IncludeCycle, ImportMissing, ImportText, ImportMode, ImportVars, ImportOpen, AutomatonText, CertText, FileSize, Includes, Depth, CoreSize, Nodes, ReadFault, WriteFault, SinkFault, Memory}
 
 -- the number and the words of a refusal; a fault of the sink has no line
 abbrev pub words_of : Refusal → List ℕ
@@ -28,6 +28,8 @@ words_of (ImportText at name) = codes "41 not an automaton file"
 words_of (ImportMode at name) = codes "42 import of another mode"
 words_of (ImportVars at name) = codes "43 import variables differ"
 words_of (ImportOpen at name length word) = codes "44 import does not settle"
+words_of (AutomatonText name) = codes "45 not an automaton file"
+words_of (CertText name) = codes "46 not a certificate"
 words_of (FileSize name limit) = codes "50 file too long"
 words_of (Includes at limit) = codes "51 too many includes"
 words_of (Depth at) = codes "52 too deep"
@@ -63,6 +65,8 @@ detail_of (ImportText at name) = Some name
 detail_of (ImportMode at name) = Some name
 detail_of (ImportVars at name) = Some name
 detail_of (ImportOpen at name length word) = Some (codes "length " ++ decimal length)
+detail_of (AutomatonText name) = Some name
+detail_of (CertText name) = Some name
 detail_of (FileSize name limit) = Some name
 detail_of (Includes at limit) = Some (decimal limit)
 detail_of (Depth at) = None

@@ -54,6 +54,8 @@ fn words(refusal: &Refusal) -> &'static str
         Refusal::ImportMode { .. } => "42 import of another mode",
         Refusal::ImportVars { .. } => "43 import variables differ",
         Refusal::ImportOpen { .. } => "44 import does not settle",
+        Refusal::AutomatonText { .. } => "45 not an automaton file",
+        Refusal::CertText { .. } => "46 not a certificate",
         Refusal::FileSize { .. } => "50 file too long",
         Refusal::Includes { .. } => "51 too many includes",
         Refusal::Depth { .. } => "52 too deep",
@@ -95,6 +97,8 @@ fn push_detail(line: &mut String, refusal: &Refusal) -> Result<(), AllocError>
         | Refusal::ImportText { name, .. }
         | Refusal::ImportMode { name, .. }
         | Refusal::ImportVars { name, .. }
+        | Refusal::AutomatonText { name }
+        | Refusal::CertText { name }
         | Refusal::FileSize { name, .. }
         | Refusal::ReadFault { name }
         | Refusal::WriteFault { name } => push_text(line, name.text()),

@@ -239,7 +239,11 @@ fn lines_of_imports(rt: &HostRuntime) -> Result<()> {
     line(rt, Refusal::ImportMode { at, name })?;
     let name = file_name(rt)?;
     line(rt, Refusal::ImportVars { at, name })?;
-    import_open(rt)
+    import_open(rt)?;
+    let name = file_name(rt)?;
+    line(rt, Refusal::AutomatonText { name })?;
+    let name = file_name(rt)?;
+    line(rt, Refusal::CertText { name })
 }
 
 fn import_open(rt: &HostRuntime) -> Result<()> {
