@@ -7,8 +7,9 @@ use Rattle.ms_dfa.specs.Files.{content_of_file}
 use Rattle.ms_dfa.specs.declared.plain.FileSign.{FileSign}
 use Rattle.ms_dfa.specs.declared.plain.FileSign.TheVariants.{Plus}
 use Rattle.ms_dfafile.specs.inner.Examples.{subset}
-use Rattle.ms_logic_words.specs.Content.{Content, IsWordOver, first_state, last_state, next_state}
+use Rattle.ms_logic_words.specs.Content.{Content, IsWordOver, first_state, last_state, next_state, state_after}
 use Rattle.ms_cert.specs.Certificate.{IsCertified, IsLineOver, branch, leaf}
+use Rattle.ms_cert.specs.ShortestWords.{AreShortest}
 use Rattle.ms_cert.specs.declared.cert.TreeLine.TheVariants.{At, By}
 use Rattle.ms_cert.specs.inner.Examples.{cert, other_state, too_long, turned_round, word_with}
 use Rattle.ms_cert.proofs.SeparationLemmas.{branch-to, each-apart, leaf-to}
@@ -81,3 +82,23 @@ turned_round-fails is =
     let only : 0 ∷ [] ≡ 1 ∷ [] = (leaf-to content 1 (0 ∷ []) ((1 ∷ []) ∷ []) (At 0 ∷ []) each).0 in
     let first : 0 ≡ 1 = ap (λ (states : List ℕ). slice_index states 0) only in
     omega (arith, first)
+
+-- no word without letters leads to the second state
+some_letter : (other : Word) → last_state content other ≡ 1 → 1 ≤ length other.letters
+unfolding leaf_of
+some_letter other last = by other.letters last
+  where
+    by : (letters : List (List Bool)) → state_after content 0 letters ≡ 1 → 1 ≤ length letters
+    by [] is = absurd (omega (arith, is))
+    by (letter ∷ letters) is = omega arith
+
+pub are_shortest : AreShortest content cert.words
+are_shortest state word other held over last =
+    at_words (λ place (w : Word). last_state content other ≡ place → length w.letters ≤ length other.letters) (λ at. omega arith) (λ at. some_letter other at) state word held last
+
+-- the word of the certificate is shorter
+pub too_long-not_shortest : ¬ AreShortest content too_long.words
+unfolding leaf_of
+too_long-not_shortest is =
+    let few : 2 ≤ 1 = is 1 (word_with ((false ∷ false ∷ []) ∷ (true ∷ false ∷ []) ∷ [])) short_word refl (record { truth = refl; letters = (refl, tt) }) refl in
+    omega (arith, few)

@@ -1,12 +1,13 @@
 -- What a certificate shows of all automata, and of all words.
-use Rattle.std.specs.Prelude.{◌≡◌, ℕ, ◌≤◌, List, length, slice_get, Some}
+use Rattle.std.specs.Prelude.{◌≡◌, ℕ, ◌≤◌, List, length}
 use Rattle.ms_list.specs.declared.word.Word.{Word}
 use Rattle.ms_dfa.specs.Files.{content_of_file}
 use Rattle.ms_dfa.specs.declared.plain.FileSign.{FileSign}
 use Rattle.ms_dfa.specs.declared.plain.Plain.{Plain}
 use Rattle.ms_dfafile.specs.File.{IsFile}
-use Rattle.ms_logic_words.specs.Content.{Content, IsContent, IsWordOver, last_state, sign_of}
+use Rattle.ms_logic_words.specs.Content.{Content, IsContent, IsWordOver, sign_of}
 use Rattle.ms_cert.specs.Certificate.{IsCertified}
+use Rattle.ms_cert.specs.ShortestWords.{AreShortest}
 use Rattle.ms_cert.specs.Text.{IsCertText}
 use Rattle.ms_cert.specs.declared.cert.Cert.{Cert}
 
@@ -22,11 +23,10 @@ CertifiedHaveFewestStates =
     (plain : Plain) (cert : Cert) (other : Content FileSign) → IsCertified plain cert → IsContent other → HaveSameWords (content_of_file plain) other
     → length plain.states ≤ length other.states
 
--- no word that leads to a state is shorter than the state's word
+-- the words of a certificate that certifies a file are shortest words to its states
 abbrev pub CertifiedWordsAreShortest : Type 0
 CertifiedWordsAreShortest =
-    (plain : Plain) (cert : Cert) (state : ℕ) (word other : Word) → IsFile plain → IsCertified plain cert → slice_get cert.words state ≡ Some word
-    → IsWordOver (content_of_file plain).variables other → last_state (content_of_file plain) other ≡ state → length word.letters ≤ length other.letters
+    (plain : Plain) (cert : Cert) → IsFile plain → IsCertified plain cert → AreShortest (content_of_file plain) cert.words
 
 -- bytes are the text of one certificate at most
 abbrev pub BytesSpellOneCertificate : Type 0

@@ -1,6 +1,8 @@
 ghost use Rattle.std.specs.Prelude.{◌≡◌, length};
 ghost use Rattle.ms_dfafile.specs.inner.Examples.{subset};
 ghost use Rattle.ms_cert.specs.Certificate.{IsCertified};
+ghost use Rattle.ms_cert.specs.ShortestWords.{AreShortest};
+ghost use Rattle.ms_dfa.specs.Files.{content_of_file};
 ghost use Rattle.ms_cert.specs.Text.{cert_text};
 ghost use Rattle.ms_cert.specs.inner.Examples.{cert, cert_bytes, other_state, too_long, turned_round};
 
@@ -10,6 +12,8 @@ pub fn worked_certificates()
     ensures other_state { ¬ IsCertified subset other_state }
     ensures too_long { ¬ IsCertified subset too_long }
     ensures turned_round { ¬ IsCertified subset turned_round }
+    ensures shortest { AreShortest (content_of_file subset) cert.words }
+    ensures not_shortest { ¬ AreShortest (content_of_file subset) too_long.words }
 {}
 
 /// The text of that certificate.

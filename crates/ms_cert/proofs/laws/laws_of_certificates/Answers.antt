@@ -8,7 +8,7 @@ pub returns-clause-fewest : goal.returns-clause-fewest
 returns-clause-fewest c = fewest-states
 
 pub returns-clause-shortest : goal.returns-clause-shortest
-returns-clause-shortest c = λ plain cert state word other file certified held over last.
+returns-clause-shortest c = λ plain cert file certified state word other held over last.
     word-shortest (content_of_file plain) file.content cert.words certified.words certified.lengths state word other held over last
 
 pub returns-clause-one : goal.returns-clause-one
