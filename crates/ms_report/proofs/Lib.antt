@@ -1,1 +1,5 @@
-pub mod Values
+pub mod Decimals
+pub mod Digits
+pub mod LineTexts
+pub mod Shown
+pub mod WorkedNumbers

@@ -1,2 +1,4 @@
 pub mod Line
+pub mod Numbers
 pub mod Report
+pub mod inner

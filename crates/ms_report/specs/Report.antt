@@ -37,11 +37,15 @@ value_text (Truth value) = truth_text value
 value_text (Number n) = decimal n
 value_text (Set members) = codes "{" ++ members_text members ++ codes "}"
 
+-- a line for each name: the name, and what stands for it
+abbrev pub lines_text : {A : Type 0} → (A → List ℕ) → List (List ℕ) → List A → List ℕ
+lines_text spelled [] items = []
+lines_text spelled (name ∷ names) [] = []
+lines_text spelled (name ∷ names) (item ∷ items) = name ++ codes " = " ++ spelled item ++ 10 ∷ [] ++ lines_text spelled names items
+
 -- a line for each global: its name and its value
 abbrev pub values_text : List (List ℕ) → List Value → List ℕ
-values_text [] values = []
-values_text (name ∷ names) [] = []
-values_text (name ∷ names) (value ∷ values) = name ++ codes " = " ++ value_text value ++ 10 ∷ [] ++ values_text names values
+values_text names values = lines_text value_text names values
 
 -- the example or the counterexample, by the word for it
 abbrev pub assignment_text : List ℕ → List (List ℕ) → Option Assignment → List ℕ

@@ -1,11 +1,12 @@
-ghost use Rattle.std.specs.Prelude.{◌≡◌, ◌++◌, ◌∷◌, [], codes, IfOk, OnOk, string_bytes};
+ghost use Rattle.std.specs.Prelude.{◌≡◌, ◌++◌, IfOk, OnOk, string_bytes};
 ghost use Rattle.std.specs.List.{flat_map};
-ghost use Rattle.ms_report.specs.Report.{answer_text, assignment_text, count_line, goal_text, main_text, members_text, report_of, stats_text, value_text, values_text, verdict_text};
+ghost use Rattle.ms_report.specs.Report.{count_line, goal_text, main_text, report_of, stats_text, verdict_text};
+ghost use Rattle.ms_report.specs.inner.Shown.{IsBlock, block_text};
 
 use crate::found::{Answer, Found, GoalAnswer, Stats, Verdict};
 use crate::number::push_number;
+use crate::shown_text::{Spelling, push_shown};
 use ms_list::{Bytes, List, Name, NoMemory};
-use ms_logic::{Assignment, Value};
 use std::alloc::{AllocError, Global};
 
 /// The report: for each question the verdict, the example and the counterexample; and the counts where there are any.
@@ -33,7 +34,7 @@ fn push_main(text: &mut String, names: &List<Name>, main: &Option<Answer>) -> Re
 {
     match main {
         None => Ok(()),
-        Some(answer) => push_answer(text, names, answer),
+        Some(answer) => push_answer(text, Spelling::AsValue, names, answer),
     }
 }
 
@@ -53,16 +54,29 @@ fn push_goal(text: &mut String, names: &List<Name>, goal: &GoalAnswer) -> Result
     text.push_str("goal ")?;
     text.push_str(goal.title.text())?;
     text.push_str("\n")?;
-    push_answer(text, names, &goal.answer)
+    push_answer(text, Spelling::AsValue, names, &goal.answer)
 }
 
-fn push_answer(text: &mut String, names: &List<Name>, answer: &Answer) -> Result<(), AllocError>
-    ensures { OnOk result (string_bytes text.new ≡ string_bytes text.old ++ answer_text names.now answer.now) }
+/// The verdict, the example and the counterexample.
+pub(crate) fn push_answer(
+    text: &mut String,
+    spelling: Spelling,
+    names: &List<Name>,
+    answer: &Answer,
+) -> Result<(), AllocError>
+    requires { IsBlock spelling answer.now }
+    ensures { OnOk result (string_bytes text.new ≡ string_bytes text.old ++ block_text spelling names.now answer.now) }
 {
     text.push_str(verdict(answer.verdict))?;
     text.push_str("\n")?;
-    push_assignment(text, "example", names, &answer.example)?;
-    push_assignment(text, "counterexample", names, &answer.counterexample)
+    push_shown(text, spelling, "example", names, &answer.example)?;
+    push_shown(
+        text,
+        spelling,
+        "counterexample",
+        names,
+        &answer.counterexample,
+    )
 }
 
 pub(crate) fn verdict(verdict: Verdict) -> &'static str
@@ -74,79 +88,6 @@ pub(crate) fn verdict(verdict: Verdict) -> &'static str
         Verdict::Contingent => "contingent",
         Verdict::Vacuous => "vacuous",
     }
-}
-
-pub(crate) fn push_assignment(
-    text: &mut String,
-    word: &str,
-    names: &List<Name>,
-    found: &Option<Assignment>,
-) -> Result<(), AllocError>
-    ensures { OnOk result (string_bytes text.new ≡ string_bytes text.old ++ assignment_text word.now names.now found.now) }
-{
-    match found {
-        None => {
-            text.push_str("no ")?;
-            text.push_str(word)?;
-            text.push_str("\n")
-        }
-        Some(assignment) => {
-            text.push_str(word)?;
-            text.push_str(" length ")?;
-            push_number(text, assignment.length)?;
-            text.push_str("\n")?;
-            push_values(text, names.slice(), assignment.values.slice())
-        }
-    }
-}
-
-/// A line for each name and its value.
-fn push_values(text: &mut String, names: &[Name], values: &[Value]) -> Result<(), AllocError>
-    ensures { OnOk result (string_bytes text.new ≡ string_bytes text.old ++ values_text names.now values.now) }
-{
-    let count = names.len().min(values.len());
-    for i in 0..count {
-        push_value_line(text, &names[i], &values[i])?;
-    }
-    Ok(())
-}
-
-fn push_value_line(text: &mut String, name: &Name, value: &Value) -> Result<(), AllocError>
-    ensures { OnOk result (string_bytes text.new ≡ string_bytes text.old ++ values_text (name.now ∷ []) (value.now ∷ [])) }
-{
-    text.push_str(name.text())?;
-    text.push_str(" = ")?;
-    push_value(text, value)?;
-    text.push_str("\n")
-}
-
-fn push_value(text: &mut String, value: &Value) -> Result<(), AllocError>
-    ensures { OnOk result (string_bytes text.new ≡ string_bytes text.old ++ value_text value.now) }
-{
-    match value {
-        Value::Truth(true) => text.push_str("true"),
-        Value::Truth(false) => text.push_str("false"),
-        Value::Number(number) => push_number(text, *number),
-        Value::Set(members) => {
-            text.push_str("{")?;
-            push_members(text, members.slice())?;
-            text.push_str("}")
-        }
-    }
-}
-
-fn push_members(text: &mut String, members: &[u64]) -> Result<(), AllocError>
-    ensures { OnOk result (string_bytes text.new ≡ string_bytes text.old ++ members_text members.now) }
-{
-    let Some((first, further)) = members.split_first() else {
-        return Ok(());
-    };
-    push_number(text, *first)?;
-    for member in further {
-        text.push_str(", ")?;
-        push_number(text, *member)?;
-    }
-    Ok(())
 }
 
 fn push_stats(text: &mut String, stats: Option<Stats>) -> Result<(), AllocError>

@@ -1,12 +1,11 @@
 ghost use Rattle.std.specs.Prelude.{◌≡◌, ◌++◌, IfOk, OnOk, Some, string_bytes};
 ghost use Rattle.ms_report.specs.declared.found.Answer.{Answer as FoundAnswer};
-ghost use Rattle.ms_report.specs.Report.{length_text, size_text, summary_of};
+ghost use Rattle.ms_report.specs.Report.{size_text, summary_of};
 
 use crate::found::{Answer, Found, Stats};
-use crate::number::push_number;
 use crate::report_text::{push_count, verdict};
+use crate::shown_text::push_head;
 use ms_list::{Bytes, List, NoMemory};
-use ms_logic::Assignment;
 use std::alloc::{AllocError, Global};
 
 /// The summary of what was found of the generated source with this number, whose text has so many bytes: the verdict on its
@@ -39,28 +38,15 @@ fn text(
     push_count(&mut text, "bytes", bytes)?;
     text.push_str(verdict(main.verdict))?;
     text.push_str("\n")?;
-    push_length(&mut text, "example", &main.example)?;
-    push_length(&mut text, "counterexample", &main.counterexample)?;
+    push_head(&mut text, "example", " length ", &main.example)?;
+    push_head(
+        &mut text,
+        "counterexample",
+        " length ",
+        &main.counterexample,
+    )?;
     push_size(&mut text, stats)?;
     Ok(text)
-}
-
-fn push_length(text: &mut String, word: &str, found: &Option<Assignment>) -> Result<(), AllocError>
-    ensures { OnOk result (string_bytes text.new ≡ string_bytes text.old ++ length_text word.now found.now) }
-{
-    match found {
-        None => {
-            text.push_str("no ")?;
-            text.push_str(word)?;
-            text.push_str("\n")
-        }
-        Some(assignment) => {
-            text.push_str(word)?;
-            text.push_str(" length ")?;
-            push_number(text, assignment.length)?;
-            text.push_str("\n")
-        }
-    }
 }
 
 fn push_size(text: &mut String, stats: Option<Stats>) -> Result<(), AllocError>

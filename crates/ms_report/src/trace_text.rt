@@ -2,7 +2,8 @@ ghost use Rattle.std.specs.Prelude.{◌≡◌, IfOk, string_bytes};
 ghost use Rattle.ms_report.specs.Report.{trace_report_of};
 
 use crate::found::Answer;
-use crate::report_text::{push_assignment, verdict};
+use crate::report_text::verdict;
+use crate::shown_text::{Spelling, push_shown};
 use ms_list::{Bytes, List, Name, NoMemory};
 use std::alloc::{AllocError, Global};
 
@@ -22,7 +23,19 @@ fn text(alloc: Global, names: &List<Name>, answer: &Answer) -> Result<String, Al
 {
     let mut text = String::from_str(alloc, verdict(answer.verdict))?;
     text.push_str("\n")?;
-    push_assignment(&mut text, "trace", names, &answer.example)?;
-    push_assignment(&mut text, "countertrace", names, &answer.counterexample)?;
+    push_shown(
+        &mut text,
+        Spelling::AsValue,
+        "trace",
+        names,
+        &answer.example,
+    )?;
+    push_shown(
+        &mut text,
+        Spelling::AsValue,
+        "countertrace",
+        names,
+        &answer.counterexample,
+    )?;
     Ok(text)
 }

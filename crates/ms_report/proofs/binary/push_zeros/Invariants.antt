@@ -1,0 +1,6 @@
+use Rattle.std.proofs.Common.{◌≡◌, ◌++◌, replicate, string_bytes}
+use Rattle.ms_report.proofs.binary.push_zeros.Given as goal
+
+-- the zeros so far
+abbrev pub invariant-loop : goal.invariant-loop
+invariant-loop l = string_bytes l.text ≡ string_bytes l.initial.text ++ replicate l.counter 48
