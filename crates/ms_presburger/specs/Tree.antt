@@ -27,12 +27,13 @@ mutual
     no_arithmetics : Arithmetics
     more_arithmetics : (f : Arithmetic) (fs : Arithmetics) → Arithmetics
 
--- how deep the parts of a formula stand in one another; a formula without parts has depth 1, and brackets count
+-- How deep the parts of a formula stand in one another, brackets counted: `true`, `false` and a sum have the depth 1, so a
+-- comparison has 2.
 abbrev mutual
   pub depth : Arithmetic → ℕ
   depth truth = 1
   depth falsity = 1
-  depth (comparison r left right) = 1
+  depth (comparison r left right) = 2
   depth (brackets f) = suc (depth f)
   depth (negation f) = suc (depth f)
   depth (conjunction fs) = suc (depth_of_all fs)

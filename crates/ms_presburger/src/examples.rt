@@ -66,8 +66,8 @@ pub fn worked_formulas()
     ensures free_behind { free_names (both (some_is 5) (is x 3)) ≡ x ∷ [] }
     ensures not_used { free_names (quantified Some_ (y ∷ []) (is x 3)) ≡ x ∷ [] }
     ensures none_free { free_names even_or_odd ≡ [] }
-    ensures atom { depth is_twice ≡ 1 }
-    ensures deeper { depth even_or_odd ≡ 4 }
+    ensures comparison { depth is_twice ≡ 2 }
+    ensures deeper { depth even_or_odd ≡ 5 }
     // brackets do not count here, and each name of a list does
     ensures reach_of_brackets { reach (brackets (brackets is_twice)) ≡ 0 }
     ensures reach_of_names { reach (quantified Some_ (x ∷ y ∷ []) (negation is_twice)) ≡ 3 }

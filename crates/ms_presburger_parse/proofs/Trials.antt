@@ -1,0 +1,26 @@
+-- What rows of symbols and texts tell, by computation.
+use Rattle.std.proofs.Common.{◌≡◌, List, true, ltb, ap, subst, arith, ltb-true}
+use Rattle.ms_presburger.specs.Tree.{Arithmetic, depth}
+use Rattle.ms_presburger_parse.specs.Reading.{Reads, CanFollow, greatest_depth}
+use Rattle.ms_presburger_parse.specs.Symbol.{Symbol}
+use Rattle.ms_presburger_parse.specs.inner.Machine.{State, within, done, stopped, shortest}
+use Rattle.ms_presburger_parse.specs.inner.Reached.{reached}
+use Rattle.ms_presburger_parse.proofs.Readings.{is_shallow, reached-whole}
+
+abbrev pub IsNotDone : State → Type 0
+IsNotDone (within frames p) = Unit {0}
+IsNotDone (done f) = ⊥
+IsNotDone stopped = Unit {0}
+
+-- where the machine has not come to the end, the symbols read as no formula
+pub none_by_trial : (all : List Symbol) → IsNotDone (reached all) → (f : Arithmetic) → Reads all f → ⊥
+none_by_trial all h f reads = subst IsNotDone (reached-whole all f reads.read) h
+
+pub too_deep_by_trial : (front : List Symbol) → ltb greatest_depth (depth (shortest (reached front))) ≡ true → CanFollow front → ⊥
+too_deep_by_trial front deep any = omega (arith, is_shallow front any, ltb-true greatest_depth (depth (shortest (reached front))) deep)
+
+-- where the formula that it comes to is too deep, they read as none
+pub too_deep_at_the_end : (all : List Symbol) → ltb greatest_depth (depth (shortest (reached all))) ≡ true → (f : Arithmetic) → Reads all f → ⊥
+too_deep_at_the_end all deep f reads =
+    let same = ap (λ s. depth (shortest s)) (reached-whole all f reads.read) in
+    omega (arith, same, reads.shallow, ltb-true greatest_depth (depth (shortest (reached all))) deep)

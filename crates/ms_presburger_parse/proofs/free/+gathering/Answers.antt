@@ -1,0 +1,93 @@
+use Rattle.std.proofs.Common.{◌≡◌, ℕ, ◌-◌, rules, List, take, sym, ap, ◌∙◌, subst, arith}
+use Rattle.ms_presburger.specs.declared.linear.Linear.{Linear, the_lemmas}
+use Rattle.ms_presburger.specs.declared.linear.Linear.TheVariants.{Compare, Implies, Iff, Bind}
+use Rattle.ms_presburger.specs.declared.linear.Part.{Part}
+use Rattle.ms_presburger.specs.Tree.{Arithmetic, free_places, names_in_sum}
+use Rattle.ms_presburger.specs.View.{arithmetic_of}
+use Rattle.ms_presburger.proofs.Operands.{extent-operand, extent-Bind}
+use Rattle.ms_presburger.proofs.Views.{arithmetic_of-Implies, arithmetic_of-Iff, arithmetic_of-Bind}
+use Rattle.ms_presburger_parse.specs.inner.Gathering.{Binds, Gathers, bound_in, count_of}
+use Rattle.ms_presburger_parse.proofs.Gatherings.{count_of-most, gathers_append, gathers_bound, places-next, places_of}
+use Rattle.ms_presburger_parse.proofs.Pushes.{on_ok}
+use Rattle.ms_presburger_parse.proofs.Trees.{arithmetic_of-Compare}
+use Rattle.ms_presburger_parse.proofs.free.+gathering.Goals as goal
+
+pub gather-returns-in_ok-mention_sum-in-Compare-clause-ok : goal.gather-returns-in_ok-mention_sum-in-Compare-clause-ok
+gather-returns-in_ok-mention_sum-in-Compare-clause-ok t c =
+    let before = c.args.gathered.now in
+    let middle = c.mention_sum.new.gathered in
+    let after = c.mention_sum-in-Compare.new.gathered in
+    let left = c.slice.result.now in
+    let right = c.slice-in-Compare.result.now in
+    let r = c.in-Compare.field-0 in
+    let parts = ap (λ (l : List Part). Compare r l c.in-Compare.right) (sym c.slice.ensures) ∙ ap (λ (l : List Part). Compare r left l) (sym c.slice-in-Compare.ensures) in
+    let is = ap arithmetic_of (c.in-Compare.is ∙ parts) ∙ arithmetic_of-Compare r left right in
+    let P : Arithmetic → Type 0 = λ f. Gathers before after (free_places f) in
+    on_ok c.mention_sum-in-Compare.result (Gathers middle after (names_in_sum right)) (P (arithmetic_of c.args.formula.now))
+    (λ second. subst P (sym is) (gathers_append before middle after (names_in_sum left) (names_in_sum right) c.in_ok-mention_sum-in-Compare.ensures.ok second)) c.mention_sum-in-Compare.ensures.ok
+
+pub gather-returns-in_ok-gather-in-Implies-clause-ok : goal.gather-returns-in_ok-gather-in-Implies-clause-ok
+gather-returns-in_ok-gather-in-Implies-clause-ok t c =
+    let before = c.args.gathered.now in
+    let middle = c.gather-in-Implies.new.gathered in
+    let after = c.gather-in-Implies-2.new.gathered in
+    let left = c.get-in-Implies.result.now in
+    let right = c.get-in-Implies-2.result.now in
+    let parts = ap (λ (l : Linear). Implies l c.in-Implies.right) (sym c.get-in-Implies.ensures) ∙ ap (λ (r : Linear). Implies left r) (sym c.get-in-Implies-2.ensures) in
+    let is = ap arithmetic_of (c.in-Implies.is ∙ parts) ∙ arithmetic_of-Implies left right in
+    let P : Arithmetic → Type 0 = λ f. Gathers before after (free_places f) in
+    on_ok c.gather-in-Implies-2.result (Gathers middle after (free_places (arithmetic_of right))) (P (arithmetic_of c.args.formula.now))
+    (λ second. subst P (sym is) (gathers_append before middle after (free_places (arithmetic_of left)) (free_places (arithmetic_of right)) c.in_ok-gather-in-Implies.ensures.ok second)) c.gather-in-Implies-2.ensures.ok
+
+pub gather-returns-in_ok-gather-in-Iff-clause-ok : goal.gather-returns-in_ok-gather-in-Iff-clause-ok
+gather-returns-in_ok-gather-in-Iff-clause-ok t c =
+    let before = c.args.gathered.now in
+    let middle = c.gather-in-Iff.new.gathered in
+    let after = c.gather-in-Iff-2.new.gathered in
+    let left = c.get-in-Iff.result.now in
+    let right = c.get-in-Iff-2.result.now in
+    let parts = ap (λ (l : Linear). Iff l c.in-Iff.right) (sym c.get-in-Iff.ensures) ∙ ap (λ (r : Linear). Iff left r) (sym c.get-in-Iff-2.ensures) in
+    let is = ap arithmetic_of (c.in-Iff.is ∙ parts) ∙ arithmetic_of-Iff left right in
+    let P : Arithmetic → Type 0 = λ f. Gathers before after (free_places f) in
+    on_ok c.gather-in-Iff-2.result (Gathers middle after (free_places (arithmetic_of right))) (P (arithmetic_of c.args.formula.now))
+    (λ second. subst P (sym is) (gathers_append before middle after (free_places (arithmetic_of left)) (free_places (arithmetic_of right)) c.in_ok-gather-in-Iff.ensures.ok second)) c.gather-in-Iff-2.ensures.ok
+
+pub gather-gather-requires-in-Bind : goal.gather-gather-requires-in-Bind
+gather-gather-requires-in-Bind t c =
+    let names = c.slice-in-Bind.result.now in
+    let body = c.get-in-Bind.result.now in
+    let binds = c.in_ok-bind-in-Bind.ensures.ok in
+    let is : c.args.formula.now ≡ Bind c.in-Bind.field-0 names body =
+    c.in-Bind.is ∙ ap (λ (l : List (List ℕ)). Bind c.in-Bind.field-0 l c.in-Bind.body) (sym c.slice-in-Bind.ensures) ∙ ap (λ (b : Linear). Bind c.in-Bind.field-0 names b) (sym c.get-in-Bind.ensures) in
+    (search (rules, the_lemmas), (binds.marked, λ x. omega (arith, binds.bound x, count_of-most names x, c.requires.room x, extent-Bind c.in-Bind.field-0 names body c.args.formula.now is)))
+
+pub gather-returns-in_ok-gather-in-Bind-clause-ok : goal.gather-returns-in_ok-gather-in-Bind-clause-ok
+gather-returns-in_ok-gather-in-Bind-clause-ok t c =
+    let before = c.args.gathered.now in
+    let bound = c.bind.new.gathered in
+    let middle = c.gather-in-Bind.new.gathered in
+    let after = c.unbind.new.gathered in
+    let names = c.slice-in-Bind.result.now in
+    let body = c.get-in-Bind.result.now in
+    let q = c.in-Bind.field-0 in
+    let parts = ap (λ (l : List (List ℕ)). Bind q l c.in-Bind.body) (sym c.slice-in-Bind.ensures) ∙ ap (λ (b : Linear). Bind q names b) (sym c.get-in-Bind.ensures) in
+    let is = ap arithmetic_of (c.in-Bind.is ∙ parts) ∙ arithmetic_of-Bind q names body in
+    let again : c.slice-in-Bind-2.result.now ≡ names = c.slice-in-Bind-2.ensures ∙ sym c.slice-in-Bind.ensures in
+    let P : Arithmetic → Type 0 = λ f. Gathers before after (free_places f) in
+    let Unbinds : List (List ℕ) → Type 0 = λ xs. Binds middle after (λ x. bound_in middle x - count_of xs x) in
+    on_ok c.unbind.result (Unbinds c.slice-in-Bind-2.result.now) (P (arithmetic_of c.args.formula.now))
+    (λ unbinds. subst P (sym is) (gathers_bound before bound middle after names (free_places (arithmetic_of body)) c.in_ok-bind-in-Bind.ensures.ok c.in_ok-gather-in-Bind.ensures.ok (subst Unbinds again unbinds))) c.unbind.ensures.ok
+
+pub gather_all-gather-requires : goal.gather_all-gather-requires
+gather_all-gather-requires t c =
+    let few = extent-operand c.args.operands.now c.loop-operand.operand-index c.operand-item.result c.loop-operand-test.true c.operand-item.is in
+    (search (rules, the_lemmas), (c.loop-operand.invariant.marked, λ x. omega (arith, few, c.loop-operand.invariant.bound x, c.requires.room x)))
+
+pub gather_all-loop-operand-preserved : goal.gather_all-loop-operand-preserved
+gather_all-loop-operand-preserved t c =
+    let operands = c.args.operands.now in
+    let i = c.loop-operand.operand-index in
+    let f = c.operand-item.result in
+    let next = places-next operands i f c.loop-operand-test.true c.operand-item.is in
+    subst (Gathers c.args.gathered.now c.gather.new.gathered) (sym next)
+    (gathers_append c.args.gathered.now c.loop-operand.gathered c.gather.new.gathered (places_of (take i operands)) (free_places (arithmetic_of f)) c.loop-operand.invariant c.in_ok-gather.ensures.ok)

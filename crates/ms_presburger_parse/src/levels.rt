@@ -1,0 +1,81 @@
+ghost use Rattle.std.specs.Prelude.{◌≡◌, ◌≤◌};
+ghost use Rattle.ms_presburger_parse.specs.Grammar.{binary_level, compares, junction_level, left_level};
+ghost use Rattle.ms_presburger_parse.specs.inner.Machine.{inside, yields};
+ghost use Rattle.ms_presburger_parse.specs.inner.States.{frame_of};
+
+use crate::frame::Frame;
+use crate::operator::{Binary, Junction};
+use ms_logic::Rel;
+
+fn binary_level(op: Binary) -> u32
+    ensures { result ≡ binary_level op }
+{
+    match op {
+        Binary::Equivalence => 1,
+        Binary::Implication => 2,
+    }
+}
+
+/// The least level of a left operand.
+pub fn left_level(op: Binary) -> u32
+    ensures { result ≡ left_level op }
+{
+    match op {
+        Binary::Equivalence => 1,
+        Binary::Implication => 3,
+    }
+}
+
+pub fn junction_level(op: Junction) -> u32
+    ensures level { result ≡ junction_level op }
+    ensures bound { result ≤ 4 }
+{
+    match op {
+        Junction::Conjunction => 4,
+        Junction::Disjunction => 3,
+    }
+}
+
+/// Whether what has been begun ends before a symbol that wants a left operand of this level.
+pub fn yields(least: u32, frame: &Frame) -> bool
+    ensures { result ≡ yields least (frame_of frame.now) }
+{
+    match frame {
+        Frame::Brackets => false,
+        Frame::Negation => least <= 5,
+        Frame::Colon(..) => least == 0,
+        Frame::Infix(op, _) => least <= binary_level(*op),
+        Frame::Joining(op, _) => least <= junction_level(*op),
+    }
+}
+
+/// How deep the parts are that a frame has before its hole.
+pub fn inside(frame: &Frame) -> u32
+    ensures measured { result ≡ inside (frame_of frame.now) }
+    ensures bounded { result ≤ 300 }
+{
+    match frame {
+        Frame::Brackets => 0,
+        Frame::Negation => 0,
+        Frame::Colon(..) => 0,
+        Frame::Infix(_, left) => left.height,
+        Frame::Joining(_, operands) => operands.height,
+    }
+}
+
+/// Whether a relation is one of numbers that can be written.
+pub fn compares(rel: Rel) -> bool
+    ensures { result ≡ compares rel }
+{
+    match rel {
+        Rel::Equal => true,
+        Rel::Differs => true,
+        Rel::Less => true,
+        Rel::AtMost => true,
+        Rel::Greater => true,
+        Rel::AtLeast => true,
+        Rel::Member => false,
+        Rel::NotMember => false,
+        Rel::Sub => false,
+    }
+}

@@ -1,0 +1,32 @@
+//! Reads the tokens of a text as a formula of linear arithmetic, or refuses them.
+#![tactic(auto)]
+
+mod complete;
+mod enter;
+mod examples;
+mod formula;
+mod frame;
+mod free;
+mod laws;
+mod levels;
+mod link;
+mod memory;
+mod moves;
+mod operand;
+mod operands;
+mod operator;
+mod place;
+mod read;
+mod stack;
+mod state;
+mod step;
+mod stop;
+mod terminal;
+
+pub use examples::{
+    worked_continuations, worked_depths, worked_operators, worked_quantifiers, worked_refusals,
+    worked_rows, worked_scopes, worked_symbols,
+};
+pub use laws::one_problem;
+pub use operator::{Binary, Junction};
+pub use read::read_problem;

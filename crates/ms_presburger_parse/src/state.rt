@@ -1,0 +1,19 @@
+use crate::frame::Frame;
+use crate::operand::Operand;
+use crate::place::Place;
+
+/// What has been begun, and the depth of the shortest formula that begins so.
+#[derive(Drop)]
+pub struct Begun {
+    pub frames: Vec<Frame>,
+    pub deepest: u32,
+}
+
+/// What has been read last.
+#[derive(Drop)]
+pub enum Outcome {
+    /// Formulas have been begun.
+    Within(Place),
+    /// The semicolon has been read.
+    Done(Operand),
+}
