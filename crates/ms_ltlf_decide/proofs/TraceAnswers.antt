@@ -1,12 +1,11 @@
 -- An answer that is true of a source of strings is true of its formula.
-use Rattle.std.proofs.Common.{◌≡◌, ℕ, ◌<◌, ◌↔◌, ⊎_elim, inl, inr, List, [], length, Option, None, Some, IsSome, sym, ap, subst, ◌∙◌, arith}
+use Rattle.std.proofs.Common.{◌≡◌, ℕ, ◌<◌, ◌↔◌, ⊎_elim, List, [], Option, None, Some, sym, subst, ◌∙◌, arith}
 use Rattle.std.proofs.lemmas.Bool.{cases_lt}
 use Rattle.ms_app_answer.specs.Answer.{IsAnswer, IsVerdict, ShowsFirst}
 use Rattle.ms_logic.specs.declared.assignment.Assignment.{Assignment}
-use Rattle.ms_logic.specs.declared.mode.Mode.{Mode}
 use Rattle.ms_logic.specs.declared.mode.Mode.TheVariants.{M2lStr}
 use Rattle.ms_logic.specs.Assignment.{Env, IsUniverseOf, Variable}
-use Rattle.ms_logic.specs.First.{IsBefore, IsFirst, assignment_of}
+use Rattle.ms_logic.specs.First.{IsBefore, assignment_of}
 use Rattle.ms_logic.specs.Verdict.{Assigns, MainNo, MainYes, Problem, variables_of}
 use Rattle.ms_ltlf.specs.Meaning.{IsOverTraces, TellsTruth, TellsVerdict, trace_of}
 use Rattle.ms_ltlf.specs.Trace.{FiniteTrace, IsTrace}
@@ -16,7 +15,7 @@ use Rattle.ms_ltlf.proofs.Truths.{decided}
 use Rattle.ms_report.specs.declared.found.Answer.{Answer}
 use Rattle.ms_report.specs.declared.found.Verdict.{Verdict}
 use Rattle.ms_report.specs.declared.found.Verdict.TheVariants.{Valid, Unsatisfiable, Contingent, Vacuous}
-use Rattle.ms_ltlf_decide.specs.Answer.{ComesBefore, FailsOn, HoldsOn, IsTraceAnswer, IsVerdictOn, ShowsFirstTrace, assignment_by, propositions, shown_of}
+use Rattle.ms_ltlf_decide.specs.Answer.{FailsOn, HoldsOn, IsTraceAnswer, IsVerdictOn, ShowsFirstTrace, assignment_by, propositions}
 use Rattle.ms_ltlf_decide.proofs.Orders.{IsOnString, before, shown}
 
 -- a trace of one position, at which nothing holds

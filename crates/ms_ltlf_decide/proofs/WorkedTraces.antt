@@ -1,15 +1,14 @@
 -- The examples of answers, worked by hand.
-use Rattle.std.proofs.Common.{◌≡◌, ℕ, zero, suc, ◌+◌, ◌<◌, ◌≤◌, Bool, false, true, inl, inr, ⊎_elim, List, [], ◌∷◌, ◌++◌, None, Some, refl, sym, ap, subst, ◌∙◌, arith}
+use Rattle.std.proofs.Common.{◌≡◌, ℕ, zero, suc, ◌<◌, Bool, inl, inr, List, [], ◌∷◌, Some, refl, ap, subst, arith}
 use Rattle.std.specs.List.{flat_map}
 use Rattle.ms_logic.specs.FiniteSet.{IsRising, numbers_below}
 use Rattle.ms_logic.specs.First.{IsLower, bits_of}
 use Rattle.ms_logic.specs.Letters.{letter_at}
 use Rattle.ms_logic.specs.Lists.{Each}
-use Rattle.ms_ltlf.specs.Trace.{FiniteTrace, HoldsAt, IsTrace}
-use Rattle.ms_ltlf.specs.Tree.{falsity, next, truth}
-use Rattle.ms_ltlf.specs.inner.Examples.{p, trace}
-use Rattle.ms_ltlf_decide.specs.Answer.{ComesBefore, FailsOn, HoldsOn, IsVerdictOn, ShowsFirstTrace, assignment_by, propositions}
-use Rattle.ms_report.specs.declared.found.Verdict.TheVariants.{Contingent, Unsatisfiable, Vacuous, Valid}
+use Rattle.ms_ltlf.specs.Trace.{FiniteTrace, IsTrace}
+use Rattle.ms_ltlf.specs.Tree.{next, truth}
+use Rattle.ms_ltlf.specs.inner.Examples.{trace}
+use Rattle.ms_ltlf_decide.specs.Answer.{ComesBefore, HoldsOn, ShowsFirstTrace, assignment_by, propositions}
 
 -- a trace of a length at which nothing holds
 abbrev pub still : ℕ → FiniteTrace

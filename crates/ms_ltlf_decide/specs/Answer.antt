@@ -1,6 +1,6 @@
 -- When an answer is true of a formula of temporal logic: the verdict over all traces, the first trace on which the formula holds, and the
 -- first on which it does not.
-use Rattle.std.specs.Prelude.{◌≡◌, ℕ, false, List, length, map, Option, Some, None}
+use Rattle.std.specs.Prelude.{◌≡◌, ℕ, false, List, map, Option, Some, None}
 use Rattle.ms_logic.specs.declared.assignment.Assignment.{Assignment}
 use Rattle.ms_logic.specs.declared.assignment.Value.TheVariants.{Set}
 use Rattle.ms_logic.specs.declared.mode.Order.TheVariants.{Two}

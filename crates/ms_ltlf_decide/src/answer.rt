@@ -6,10 +6,8 @@ ghost use Rattle.ms_ltlf.specs.View.{IsWellFormed, temporal_of};
 ghost use Rattle.ms_ltlf_decide.specs.Answer.{IsTraceAnswer};
 ghost use Rattle.ms_ltlf_decide.specs.Formula.{IsUnsolvedFormula};
 
-use ms_app_answer::answer;
-use ms_build_source::solve;
+use ms_app_solved::solved_answer;
 use ms_edge::Refusal;
-use ms_list::List;
 use ms_ltlf::{Trace, to_strings};
 use ms_report::Answer;
 use std::alloc::Global;
@@ -26,12 +24,5 @@ pub fn formula_answer(alloc: Global, trace: &Trace, limit: u64) -> Result<Answer
     let Ok(source) = to_strings(alloc, trace) else {
         return Err(Refusal::Memory);
     };
-    let solution = match solve(alloc, &source, &List::new(alloc), limit, None) {
-        Ok(solution) => solution,
-        Err(refusal) => return Err(refusal),
-    };
-    match answer(alloc, &solution.automaton) {
-        Ok(answer) => Ok(answer),
-        Err(_) => Err(Refusal::Memory),
-    }
+    solved_answer(alloc, &source, limit)
 }

@@ -1,13 +1,10 @@
 use Rattle.std.proofs.Common.{⊎_elim}
-use Rattle.ms_edge.specs.Files.{between}
 use Rattle.ms_ltlf.specs.View.{temporal_of}
-use Rattle.ms_ltlf_decide.specs.Formula.{no_formula, no_memory, unread, unsolved}
+use Rattle.ms_ltlf_decide.specs.Formula.{no_memory, unsolved}
 use Rattle.ms_ltlf_decide.proofs.decide.decide_formula.Goals as goal
 
 pub returns-in-Err-clause-refused : goal.returns-in-Err-clause-refused
-returns-in-Err-clause-refused g c =
-    ⊎_elim (λ memory. no_memory memory)
-    (λ read. ⊎_elim (λ why. unread why.0 why.1) (λ why. no_formula why.0 why.1 why.2 why.3) read) c.in-Err.ensures.refused
+returns-in-Err-clause-refused g c = c.in-Err.ensures.refused c.args.limit
 
 pub returns-in-Err-formula_answer-clause-refused : goal.returns-in-Err-formula_answer-clause-refused
 returns-in-Err-formula_answer-clause-refused g c =

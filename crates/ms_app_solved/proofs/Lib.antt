@@ -1,0 +1,4 @@
+pub mod Alone
+pub mod SetVariables
+pub mod Taken
+pub mod Told
