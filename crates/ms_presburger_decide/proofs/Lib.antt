@@ -1,0 +1,9 @@
+pub mod Answered
+pub mod Firsts
+pub mod Lines
+pub mod Names
+pub mod NumberAnswers
+pub mod Orders
+pub mod SetDigits
+pub mod Solved
+pub mod WorkedNumbers
