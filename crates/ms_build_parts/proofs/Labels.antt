@@ -18,8 +18,9 @@ use Rattle.ms_logic_words.specs.declared.sign.Sign.{Sign}
 use Rattle.ms_product.proofs.WidenedLemmas.{followed}
 use Rattle.ms_build_parts.specs.Labels.{IsLabelledBelow, IsOrigin, behind, behind_state}
 use Rattle.ms_build_parts.specs.Laws.{ClosedContentsHaveLabels, IsMeasuredBy, MeasuredContentsHaveLabels}
+use Rattle.ms_build_parts.specs.SaySame.{AreComparable}
 use Rattle.ms_build_parts.specs.inner.Matched.{IsMatch, IsMatchedBy, number_of_part}
-use Rattle.ms_build_parts.proofs.Matching.{AreRoots, left_named, match_held, matched_part, nexts, number_below, one_function, one_match, one_part, starts, state_match}
+use Rattle.ms_build_parts.proofs.Matching.{AreRoots, comparable, left_named, match_held, matched_part, nexts, number_below, one_function, one_match, one_part, starts, state_match}
 
 -- the numbers below a bound differ, and are as many
 pub below_bound : (n : ℕ) → IsAtLeastNumber (λ (one other : ℕ). one ≡ other) (λ item. item < n) n
@@ -87,7 +88,10 @@ pub closed_contents : ClosedContentsHaveLabels
 closed_contents content ordered closed = closed_labels content ordered closed
 
 -- so is the part of the canonical content that says the same
-module _ (one other : Content Sign) (is : IsMeasuredBy one other) where
+module _ (one other : Content Sign) (measured : IsMeasuredBy one other) where
+  abbrev is : AreComparable one other
+  is = comparable one other measured
+
   -- an origin leads where a reference does to which one of the other content corresponds
   pub record AreRootsOf (origin : Origin) : Type 0 where
     pub has_bit : Order → Bool

@@ -20,10 +20,11 @@ use Rattle.ms_logic_starts.specs.inner.Ranks.{bits_before}
 use Rattle.ms_logic_starts.proofs.FirstBitsLemmas.{first_bits_leave}
 use Rattle.ms_logic_starts.proofs.LeftLemmas.{leaf_of_all}
 use Rattle.ms_logic_starts.proofs.RankLemmas.{length-bits_before, rank_of_all}
-use Rattle.ms_minim_canonical.proofs.ContentLemmas.{IsClosed-content, next_followed}
+use Rattle.ms_minim_canonical.proofs.ContentLemmas.{IsClosed-content}
 use Rattle.ms_minim.proofs.LettersLemmas.{AreLetters-append, state_after-append}
 use Rattle.ms_product.proofs.WidenedLemmas.{followed}
 use Rattle.ms_build_parts.specs.Laws.{IsMeasuredBy}
+use Rattle.ms_build_parts.specs.SaySame.{AreComparable}
 use Rattle.ms_build_parts.specs.inner.Matched.{IsMatch, IsMatchedBy, LeadToMatches, number_of_part}
 
 -- what only depends on the orders of variables
@@ -72,7 +73,21 @@ left_named content root level first (Leaf state) states leave =
     let none : Bits = λ place. false in
     subst (λ n. n < length content.states) (leave.function none ∙ leaf_of-leaf content.nodes none state) (states (below_from level first none))
 
-module _ (one other : Content Sign) (is : IsMeasuredBy one other) where
+-- an automaton of fewest states and the canonical content that says the same are comparable
+pub comparable : (one canonical : Content Sign) → IsMeasuredBy one canonical → AreComparable one canonical
+comparable one canonical is = record {
+  ordered = is.ordered;
+  closed = is.closed;
+  own = is.own;
+  reached = is.reached;
+  differ = is.differ;
+  other_ordered = is.is_canonical.rules.ordered;
+  other_closed = IsClosed-content canonical is.is_canonical.rules;
+  distinct = is.distinct;
+  same = is.same;
+}
+
+module _ (one other : Content Sign) (is : AreComparable one other) where
   abbrev vs : List Variable
   vs = one.variables
 
@@ -82,9 +97,6 @@ module _ (one other : Content Sign) (is : IsMeasuredBy one other) where
       let its = length-map other.variables (λ (v : Variable). v.order) in
       let equal = ap length is.same.orders in
       omega (arith, mine, its, equal)
-
-  closed : IsClosed other
-  closed = IsClosed-content other is.is_canonical.rules
 
   -- the bits of all variables, one after the other
   abbrev bits_of : (Order → Bool) → Bits → List Bool
@@ -104,7 +116,7 @@ module _ (one other : Content Sign) (is : IsMeasuredBy one other) where
       → leaf_of other.nodes root (bits_at (padded has_bit other.variables (bits_of has_bit bits))) ≡ leaf_of other.nodes root bits
   leads_other has_bit root followed bits =
       ap (λ values. leaf_of other.nodes root (bits_at (padded has_bit other.variables values))) (sym (other_bits has_bit bits))
-      ∙ leaf_of_all has_bit other.variables is.distinct other.nodes is.is_canonical.rules.ordered root followed.valid followed.tests bits
+      ∙ leaf_of_all has_bit other.variables is.distinct other.nodes is.other_ordered root followed.valid followed.tests bits
 
   -- two references that are followed, from which all bits lead to states that match
   pub record AreRoots (has_bit : Order → Bool) (root canonical : Ref) : Type 0 where
@@ -115,11 +127,11 @@ module _ (one other : Content Sign) (is : IsMeasuredBy one other) where
   pub starts : AreRoots is_truth_value one.start other.start
   starts = record {
     followed = is.closed.start;
-    also = closed.start;
+    also = is.other_closed.start;
     matched = λ bits.
         let truth = bits_of is_truth_value bits in
         let first : first_state one truth ≡ leaf_of one.nodes one.start bits = leads_one is_truth_value one.start is.closed.start bits in
-        let second : first_state other truth ≡ leaf_of other.nodes other.start bits = leads_other is_truth_value other.start closed.start bits in
+        let second : first_state other truth ≡ leaf_of other.nodes other.start bits = leads_other is_truth_value other.start is.other_closed.start bits in
         record {
           within = is.closed.start.states bits;
           signs = λ letters are.
@@ -132,7 +144,7 @@ module _ (one other : Content Sign) (is : IsMeasuredBy one other) where
   pub nexts : (p q : ℕ) (found also : StateOf Sign) → IsMatch one other p q → slice_get one.states p ≡ Some found → slice_get other.states q ≡ Some also → AreRoots is_in_letters found.next also.next
   nexts p q found also match held there =
       let first_followed = followed one [] is.closed p found held in
-      let second_followed = next_followed other is.is_canonical.rules q also there in
+      let second_followed = followed other [] is.other_closed q also there in
       record {
         followed = first_followed;
         also = second_followed;
@@ -184,7 +196,7 @@ module _ (one other : Content Sign) (is : IsMeasuredBy one other) where
   -- what first bits leave of a reference is matched by what they leave of the other, which is a part
   module _ (has_bit : Order → Bool) (root canonical : Ref) (roots : AreRoots has_bit root canonical) (level : ℕ) (first : Bits) where
     left : (reference : Ref) × BitsLeave other.nodes canonical level first reference
-    left = first_bits_leave other.nodes is.is_canonical.rules.ordered canonical level first roots.also.valid
+    left = first_bits_leave other.nodes is.other_ordered canonical level first roots.also.valid
 
     pub matched_part : (number : ℕ) × (number < part_count other) × IsMatchedBy one other (λ bits. leaf_of one.nodes root (below_from level first bits)) number
     matched_part =

@@ -37,6 +37,7 @@ no_numbers vs all mode_is none values made same_mode same_variables signs =
     record {
       mode_is = same_mode ∙ mode_is;
       among = λ v there. absurd (subst (λ ws. IsAmong ws v) (same_variables ∙ none) there);
+      only_numbers = λ v there. absurd (subst (λ ws. IsAmong ws v) (same_variables ∙ none) there);
       numbers = λ place v less there number. absurd (omega (arith, less));
       values = record {
         right = λ word e assigned encodes. let found = same.right word e assigned encodes in (found.0, found.1, always_true e found.0 found.2);
@@ -65,6 +66,7 @@ module _ (vs : List Variable) (rising : AreRising vs) (count : ℕ) (v : Variabl
   TellsNumbers-other other = record {
     mode_is = tells.mode_is;
     among = tells.among;
+    only_numbers = tells.only_numbers;
     numbers = λ place w less there number. ⊎_elim
         (λ before. tells.numbers place w before there number)
         (λ past. absurd (other (ap (λ (x : Variable). x.order) (is_last place w less there (omega (arith, past))) ∙ number)))
@@ -73,7 +75,7 @@ module _ (vs : List Variable) (rising : AreRising vs) (count : ℕ) (v : Variabl
   }
 
   module _ (automaton : IsAutomaton content) (made : Content Sign) (mode_is : made.mode ≡ content.mode) (variables_are : made.variables ≡ merged content.variables (v ∷ []))
-      (values : HasValues (own_meaning content) made) where
+      (values : HasValues (own_meaning content) made) (is_number : v.order ≡ One) where
     was_among : (w : Variable) → IsAmong content.variables w → IsAmong made.variables w
     was_among w there = subst (λ ws. IsAmong ws w) (sym variables_are) (merged-left content.variables (v ∷ []) w there)
 
@@ -91,6 +93,8 @@ module _ (vs : List Variable) (rising : AreRising vs) (count : ℕ) (v : Variabl
     TellsNumbers-more = record {
       mode_is = mode_is ∙ tells.mode_is;
       among = λ w there. ⊎_elim (tells.among w) (λ own. subst (IsAmong vs) (only_own w own) own_among)
+          (merged-either content.variables (v ∷ []) w (subst (λ ws. IsAmong ws w) variables_are there));
+      only_numbers = λ w there. ⊎_elim (tells.only_numbers w) (λ own. subst (λ (x : Variable). x.order ≡ One) (only_own w own) is_number)
           (merged-either content.variables (v ∷ []) w (subst (λ ws. IsAmong ws w) variables_are there));
       numbers = λ place w less there number. ⊎_elim
           (λ before. was_among w (tells.numbers place w before there number))

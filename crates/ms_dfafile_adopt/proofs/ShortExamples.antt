@@ -34,6 +34,7 @@ tells : (variables : List Variable) → TellsNumbers variables 0 no_numbers
 tells variables = record {
   mode_is = refl;
   among = λ v there. absurd there;
+  only_numbers = λ v there. absurd there;
   numbers = λ place v less there number. absurd (omega (arith, less));
   values = record {
     right = λ word e assigned encodes. (Yes, says_yes word, refl);

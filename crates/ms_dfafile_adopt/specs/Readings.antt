@@ -48,9 +48,10 @@ pub record AgreesWithFile (plain : Plain) (mode : Mode) (content : Content Sign)
       (word : Word) → IsEncoding M2lStr (own_variables plain) word
       → sign_of content word ≡ option_map own_sign (sign_of (content_of_file plain) word)
 
--- Yes at each word that encodes an assignment of the numbers among the first so many variables
+-- over numbers alone, among them those of the first so many variables: Yes at each word that encodes an assignment of its variables
 pub record TellsNumbers (variables : List Variable) (count : ℕ) (content : Content Sign) : Type 0 where
   pub mode_is : content.mode ≡ M2lStr
   pub among : (v : Variable) → IsAmong content.variables v → IsAmong variables v
+  pub only_numbers : (v : Variable) → IsAmong content.variables v → v.order ≡ One
   pub numbers : (place : ℕ) (v : Variable) → place < count → slice_get variables place ≡ Some v → v.order ≡ One → IsAmong content.variables v
   pub values : HasValues always content

@@ -1,17 +1,21 @@
 -- Imports that are taken one after the other.
-use Rattle.std.proofs.Common.{◌≡◌, ◌⊎◌, inl, inr, ℕ, zero, suc, ◌+◌, ◌<◌, length, get_or, slice_get, take, List, [], ◌∷◌, ◌++◌, Option, Some, refl, sym, ap, ◌∙◌, subst, arith}
+use Rattle.std.proofs.Common.{◌≡◌, ◌⊎◌, inl, inr, ℕ, zero, suc, ◌+◌, ◌<◌, length, map, get_or, slice_get, take, List, [], ◌∷◌, ◌++◌, Option, Some, refl, sym, ap, ◌∙◌, subst, arith}
 use Rattle.std.proofs.lemmas.List.{length-take-le, take_more}
 use Rattle.std.proofs.lemmas.Option.{slice_get_read}
 use Rattle.ms_edge.specs.declared.refusal.Refusal.{Refusal}
 use Rattle.ms_edge.specs.declared.refusal.Refusal.TheVariants.{Memory, Nodes}
 use Rattle.ms_dfa.specs.declared.plain.Plain.{Plain}
 use Rattle.ms_edge.specs.Files.{FilesTold, Holding, OnlyRead, between}
+use Rattle.ms_dfafile.specs.File.{IsFile}
 use Rattle.ms_dfafile_adopt.specs.Import.{IsNotImportable}
+use Rattle.ms_dfafile_adopt_parts.proofs.Adoptions.{lacking_adoptions}
 use Rattle.ms_dfafile_imports.specs.Adopted.{AreAdopted}
 use Rattle.ms_dfafile_imports.specs.Imports.{AreImported, EachImported, HaveOneContent, IsNotTaken, IsUnimported}
 use Rattle.ms_dfafile_imports.specs.inner.Taken.{AreHeld, AreKept, AreNoted, AreTaken, IsRefusedAt, IsTaken, OneIsTaken, Table, refused_at}
 use Rattle.ms_dfafile_imports.proofs.Later.{refused-later}
 use Rattle.ms_logic.specs.declared.checked.ImportUse.{ImportUse}
+use Rattle.ms_logic.specs.declared.checked.MapPair.{MapPair}
+use Rattle.ms_names_checked.specs.Names.{AreDifferent}
 use Rattle.ms_logic.specs.declared.mode.Mode.{Mode}
 use Rattle.ms_logic_words.specs.declared.sign.Sign.{Sign}
 use Rattle.ms_logic_words.specs.Content.{Content}
@@ -88,15 +92,17 @@ taken-long limit mode table [] (content ∷ contents) h = absurd h
 taken-long limit mode table (used ∷ uses) [] h = absurd h
 taken-long limit mode table (used ∷ uses) (content ∷ contents) h = ap suc (taken-long limit mode table uses contents h.1)
 
--- why a file is not imported, with the number of the import in the place of 0
-at-place : (plain : Plain) (used : ImportUse) (mode : Mode) (limit place : ℕ) (refusal : Refusal) → IsNotImportable plain used mode limit refusal → IsNotTaken plain used mode limit place (refused_at place refusal)
-at-place plain used mode limit place (Nodes step named) why = (refl, (refl, why.1, why.2, why.3))
-at-place plain used mode limit place refusal why = why
+-- why a file is not imported, with the number of the import in the place of 0; where it lacks nodes, the limit is below each budget of it
+at-place : (plain : Plain) (used : ImportUse) (mode : Mode) (limit place : ℕ) (refusal : Refusal) → IsFile plain → AreDifferent (map (λ (pair : MapPair). pair.name) used.pairs) → IsNotImportable plain used mode limit refusal → IsNotTaken plain used mode limit place (refused_at place refusal)
+at-place plain used mode limit place (Nodes step named) file apart why =
+    (refl, (refl, why.1, why.2, why.3), lacking_adoptions mode plain used.pairs limit file why.2.1 apart why.3)
+at-place plain used mode limit place refusal file apart why = why
 
-pub not-taken : (plain : Plain) (used : ImportUse) (mode : Mode) (limit place : ℕ) (refusal made : Refusal) → IsNotImportable plain used mode limit refusal → (made ≡ Memory) ⊎ (made ≡ refused_at place refusal)
+pub not-taken : (plain : Plain) (used : ImportUse) (mode : Mode) (limit place : ℕ) (refusal made : Refusal) → IsFile plain → AreDifferent (map (λ (pair : MapPair). pair.name) used.pairs)
+    → IsNotImportable plain used mode limit refusal → (made ≡ Memory) ⊎ (made ≡ refused_at place refusal)
     → (made ≡ Memory) ⊎ IsNotTaken plain used mode limit place made
-not-taken plain used mode limit place refusal made why (inl memory) = inl memory
-not-taken plain used mode limit place refusal made why (inr is) = inr (subst (IsNotTaken plain used mode limit place) (sym is) (at-place plain used mode limit place refusal why))
+not-taken plain used mode limit place refusal made file apart why (inl memory) = inl memory
+not-taken plain used mode limit place refusal made file apart why (inr is) = inr (subst (IsNotTaken plain used mode limit place) (sym is) (at-place plain used mode limit place refusal file apart why))
 
 -- an import that fails, behind those that are taken
 pub refused-at : (start one two : FilesTold) (mode kept_mode : Mode) (limit kept_limit : ℕ) (table : Table) (imports uses : List ImportUse) (i : ℕ) (used : ImportUse) (contents : List (Content Sign)) (refusal : Refusal)

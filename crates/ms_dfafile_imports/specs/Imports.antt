@@ -2,6 +2,7 @@
 use Rattle.std.specs.Prelude.{◌≡◌, ℕ, ◌≤◌, ◌⊎◌, List, [], ◌∷◌, length, map, slice_get, take, Option, Some}
 use Rattle.std.specs.List.{zip}
 use Rattle.ms_dfafile_adopt.specs.Import.{IsImportable, IsNotImportable, answer_of_file}
+use Rattle.ms_dfafile_adopt_parts.specs.Laws.{IsBelowImport}
 use Rattle.ms_dfa.specs.declared.plain.Plain.{Plain}
 use Rattle.ms_dfafile.specs.File.{IsSpelled}
 use Rattle.ms_edge.specs.declared.refusal.Refusal.{Refusal}
@@ -65,9 +66,9 @@ IsNoAutomaton held used (ImportText at name) =
 IsNoAutomaton held used refusal = ⊥
 
 -- why a file cannot be taken for the import at a place: where its step would have more nodes and states than the limit, the refusal
--- names the step by the place of the import
+-- names the step by the place of the import, and the limit is below each budget of it
 abbrev pub IsNotTaken : Plain → ImportUse → Mode → ℕ → ℕ → Refusal → Type 0
-IsNotTaken plain used mode limit place (Nodes step named) = (step ≡ place) × IsNotImportable plain used mode limit (Nodes 0 named)
+IsNotTaken plain used mode limit place (Nodes step named) = (step ≡ place) × IsNotImportable plain used mode limit (Nodes 0 named) × IsBelowImport mode plain used.pairs limit
 IsNotTaken plain used mode limit place refusal = IsNotImportable plain used mode limit refusal
 
 -- it is one, and cannot be imported there under a limit on nodes and states

@@ -5,7 +5,7 @@ use Rattle.ms_arena.specs.Diagram.{Bits, leaf_of}
 use Rattle.ms_arena.proofs.Lists.{slice_get-held}
 use Rattle.ms_arena.proofs.Paths.{leaf_of-leaf}
 use Rattle.ms_arena.proofs.ReachLemmas.{leaf_of-tested}
-use Rattle.ms_build_parts.proofs.Matching.{match_held, nexts, one_match, starts}
+use Rattle.ms_build_parts.proofs.Matching.{comparable, match_held, nexts, one_match, starts}
 use Rattle.ms_build_parts.specs.Labels.{behind_state}
 use Rattle.ms_build_parts.specs.Laws.{IsMeasuredBy}
 use Rattle.ms_build_parts.specs.inner.Matched.{IsMatch}
@@ -51,18 +51,18 @@ module _ {Kind : Type 0} (content : Content Kind) (rules : IsContent content) wh
 
 -- an automaton of fewest states matches the canonical content
 pub measured_matches : (one canonical : Content Sign) → IsMeasuredBy one canonical → AreMatched one canonical
-measured_matches one canonical is = record {
+measured_matches one canonical is = (let both = comparable one canonical is in record {
   Matches = IsMatch one canonical;
-  single = one_match one canonical is;
-  first = λ bits. (starts one canonical is).matched bits;
+  single = one_match one canonical both;
+  first = λ bits. (starts one canonical both).matched bits;
   next = λ p q bits match.
       let found = slice_get-held one.states p match.within in
-      let there = match_held one canonical is p q match in
+      let there = match_held one canonical both p q match in
       subst (λ at. IsMatch one canonical (behind_state one at bits) (next_at canonical (slice_get canonical.states q) bits)) (sym found.1)
       (subst (λ at. IsMatch one canonical (leaf_of one.nodes found.0.next bits) (next_at canonical at bits)) (sym there.1)
-      ((nexts one canonical is p q found.0 there.0 match found.1 there.1).matched bits));
+      ((nexts one canonical both p q found.0 there.0 match found.1 there.1).matched bits));
   read = read_by_rules canonical is.is_canonical.rules;
-}
+})
 
 -- truth matches a missing restriction
 truth_next : (mode : Mode) (p : ℕ) (bits : Bits) → p ≡ 0 → behind_state (always mode) (slice_get (always mode).states p) bits ≡ 0

@@ -29,7 +29,7 @@ module _ (has_bit : Order → Bool) (all : List Variable) where
       by_test false own list n same = same
 
   -- and stand by the ranks of these
-  bit_for : (bits : List Bool) (some : List Variable) (at : ℕ) (v : Variable) → slice_get some at ≡ Some v → IsTrue (has_bit v.order)
+  pub bit_for : (bits : List Bool) (some : List Variable) (at : ℕ) (v : Variable) → slice_get some at ≡ Some v → IsTrue (has_bit v.order)
       → slice_get (bits_for has_bit all bits some) (rank has_bit at some) ≡ Some (unwrap_or (given_bit has_bit all bits v.name) false)
   bit_for bits [] at v held holds = absurd (none-some v held)
   bit_for bits (w ∷ some) zero v held holds =
@@ -59,7 +59,7 @@ module _ (ws order : List Variable) (places : List ℕ) (own : HaveDistinctNumbe
       ∙ ap (λ found. Some (unwrap_or found false)) (given_at has_bit ws bits i w own held holds ∙ bit.1)
       ∙ sym bit.1) long
 
-  letters_back : (letters : List (List Bool)) → AreLetters ws letters
+  pub letters_back : (letters : List (List Bool)) → AreLetters ws letters
       → map (λ letter. bits_for is_in_letters order letter ws) (map (λ letter. bits_for is_in_letters ws letter order) letters) ≡ letters
   letters_back [] are = refl
   letters_back (letter ∷ letters) are =
@@ -74,7 +74,7 @@ module _ (ws order : List Variable) (places : List ℕ) (own : HaveDistinctNumbe
       let letters = letters_back word.letters over.letters in
       λ i. record { truth = truth i; letters = letters i }
 
-  letters_over : (letters : List (List Bool)) → AreLetters order (map (λ letter. bits_for is_in_letters ws letter order) letters)
+  pub letters_over : (letters : List (List Bool)) → AreLetters order (map (λ letter. bits_for is_in_letters ws letter order) letters)
   letters_over [] = tt
   letters_over (letter ∷ letters) = (length-bits_for is_in_letters ws letter order, letters_over letters)
 

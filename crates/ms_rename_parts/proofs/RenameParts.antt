@@ -21,6 +21,7 @@ use Rattle.ms_logic.specs.declared.mode.Order.{Order}
 use Rattle.ms_logic.specs.Assignment.{Variable}
 use Rattle.ms_logic_measures.specs.CallMeasures.{LeadsToReferences, LeaveSame, in_order_of}
 use Rattle.ms_logic_measures.specs.Starts.{IsStartOver, Start, left_by, narrowed, next_at, part_of_letter, some_truth_values, state_at, whole_word, with_free_bits}
+use Rattle.ms_logic_starts.specs.AtLeast.{IsAtLeastNumber}
 use Rattle.ms_logic_starts.specs.NeededApart.{AreLedTo, IsLedTo, LeadToOneFunction}
 use Rattle.ms_logic_starts.proofs.AtLeastLemmas.{at_most_count}
 use Rattle.ms_logic_starts.proofs.NeededApartLemmas.{needed_lead_apart}
@@ -30,8 +31,8 @@ use Rattle.ms_minim.proofs.LettersLemmas.{AreLetters-append, state_after-append}
 use Rattle.ms_product.specs.Widened.{behind_through, widened_findings}
 use Rattle.ms_rename.specs.Renamed.{NeedsAtLeast, renamed_places}
 use Rattle.ms_build_parts.proofs.Budgets.{leave_same}
-use Rattle.ms_build_parts.proofs.Matching.{over_same}
-use Rattle.ms_build_parts.specs.Laws.{IsMeasuredBy}
+use Rattle.ms_build_parts.proofs.Matching.{comparable, over_same}
+use Rattle.ms_build_parts.specs.SaySame.{AreComparable}
 use Rattle.ms_build_parts.specs.inner.Matched.{IsMatch}
 use Rattle.ms_build_parts.proofs.Matching.{AreRoots, match_held, nexts, one_match, starts}
 use Rattle.ms_rename_parts.specs.Laws.{RenamingsAreWithinBudget, RenamingsNeedFewParts}
@@ -39,7 +40,7 @@ use Rattle.ms_rename_parts.proofs.Arranged.{IsArranged}
 use Rattle.ms_rename_parts.proofs.Arrangement.{arranged}
 use Rattle.ms_rename_parts.proofs.Firsts.{bits_are, none_free, values, word_back, word_over}
 
-module _ (content measure : Content Sign) (is : IsMeasuredBy content measure) where
+module _ (content measure : Content Sign) (is : AreComparable content measure) where
   abbrev vs : List Variable
   vs = content.variables
 
@@ -114,7 +115,7 @@ module _ (content measure : Content Sign) (is : IsMeasuredBy content measure) wh
         agree : (one other : Bits) → ((place : ℕ) (v : Variable) → slice_get ws place ≡ Some v → IsTrue (has_bit v.order) → one place ≡ other place)
             → leaf_of measure.nodes canonical one ≡ leaf_of measure.nodes canonical other
         agree one other same =
-            leaf_of-tested measure.nodes is.is_canonical.rules.ordered canonical one other behind.roots.also.valid
+            leaf_of-tested measure.nodes is.other_ordered canonical one other behind.roots.also.valid
             (λ place tested. let found = behind.roots.also.tests place tested in same place found.0 found.1 found.2)
 
         free_at : (bits : Bits) → leaf_of measure.nodes canonical (with_free_bits has_bit order own_values ws (read_through places bits)) ≡ at_bits bits
@@ -202,20 +203,24 @@ module _ (content measure : Content Sign) (is : IsMeasuredBy content measure) wh
         numbers = led_state;
       }
 
+      -- starts in the order lead the measure apart, as many as it needs
+      pub apart : IsAtLeastNumber (LeaveSame measure order) (IsStartOver order) (length nodes + length content.states)
+      apart = needed_lead_apart (IsStartOver order) (LeaveSame measure order) Leads nodes 0 (length nodes) (length content.states) all_led least.ordered least.reduced one_function
+
       pub few : (m : ℕ) → LeadsToReferences measure order m → count ≤ m
       few m counted =
-          let apart = needed_lead_apart (IsStartOver order) (LeaveSame measure order) Leads nodes 0 (length nodes) (length content.states) all_led least.ordered least.reduced one_function in
           let less = at_most_count (LeaveSame measure order) (IsStartOver order) (leave_same measure order) (length nodes + length content.states) m apart counted in
           let many = least.many in
           omega (arith, less, many)
 
 pub renamings_need_few_parts : RenamingsNeedFewParts
 renamings_need_few_parts content measure numbers long is count least m counted =
-    few content measure is (in_order_of numbers measure.variables) (renamed_places numbers content.variables)
-    (arranged numbers content.variables measure.variables long (as_many content measure is) is.distinct) count least m counted
+    let both = comparable content measure is in
+    few content measure both (in_order_of numbers measure.variables) (renamed_places numbers content.variables)
+    (arranged numbers content.variables measure.variables long (as_many content measure both) is.distinct) count least m counted
 
 -- a number is below the budget that its square makes
-below_square : (limit n : ℕ) → limit < n → limit < n * n * 2 ^ 8
+pub below_square : (limit n : ℕ) → limit < n → limit < n * n * 2 ^ 8
 below_square limit n less =
     let some : 1 * n ≤ n * n = mul-le-mul_right n (omega (arith, less)) in
     omega (arith, some, less)

@@ -1,0 +1,10 @@
+pub mod Adoptions
+pub mod Completed
+pub mod Encodings
+pub mod Filed
+pub mod FirstNumbers
+pub mod Naming
+pub mod NumberCounts
+pub mod NumberLabels
+pub mod Products
+pub mod Renamings

@@ -1,0 +1,5 @@
+use Rattle.ms_dfafile_adopt_parts.proofs.Adoptions.{lacking_adoptions}
+use Rattle.ms_dfafile_adopt_parts.proofs.laws.laws_of_adoptions.Goals as goal
+
+pub returns : goal.returns
+returns c = record { below = lacking_adoptions }

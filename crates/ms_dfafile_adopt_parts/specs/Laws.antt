@@ -1,0 +1,27 @@
+-- What makes a file the automaton of an import lacks nodes only below the budget of that import.
+use Rattle.std.specs.Prelude.{◌≡◌, ◌≢◌, ℕ, ◌<◌, List, AllPairs, map, slice_get, Some}
+use Rattle.ms_dfa.specs.declared.plain.Plain.{Plain}
+use Rattle.ms_dfafile.specs.File.{IsFile}
+use Rattle.ms_dfafile_adopt.specs.Import.{HasVariables}
+use Rattle.ms_dfafile_adopt.specs.Short.{AdoptionLacks}
+use Rattle.ms_logic.specs.Truth.{Answer, Import}
+use Rattle.ms_logic.specs.declared.checked.MapPair.{MapPair}
+use Rattle.ms_logic.specs.declared.mode.Mode.{Mode}
+use Rattle.ms_logic_measures.specs.Budgets.{IsMeasureOf, budget, pair_variables}
+use Rattle.ms_logic_measures.specs.Steps.{import_of_source}
+use Rattle.ms_logic_words.specs.Content.{Content}
+use Rattle.ms_dfafile_adopt_parts.specs.Files.{content_for, variables_of_pairs}
+
+-- a limit is below each budget of the import of a file with these pairs, in whatever source it is the import with number i
+abbrev pub IsBelowImport : Mode → Plain → List MapPair → ℕ → Type 0
+IsBelowImport mode plain pairs limit =
+    (imports : List Import) (files : List (Content Answer)) (i m r : ℕ)
+    → pair_variables imports i ≡ variables_of_pairs pairs → slice_get files i ≡ Some (content_for pairs plain)
+    → IsMeasureOf imports mode files (import_of_source i) m r → limit < budget m r
+
+-- a file, each variable of which one pair names, lacks nodes as an import only under a limit below each budget of the import
+abbrev pub LackingAdoptionsAreBelowTheirImport : Type 0
+LackingAdoptionsAreBelowTheirImport =
+    (mode : Mode) (plain : Plain) (pairs : List MapPair) (limit : ℕ)
+    → IsFile plain → HasVariables plain pairs → AllPairs (λ one other. one ≢ other) (map (λ pair. pair.name) pairs)
+    → AdoptionLacks limit plain pairs mode → IsBelowImport mode plain pairs limit
