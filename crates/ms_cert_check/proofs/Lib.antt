@@ -1,0 +1,4 @@
+pub mod Completeness
+pub mod Findings
+pub mod Later
+pub mod Lines

@@ -1,0 +1,8 @@
+ghost use Rattle.ms_cert_check.specs.Laws.{FilesWithCertificatesAreChecked, RefusalsHaveLines};
+
+/// Each refusal has a line, and no place. A file that is there with a certificate is refused for want of memory alone, where nothing outside
+/// fails.
+pub fn laws_of_checks()
+    ensures lines { RefusalsHaveLines }
+    ensures checked { FilesWithCertificatesAreChecked }
+{}
