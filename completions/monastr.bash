@@ -6,7 +6,7 @@ _monastr() {
     local word=${COMP_WORDS[COMP_CWORD]} command=${COMP_WORDS[1]} before=${COMP_WORDS[COMP_CWORD - 1]} options=
     COMPREPLY=()
     if [ "$COMP_CWORD" -eq 1 ]; then
-        mapfile -t COMPREPLY < <(compgen -W 'decide same gen ltl help prove test --help' -- "$word")
+        mapfile -t COMPREPLY < <(compgen -W 'decide same gen ltl presburger check help prove test --help' -- "$word")
         return
     fi
     case "$before" in
@@ -20,7 +20,8 @@ _monastr() {
         decide) options='--out --max-nodes --stats --format' ;;
         same) options='--max-nodes' ;;
         gen) options='--decide' ;;
-        ltl) options='--max-nodes' ;;
+        ltl | presburger) options='--max-nodes' ;;
+        check) ;;
         *) return ;;
     esac
     if [[ $word == -* ]]; then

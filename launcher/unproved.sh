@@ -39,7 +39,7 @@ proof_takes() {
 # does, which needs no build.
 answer_unbuilt() {
     case "${1-}" in
-        decide | same | gen | ltl) need_kit ;;
+        decide | same | gen | ltl | presburger | check) need_kit ;;
         *) echo "usage: the words are not a command of monastr" && exit 1 ;;
     esac
     if may_be_tried "$@"; then answer_unproved "$@"; fi

@@ -5,9 +5,11 @@ use Rattle.ms_edge.specs.declared.refusal.Refusal.TheVariants.{Memory}
 use Rattle.ms_build.specs.Built.{IsLimit}
 use Rattle.ms_app_words.specs.Command.{HasLimit, IsCommand}
 use Rattle.ms_app_words.specs.declared.command.Command.{Command}
-use Rattle.ms_app_words.specs.declared.command.Command.TheVariants.{Decide, Same, Gen, Ltl}
+use Rattle.ms_app_words.specs.declared.command.Command.TheVariants.{Decide, Same, Gen, Ltl, Presburger, Check}
 use Rattle.ms_app.specs.Answer.{IsLimited, IsRefusedFor}
+use Rattle.ms_cert_check.specs.Check as checks
 use Rattle.ms_ltlf_decide.specs.Formula as formulas
+use Rattle.ms_presburger_decide.specs.Problem as problems
 use Rattle.ms_app.specs.Comparison as comparisons
 use Rattle.ms_app.specs.Source as sources
 
@@ -20,6 +22,8 @@ limited words (Decide file out max_nodes stats format) asked = limit_by _ max_no
 limited words (Same left right max_nodes) asked = limit_by _ max_nodes asked.asked.2
 limited words (Gen number decide) asked = tt
 limited words (Ltl file max_nodes) asked = limit_by _ max_nodes asked.asked.1
+limited words (Presburger file max_nodes) asked = limit_by _ max_nodes asked.asked.1
+limited words (Check name) asked = tt
 
 -- want of memory needs no cause
 pub memory_refuses : (command : Command) (seen : Seen) (files : List (List ℕ)) → IsRefusedFor command seen Memory files
@@ -28,3 +32,5 @@ memory_refuses (Same left right max_nodes) seen files = comparisons.no_memory re
 memory_refuses (Gen number false) seen files = inl refl
 memory_refuses (Gen number true) seen files = inl refl
 memory_refuses (Ltl file max_nodes) seen files = formulas.no_memory refl
+memory_refuses (Presburger file max_nodes) seen files = problems.no_memory refl
+memory_refuses (Check name) seen files = checks.no_memory refl

@@ -9,8 +9,10 @@ use Rattle.ms_edge.specs.declared.refusal.Status.{Status}
 use Rattle.ms_edge.specs.declared.refusal.Status.TheVariants.{NoMemory}
 use Rattle.ms_report.specs.Line.{line_of}
 use Rattle.ms_app_words.specs.declared.command.Command.{Command}
-use Rattle.ms_app_words.specs.declared.command.Command.TheVariants.{Decide, Same, Gen, Ltl}
+use Rattle.ms_app_words.specs.declared.command.Command.TheVariants.{Decide, Same, Gen, Ltl, Presburger, Check}
+use Rattle.ms_cert_check.proofs.Completeness.{checked}
 use Rattle.ms_ltlf_decide.proofs.Solved.{solved}
+use Rattle.ms_presburger_decide.proofs.Solved.{solved as solved_problem}
 use Rattle.ms_app.specs.Answer as answers
 use Rattle.ms_app.specs.Answer.{Answer, IsAnswered, IsAnsweredFor, IsRefusedFor, IsUnwritten, Prints, answer_of, status_of}
 use Rattle.ms_app.specs.Completeness.{CanBeDone, IsComplete, LackedNodes, NothingFailed, WasDone, limit_of}
@@ -32,6 +34,8 @@ want (Gen number true) before after seen can well refusal files (inl memory) = i
 want (Gen number true) before after seen can well refusal files (inr (inl none)) = absurd (none.1 can)
 want (Gen number true) before after seen can well refusal files (inr (inr (is, lacks, why))) = inr lacks
 want (Ltl file limit) before after seen can well refusal files why = solved seen well.holding file can.0 can.1 limit refusal files well.told well.works can.2 why
+want (Presburger file limit) before after seen can well refusal files why = solved_problem seen well.holding file limit refusal files well.told well.works can why
+want (Check name) before after seen can well refusal files why = inl (checked seen well.holding name refusal well.told well.works can why)
 
 -- a sink that does not fail takes the answer
 printed : (before after : SinkTold) (answer : Answer) (status : Status) → (Rose before.faults after.faults → ⊥) → Prints before after answer status →

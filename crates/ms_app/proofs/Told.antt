@@ -31,8 +31,10 @@ use Rattle.ms_include_laws.proofs.of_places.TypedSources.{typed-sources}
 use Rattle.ms_logic.specs.Lists.{Each}
 use Rattle.ms_names_rules.proofs.Fitting.{each-append}
 use Rattle.ms_app_words.specs.declared.command.Command.{Command}
-use Rattle.ms_app_words.specs.declared.command.Command.TheVariants.{Decide, Same, Gen, Ltl}
+use Rattle.ms_app_words.specs.declared.command.Command.TheVariants.{Decide, Same, Gen, Ltl, Presburger, Check}
+use Rattle.ms_cert_check.proofs.Lines.{lines as check_lines}
 use Rattle.ms_ltlf_decide.proofs.Lines.{lines}
+use Rattle.ms_presburger_decide.proofs.Lines.{lines as problem_lines}
 use Rattle.ms_app.specs.Answer.{IsRefusedFor}
 use Rattle.ms_app.specs.Comparison.{IsRefusedComparison, left_refused, right_refused, not_comparable}
 use Rattle.ms_app.specs.Comparison as comparisons
@@ -186,3 +188,5 @@ command-told (Gen number true) seen refusal files (inl memory) = memory-told fil
 command-told (Gen number true) seen refusal files (inr (inl range)) = subst (IsToldOver files) (sym range.0) (tt, tt)
 command-told (Gen number true) seen refusal files (inr (inr (is_number, (step, is), why))) = subst (IsToldOver files) (sym is) (tt, tt)
 command-told (Ltl file max_nodes) seen refusal files why = lines seen file max_nodes refusal files why
+command-told (Presburger file max_nodes) seen refusal files why = problem_lines seen file max_nodes refusal files why
+command-told (Check name) seen refusal files why = check_lines seen name refusal files why

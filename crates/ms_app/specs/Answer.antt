@@ -18,8 +18,10 @@ use Rattle.ms_report.specs.Line.{line_of}
 use Rattle.ms_report.specs.Report.{report_of, summary_of}
 use Rattle.ms_app_words.specs.Command.{IsCommand, node_limit}
 use Rattle.ms_app_words.specs.declared.command.Command.{Command}
-use Rattle.ms_app_words.specs.declared.command.Command.TheVariants.{Decide, Same, Gen, Ltl}
+use Rattle.ms_app_words.specs.declared.command.Command.TheVariants.{Decide, Same, Gen, Ltl, Presburger, Check}
+use Rattle.ms_cert_check.specs.Check.{IsChecked, IsRefusedCheck}
 use Rattle.ms_ltlf_decide.specs.Formula.{IsDecidedFormula, IsRefusedFormula}
+use Rattle.ms_presburger_decide.specs.Problem.{IsDecidedProblem, IsRefusedProblem}
 use Rattle.ms_app.specs.Comparison.{AreCompared, IsRefusedComparison, comparison_text}
 use Rattle.ms_app.specs.Decision.{IsDecided}
 use Rattle.ms_app.specs.Source.{IsRefused, file_of, text_of}
@@ -68,7 +70,7 @@ generated_name = codes "generated"
 
 -- What a command asks for where it is done, by what was seen while the files were read: the text to print, and the files to write. A file is
 -- decided: the report on it, and its automaton files; two files are compared; a source is generated, or the summary of it made; a formula of
--- temporal logic is decided over all traces.
+-- temporal logic is decided over all traces, and one of linear arithmetic over all natural numbers; an automaton file is checked by its certificate.
 abbrev pub IsGivenFor : Command → Seen → List ℕ → List File → Type 0
 IsGivenFor (Decide file out max_nodes stats format) seen text written =
     (found : Found) × IsDecided (file_of seen 0 file) out stats format found written × (text ≡ report_of found)
@@ -79,6 +81,8 @@ IsGivenFor (Gen number true) seen text written =
     × ((found : Found) × (main : answers.Answer) × IsDecided (text_of generated_name (generated number)) None true Two found written × (found.main ≡ Some main)
     × (text ≡ summary_of number (length (generated number)) main found.stats))
 IsGivenFor (Ltl file max_nodes) seen text written = (written ≡ []) × IsDecidedFormula seen.before.held file text
+IsGivenFor (Presburger file max_nodes) seen text written = (written ≡ []) × IsDecidedProblem seen.before.held file text
+IsGivenFor (Check name) seen text written = (written ≡ []) × IsChecked seen.before.held name text
 
 -- the command asks for a generated source
 abbrev pub IsGeneration : Command → Type 0
@@ -86,6 +90,8 @@ IsGeneration (Decide file out max_nodes stats format) = ⊥
 IsGeneration (Same left right max_nodes) = ⊥
 IsGeneration (Gen number decide) = Unit {0}
 IsGeneration (Ltl file max_nodes) = ⊥
+IsGeneration (Presburger file max_nodes) = ⊥
+IsGeneration (Check name) = ⊥
 
 -- a limit that a command names is one
 abbrev pub IsLimited : Command → Type 0
@@ -93,6 +99,8 @@ IsLimited (Decide file out max_nodes stats format) = IsLimit max_nodes
 IsLimited (Same left right max_nodes) = IsLimit max_nodes
 IsLimited (Gen number decide) = Unit {0}
 IsLimited (Ltl file max_nodes) = IsLimit max_nodes
+IsLimited (Presburger file max_nodes) = IsLimit max_nodes
+IsLimited (Check name) = Unit {0}
 
 -- the number of a source to generate is out of range
 abbrev pub IsNoNumber : ℕ → Refusal → Type 0
@@ -108,6 +116,8 @@ IsRefusedFor (Gen number true) seen refusal files =
     (refusal ≡ Memory) ⊎ IsNoNumber number refusal
     ⊎ (IsNumber number × ((step : ℕ) × (refusal ≡ Nodes step node_limit)) × IsRefused (text_of generated_name (generated number)) None node_limit refusal files)
 IsRefusedFor (Ltl file max_nodes) seen refusal files = IsRefusedFormula seen file max_nodes refusal files
+IsRefusedFor (Presburger file max_nodes) seen refusal files = IsRefusedProblem seen file max_nodes refusal files
+IsRefusedFor (Check name) seen refusal files = IsRefusedCheck seen name refusal
 
 -- The files were read, up to some moment; what the command asks for came of that; and its files are written since.
 pub record IsDelivered (command : Command) (seen : Seen) (text : List ℕ) : Type 0 where

@@ -10,13 +10,15 @@ use Rattle.ms_edge.specs.Sink.{SinkTold, grown}
 use Rattle.ms_gen.specs.Generated.{IsNumber}
 use Rattle.ms_logic.specs.declared.checked.Checked.{Checked}
 use Rattle.ms_logic.specs.declared.source.Loaded.{Loaded}
+use Rattle.ms_cert_check.specs.Check.{CanBeChecked}
 use Rattle.ms_ltlf.specs.Tree.{Temporal}
 use Rattle.ms_ltlf_decide.specs.Formula.{IsSolvable}
 use Rattle.ms_ltlf_parse.specs.Grammar.{Names}
+use Rattle.ms_presburger_decide.specs.Problem.{ProblemCanBeDecided}
 use Rattle.ms_report.specs.Line.{line_of}
 use Rattle.ms_app_words.specs.Command.{IsCommand, node_limit}
 use Rattle.ms_app_words.specs.declared.command.Command.{Command}
-use Rattle.ms_app_words.specs.declared.command.Command.TheVariants.{Decide, Same, Gen, Ltl}
+use Rattle.ms_app_words.specs.declared.command.Command.TheVariants.{Decide, Same, Gen, Ltl, Presburger, Check}
 use Rattle.ms_app.specs.Answer.{IsDelivered, IsRefusedFor}
 use Rattle.ms_app.specs.Comparison.{AreSolved, HaveSameGlobals, Taken}
 use Rattle.ms_app.specs.Source.{IsSolved, Origin, file_of}
@@ -48,13 +50,17 @@ CanBeDone (Decide file out max_nodes stats format) seen = CanBeSolved (file_of s
 CanBeDone (Same left right max_nodes) seen = CanBeCompared left right seen
 CanBeDone (Gen number decide) seen = IsNumber number
 CanBeDone (Ltl file max_nodes) seen = FormulaCanBeDecided file seen
+CanBeDone (Presburger file max_nodes) seen = ProblemCanBeDecided seen.before.held file
+CanBeDone (Check name) seen = CanBeChecked seen.before.held name
 
--- the limit on the nodes and states of a step
+-- the limit on the nodes and states of a step; a check has no steps
 abbrev pub limit_of : Command → ℕ
 limit_of (Decide file out max_nodes stats format) = max_nodes
 limit_of (Same left right max_nodes) = max_nodes
 limit_of (Gen number decide) = node_limit
 limit_of (Ltl file max_nodes) = max_nodes
+limit_of (Presburger file max_nodes) = max_nodes
+limit_of (Check name) = node_limit
 
 -- it was done: its text was printed, and its files written
 abbrev pub WasDone : Command → SinkTold → SinkTold → Seen → Status → Type 0

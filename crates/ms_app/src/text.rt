@@ -1,8 +1,9 @@
 ghost use Rattle.std.specs.Prelude.{◌≡◌, [], true, IfErr, IfOk};
 ghost use Rattle.std.specs.Option.{option_copied};
 ghost use Rattle.ms_build.specs.Built.{IsLimit};
+ghost use Rattle.ms_cert_check.specs.Check.{IsRefusedCheck};
 ghost use Rattle.ms_edge.specs.Files.{OnlyRead, Seen, between};
-ghost use Rattle.ms_app_words.specs.declared.command.Command.TheVariants.{Decide, Same, Gen, Ltl};
+ghost use Rattle.ms_app_words.specs.declared.command.Command.TheVariants.{Decide, Same, Gen, Ltl, Presburger, Check};
 ghost use Rattle.ms_app.specs.Answer.{IsGivenFor, IsRefusedFor};
 ghost use Rattle.ms_app.specs.Comparison.{comparison_text};
 ghost use Rattle.ms_app.specs.inner.Files.{HaveOwnNames, pairs_of};
@@ -13,11 +14,13 @@ use crate::files::AutomatonFile;
 use crate::options::Options;
 use crate::source::accept_text;
 use crate::taken::{Taken, Wanted, take_file};
+use ms_cert_check::check;
 use ms_dfa::FileVersion;
 use ms_edge::{Files, Refusal};
 use ms_gen::generate;
 use ms_list::{Bytes, List, Text};
 use ms_ltlf_decide::decide_formula;
+use ms_presburger_decide::decide_problem;
 use ms_report::{report, summary};
 use std::alloc::Global;
 
@@ -149,6 +152,44 @@ pub fn formula_report<F: Files>(
     ensures only_read { OnlyRead (F.told files.old) (F.told files.new) }
 {
     match decide_formula(alloc, name, limit, files, names) {
+        Ok(text) => Ok(text_alone(alloc, text)),
+        Err(refusal) => Err(refusal),
+    }
+}
+
+/// The report on a formula of linear arithmetic.
+pub fn problem_report<F: Files>(
+    alloc: Global,
+    name: &Text,
+    limit: u64,
+    files: &mut F,
+    names: &mut List<Text>,
+) -> Result<Given, Refusal>
+    requires first { names.old ≡ [] }
+    requires limit { IsLimit limit }
+    ensures given { IfOk result (λ given. IsGivenFor (Presburger name.now limit) (between (F.told files.old) (F.told files.new)) given.text (pairs_of given.files)) }
+    ensures own_names { IfOk result (λ given. HaveOwnNames (pairs_of given.files)) }
+    ensures refused { IfErr result (λ refusal. IsRefusedFor (Presburger name.now limit) (between (F.told files.old) (F.told files.new)) refusal names.new) }
+    ensures only_read { OnlyRead (F.told files.old) (F.told files.new) }
+{
+    match decide_problem(alloc, name, limit, files, names) {
+        Ok(text) => Ok(text_alone(alloc, text)),
+        Err(refusal) => Err(refusal),
+    }
+}
+
+/// What the certificate of an automaton file proves.
+pub fn certificate_report<F: Files>(
+    alloc: Global,
+    name: &Text,
+    files: &mut F,
+) -> Result<Given, Refusal>
+    ensures given { IfOk result (λ given. IsGivenFor (Check name.now) (between (F.told files.old) (F.told files.new)) given.text (pairs_of given.files)) }
+    ensures own_names { IfOk result (λ given. HaveOwnNames (pairs_of given.files)) }
+    ensures refused { IfErr result (IsRefusedCheck (between (F.told files.old) (F.told files.new)) name.now) }
+    ensures only_read { OnlyRead (F.told files.old) (F.told files.new) }
+{
+    match check(alloc, name, files) {
         Ok(text) => Ok(text_alone(alloc, text)),
         Err(refusal) => Err(refusal),
     }

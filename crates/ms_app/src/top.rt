@@ -12,7 +12,9 @@ ghost use Rattle.ms_app.specs.inner.Files.{HaveOwnNames, pairs_of};
 use crate::compare::Pair;
 use crate::options::Options;
 use crate::print::{out_of_memory, print, print_unwritten, refuse};
-use crate::text::{Given, comparison, decision, formula_report, generation};
+use crate::text::{
+    Given, certificate_report, comparison, decision, formula_report, generation, problem_report,
+};
 use crate::write::write_each;
 use ms_app_words::{Command, WordsFault, options};
 use ms_edge::{CommandLine, Files, Refusal, Sink, Status};
@@ -58,6 +60,10 @@ fn given<F: Files>(
         } => comparison(alloc, Pair { left, right }, *max_nodes, files, names),
         Command::Gen { number, decide } => generation(alloc, *number, *decide, names),
         Command::Ltl { file, max_nodes } => formula_report(alloc, file, *max_nodes, files, names),
+        Command::Presburger { file, max_nodes } => {
+            problem_report(alloc, file, *max_nodes, files, names)
+        }
+        Command::Check { name } => certificate_report(alloc, name, files),
     }
 }
 
@@ -95,7 +101,8 @@ fn answer<F: Files, S: Sink>(alloc: Global, command: &Command, files: &mut F, ou
 /// Does what the words ask: `decide FILE [--out NAME] [--max-nodes N] [--stats] [--format V]` reads the file, writes the automata that it
 /// exports and that of its main value to NAME, in version V, and reports on its formula; `same LEFT RIGHT [--max-nodes N]` says whether the main values of
 /// two files agree; `gen K [--decide]` prints the generated source with this number, or decides it; `ltl FILE [--max-nodes N]` reports on a
-/// formula of linear temporal logic on finite traces. The words are those after the program's name. What is printed goes to the sink: the text, or one line where the request is refused or a file is not written
+/// formula of linear temporal logic on finite traces, and `presburger FILE [--max-nodes N]` on one of linear arithmetic over the natural
+/// numbers; `check NAME` says what the certificate NAME.cert proves of the automaton file NAME. The words are those after the program's name. What is printed goes to the sink: the text, or one line where the request is refused or a file is not written
 /// (docs/FORMATS.md).
 pub fn run<F: Files, S: Sink>(
     alloc: Global,
@@ -104,7 +111,8 @@ pub fn run<F: Files, S: Sink>(
     out: &mut S,
 ) -> Status
     // Words that are no command are answered so. A file is decided, its automata are written, and the report on it is printed; two files
-    // are compared; a source is generated, and decided; a formula is decided over all traces; or the request is refused for a cause, with nothing written, or one of the files
+    // are compared; a source is generated, and decided; a formula is decided over all traces, or over all natural numbers; an automaton file
+    // is checked by its certificate; or the request is refused for a cause, with nothing written, or one of the files
     // is not, and the line of this is printed.
     ensures answered { IsAnswered words.now (S.told out.old) (S.told out.new) (between (F.told files.old) (F.told files.new)) result }
 

@@ -1,3 +1,4 @@
 pub mod Matches
 pub mod OneCommand
 pub mod Taken
+pub mod Verbs

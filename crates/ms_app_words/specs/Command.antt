@@ -7,7 +7,7 @@ use Rattle.std.specs.Str.Parse.{IsNumeral, digits_value, without_leading_plus}
 use Rattle.clap.specs.Words.{App, Row, Rule, Text, fault_of, first_of, matches_of, new_app, new_rule, with_rule}
 use Rattle.clap.specs.declared.builder.action.ArgAction.TheVariants.{SetTrue}
 use Rattle.ms_app_words.specs.declared.command.Command.{Command}
-use Rattle.ms_app_words.specs.declared.command.Command.TheVariants.{Decide, Same, Gen, Ltl}
+use Rattle.ms_app_words.specs.declared.command.Command.TheVariants.{Decide, Same, Gen, Ltl, Presburger, Check}
 use Rattle.ms_dfa.specs.declared.plain.FileVersion.{FileVersion}
 use Rattle.ms_dfa.specs.declared.plain.FileVersion.TheVariants.{One, Two}
 use Rattle.ms_app_words.specs.declared.command.Verb.{Verb}
@@ -45,15 +45,29 @@ same_app = with_rule (with_rule (with_rule (command (codes "same")) (required (c
 abbrev pub gen_app : App
 gen_app = with_rule (with_rule (command (codes "gen")) (required (codes "K"))) (flag (codes "decide"))
 
+-- NAME FILE [--max-nodes N], for a command of this name
+abbrev pub formula_app : Text → App
+formula_app name = with_rule (with_rule (command name) (required (codes "FILE"))) (option (codes "max-nodes"))
+
 -- ltl FILE [--max-nodes N]
 abbrev pub ltl_app : App
-ltl_app = with_rule (with_rule (command (codes "ltl")) (required (codes "FILE"))) (option (codes "max-nodes"))
+ltl_app = formula_app (codes "ltl")
+
+-- presburger FILE [--max-nodes N]
+abbrev pub presburger_app : App
+presburger_app = formula_app (codes "presburger")
+
+-- check NAME
+abbrev pub check_app : App
+check_app = with_rule (command (codes "check")) (required (codes "NAME"))
 
 abbrev pub app_for : Verb → App
 app_for verb.Decide = decide_app
 app_for verb.Same = same_app
 app_for verb.Gen = gen_app
 app_for verb.Ltl = ltl_app
+app_for verb.Presburger = presburger_app
+app_for verb.Check = check_app
 
 -- the limit on the nodes and states of a step where the words name none
 abbrev pub node_limit : ℕ
@@ -98,6 +112,12 @@ verb_of (Decide file out max_nodes stats format) = verb.Decide
 verb_of (Same left right max_nodes) = verb.Same
 verb_of (Gen number decide) = verb.Gen
 verb_of (Ltl file max_nodes) = verb.Ltl
+verb_of (Presburger file max_nodes) = verb.Presburger
+verb_of (Check name) = verb.Check
+
+-- the matches of the words name a file, and a limit on the nodes and states of a step
+abbrev pub AsksOfFile : List Row → Text → ℕ → Type 0
+AsksOfFile rows file max_nodes = (first_of (codes "FILE") rows ≡ Some file) × HasLimit (first_of (codes "max-nodes") rows) max_nodes
 
 -- what the matches of the words ask for
 abbrev pub Asks : List Row → Command → Type 0
@@ -107,7 +127,9 @@ Asks rows (Decide file out max_nodes stats format) =
 Asks rows (Same left right max_nodes) =
     (first_of (codes "LEFT") rows ≡ Some left) × (first_of (codes "RIGHT") rows ≡ Some right) × HasLimit (first_of (codes "max-nodes") rows) max_nodes
 Asks rows (Gen number decide) = HasNumber (first_of (codes "K") rows) number × (decide ≡ is_given (codes "decide") rows)
-Asks rows (Ltl file max_nodes) = (first_of (codes "FILE") rows ≡ Some file) × HasLimit (first_of (codes "max-nodes") rows) max_nodes
+Asks rows (Ltl file max_nodes) = AsksOfFile rows file max_nodes
+Asks rows (Presburger file max_nodes) = AsksOfFile rows file max_nodes
+Asks rows (Check name) = first_of (codes "NAME") rows ≡ Some name
 
 -- they ask for it after this first word
 abbrev pub AsksBy : Verb → List Row → Command → Type 0
@@ -118,7 +140,9 @@ abbrev pub verb_in : Text → Option Verb
 verb_in word =
     if bytes_eq word (codes "decide") then Some verb.Decide
     else (if bytes_eq word (codes "same") then Some verb.Same
-    else (if bytes_eq word (codes "gen") then Some verb.Gen else (if bytes_eq word (codes "ltl") then Some verb.Ltl else None)))
+    else (if bytes_eq word (codes "gen") then Some verb.Gen
+    else (if bytes_eq word (codes "ltl") then Some verb.Ltl
+    else (if bytes_eq word (codes "presburger") then Some verb.Presburger else (if bytes_eq word (codes "check") then Some verb.Check else None)))))
 
 abbrev pub first_verb : List Text → Option Verb
 first_verb [] = None

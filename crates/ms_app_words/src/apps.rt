@@ -1,6 +1,6 @@
 ghost use Rattle.std.specs.Prelude.{◌≡◌, false, IfOk};
 ghost use Rattle.clap.specs.Words.{app_of, new_app, rule_of};
-ghost use Rattle.ms_app_words.specs.Command.{app_for, command, decide_app, decide_front, flag, gen_app, ltl_app, option, required, same_app};
+ghost use Rattle.ms_app_words.specs.Command.{app_for, check_app, command, decide_app, decide_front, flag, formula_app, gen_app, option, required, same_app};
 
 use crate::command::Verb;
 use clap::{Arg, ArgAction, Command};
@@ -76,12 +76,20 @@ fn gen_app<'a>(alloc: Global) -> Result<Command<'a>, AllocError>
     Ok(whole)
 }
 
-/// The command `ltl FILE [--max-nodes N]`.
-fn ltl_app<'a>(alloc: Global) -> Result<Command<'a>, AllocError>
-    ensures { IfOk result (λ made. app_of made ≡ ltl_app) }
+/// The command `NAME FILE [--max-nodes N]`, by its name.
+fn formula_app<'a>(alloc: Global, name: &'a str) -> Result<Command<'a>, AllocError>
+    ensures { IfOk result (λ made. app_of made ≡ formula_app name.entry.now) }
 {
-    let with_file = command(alloc, "ltl").arg(required(alloc, "FILE"))?;
+    let with_file = command(alloc, name).arg(required(alloc, "FILE"))?;
     let whole = with_file.arg(option(alloc, "max-nodes"))?;
+    Ok(whole)
+}
+
+/// The command `check NAME`.
+fn check_app<'a>(alloc: Global) -> Result<Command<'a>, AllocError>
+    ensures { IfOk result (λ made. app_of made ≡ check_app) }
+{
+    let whole = command(alloc, "check").arg(required(alloc, "NAME"))?;
     Ok(whole)
 }
 
@@ -93,6 +101,8 @@ pub(crate) fn app<'a>(alloc: Global, verb: Verb) -> Result<Command<'a>, AllocErr
         Verb::Decide => decide_app(alloc),
         Verb::Same => same_app(alloc),
         Verb::Gen => gen_app(alloc),
-        Verb::Ltl => ltl_app(alloc),
+        Verb::Ltl => formula_app(alloc, "ltl"),
+        Verb::Presburger => formula_app(alloc, "presburger"),
+        Verb::Check => check_app(alloc),
     }
 }

@@ -8,6 +8,8 @@ pub enum Verb {
     Same,
     Gen,
     Ltl,
+    Presburger,
+    Check,
 }
 
 /// What the words of a command line ask for.
@@ -41,6 +43,17 @@ pub enum Command {
     Ltl {
         file: Text,
         max_nodes: u64,
+    },
+
+    /// To decide a formula of linear arithmetic over the natural numbers, where nodes and states of a step are together at most `max_nodes`.
+    Presburger {
+        file: Text,
+        max_nodes: u64,
+    },
+
+    /// To check the automaton file `name` by its certificate, which has this name with `.cert` behind it.
+    Check {
+        name: Text,
     },
 }
 

@@ -1,8 +1,9 @@
 ghost use Rattle.std.specs.Prelude.{◌≡◌, ℕ, [], codes, map, option_map, IfErr, IfOk, MatchOption, None, Some};
+ghost use Rattle.clap.specs.Words.{Text as Word};
 ghost use Rattle.clap.specs.Words.{app_of, fault_of, first_of, found_of, matches_of, rows_of};
 ghost use Rattle.ms_app_words.specs.declared.command.Command.{Command as Asked};
 ghost use Rattle.ms_dfa.specs.declared.plain.FileVersion.{FileVersion as Version};
-ghost use Rattle.ms_app_words.specs.Command.{AsksBy, HasFormat, HasLimit, HasNumber, IsCommand, app_for, first_verb, is_given, verb_in};
+ghost use Rattle.ms_app_words.specs.Command.{AsksBy, AsksOfFile, HasFormat, HasLimit, HasNumber, IsCommand, app_for, first_verb, is_given, verb_in};
 
 use crate::apps::app;
 use crate::command::{Command, Verb, WordsFault};
@@ -195,10 +196,17 @@ fn gen_by(matches: &ArgMatches) -> Result<Command, WordsFault>
     Ok(Command::Gen { number, decide })
 }
 
-/// What the matches of `ltl FILE [--max-nodes N]` ask for.
-fn ltl_by(alloc: Global, matches: &ArgMatches) -> Result<Command, WordsFault>
-    ensures command { IfOk result (AsksBy Verb.Ltl (rows_of (found_of matches.now))) }
-    ensures usage { IfErr result (λ fault. fault ≡ WordsFault.Usage → (command : Asked) → ¬ AsksBy Verb.Ltl (rows_of (found_of matches.now)) command) }
+/// A file, and a limit on the nodes and states of a step.
+#[derive(Drop)]
+struct LimitedFile {
+    file: Text,
+    max_nodes: u64,
+}
+
+/// What the matches of `FILE [--max-nodes N]` name.
+fn limited_file(alloc: Global, matches: &ArgMatches) -> Result<LimitedFile, WordsFault>
+    ensures named { IfOk result (λ made. AsksOfFile (rows_of (found_of matches.now)) made.file made.max_nodes) }
+    ensures usage { IfErr result (λ fault. fault ≡ WordsFault.Usage → (file : Word) (limit : ℕ) → ¬ AsksOfFile (rows_of (found_of matches.now)) file limit) }
 {
     let Some(max_nodes) = limit_of(matches) else {
         return Err(WordsFault::Usage);
@@ -207,7 +215,40 @@ fn ltl_by(alloc: Global, matches: &ArgMatches) -> Result<Command, WordsFault>
         Ok(file) => file,
         Err(fault) => return Err(fault),
     };
-    Ok(Command::Ltl { file, max_nodes })
+    Ok(LimitedFile { file, max_nodes })
+}
+
+/// What the matches of `ltl FILE [--max-nodes N]` ask for.
+fn ltl_by(alloc: Global, matches: &ArgMatches) -> Result<Command, WordsFault>
+    ensures command { IfOk result (AsksBy Verb.Ltl (rows_of (found_of matches.now))) }
+    ensures usage { IfErr result (λ fault. fault ≡ WordsFault.Usage → (command : Asked) → ¬ AsksBy Verb.Ltl (rows_of (found_of matches.now)) command) }
+{
+    match limited_file(alloc, matches) {
+        Ok(LimitedFile { file, max_nodes }) => Ok(Command::Ltl { file, max_nodes }),
+        Err(fault) => Err(fault),
+    }
+}
+
+/// What the matches of `presburger FILE [--max-nodes N]` ask for.
+fn presburger_by(alloc: Global, matches: &ArgMatches) -> Result<Command, WordsFault>
+    ensures command { IfOk result (AsksBy Verb.Presburger (rows_of (found_of matches.now))) }
+    ensures usage { IfErr result (λ fault. fault ≡ WordsFault.Usage → (command : Asked) → ¬ AsksBy Verb.Presburger (rows_of (found_of matches.now)) command) }
+{
+    match limited_file(alloc, matches) {
+        Ok(LimitedFile { file, max_nodes }) => Ok(Command::Presburger { file, max_nodes }),
+        Err(fault) => Err(fault),
+    }
+}
+
+/// What the matches of `check NAME` ask for.
+fn check_by(alloc: Global, matches: &ArgMatches) -> Result<Command, WordsFault>
+    ensures command { IfOk result (AsksBy Verb.Check (rows_of (found_of matches.now))) }
+    ensures usage { IfErr result (λ fault. fault ≡ WordsFault.Usage → (command : Asked) → ¬ AsksBy Verb.Check (rows_of (found_of matches.now)) command) }
+{
+    match text_of(alloc, matches, "NAME") {
+        Ok(name) => Ok(Command::Check { name }),
+        Err(fault) => Err(fault),
+    }
 }
 
 /// What the matches of a command's words ask for.
@@ -220,6 +261,8 @@ fn asked_by(alloc: Global, verb: Verb, matches: &ArgMatches) -> Result<Command, 
         Verb::Same => same_by(alloc, matches),
         Verb::Gen => gen_by(matches),
         Verb::Ltl => ltl_by(alloc, matches),
+        Verb::Presburger => presburger_by(alloc, matches),
+        Verb::Check => check_by(alloc, matches),
     }
 }
 
@@ -262,6 +305,10 @@ fn verb_in(word: &str) -> Option<Verb>
         Some(Verb::Gen)
     } else if word == "ltl" {
         Some(Verb::Ltl)
+    } else if word == "presburger" {
+        Some(Verb::Presburger)
+    } else if word == "check" {
+        Some(Verb::Check)
     } else {
         None
     }

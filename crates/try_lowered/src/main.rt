@@ -6,22 +6,22 @@ use anyhow::Result;
 use ms_edge::Refusal;
 use ms_list::{At, List, NoMemory, on_heap, push};
 use ms_logic::{Checked, Formula, Mode, Order, Param, Placed, Predicate, Rel, Term1};
-use ms_logic_core::{Basic, Core};
+use ms_logic_core::{Basic, Core, Lowered};
 use ms_lower::{Tables, lower, lower_call};
 use std::alloc::Global;
 
 fn main(rt: HostRuntime) -> Result<()> {
     println!(rt; "Depth")?;
-    tell(&rt, &source(rt.alloc(), 20, 1)?)?;
-    tell(&rt, &source(rt.alloc(), 1, 298)?)?;
-    tell(&rt, &source(rt.alloc(), 1, 299)?)?;
+    tell_source(&rt, 20, 1)?;
+    tell_source(&rt, 1, 298)?;
+    tell_source(&rt, 1, 299)?;
     println!(rt; "Size")?;
-    tell(&rt, &source(rt.alloc(), 999_999, 0)?)?;
-    tell(&rt, &source(rt.alloc(), 1_000_000, 0)?)?;
+    tell_source(&rt, 999_999, 0)?;
+    tell_source(&rt, 1_000_000, 0)?;
     println!(rt; "Both")?;
-    tell(&rt, &source(rt.alloc(), 4_000, 299)?)?;
+    tell_source(&rt, 4_000, 299)?;
     println!(rt; "Calls")?;
-    tell_calls(&rt, &with_less(rt.alloc())?)
+    tell_calls(&rt)
 }
 
 /// A source of so many formulas, each `true` under so many negations, at the places from 5 on.
@@ -93,26 +93,42 @@ fn negated(alloc: Global, negations: u32) -> Result<Formula, NoMemory> {
     Ok(made)
 }
 
-fn tell(rt: &HostRuntime, checked: &Checked) -> Result<()> {
-    let answer = lower(rt.alloc(), checked);
-    match &answer {
-        Ok(lowered) => println!(rt;
-            "size {}, depth {}, roots {}, globals {}",
-            lowered.size,
-            lowered.depth,
-            lowered.roots.len(),
-            lowered.orders.len()
-        )?,
-        Err(Refusal::Depth { at }) => println!(rt; "too deep at {}", at.place)?,
-        Err(Refusal::CoreSize) => println!(rt; "too large")?,
-        Err(_) => println!(rt; "another refusal")?,
+fn tell_source(rt: &HostRuntime, formulas: u32, negations: u32) -> Result<()> {
+    let checked = source(rt.alloc(), formulas, negations)?;
+    tell(rt, &lower(rt.alloc(), &checked))
+}
+
+fn tell(rt: &HostRuntime, answer: &Result<Lowered, Refusal>) -> Result<()> {
+    match answer {
+        Ok(lowered) => tell_sizes(rt, lowered),
+        Err(refusal) => tell_refusal(rt, refusal),
+    }
+}
+
+fn tell_sizes(rt: &HostRuntime, lowered: &Lowered) -> Result<()> {
+    println!(rt;
+        "size {}, depth {}, roots {}, globals {}",
+        lowered.size,
+        lowered.depth,
+        lowered.roots.len(),
+        lowered.orders.len()
+    )?;
+    Ok(())
+}
+
+fn tell_refusal(rt: &HostRuntime, refusal: &Refusal) -> Result<()> {
+    match refusal {
+        Refusal::Depth { at } => println!(rt; "too deep at {}", at.place)?,
+        Refusal::CoreSize => println!(rt; "too large")?,
+        _ => println!(rt; "another refusal")?,
     }
     Ok(())
 }
 
 /// What calls of the first predicate become, at variables of which the last is free.
-fn tell_calls(rt: &HostRuntime, checked: &Checked) -> Result<()> {
-    let tables = Tables::of(rt.alloc(), checked)?;
+fn tell_calls(rt: &HostRuntime) -> Result<()> {
+    let checked = with_less(rt.alloc())?;
+    let tables = Tables::of(rt.alloc(), &checked)?;
     tell_formula(rt, lower_call(&tables, 0, &[1, 4, 7])?.get())?;
     tell_formula(rt, lower_call(&tables, 0, &[4, 1, 7])?.get())
 }

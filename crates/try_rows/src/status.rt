@@ -28,7 +28,7 @@ pub fn status_of(text: &str) -> u64 {
 
 fn status_of_refusal(head: &str) -> u64 {
     match head.parse::<u32>() {
-        Ok(10..=44) => 2,
+        Ok(10..=46) => 2,
         Ok(50..=54) => 3,
         Ok(60 | 61) => 4,
         Ok(62) => 5,

@@ -46,3 +46,12 @@ formula_with_limit = codes "ltl" ∷ codes "f.ltl" ∷ codes "--max-nodes" ∷ c
 
 abbrev pub formula_with_out : List Text
 formula_with_out = codes "ltl" ∷ codes "f.ltl" ∷ codes "--out" ∷ codes "f.dfa" ∷ []
+
+abbrev pub one_problem : List Text
+one_problem = codes "presburger" ∷ codes "f.pa" ∷ []
+
+abbrev pub one_certificate : List Text
+one_certificate = codes "check" ∷ codes "t.dfa" ∷ []
+
+abbrev pub check_with_limit : List Text
+check_with_limit = codes "check" ∷ codes "t.dfa" ∷ codes "--max-nodes" ∷ codes "5" ∷ []
