@@ -6,7 +6,8 @@ use Rattle.ms_presburger.specs.declared.linear.Part.{Part}
 use Rattle.ms_presburger.specs.declared.linear.Part.TheVariants.{Number, Var, Times}
 use Rattle.ms_presburger.specs.Numbers.{Valuation, value_of_sum}
 use Rattle.ms_presburger.specs.Tree.{names_in_sum}
-use Rattle.ms_presburger.proofs.Choices.{Decided, Among, IsTested, pairs, among-pairs, pairs-among, pairs-tested}
+use Rattle.ms_logic_machines.proofs.Choices.{Decided, Among, pairs, among-pairs, pairs-among, pairs-tested}
+use Rattle.ms_logic_machines.specs.Machine.{IsTested}
 use Rattle.ms_presburger.proofs.Machines.{Machine, Letter, digit, shifted_in, zeros, AreSameAt}
 use Rattle.ms_presburger.proofs.Scopes.{each-left, each-right}
 use Rattle.ms_presburger.proofs.Search.{equal-or}

@@ -8,8 +8,6 @@ pub mod Search
 pub mod Totals
 pub mod Scopes
 pub mod Translated
-pub mod Choices
-pub mod Reached
 pub mod Machines
 pub mod Comparisons
 pub mod Deciding

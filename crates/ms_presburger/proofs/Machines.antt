@@ -4,8 +4,9 @@ use Rattle.std.proofs.Common.{◌≡◌, ℕ, ◌+◌, ◌*◌, ◌/◌, ◌≤�
 use Rattle.std.specs.Str.{bytes_eq}
 use Rattle.ms_logic.specs.Lists.{Each}
 use Rattle.ms_presburger.specs.Numbers.{Valuation, with_number}
-use Rattle.ms_presburger.proofs.Choices.{Decided, Among, IsTested, among-or, some-or, picked, among-picked, picked-among, sublists, picked-sublist, lists-tested, pairs, among-pairs, pairs-among, pairs-tested}
-use Rattle.ms_presburger.proofs.Reached.{Path, Reaches, reached-or}
+use Rattle.ms_logic_machines.proofs.Choices.{Decided, Among, among-or, some-or, picked, among-picked, picked-among, sublists, picked-sublist, lists-tested, pairs, among-pairs, pairs-among, pairs-tested}
+use Rattle.ms_logic_machines.specs.Machine.{IsTested}
+use Rattle.ms_logic_machines.proofs.Reached.{Path, Reaches, reached-or}
 use Rattle.ms_presburger.proofs.Scopes.{each-left, each-right}
 
 -- a digit for each name
@@ -214,13 +215,20 @@ module _ (x : List ℕ) (P : Valuation → Type 0) (m : Machine P) where
       both-zero true = refl
       both-zero false = refl
 
+  abbrev both_digits : List Bool
+  both_digits = true ∷ false ∷ []
+
+  a-digit : (d : Bool) → Among d both_digits
+  a-digit true = inl refl
+  a-digit false = inr (inl refl)
+
   abbrev Final : m.State → Type 0
   Final s = m.At s zeros
 
   abbrev Good : m.State → Type 0
   Good s = (n : ℕ) × m.At s (with_number x n zeros)
 
-  path-of : (k n : ℕ) (s : m.State) → n ≤ k → Among s m.states → m.At s (with_number x n zeros) → Reaches m.test step Final m.ends m.states s
+  path-of : (k n : ℕ) (s : m.State) → n ≤ k → Among s m.states → m.At s (with_number x n zeros) → Reaches m.test both_digits step Final m.ends m.states s
   path-of zero n s small among at =
       let is : n ≡ 0 = omega (arith, small) in
       let P : ℕ → Type 0 = λ i. m.At s (with_number x i zeros) in ([], (among, m.depends s (with_number x 0 zeros) zeros all-zeros (subst P is at)))
@@ -229,16 +237,16 @@ module _ (x : List ℕ) (P : Valuation → Type 0) (m : Machine P) where
       let P : ℕ → Type 0 = λ i. m.At s (with_number x i zeros) in
       let on = (step-with s (n / 2) d).0 (subst P (odd-half n) at) in
       let rest = path-of k (n / 2) (step s d) (omega (arith, small)) (m.next_among s (with_digit x d none) among) on in
-      (d ∷ rest.0, (among, rest.1))
+      (d ∷ rest.0, (among, a-digit d, rest.1))
 
-  number-of-path : (ds : List Bool) (s : m.State) → Path m.test step Final m.ends m.states s ds → Good s
+  number-of-path : (ds : List Bool) (s : m.State) → Path m.test both_digits step Final m.ends m.states s ds → Good s
   number-of-path [] s path = (0, m.depends s zeros (with_number x 0 zeros) (turned m.names (with_number x 0 zeros) zeros all-zeros) path.1)
   number-of-path (d ∷ ds) s path =
-      let rest = number-of-path ds (step s d) path.1 in (2 * rest.0 + digit d, (step-with s rest.0 d).1 rest.1)
+      let rest = number-of-path ds (step s d) path.2 in (2 * rest.0 + digit d, (step-with s rest.0 d).1 rest.1)
 
   good-or : (s : m.State) → Among s m.states → Decided (Good s)
   good-or s among =
-      ⊎_elim (λ found. inl (number-of-path found.0 s found.1)) (λ none. inr (λ good. none (path-of good.0 good.0 s (omega arith) among good.1))) (reached-or m.test step Final m.ends m.states s)
+      ⊎_elim (λ found. inl (number-of-path found.0 s found.1)) (λ none. inr (λ good. none (path-of good.0 good.0 s (omega arith) among good.1))) (reached-or m.test both_digits step Final m.ends m.states s)
 
   -- a list of states says that some state of it does, at some number
 

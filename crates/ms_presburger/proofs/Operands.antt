@@ -1,5 +1,5 @@
 -- The operands of a connective, and the summands of a sum, which are few.
-use Rattle.std.proofs.Common.{◌≡◌, ℕ, ◌+◌, ◌*◌, ◌^◌, ◌<◌, ◌≤◌, ◌==◌, zero, suc, Bool, true, false, cond, List, [], ◌∷◌, ◌++◌, length, get_or, map, filter, take, refl, sym, ◌∙◌, ap, subst, arith}
+use Rattle.std.proofs.Common.{◌≡◌, ℕ, ◌+◌, ◌*◌, ◌^◌, ◌<◌, ◌≤◌, ◌==◌, zero, suc, Bool, true, false, cond, List, [], ◌∷◌, length, get_or, map, filter, take, refl, sym, ◌∙◌, ap, subst, arith}
 use Rattle.std.specs.Int.{bit_at}
 use Rattle.std.specs.List.{range_with_len}
 use Rattle.std.proofs.lemmas.List.{length-append}
@@ -17,9 +17,9 @@ use Rattle.ms_presburger.specs.declared.summand.Summand.TheVariants.{Shifted}
 use Rattle.ms_presburger.specs.Sets.{Scope, set_form, set_forms, summands_of, summands_of_part}
 use Rattle.ms_presburger.specs.Tree.{Arithmetic, extent, extent_of_all}
 use Rattle.ms_presburger.specs.View.{arithmetic_of, arithmetics}
-use Rattle.ms_presburger.specs.inner.Scopes.{AreAllFactorsSmall, AreFactorsSmall, IsFactorSmall, bound_in, next_of, scope_of, wrapped}
+use Rattle.ms_presburger.specs.inner.Scopes.{AreAllFactorsSmall, AreFactorsSmall, IsFactorSmall, bound_in, wrapped}
 use Rattle.ms_presburger.proofs.Bits.{bits-whole}
-use Rattle.ms_presburger.proofs.Lookups.{bound_in-append, over-wrapped}
+use Rattle.ms_presburger.proofs.Lookups.{over-wrapped}
 use Rattle.ms_presburger.proofs.Views.{arithmetic_of-And, arithmetic_of-Or, arithmetic_of-Bind}
 
 -- each is translated by itself
@@ -38,18 +38,10 @@ some-translated operands f scope x is =
     ap sets.disjunction (forms-translated operands scope x) ∙ ap (λ (g : Arithmetic). set_form g scope x) (sym (ap arithmetic_of is ∙ arithmetic_of-Or operands))
 
 -- what is bound stands in the scope of the names that bind it
-pub bound-translated : (q : Quant) (list : List (List ℕ)) (body f : Linear) (names bound inner : List (List ℕ)) → f ≡ Bind q list body → inner ≡ bound ++ list →
-    wrapped q (length list) (next_of names bound) (set_form (arithmetic_of body) (scope_of names inner) (next_of names inner)) ≡ set_form (arithmetic_of f) (scope_of names bound) (next_of names bound)
-bound-translated q list body f names bound inner is extends =
-    let g = arithmetic_of body in
-    let x = next_of names bound in
-    let scope = scope_of names bound in
-    let there : bound_in x scope list ≡ scope_of names inner = sym (ap (scope_of names) extends ∙ bound_in-append (length names) (λ y. scope_of names [] y) bound list) in
-    let next : x + 2 * length list ≡ next_of names inner = omega (arith, ap (λ (l : List (List ℕ)). length l) extends, length-append bound list) in
-    ap (λ n. wrapped q (length list) x (set_form g (scope_of names inner) n)) (sym next)
-    ∙ (ap (λ (s : Scope). wrapped q (length list) x (set_form g s (x + 2 * length list))) (sym there)
-    ∙ (over-wrapped q list (λ s y. set_form g s y) scope x
-    ∙ ap (λ (h : Arithmetic). set_form h scope x) (sym (ap arithmetic_of is ∙ arithmetic_of-Bind q list body))))
+pub bound-translated : (q : Quant) (list : List (List ℕ)) (body f : Linear) (scope : Scope) (x : ℕ) → f ≡ Bind q list body →
+    wrapped q (length list) x (set_form (arithmetic_of body) (bound_in x scope list) (x + 2 * length list)) ≡ set_form (arithmetic_of f) scope x
+bound-translated q list body f scope x is =
+    over-wrapped q list (λ s y. set_form (arithmetic_of body) s y) scope x ∙ ap (λ (h : Arithmetic). set_form h scope x) (sym (ap arithmetic_of is ∙ arithmetic_of-Bind q list body))
 
 -- none has more parts than the list
 pub extent-operand : (operands : List Linear) (i : ℕ) (f : Linear) → i < length operands → f ≡ get_or operands i f → extent (arithmetic_of f) ≤ extent_of_all (arithmetics (map arithmetic_of operands))

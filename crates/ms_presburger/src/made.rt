@@ -1,4 +1,4 @@
-ghost use Rattle.std.specs.Prelude.{◌≡◌, Ok, IfOk};
+ghost use Rattle.std.specs.Prelude.{◌≡◌, Ok, IfOk, IsOk, OnOk};
 
 use ms_list::{Boxed, NoMemory, on_heap};
 use std::alloc::Global;
@@ -23,4 +23,16 @@ pub(crate) fn both<A: Drop, B: Drop>(
 {
     let one = one?;
     Ok((one, other?))
+}
+
+/// What was made, where what came behind it was done.
+pub(crate) fn and_then<T: Drop>(
+    made: Result<T, NoMemory>,
+    done: Result<(), NoMemory>,
+) -> Result<T, NoMemory>
+    ensures made { IfOk result (λ value. made ≡ Ok value) }
+    ensures done { OnOk result (IsOk done) }
+{
+    done?;
+    made
 }

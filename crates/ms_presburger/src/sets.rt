@@ -18,6 +18,7 @@ ghost use Rattle.std.specs.Prelude.{◌≡◌, ℕ, ◌+◌, ◌*◌, ◌≤◌,
 use crate::formulas::formula_at;
 use crate::linear::Problem;
 use crate::made::both;
+use crate::scope::free;
 use ms_list::{At, List, Name, NoMemory, push};
 use ms_logic::{Checked, Formula, Global as Variable, Mode, Order, Placed};
 use std::alloc::Global;
@@ -82,8 +83,8 @@ fn set_source(alloc: Global, problem: &Problem) -> Result<Checked, NoMemory>
     ensures small { OnOk result (AreFactorsSmall (arithmetic_of problem.now.formula)) }
 {
     let names = problem.names.slice();
-    let bound = List::new(alloc);
-    let formula = formula_at(alloc, names, bound.slice(), &problem.formula);
+    let mut bindings = free(alloc, names)?;
+    let formula = formula_at(alloc, &mut bindings, names.len() as u32, &problem.formula);
     let formulas = declared(alloc, formula);
     let (globals, formulas) = both(variables(alloc, names), formulas)?;
     Ok(Checked {

@@ -1,16 +1,16 @@
 //! The summands of a sum.
 
 ghost use Rattle.ms_logic.specs.Lists.{Each};
-ghost use Rattle.ms_presburger.specs.Sets.{summands_of, summands_of_part};
+ghost use Rattle.ms_presburger.specs.Sets.{Scope, summands_of, summands_of_part};
 ghost use Rattle.ms_presburger.specs.declared.summand.Summand.TheVariants.{Shifted as Moved};
-ghost use Rattle.ms_presburger.specs.inner.Scopes.{IsFactorSmall, next_of, scope_of};
+ghost use Rattle.ms_presburger.specs.inner.Scopes.{IsAsIn, IsFactorSmall};
 ghost use Rattle.ms_logic.specs.FiniteSet.{one_bits};
-ghost use Rattle.std.specs.Prelude.{◌≡◌, ◌+◌, ◌*◌, ◌<◌, ◌≤◌, ◌^◌, ◌++◌, length, map, IfOk, OnOk};
+ghost use Rattle.std.specs.Prelude.{◌≡◌, ◌++◌, map, IfOk, OnOk};
 
 use crate::linear::Part;
-use crate::scope::variable_of;
+use crate::scope::{Bindings, variable_of};
 use crate::summand::Summand;
-use ms_list::{List, Name, NoMemory, push};
+use ms_list::{List, NoMemory, push};
 use std::alloc::Global;
 
 /// The variable moved up by each one bit of its factor, appended.
@@ -26,14 +26,8 @@ fn append_bits(terms: &mut List<Summand>, x: u32, factor: u64) -> Result<(), NoM
 }
 
 /// The summands of a part, appended.
-fn append_part(
-    terms: &mut List<Summand>,
-    names: &[Name],
-    bound: &[Name],
-    part: &Part,
-) -> Result<(), NoMemory>
-    requires { next_of names.now bound.now < 2 ^ 32 }
-    ensures made { OnOk result (terms.new ≡ terms.old ++ summands_of_part (scope_of names.now bound.now) part.now) }
+fn append_part(terms: &mut List<Summand>, bindings: &Bindings, part: &Part) -> Result<(), NoMemory>
+    ensures made { OnOk result ((scope : Scope) → IsAsIn scope bindings.now → terms.new ≡ terms.old ++ summands_of_part scope part.now) }
     ensures small { IsFactorSmall part.now }
 {
     match part {
@@ -43,25 +37,23 @@ fn append_part(
             }
             Ok(())
         }
-        Part::Var(name) => push(terms, Summand::Shifted(variable_of(names, bound, name), 0)),
-        Part::Times(n, name) => append_bits(terms, variable_of(names, bound, name), *n),
+        Part::Var(name) => push(terms, Summand::Shifted(variable_of(bindings, name), 0)),
+        Part::Times(n, name) => append_bits(terms, variable_of(bindings, name), *n),
     }
 }
 
 /// The summands of a sum.
 pub(crate) fn summands(
     alloc: Global,
-    names: &[Name],
-    bound: &[Name],
+    bindings: &Bindings,
     parts: &[Part],
 ) -> Result<List<Summand>, NoMemory>
-    requires { next_of names.now bound.now < 2 ^ 32 }
-    ensures made { IfOk result (λ made. made ≡ summands_of (scope_of names.now bound.now) parts.now) }
+    ensures made { IfOk result (λ made. (scope : Scope) → IsAsIn scope bindings.now → made ≡ summands_of scope parts.now) }
     ensures small { OnOk result (Each IsFactorSmall parts.now) }
 {
     let mut terms = List::new(alloc);
     for part in parts {
-        append_part(&mut terms, names, bound, part)?;
+        append_part(&mut terms, bindings, part)?;
     }
     Ok(terms)
 }

@@ -1,5 +1,7 @@
--- The variables of the names in scope, as code keeps them: the free names, and those bound around, the innermost last.
-use Rattle.std.specs.Prelude.{ℕ, zero, suc, ◌+◌, ◌*◌, ◌<◌, ◌^◌, List, [], ◌∷◌, length}
+-- The variables of the names in scope, as code keeps them: in a table, by the names. Only the contracts and proofs inside this crate
+-- cite it.
+use Rattle.std.specs.Prelude.{◌≡◌, ℕ, zero, suc, ◌+◌, ◌<◌, ◌^◌, List, [], ◌∷◌, unwrap_or}
+use Rattle.indexmap.specs.IndexMap.{get_by_text}
 use Rattle.ms_logic.specs.declared.mode.Order.TheVariants.{Two}
 use Rattle.ms_logic.specs.declared.mode.Quant.{Quant}
 use Rattle.ms_logic.specs.Lists.{Each}
@@ -7,8 +9,8 @@ use Rattle.ms_logic.specs.Tree.{Form, unrestricted}
 use Rattle.ms_logic.specs.Tree as sets
 use Rattle.ms_presburger.specs.declared.linear.Part.{Part}
 use Rattle.ms_presburger.specs.declared.linear.Part.TheVariants.{Number, Var, Times}
+use Rattle.ms_presburger.specs.declared.scope.Bindings.{Bindings}
 use Rattle.ms_presburger.specs.Sets.{Scope, with_variable}
-use Rattle.ms_presburger.specs.Source.{place_of}
 use Rattle.ms_presburger.specs.Tree.{Arithmetic, truth, falsity, comparison, brackets, negation, conjunction, disjunction, implication, equivalence, quantified, Arithmetics, no_arithmetics, more_arithmetics}
 
 -- with these names bound from x on, one after the other
@@ -16,12 +18,18 @@ abbrev pub bound_in : ℕ → Scope → List (List ℕ) → Scope
 bound_in x scope [] = scope
 bound_in x scope (name ∷ names) = bound_in (x + 2) (with_variable name x scope) names
 
-abbrev pub scope_of : List (List ℕ) → List (List ℕ) → Scope
-scope_of names bound = bound_in (length names) (place_of names) bound
+-- the variables that they have before each is bound
+abbrev pub hidden_by : ℕ → Scope → List (List ℕ) → List ℕ
+hidden_by x scope [] = []
+hidden_by x scope (name ∷ names) = scope name ∷ hidden_by (x + 2) (with_variable name x scope) names
 
--- the next variable for a set
-abbrev pub next_of : List (List ℕ) → List (List ℕ) → ℕ
-next_of names bound = length names + 2 * length bound
+-- the variable of a name in the table
+abbrev pub variable_in : Bindings → Scope
+variable_in bindings = λ name. unwrap_or (get_by_text bindings.variables name) bindings.others
+
+-- each name has the variable in the table that it has in the scope
+abbrev pub IsAsIn : Scope → Bindings → Type 0
+IsAsIn scope bindings = (name : List ℕ) → variable_in bindings name ≡ scope name
 
 -- a formula with as many sets bound around it, from x on
 abbrev pub wrapped : Quant → ℕ → ℕ → Form → Form
