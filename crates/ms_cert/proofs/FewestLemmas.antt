@@ -1,5 +1,5 @@
 -- A certified automaton has fewest states: words to its states lead to different states of each automaton with its words (Myhill; Nerode).
-use Rattle.std.proofs.Common.{◌≡◌, ℕ, zero, suc, ◌+◌, ◌<◌, ◌≤◌, Bool, true, false, not, cond, List, [], ◌∷◌, ◌++◌, filter, length, slice_get, Option, Some, None, refl, sym, ap, subst, ◌∙◌, arith}
+use Rattle.std.proofs.Common.{◌≡◌, ℕ, zero, suc, ◌+◌, ◌<◌, ◌≤◌, Bool, true, false, not, List, [], ◌∷◌, ◌++◌, filter, length, slice_get, Option, Some, None, refl, sym, ap, subst, ◌∙◌, arith}
 use Rattle.std.specs.List.{AllByRecursion, range_with_len}
 use Rattle.std.specs.Option.{option_map_or}
 use Rattle.std.proofs.lemmas.Option.{none-some, same_Some}
@@ -15,27 +15,9 @@ use Rattle.ms_logic_words.specs.Content.{AreLetters, Content, IsContent, IsWordO
 use Rattle.ms_cert.specs.Certificate.{AreWordsTo, IsCertified, IsLineOver, Separates, Tree, branch, ends_in, is_sign, leaf, lines_of}
 use Rattle.ms_cert.specs.Laws.{HaveSameWords}
 use Rattle.ms_cert.specs.declared.cert.Cert.{Cert}
+use Rattle.ms_cert.specs.inner.Partition.{IsIn}
 use Rattle.ms_cert.proofs.ContentLemmas.{after-state, first-state, length-states}
-
--- the state is in the list
-abbrev IsIn : List ℕ → ℕ → Type 0
-IsIn states state = (place : ℕ) × (slice_get states place ≡ Some state)
-
-kept-first : (kept : Bool) (s : ℕ) (states : List ℕ) → kept ≡ true → IsIn (cond kept (s ∷ states) states) s
-kept-first true s states is = (0, refl)
-kept-first false s states is = cc
-
-kept-later : (kept : Bool) (s state : ℕ) (states : List ℕ) → IsIn states state → IsIn (cond kept (s ∷ states) states) state
-kept-later true s state states there = (suc there.0, there.1)
-kept-later false s state states there = there
-
--- it is kept where the test is passed
-kept : (test : ℕ → Bool) (states : List ℕ) (state place : ℕ) → slice_get states place ≡ Some state → test state ≡ true → IsIn (filter test states) state
-kept test [] state place held passes = absurd (none-some state held)
-kept test (s ∷ states) state zero held passes =
-    let same = same_Some s state held in
-    subst (λ (n : ℕ). IsIn (cond (test s) (s ∷ filter test states) (filter test states)) n) same (kept-first (test s) s (filter test states) (ap test same ∙ passes))
-kept test (s ∷ states) state (suc place) held passes = kept-later (test s) s state (filter test states) (kept test states state place held passes)
+use Rattle.ms_cert.proofs.MemberLemmas.{kept}
 
 only-one : (own state place : ℕ) → slice_get (own ∷ []) place ≡ Some state → own ≡ state
 only-one own state zero held = same_Some own state held

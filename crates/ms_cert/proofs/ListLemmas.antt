@@ -1,7 +1,7 @@
 -- The item of a turn of a loop, and what is left of the list there.
 use Rattle.std.proofs.Common.{◌≡◌, ℕ, zero, suc, ◌+◌, ◌<◌, ◌≤◌, List, [], ◌∷◌, ◌++◌, drop, drop-cons, length, slice_get, slice_index_or, Some, refl, sym, ap, subst, ◌∙◌, arith, ⊎_elim}
 use Rattle.std.proofs.lemmas.Bool.{cases_lt}
-use Rattle.std.proofs.lemmas.Option.{same_Some}
+use Rattle.std.proofs.lemmas.Option.{none-some, same_Some}
 use Rattle.std.specs.List.{AllByRecursion, range_with_len}
 use Rattle.ms_logic.specs.FiniteSet.{numbers_below}
 
@@ -50,3 +50,9 @@ held-more P xs i x within is so_far own k y less held = ⊎_elim
     let here : k ≡ i = omega arith in
     subst P (same_Some x y (sym (get-item xs i x within is) ∙ ap (slice_get xs) (sym here) ∙ held)) own)
     (cases_lt k i)
+
+-- what holds of all items holds of each
+pub all-held : {X : Type 0} (P : X → Type 0) (xs : List X) → AllByRecursion P xs → (i : ℕ) (x : X) → slice_get xs i ≡ Some x → P x
+all-held P [] all i x held = absurd (none-some x held)
+all-held P (y ∷ xs) all zero x held = subst P (same_Some y x held) all.0
+all-held P (y ∷ xs) all (suc i) x held = all-held P xs all.1 i x held

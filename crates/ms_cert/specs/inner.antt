@@ -1,7 +1,12 @@
+pub mod Difference
 pub mod Examples
+pub mod Growing
+pub mod Images
 pub mod Lengths
 pub mod Levels
+pub mod Partition
 pub mod Parts
 pub mod Reading
+pub mod Refinement
 pub mod Separation
 pub mod Slots

@@ -36,7 +36,7 @@ struct Source<'a> {
     word: Word,
 }
 
-fn copy_bits(alloc: Global, bits: &[bool]) -> Result<List<bool>, NoMemory>
+pub(crate) fn copy_bits(alloc: Global, bits: &[bool]) -> Result<List<bool>, NoMemory>
     ensures { IfOk result (λ made. made ≡ bits.now) }
 {
     match Vec::from_slice(alloc, bits) {
@@ -45,7 +45,10 @@ fn copy_bits(alloc: Global, bits: &[bool]) -> Result<List<bool>, NoMemory>
     }
 }
 
-fn copy_letters(alloc: Global, letters: &[List<bool>]) -> Result<List<List<bool>>, NoMemory>
+pub(crate) fn copy_letters(
+    alloc: Global,
+    letters: &[List<bool>],
+) -> Result<List<List<bool>>, NoMemory>
     ensures { IfOk result (λ made. made ≡ letters.now) }
 {
     let mut made = List::new(alloc);
@@ -78,7 +81,12 @@ fn with_bit(alloc: Global, bits: &[bool], place: usize, bit: bool) -> Result<Lis
 }
 
 /// The bits of the variables that have a value in this part of a word.
-fn gather(alloc: Global, plain: &Plain, part: Part, bits: &[bool]) -> Result<List<bool>, NoMemory>
+pub(crate) fn gather(
+    alloc: Global,
+    plain: &Plain,
+    part: Part,
+    bits: &[bool],
+) -> Result<List<bool>, NoMemory>
     requires { length bits.now ≡ length plain.now.variables }
     ensures { IfOk result (λ made. made ≡ gathered (has_value part) 0 (content_of_file plain.now).variables (bits_at bits.now)) }
 {
@@ -198,7 +206,7 @@ fn walk(
 }
 
 /// So many bits 0.
-fn zeros(alloc: Global, count: usize) -> Result<Vec<bool>, NoMemory>
+pub(crate) fn zeros(alloc: Global, count: usize) -> Result<Vec<bool>, NoMemory>
     ensures { IfOk result (λ made. made.items ≡ replicate count false) }
 {
     match vec![in alloc; false; count] {

@@ -2,9 +2,14 @@
 #![tactic(auto)]
 
 mod cert;
+mod certifying;
 mod checking;
+mod difference;
 mod examples;
 mod field;
+mod growing;
+mod images;
+mod laid_out;
 mod laws;
 mod layout;
 mod lengths;
@@ -12,7 +17,9 @@ mod letters;
 mod levels;
 mod line;
 mod lines;
+mod partition;
 mod reading;
+mod refinement;
 mod running;
 mod separation;
 mod shortest;
@@ -24,6 +31,7 @@ mod words;
 mod writing;
 
 pub use cert::{Cert, Proven, TreeLine};
+pub use certifying::certificate;
 pub use checking::checked;
 pub use examples::{worked_certificates, worked_texts};
 pub use laws::laws_of_certificates;

@@ -31,13 +31,13 @@ fn passes(plain: &Plain, slots: &[usize], line: &TreeLine, state: u32) -> bool
 
 /// The two sides of a line.
 #[derive(Drop)]
-struct Sides {
-    first: List<u32>,
-    second: List<u32>,
+pub(crate) struct Sides {
+    pub first: List<u32>,
+    pub second: List<u32>,
 }
 
 /// The states on each side of a line.
-fn split(
+pub(crate) fn split(
     alloc: Global,
     plain: &Plain,
     slots: &[usize],
@@ -98,7 +98,7 @@ fn take(
 }
 
 /// Lets a list wait.
-fn wait(waiting: &mut Vec<List<u32>>, states: List<u32>) -> Result<(), NoMemory>
+pub(crate) fn wait(waiting: &mut Vec<List<u32>>, states: List<u32>) -> Result<(), NoMemory>
     ensures { OnOk result (waiting.new.items ≡ waiting.old.items ++ states ∷ []) }
 {
     match waiting.push(states) {
@@ -108,7 +108,7 @@ fn wait(waiting: &mut Vec<List<u32>>, states: List<u32>) -> Result<(), NoMemory>
 }
 
 /// All states.
-fn all_states(alloc: Global, count: u32) -> Result<List<u32>, NoMemory>
+pub(crate) fn all_states(alloc: Global, count: u32) -> Result<List<u32>, NoMemory>
     ensures { IfOk result (λ states. states ≡ numbers_below count) }
 {
     let mut states = List::new(alloc);

@@ -1,0 +1,122 @@
+-- From which classes others were split off.
+use Rattle.std.proofs.Common.{◌≡◌, ◌≢◌, ℕ, zero, suc, ◌<◌, ◌≤◌, List, [], ◌∷◌, ◌++◌, length, max, slice_get, Some, refl, sym, ap, subst, ◌∙◌, arith, inl, inr}
+use Rattle.std.proofs.lemmas.Option.{same_Some}
+use Rattle.ms_arena.proofs.Lists.{slice_get-append_left}
+use Rattle.ms_cert.specs.inner.Partition.{AreEarlier, IsParting, StemsFrom, StemsWithin}
+
+-- a class up to the bound stems from itself
+pub stems-here : (parents : List ℕ) (bound class : ℕ) → class ≤ bound → StemsFrom parents bound class class
+stems-here parents bound class low = (0, (refl, low))
+
+-- and from no other
+pub stems-low : (parents : List ℕ) (bound class own : ℕ) → class ≤ bound → StemsFrom parents bound class own → class ≡ own
+stems-low parents bound class own low stems = by stems.0 stems.1
+  where
+    by : (steps : ℕ) → StemsWithin steps parents bound class own → class ≡ own
+    by zero is = is.0
+    by (suc steps) (inl is) = is.0
+    by (suc steps) (inr up) = let high = up.0 in absurd (omega (arith, high, low))
+
+-- one above it stems from what its parent stems from
+pub stems-parent : (parents : List ℕ) (bound class parent own : ℕ) → bound < class → slice_get parents class ≡ Some parent → StemsFrom parents bound class own → StemsFrom parents bound parent own
+stems-parent parents bound class parent own high held stems = by stems.0 stems.1
+  where
+    by : (steps : ℕ) → StemsWithin steps parents bound class own → StemsFrom parents bound parent own
+    by zero is = let low = is.1 in absurd (omega (arith, low, high))
+    by (suc steps) (inl is) = let low = is.1 in absurd (omega (arith, low, high))
+    by (suc steps) (inr up) = (steps, subst (λ (p : ℕ). StemsWithin steps parents bound p own) (same_Some up.1.0 parent (sym up.1.1 ∙ held)) up.1.2)
+
+-- the bound may be lowered as far as the class from which another stems
+pub stems-lower : (parents : List ℕ) (bound less class own : ℕ) → own ≤ less → less ≤ bound → StemsFrom parents bound class own → StemsFrom parents less class own
+stems-lower parents bound less class own low lower stems = (stems.0, by stems.0 class stems.1)
+  where
+    by : (steps class : ℕ) → StemsWithin steps parents bound class own → StemsWithin steps parents less class own
+    by zero class is = let same = is.0 in (same, omega (arith, same, low))
+    by (suc steps) class (inl is) = let same = is.0 in inl (same, omega (arith, same, low))
+    by (suc steps) class (inr up) = let high = up.0 in inr (omega (arith, high, lower), (up.1.0, up.1.1, by steps up.1.0 up.1.2))
+
+-- and further to its parent
+pub stems-further : (parents : List ℕ) (bound less class own parent : ℕ) → less < own → less ≤ bound → slice_get parents own ≡ Some parent → parent ≤ less → StemsFrom parents bound class own → StemsFrom parents less class parent
+stems-further parents bound less class own parent above lower held low stems = (suc stems.0, by stems.0 class stems.1)
+  where
+    last : (steps class : ℕ) → class ≡ own → StemsWithin (suc steps) parents less class parent
+    last zero class same = inr (omega (arith, same, above), (parent, ap (slice_get parents) same ∙ held, (refl, low)))
+    last (suc steps) class same = inr (omega (arith, same, above), (parent, ap (slice_get parents) same ∙ held, inl (refl, low)))
+
+    by : (steps class : ℕ) → StemsWithin steps parents bound class own → StemsWithin (suc steps) parents less class parent
+    by zero class is = last zero class is.0
+    by (suc steps) class (inl is) = last (suc steps) class is.0
+    by (suc steps) class (inr up) = let high = up.0 in inr (omega (arith, high, lower), (up.1.0, up.1.1, by steps up.1.0 up.1.2))
+
+-- one class more changes nothing for the others
+pub stems-old : (parents : List ℕ) (more bound class own : ℕ) → AreEarlier parents → class < length parents → StemsFrom (parents ++ more ∷ []) bound class own → StemsFrom parents bound class own
+stems-old parents more bound class own earlier within stems = (stems.0, by stems.0 class within stems.1)
+  where
+    by : (steps class : ℕ) → class < length parents → StemsWithin steps (parents ++ more ∷ []) bound class own → StemsWithin steps parents bound class own
+    by zero class less is = is
+    by (suc steps) class less (inl is) = inl is
+    by (suc steps) class less (inr up) =
+        let held = sym (slice_get-append_left parents (more ∷ []) class less) ∙ up.1.1 in
+        let high = up.0 in
+        let before = earlier class up.1.0 held (omega (arith, high)) in
+        inr (up.0, (up.1.0, held, by steps up.1.0 (omega (arith, before, less)) up.1.2))
+
+-- the way from two classes to where their states parted: the classes in which these were before those above were split off
+pub record AreOnWay (parents : List ℕ) (one other first second : ℕ) : Type 0 where
+  pub one_within : first < length parents
+  pub other_within : second < length parents
+  pub differ : one ≢ other → first ≢ second
+  pub one_stems : StemsFrom parents (max first second) one first
+  pub other_stems : StemsFrom parents (max first second) other second
+
+pub way-begins : (parents : List ℕ) (one other : ℕ) → one < length parents → other < length parents → AreOnWay parents one other one other
+way-begins parents one other within also = record {
+  one_within = within;
+  other_within = also;
+  differ = λ differ. differ;
+  one_stems = stems-here parents (max one other) one (omega arith);
+  other_stems = stems-here parents (max one other) other (omega arith);
+}
+
+module _ (parents : List ℕ) (one other first second : ℕ) (earlier : AreEarlier parents) (way : AreOnWay parents one other first second) (parent : ℕ) where
+  -- the later of both classes goes on to its parent
+  pub way-first : second < first → slice_get parents first ≡ Some parent → parent ≢ second → AreOnWay parents one other parent second
+  way-first above held differs =
+      let within = way.one_within in
+      let before : parent < first = earlier first parent held (omega (arith, above)) in record {
+        one_within = omega (arith, before, within);
+        other_within = way.other_within;
+        differ = λ _. differs;
+        one_stems = stems-further parents (max first second) (max parent second) one first parent (omega (arith, before, above)) (omega (arith, before)) held (omega arith) way.one_stems;
+        other_stems = stems-lower parents (max first second) (max parent second) other second (omega arith) (omega (arith, before)) way.other_stems;
+      }
+
+  pub way-second : first < second → slice_get parents second ≡ Some parent → parent ≢ first → AreOnWay parents one other first parent
+  way-second above held differs =
+      let within = way.other_within in
+      let before : parent < second = earlier second parent held (omega (arith, above)) in record {
+        one_within = way.one_within;
+        other_within = omega (arith, before, within);
+        differ = λ _ same. differs (sym same);
+        one_stems = stems-lower parents (max first second) (max first parent) one first (omega arith) (omega (arith, before)) way.one_stems;
+        other_stems = stems-further parents (max first second) (max first parent) other second parent (omega (arith, before, above)) (omega (arith, before)) held (omega arith) way.other_stems;
+      }
+
+  -- or has parted from the other one
+  pub part-first : second < first → slice_get parents first ≡ Some parent → parent ≡ second → IsParting parents one other first
+  part-first above held same =
+      let top : max first second ≡ first = omega (arith, above) in record {
+        some = omega (arith, above);
+        parent = second;
+        there = held ∙ ap Some same;
+        sides = inl (subst (λ (bound : ℕ). StemsFrom parents bound one first) top way.one_stems, subst (λ (bound : ℕ). StemsFrom parents bound other second) top way.other_stems);
+      }
+
+  pub part-second : first < second → slice_get parents second ≡ Some parent → parent ≡ first → IsParting parents one other second
+  part-second above held same =
+      let top : max first second ≡ second = omega (arith, above) in record {
+        some = omega (arith, above);
+        parent = first;
+        there = held ∙ ap Some same;
+        sides = inr (subst (λ (bound : ℕ). StemsFrom parents bound other second) top way.other_stems, subst (λ (bound : ℕ). StemsFrom parents bound one first) top way.one_stems);
+      }

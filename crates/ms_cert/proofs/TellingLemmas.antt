@@ -1,0 +1,38 @@
+-- What tells two states apart.
+use Rattle.std.proofs.Common.{◌≡◌, ◌≢◌, ℕ, Bool, true, false, IfSome, List, [], ◌∷◌, slice_get, slice_index, Option, Some, None, sym, ap, subst, ◌∙◌}
+use Rattle.std.specs.Option.{option_map_or}
+use Rattle.ms_dfa.specs.declared.plain.FileSign.{FileSign}
+use Rattle.ms_logic_words.specs.Content.{Content, next_state, sign_at}
+use Rattle.ms_cert.specs.Certificate.{is_sign}
+use Rattle.ms_cert.specs.declared.partition.Splitter.{Splitter}
+use Rattle.ms_cert.specs.inner.Partition.{Classes, IsParting, IsPartition, is_split_off}
+use Rattle.ms_cert.specs.inner.Refinement.{LeadsApart, Refines, TellsApart}
+use Rattle.ms_cert.proofs.PartitionLemmas.{parting-tells}
+use Rattle.ms_cert.proofs.SignsLemmas.{is_sign-own, is_sign-true}
+
+-- what follows where something is found
+pub some-weaker : {X : Type 0} (found : Option X) (P Q : X → Type 0) → ((x : X) → P x → Q x) → IfSome found P → IfSome found Q
+some-weaker None P Q follows is = is
+some-weaker (Some x) P Q follows is = follows x is
+
+module _ (content : Content FileSign) (one other : ℕ) where
+  -- different signs
+  pub tells-signs : (own also : FileSign) → sign_at content one ≡ Some own → sign_at content other ≡ Some also → is_sign own also ≡ false → TellsApart content one other (record { sign = own; letters = [] })
+  tells-signs own also is_own is_also differ = λ same.
+      let test = λ (found : Option FileSign). option_map_or (λ s. is_sign s own) found false in
+      let yes : is_sign also own ≡ true = sym (ap test is_also) ∙ sym same ∙ ap test is_own ∙ is_sign-own own in
+      let equal : also ≡ own = is_sign-true also own yes in
+      let clash : true ≡ false = sym (is_sign-own own) ∙ ap (is_sign own) (sym equal) ∙ differ in
+      cc
+
+  -- a letter that leads to different classes, and behind it what told these apart
+  pub tells-behind : (parts : Classes) (is : IsPartition content parts) (old : List ℕ) (letter : List Bool) (first second first_class second_class split : ℕ) (found : Splitter) (letters : List (List Bool)) → Refines parts.classes old
+      → LeadsApart content old one other letter → first ≡ next_state content one letter → second ≡ next_state content other letter → slice_get parts.classes first ≡ Some first_class → slice_get parts.classes second ≡ Some second_class
+      → (first_class ≢ second_class → IsParting parts.parents first_class second_class split) → slice_get parts.splitters split ≡ Some found → letters ≡ letter ∷ found.letters
+      → TellsApart content one other (record { sign = found.sign; letters = letters })
+  tells-behind parts is old letter first second first_class second_class split found letters refines apart is_first is_second held_first held_second parting held is_letters =
+      let differ : first_class ≢ second_class = λ same. apart (ap (slice_index old) (sym is_first) ∙ refines first second second_class (held_first ∙ ap Some same) held_second ∙ ap (slice_index old) is_second) in
+      let tells = parting-tells content parts is first second first_class second_class split found held_first held_second (parting differ) held in
+      let next : is_split_off content found (next_state content one letter) ≢ is_split_off content found (next_state content other letter) =
+      λ same. tells (ap (is_split_off content found) is_first ∙ same ∙ ap (is_split_off content found) (sym is_second)) in
+      subst (λ (l : List (List Bool)). TellsApart content one other (record { sign = found.sign; letters = l })) (sym is_letters) next

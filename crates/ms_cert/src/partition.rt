@@ -1,0 +1,180 @@
+ghost use Rattle.std.specs.Prelude.{◌≡◌, ◌≢◌, ◌<◌, ◌^◌, ◌∷◌, ◌++◌, [], ℕ, filter, length, not, slice_set, IfOk, OnOk};
+ghost use Rattle.ms_dfa.specs.Files.{content_of_file};
+ghost use Rattle.ms_logic_words.specs.Content.{IsContent};
+ghost use Rattle.ms_cert.specs.inner.Partition.{AreEarlier, IsIn, IsParting, IsPartition, assigned, classes_of, is_split_off, one_class, with_sides, with_split};
+ghost use Rattle.ms_cert.specs.inner.Separation.{AreStates};
+ghost use Rattle.ms_cert.specs.inner.Slots.{slots_of};
+
+use crate::cert::TreeLine;
+use crate::laid_out::LaidOut;
+use crate::levels::copy_letters;
+use crate::separation::{Sides, all_states, split};
+use ms_dfa::{FileSign, Plain};
+use ms_list::{List, NoMemory, push};
+use std::alloc::Global;
+
+/// A sign, and letters that end in it from some states and not from others.
+#[derive(Drop)]
+pub(crate) struct Splitter {
+    pub sign: FileSign,
+    pub letters: List<List<bool>>,
+}
+
+/// Classes of states, each but the first of which was split off from an earlier one.
+pub(crate) struct Partition {
+    /// For each state its class.
+    pub classes: Vec<u32>,
+    /// For each class its states.
+    pub members: Vec<List<u32>>,
+    /// For each class the one from which it was split off.
+    pub parents: Vec<usize>,
+    /// For each class what it was split off by: from its states the letters end in the sign.
+    pub splitters: Vec<Splitter>,
+}
+
+// Written out, so that a function that lets one go at each of its exits is proved at the cost of a call.
+impl Drop for Partition {
+    fn drop(self) {
+        let Partition {
+            classes: _,
+            members: _,
+            parents: _,
+            splitters: _,
+        } = self;
+    }
+}
+
+/// Appends an item, which is let go where memory is refused.
+fn append<T: Drop>(items: &mut Vec<T>, item: T) -> Result<(), NoMemory>
+    ensures { OnOk result (items.new.items ≡ items.old.items ++ item ∷ []) }
+{
+    match items.push(item) {
+        Ok(()) => Ok(()),
+        Err(_) => Err(NoMemory),
+    }
+}
+
+/// All states in one class, which was split off by nothing.
+pub(crate) fn one_class(alloc: Global, plain: &Plain) -> Result<Partition, NoMemory>
+    requires { length plain.now.states < 2 ^ 32 }
+    ensures { IfOk result (λ made. classes_of made ≡ one_class (content_of_file plain.now)) }
+{
+    let count = plain.states.len();
+    let Ok(classes) = vec![in alloc; 0u32; count] else {
+        return Err(NoMemory);
+    };
+    let mut members = Vec::new(alloc);
+    append(&mut members, all_states(alloc, count as u32)?)?;
+    let mut parents = Vec::new(alloc);
+    append(&mut parents, 0)?;
+    let mut splitters = Vec::new(alloc);
+    let nothing = Splitter {
+        sign: FileSign::Plus,
+        letters: List::new(alloc),
+    };
+    append(&mut splitters, nothing)?;
+    Ok(Partition {
+        classes,
+        members,
+        parents,
+        splitters,
+    })
+}
+
+/// The states are in the class from now on.
+fn assign(classes: &mut Vec<u32>, states: &[u32], class: u32)
+    requires { (state : ℕ) → IsIn states.now state → state < length classes.old.items }
+    ensures { classes.new.items ≡ assigned classes.old.items states.now class }
+{
+    for state in states {
+        classes[*state as usize] = class;
+    }
+}
+
+/// The list of a class is another one from now on.
+fn replace(members: &mut Vec<List<u32>>, class: usize, states: List<u32>)
+    requires { class < length members.old.items }
+    ensures { members.new.items ≡ slice_set members.old.items class states }
+{
+    members[class] = states;
+}
+
+/// The states from which the letters of a splitter end in its sign, and the others.
+fn sides_by(file: &LaidOut, splitter: &Splitter, states: &[u32]) -> Result<Sides, NoMemory>
+    requires content { IsContent (content_of_file file.now.plain.now) }
+    requires slots { file.now.slots.now ≡ slots_of file.now.plain.now }
+    requires states { AreStates file.now.plain.now states.now }
+    ensures first { IfOk result (λ sides. sides.first ≡ filter (is_split_off (content_of_file file.now.plain.now) splitter.now) states.now) }
+    ensures second { IfOk result (λ sides. sides.second ≡ filter (λ state. not (is_split_off (content_of_file file.now.plain.now) splitter.now state)) states.now) }
+{
+    let letters = copy_letters(file.alloc, splitter.letters.slice())?;
+    let line = TreeLine::By(splitter.sign, letters);
+    split(file.alloc, file.plain, file.slots, &line, states)
+}
+
+/// The states of the first side make a class from now on, and those of the second are what is left of the old one.
+fn put(
+    partition: &mut Partition,
+    class: usize,
+    splitter: Splitter,
+    sides: Sides,
+) -> Result<(), NoMemory>
+    requires few { length partition.old.parents.items < 2 ^ 32 }
+    requires class { class < length partition.old.members.items }
+    requires states { (state : ℕ) → IsIn sides.first state → state < length partition.old.classes.items }
+    ensures { OnOk result (classes_of partition.new ≡ with_sides (classes_of partition.old) class splitter sides) }
+{
+    let count = partition.parents.len();
+    let Sides { first, second } = sides;
+    assign(&mut partition.classes, first.slice(), count as u32);
+    replace(&mut partition.members, class, second);
+    append(&mut partition.members, first)?;
+    append(&mut partition.parents, class)?;
+    append(&mut partition.splitters, splitter)
+}
+
+/// Splits off from a class the states from which the letters of the splitter end in its sign.
+pub(crate) fn split_off(
+    file: &LaidOut,
+    class: usize,
+    splitter: Splitter,
+    partition: &mut Partition,
+) -> Result<(), NoMemory>
+    requires few { length file.now.plain.now.states < 2 ^ 32 }
+    requires content { IsContent (content_of_file file.now.plain.now) }
+    requires slots { file.now.slots.now ≡ slots_of file.now.plain.now }
+    requires class { class < length partition.old.members.items }
+    requires partition { IsPartition (content_of_file file.now.plain.now) (classes_of partition.old) }
+    ensures { OnOk result (classes_of partition.new ≡ with_split (content_of_file file.now.plain.now) (classes_of partition.old) class splitter) }
+{
+    let sides = sides_by(file, &splitter, partition.members[class].slice())?;
+    put(partition, class, splitter, sides)
+}
+
+/// The class that was split off when the states of two classes parted.
+pub(crate) fn parting(parents: &[usize], one: usize, other: usize) -> usize
+    requires earlier { AreEarlier parents.now }
+    requires one { one < length parents.now }
+    requires other { other < length parents.now }
+    ensures within { result < length parents.now }
+    ensures parting { one ≢ other → IsParting parents.now one other result }
+{
+    let mut first = one;
+    let mut second = other;
+    while first != second {
+        if first > second {
+            let parent = parents[first];
+            if parent == second {
+                return first;
+            }
+            first = parent;
+        } else {
+            let parent = parents[second];
+            if parent == first {
+                return second;
+            }
+            second = parent;
+        }
+    }
+    0
+}
