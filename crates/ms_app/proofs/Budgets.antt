@@ -1,4 +1,4 @@
--- A source that lacks nodes is refused under a limit below the budgets of one of its steps.
+-- A source that lacks nodes is refused under a limit below the budgets of one of its steps, which is not enough for it.
 use Rattle.std.proofs.Common.{◌≡◌, ℕ, ◌+◌, ◌≤◌, List, [], ◌∷◌, length, sym, ◌∙◌}
 use Rattle.ms_build.specs.Built.{IsWithin}
 use Rattle.ms_build_source.proofs.SharedRoots.{each_all}
@@ -16,6 +16,8 @@ use Rattle.ms_logic.specs.Lists.{Each}
 use Rattle.ms_logic_words.specs.Content.{Content}
 use Rattle.ms_logic_words.specs.declared.sign.Sign.{Sign}
 use Rattle.ms_names_rules.specs.Numbers.{IsWellNumbered}
+use Rattle.ms_dfafile_imports.specs.Enough.{contents_of}
+use Rattle.ms_source_steps.proofs.EnoughLaws.{enough_is_not_below}
 use Rattle.ms_source_steps.proofs.OwnSteps.{lacking_sources_are_below_their_steps}
 use Rattle.ms_app.specs.Source.{IsBelowBudgets}
 use Rattle.ms_app.proofs.Adopted.{are_answers, are_lent}
@@ -37,11 +39,13 @@ all_within limit mode (used ∷ uses) (plain ∷ plains) (content ∷ contents) 
 
 pub below_budgets : (limit : ℕ) (checked : Checked) (plains : List Plain) (contents : List (Content Sign)) → IsWellNumbered checked
     → AreAdopted limit checked.mode checked.imports plains contents → (refusal : Refusal) → IsUnsolved checked (answers_by checked.imports plains) contents limit refusal
-    → IsBelowBudgets checked (answers_by checked.imports plains) limit refusal
+    → IsBelowBudgets checked plains limit refusal
 below_budgets limit checked plains contents numbered adopted refusal (not_made (too_deep deep)) step is = absurd (no_depth deep.at step limit (sym deep.is ∙ is))
 below_budgets limit checked plains contents numbered adopted refusal (not_made (too_large large)) step is = absurd (no_size step limit (sym large.is ∙ is))
 below_budgets limit checked plains contents numbered adopted refusal (lacks_nodes within there why nodes) step is =
-    lacking_sources_are_below_their_steps checked (answers_by checked.imports plains) contents limit there numbered
-    (are_lent limit checked.mode checked.imports plains contents adopted)
-    (are_answers limit checked.mode checked.imports plains contents adopted)
-    (each_all (IsWithin limit) contents (all_within limit checked.mode checked.imports plains contents adopted)) why
+    let answers = answers_by checked.imports plains in
+    let lent = are_lent limit checked.mode checked.imports plains contents adopted in
+    let answered = are_answers limit checked.mode checked.imports plains contents adopted in
+    let below = lacking_sources_are_below_their_steps checked answers contents limit there numbered lent answered
+    (each_all (IsWithin limit) contents (all_within limit checked.mode checked.imports plains contents adopted)) why in
+    (below, λ enough. enough_is_not_below checked answers contents (contents_of checked.imports plains) limit numbered lent answered enough below)

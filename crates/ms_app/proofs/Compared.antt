@@ -1,4 +1,4 @@
--- Two sources that can be compared are refused for want of memory or of nodes alone.
+-- Two sources that can be compared are refused for want of memory alone, or of nodes under a limit that is not enough.
 use Rattle.std.proofs.Common.{◌≡◌, ℕ, ◌≤◌, inl, inr, List, [], ◌∷◌, length, map, Option, None, Some, refl, sym, ap, ◌∙◌, subst, arith}
 use Rattle.ms_edge.specs.Counts.{Rose}
 use Rattle.ms_edge.specs.Files.{FilesTold, Holding, Seen}
@@ -14,7 +14,8 @@ use Rattle.ms_include_laws.proofs.of_loads.Typing.{one_globals}
 use Rattle.ms_app.specs.Comparison as comparisons
 use Rattle.ms_app.specs.Comparison.{AreParts, AreSolved, HaveSameGlobals, IsRefusedComparison, Taken}
 use Rattle.ms_app.specs.Source.{IsRefused, IsSolved, file_of}
-use Rattle.ms_app.proofs.Solvable.{IsWant, files_settle, solvable}
+use Rattle.ms_app.specs.Completeness.{IsEnoughForBoth, IsEnoughForOrigin}
+use Rattle.ms_app.proofs.Solvable.{IsWantUnder, files_settle, solvable}
 
 -- names and orders of globals are those of the typed tree
 
@@ -97,11 +98,16 @@ same_globals holding left right seen one two one' two' told are are' globals =
     let second = same_source are'.right_loaded two.checked two'.checked (subst (λ l. IsTyped l two.checked) on_right are.is_right.is.is.typed) are'.is_right.is.is.typed in
     joined one'.checked one.checked two'.checked (turned one.checked one'.checked first) (joined one.checked two.checked two'.checked globals second)
 
+under : (Enough All : Type 0) (limit : ℕ) (refusal : Refusal) → (All → Enough) → IsWantUnder Enough limit refusal → IsWantUnder All limit refusal
+under Enough All limit refusal holds (inl memory) = inl memory
+under Enough All limit refusal holds (inr (lacks, short)) = inr (lacks, λ all. short (holds all))
+
 pub comparable : (holding : Holding) (left right : List ℕ) (limit : ℕ) (seen : Seen) (one two : Taken) → seen.before.held ≡ Some holding → (Rose seen.before.faults seen.after.faults → ⊥) →
-    AreSolved left right seen one two → HaveSameGlobals one.checked two.checked → (refusal : Refusal) (files : List (List ℕ)) → IsRefusedComparison left right limit seen refusal files → IsWant limit refusal
+    AreSolved left right seen one two → HaveSameGlobals one.checked two.checked → (refusal : Refusal) (files : List (List ℕ)) → IsRefusedComparison left right limit seen refusal files → IsWantUnder (IsEnoughForBoth left right limit seen) limit refusal
 comparable holding left right limit seen one two told works are globals refusal files (comparisons.left_refused why) =
     let same : TellSame are.first seen = record { holding = holding; one_told = first_told holding seen are.first are.rest are.are_parts told; other_told = told } in
-    solvable (file_of are.first 0 left) (file_of seen 0 left) (files_settle are.first seen same works 0 left) None are.left_loaded one.checked one.plains are.is_left limit refusal files why
+    under (IsEnoughForOrigin (file_of seen 0 left) None limit) (IsEnoughForBoth left right limit seen) limit refusal (λ enough. enough.for_left)
+    (solvable (file_of are.first 0 left) (file_of seen 0 left) (files_settle are.first seen same works 0 left) None are.left_loaded one.checked one.plains are.is_left limit refusal files why)
 comparable holding left right limit seen one two told works are globals refusal files (comparisons.right_refused first rest are_parts loaded one' is_left read all why) =
     let left_same : are.left_loaded ≡ loaded = one_load are.first first (record {
       holding = holding;
@@ -114,8 +120,9 @@ comparable holding left right limit seen one two told works are globals refusal 
       other_told = rest_told holding seen first rest are_parts told;
     } in
     let base = length are.left_loaded.files in
-    solvable (file_of are.rest base right) (file_of rest base right) (files_settle are.rest rest same (λ rose. works (rest_rose seen first rest are_parts rose)) base right)
-    None are.right_loaded two.checked two.plains are.is_right limit refusal read (subst (λ (l : Loaded). IsRefused (file_of rest (length l.files) right) None limit refusal read) (sym left_same) why)
+    under (IsEnoughForOrigin (file_of rest base right) None limit) (IsEnoughForBoth left right limit seen) limit refusal (λ enough. enough.for_right first rest base are_parts)
+    (solvable (file_of are.rest base right) (file_of rest base right) (files_settle are.rest rest same (λ rose. works (rest_rose seen first rest are_parts rose)) base right)
+    None are.right_loaded two.checked two.plains are.is_right limit refusal read (subst (λ (l : Loaded). IsRefused (file_of rest (length l.files) right) None limit refusal read) (sym left_same) why))
 comparable holding left right limit seen one two told works are globals refusal files (comparisons.not_comparable one' two' are' differ is) =
     absurd (differ (same_globals holding left right seen one two one' two' told are are' globals))
 comparable holding left right limit seen one two told works are globals refusal files (comparisons.no_memory why) = inl why

@@ -62,8 +62,8 @@ only_main checked none problem main answered =
     subst (λ is_asked. AnswersMain is_asked problem main) asked answered
 
 -- a generated source can be solved
-solved : (number : ℕ) (is : IsNumber number) → let found = sources-are-accepted number generated_name is in IsSolved (text_of generated_name (generated number)) None found.loaded found.checked []
-solved number is =
+pub generation-solved : (number : ℕ) (is : IsNumber number) → let found = sources-are-accepted number generated_name is in IsSolved (text_of generated_name (generated number)) None found.loaded found.checked []
+generation-solved number is =
     let found = sources-are-accepted number generated_name is in
     record {
       is = record {
@@ -90,9 +90,9 @@ wanting : (number : ℕ) → IsNumber number → (refusal : Refusal) (files : Li
 wanting number is refusal files why =
     let origin = text_of generated_name (generated number) in
     let found = sources-are-accepted number generated_name is in
-    elim (solvable origin origin (texts_settle generated_name (generated number)) None found.loaded found.checked [] (solved number is) node_limit refusal files why) [
+    elim (solvable origin origin (texts_settle generated_name (generated number)) None found.loaded found.checked [] (generation-solved number is) node_limit refusal files why) [
       | inl memory ↦ inl memory
-      | inr lacks ↦ inr (inr (is, lacks, why))
+      | inr wants ↦ inr (inr (is, wants.0, why))
     ]
 
 -- it imports nothing, exports nothing and has no goals

@@ -1,4 +1,4 @@
--- A source that can be solved is refused for want of memory or of nodes alone.
+-- A source that can be solved is refused for want of memory alone, or of nodes under a limit that is not enough.
 use Rattle.std.proofs.Common.{◌≡◌, ℕ, ◌⊎◌, inl, inr, List, [], Option, Some, None, sym, ap, ◌∙◌, subst}
 use Rattle.std.proofs.lemmas.List.Elements.{All-contains}
 use Rattle.ms_dfa.specs.declared.plain.Plain.{Plain}
@@ -25,11 +25,17 @@ use Rattle.ms_include_laws.proofs.of_loads.Verdicts.{no_first_fault, not_too_dee
 use Rattle.ms_build_source.specs.Limits as limits
 use Rattle.ms_build_source.specs.Limits.{IsTooLarge, IsUnsolved, IsWithinLimits}
 use Rattle.ms_app.specs.Source as sources
-use Rattle.ms_app.specs.Source.{IsAccepted, IsOutFree, IsOutTaken, IsRefused, IsSolved, IsUnaccepted, Origin, file_of, text_of}
+use Rattle.ms_app.specs.Completeness.{IsEnoughForOrigin}
+use Rattle.ms_app.specs.Source.{IsAccepted, IsEnoughWith, IsOutFree, IsOutTaken, IsRefused, IsSolved, IsUnaccepted, Origin, file_of, text_of}
+use Rattle.ms_dfafile_imports.proofs.EnoughImports.{enough_imports_are_taken}
 
 -- want of memory, or of nodes in a step
 abbrev pub IsWant : ℕ → Refusal → Type 0
 IsWant limit refusal = (refusal ≡ Memory) ⊎ ((step : ℕ) × (refusal ≡ Nodes step limit))
+
+-- the same, and nodes are wanting only where the limit is not enough
+abbrev pub IsWantUnder : Type 0 → ℕ → Refusal → Type 0
+IsWantUnder Enough limit refusal = (refusal ≡ Memory) ⊎ (((step : ℕ) × (refusal ≡ Nodes step limit)) × (Enough → ⊥))
 
 -- what one origin loads as and imports, the other does, and it is refused there for want of memory or of nodes alone
 pub record Settles (origin other : Origin) : Type 0 where
@@ -37,6 +43,9 @@ pub record Settles (origin other : Origin) : Type 0 where
   pub loads : (loaded : Loaded) (refusal : Refusal) (read : List (List ℕ)) → origin.Loads loaded → other.IsRefused refusal read → refusal ≡ Memory
   pub one_content : (mode : Mode) (uses : List ImportUse) (plains others : List Plain) → origin.Imports mode uses plains → other.Imports mode uses others → plains ≡ others
   pub imports : (mode : Mode) (limit : ℕ) (uses : List ImportUse) (plains : List Plain) (refusal : Refusal) → origin.Imports mode uses plains → other.IsUnimported mode limit uses refusal → IsWant limit refusal
+  pub same_imports : (mode : Mode) (uses : List ImportUse) (plains : List Plain) → origin.Imports mode uses plains → other.Imports mode uses plains
+  pub no_lack : (checked : Checked) (plains : List Plain) (limit step : ℕ) → other.Imports checked.mode checked.imports plains → IsEnoughWith checked plains limit
+      → other.IsUnimported checked.mode limit checked.imports (Nodes step limit) → ⊥
 
 -- files and texts settle
 
@@ -52,6 +61,8 @@ files_settle seen other told works base name = record {
       imported-once other.before.held told.holding mode uses plains others told.other_told (subst (λ held. AreImported held mode uses plains) (told.one_told ∙ sym told.other_told) are) also;
   imports = λ mode limit uses plains refusal are why.
       imported-refused other told.holding mode limit uses plains refusal told.other_told works (subst (λ held. AreImported held mode uses plains) (told.one_told ∙ sym told.other_told) are) why;
+  same_imports = λ mode uses plains are. subst (λ held. AreImported held mode uses plains) (told.one_told ∙ sym told.other_told) are;
+  no_lack = λ checked plains limit step are enough why. enough_imports_are_taken other told.holding checked.mode checked.imports plains limit step told.other_told are enough.imports why;
 }
 
 nothing_imported : (uses : List ImportUse) (plains others : List Plain) → (uses ≡ []) × (plains ≡ []) → (uses ≡ []) × (others ≡ []) → plains ≡ others
@@ -63,6 +74,8 @@ texts_settle name bytes = record {
   loads = λ loaded refusal read is refused. text_or_refused name bytes loaded refusal is refused.0;
   one_content = λ mode uses plains others one two. nothing_imported uses plains others one two;
   imports = λ mode limit uses plains refusal one why. absurd why;
+  same_imports = λ mode uses plains one. one;
+  no_lack = λ checked plains limit step are enough why. why;
 }
 
 -- a source that can be solved is not refused for what it is
@@ -116,12 +129,23 @@ module _ (origin other : Origin) (settles : Settles origin other) (out : Option 
   unsolved limit checked' answers contents refusal within (limits.not_made why) = absurd (too_large checked' answers refusal within why)
   unsolved limit checked' answers contents refusal within (limits.lacks_nodes within' step there lacks) = inr (step, lacks)
 
-  pub solvable : (limit : ℕ) (refusal : Refusal) (read : List (List ℕ)) → IsRefused other out limit refusal read → IsWant limit refusal
+  abbrev IsEnough : ℕ → Type 0
+  IsEnough limit = IsEnoughForOrigin other out limit
+
+  memory_or : (limit : ℕ) (refusal : Refusal) → IsWant limit refusal → ((step : ℕ) → refusal ≡ Nodes step limit → IsEnough limit → ⊥) → IsWantUnder (IsEnough limit) limit refusal
+  memory_or limit refusal (inl memory) short = inl memory
+  memory_or limit refusal (inr lacks) short = inr (lacks, short lacks.0 lacks.1)
+
+  pub solvable : (limit : ℕ) (refusal : Refusal) (read : List (List ℕ)) → IsRefused other out limit refusal read → IsWantUnder (IsEnough limit) limit refusal
   solvable limit refusal read (sources.unaccepted why) = inl (unaccepted refusal read why)
   solvable limit refusal read (sources.out_taken loaded' checked' is' all why) =
       absurd (free_or_taken out checked'.exports refusal (subst (IsOutFree out) (exports_are loaded' checked' is') is.is.free) why)
   solvable limit refusal read (sources.unimported loaded' checked' is' free all why) =
-      settles.imports checked'.mode limit checked'.imports plains refusal (imported loaded' checked' is') why
+      let here = settles.same_imports checked'.mode checked'.imports plains (imported loaded' checked' is') in
+      memory_or limit refusal (settles.imports checked'.mode limit checked'.imports plains refusal (imported loaded' checked' is') why)
+      (λ step nodes enough.
+      settles.no_lack checked' plains limit step here (enough loaded' checked' plains (record { is = is'; free = free; imported = here }))
+      (subst (λ r. other.IsUnimported checked'.mode limit checked'.imports r) nodes why))
   solvable limit refusal read (sources.unsolved loaded' checked' plains' taken all contents adopted why below) =
       let is' = taken.is in
       let one : plains ≡ plains' = settles.one_content checked'.mode checked'.imports plains plains' (imported loaded' checked' is') taken.imported in
@@ -129,5 +153,5 @@ module _ (origin other : Origin) (settles : Settles origin other) (out : Option 
       let same_answers : answers_by checked.imports plains ≡ answers = ap (λ uses. answers_by uses plains) (imports_are loaded' checked' is') ∙ ap (answers_by checked'.imports) one in
       let problem : problem_of checked answers ≡ problem_of checked' answers = one_problem loaded checked checked' answers accepted.typed (typed' loaded' checked' is') in
       let within : IsWithinLimits (problem_of checked' answers) = subst IsWithinLimits problem (subst (λ list. IsWithinLimits (problem_of checked list)) same_answers is.within) in
-      unsolved limit checked' answers contents refusal within why
+      memory_or limit refusal (unsolved limit checked' answers contents refusal within why) (λ step nodes enough. (below step nodes).1 (enough loaded' checked' plains' taken))
   solvable limit refusal read (sources.no_memory why) = inl why

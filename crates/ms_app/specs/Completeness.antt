@@ -1,5 +1,5 @@
 -- Which requests are done, by what the files hold, where nothing outside goes wrong.
-use Rattle.std.specs.Prelude.{◌≡◌, ℕ, ◌⊎◌, List, Option, Some}
+use Rattle.std.specs.Prelude.{◌≡◌, ℕ, ◌⊎◌, true, false, List, Option, None, Some}
 use Rattle.ms_edge.specs.declared.refusal.Refusal.TheVariants.{Nodes}
 use Rattle.ms_edge.specs.declared.refusal.Status.{Status}
 use Rattle.ms_edge.specs.declared.refusal.Status.TheVariants.{Done, Limit, NoMemory}
@@ -7,21 +7,21 @@ use Rattle.ms_edge.specs.Counts.{Rose}
 use Rattle.ms_dfa.specs.declared.plain.Plain.{Plain}
 use Rattle.ms_edge.specs.Files.{Holding, Seen}
 use Rattle.ms_edge.specs.Sink.{SinkTold, grown}
-use Rattle.ms_gen.specs.Generated.{IsNumber}
+use Rattle.ms_gen.specs.Generated.{IsNumber, generated}
 use Rattle.ms_logic.specs.declared.checked.Checked.{Checked}
 use Rattle.ms_logic.specs.declared.source.Loaded.{Loaded}
 use Rattle.ms_cert_check.specs.Check.{CanBeChecked}
 use Rattle.ms_ltlf.specs.Tree.{Temporal}
-use Rattle.ms_ltlf_decide.specs.Formula.{IsSolvable}
+use Rattle.ms_ltlf_decide.specs.Formula.{IsEnoughForFormula, IsSolvable}
 use Rattle.ms_ltlf_parse.specs.Grammar.{Names}
-use Rattle.ms_presburger_decide.specs.Problem.{ProblemCanBeDecided}
+use Rattle.ms_presburger_decide.specs.Problem.{IsEnoughForProblem, ProblemCanBeDecided}
 use Rattle.ms_report.specs.Line.{line_of}
 use Rattle.ms_app_words.specs.Command.{IsCommand, node_limit}
 use Rattle.ms_app_words.specs.declared.command.Command.{Command}
 use Rattle.ms_app_words.specs.declared.command.Command.TheVariants.{Decide, Same, Gen, Ltl, Presburger, Check}
-use Rattle.ms_app.specs.Answer.{IsDelivered, IsRefusedFor}
-use Rattle.ms_app.specs.Comparison.{AreSolved, HaveSameGlobals, Taken}
-use Rattle.ms_app.specs.Source.{IsSolved, Origin, file_of}
+use Rattle.ms_app.specs.Answer.{IsDelivered, IsRefusedFor, generated_name}
+use Rattle.ms_app.specs.Comparison.{AreParts, AreSolved, HaveSameGlobals, Taken}
+use Rattle.ms_app.specs.Source.{IsEnoughWith, IsSolved, IsTaken, Origin, file_of, text_of}
 
 -- what the files hold was told, no read or write of them failed, and the sink did not fail
 pub record NothingFailed (before after : SinkTold) (seen : Seen) : Type 0 where
@@ -62,6 +62,26 @@ limit_of (Ltl file max_nodes) = max_nodes
 limit_of (Presburger file max_nodes) = max_nodes
 limit_of (Check name) = node_limit
 
+-- the limit is enough for the source, as often as it is one whose imports can be taken
+abbrev pub IsEnoughForOrigin : Origin → Option (List ℕ) → ℕ → Type 0
+IsEnoughForOrigin origin out limit =
+    (loaded : Loaded) (checked : Checked) (plains : List Plain) → IsTaken origin out loaded checked plains → IsEnoughWith checked plains limit
+
+-- it is enough for both files, whatever number the files of the right one begin with
+pub record IsEnoughForBoth (left right : List ℕ) (limit : ℕ) (seen : Seen) : Type 0 where
+  pub for_left : IsEnoughForOrigin (file_of seen 0 left) None limit
+  pub for_right : (first rest : Seen) (base : ℕ) → AreParts seen first rest → IsEnoughForOrigin (file_of rest base right) None limit
+
+-- the limit on the nodes and states of a step is at least each budget of each step of what the command asks for
+abbrev pub IsLimitEnough : Command → Seen → Type 0
+IsLimitEnough (Decide file out max_nodes stats format) seen = IsEnoughForOrigin (file_of seen 0 file) out max_nodes
+IsLimitEnough (Same left right max_nodes) seen = IsEnoughForBoth left right max_nodes seen
+IsLimitEnough (Gen number false) seen = Unit {0}
+IsLimitEnough (Gen number true) seen = IsEnoughForOrigin (text_of generated_name (generated number)) None node_limit
+IsLimitEnough (Ltl file max_nodes) seen = IsEnoughForFormula seen.before.held file max_nodes
+IsLimitEnough (Presburger file max_nodes) seen = IsEnoughForProblem seen.before.held file max_nodes
+IsLimitEnough (Check name) seen = Unit {0}
+
 -- it was done: its text was printed, and its files written
 abbrev pub WasDone : Command → SinkTold → SinkTold → Seen → Status → Type 0
 WasDone command before after seen status =
@@ -74,8 +94,21 @@ LackedNodes command before after seen status =
     × ((step : ℕ) × (files : List (List ℕ)) × IsRefusedFor command seen (Nodes step (limit_of command)) files
     × (after.taken ≡ grown before.taken (line_of (Nodes step (limit_of command)) files)))
 
--- Where the words ask for what can be done and nothing outside fails, it is done, unless memory is wanting, or nodes in a step.
+-- Where the words ask for what can be done and nothing outside fails, it is done, unless memory is wanting; or nodes in a step, and that
+-- only under a limit that is not enough.
 abbrev pub IsComplete : List (List ℕ) → SinkTold → SinkTold → Seen → Status → Type 0
 IsComplete words before after seen status =
     (command : Command) → IsCommand words command → CanBeDone command seen → NothingFailed before after seen →
-    WasDone command before after seen status ⊎ (status ≡ NoMemory) ⊎ LackedNodes command before after seen status
+    WasDone command before after seen status ⊎ (status ≡ NoMemory) ⊎ (LackedNodes command before after seen status × ¬ IsLimitEnough command seen)
+
+-- what a request asks for can be done, nothing outside fails, and the limit is enough
+pub record IsFavoured (words : List (List ℕ)) (before after : SinkTold) (seen : Seen) (command : Command) : Type 0 where
+  pub is_command : IsCommand words command
+  pub can_be_done : CanBeDone command seen
+  pub nothing_failed : NothingFailed before after seen
+  pub enough : IsLimitEnough command seen
+
+-- then it is done, unless memory is wanting
+abbrev pub IsDoneIfFavoured : List (List ℕ) → SinkTold → SinkTold → Seen → Status → Type 0
+IsDoneIfFavoured words before after seen status =
+    (command : Command) → IsFavoured words before after seen command → WasDone command before after seen status ⊎ (status ≡ NoMemory)

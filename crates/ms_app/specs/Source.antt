@@ -19,6 +19,8 @@ use Rattle.ms_names_rules.specs.Declarations.{first_fault_of}
 use Rattle.ms_names_rules.specs.TypedSource.{IsTyped}
 use Rattle.ms_names_rules.specs.View.{placed_of}
 use Rattle.ms_build_source.specs.Limits.{IsUnsolved, IsWithinLimits}
+use Rattle.ms_dfafile_imports.specs.Enough.{contents_of}
+use Rattle.ms_source_steps.specs.Enough.{IsEnoughFor}
 use Rattle.ms_source_steps.specs.Laws.{IsBelowSource}
 use Rattle.ms_logic_words.specs.Content.{Content}
 use Rattle.ms_logic_words.specs.declared.sign.Sign.{Sign}
@@ -89,10 +91,14 @@ pub data IsUnaccepted (origin : Origin) (refusal : Refusal) (read : List (List �
   -- it is loaded, and has a fault of names, orders, numbers or places, of which this is the first
   faulty : (loaded : Loaded) (is_loaded : origin.Loads loaded) (all : read ≡ loaded.files) (why : IsFirstFault loaded refusal) → IsUnaccepted origin refusal read
 
--- for want of nodes alone: the limit is below each budget of a step of the source, whose imports have these answers
-abbrev pub IsBelowBudgets : Checked → Answers → ℕ → Refusal → Type 0
-IsBelowBudgets checked answers limit refusal =
-    (step : ℕ) → refusal ≡ Nodes step limit → IsBelowSource checked answers limit
+-- the limit is enough for the source, whose imports have files with these contents: it is at least each budget of each of its steps
+abbrev pub IsEnoughWith : Checked → List Plain → ℕ → Type 0
+IsEnoughWith checked plains limit = IsEnoughFor checked (answers_with checked plains) (contents_of checked.imports plains) limit
+
+-- for want of nodes alone: the limit is below each budget of a step of the source, and so it is not enough for the source
+abbrev pub IsBelowBudgets : Checked → List Plain → ℕ → Refusal → Type 0
+IsBelowBudgets checked plains limit refusal =
+    (step : ℕ) → refusal ≡ Nodes step limit → IsBelowSource checked (answers_with checked plains) limit × ¬ IsEnoughWith checked plains limit
 
 -- The source is refused under a limit on the nodes and states of a step.
 pub data IsRefused (origin : Origin) (out : Option (List ℕ)) (limit : ℕ) (refusal : Refusal) (read : List (List ℕ)) : Type 0 where
@@ -105,10 +111,10 @@ pub data IsRefused (origin : Origin) (out : Option (List ℕ)) (limit : ℕ) (re
   unimported : (loaded : Loaded) (checked : Checked) (is : IsAccepted origin loaded checked) (free : IsOutFree out checked.exports) (all : read ≡ loaded.files)
       (why : origin.IsUnimported checked.mode limit checked.imports refusal) → IsRefused origin out limit refusal read
   -- all are taken, and it is not solved over the automata of its imports: they answer what the files say, and are within the limit; if nodes
-  -- are wanting, the limit is below the budgets of a step
+  -- are wanting, the limit is below the budgets of a step, and not enough for the source
   unsolved : (loaded : Loaded) (checked : Checked) (plains : List Plain) (is : IsTaken origin out loaded checked plains) (all : read ≡ loaded.files)
       (contents : List (Content Sign)) (adopted : AreAdopted limit checked.mode checked.imports plains contents)
       (why : IsUnsolved checked (answers_by checked.imports plains) contents limit refusal)
-      (below : IsBelowBudgets checked (answers_by checked.imports plains) limit refusal) → IsRefused origin out limit refusal read
+      (below : IsBelowBudgets checked plains limit refusal) → IsRefused origin out limit refusal read
   -- want of memory needs no cause
   no_memory : (why : refusal ≡ Memory) → IsRefused origin out limit refusal read

@@ -5,7 +5,7 @@ ghost use Rattle.ms_edge.specs.Sink.{grown};
 ghost use Rattle.ms_app_words.specs.Command.{IsCommand};
 ghost use Rattle.ms_app_words.specs.declared.command.Command.{Command as Asked};
 ghost use Rattle.ms_app.specs.Answer.{IsAnswered, IsAnsweredFor, IsDelivered, IsDone, IsGeneration, IsGivenFor, IsLimited, IsRefusedFor};
-ghost use Rattle.ms_app.specs.Completeness.{IsComplete};
+ghost use Rattle.ms_app.specs.Completeness.{IsComplete, IsDoneIfFavoured};
 ghost use Rattle.ms_app.specs.inner.Delivery.{WasDelivered};
 ghost use Rattle.ms_app.specs.inner.Files.{HaveOwnNames, pairs_of};
 
@@ -125,8 +125,11 @@ pub fn run<F: Files, S: Sink>(
     // To generate a source, or to decide it, no file is read and none is changed.
     ensures generated { (command : Asked) → IsCommand words.now command → IsGeneration command → F.told files.new ≡ F.told files.old }
 
-    // What can be done is done where nothing outside fails, unless memory is wanting, or nodes in a step.
+    // What can be done is done where nothing outside fails, unless memory is wanting; or nodes in a step, under a limit that is not enough.
     ensures complete { IsComplete words.now (S.told out.old) (S.told out.new) (between (F.told files.old) (F.told files.new)) result }
+
+    // So where the limit is enough, it is done, unless memory is wanting.
+    ensures favoured { IsDoneIfFavoured words.now (S.told out.old) (S.told out.new) (between (F.told files.old) (F.told files.new)) result }
 {
     match options(alloc, words) {
         Ok(command) => answer(alloc, &command, files, out),

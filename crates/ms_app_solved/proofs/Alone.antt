@@ -13,6 +13,7 @@ use Rattle.ms_logic.specs.View.{problem_of}
 use Rattle.ms_logic_words.specs.Content.{Content}
 use Rattle.ms_logic_words.specs.declared.sign.Sign.{Sign}
 use Rattle.ms_names_rules.specs.Numbers.{IsWellNumbered}
+use Rattle.ms_source_steps.proofs.EnoughLaws.{enough_is_not_below}
 use Rattle.ms_source_steps.specs.Laws.{IsBelowSource}
 use Rattle.ms_source_steps.proofs.OwnSteps.{lacking_sources_are_below_their_steps}
 
@@ -40,7 +41,7 @@ module _ (source : Checked) (alone : source.imports ≡ []) where
         ⊎_elim (λ memory. inl memory)
         (λ unsolved.
         let unlent = subst (λ (lent : List (Content Sign)). IsUnsolved source [] lent limit refusal) none unsolved in
-        inr (record { why = unlent; below = below unlent }))
+        inr (record { why = unlent; below = below unlent; short = λ step same enough. enough_is_not_below source [] [] [] limit numbered (nothing-lent [] refl) (nothing-answered [] refl) enough (below unlent step same) }))
         why
 
 -- a source within the limits is refused for want of memory or of nodes alone

@@ -3,6 +3,7 @@ pub mod Completed
 pub mod Encodings
 pub mod Filed
 pub mod FirstNumbers
+pub mod ImportMeasures
 pub mod Naming
 pub mod NumberCounts
 pub mod NumberLabels

@@ -1,5 +1,5 @@
--- What makes a file the automaton of an import lacks nodes only below the budget of that import.
-use Rattle.std.specs.Prelude.{◌≡◌, ◌≢◌, ℕ, ◌<◌, List, AllPairs, map, slice_get, Some}
+-- What makes a file the automaton of an import lacks nodes only below the budget of that import, and there is such a budget.
+use Rattle.std.specs.Prelude.{◌≡◌, ◌≢◌, ℕ, ◌<◌, ◌≤◌, List, AllPairs, map, slice_get, Some}
 use Rattle.ms_dfa.specs.declared.plain.Plain.{Plain}
 use Rattle.ms_dfafile.specs.File.{IsFile}
 use Rattle.ms_dfafile_adopt.specs.Import.{HasVariables}
@@ -25,3 +25,11 @@ LackingAdoptionsAreBelowTheirImport =
     (mode : Mode) (plain : Plain) (pairs : List MapPair) (limit : ℕ)
     → IsFile plain → HasVariables plain pairs → AllPairs (λ one other. one ≢ other) (map (λ pair. pair.name) pairs)
     → AdoptionLacks limit plain pairs mode → IsBelowImport mode plain pairs limit
+
+-- a limit that is at least each budget of the import of a file is not below it: the import has a measure. The counts that it asks for are not
+-- computed, so that there is none is what is refuted
+abbrev pub EnoughIsNotBelowImport : Type 0
+EnoughIsNotBelowImport =
+    (imports : List Import) (mode : Mode) (files : List (Content Answer)) (i : ℕ) (plain : Plain) (pairs : List MapPair) (limit : ℕ)
+    → IsFile plain → pair_variables imports i ≡ variables_of_pairs pairs → slice_get files i ≡ Some (content_for pairs plain)
+    → ((m r : ℕ) → IsMeasureOf imports mode files (import_of_source i) m r → budget m r ≤ limit) → ¬ IsBelowImport mode plain pairs limit

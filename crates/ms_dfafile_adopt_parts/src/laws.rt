@@ -1,8 +1,10 @@
-//! What an import lacks. The function has an empty body, and its contract states the law.
+//! What an import lacks. The function has an empty body, and its contract states the laws.
 
-ghost use Rattle.ms_dfafile_adopt_parts.specs.Laws.{LackingAdoptionsAreBelowTheirImport};
+ghost use Rattle.ms_dfafile_adopt_parts.specs.Laws.{EnoughIsNotBelowImport, LackingAdoptionsAreBelowTheirImport};
 
-/// A file that lacks nodes as an import lacks them only under a limit below each budget of the import.
+/// A file that lacks nodes as an import lacks them only under a limit below each budget of the import, and no limit that is enough is below
+/// the import.
 pub fn laws_of_adoptions()
     ensures below { LackingAdoptionsAreBelowTheirImport }
+    ensures enough { EnoughIsNotBelowImport }
 {}

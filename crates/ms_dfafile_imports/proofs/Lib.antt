@@ -1,5 +1,10 @@
+pub mod EnoughImports
+pub mod FileAnswers
+pub mod ImportContents
 pub mod Later
+pub mod Namings
 pub mod Noted
 pub mod Takings
 pub mod Told
+pub mod Words
 pub mod Worked

@@ -26,7 +26,7 @@ no-bytes : (found : Option (List ℕ)) (bytes : List ℕ) → found ≡ None →
 no-bytes found bytes none some = cc
 
 -- a file that is told has one content
-held-once : (holding : Holding) (name : List ℕ) (one other : Plain) → IsHeld (Some holding) name one → IsHeld (Some holding) name other → one ≡ other
+pub held-once : (holding : Holding) (name : List ℕ) (one other : Plain) → IsHeld (Some holding) name one → IsHeld (Some holding) name other → one ≡ other
 held-once holding name one other h k =
     one_content h.bytes one other h.spelled (subst (λ bytes. IsSpelled bytes other) (same-bytes (holding name) k.bytes h.bytes k.holds h.holds) k.spelled)
 

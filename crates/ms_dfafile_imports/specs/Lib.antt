@@ -1,4 +1,5 @@
 pub mod Adopted
+pub mod Enough
 pub mod Imports
 pub mod Laws
 pub mod inner

@@ -31,4 +31,4 @@ module _ (names : Names) (f : Temporal) (source : Checked) (is : IsStringSource 
   within-limits within = subst IsWithinLimits (sym (problem-same names f source [] is)) within
 
   pub refused-for : (limit : ℕ) (refusal : Refusal) → (refusal ≡ Memory) ⊎ IsUnsolvedAlone source limit refusal → (refusal ≡ Memory) ⊎ IsUnsolvedFormula names f limit refusal
-  refused-for limit refusal why = ⊎_elim (λ memory. inl memory) (λ unsolved. inr (record { source = source; is = is; why = unsolved.why; below = unsolved.below })) why
+  refused-for limit refusal why = ⊎_elim (λ memory. inl memory) (λ unsolved. inr (record { source = source; is = is; unsolved = unsolved })) why

@@ -33,7 +33,7 @@ formula-told name names f limit refusal why =
     let G : List Global → Type 0 = λ gs. Each (λ (g : Global). g.at ≡ start) gs in
     let A : List At → Type 0 = λ ats. Each (λ (at : At). at ≡ start) ats in
     unsolved-told start refl name why.source limit refusal (subst G (sym why.is.globals) (globals-start names))
-    (formulas-at start why.source.formulas (subst A (sym why.is.places) (refl, (refl, tt)))) why.why
+    (formulas-at start why.source.formulas (subst A (sym why.is.places) (refl, (refl, tt)))) why.unsolved.why
 
 pub lines : RefusalsHaveLines
 lines seen name limit refusal files (unread why none) = subst (λ read. IsTold read refusal) (sym none) (unread-told seen name refusal why)

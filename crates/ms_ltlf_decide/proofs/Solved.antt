@@ -1,5 +1,5 @@
 -- A file whose formula can be solved is refused for want of memory or of nodes alone, where nothing outside fails.
-use Rattle.std.proofs.Common.{◌≡◌, ℕ, ◌⊎◌, inl, inr, List, [], Some, subst}
+use Rattle.std.proofs.Common.{◌≡◌, ℕ, ◌⊎◌, inl, inr, ⊎_elim, List, [], Some, subst}
 use Rattle.ms_app_solved.proofs.Alone.{wanted}
 use Rattle.ms_app_solved.proofs.Taken.{not-caused, one-bytes, read}
 use Rattle.ms_build_source.specs.Limits.{IsWithinLimits}
@@ -10,7 +10,7 @@ use Rattle.ms_edge.specs.Files.{Holding, Seen}
 use Rattle.ms_ltlf.specs.Source.{string_problem}
 use Rattle.ms_ltlf.specs.Tree.{Temporal}
 use Rattle.ms_ltlf.proofs.Sources.{problem-same}
-use Rattle.ms_ltlf_decide.specs.Formula.{IsFormulaOf, IsNoText, IsRefusedFormula, IsSolvable, IsText, IsUnsolvedFormula, no_formula, no_memory, unread, unsolved}
+use Rattle.ms_ltlf_decide.specs.Formula.{IsEnoughForFormula, IsFormulaOf, IsNoText, IsRefusedFormula, IsSolvable, IsText, IsUnsolvedFormula, no_formula, no_memory, unread, unsolved}
 use Rattle.ms_ltlf_decide.specs.Laws.{SolvableFormulasAreSolved}
 use Rattle.ms_ltlf_parse.specs.Grammar.{Names}
 use Rattle.ms_ltlf_parse.specs.Reading.{Reads}
@@ -20,9 +20,9 @@ use Rattle.ms_text.specs.TokenList.{Lexed}
 use Rattle.ms_text.specs.declared.token.Token.{Token}
 use Rattle.ms_text.proofs.OneFault.{one_list}
 
--- want of memory, or of nodes in a step
-abbrev IsWant : ℕ → Refusal → Type 0
-IsWant limit refusal = (refusal ≡ Memory) ⊎ ((step : ℕ) × (refusal ≡ Nodes step limit))
+-- want of memory, or of nodes in a step under a limit that is not enough
+abbrev IsWant : Seen → List ℕ → ℕ → Refusal → Type 0
+IsWant seen name limit refusal = (refusal ≡ Memory) ⊎ ((step : ℕ) × (refusal ≡ Nodes step limit) × (IsEnoughForFormula seen.before.held name limit → ⊥))
 
 abbrev lexed-of : List ℕ → List Token → Lexed
 lexed-of bytes tokens = record { bytes = bytes; tokens = tokens }
@@ -49,13 +49,14 @@ module _ (seen : Seen) (holding : Holding) (name : List ℕ) (names : Names) (f 
       let same : other.bytes ≡ formula.bytes = one-bytes holding seen.before.held told name other.bytes formula.bytes other.are_bytes formula.are_bytes in
       same-text formula.bytes names others f g formula.text (subst (λ bytes. IsText bytes others g) same other.text)
 
-  wanted-by : (others : Names) (g : Temporal) (refusal : Refusal) → IsFormulaOf seen.before.held name others g → IsUnsolvedFormula others g limit refusal → IsWant limit refusal
+  wanted-by : (others : Names) (g : Temporal) (refusal : Refusal) → IsFormulaOf seen.before.held name others g → IsUnsolvedFormula others g limit refusal → IsWant seen name limit refusal
   wanted-by others g refusal other why =
       let same = same-formula others g other in
       let within = subst (λ h. IsWithinLimits (string_problem others h)) same.1 (subst (λ ns. IsWithinLimits (string_problem ns f)) same.0 is.within) in
-      wanted why.source limit refusal (subst IsWithinLimits (problem-same others g why.source [] why.is) within) why.why
+      ⊎_elim (λ memory. inl memory) (λ lacks. inr (lacks.0, lacks.1, λ enough. why.unsolved.short lacks.0 lacks.1 (enough others g why.source other why.is)))
+      (wanted why.source limit refusal (subst IsWithinLimits (problem-same others g why.source [] why.is) within) why.unsolved.why)
 
-  solved-there : (refusal : Refusal) (files : List (List ℕ)) → IsRefusedFormula seen name limit refusal files → IsWant limit refusal
+  solved-there : (refusal : Refusal) (files : List (List ℕ)) → IsRefusedFormula seen name limit refusal files → IsWant seen name limit refusal
   solved-there refusal files (unread why none) = inl (read seen holding name formula.bytes told works formula.are_bytes refusal why)
   solved-there refusal files (no_formula bytes are why single) =
       let same : bytes ≡ formula.bytes = one-bytes holding seen.before.held told name bytes formula.bytes are formula.are_bytes in

@@ -1,8 +1,9 @@
 -- The formula of a file, what is printed of it, and why a file is refused.
 use Rattle.std.specs.Prelude.{◌≡◌, ℕ, ◌⊎◌, List, [], ◌∷◌, length, Option, None}
-use Rattle.ms_build_source.specs.Limits.{IsUnsolved, IsWithinLimits}
+use Rattle.ms_app_solved.specs.Alone.{IsEnoughAlone, IsUnsolvedAlone}
+use Rattle.ms_build_source.specs.Limits.{IsWithinLimits}
 use Rattle.ms_edge.specs.declared.refusal.Refusal.{Refusal}
-use Rattle.ms_edge.specs.declared.refusal.Refusal.TheVariants.{Memory, Nodes}
+use Rattle.ms_edge.specs.declared.refusal.Refusal.TheVariants.{Memory}
 use Rattle.ms_edge.specs.Files.{Holding, Seen}
 use Rattle.ms_include.specs.File.{AreBytes, IsUnread}
 use Rattle.ms_logic.specs.declared.checked.Checked.{Checked}
@@ -14,7 +15,6 @@ use Rattle.ms_ltlf_parse.specs.Reading.{Reads}
 use Rattle.ms_ltlf_parse.specs.Refused.{IsTraceFault}
 use Rattle.ms_ltlf_parse.specs.Symbol.{symbols}
 use Rattle.ms_report.specs.declared.found.Answer.{Answer}
-use Rattle.ms_source_steps.specs.Laws.{IsBelowSource}
 use Rattle.ms_report.specs.Report.{trace_report_of}
 use Rattle.ms_text.specs.Fault.{IsCause}
 use Rattle.ms_text.specs.TokenList.{IsTokenList}
@@ -52,12 +52,16 @@ pub record IsDecidedFormula (held : Option Holding) (name text : List ℕ) : Typ
   pub is_answer : IsTraceAnswer (length names) formula answer
   pub printed : text ≡ trace_report_of names answer
 
--- the source of strings of the formula is not solved under the limit; if nodes are wanting, the limit is below each budget of one of its steps
+-- the source of strings of the formula is not solved under the limit
 pub record IsUnsolvedFormula (names : Names) (f : Temporal) (limit : ℕ) (refusal : Refusal) : Type 0 where
   pub source : Checked
   pub is : IsStringSource names f source
-  pub why : IsUnsolved source [] [] limit refusal
-  pub below : (step : ℕ) → refusal ≡ Nodes step limit → IsBelowSource source [] limit
+  pub unsolved : IsUnsolvedAlone source limit refusal
+
+-- a limit is enough for the formula of the file: for the source of strings that says the same
+abbrev pub IsEnoughForFormula : Option Holding → List ℕ → ℕ → Type 0
+IsEnoughForFormula held name limit =
+    (names : Names) (f : Temporal) (source : Checked) → IsFormulaOf held name names f → IsStringSource names f source → IsEnoughAlone source limit
 
 -- The file of this name is refused under a limit on nodes and states, and these are the files that the refusal may number.
 pub data IsRefusedFormula (seen : Seen) (name : List ℕ) (limit : ℕ) (refusal : Refusal) (files : List (List ℕ)) : Type 0 where

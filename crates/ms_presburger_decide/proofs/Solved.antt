@@ -1,5 +1,5 @@
 -- A file whose formula can be solved is refused for want of memory or of nodes alone, where nothing outside fails.
-use Rattle.std.proofs.Common.{◌≡◌, ℕ, ◌⊎◌, inl, inr, List, [], Some, subst}
+use Rattle.std.proofs.Common.{◌≡◌, ℕ, ◌⊎◌, inl, inr, ⊎_elim, List, [], Some, subst}
 use Rattle.ms_app_solved.proofs.Alone.{wanted}
 use Rattle.ms_app_solved.proofs.Taken.{not-caused, one-bytes, read}
 use Rattle.ms_build_source.specs.Limits.{IsWithinLimits}
@@ -11,7 +11,7 @@ use Rattle.ms_presburger.specs.Source.{set_problem}
 use Rattle.ms_presburger.specs.Tree.{Arithmetic, free_names}
 use Rattle.ms_presburger.proofs.Sources.{problem-same}
 use Rattle.ms_presburger_decide.specs.Laws.{SolvableProblemsAreSolved}
-use Rattle.ms_presburger_decide.specs.Problem.{IsNoText, IsProblemOf, IsRefusedProblem, IsSolvableProblem, IsText, IsUnsolvedProblem, no_formula, no_memory, unread, unsolved}
+use Rattle.ms_presburger_decide.specs.Problem.{IsEnoughForProblem, IsNoText, IsProblemOf, IsRefusedProblem, IsSolvableProblem, IsText, IsUnsolvedProblem, no_formula, no_memory, unread, unsolved}
 use Rattle.ms_presburger_parse.specs.Reading.{Reads}
 use Rattle.ms_presburger_parse.specs.Symbol.{symbols}
 use Rattle.ms_presburger_parse.proofs.Readings.{one_reading}
@@ -35,6 +35,10 @@ same-text bytes f g text other =
     let same : text.tokens ≡ other.tokens = one_list 0 bytes text.tokens other.tokens text.are_tokens other.are_tokens in
     one_reading (symbols (lexed-of bytes other.tokens)) f g (subst (λ ts. Reads (symbols (lexed-of bytes ts)) f) same text.reads) other.reads
 
+-- want of memory, or of nodes in a step under a limit that is not enough
+abbrev IsWant : Seen → List ℕ → ℕ → Refusal → Type 0
+IsWant seen name limit refusal = (refusal ≡ Memory) ⊎ ((step : ℕ) × (refusal ≡ Nodes step limit) × (IsEnoughForProblem seen.before.held name limit → ⊥))
+
 module _ (seen : Seen) (holding : Holding) (name : List ℕ) (f : Arithmetic) (limit : ℕ) (told : seen.before.held ≡ Some holding)
     (works : Rose seen.before.faults seen.after.faults → ⊥) (is : IsSolvableProblem seen.before.held name f) where
   abbrev problem : IsProblemOf seen.before.held name f
@@ -45,12 +49,13 @@ module _ (seen : Seen) (holding : Holding) (name : List ℕ) (f : Arithmetic) (l
       let same : other.bytes ≡ problem.bytes = one-bytes holding seen.before.held told name other.bytes problem.bytes other.are_bytes problem.are_bytes in
       same-text problem.bytes f g problem.text (subst (λ bytes. IsText bytes g) same other.text)
 
-  wanted-by : (g : Arithmetic) (refusal : Refusal) → IsProblemOf seen.before.held name g → IsUnsolvedProblem g limit refusal → (refusal ≡ Memory) ⊎ ((step : ℕ) × (refusal ≡ Nodes step limit))
+  wanted-by : (g : Arithmetic) (refusal : Refusal) → IsProblemOf seen.before.held name g → IsUnsolvedProblem g limit refusal → IsWant seen name limit refusal
   wanted-by g refusal other why =
       let within = subst (λ h. IsWithinLimits (set_problem (free_names h) h)) (same-problem g other) is.within in
-      wanted why.source limit refusal (subst IsWithinLimits (problem-same (free_names g) g why.source [] why.is) within) why.unsolved.why
+      ⊎_elim (λ memory. inl memory) (λ lacks. inr (lacks.0, lacks.1, λ enough. why.unsolved.short lacks.0 lacks.1 (enough g why.source other why.is)))
+      (wanted why.source limit refusal (subst IsWithinLimits (problem-same (free_names g) g why.source [] why.is) within) why.unsolved.why)
 
-  solved-there : (refusal : Refusal) (files : List (List ℕ)) → IsRefusedProblem seen name limit refusal files → (refusal ≡ Memory) ⊎ ((step : ℕ) × (refusal ≡ Nodes step limit))
+  solved-there : (refusal : Refusal) (files : List (List ℕ)) → IsRefusedProblem seen name limit refusal files → IsWant seen name limit refusal
   solved-there refusal files (unread why none) = inl (read seen holding name problem.bytes told works problem.are_bytes refusal why)
   solved-there refusal files (no_formula bytes are why one) =
       let same : bytes ≡ problem.bytes = one-bytes holding seen.before.held told name bytes problem.bytes are problem.are_bytes in

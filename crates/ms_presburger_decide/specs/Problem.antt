@@ -1,6 +1,6 @@
 -- The formula of a file, what is printed of it, and why a file is refused.
 use Rattle.std.specs.Prelude.{◌≡◌, ℕ, ◌⊎◌, List, [], ◌∷◌, Option, None}
-use Rattle.ms_app_solved.specs.Alone.{IsUnsolvedAlone}
+use Rattle.ms_app_solved.specs.Alone.{IsEnoughAlone, IsUnsolvedAlone}
 use Rattle.ms_build_source.specs.Limits.{IsWithinLimits}
 use Rattle.ms_edge.specs.declared.refusal.Refusal.{Refusal}
 use Rattle.ms_edge.specs.declared.refusal.Refusal.TheVariants.{Memory}
@@ -58,6 +58,11 @@ pub record IsUnsolvedProblem (f : Arithmetic) (limit : ℕ) (refusal : Refusal) 
   pub source : Checked
   pub is : IsSetSource (free_names f) f source
   pub unsolved : IsUnsolvedAlone source limit refusal
+
+-- a limit is enough for the formula of the file: for the source of sets that says the same
+abbrev pub IsEnoughForProblem : Option Holding → List ℕ → ℕ → Type 0
+IsEnoughForProblem held name limit =
+    (f : Arithmetic) (source : Checked) → IsProblemOf held name f → IsSetSource (free_names f) f source → IsEnoughAlone source limit
 
 -- The file of this name is refused under a limit on nodes and states, and these are the files that the refusal may number.
 pub data IsRefusedProblem (seen : Seen) (name : List ℕ) (limit : ℕ) (refusal : Refusal) (files : List (List ℕ)) : Type 0 where

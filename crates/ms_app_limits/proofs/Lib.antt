@@ -1,0 +1,2 @@
+pub mod EmptySource
+pub mod TruthBudgets

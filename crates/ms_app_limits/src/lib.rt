@@ -1,0 +1,6 @@
+//! Worked examples of requests under a limit that is enough.
+#![tactic(auto)]
+
+mod examples;
+
+pub use examples::worked_limits;
