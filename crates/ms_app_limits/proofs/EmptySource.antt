@@ -1,17 +1,13 @@
 -- The source without declarations, as a file without bytes, and the limits that are enough for it.
 use Rattle.std.proofs.Common.{◌≡◌, ℕ, ◌≤◌, inl, inr, ⊎_elim, List, [], ◌∷◌, Contains, map, None, Some, refl, sym, subst, arith}
-use Rattle.std.specs.Prelude.{codes, false}
+use Rattle.std.specs.Prelude.{codes}
 use Rattle.std.proofs.lemmas.Option.{none-some}
-use Rattle.ms_app.specs.Completeness.{IsEnoughForOrigin, IsFavoured}
+use Rattle.ms_app.specs.Completeness.{IsEnoughForOrigin}
 use Rattle.ms_app.specs.Source.{IsEnoughWith, IsTaken, file_of}
-use Rattle.ms_app.specs.inner.CompletenessExamples.{empty_files, nothing_checked, nothing_loaded, sink_after, still}
-use Rattle.ms_app.proofs.Requests.{empty_file}
+use Rattle.ms_app.specs.inner.CompletenessExamples.{empty_files, nothing_checked, nothing_loaded, still}
 use Rattle.ms_include.specs.File.{ReadAs}
 use Rattle.ms_logic.specs.declared.source.Source.{Source}
 use Rattle.ms_app.proofs.Solvable.{files_settle}
-use Rattle.ms_app_words.specs.Command.{IsCommand}
-use Rattle.ms_app_words.specs.declared.command.Command.TheVariants.{Decide}
-use Rattle.ms_dfa.specs.declared.plain.FileVersion.TheVariants.{Two}
 use Rattle.ms_dfa.specs.declared.plain.Plain.{Plain}
 use Rattle.ms_diagram.proofs.ListLemmas.{Contains-cases, Contains-none}
 use Rattle.ms_edge.specs.Counts.{Rose}
@@ -61,12 +57,12 @@ taken_alone = record {
   imported = record { each = tt; once = λ i j one other p q held held' name at at'. absurd (none-some p at) };
 }
 
-no_rise : Rose 0 0 → ⊥
+pub no_rise : Rose 0 0 → ⊥
 no_rise (inl less) = omega (arith, less)
 no_rise (inr last) = omega (arith, last)
 
 -- a list is empty if it is mapped to an empty one
-none_mapped : {A B : Type 0} (f : A → B) (xs : List A) → map f xs ≡ [] → xs ≡ []
+pub none_mapped : {A B : Type 0} (f : A → B) (xs : List A) → map f xs ≡ [] → xs ≡ []
 none_mapped f [] same = refl
 none_mapped f (x ∷ xs) same = absurd (let never : f x ∷ map f xs ≡ [] = same in cc)
 
@@ -118,12 +114,3 @@ too_little all =
     (all (nothing_loaded (codes "a")) source [] taken_alone).steps (root whole) (of_declarations (whole, refl, (0, omega arith, refl))) 1 2
     (record { content = number_content; encodings = number_content; of_formula = full_truth; of_true = full_truth; made = one_pair; read = refl }) in
     omega (arith, within)
-
-pub favoured : (words : List (List ℕ)) → IsCommand words (Decide (codes "a") None 6400 false Two)
-    → IsFavoured words (sink_after 0) (sink_after 0) (still (empty_files 0)) (Decide (codes "a") None 6400 false Two)
-favoured words is = record {
-  is_command = is;
-  can_be_done = empty_file;
-  nothing_failed = record { holding = λ name. Some []; told = refl; works = no_rise; prints = no_rise };
-  enough = enough;
-}

@@ -3,4 +3,4 @@
 
 mod examples;
 
-pub use examples::worked_limits;
+pub use examples::{worked_inclusion, worked_limits};

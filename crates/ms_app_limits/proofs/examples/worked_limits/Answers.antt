@@ -6,6 +6,3 @@ returns-clause-enough c = empty.enough
 
 pub returns-clause-too_little : goal.returns-clause-too_little
 returns-clause-too_little c = empty.too_little
-
-pub returns-clause-favoured : goal.returns-clause-favoured
-returns-clause-favoured c = empty.favoured
