@@ -1,5 +1,7 @@
-ghost use Rattle.std.specs.Prelude.{◌≡◌, ◌+◌, ◌≤◌, ◌<◌, ℕ, length, vec_len, Option, None, IfErr, IfOk, OnErr, OnOk};
+ghost use Rattle.std.specs.Prelude.{◌≡◌, ◌+◌, ◌≤◌, ◌<◌, ℕ, length, vec_len, Option, None, IfErr, IfOk, IfSome, OnErr, OnOk};
+ghost use Rattle.std.specs.Io.KnownBytes.{Appends};
 ghost use Rattle.ms_edge.specs.Counts.{Rose};
+ghost use Rattle.ms_edge.specs.declared.files.ReadAnswer.TheVariants as answers;
 ghost use Rattle.ms_edge.specs.Files.{Holding, IsCauseOfRead, NoCountFell, OnlyRead, untold};
 
 use crate::files::{Files, ReadAnswer, WriteFailed};
@@ -8,9 +10,6 @@ use std::alloc::Global;
 use std::fs::File;
 use std::io::{ErrorKind, Read, Write};
 use std::rt::Runtime;
-
-/// How many bytes are asked of a file at a time.
-const PIECE: usize = 65536;
 
 /// The files of the machine. Nothing is known of what they hold; each failure, absence and overlong
 /// file is counted.
@@ -41,44 +40,40 @@ impl<R: Runtime> DiskFiles<R> {
         ensures { IfOk result (λ bytes. length bytes ≤ limit) }
     {
         match File::open(&self.rt, name) {
-            Ok(mut file) => read_up_to(alloc, &mut file, PIECE, limit),
+            Ok(file) => read_up_to(alloc, file, limit),
             Err(error) if error.kind() == ErrorKind::NotFound => Err(ReadAnswer::Missing),
             Err(_) => Err(ReadAnswer::Failed),
         }
+    }
+
+    /// Makes the file on the device hold the bytes.
+    fn store(&self, name: &str, bytes: &[u8]) -> Result<(), WriteFailed> {
+        let mut file = File::create(&self.rt, name).map_err(|_| WriteFailed)?;
+        put(&mut file, bytes)
     }
 }
 
 /// The bytes up to the end of the file, of which there may be at most so many: of a longer file one
 /// byte more is read.
-fn read_up_to<F: Read>(
-    alloc: Global,
-    file: &mut F,
-    piece: usize,
-    limit: u64,
-) -> Result<Bytes, ReadAnswer>
-    ensures { IfOk result (λ bytes. length bytes ≤ limit) }
+fn read_up_to<F: Read + Drop>(alloc: Global, file: F, limit: u64) -> Result<Bytes, ReadAnswer>
+    ensures within { IfOk result (λ bytes. length bytes ≤ limit) }
+    ensures whole { IfOk result (λ bytes. IfSome (F.remaining file) (λ left. bytes ≡ left)) }
+    ensures longer { IfErr result (λ answer. answer ≡ answers.TooLong → IfSome (F.remaining file) (λ left. limit < length left)) }
 {
-    let Ok(mut piece) = vec![in alloc; 0u8; piece] else {
-        return Err(ReadAnswer::NoMemory);
-    };
     let mut bytes = Vec::new(alloc);
-    for _ in 0..u64::MAX {
-        let room = (limit - bytes.len() as u64).saturating_add(1);
-        let asked = piece.len().min(room as usize);
-        let Ok(count) = file.read(&mut piece[..asked]) else {
-            return Err(ReadAnswer::Failed);
-        };
-        if count == 0 {
-            return Ok(List::from(bytes));
-        }
-        if count as u64 == room {
-            return Err(ReadAnswer::TooLong);
-        }
-        if bytes.extend_from_slice(&piece[..count]).is_err() {
-            return Err(ReadAnswer::NoMemory);
-        }
+    match file.take(limit.saturating_add(1)).read_to_end(&mut bytes) {
+        Ok(_) if bytes.len() as u64 <= limit => Ok(List::from(bytes)),
+        Ok(_) => Err(ReadAnswer::TooLong),
+        Err(error) if error.kind() == ErrorKind::OutOfMemory => Err(ReadAnswer::NoMemory),
+        Err(_) => Err(ReadAnswer::Failed),
     }
-    Err(ReadAnswer::Failed)
+}
+
+/// Writes all the bytes behind what is in the file.
+fn put<F: Write>(file: &mut F, bytes: &[u8]) -> Result<(), WriteFailed>
+    ensures { OnOk result (Appends (F.contents file.old) (F.contents file.new) bytes.now) }
+{
+    file.write_all(bytes).map_err(|_| WriteFailed)
 }
 
 impl<R: Runtime> Files for DiskFiles<R> {
@@ -113,10 +108,10 @@ impl<R: Runtime> Files for DiskFiles<R> {
         // Where the bytes were written, no count rose.
         ensures same { OnOk result (self.new ≡ self.old) }
     {
-        if std::fs::write(&self.rt, name, bytes).is_ok() {
-            return Ok(());
+        let answer = self.store(name, bytes);
+        if answer.is_err() {
+            self.faults = self.faults.saturating_add(1);
         }
-        self.faults = self.faults.saturating_add(1);
-        Err(WriteFailed)
+        answer
     }
 }
