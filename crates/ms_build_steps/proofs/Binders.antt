@@ -12,14 +12,14 @@ use Rattle.ms_dag.specs.declared.node.DagNode.TheVariants.{True, False, Basic, N
 use Rattle.ms_dag.specs.declared.node.Entry.{Entry}
 use Rattle.ms_dag_steps.specs.NodeSteps.{ChildOccurs, RestrictionOccurs}
 use Rattle.ms_dag_steps.specs.Occurrences.{Occurs}
+use Rattle.ms_dag_steps.specs.OwnSteps.{own_steps}
 use Rattle.ms_dag_steps.proofs.OccurrenceLemmas.{child_occurs}
-use Rattle.ms_dag_steps.proofs.StepLemmas.{step_of_subformula}
 use Rattle.ms_diagram.proofs.ListLemmas.{Contains-first, Contains-rest}
 use Rattle.ms_logic.specs.declared.mode.Order.{Order}
 use Rattle.ms_logic.specs.declared.mode.Quant.{Quant}
 use Rattle.ms_logic_core.specs.CoreForm.{CoreForm, truth, falsity, basic, negation, conjunction, disjunction, implication, equivalence, restrict, imported, quantified, CoreRestriction, unrestricted, restricted}
 use Rattle.ms_logic_core.specs.Operands.{variable}
-use Rattle.ms_logic_measures.specs.Steps.{binding, steps_in, steps_of}
+use Rattle.ms_logic_measures.specs.Steps.{binding}
 
 -- the restriction and the body of a quantifier occur
 module _ (whole : CoreForm) (entries : List Entry) (q : Quant) (o : Order) (x : ℕ) (names : List ℕ) (i : ℕ) (outer : List Order) where
@@ -36,7 +36,7 @@ module _ (whole : CoreForm) (entries : List Entry) (q : Quant) (o : Order) (x : 
         (All-head (IsChild entries i outer) c [] (All-tail (IsChild entries i outer) d (c ∷ []) all)) g (Contains-rest r (g ∷ []) g (Contains-first g [])) reads,
   )
 
--- a formula is a quantifier with this restriction and body, which occur: its variable is above all names, and its step is one of the whole
+-- a formula is a quantifier with this restriction and body, which occur: its variable is above all names, and its step is the formula's own
 pub record IsBoundBy (whole : CoreForm) (entries : List Entry) (names : List ℕ) (i : ℕ) (f : CoreForm) (q : Quant) (o : Order) (d : Option Child) (c : Child) : Type 0 where
   pub x : ℕ
   pub r : CoreRestriction
@@ -46,7 +46,7 @@ pub record IsBoundBy (whole : CoreForm) (entries : List Entry) (names : List ℕ
   pub restriction_occurs : RestrictionOccurs whole entries (names ++ x ∷ []) r d
   pub body_occurs : ChildOccurs whole entries (names ++ x ∷ []) body c
   pub reads : ReadAs (λ given j. Unfolds entries body given j) (names ++ x ∷ []) i c
-  pub step : Contains (steps_of whole) (binding (variable x o) r body)
+  pub step : Contains (own_steps f) (binding (variable x o) r body)
 
 module _ (whole : CoreForm) (entries : List Entry) (names : List ℕ) (i : ℕ) (entry : Entry) (held : slice_get entries i ≡ Some entry) (nodes : AreNodes entries)
     (q : Quant) (o : Order) (k : ℕ) (d : Option Child) (c : Child) (is_bind : entry.node ≡ Bind q o k d c) where
@@ -85,7 +85,7 @@ module _ (whole : CoreForm) (entries : List Entry) (names : List ℕ) (i : ℕ) 
         restriction_occurs = occur.0;
         body_occurs = occur.1;
         reads = unfolds.5;
-        step = step_of_subformula whole (quantified q' o' x r g) at.subformula (binding (variable x o') r g) (Contains-first (binding (variable x o') r g) (steps_in r ++ steps_of g));
+        step = Contains-first (binding (variable x o') r g) [];
       } in
       subst (IsBoundAt (quantified q' o' x r g)) same found
 

@@ -42,7 +42,7 @@ use Rattle.ms_logic_words.specs.declared.sign.Sign.{Sign}
 use Rattle.ms_rename.specs.Renamed.{NeedsAtLeast, renamed_places}
 use Rattle.ms_rename.proofs.RenamedLemmas.{HasValues-same}
 use Rattle.ms_rename_parts.proofs.RenameParts.{renamings_are_within_budget}
-use Rattle.ms_build_steps.specs.Kinds.{IsBelowStep}
+use Rattle.ms_build_steps.specs.Kinds.{IsBelowOwnStep}
 use Rattle.ms_build_steps.specs.Laws.{ImportsAreBelowTheirSteps}
 use Rattle.ms_build_steps.proofs.StepKinds.{below_itself, itself_there}
 use Rattle.ms_build_steps.proofs.Lists.{all_at}
@@ -169,7 +169,7 @@ module _ (contents : List (Content Sign)) (mode : Mode) (import : ℕ) (content 
 
 pub imports_are_below_their_steps : ImportsAreBelowTheirSteps
 imports_are_below_their_steps imports calls lowered plan number root f names i entry import xs is is_root held is_import lent within occurs lacks = ⊎_elim
-    (λ small. small_limits_are_below_steps imports plan.mode (whole_formula calls root) plan.limit small)
+    (λ small. small_limits_are_below_steps imports plan.mode f plan.limit small)
     (λ short. by_short (subst (λ node. FormLacks plan entry.orders node) is_import (subst (λ (e : Entry). FormLacks plan e.orders e.node) here short)))
     lacks.2
   where
@@ -182,12 +182,12 @@ imports_are_below_their_steps imports calls lowered plan number root f names i e
     long : length names ≡ length entry.orders
     long = same_Some _ _ (sym occurs.own ∙ ap (option_map length) (ap (option_map (λ (e : Entry). e.orders)) held))
 
-    steps : HasItsSteps (whole_formula calls root) plan.dag.now.entries names i (nodes.Import import xs)
+    steps : HasItsSteps (whole_formula calls root) f plan.dag.now.entries names i (nodes.Import import xs)
     steps =
-        subst (HasItsSteps (whole_formula calls root) plan.dag.now.entries names i) is_import
+        subst (HasItsSteps (whole_formula calls root) f plan.dag.now.entries names i) is_import
         (nodes_have_their_steps (whole_formula calls root) plan.dag.now.entries f names i entry is.graph.graph.nodes held occurs)
 
-    by_short : ImportLacks plan import xs → IsBelowStep imports plan.mode (whole_formula calls root) plan.limit
+    by_short : ImportLacks plan import xs → IsBelowOwnStep imports plan.mode f plan.limit
     by_short short = ⊎_elim
         (λ large. let small = all_at (IsWithin plan.limit) plan.imports.now within import short.content short.here in absurd (omega (arith, large, small)))
         (λ few.

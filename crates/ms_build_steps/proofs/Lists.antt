@@ -34,7 +34,7 @@ use Rattle.ms_logic_starts.proofs.RisingLemmas.{rising_distinct}
 use Rattle.ms_logic_words.specs.Content.{Content}
 use Rattle.ms_logic_words.specs.declared.sign.Sign.{Sign}
 use Rattle.ms_product.specs.Pairing.{AreAtLeast, operands_of}
-use Rattle.ms_build_steps.specs.Kinds.{IsBelowStep}
+use Rattle.ms_build_steps.specs.Kinds.{IsBelowOwnStep}
 use Rattle.ms_build_steps.specs.Laws.{IsPlanned, ListsAreWithinBudget, connect_of}
 use Rattle.ms_build_steps.proofs.StepKinds.{below_itself, itself_there}
 use Rattle.ms_build_steps.proofs.ManyMeanings.{many_means}
@@ -81,9 +81,9 @@ free_of_many : (imports : List Import) (many : Many) (fs : CoreForms) → free_v
 free_of_many imports many_of.All fs = refl
 free_of_many imports many_of.Any fs = refl
 
-module _ (imports : List Import) (calls : Calls) (lowered : Lowered) (plan : Plan) (is : IsPlanned imports calls lowered plan) (number : ℕ) (root : Root) (is_root : slice_get lowered.roots number ≡ Some root) (names : List ℕ) (many : Many)
+module _ (imports : List Import) (calls : Calls) (lowered : Lowered) (plan : Plan) (is : IsPlanned imports calls lowered plan) (number : ℕ) (root : Root) (is_root : slice_get lowered.roots number ≡ Some root) (form : CoreForm) (names : List ℕ) (many : Many)
     (children : List Child) (i : ℕ) (outer : List Order) (rising : IsStrictlyIncreasing names) (long : length names ≡ length outer)
-    (steps : HasStepsOfList (whole_formula calls root) (connect_of many) plan.dag.now.entries names i children) (are_children : All (IsChild plan.dag.now.entries i outer) children) where
+    (steps : HasStepsOfList (whole_formula calls root) form (connect_of many) plan.dag.now.entries names i children) (are_children : All (IsChild plan.dag.now.entries i outer) children) where
   abbrev entries : List Entry
   entries = plan.dag.now.entries
 
@@ -187,9 +187,9 @@ module _ (imports : List Import) (calls : Calls) (lowered : Lowered) (plan : Pla
         (side imports calls lowered plan is number root is_root names child prefix.next (next_occurs (suc k) prefix child here) i outer is_child other is_next measure.1 measure.3) short m r measure.4
 
 pub lists_are_within_budget : ListsAreWithinBudget
-lists_are_within_budget imports calls lowered plan number root names many children i outer is is_root rising long steps are_children lacks = by lacks.count lacks.some lacks.here lacks.is_first
+lists_are_within_budget imports calls lowered plan number root f names many children i outer is is_root rising long steps are_children lacks = by lacks.count lacks.some lacks.here lacks.is_first
   where
-    by : (count : ℕ) → 1 ≤ count → slice_get children count ≡ Some lacks.child → IsOfFirst plan many children count lacks.one → IsBelowStep imports plan.mode (whole_formula calls root) plan.limit
+    by : (count : ℕ) → 1 ≤ count → slice_get children count ≡ Some lacks.child → IsOfFirst plan many children count lacks.one → IsBelowOwnStep imports plan.mode f plan.limit
     by zero some here first = absurd (omega (arith, some))
     by (suc zero) some here first =
         let each = steps.each 0 (slice_get_within children 1 lacks.child here) in
@@ -197,12 +197,12 @@ lists_are_within_budget imports calls lowered plan number root names many childr
           connective (connected (connect_of many) (take 1 steps.operands)) each.0.next,
           each.1,
           below_itself imports plan.mode plan.limit (connective (connected (connect_of many) (take 1 steps.operands)) each.0.next) itself_there
-              (first_with_next imports calls lowered plan is number root is_root names many children i outer rising long steps are_children each.0 alone.0 lacks.child lacks.one lacks.other alone.1 here alone.2 lacks.is_next lacks.short),
+              (first_with_next imports calls lowered plan is number root is_root f names many children i outer rising long steps are_children each.0 alone.0 lacks.child lacks.one lacks.other alone.1 here alone.2 lacks.is_next lacks.short),
         )
     by (suc (suc k)) some here first =
         let each = steps.each (suc k) (slice_get_within children (suc (suc k)) lacks.child here) in (
           connective (connected (connect_of many) (take (suc (suc k)) steps.operands)) each.0.next,
           each.1,
           below_itself imports plan.mode plan.limit (connective (connected (connect_of many) (take (suc (suc k)) steps.operands)) each.0.next) itself_there
-              (more_with_next imports calls lowered plan is number root is_root names many children i outer rising long steps are_children k each.0 lacks.one first lacks.child lacks.other here lacks.is_next lacks.short),
+              (more_with_next imports calls lowered plan is number root is_root f names many children i outer rising long steps are_children k each.0 lacks.one first lacks.child lacks.other here lacks.is_next lacks.short),
         )

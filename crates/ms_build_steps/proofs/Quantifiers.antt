@@ -28,7 +28,7 @@ use Rattle.ms_logic_core.specs.declared.core_formula.Root.{Root}
 use Rattle.ms_logic_measures.specs.Budgets.{IsBindingMeasure, IsWideningMeasure, budget, variables_inside}
 use Rattle.ms_logic_measures.specs.Steps.{binding}
 use Rattle.ms_logic_words.specs.Content.{variables_by_place}
-use Rattle.ms_build_steps.specs.Kinds.{IsBelowStep, itself, widening}
+use Rattle.ms_build_steps.specs.Kinds.{IsBelowOwnStep, itself, widening}
 use Rattle.ms_build_steps.specs.Laws.{IsPlanned, QuantifiersAreBelowTheirSteps, VariablesInsideAreOwnAndBound}
 use Rattle.ms_build_steps.proofs.Binders.{IsBoundBy, bound_by, bound_children}
 use Rattle.ms_build_steps.proofs.Inside.{inside_are}
@@ -92,7 +92,7 @@ module _ (imports : List Import) (calls : Calls) (lowered : Lowered) (plan : Pla
         lacks.whole lacks.automaton lacks.is_least lacks.is_whole k b.x o (ap (slice_get outer) own ∙ slice_get-push entry.orders o)
         (let same = as_long in let is_own = own in get_or_push names b.x 0 k (omega (arith, same, is_own))) b.r d lacks.range inside b.restriction_occurs children lacks.is_range lacks.short
 
-  pub quantifier_below : QuantifierLacks plan entry.orders (record { name = k; order = o }) d c → IsBelowStep imports plan.mode (whole_formula calls root) plan.limit
+  pub quantifier_below : QuantifierLacks plan entry.orders (record { name = k; order = o }) d c → IsBelowOwnStep imports plan.mode f plan.limit
   quantifier_below lacks = (
     binding (variable bound.x o) bound.r bound.body,
     bound.step,

@@ -55,7 +55,7 @@ module _ (names : List ℕ) (rising : IsStrictlyIncreasing names) where
   same_states (Bits s n) below = refl
 
 pub relations_are_below_their_steps : RelationsAreBelowTheirSteps
-relations_are_below_their_steps imports whole plan orders names i b rising below steps lacks = (
+relations_are_below_their_steps imports whole f plan orders names i b rising below steps lacks = (
   relation (renamed (slice_index names) b),
   steps,
   below_itself imports plan.mode plan.limit (relation (renamed (slice_index names) b)) itself_there

@@ -1,11 +1,11 @@
--- A limit below 16 is below each budget of some step of each formula.
-use Rattle.std.proofs.Common.{◌≡◌, ℕ, ◌+◌, ◌*◌, ◌≤◌, List, [], ◌∷◌, ◌++◌, Contains, arith}
-use Rattle.std.proofs.lemmas.List.Elements.{Contains-append_left, Contains-append_right}
+-- A limit below 16 is below each budget of some own step of each formula.
+use Rattle.std.proofs.Common.{◌≡◌, ℕ, ◌+◌, ◌*◌, ◌≤◌, List, [], ◌∷◌, Contains, arith}
+use Rattle.ms_dag_steps.specs.OwnSteps.{own_steps}
 use Rattle.ms_diagram.proofs.ListLemmas.{Contains-first}
-use Rattle.ms_logic_core.specs.CoreForm.{CoreForm, truth, falsity, basic, negation, conjunction, disjunction, implication, equivalence, restrict, imported, quantified, CoreForms, no_forms, more_forms}
+use Rattle.ms_logic_core.specs.CoreForm.{CoreForm, truth, falsity, basic, negation, conjunction, disjunction, implication, equivalence, restrict, imported, quantified, no_forms, more_forms}
 use Rattle.ms_logic_core.specs.Operands.{variable}
 use Rattle.ms_logic_measures.specs.Budgets.{budget}
-use Rattle.ms_logic_measures.specs.Steps.{Step, constant, of_one, relation, connective, binding, import_at, steps_among, steps_in, steps_of, steps_of_list}
+use Rattle.ms_logic_measures.specs.Steps.{Step, constant, of_one, relation, connective, binding, import_at, steps_of_list}
 use Rattle.ms_build_steps.specs.Laws.{SmallLimitsAreBelowSteps}
 use Rattle.ms_build_steps.proofs.StepKinds.{some_kind}
 
@@ -15,23 +15,22 @@ HasStep steps = (step : Step) × Contains steps step
 first_step : (step : Step) (steps : List Step) → HasStep (step ∷ steps)
 first_step step steps = (step, Contains-first step steps)
 
-behind_list : (list : List Step) (f : CoreForm) (fs : CoreForms) → HasStep (steps_of f) → HasStep (list ++ steps_among (more_forms f fs))
-behind_list list f fs one = (one.0, Contains-append_right list (steps_of f ++ steps_among fs) one.0 (Contains-append_left (steps_of f) (steps_among fs) one.0 one.1))
-
-some_step : (f : CoreForm) → HasStep (steps_of f)
+some_step : (f : CoreForm) → HasStep (own_steps f)
 some_step truth = first_step (constant truth) []
 some_step falsity = first_step (constant falsity) []
 some_step (basic b) = first_step (relation b) []
-some_step (negation f) = first_step (of_one (negation f) f) (steps_of f)
+some_step (negation f) = first_step (of_one (negation f) f) []
 some_step (conjunction no_forms) = first_step (constant (conjunction no_forms)) []
-some_step (conjunction (more_forms f fs)) = behind_list (steps_of_list conjunction [] (more_forms f fs)) f fs (some_step f)
+some_step (conjunction (more_forms f no_forms)) = some_step f
+some_step (conjunction (more_forms f (more_forms g gs))) = first_step (connective f g) (steps_of_list conjunction (f ∷ g ∷ []) gs)
 some_step (disjunction no_forms) = first_step (constant (disjunction no_forms)) []
-some_step (disjunction (more_forms f fs)) = behind_list (steps_of_list disjunction [] (more_forms f fs)) f fs (some_step f)
-some_step (implication f g) = first_step (connective f g) (steps_of f ++ steps_of g)
-some_step (equivalence f g) = first_step (connective f g) (steps_of f ++ steps_of g)
-some_step (restrict f) = first_step (of_one (restrict f) f) (steps_of f)
+some_step (disjunction (more_forms f no_forms)) = some_step f
+some_step (disjunction (more_forms f (more_forms g gs))) = first_step (connective f g) (steps_of_list disjunction (f ∷ g ∷ []) gs)
+some_step (implication f g) = first_step (connective f g) []
+some_step (equivalence f g) = first_step (connective f g) []
+some_step (restrict f) = first_step (of_one (restrict f) f) []
 some_step (imported i xs) = first_step (import_at i xs) []
-some_step (quantified q o x d f) = first_step (binding (variable x o) d f) (steps_in d ++ steps_of f)
+some_step (quantified q o x d f) = first_step (binding (variable x o) d f) []
 
 -- each budget is 1,024 at least
 large : (m r : ℕ) → 16 ≤ budget m r

@@ -92,8 +92,8 @@ pub bodies_widen_within_budget : BodiesWidenWithinBudget
 bodies_widen_within_budget imports calls lowered plan number root f names i entry q o k d c is is_root held is_bind occurs lacks =
     let node = is.graph.graph.nodes.nodes i entry held in
     let long : length names ≡ length entry.orders = same_Some _ _ (sym occurs.own ∙ ap (option_map length) (ap (option_map (λ (e : Entry). e.orders)) held)) in
-    let steps : HasItsSteps (whole_formula calls root) plan.dag.now.entries names i (nodes.Bind q o k d c)
-    = subst (HasItsSteps (whole_formula calls root) plan.dag.now.entries names i) is_bind
+    let steps : HasItsSteps (whole_formula calls root) f plan.dag.now.entries names i (nodes.Bind q o k d c)
+    = subst (HasItsSteps (whole_formula calls root) f plan.dag.now.entries names i) is_bind
     (nodes_have_their_steps (whole_formula calls root) plan.dag.now.entries f names i entry is.graph.graph.nodes held occurs) in
     let children : All (IsChild plan.dag.now.entries i (entry.orders ++ o ∷ [])) (children_of_binder d c)
     = subst (λ (n : DagNode). All (IsChild plan.dag.now.entries i (orders_inside n entry.orders)) (children_of n)) is_bind node.children in

@@ -1,11 +1,12 @@
 -- What is measured of a step. A quantifier has two measures, and a limit under which the one is short need not be below the budgets of
 -- the other: so it is said which.
 use Rattle.std.specs.Prelude.{ℕ, ◌<◌, ◌↔◌, List, [], ◌∷◌, Contains}
+use Rattle.ms_dag_steps.specs.OwnSteps.{own_steps}
 use Rattle.ms_logic.specs.Truth.{Answer, Import}
 use Rattle.ms_logic.specs.declared.mode.Mode.{Mode}
 use Rattle.ms_logic_core.specs.CoreForm.{CoreForm}
 use Rattle.ms_logic_measures.specs.Budgets.{IsBindingMeasure, IsMeasureOf, IsWideningMeasure, budget, variables_inside}
-use Rattle.ms_logic_measures.specs.Steps.{Step, binding, root, steps_of}
+use Rattle.ms_logic_measures.specs.Steps.{Step, binding, root}
 use Rattle.ms_logic_words.specs.Content.{Content}
 
 -- the step itself, or the widening before it
@@ -39,9 +40,9 @@ module _ (imports : List Import) (mode : Mode) where
   abbrev pub IsBelowOneOf : List Step → ℕ → Type 0
   IsBelowOneOf steps limit = (step : Step) × Contains steps step × IsBelowKind step limit
 
-  -- a limit is below each budget of one of the steps of a formula, of one of its kinds
-  abbrev pub IsBelowStep : CoreForm → ℕ → Type 0
-  IsBelowStep f limit = IsBelowOneOf (steps_of f) limit
+  -- a limit is below each budget of one of the own steps of a formula, of one of its kinds
+  abbrev pub IsBelowOwnStep : CoreForm → ℕ → Type 0
+  IsBelowOwnStep f limit = IsBelowOneOf (own_steps f) limit
 
 -- the measures of a step are those of its kinds
 abbrev pub MeasuresAreOfKinds : Type 0

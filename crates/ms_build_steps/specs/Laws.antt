@@ -20,7 +20,8 @@ use Rattle.ms_dag.specs.declared.node.DagNode.{DagNode}
 use Rattle.ms_dag.specs.declared.node.DagNode.TheVariants as nodes
 use Rattle.ms_dag.specs.declared.node.Entry.{Entry}
 use Rattle.ms_dag_steps.specs.NodeSteps.{ChildOccurs, HasItsSteps, HasStepsOfList}
-use Rattle.ms_dag_steps.specs.Occurrences.{Occurs, variables_named, whole_formula}
+use Rattle.ms_dag_steps.specs.Occurrences.{Occurs, OccursInRoot, variables_named, whole_formula}
+use Rattle.ms_dag_steps.specs.OwnSteps.{own_steps}
 use Rattle.ms_logic.specs.Truth.{Answer, Import}
 use Rattle.ms_logic.specs.declared.mode.Mode.{Mode}
 use Rattle.ms_logic.specs.declared.mode.Order.{Order}
@@ -38,7 +39,7 @@ use Rattle.ms_logic_measures.specs.Steps.{binding, connective, steps_of, root as
 use Rattle.ms_logic_words.specs.Content.{Content, variables_by_place}
 use Rattle.ms_logic_words.specs.declared.sign.Sign.{Sign}
 use Rattle.ms_product.specs.declared.op.Op.{Op}
-use Rattle.ms_build_steps.specs.Kinds.{IsBelowKind, IsBelowOneOf, IsBelowStep}
+use Rattle.ms_build_steps.specs.Kinds.{IsBelowKind, IsBelowOneOf, IsBelowOwnStep}
 
 -- the automaton of a node, over the node's own variables, says what the full content of its formula says, where these have rising names
 abbrev pub NodesSayWhatFormulasSay : Type 0
@@ -69,25 +70,25 @@ abbrev pub connect_of : Many → CoreForms → CoreForm
 connect_of All = conjunction
 connect_of Any = disjunction
 
--- where the children of a list occur in the formula of a root, the connective of the first ones with the next one lacks nodes only
--- under a limit below each budget of its step
+-- where a list occurs as a formula, and its children as operands in the formula of a root, the connective of the first ones with the next
+-- one lacks nodes only under a limit below each budget of an own step of the formula as which the list occurs
 abbrev pub ListsAreWithinBudget : Type 0
 ListsAreWithinBudget =
-    (imports : List Import) (calls : Calls) (lowered : Lowered) (plan : Plan) (number : ℕ) (root : Root) (names : List ℕ) (many : Many) (children : List Child) (i : ℕ) (outer : List Order)
+    (imports : List Import) (calls : Calls) (lowered : Lowered) (plan : Plan) (number : ℕ) (root : Root) (f : CoreForm) (names : List ℕ) (many : Many) (children : List Child) (i : ℕ) (outer : List Order)
     → IsPlanned imports calls lowered plan → slice_get lowered.roots number ≡ Some root → IsStrictlyIncreasing names → length names ≡ length outer
-    → HasStepsOfList (whole_formula calls root) (connect_of many) plan.dag.now.entries names i children → Each (IsChild plan.dag.now.entries i outer) children
-    → ManyLacks plan many children → IsBelowStep imports plan.mode (whole_formula calls root) plan.limit
+    → HasStepsOfList (whole_formula calls root) f (connect_of many) plan.dag.now.entries names i children → Each (IsChild plan.dag.now.entries i outer) children
+    → ManyLacks plan many children → IsBelowOwnStep imports plan.mode f plan.limit
 
--- where a relation occurs in a formula, its machine lacks nodes only under a limit below each budget of its step
+-- where a relation occurs as a formula, its machine lacks nodes only under a limit below each budget of the formula's own step
 abbrev pub RelationsAreBelowTheirSteps : Type 0
 RelationsAreBelowTheirSteps =
-    (imports : List Import) (whole : CoreForm) (plan : Plan) (orders : List Order) (names : List ℕ) (i : ℕ) (b : Basic)
-    → IsStrictlyIncreasing names → AreBelow (length names) (names_of_basic b) → HasItsSteps whole plan.dag.now.entries names i (nodes.Basic b)
-    → FormLacks plan orders (nodes.Basic b) → IsBelowStep imports plan.mode whole plan.limit
+    (imports : List Import) (whole f : CoreForm) (plan : Plan) (orders : List Order) (names : List ℕ) (i : ℕ) (b : Basic)
+    → IsStrictlyIncreasing names → AreBelow (length names) (names_of_basic b) → HasItsSteps whole f plan.dag.now.entries names i (nodes.Basic b)
+    → FormLacks plan orders (nodes.Basic b) → IsBelowOwnStep imports plan.mode f plan.limit
 
--- each formula has a step, and each budget is more than 16
+-- each formula has an own step, and each budget is more than 16
 abbrev pub SmallLimitsAreBelowSteps : Type 0
-SmallLimitsAreBelowSteps = (imports : List Import) (mode : Mode) (f : CoreForm) (limit : ℕ) → limit < 16 → IsBelowStep imports mode f limit
+SmallLimitsAreBelowSteps = (imports : List Import) (mode : Mode) (f : CoreForm) (limit : ℕ) → limit < 16 → IsBelowOwnStep imports mode f limit
 
 -- no import, and no quantifier
 abbrev pub IsPlainForm : DagNode → Type 0
@@ -96,23 +97,23 @@ IsPlainForm (nodes.Bind q o k d c) = ⊥
 IsPlainForm node = Unit {0}
 
 -- where a node that is no import and no quantifier occurs in the formula of a root, it lacks nodes only under a limit below each budget of
--- a step of that formula
+-- an own step of the formula as which it occurs
 abbrev pub PlainNodesAreBelowTheirSteps : Type 0
 PlainNodesAreBelowTheirSteps =
     (imports : List Import) (calls : Calls) (lowered : Lowered) (plan : Plan) (number : ℕ) (root : Root) (f : CoreForm) (names : List ℕ) (i : ℕ) (entry : Entry)
     → IsPlanned imports calls lowered plan → slice_get lowered.roots number ≡ Some root → slice_get plan.dag.now.entries i ≡ Some entry
     → Occurs (whole_formula calls root) plan.dag.now.entries f names i → IsPlainForm entry.node → NodeLacks plan i
-    → IsBelowStep imports plan.mode (whole_formula calls root) plan.limit
+    → IsBelowOwnStep imports plan.mode f plan.limit
 
 -- where an import occurs in the formula of a root, over lent automata within the limit, it lacks nodes only under a limit below each
--- budget of a step of that formula
+-- budget of an own step of the formula as which it occurs
 abbrev pub ImportsAreBelowTheirSteps : Type 0
 ImportsAreBelowTheirSteps =
     (imports : List Import) (calls : Calls) (lowered : Lowered) (plan : Plan) (number : ℕ) (root : Root) (f : CoreForm) (names : List ℕ) (i : ℕ)
     (entry : Entry) (import : ℕ) (xs : List ℕ)
     → IsPlanned imports calls lowered plan → slice_get lowered.roots number ≡ Some root → slice_get plan.dag.now.entries i ≡ Some entry
     → entry.node ≡ nodes.Import import xs → IsImportOf plan.imports.now plan.mode entry.orders import xs → Each (IsWithin plan.limit) plan.imports.now
-    → Occurs (whole_formula calls root) plan.dag.now.entries f names i → NodeLacks plan i → IsBelowStep imports plan.mode (whole_formula calls root) plan.limit
+    → Occurs (whole_formula calls root) plan.dag.now.entries f names i → NodeLacks plan i → IsBelowOwnStep imports plan.mode f plan.limit
 
 -- where a child occurs in the formula of a root, it lacks nodes, on the way to the variables at which it is read, only under a limit below
 -- each budget of the widening of its formula to these variables
@@ -124,15 +125,16 @@ WideningsAreWithinBudget =
     → ChildLacks plan child (variables_by_place outer)
     → (m r : ℕ) → IsWideningMeasure imports plan.mode f (variables_named names outer) m r → plan.limit < budget m r
 
--- where a quantifier occurs in the formula of a root, one of the steps binds the variable in a body that lacks nodes, on the way to the
--- quantifier's own variables and the bound one, only under a limit below each budget of the body's widening to these
+-- where a quantifier occurs in the formula of a root, the own step of the formula as which it occurs binds the variable in a body that
+-- lacks nodes, on the way to the quantifier's own variables and the bound one, only under a limit below each budget of the body's widening
+-- to these
 abbrev pub BodiesWidenWithinBudget : Type 0
 BodiesWidenWithinBudget =
     (imports : List Import) (calls : Calls) (lowered : Lowered) (plan : Plan) (number : ℕ) (root : Root) (f : CoreForm) (names : List ℕ) (i : ℕ) (entry : Entry)
     (q : Quant) (o : Order) (k : ℕ) (d : Option Child) (c : Child)
     → IsPlanned imports calls lowered plan → slice_get lowered.roots number ≡ Some root → slice_get plan.dag.now.entries i ≡ Some entry
     → entry.node ≡ nodes.Bind q o k d c → Occurs (whole_formula calls root) plan.dag.now.entries f names i → ChildLacks plan c (variables_by_place (entry.orders ++ o ∷ []))
-    → (x : ℕ) × (r : CoreRestriction) × (body : CoreForm) × Contains (steps_of (whole_formula calls root)) (binding (variable x o) r body)
+    → (x : ℕ) × (r : CoreRestriction) × (body : CoreForm) × Contains (own_steps f) (binding (variable x o) r body)
     × ((m n : ℕ) → IsWideningMeasure imports plan.mode body (variables_named (names ++ x ∷ []) (entry.orders ++ o ∷ [])) m n → plan.limit < budget m n)
 
 -- where a quantifier occurs in the formula of a root, the variables inside it are its own and behind them the bound one
@@ -144,24 +146,24 @@ VariablesInsideAreOwnAndBound =
     → Occurs (whole_formula calls root) dag.entries (quantified q o x r body) names i
     → variables_inside imports mode (variable x o) r body ≡ variables_named (names ++ x ∷ []) (entry.orders ++ o ∷ [])
 
--- where a quantifier occurs in the formula of a root, it lacks nodes only under a limit below each budget of a step of that formula, of one
--- of the step's kinds
+-- where a quantifier occurs in the formula of a root, it lacks nodes only under a limit below each budget of an own step of the formula as
+-- which it occurs, of one of the step's kinds
 abbrev pub QuantifiersAreBelowTheirSteps : Type 0
 QuantifiersAreBelowTheirSteps =
     (imports : List Import) (calls : Calls) (lowered : Lowered) (plan : Plan) (number : ℕ) (root : Root) (f : CoreForm) (names : List ℕ) (i : ℕ) (entry : Entry)
     (q : Quant) (o : Order) (k : ℕ) (d : Option Child) (c : Child)
     → IsPlanned imports calls lowered plan → slice_get lowered.roots number ≡ Some root → slice_get plan.dag.now.entries i ≡ Some entry
     → entry.node ≡ nodes.Bind q o k d c → Occurs (whole_formula calls root) plan.dag.now.entries f names i
-    → QuantifierLacks plan entry.orders (record { name = k; order = o }) d c → IsBelowStep imports plan.mode (whole_formula calls root) plan.limit
+    → QuantifierLacks plan entry.orders (record { name = k; order = o }) d c → IsBelowOwnStep imports plan.mode f plan.limit
 
 -- where a node occurs in the formula of a root, over lent automata of its imports that are within the limit, it lacks nodes only under a
--- limit below each budget of a step of that formula, of one of the step's kinds
+-- limit below each budget of an own step of the formula as which it occurs, of one of the step's kinds
 abbrev pub NodesAreBelowTheirSteps : Type 0
 NodesAreBelowTheirSteps =
     (imports : List Import) (calls : Calls) (lowered : Lowered) (plan : Plan) (number : ℕ) (root : Root) (f : CoreForm) (names : List ℕ) (i : ℕ)
     → IsPlanned imports calls lowered plan → slice_get lowered.roots number ≡ Some root
     → AreImportsOf plan.imports.now plan.mode plan.dag.now.entries → Each (IsWithin plan.limit) plan.imports.now
-    → Occurs (whole_formula calls root) plan.dag.now.entries f names i → NodeLacks plan i → IsBelowStep imports plan.mode (whole_formula calls root) plan.limit
+    → Occurs (whole_formula calls root) plan.dag.now.entries f names i → NodeLacks plan i → IsBelowOwnStep imports plan.mode f plan.limit
 
 -- a root of the source, over its variables with their orders, with what its imports stand for in their places
 abbrev pub whole_root : Calls → List Order → Root → Whole
@@ -174,12 +176,39 @@ RootsAreBelowTheirSteps =
     → IsPlanned imports calls lowered plan → slice_get lowered.roots number ≡ Some root → RootLacks plan number
     → IsBelowKind imports plan.mode (step_of_root (whole_root calls lowered.orders root)) plan.limit
 
+-- a node occurs in the formula of a root, and a limit is below each budget of an own step of the formula as which it occurs, of one of the
+-- step's kinds
+pub record IsBelowNode (imports : List Import) (calls : Calls) (mode : Mode) (lowered : Lowered) (entries : List Entry) (i limit : ℕ) : Type 0 where
+  pub at : OccursInRoot calls lowered.roots entries i
+  pub below : IsBelowOwnStep imports mode at.formula limit
+
+-- there is a root with this number, and a limit is below each budget of its step, of one of the step's kinds
+pub record IsBelowRoot (imports : List Import) (calls : Calls) (mode : Mode) (lowered : Lowered) (number limit : ℕ) : Type 0 where
+  pub root : Root
+  pub is_root : slice_get lowered.roots number ≡ Some root
+  pub below : IsBelowKind imports mode (step_of_root (whole_root calls lowered.orders root)) limit
+
+-- so whatever lacks nodes, over lent automata of the imports that are within the limit, lacks them only under a limit below each budget of
+-- a step of its own, of one of the step's kinds
+abbrev pub LackingIsBelowItsSteps : Type 0
+LackingIsBelowItsSteps =
+    (imports : List Import) (calls : Calls) (lowered : Lowered) (plan : Plan) (i : ℕ)
+    → IsPlanned imports calls lowered plan → AreImportsOf plan.imports.now plan.mode plan.dag.now.entries → Each (IsWithin plan.limit) plan.imports.now
+    → (NodeLacks plan i → IsBelowNode imports calls plan.mode lowered plan.dag.now.entries i plan.limit)
+    × (RootLacks plan i → IsBelowRoot imports calls plan.mode lowered i plan.limit)
+
 -- a limit is below each budget of one of the steps of the roots of a source, of one of the step's kinds
 pub record IsBelowRoots (imports : List Import) (calls : Calls) (mode : Mode) (lowered : Lowered) (limit : ℕ) : Type 0 where
   pub number : ℕ
   pub root : Root
   pub is_root : slice_get lowered.roots number ≡ Some root
   pub below : IsBelowOneOf imports mode (step_of_root (whole_root calls lowered.orders root) ∷ steps_of (whole_formula calls root)) limit
+
+-- the steps of nodes, where these occur, and those of roots are such steps
+abbrev pub BelowItsStepsIsBelowRoots : Type 0
+BelowItsStepsIsBelowRoots =
+    (imports : List Import) (calls : Calls) (mode : Mode) (lowered : Lowered) (entries : List Entry) (i limit : ℕ)
+    → IsBelowNode imports calls mode lowered entries i limit ⊎ IsBelowRoot imports calls mode lowered i limit → IsBelowRoots imports calls mode lowered limit
 
 -- so whatever lacks nodes, over lent automata of the imports that are within the limit, lacks them only under a limit below each budget of
 -- one of the steps of the roots, of one of the step's kinds

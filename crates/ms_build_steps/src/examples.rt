@@ -1,6 +1,6 @@
 //! The definitions at small cases, worked out by hand. Each function has an empty body, and its contract is the table of its examples.
 
-ghost use Rattle.ms_build_steps.specs.Kinds.{IsBelowKind, IsBelowStep, IsMeasureOfKind, itself, kinds_of, widening};
+ghost use Rattle.ms_build_steps.specs.Kinds.{IsBelowKind, IsBelowOwnStep, IsMeasureOfKind, itself, kinds_of, widening};
 ghost use Rattle.ms_logic.specs.Truth.{Answer};
 ghost use Rattle.ms_logic.specs.declared.mode.Mode.TheVariants.{Ws1s};
 ghost use Rattle.ms_logic.specs.declared.mode.Order.TheVariants.{Two};
@@ -16,8 +16,8 @@ ghost use Rattle.std.specs.Prelude.{◌≡◌, ℕ, List, [], ◌∷◌};
 
 /// P sub Q has one step, a relation of four states and nodes, and its budget is (4 + 2)² · 256 = 9,216.
 pub fn worked_steps()
-    ensures below { IsBelowStep [] Ws1s subset_form 9215 }
-    ensures not_below { ¬ IsBelowStep [] Ws1s subset_form 9216 }
+    ensures below { IsBelowOwnStep [] Ws1s subset_form 9215 }
+    ensures not_below { ¬ IsBelowOwnStep [] Ws1s subset_form 9216 }
 {}
 
 /// What is measured of a relation, of a quantifier, and of the root of var2 P, Q; P sub Q.

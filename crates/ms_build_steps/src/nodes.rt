@@ -3,7 +3,7 @@
 ghost use Rattle.ms_build_steps.specs.Laws.{BodiesWidenWithinBudget, ConnectivesAreWithinBudget, ImportsAreBelowTheirSteps, ListsAreWithinBudget, NodesSayWhatFormulasSay, PlainNodesAreBelowTheirSteps, QuantifiersAreBelowTheirSteps, RelationsAreBelowTheirSteps, SmallLimitsAreBelowSteps, VariablesInsideAreOwnAndBound, WideningsAreWithinBudget};
 
 /// The automaton of a node says what the full content of its formula says. So a node, over lent automata within the limit, lacks nodes
-/// only under a limit below each budget of a step of the formula in which it occurs, of one of the step's kinds. A child lacks nodes over
+/// only under a limit below each budget of an own step of the formula as which it occurs, of one of the step's kinds. A child lacks nodes over
 /// the variables at which it is read only under a limit below each budget of the widening of its formula to these. So does the body of a
 /// quantifier, which is read at the quantifier's own variables and the bound one.
 pub fn laws_of_nodes()

@@ -5,3 +5,4 @@ pub mod OwnLemmas
 pub mod PartLemmas
 pub mod StepLemmas
 pub mod SubformulaLemmas
+pub mod SubformulaSteps

@@ -1,14 +1,14 @@
--- The steps of nodes, and those of the formulas that they are.
-use Rattle.std.proofs.Common.{◌≡◌, ℕ, zero, suc, ◌<◌, List, [], ◌∷◌, ◌++◌, length, take, slice_get, All, Contains, Option, Some, None, refl, sym, ap, subst, ◌∙◌, ⊎_elim, append_assoc, append-nil, arith}
+-- The steps of nodes, which are own steps of the formulas that they are.
+use Rattle.std.proofs.Common.{◌≡◌, ℕ, zero, suc, ◌<◌, List, [], ◌∷◌, ◌++◌, length, take, slice_get, All, Contains, Option, Some, None, refl, sym, ap, subst, ◌∙◌, append_assoc, append-nil, arith}
 use Rattle.std.specs.List.{AllZip}
 use Rattle.std.specs.Option.{option_map}
 use Rattle.ms_logic.specs.declared.mode.Order.{Order}
-use Rattle.std.proofs.lemmas.List.Elements.{All-head, All-tail, Contains-append_cases, Contains-append_left, Contains-append_right}
+use Rattle.std.proofs.lemmas.List.Elements.{All-head, All-tail}
 use Rattle.std.proofs.lemmas.Option.{same_Some, slice_get_within, slice_get-get_or}
-use Rattle.ms_diagram.proofs.ListLemmas.{Contains-cases, Contains-first, Contains-none, Contains-rest}
+use Rattle.ms_diagram.proofs.ListLemmas.{Contains-first, Contains-rest}
 use Rattle.ms_logic_core.specs.CoreForm.{CoreForm, truth, falsity, basic, negation, conjunction, disjunction, implication, equivalence, restrict, imported, quantified, CoreForms, no_forms, more_forms, CoreRestriction, unrestricted, restricted, core_forms}
 use Rattle.ms_logic_core.specs.Operands.{variable}
-use Rattle.ms_logic_measures.specs.Steps.{Step, connected, connective, constant, steps_among, steps_in, steps_of, steps_of_list}
+use Rattle.ms_logic_measures.specs.Steps.{Step, connected, connective, constant, steps_of_list}
 use Rattle.ms_logic_measures.specs.Steps as step
 use Rattle.ms_dag.specs.declared.node.Child.{Child}
 use Rattle.ms_dag.specs.declared.node.DagNode.{DagNode}
@@ -19,47 +19,10 @@ use Rattle.ms_dag.specs.Unfolds.{UnfoldEach, Unfolds, UnfoldsIn, node_at}
 use Rattle.ms_dag_steps.specs.Laws.{NodesHaveTheirSteps, PrefixesAreOperands}
 use Rattle.ms_dag_steps.specs.NodeSteps.{ChildOccurs, HasItsSteps, HasStepsOfList, Prefix, RestrictionOccurs}
 use Rattle.ms_dag_steps.specs.Occurrences.{Occurs}
-use Rattle.ms_dag_steps.specs.Subformulas.{IsSubformula}
+use Rattle.ms_dag_steps.specs.OwnSteps.{own_steps}
 use Rattle.ms_dag_steps.specs.inner.Parts.{IsFormula, forms_of, names_inside, parts_of, restrictions_of}
 use Rattle.ms_dag_steps.proofs.OccurrenceLemmas.{child_occurs}
-use Rattle.ms_dag_steps.proofs.SubformulaLemmas.{goes_down, one_of_two, only}
-
-module _ (s : Step) where
-  of_one_operand : (fs : CoreForms) (f : CoreForm) → Contains (forms_of fs) f → Contains (steps_of f) s → Contains (steps_among fs) s
-  of_one_operand no_forms f there is = absurd (Contains-none f there)
-  of_one_operand (more_forms g gs) f there is =
-      ⊎_elim (λ same. Contains-append_left (steps_of g) (steps_among gs) s (subst (λ h. Contains (steps_of h) s) same is))
-      (λ later. Contains-append_right (steps_of g) (steps_among gs) s (of_one_operand gs f later is)) (Contains-cases g (forms_of gs) f there)
-
-  of_restriction : (d : CoreRestriction) (f : CoreForm) → Contains (restrictions_of d) f → Contains (steps_of f) s → Contains (steps_in d) s
-  of_restriction unrestricted f there is = absurd (Contains-none f there)
-  of_restriction (restricted d) f there is = subst (λ h. Contains (steps_of h) s) (only f d there) is
-
-  of_two : (g h : CoreForm) (first : Step) (f : CoreForm) → Contains (g ∷ h ∷ []) f → Contains (steps_of f) s → Contains (first ∷ steps_of g ++ steps_of h) s
-  of_two g h first f there is = Contains-rest first (steps_of g ++ steps_of h) s
-      (⊎_elim (λ same. Contains-append_left (steps_of g) (steps_of h) s (subst (λ k. Contains (steps_of k) s) same is))
-      (λ same. Contains-append_right (steps_of g) (steps_of h) s (subst (λ k. Contains (steps_of k) s) same is)) (one_of_two f g h there))
-
-  -- the steps of a part are steps of the whole
-  step_of_part : (h f : CoreForm) → Contains (parts_of h) f → Contains (steps_of f) s → Contains (steps_of h) s
-  step_of_part truth f there is = absurd (Contains-none f there)
-  step_of_part falsity f there is = absurd (Contains-none f there)
-  step_of_part (basic b) f there is = absurd (Contains-none f there)
-  step_of_part (negation h) f there is = Contains-rest (step.of_one (negation h) h) (steps_of h) s (subst (λ k. Contains (steps_of k) s) (only f h there) is)
-  step_of_part (conjunction hs) f there is = Contains-append_right (steps_of_list conjunction [] hs) (steps_among hs) s (of_one_operand hs f there is)
-  step_of_part (disjunction hs) f there is = Contains-append_right (steps_of_list disjunction [] hs) (steps_among hs) s (of_one_operand hs f there is)
-  step_of_part (implication g h) f there is = of_two g h (connective g h) f there is
-  step_of_part (equivalence g h) f there is = of_two g h (connective g h) f there is
-  step_of_part (restrict h) f there is = Contains-rest (step.of_one (restrict h) h) (steps_of h) s (subst (λ k. Contains (steps_of k) s) (only f h there) is)
-  step_of_part (imported i xs) f there is = absurd (Contains-none f there)
-  step_of_part (quantified q o x d h) f there is = Contains-rest (step.binding (variable x o) d h) (steps_in d ++ steps_of h) s
-      (⊎_elim (λ above. Contains-append_left (steps_in d) (steps_of h) s (of_restriction d f above is))
-      (λ below. Contains-append_right (steps_in d) (steps_of h) s (subst (λ k. Contains (steps_of k) s) (only f h below) is)) (Contains-append_cases (restrictions_of d) (h ∷ []) f there))
-
--- the steps of a subformula are steps of the whole
-pub step_of_subformula : (h f : CoreForm) → IsSubformula f h → (s : Step) → Contains (steps_of f) s → Contains (steps_of h) s
-step_of_subformula h f is =
-    goes_down (λ k. (s : Step) → Contains (steps_of k) s → Contains (steps_of h) s) (λ k part at there s inside. at s (step_of_part s k part there inside)) h f (λ s inside. inside) is
+use Rattle.ms_dag_steps.proofs.SubformulaSteps.{own_of_conjunction, own_of_disjunction}
 
 -- a list of operands is that of its formulas
 same_operands : (fs : CoreForms) → core_forms (forms_of fs) ≡ fs
@@ -158,8 +121,8 @@ module _ (whole : CoreForm) (entries : List Entry) (f : CoreForm) (names : List 
 
   -- the connective of the children has its steps
   list_steps : (connect : CoreForms → CoreForm) (fs : CoreForms) (children : List Child) → ((g : CoreForm) → Contains (forms_of fs) g → Contains (parts_of f) g) → All (IsChild entries i outer) children
-      → UnfoldEach entries fs (names_inside f names) i children → ((s : Step) → Contains (steps_of_list connect [] fs) s → Contains (steps_of whole) s)
-      → HasStepsOfList whole connect entries (names_inside f names) i children
+      → UnfoldEach entries fs (names_inside f names) i children → ((s : Step) → Contains (steps_of_list connect [] fs) s → Contains (own_steps f) s)
+      → HasStepsOfList whole f connect entries (names_inside f names) i children
   list_steps connect fs children parts all are within = record {
     operands = forms_of fs;
     occur = operands_occur fs children parts all are;
@@ -182,45 +145,42 @@ module _ (whole : CoreForm) (entries : List Entry) (f : CoreForm) (names : List 
       )
 
 module _ (whole : CoreForm) (entries : List Entry) (names : List ℕ) (i : ℕ) (entry : Entry) (held : slice_get entries i ≡ Some entry) (is : IsNode entries i entry) where
-  abbrev Has : DagNode → Type 0
-  Has node = HasItsSteps whole entries names i node
+  abbrev Has : CoreForm → DagNode → Type 0
+  Has f node = HasItsSteps whole f entries names i node
 
-  by_node : (node : DagNode) → node_at entries i ≡ Some node → (All (IsChild entries i (orders_inside node entry.orders)) (children_of node) → Has node) → Has entry.node
-  by_node node there step =
+  by_node : (f : CoreForm) (node : DagNode) → node_at entries i ≡ Some node → (All (IsChild entries i (orders_inside node entry.orders)) (children_of node) → Has f node) → Has f entry.node
+  by_node f node there step =
       let same : entry.node ≡ node = same_Some entry.node node (sym (ap (option_map (λ e. e.node)) held) ∙ there) in
-      subst Has (sym same) (step (subst (λ (n : DagNode). All (IsChild entries i (orders_inside n entry.orders)) (children_of n)) same is.children))
+      subst (Has f) (sym same) (step (subst (λ (n : DagNode). All (IsChild entries i (orders_inside n entry.orders)) (children_of n)) same is.children))
 
-  -- a node has the steps of the formula that it is
-  node_steps : (f : CoreForm) → Occurs whole entries f names i → Unfolds entries f names i → ((s : Step) → Contains (steps_of f) s → Contains (steps_of whole) s) → Has entry.node
-  node_steps truth at unfolds within = by_node True unfolds (λ all. within (constant truth) (Contains-first (constant truth) []))
-  node_steps falsity at unfolds within = by_node False unfolds (λ all. within (constant falsity) (Contains-first (constant falsity) []))
-  node_steps (basic b) at unfolds within =
-      by_node (Basic unfolds.0) unfolds.1 (λ all. subst (λ r. Contains (steps_of whole) (step.relation r)) unfolds.3 (within (step.relation b) (Contains-first (step.relation b) [])))
-  node_steps (negation f) at unfolds within = by_node (Not unfolds.0) unfolds.1
-      (λ all. (f, one_occurs whole entries (negation f) names i at entry.orders unfolds.0 all f (Contains-first f []) unfolds.2, within (step.of_one (negation f) f) (Contains-first (step.of_one (negation f) f) (steps_of f))))
-  node_steps (conjunction fs) at unfolds within = by_node (And unfolds.0) unfolds.1
-      (λ all. list_steps whole entries (conjunction fs) names i at entry.orders conjunction fs unfolds.0 (λ g there. there) all unfolds.2
-      (λ s there. within s (Contains-append_left (steps_of_list conjunction [] fs) (steps_among fs) s there)))
-  node_steps (disjunction fs) at unfolds within = by_node (Or unfolds.0) unfolds.1
-      (λ all. list_steps whole entries (disjunction fs) names i at entry.orders disjunction fs unfolds.0 (λ g there. there) all unfolds.2
-      (λ s there. within s (Contains-append_left (steps_of_list disjunction [] fs) (steps_among fs) s there)))
-  node_steps (implication f g) at unfolds within = by_node (Implies unfolds.0 unfolds.1) unfolds.2
+  -- a node has the own steps of the formula that it is
+  node_steps : (f : CoreForm) → Occurs whole entries f names i → Unfolds entries f names i → Has f entry.node
+  node_steps truth at unfolds = by_node truth True unfolds (λ all. Contains-first (constant truth) [])
+  node_steps falsity at unfolds = by_node falsity False unfolds (λ all. Contains-first (constant falsity) [])
+  node_steps (basic b) at unfolds =
+      by_node (basic b) (Basic unfolds.0) unfolds.1 (λ all. subst (λ r. Contains (own_steps (basic b)) (step.relation r)) unfolds.3 (Contains-first (step.relation b) []))
+  node_steps (negation f) at unfolds = by_node (negation f) (Not unfolds.0) unfolds.1
+      (λ all. (f, one_occurs whole entries (negation f) names i at entry.orders unfolds.0 all f (Contains-first f []) unfolds.2, Contains-first (step.of_one (negation f) f) []))
+  node_steps (conjunction fs) at unfolds = by_node (conjunction fs) (And unfolds.0) unfolds.1
+      (λ all. list_steps whole entries (conjunction fs) names i at entry.orders conjunction fs unfolds.0 (λ g there. there) all unfolds.2 (λ s there. own_of_conjunction s fs there))
+  node_steps (disjunction fs) at unfolds = by_node (disjunction fs) (Or unfolds.0) unfolds.1
+      (λ all. list_steps whole entries (disjunction fs) names i at entry.orders disjunction fs unfolds.0 (λ g there. there) all unfolds.2 (λ s there. own_of_disjunction s fs there))
+  node_steps (implication f g) at unfolds = by_node (implication f g) (Implies unfolds.0 unfolds.1) unfolds.2
       (λ all.
       let both = two_occur whole entries (implication f g) names i at entry.orders unfolds.0 unfolds.1 all f g (Contains-first f (g ∷ [])) (Contains-rest f (g ∷ []) g (Contains-first g [])) unfolds.3 unfolds.4 in
-      (f, g, both.0, both.1, within (connective f g) (Contains-first (connective f g) (steps_of f ++ steps_of g))))
-  node_steps (equivalence f g) at unfolds within = by_node (Iff unfolds.0 unfolds.1) unfolds.2
+      (f, g, both.0, both.1, Contains-first (connective f g) []))
+  node_steps (equivalence f g) at unfolds = by_node (equivalence f g) (Iff unfolds.0 unfolds.1) unfolds.2
       (λ all.
       let both = two_occur whole entries (equivalence f g) names i at entry.orders unfolds.0 unfolds.1 all f g (Contains-first f (g ∷ [])) (Contains-rest f (g ∷ []) g (Contains-first g [])) unfolds.3 unfolds.4 in
-      (f, g, both.0, both.1, within (connective f g) (Contains-first (connective f g) (steps_of f ++ steps_of g))))
-  node_steps (restrict f) at unfolds within = by_node (Restrict unfolds.0) unfolds.1
-      (λ all. (f, one_occurs whole entries (restrict f) names i at entry.orders unfolds.0 all f (Contains-first f []) unfolds.2, within (step.of_one (restrict f) f) (Contains-first (step.of_one (restrict f) f) (steps_of f))))
-  node_steps (imported n xs) at unfolds within =
-      by_node (Import n unfolds.0) unfolds.1 (λ all. subst (λ ys. Contains (steps_of whole) (step.import_at n ys)) unfolds.3 (within (step.import_at n xs) (Contains-first (step.import_at n xs) [])))
-  node_steps (quantified q o x d f) at unfolds within = by_node (Bind q o (length names) unfolds.0 unfolds.1) unfolds.2
+      (f, g, both.0, both.1, Contains-first (connective f g) []))
+  node_steps (restrict f) at unfolds = by_node (restrict f) (Restrict unfolds.0) unfolds.1
+      (λ all. (f, one_occurs whole entries (restrict f) names i at entry.orders unfolds.0 all f (Contains-first f []) unfolds.2, Contains-first (step.of_one (restrict f) f) []))
+  node_steps (imported n xs) at unfolds =
+      by_node (imported n xs) (Import n unfolds.0) unfolds.1 (λ all. subst (λ ys. Contains (own_steps (imported n xs)) (step.import_at n ys)) unfolds.3 (Contains-first (step.import_at n xs) []))
+  node_steps (quantified q o x d f) at unfolds = by_node (quantified q o x d f) (Bind q o (length names) unfolds.0 unfolds.1) unfolds.2
       (λ all.
       let both = binder_occurs whole entries (quantified q o x d f) names i at (entry.orders ++ o ∷ []) d f unfolds.0 unfolds.1 all (λ h there. there) unfolds.4 unfolds.5 in
-      (x, d, f, unfolds.3, both.0, both.1, within (step.binding (variable x o) d f) (Contains-first (step.binding (variable x o) d f) (steps_in d ++ steps_of f))))
+      (x, d, f, unfolds.3, both.0, both.1, Contains-first (step.binding (variable x o) d f) []))
 
 pub nodes_have_their_steps : NodesHaveTheirSteps
-nodes_have_their_steps whole entries f names place entry nodes held at =
-    node_steps whole entries names place entry held (nodes.nodes place entry held) f at at.unfolds (step_of_subformula whole f at.subformula)
+nodes_have_their_steps whole entries f names place entry nodes held at = node_steps whole entries names place entry held (nodes.nodes place entry held) f at at.unfolds
