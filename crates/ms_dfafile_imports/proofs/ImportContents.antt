@@ -21,8 +21,7 @@ use Rattle.ms_logic.proofs.Items.{contains_at}
 use Rattle.ms_logic_measures.specs.Budgets.{AreContentsOfImports, IsContentOfImport}
 use Rattle.ms_logic_words.specs.Content.{variables_by_place}
 use Rattle.ms_names_checked.specs.Names.{AreDifferent}
-use Rattle.ms_dfafile_imports.specs.Enough.{contents_of}
-use Rattle.ms_dfafile_imports.specs.Enough.{FilesAreContentsOfImports}
+use Rattle.ms_dfafile_imports.specs.Enough.{FilesAreContentsOfImports, contents_of}
 use Rattle.ms_dfafile_imports.proofs.FileAnswers.{answers_alike}
 use Rattle.ms_dfafile_imports.proofs.Namings.{as_many_pairs, naming}
 

@@ -12,3 +12,4 @@ pub mod Relations
 pub mod Sets
 pub mod Signed
 pub mod Values
+pub mod WorkedScopes

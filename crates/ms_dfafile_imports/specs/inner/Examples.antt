@@ -6,14 +6,19 @@ use Rattle.ms_dfa.specs.declared.plain.Plain.{Plain}
 use Rattle.ms_list.specs.declared.at.At.{At}
 use Rattle.ms_edge.specs.Files.{FilesTold, Seen, between}
 use Rattle.ms_logic.specs.declared.checked.ImportUse.{ImportUse}
+use Rattle.ms_logic.specs.declared.checked.MapPair.{MapPair}
 use Rattle.ms_logic.specs.declared.mode.Mode.{Mode}
 
 abbrev pub nowhere : At
 nowhere = record { file = 0; place = 0 }
 
+-- import(name, pairs)
+abbrev pub import_by : List ℕ → List MapPair → ImportUse
+import_by name pairs = record { at = nowhere; name = name; pairs = pairs }
+
 -- import(name)
 abbrev pub import_of : List ℕ → ImportUse
-import_of name = record { at = nowhere; name = name; pairs = [] }
+import_of name = import_by name []
 
 -- a content of a mode, without variables
 abbrev pub content_in : Mode → Plain
