@@ -10,6 +10,7 @@ ghost use Rattle.ms_cert.specs.Certificate.{AreWordsTo, GrowByLetters};
 ghost use Rattle.ms_cert.specs.ShortestWords.{AreShortest};
 ghost use Rattle.ms_cert.specs.inner.Levels.{AreUpTo, HasBegun, IsKept, IsReached, IsWordOf, Leads, MakesWords, level_of, made_word, reached_of, with_word};
 
+use crate::room::{MOST_LETTERS, take_room};
 use ms_arena::{Node, Ref};
 use ms_dfa::{FileVar, Part, Plain, is_in};
 use ms_list::{List, NoMemory, Word, push};
@@ -26,6 +27,8 @@ struct Found {
     seen: Vec<bool>,
     /// The states whose words are known, in the order in which they came to be.
     order: Vec<u32>,
+    /// How many letters further words may have.
+    room: usize,
 }
 
 /// Where words go on: at the start with truth values, or behind a word with one letter more.
@@ -125,6 +128,7 @@ fn put(found: &mut Found, state: u32, word: Word) -> Result<(), NoMemory>
     requires known { state < length found.old.known.items }
     ensures { OnOk result (reached_of found.new ≡ with_word (reached_of found.old) state word) }
 {
+    take_room(&mut found.room, word.letters.len())?;
     found.words[state as usize] = word;
     found.known[state as usize] = true;
     match found.order.push(state) {
@@ -238,6 +242,7 @@ fn nothing(alloc: Global, plain: &Plain) -> Result<Found, NoMemory>
         known,
         seen,
         order: Vec::new(alloc),
+        room: MOST_LETTERS,
     })
 }
 

@@ -20,6 +20,7 @@ mod lines;
 mod partition;
 mod reading;
 mod refinement;
+mod room;
 mod running;
 mod separation;
 mod shortest;

@@ -8,6 +8,7 @@ ghost use Rattle.ms_cert.specs.inner.Slots.{slots_of};
 use crate::cert::TreeLine;
 use crate::laid_out::LaidOut;
 use crate::levels::copy_letters;
+use crate::room::{MOST_LETTERS, take_room};
 use crate::separation::{Sides, all_states, split};
 use ms_dfa::{FileSign, Plain};
 use ms_list::{List, NoMemory, push};
@@ -30,6 +31,8 @@ pub(crate) struct Partition {
     pub parents: Vec<usize>,
     /// For each class what it was split off by: from its states the letters end in the sign.
     pub splitters: Vec<Splitter>,
+    /// How many letters further splitters may have.
+    pub room: usize,
 }
 
 // Written out, so that a function that lets one go at each of its exits is proved at the cost of a call.
@@ -40,6 +43,7 @@ impl Drop for Partition {
             members: _,
             parents: _,
             splitters: _,
+            room: _,
         } = self;
     }
 }
@@ -78,6 +82,7 @@ pub(crate) fn one_class(alloc: Global, plain: &Plain) -> Result<Partition, NoMem
         members,
         parents,
         splitters,
+        room: MOST_LETTERS,
     })
 }
 
@@ -124,6 +129,7 @@ fn put(
     requires states { (state : ℕ) → IsIn sides.first state → state < length partition.old.classes.items }
     ensures { OnOk result (classes_of partition.new ≡ with_sides (classes_of partition.old) class splitter sides) }
 {
+    take_room(&mut partition.room, splitter.letters.len())?;
     let count = partition.parents.len();
     let Sides { first, second } = sides;
     assign(&mut partition.classes, first.slice(), count as u32);
