@@ -6,7 +6,7 @@ _monastr() {
     local word=${COMP_WORDS[COMP_CWORD]} command=${COMP_WORDS[1]} before=${COMP_WORDS[COMP_CWORD - 1]} options=
     COMPREPLY=()
     if [ "$COMP_CWORD" -eq 1 ]; then
-        mapfile -t COMPREPLY < <(compgen -W 'decide same gen ltl presburger check help prove test --help' -- "$word")
+        mapfile -t COMPREPLY < <(compgen -W 'decide same gen ltl presburger check certify help prove test --help' -- "$word")
         return
     fi
     case "$before" in
@@ -22,6 +22,7 @@ _monastr() {
         gen) options='--decide' ;;
         ltl | presburger) options='--max-nodes' ;;
         check) ;;
+        certify) options='--max-nodes' ;;
         *) return ;;
     esac
     if [[ $word == -* ]]; then

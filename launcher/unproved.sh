@@ -10,6 +10,7 @@ handed=()
 may_be_tried() {
     local word name names
     handed=()
+    [ "$1" != certify ] || return 1
     for word in "$@"; do
         case "$word" in --out* | *$'\n'*) return 1 ;; esac
         [ ! -f "$top/crates/monastr/$word" ] || [ -f "$word" ] || return 1
@@ -39,7 +40,7 @@ proof_takes() {
 # does, which needs no build.
 answer_unbuilt() {
     case "${1-}" in
-        decide | same | gen | ltl | presburger | check) need_kit ;;
+        decide | same | gen | ltl | presburger | check | certify) need_kit ;;
         *) echo "usage: the words are not a command of monastr" && exit 1 ;;
     esac
     if may_be_tried "$@"; then answer_unproved "$@"; fi

@@ -5,7 +5,7 @@ use Rattle.ms_edge.specs.declared.refusal.Refusal.TheVariants.{Memory}
 use Rattle.ms_build.specs.Built.{IsLimit}
 use Rattle.ms_app_words.specs.Command.{HasLimit, IsCommand}
 use Rattle.ms_app_words.specs.declared.command.Command.{Command}
-use Rattle.ms_app_words.specs.declared.command.Command.TheVariants.{Decide, Same, Gen, Ltl, Presburger, Check}
+use Rattle.ms_app_words.specs.declared.command.Command.TheVariants.{Decide, Same, Gen, Ltl, Presburger, Check, Certify}
 use Rattle.ms_app.specs.Answer.{IsLimited, IsRefusedFor}
 use Rattle.ms_cert_check.specs.Check as checks
 use Rattle.ms_ltlf_decide.specs.Formula as formulas
@@ -24,6 +24,7 @@ limited words (Gen number decide) asked = tt
 limited words (Ltl file max_nodes) asked = limit_by _ max_nodes asked.asked.1
 limited words (Presburger file max_nodes) asked = limit_by _ max_nodes asked.asked.1
 limited words (Check name) asked = tt
+limited words (Certify file name max_nodes) asked = limit_by _ max_nodes asked.asked.0.1
 
 -- want of memory needs no cause
 pub memory_refuses : (command : Command) (seen : Seen) (files : List (List ℕ)) → IsRefusedFor command seen Memory files
@@ -34,3 +35,4 @@ memory_refuses (Gen number true) seen files = inl refl
 memory_refuses (Ltl file max_nodes) seen files = formulas.no_memory refl
 memory_refuses (Presburger file max_nodes) seen files = problems.no_memory refl
 memory_refuses (Check name) seen files = checks.no_memory refl
+memory_refuses (Certify file name max_nodes) seen files = sources.no_memory refl

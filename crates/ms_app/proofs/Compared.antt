@@ -1,5 +1,5 @@
 -- Two sources that can be compared are refused for want of memory alone, or of nodes under a limit that is not enough.
-use Rattle.std.proofs.Common.{◌≡◌, ℕ, ◌≤◌, inl, inr, List, [], ◌∷◌, length, map, Option, None, Some, refl, sym, ap, ◌∙◌, subst, arith}
+use Rattle.std.proofs.Common.{◌≡◌, ℕ, ◌≤◌, inl, inr, List, [], ◌∷◌, length, map, Option, Some, refl, sym, ap, ◌∙◌, subst, arith}
 use Rattle.ms_edge.specs.Counts.{Rose}
 use Rattle.ms_edge.specs.Files.{FilesTold, Holding, Seen}
 use Rattle.ms_edge.specs.declared.refusal.Refusal.{Refusal}
@@ -82,7 +82,7 @@ same_right : (holding : Holding) (left right : List ℕ) (seen : Seen) (one two 
     (are : AreSolved left right seen one two) (are' : AreSolved left right seen one' two') → are.right_loaded ≡ are'.right_loaded
 same_right holding left right seen one two one' two' told are are' =
     let same = same_left holding left right right seen one two one' two' told are are' in
-    let is = subst (λ (l : Loaded). IsSolved (file_of are'.rest (length l.files) right) None are'.right_loaded two'.checked two'.plains) (sym same) are'.is_right in
+    let is = subst (λ (l : Loaded). IsSolved (file_of are'.rest (length l.files) right) [] are'.right_loaded two'.checked two'.plains) (sym same) are'.is_right in
     one_load are.rest are'.rest (record {
       holding = holding;
       one_told = rest_told holding seen are.first are.rest are.are_parts told;
@@ -106,8 +106,8 @@ pub comparable : (holding : Holding) (left right : List ℕ) (limit : ℕ) (seen
     AreSolved left right seen one two → HaveSameGlobals one.checked two.checked → (refusal : Refusal) (files : List (List ℕ)) → IsRefusedComparison left right limit seen refusal files → IsWantUnder (IsEnoughForBoth left right limit seen) limit refusal
 comparable holding left right limit seen one two told works are globals refusal files (comparisons.left_refused why) =
     let same : TellSame are.first seen = record { holding = holding; one_told = first_told holding seen are.first are.rest are.are_parts told; other_told = told } in
-    under (IsEnoughForOrigin (file_of seen 0 left) None limit) (IsEnoughForBoth left right limit seen) limit refusal (λ enough. enough.for_left)
-    (solvable (file_of are.first 0 left) (file_of seen 0 left) (files_settle are.first seen same works 0 left) None are.left_loaded one.checked one.plains are.is_left limit refusal files why)
+    under (IsEnoughForOrigin (file_of seen 0 left) [] limit) (IsEnoughForBoth left right limit seen) limit refusal (λ enough. enough.for_left)
+    (solvable (file_of are.first 0 left) (file_of seen 0 left) (files_settle are.first seen same works 0 left) [] are.left_loaded one.checked one.plains are.is_left limit refusal files why)
 comparable holding left right limit seen one two told works are globals refusal files (comparisons.right_refused first rest are_parts loaded one' is_left read all why) =
     let left_same : are.left_loaded ≡ loaded = one_load are.first first (record {
       holding = holding;
@@ -120,9 +120,9 @@ comparable holding left right limit seen one two told works are globals refusal 
       other_told = rest_told holding seen first rest are_parts told;
     } in
     let base = length are.left_loaded.files in
-    under (IsEnoughForOrigin (file_of rest base right) None limit) (IsEnoughForBoth left right limit seen) limit refusal (λ enough. enough.for_right first rest base are_parts)
+    under (IsEnoughForOrigin (file_of rest base right) [] limit) (IsEnoughForBoth left right limit seen) limit refusal (λ enough. enough.for_right first rest base are_parts)
     (solvable (file_of are.rest base right) (file_of rest base right) (files_settle are.rest rest same (λ rose. works (rest_rose seen first rest are_parts rose)) base right)
-    None are.right_loaded two.checked two.plains are.is_right limit refusal read (subst (λ (l : Loaded). IsRefused (file_of rest (length l.files) right) None limit refusal read) (sym left_same) why))
+    [] are.right_loaded two.checked two.plains are.is_right limit refusal read (subst (λ (l : Loaded). IsRefused (file_of rest (length l.files) right) [] limit refusal read) (sym left_same) why))
 comparable holding left right limit seen one two told works are globals refusal files (comparisons.not_comparable one' two' are' differ is) =
     absurd (differ (same_globals holding left right seen one two one' two' told are are' globals))
 comparable holding left right limit seen one two told works are globals refusal files (comparisons.no_memory why) = inl why

@@ -1,5 +1,5 @@
 -- What can be done is done, unless memory is wanting, or nodes under a limit that is not enough.
-use Rattle.std.proofs.Common.{◌≡◌, ℕ, ◌⊎◌, inl, inr, true, false, List, [], None, ap, ◌∙◌, subst}
+use Rattle.std.proofs.Common.{◌≡◌, ℕ, ◌⊎◌, inl, inr, true, false, List, [], ap, ◌∙◌, subst}
 use Rattle.ms_edge.specs.Counts.{Rose}
 use Rattle.ms_edge.specs.Files.{Seen}
 use Rattle.ms_edge.specs.Sink.{SinkTold, grown}
@@ -10,7 +10,7 @@ use Rattle.ms_edge.specs.declared.refusal.Status.TheVariants.{NoMemory}
 use Rattle.ms_report.specs.Line.{line_of}
 use Rattle.ms_app_words.specs.Command.{node_limit}
 use Rattle.ms_app_words.specs.declared.command.Command.{Command}
-use Rattle.ms_app_words.specs.declared.command.Command.TheVariants.{Decide, Same, Gen, Ltl, Presburger, Check}
+use Rattle.ms_app_words.specs.declared.command.Command.TheVariants.{Decide, Same, Gen, Ltl, Presburger, Check, Certify}
 use Rattle.ms_cert_check.proofs.Completeness.{checked}
 use Rattle.ms_gen.proofs.Accepting.{sources-are-accepted}
 use Rattle.ms_gen.specs.Generated.{generated}
@@ -19,7 +19,8 @@ use Rattle.ms_presburger_decide.proofs.Solved.{solved as solved_problem}
 use Rattle.ms_app.specs.Answer as answers
 use Rattle.ms_app.specs.Answer.{Answer, generated_name, IsAnswered, IsAnsweredFor, IsRefusedFor, IsUnwritten, Prints, answer_of, status_of}
 use Rattle.ms_app.specs.Completeness.{CanBeDone, IsComplete, IsDoneIfFavoured, IsLimitEnough, LackedNodes, NothingFailed, WasDone, limit_of}
-use Rattle.ms_app.specs.Source.{file_of, text_of}
+use Rattle.ms_app.specs.Certification.{names_to_certify}
+use Rattle.ms_app.specs.Source.{file_of, names_for, text_of}
 use Rattle.ms_app.proofs.Generations.{generation-solved}
 use Rattle.ms_app.proofs.Compared.{comparable, rose_within}
 use Rattle.ms_app_words.proofs.OneCommand.{one_command}
@@ -34,7 +35,7 @@ want : (command : Command) (before after : SinkTold) (seen : Seen) → CanBeDone
     IsRefusedFor command seen refusal files → IsWantUnder (IsLimitEnough command seen) (limit_of command) refusal
 want (Decide file out limit stats format) before after seen can well refusal files why =
     solvable (file_of seen 0 file) (file_of seen 0 file) (files_settle seen seen (record { holding = well.holding; one_told = well.told; other_told = well.told }) well.works 0 file)
-    out can.0 can.1 can.2 can.3 limit refusal files why
+    (names_for out) can.0 can.1 can.2 can.3 limit refusal files why
 want (Same left right limit) before after seen can well refusal files why = comparable well.holding left right limit seen can.0 can.1 well.told well.works can.2 can.3 refusal files why
 want (Gen number false) before after seen can well refusal files (inl memory) = inl memory
 want (Gen number false) before after seen can well refusal files (inr none) = absurd (none.1 can)
@@ -43,11 +44,14 @@ want (Gen number true) before after seen can well refusal files (inr (inl none))
 want (Gen number true) before after seen can well refusal files (inr (inr (is, lacks, why))) =
     let found = sources-are-accepted number generated_name is in
     let origin = text_of generated_name (generated number) in
-    solvable origin origin (texts_settle generated_name (generated number)) None found.loaded found.checked [] (generation-solved number is) node_limit refusal files why
+    solvable origin origin (texts_settle generated_name (generated number)) [] found.loaded found.checked [] (generation-solved number is) node_limit refusal files why
 want (Ltl file limit) before after seen can well refusal files why =
     grouped (IsLimitEnough (Ltl file limit) seen) limit refusal (solved seen well.holding file can.0 can.1 limit refusal files well.told well.works can.2 why)
 want (Presburger file limit) before after seen can well refusal files why =
     grouped (IsLimitEnough (Presburger file limit) seen) limit refusal (solved_problem seen well.holding file limit refusal files well.told well.works can why)
+want (Certify file name limit) before after seen can well refusal files why =
+    solvable (file_of seen 0 file) (file_of seen 0 file) (files_settle seen seen (record { holding = well.holding; one_told = well.told; other_told = well.told }) well.works 0 file)
+    (names_to_certify name) can.0 can.1 can.2 can.3 limit refusal files why
 want (Check name) before after seen can well refusal files why = inl (checked seen well.holding name refusal well.told well.works can why)
 
 -- a sink that does not fail takes the answer

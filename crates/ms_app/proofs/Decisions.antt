@@ -27,13 +27,14 @@ use Rattle.ms_build_source.specs.declared.solution.Solution.{Solution}
 use Rattle.ms_build_source.proofs.Solved.{answers_counted, are_own_answers, own_answers}
 use Rattle.ms_app.specs.Counts.{HasStats}
 use Rattle.ms_app.specs.Decision.{IsDecided, IsFound}
-use Rattle.ms_app.specs.inner.Files.{AreNames, AreWritable, HaveOwnNames}
+use Rattle.ms_app.specs.inner.Files.{AreNames, AreWritable, HaveOwnNames, IsAmongNames}
 use Rattle.ms_app.specs.inner.Right.{IsRight}
 use Rattle.ms_app.specs.Source.{IsRefused, IsSolved, IsTaken, Origin, file_of}
 use Rattle.ms_app.specs.Written.{AreFilesOf, File}
 use Rattle.ms_app.proofs.Adopted.{are_answers}
 use Rattle.ms_app.proofs.Comparisons.{RefusedWith, unsolved_refused}
 use Rattle.ms_app.proofs.GoalLemmas.{zipped_long}
+use Rattle.ms_app.proofs.Outs.{out_free}
 use Rattle.ms_app.proofs.Writing.{all_writable, exports_counted, own_names}
 
 module _ (checked : Checked) where
@@ -57,13 +58,13 @@ module _ (checked : Checked) where
     pub counted : length answers ≡ length checked.imports
     counted = answers_counted checked.mode checked.imports answers contents are
 
-    module _ (origin : Origin) (out : Option (List ℕ)) (loaded : Loaded) (taken : IsTaken origin out loaded checked plains) where
-      pub solved_of : ((answers : Answers) → IsWithinLimits (problem_of checked answers)) → IsSolved origin out loaded checked plains
+    module _ (origin : Origin) (outs : List (List ℕ)) (loaded : Loaded) (taken : IsTaken origin outs loaded checked plains) where
+      pub solved_of : ((answers : Answers) → IsWithinLimits (problem_of checked answers)) → IsSolved origin outs loaded checked plains
       solved_of within = record { is = taken; within = within answers }
 
-      pub decided_of : (stats : Bool) (format : FileVersion) (count : ℕ) → count ≡ length loaded.files → (found : Found) (files : List File) → FoundBy contents out stats format count found files
-          → ((answers : Answers) → IsWithinLimits (problem_of checked answers)) → IsDecided origin out stats format found files
-      decided_of stats format count same found files by within =
+      pub decided_of : (out : Option (List ℕ)) (stats : Bool) (format : FileVersion) (count : ℕ) → count ≡ length loaded.files → (found : Found) (files : List File) → FoundBy contents out stats format count found files
+          → ((answers : Answers) → IsWithinLimits (problem_of checked answers)) → IsDecided origin outs out stats format found files
+      decided_of out stats format count same found files by within =
           let all = by answers are in
           record {
             loaded = loaded;
@@ -75,13 +76,15 @@ module _ (checked : Checked) where
             written = all.2;
           }
 
-      pub own_names_of : IsRight checked → (stats : Bool) (format : FileVersion) (count : ℕ) (found : Found) (files : List File) → FoundBy contents out stats format count found files → HaveOwnNames files
-      own_names_of right stats format count found files by = own_names format (problem_of checked answers) (main_question checked answers) global_names checked.exports out files right.meets_rules.names.files taken.free (by answers are).2
+      pub own_names_of : IsRight checked → (out : Option (List ℕ)) → IsAmongNames out outs → (stats : Bool) (format : FileVersion) (count : ℕ) (found : Found) (files : List File) → FoundBy contents out stats format count found files → HaveOwnNames files
+      own_names_of right out among stats format count found files by =
+          own_names format (problem_of checked answers) (main_question checked answers) global_names checked.exports out files right.meets_rules.names.files
+          (out_free out outs checked.exports among taken.free) (by answers are).2
 
       pub unsolved_of : IsRight checked → (refusal : Refusal) (old new : List (List ℕ)) → new ≡ old ++ loaded.files
           → ((answers : Answers) → length answers ≡ length checked.imports → (refusal ≡ Memory) ⊎ IsUnsolved checked answers contents limit refusal)
-          → RefusedWith old new (IsRefused origin out limit refusal) refusal
-      unsolved_of right refusal old new grown why = unsolved_refused origin out limit refusal old new loaded checked plains taken grown contents adopted right.numbered (why answers counted)
+          → RefusedWith old new (IsRefused origin outs limit refusal) refusal
+      unsolved_of right refusal old new grown why = unsolved_refused origin outs limit refusal old new loaded checked plains taken grown contents adopted right.numbered (why answers counted)
 
   -- what is made of automata that are lent can be written
   module _ (right : IsRight checked) (contents : List (Content Sign)) (lent : AreLentFor checked.mode checked.imports contents) (solution : Solution) where
@@ -111,6 +114,6 @@ module _ (checked : Checked) where
       writable small = all_writable format (problem_of checked own) 0 checked.exports solution.exports (exports own are_own) small right.names.exports right.meets_rules.names.exports
 
 -- the first source of a request
-pub first_decided : (seen : Seen) (name : List ℕ) (out : Option (List ℕ)) (stats : Bool) (format : FileVersion) (found : Found) (files : List File) (old : List (List ℕ)) → old ≡ []
-    → IsDecided (file_of seen (length old) name) out stats format found files → IsDecided (file_of seen 0 name) out stats format found files
-first_decided seen name out stats format found files old none is = let P : List (List ℕ) → Type 0 = λ names. IsDecided (file_of seen (length names) name) out stats format found files in subst P none is
+pub first_decided : (seen : Seen) (name : List ℕ) (outs : List (List ℕ)) (out : Option (List ℕ)) (stats : Bool) (format : FileVersion) (found : Found) (files : List File) (old : List (List ℕ)) → old ≡ []
+    → IsDecided (file_of seen (length old) name) outs out stats format found files → IsDecided (file_of seen 0 name) outs out stats format found files
+first_decided seen name outs out stats format found files old none is = let P : List (List ℕ) → Type 0 = λ names. IsDecided (file_of seen (length names) name) outs out stats format found files in subst P none is

@@ -1,5 +1,5 @@
 -- The worked examples: what is held after writes, and what a generated source comes to.
-use Rattle.std.proofs.Common.{◌≡◌, ℕ, zero, suc, Bool, true, false, if◌then◌else◌, Option, List, [], ◌∷◌, Contains, Some, None, codes, get_or, refl, sym, subst, ap, lit<, arith}
+use Rattle.std.proofs.Common.{◌≡◌, ℕ, zero, suc, Bool, true, false, if◌then◌else◌, Option, List, [], ◌∷◌, Contains, take, slice_get, Some, None, codes, get_or, refl, sym, subst, ap, lit<, arith}
 use Rattle.std.proofs.lemmas.Option.{same_Some}
 use Rattle.std.proofs.lemmas.Slice.Eq.{bytes_eq-Decides}
 use Rattle.std.specs.Str.{bytes_eq}
@@ -7,6 +7,11 @@ use Rattle.ms_app.specs.Answer.{IsDelivered}
 use Rattle.ms_app.specs.inner.CompletenessExamples.{empty_files, no_files, still}
 use Rattle.ms_app.specs.inner.Examples.{nothing_held, one_held, two_files}
 use Rattle.ms_app.specs.Written.{AreHeld, AreHeldUpTo, File, KeepsAllBut}
+use Rattle.ms_edge.specs.declared.refusal.Refusal.TheVariants.{Twice}
+use Rattle.ms_logic.specs.declared.checked.ExportUse.{ExportUse}
+use Rattle.ms_app.specs.Certification.{names_to_certify}
+use Rattle.ms_app.specs.Source.{AreOutsFree}
+use Rattle.ms_app.specs.inner.Examples.{at, export_to}
 use Rattle.ms_app.proofs.Requests.{first_number, no_number}
 use Rattle.ms_edge.specs.Files.{Holding, between}
 use Rattle.ms_gen.specs.Generated.{generated}
@@ -79,3 +84,16 @@ something_written delivered =
     let as_before : AreHeld nothing_held after [] = subst (λ held. AreHeld held after []) delivered.reads.held no_file in
     let kept = as_before.others (codes "a") (none_among (codes "a")) in
     cc
+
+-- of two exports under the names of a file and of its certificate, a refusal stands at the first
+abbrev both_taken : List ExportUse
+both_taken = export_to (codes "e") ∷ export_to (codes "e.cert") ∷ []
+
+not_the_same : Twice (at 7) (codes "e.cert") ≡ Twice (at 7) (codes "e") → ⊥
+not_the_same same = cc
+
+pub first_alone : (place : ℕ) (used : ExportUse) → slice_get both_taken place ≡ Some used → AreOutsFree (names_to_certify (codes "e")) (take place both_taken)
+    → Twice (at 7) (codes "e.cert") ≡ Twice used.at used.name → ⊥
+first_alone zero used here first is =
+    not_the_same (subst (λ (u : ExportUse). Twice (at 7) (codes "e.cert") ≡ Twice u.at u.name) (sym (same_Some (export_to (codes "e")) used here)) is)
+first_alone (suc place) used here first is = first 0 (export_to (codes "e")) (omega arith) (0, omega arith, refl)

@@ -33,6 +33,7 @@ use Rattle.ms_app.specs.Source.{IsAccepted, IsRefused, IsSolved, IsTaken, IsUnac
 use Rattle.ms_app.specs.Written.{AreFilesFrom, AreFilesOf, File}
 use Rattle.ms_names_rules.specs.Numbers.{IsWellNumbered}
 use Rattle.ms_app.proofs.Budgets.{below_budgets}
+use Rattle.ms_app.proofs.Outs.{no_outs}
 use Rattle.ms_app.proofs.Solvable.{solvable, texts_settle}
 use Rattle.ms_app_answer.specs.Answer.{IsAnswer}
 use Rattle.ms_app_answer.proofs.VerdictLemmas.{none_against, valid_alone}
@@ -41,7 +42,7 @@ use Rattle.ms_app_answer.proofs.VerdictLemmas.{none_against, valid_alone}
 abbrev pub IsRefusedGeneration : ℕ → Refusal → List (List ℕ) → Type 0
 IsRefusedGeneration number refusal files =
     (refusal ≡ Memory) ⊎ IsNoNumber number refusal
-    ⊎ (IsNumber number × ((step : ℕ) × (refusal ≡ Nodes step node_limit)) × IsRefused (text_of generated_name (generated number)) None node_limit refusal files)
+    ⊎ (IsNumber number × ((step : ℕ) × (refusal ≡ Nodes step node_limit)) × IsRefused (text_of generated_name (generated number)) [] node_limit refusal files)
 
 -- what imports nothing stands for one problem
 alone_problem : (checked : Checked) (plains : List Plain) → checked.imports ≡ [] → problem_of checked [] ≡ problem_with checked plains
@@ -62,13 +63,13 @@ only_main checked none problem main answered =
     subst (λ is_asked. AnswersMain is_asked problem main) asked answered
 
 -- a generated source can be solved
-pub generation-solved : (number : ℕ) (is : IsNumber number) → let found = sources-are-accepted number generated_name is in IsSolved (text_of generated_name (generated number)) None found.loaded found.checked []
+pub generation-solved : (number : ℕ) (is : IsNumber number) → let found = sources-are-accepted number generated_name is in IsSolved (text_of generated_name (generated number)) [] found.loaded found.checked []
 generation-solved number is =
     let found = sources-are-accepted number generated_name is in
     record {
       is = record {
         is = record { is_loaded = found.is_loaded; accepted = found.no_fault; typed = found.is_typed };
-        free = tt;
+        free = no_outs _;
         imported = (found.within.imports, refl);
       };
       within = subst IsWithinLimits (alone_problem found.checked [] found.within.imports) (record { depth = found.within.depth; size = found.within.size });
@@ -86,11 +87,11 @@ found-valid number stats format found files is decided =
     (main.0, main.1, valid_alone problem here main.0.verdict main.2.verdict, none_against problem here main.0.counterexample main.2.counterexample)
 
 -- so it is refused for want of memory or of nodes alone
-wanting : (number : ℕ) → IsNumber number → (refusal : Refusal) (files : List (List ℕ)) → IsRefused (text_of generated_name (generated number)) None node_limit refusal files → IsRefusedGeneration number refusal files
+wanting : (number : ℕ) → IsNumber number → (refusal : Refusal) (files : List (List ℕ)) → IsRefused (text_of generated_name (generated number)) [] node_limit refusal files → IsRefusedGeneration number refusal files
 wanting number is refusal files why =
     let origin = text_of generated_name (generated number) in
     let found = sources-are-accepted number generated_name is in
-    elim (solvable origin origin (texts_settle generated_name (generated number)) None found.loaded found.checked [] (generation-solved number is) node_limit refusal files why) [
+    elim (solvable origin origin (texts_settle generated_name (generated number)) [] found.loaded found.checked [] (generation-solved number is) node_limit refusal files why) [
       | inl memory ↦ inl memory
       | inr wants ↦ inr (inr (is, wants.0, why))
     ]
@@ -106,11 +107,11 @@ module _ (number : ℕ) (is_number : IsNumber number) (bytes : List ℕ) (is_tex
   only_own : new ≡ old ++ generated_name ∷ [] → generated_name ∷ [] ≡ new
   only_own grown = sym (grown ∙ ap (λ names. names ++ generated_name ∷ []) none)
 
-  text_refused : new ≡ old ++ generated_name ∷ [] → (refusal : Refusal) → IsRefused (text_of generated_name bytes) None node_limit refusal (generated_name ∷ [])
-      → IsRefused (text_of generated_name (generated number)) None node_limit refusal new
+  text_refused : new ≡ old ++ generated_name ∷ [] → (refusal : Refusal) → IsRefused (text_of generated_name bytes) [] node_limit refusal (generated_name ∷ [])
+      → IsRefused (text_of generated_name (generated number)) [] node_limit refusal new
   text_refused grown refusal why =
-      let P : List ℕ → Type 0 = λ text. IsRefused (text_of generated_name text) None node_limit refusal new in
-      subst P is_text (subst (IsRefused (text_of generated_name bytes) None node_limit refusal) (only_own grown) why)
+      let P : List ℕ → Type 0 = λ text. IsRefused (text_of generated_name text) [] node_limit refusal new in
+      subst P is_text (subst (IsRefused (text_of generated_name bytes) [] node_limit refusal) (only_own grown) why)
 
   pub text_unaccepted : (refusal : Refusal) → (refusal ≡ Memory) ⊎ ((new ≡ old ++ generated_name ∷ []) × IsUnaccepted (text_of generated_name bytes) refusal (generated_name ∷ []))
       → IsRefusedGeneration number refusal new
@@ -121,8 +122,8 @@ module _ (number : ℕ) (is_number : IsNumber number) (bytes : List ℕ) (is_tex
     alone : (checked.imports ≡ []) × (checked.exports ≡ []) × (goals_in checked ≡ [])
     alone = generated_alone number is_number bytes is_text loaded checked is
 
-    taken : IsTaken (text_of generated_name bytes) None loaded checked []
-    taken = record { is = is; free = tt; imported = (alone.0, refl) }
+    taken : IsTaken (text_of generated_name bytes) [] loaded checked []
+    taken = record { is = is; free = no_outs _; imported = (alone.0, refl) }
 
     pub text_unsolved : IsWellNumbered checked → (contents : List (Content Sign)) → AreAdopted node_limit checked.mode checked.imports [] contents → (refusal : Refusal)
         → (refusal ≡ Memory) ⊎ IsUnsolved checked (answers_by checked.imports []) contents node_limit refusal → IsRefusedGeneration number refusal new
@@ -133,9 +134,9 @@ module _ (number : ℕ) (is_number : IsNumber number) (bytes : List ℕ) (is_tex
 
     pub text_decided : (found : Found) (files : List File) → IsFound checked (answers_with checked []) found → IsWithinLimits (problem_with checked [])
         → HasStats true checked (answers_with checked []) (length loaded.files) found.stats → AreFilesOf versions.Two checked (answers_with checked []) None files
-        → IsDecided (text_of generated_name (generated number)) None true versions.Two found files
+        → IsDecided (text_of generated_name (generated number)) [] None true versions.Two found files
     text_decided found files is_found within counted written =
-        let P : List ℕ → Type 0 = λ text. IsDecided (text_of generated_name text) None true versions.Two found files in
+        let P : List ℕ → Type 0 = λ text. IsDecided (text_of generated_name text) [] None true versions.Two found files in
         subst P is_text (record { loaded = loaded; checked = checked; plains = []; is = record { is = taken; within = within }; is_found = is_found; counted = counted; written = written })
 
     -- its main question alone is asked

@@ -1,6 +1,7 @@
 pub mod Adopted
 pub mod AgreementLemmas
 pub mod Budgets
+pub mod Certifying
 pub mod Commands
 pub mod Compared
 pub mod Comparisons
@@ -14,6 +15,7 @@ pub mod Generations
 pub mod GlobalLemmas
 pub mod GoalLemmas
 pub mod Moments
+pub mod Outs
 pub mod Printing
 pub mod Requests
 pub mod Results

@@ -24,8 +24,8 @@ reads_nothing = record {
   reads = record { read = ([], (refl, λ at f header. never_cons _ _ header.3.1), refl); declarations = tt };
 }
 
-pub empty_file : CanBeSolved (file_of (still (empty_files 0)) 0 (codes "a")) None
-empty_file = (
+pub empty_file : (outs : List (List ℕ)) → CanBeSolved (file_of (still (empty_files 0)) 0 (codes "a")) outs
+empty_file outs = (
   nothing_loaded (codes "a"),
   nothing_checked (codes "a"),
   [],
@@ -36,7 +36,7 @@ empty_file = (
         accepted = refl;
         typed = record { mode = refl; globals_are = refl; predicates_are = refl; imports_are = refl; exports_are = refl; formulas_are = refl; files = refl };
       };
-      free = tt;
+      free = λ k d less. absurd (omega (arith, less));
       imported = record { each = tt; once = λ i j one other p q held held' name at at'. absurd (none-some p at) };
     };
     within = record { depth = omega arith; size = omega arith };
@@ -46,7 +46,7 @@ empty_file = (
 nothing_held : (bytes : List ℕ) → None ≡ Some bytes → ⊥
 nothing_held bytes same = cc
 
-pub no_file : CanBeSolved (file_of (still no_files) 0 (codes "a")) None → ⊥
+pub no_file : CanBeSolved (file_of (still no_files) 0 (codes "a")) [] → ⊥
 no_file can = let is = can.3.is.is.is_loaded.is in nothing_held is.0 is.1.holds
 
 same_count : (n : ℕ) → n ≤ 9 → Rose n n → ⊥

@@ -1,5 +1,5 @@
 -- A source that can be solved is refused for want of memory alone, or of nodes under a limit that is not enough.
-use Rattle.std.proofs.Common.{◌≡◌, ℕ, ◌⊎◌, inl, inr, List, [], Option, Some, None, sym, ap, ◌∙◌, subst}
+use Rattle.std.proofs.Common.{◌≡◌, ℕ, ◌⊎◌, inl, inr, List, [], sym, ap, ◌∙◌, subst, Contains}
 use Rattle.std.proofs.lemmas.List.Elements.{All-contains}
 use Rattle.ms_dfa.specs.declared.plain.Plain.{Plain}
 use Rattle.ms_edge.specs.Counts.{Rose}
@@ -26,7 +26,8 @@ use Rattle.ms_build_source.specs.Limits as limits
 use Rattle.ms_build_source.specs.Limits.{IsTooLarge, IsUnsolved, IsWithinLimits}
 use Rattle.ms_app.specs.Source as sources
 use Rattle.ms_app.specs.Completeness.{IsEnoughForOrigin}
-use Rattle.ms_app.specs.Source.{IsAccepted, IsEnoughWith, IsOutFree, IsOutTaken, IsRefused, IsSolved, IsUnaccepted, Origin, file_of, text_of}
+use Rattle.ms_app.specs.Source.{IsAccepted, IsEnoughWith, AreOutsFree, IsOutTaken, IsRefused, IsSolved, IsUnaccepted, Origin, file_of, text_of}
+use Rattle.ms_app.proofs.Outs.{held_contained}
 use Rattle.ms_dfafile_imports.proofs.EnoughImports.{enough_imports_are_taken}
 
 -- want of memory, or of nodes in a step
@@ -86,12 +87,10 @@ same_imports loaded one other is is' = is.imports_are ∙ sym is'.imports_are
 same_exports : (loaded : Loaded) (one other : Checked) → IsTyped loaded one → IsTyped loaded other → one.exports ≡ other.exports
 same_exports loaded one other is is' = is.exports_are ∙ sym is'.exports_are
 
-free_or_taken : (out : Option (List ℕ)) (exports : List ExportUse) (refusal : Refusal) → IsOutFree out exports → IsOutTaken out exports refusal → ⊥
-free_or_taken None exports refusal free (used, contains, is, why) = let never : ⊥ = cc in never
-free_or_taken (Some out) exports refusal free (used, contains, is, why) =
-    let same : out ≡ used.name = cc in All-contains (λ (u : ExportUse). u.name ≡ out → ⊥) exports used free contains (sym same)
+free_or_taken : (outs : List (List ℕ)) (exports : List ExportUse) (refusal : Refusal) → AreOutsFree outs exports → IsOutTaken outs exports refusal → ⊥
+free_or_taken outs exports refusal free why = All-contains (λ (u : ExportUse). Contains outs u.name → ⊥) exports why.used free (held_contained exports why.place why.used why.here) why.taken
 
-module _ (origin other : Origin) (settles : Settles origin other) (out : Option (List ℕ)) (loaded : Loaded) (checked : Checked) (plains : List Plain) (is : IsSolved origin out loaded checked plains) where
+module _ (origin other : Origin) (settles : Settles origin other) (outs : List (List ℕ)) (loaded : Loaded) (checked : Checked) (plains : List Plain) (is : IsSolved origin outs loaded checked plains) where
   abbrev accepted : IsAccepted origin loaded checked
   accepted = is.is.is
 
@@ -130,16 +129,16 @@ module _ (origin other : Origin) (settles : Settles origin other) (out : Option 
   unsolved limit checked' answers contents refusal within (limits.lacks_nodes within' step there lacks) = inr (step, lacks)
 
   abbrev IsEnough : ℕ → Type 0
-  IsEnough limit = IsEnoughForOrigin other out limit
+  IsEnough limit = IsEnoughForOrigin other outs limit
 
   memory_or : (limit : ℕ) (refusal : Refusal) → IsWant limit refusal → ((step : ℕ) → refusal ≡ Nodes step limit → IsEnough limit → ⊥) → IsWantUnder (IsEnough limit) limit refusal
   memory_or limit refusal (inl memory) short = inl memory
   memory_or limit refusal (inr lacks) short = inr (lacks, short lacks.0 lacks.1)
 
-  pub solvable : (limit : ℕ) (refusal : Refusal) (read : List (List ℕ)) → IsRefused other out limit refusal read → IsWantUnder (IsEnough limit) limit refusal
+  pub solvable : (limit : ℕ) (refusal : Refusal) (read : List (List ℕ)) → IsRefused other outs limit refusal read → IsWantUnder (IsEnough limit) limit refusal
   solvable limit refusal read (sources.unaccepted why) = inl (unaccepted refusal read why)
   solvable limit refusal read (sources.out_taken loaded' checked' is' all why) =
-      absurd (free_or_taken out checked'.exports refusal (subst (IsOutFree out) (exports_are loaded' checked' is') is.is.free) why)
+      absurd (free_or_taken outs checked'.exports refusal (subst (AreOutsFree outs) (exports_are loaded' checked' is') is.is.free) why)
   solvable limit refusal read (sources.unimported loaded' checked' is' free all why) =
       let here = settles.same_imports checked'.mode checked'.imports plains (imported loaded' checked' is') in
       memory_or limit refusal (settles.imports checked'.mode limit checked'.imports plains refusal (imported loaded' checked' is') why)

@@ -1,5 +1,5 @@
 -- The line of a refusal can be written over the files that the refusal may number.
-use Rattle.std.proofs.Common.{◌≡◌, inl, inr, ⊎_elim, ℕ, zero, suc, true, false, List, [], ◌∷◌, ◌++◌, Contains, Option, None, Some, length, map, slice_get, sym, subst}
+use Rattle.std.proofs.Common.{◌≡◌, inl, inr, ⊎_elim, ℕ, zero, suc, true, false, List, [], ◌∷◌, ◌++◌, Contains, Some, length, map, slice_get, sym, subst}
 use Rattle.std.proofs.lemmas.List.Elements.{All-contains}
 use Rattle.std.proofs.lemmas.Option.{none-some, same_Some}
 use Rattle.ms_dfa.specs.declared.plain.Plain.{Plain}
@@ -31,7 +31,7 @@ use Rattle.ms_include_laws.proofs.of_places.TypedSources.{typed-sources}
 use Rattle.ms_logic.specs.Lists.{Each}
 use Rattle.ms_names_rules.proofs.Fitting.{each-append}
 use Rattle.ms_app_words.specs.declared.command.Command.{Command}
-use Rattle.ms_app_words.specs.declared.command.Command.TheVariants.{Decide, Same, Gen, Ltl, Presburger, Check}
+use Rattle.ms_app_words.specs.declared.command.Command.TheVariants.{Decide, Same, Gen, Ltl, Presburger, Check, Certify}
 use Rattle.ms_cert_check.proofs.Lines.{lines as check_lines}
 use Rattle.ms_ltlf_decide.proofs.Lines.{lines}
 use Rattle.ms_presburger_decide.proofs.Lines.{lines as problem_lines}
@@ -40,8 +40,10 @@ use Rattle.ms_app.specs.Comparison.{IsRefusedComparison, left_refused, right_ref
 use Rattle.ms_app.specs.Comparison as comparisons
 use Rattle.ms_build_source.specs.Limits.{IsUnsolved, not_made, too_deep, too_large}
 use Rattle.ms_build_source.specs.Limits as limits
-use Rattle.ms_app.specs.Source.{IsAccepted, IsOutTaken, IsRefused, IsUnaccepted, Origin, file_of, text_of, not_loaded, faulty, out_taken, unaccepted, unimported, unsolved}
+use Rattle.ms_app.specs.Source.{IsAccepted, IsOutTaken, IsRefused, IsUnaccepted, Origin, file_of, names_for, text_of, not_loaded, faulty, out_taken, unaccepted, unimported, unsolved}
+use Rattle.ms_app.specs.Certification.{names_to_certify}
 use Rattle.ms_app.specs.Source as sources
+use Rattle.ms_app.proofs.Outs.{held_contained}
 
 -- want of memory has no place
 memory-told : (files : List (List ℕ)) (refusal : Refusal) → refusal ≡ Memory → IsToldOver files refusal
@@ -151,12 +153,12 @@ module _ (before : List (List ℕ)) (origin : Origin) (tells : Tells before orig
   unsolved-told loaded checked answers contents read limit refusal is all (not_made (too_large large)) = subst (IsToldOver (before ++ read)) (sym large.is) (tt, tt)
   unsolved-told loaded checked answers contents read limit refusal is all (limits.lacks_nodes within step there lacks) = subst (IsToldOver (before ++ read)) (sym lacks) (tt, tt)
 
-  out-told : (loaded : Loaded) (checked : Checked) (out : Option (List ℕ)) (read : List (List ℕ)) (refusal : Refusal) → IsAccepted origin loaded checked → read ≡ loaded.files → IsOutTaken out checked.exports refusal
+  out-told : (loaded : Loaded) (checked : Checked) (outs : List (List ℕ)) (read : List (List ℕ)) (refusal : Refusal) → IsAccepted origin loaded checked → read ≡ loaded.files → IsOutTaken outs checked.exports refusal
       → IsToldOver (before ++ read) refusal
-  out-told loaded checked out read refusal is all (used, contains, named, why) =
+  out-told loaded checked outs read refusal is all why =
       let P : At → Type 0 = IsAmongFiles (length before) (length checked.files) in
       let places = kept loaded checked is in
-      over loaded checked read refusal is all (subst (IsToldAt P) (sym why) (tt, export-at P checked.exports places.exports used contains))
+      over loaded checked read refusal is all (subst (IsToldAt P) (sym why.is) (tt, export-at P checked.exports places.exports why.used (held_contained checked.exports why.place why.used why.here)))
 
   imports-told : (loaded : Loaded) (checked : Checked) (read : List (List ℕ)) (limit : ℕ) (refusal : Refusal) → IsAccepted origin loaded checked → read ≡ loaded.files
       → origin.IsUnimported checked.mode limit checked.imports refusal → IsToldOver (before ++ read) refusal
@@ -165,22 +167,22 @@ module _ (before : List (List ℕ)) (origin : Origin) (tells : Tells before orig
       let places = kept loaded checked is in
       over loaded checked read refusal is all (tells.imports P checked.mode limit checked.imports refusal places.imports why)
 
-  pub refused-told : (out : Option (List ℕ)) (limit : ℕ) (refusal : Refusal) (read : List (List ℕ)) → IsRefused origin out limit refusal read → IsToldOver (before ++ read) refusal
-  refused-told out limit refusal read (unaccepted why) = unaccepted-told refusal read why
-  refused-told out limit refusal read (out_taken loaded checked is all why) = out-told loaded checked out read refusal is all why
-  refused-told out limit refusal read (unimported loaded checked is free all why) = imports-told loaded checked read limit refusal is all why
-  refused-told out limit refusal read (unsolved loaded checked plains is all contents adopted why below) = unsolved-told loaded checked (answers_by checked.imports plains) contents read limit refusal is.is all why
-  refused-told out limit refusal read (sources.no_memory why) = memory-told (before ++ read) refusal why
+  pub refused-told : (outs : List (List ℕ)) (limit : ℕ) (refusal : Refusal) (read : List (List ℕ)) → IsRefused origin outs limit refusal read → IsToldOver (before ++ read) refusal
+  refused-told outs limit refusal read (unaccepted why) = unaccepted-told refusal read why
+  refused-told outs limit refusal read (out_taken loaded checked is all why) = out-told loaded checked outs read refusal is all why
+  refused-told outs limit refusal read (unimported loaded checked is free all why) = imports-told loaded checked read limit refusal is all why
+  refused-told outs limit refusal read (unsolved loaded checked plains is all contents adopted why below) = unsolved-told loaded checked (answers_by checked.imports plains) contents read limit refusal is.is all why
+  refused-told outs limit refusal read (sources.no_memory why) = memory-told (before ++ read) refusal why
 
 comparison-told : (left right : List ℕ) (limit : ℕ) (seen : Seen) (refusal : Refusal) (files : List (List ℕ)) → IsRefusedComparison left right limit seen refusal files → IsToldOver files refusal
-comparison-told left right limit seen refusal files (left_refused why) = refused-told [] (file_of seen 0 left) (file-tells seen [] left) None limit refusal files why
+comparison-told left right limit seen refusal files (left_refused why) = refused-told [] (file_of seen 0 left) (file-tells seen [] left) [] limit refusal files why
 comparison-told left right limit seen refusal files (right_refused first rest are_parts loaded one is_left read all why) =
-    subst (λ names. IsToldOver names refusal) (sym all) (refused-told loaded.files (file_of rest (length loaded.files) right) (file-tells rest loaded.files right) None limit refusal read why)
+    subst (λ names. IsToldOver names refusal) (sym all) (refused-told loaded.files (file_of rest (length loaded.files) right) (file-tells rest loaded.files right) [] limit refusal read why)
 comparison-told left right limit seen refusal files (not_comparable one two are_solved differ is) = subst (IsToldOver files) (sym is) (tt, tt)
 comparison-told left right limit seen refusal files (comparisons.no_memory why) = memory-told files refusal why
 
 pub command-told : (command : Command) (seen : Seen) (refusal : Refusal) (files : List (List ℕ)) → IsRefusedFor command seen refusal files → IsToldOver files refusal
-command-told (Decide file out max_nodes stats format) seen refusal files why = refused-told [] (file_of seen 0 file) (file-tells seen [] file) out max_nodes refusal files why
+command-told (Decide file out max_nodes stats format) seen refusal files why = refused-told [] (file_of seen 0 file) (file-tells seen [] file) (names_for out) max_nodes refusal files why
 command-told (Same left right max_nodes) seen refusal files why = comparison-told left right max_nodes seen refusal files why
 command-told (Gen number false) seen refusal files (inl memory) = memory-told files refusal memory
 command-told (Gen number false) seen refusal files (inr range) = subst (IsToldOver files) (sym range.0) (tt, tt)
@@ -189,4 +191,5 @@ command-told (Gen number true) seen refusal files (inr (inl range)) = subst (IsT
 command-told (Gen number true) seen refusal files (inr (inr (is_number, (step, is), why))) = subst (IsToldOver files) (sym is) (tt, tt)
 command-told (Ltl file max_nodes) seen refusal files why = lines seen file max_nodes refusal files why
 command-told (Presburger file max_nodes) seen refusal files why = problem_lines seen file max_nodes refusal files why
+command-told (Certify file name max_nodes) seen refusal files why = refused-told [] (file_of seen 0 file) (file-tells seen [] file) (names_to_certify name) max_nodes refusal files why
 command-told (Check name) seen refusal files why = check_lines seen name refusal files why

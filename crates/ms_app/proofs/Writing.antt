@@ -16,8 +16,9 @@ use Rattle.ms_build_source.specs.Solution.{AreExportFiles, IsSpellable}
 use Rattle.ms_build_source.specs.Values.{IsMainFile}
 use Rattle.ms_app.specs.inner.Files.{AreSpelled, AreWritable, HaveOwnNames, IsWithMain, pairs_of}
 use Rattle.ms_app.specs.declared.files.AutomatonFile.{AutomatonFile}
-use Rattle.ms_app.specs.Source.{IsOutFree}
 use Rattle.ms_app.specs.Written.{AreFilesFrom, AreFilesOfMain, File}
+use Rattle.ms_app.proofs.Outs.{IsOutFree}
+use Rattle.ms_app.proofs.Written.{mapped_push}
 
 module _ (version : FileVersion) (problem main_is : Problem) (names : List (List ℕ)) where
   -- files of exports, and behind them that of the main value
@@ -76,6 +77,34 @@ module _ (version : FileVersion) (problem main_is : Problem) (names : List (List
   own_names uses (Some out) files different free are =
       let ns = map (λ (u : ExportUse). u.name) uses in
       subst AreDifferent (sym (names_are 0 uses (Some out) files are)) (all_pairs_push (λ n m. n ≢ m) ns out different (λ k d less. free_name out uses free k d less))
+
+  all_more : {A : Type 0} (P : A → Type 0) (xs : List A) (x : A) → All P xs → P x → All P (xs ++ x ∷ [])
+  all_more P [] x all here = All-cons P x [] here (All-nil P)
+  all_more P (y ∷ ys) x all here = All-cons P y (ys ++ x ∷ []) (All-head P y ys all) (all_more P ys x (All-tail P y ys all) here)
+
+  -- nor where one more file has a name that none of them has
+  pub own_names_beside : (uses : List ExportUse) (out : List ℕ) (files : List File) (name bytes : List ℕ) → HaveOwnNames files → IsOutFree (Some name) uses → out ≢ name
+      → AreFilesFrom version problem main_is names 0 uses (Some out) files → HaveOwnNames (files ++ (name, bytes) ∷ [])
+  own_names_beside uses out files name bytes own free differ are =
+      let P : List ℕ → Type 0 = λ n. n ≢ name in
+      let fresh = subst (All P) (sym (names_are 0 uses (Some out) files are)) (all_more P (map (λ (u : ExportUse). u.name) uses) out (free_name name uses free) differ) in
+      subst AreDifferent (sym (mapped_push files (name, bytes))) (all_pairs_push (λ n m. n ≢ m) (map (λ (file : File). file.0) files) name own fresh)
+
+  -- the file of the main value is the last
+  pub record HasMainLast (out : List ℕ) (files : List File) : Type 0 where
+    pub before : List File
+    pub bytes : List ℕ
+    pub all : files ≡ before ++ (out, bytes) ∷ []
+    pub plain : Plain
+    pub spelled : IsSpelled bytes plain
+    pub is : IsMainFile version main_is names plain
+
+  pub main_last : (i : ℕ) (uses : List ExportUse) (out : List ℕ) (files : List File) → AreFilesFrom version problem main_is names i uses (Some out) files → HasMainLast out files
+  main_last i [] out files are = record { before = []; bytes = are.0; all = are.1; plain = are.2.0; spelled = are.2.1; is = are.2.2 }
+  main_last i (used ∷ uses) out [] are = absurd are
+  main_last i (used ∷ uses) out (file ∷ files) are =
+      let later = main_last (i + 1) uses out files are.1 in
+      record { before = file ∷ later.before; bytes = later.bytes; all = ap (λ fs. file ∷ fs) later.all; plain = later.plain; spelled = later.spelled; is = later.is }
 
 -- what is made of exports can be written
 pub all_writable : (version : FileVersion) (problem : Problem) (i : ℕ) (uses : List ExportUse) (plains : List Plain) → AreExportFiles version problem i uses plains → Each IsSpellable plains

@@ -18,13 +18,14 @@ use Rattle.ms_report.specs.Line.{line_of}
 use Rattle.ms_report.specs.Report.{report_of, summary_of}
 use Rattle.ms_app_words.specs.Command.{IsCommand, node_limit}
 use Rattle.ms_app_words.specs.declared.command.Command.{Command}
-use Rattle.ms_app_words.specs.declared.command.Command.TheVariants.{Decide, Same, Gen, Ltl, Presburger, Check}
+use Rattle.ms_app_words.specs.declared.command.Command.TheVariants.{Decide, Same, Gen, Ltl, Presburger, Check, Certify}
 use Rattle.ms_cert_check.specs.Check.{IsChecked, IsRefusedCheck}
 use Rattle.ms_ltlf_decide.specs.Formula.{IsDecidedFormula, IsRefusedFormula}
 use Rattle.ms_presburger_decide.specs.Problem.{IsDecidedProblem, IsRefusedProblem}
 use Rattle.ms_app.specs.Comparison.{AreCompared, IsRefusedComparison, comparison_text}
 use Rattle.ms_app.specs.Decision.{IsDecided}
-use Rattle.ms_app.specs.Source.{IsRefused, file_of, text_of}
+use Rattle.ms_app.specs.Certification.{IsCertification, names_to_certify}
+use Rattle.ms_app.specs.Source.{IsRefused, file_of, names_for, text_of}
 use Rattle.ms_app.specs.Written.{AreHeld, AreHeldUpTo, File}
 
 -- a status, and the text that goes with it
@@ -70,19 +71,21 @@ generated_name = codes "generated"
 
 -- What a command asks for where it is done, by what was seen while the files were read: the text to print, and the files to write. A file is
 -- decided: the report on it, and its automaton files; two files are compared; a source is generated, or the summary of it made; a formula of
--- temporal logic is decided over all traces, and one of linear arithmetic over all natural numbers; an automaton file is checked by its certificate.
+-- temporal logic is decided over all traces, and one of linear arithmetic over all natural numbers; an automaton file is checked by its certificate,
+-- and written with one.
 abbrev pub IsGivenFor : Command → Seen → List ℕ → List File → Type 0
 IsGivenFor (Decide file out max_nodes stats format) seen text written =
-    (found : Found) × IsDecided (file_of seen 0 file) out stats format found written × (text ≡ report_of found)
+    (found : Found) × IsDecided (file_of seen 0 file) (names_for out) out stats format found written × (text ≡ report_of found)
 IsGivenFor (Same left right max_nodes) seen text written = (written ≡ []) × ((agree : Bool) × AreCompared left right seen agree × (text ≡ comparison_text agree))
 IsGivenFor (Gen number false) seen text written = (written ≡ []) × IsNumber number × (text ≡ generated number)
 IsGivenFor (Gen number true) seen text written =
     (written ≡ []) × IsNumber number
-    × ((found : Found) × (main : answers.Answer) × IsDecided (text_of generated_name (generated number)) None true Two found written × (found.main ≡ Some main)
+    × ((found : Found) × (main : answers.Answer) × IsDecided (text_of generated_name (generated number)) [] None true Two found written × (found.main ≡ Some main)
     × (text ≡ summary_of number (length (generated number)) main found.stats))
 IsGivenFor (Ltl file max_nodes) seen text written = (written ≡ []) × IsDecidedFormula seen.before.held file text
 IsGivenFor (Presburger file max_nodes) seen text written = (written ≡ []) × IsDecidedProblem seen.before.held file text
 IsGivenFor (Check name) seen text written = (written ≡ []) × IsChecked seen.before.held name text
+IsGivenFor (Certify file name max_nodes) seen text written = IsCertification (file_of seen 0 file) name text written
 
 -- the command asks for a generated source
 abbrev pub IsGeneration : Command → Type 0
@@ -92,6 +95,7 @@ IsGeneration (Gen number decide) = Unit {0}
 IsGeneration (Ltl file max_nodes) = ⊥
 IsGeneration (Presburger file max_nodes) = ⊥
 IsGeneration (Check name) = ⊥
+IsGeneration (Certify file name max_nodes) = ⊥
 
 -- a limit that a command names is one
 abbrev pub IsLimited : Command → Type 0
@@ -101,6 +105,7 @@ IsLimited (Gen number decide) = Unit {0}
 IsLimited (Ltl file max_nodes) = IsLimit max_nodes
 IsLimited (Presburger file max_nodes) = IsLimit max_nodes
 IsLimited (Check name) = Unit {0}
+IsLimited (Certify file name max_nodes) = IsLimit max_nodes
 
 -- the number of a source to generate is out of range
 abbrev pub IsNoNumber : ℕ → Refusal → Type 0
@@ -109,15 +114,16 @@ IsNoNumber number refusal = (refusal ≡ ConstRange None) × ¬ IsNumber number
 -- Why a command is refused, and the files that the refusal may number. A generated source has no fault and is within the limits, so
 -- that only a step of its decision may be refused.
 abbrev pub IsRefusedFor : Command → Seen → Refusal → List (List ℕ) → Type 0
-IsRefusedFor (Decide file out max_nodes stats format) seen refusal files = IsRefused (file_of seen 0 file) out max_nodes refusal files
+IsRefusedFor (Decide file out max_nodes stats format) seen refusal files = IsRefused (file_of seen 0 file) (names_for out) max_nodes refusal files
 IsRefusedFor (Same left right max_nodes) seen refusal files = IsRefusedComparison left right max_nodes seen refusal files
 IsRefusedFor (Gen number false) seen refusal files = (refusal ≡ Memory) ⊎ IsNoNumber number refusal
 IsRefusedFor (Gen number true) seen refusal files =
     (refusal ≡ Memory) ⊎ IsNoNumber number refusal
-    ⊎ (IsNumber number × ((step : ℕ) × (refusal ≡ Nodes step node_limit)) × IsRefused (text_of generated_name (generated number)) None node_limit refusal files)
+    ⊎ (IsNumber number × ((step : ℕ) × (refusal ≡ Nodes step node_limit)) × IsRefused (text_of generated_name (generated number)) [] node_limit refusal files)
 IsRefusedFor (Ltl file max_nodes) seen refusal files = IsRefusedFormula seen file max_nodes refusal files
 IsRefusedFor (Presburger file max_nodes) seen refusal files = IsRefusedProblem seen file max_nodes refusal files
 IsRefusedFor (Check name) seen refusal files = IsRefusedCheck seen name refusal
+IsRefusedFor (Certify file name max_nodes) seen refusal files = IsRefused (file_of seen 0 file) (names_to_certify name) max_nodes refusal files
 
 -- The files were read, up to some moment; what the command asks for came of that; and its files are written since.
 pub record IsDelivered (command : Command) (seen : Seen) (text : List ℕ) : Type 0 where

@@ -1,5 +1,5 @@
 -- What a comparison of two sources says.
-use Rattle.std.specs.Prelude.{◌≡◌, ◌↔◌, ℕ, Bool, true, false, IsTrue, List, [], ◌∷◌, ◌++◌, codes, length, map, None}
+use Rattle.std.specs.Prelude.{◌≡◌, ◌↔◌, ℕ, Bool, true, false, IsTrue, List, [], ◌∷◌, ◌++◌, codes, length, map}
 use Rattle.ms_dfa.specs.declared.plain.Plain.{Plain}
 use Rattle.ms_edge.specs.declared.refusal.Refusal.{Refusal}
 use Rattle.ms_edge.specs.declared.refusal.Refusal.TheVariants.{Memory, VarsDiffer}
@@ -39,8 +39,8 @@ pub record AreSolved (left right : List ℕ) (seen : Seen) (one two : Taken) : T
   pub are_parts : AreParts seen first rest
   pub left_loaded : Loaded
   pub right_loaded : Loaded
-  pub is_left : IsSolved (file_of first 0 left) None left_loaded one.checked one.plains
-  pub is_right : IsSolved (file_of rest (length left_loaded.files) right) None right_loaded two.checked two.plains
+  pub is_left : IsSolved (file_of first 0 left) [] left_loaded one.checked one.plains
+  pub is_right : IsSolved (file_of rest (length left_loaded.files) right) [] right_loaded two.checked two.plains
 
 -- they can be compared, and this is whether their main values are the same at each assignment
 pub record AreCompared (left right : List ℕ) (seen : Seen) (agree : Bool) : Type 0 where
@@ -52,10 +52,10 @@ pub record AreCompared (left right : List ℕ) (seen : Seen) (agree : Bool) : Ty
 
 -- the comparison is refused under a limit on the nodes and states of a step, and these are the files that the refusal may number
 pub data IsRefusedComparison (left right : List ℕ) (limit : ℕ) (seen : Seen) (refusal : Refusal) (files : List (List ℕ)) : Type 0 where
-  left_refused : (why : IsRefused (file_of seen 0 left) None limit refusal files) → IsRefusedComparison left right limit seen refusal files
+  left_refused : (why : IsRefused (file_of seen 0 left) [] limit refusal files) → IsRefusedComparison left right limit seen refusal files
   -- the left file can be solved, and the right file is refused
-  right_refused : (first rest : Seen) (are_parts : AreParts seen first rest) (loaded : Loaded) (one : Taken) (is_left : IsSolved (file_of first 0 left) None loaded one.checked one.plains)
-      (read : List (List ℕ)) (all : files ≡ loaded.files ++ read) (why : IsRefused (file_of rest (length loaded.files) right) None limit refusal read)
+  right_refused : (first rest : Seen) (are_parts : AreParts seen first rest) (loaded : Loaded) (one : Taken) (is_left : IsSolved (file_of first 0 left) [] loaded one.checked one.plains)
+      (read : List (List ℕ)) (all : files ≡ loaded.files ++ read) (why : IsRefused (file_of rest (length loaded.files) right) [] limit refusal read)
       → IsRefusedComparison left right limit seen refusal files
   -- both can be solved, and their modes or globals differ
   not_comparable : (one two : Taken) (are_solved : AreSolved left right seen one two) (differ : ¬ HaveSameGlobals one.checked two.checked) (is : refusal ≡ VarsDiffer)

@@ -1,5 +1,5 @@
 -- Which requests are done, by what the files hold, where nothing outside goes wrong.
-use Rattle.std.specs.Prelude.{◌≡◌, ℕ, ◌⊎◌, true, false, List, Option, None, Some}
+use Rattle.std.specs.Prelude.{◌≡◌, ℕ, ◌⊎◌, true, false, List, [], Some}
 use Rattle.ms_edge.specs.declared.refusal.Refusal.TheVariants.{Nodes}
 use Rattle.ms_edge.specs.declared.refusal.Status.{Status}
 use Rattle.ms_edge.specs.declared.refusal.Status.TheVariants.{Done, Limit, NoMemory}
@@ -18,10 +18,11 @@ use Rattle.ms_presburger_decide.specs.Problem.{IsEnoughForProblem, ProblemCanBeD
 use Rattle.ms_report.specs.Line.{line_of}
 use Rattle.ms_app_words.specs.Command.{IsCommand, node_limit}
 use Rattle.ms_app_words.specs.declared.command.Command.{Command}
-use Rattle.ms_app_words.specs.declared.command.Command.TheVariants.{Decide, Same, Gen, Ltl, Presburger, Check}
+use Rattle.ms_app_words.specs.declared.command.Command.TheVariants.{Decide, Same, Gen, Ltl, Presburger, Check, Certify}
 use Rattle.ms_app.specs.Answer.{IsDelivered, IsRefusedFor, generated_name}
 use Rattle.ms_app.specs.Comparison.{AreParts, AreSolved, HaveSameGlobals, Taken}
-use Rattle.ms_app.specs.Source.{IsEnoughWith, IsSolved, IsTaken, Origin, file_of, text_of}
+use Rattle.ms_app.specs.Certification.{names_to_certify}
+use Rattle.ms_app.specs.Source.{IsEnoughWith, IsSolved, IsTaken, Origin, file_of, names_for, text_of}
 
 -- what the files hold was told, no read or write of them failed, and the sink did not fail
 pub record NothingFailed (before after : SinkTold) (seen : Seen) : Type 0 where
@@ -31,9 +32,9 @@ pub record NothingFailed (before after : SinkTold) (seen : Seen) : Type 0 where
   pub prints : ¬ Rose before.faults after.faults
 
 -- it loads as a source without a fault, whose imports can be taken, and which is within the limits
-abbrev pub CanBeSolved : Origin → Option (List ℕ) → Type 0
-CanBeSolved origin out =
-    (loaded : Loaded) × (checked : Checked) × (plains : List Plain) × IsSolved origin out loaded checked plains
+abbrev pub CanBeSolved : Origin → List (List ℕ) → Type 0
+CanBeSolved origin outs =
+    (loaded : Loaded) × (checked : Checked) × (plains : List Plain) × IsSolved origin outs loaded checked plains
 
 -- both files load as such sources, with the same globals
 abbrev pub CanBeCompared : List ℕ → List ℕ → Seen → Type 0
@@ -46,12 +47,13 @@ FormulaCanBeDecided file seen = (names : Names) × (f : Temporal) × IsSolvable 
 
 -- what the command asks for can be done
 abbrev pub CanBeDone : Command → Seen → Type 0
-CanBeDone (Decide file out max_nodes stats format) seen = CanBeSolved (file_of seen 0 file) out
+CanBeDone (Decide file out max_nodes stats format) seen = CanBeSolved (file_of seen 0 file) (names_for out)
 CanBeDone (Same left right max_nodes) seen = CanBeCompared left right seen
 CanBeDone (Gen number decide) seen = IsNumber number
 CanBeDone (Ltl file max_nodes) seen = FormulaCanBeDecided file seen
 CanBeDone (Presburger file max_nodes) seen = ProblemCanBeDecided seen.before.held file
 CanBeDone (Check name) seen = CanBeChecked seen.before.held name
+CanBeDone (Certify file name max_nodes) seen = CanBeSolved (file_of seen 0 file) (names_to_certify name)
 
 -- the limit on the nodes and states of a step; a check has no steps
 abbrev pub limit_of : Command → ℕ
@@ -61,26 +63,28 @@ limit_of (Gen number decide) = node_limit
 limit_of (Ltl file max_nodes) = max_nodes
 limit_of (Presburger file max_nodes) = max_nodes
 limit_of (Check name) = node_limit
+limit_of (Certify file name max_nodes) = max_nodes
 
 -- the limit is enough for the source, as often as it is one whose imports can be taken
-abbrev pub IsEnoughForOrigin : Origin → Option (List ℕ) → ℕ → Type 0
-IsEnoughForOrigin origin out limit =
-    (loaded : Loaded) (checked : Checked) (plains : List Plain) → IsTaken origin out loaded checked plains → IsEnoughWith checked plains limit
+abbrev pub IsEnoughForOrigin : Origin → List (List ℕ) → ℕ → Type 0
+IsEnoughForOrigin origin outs limit =
+    (loaded : Loaded) (checked : Checked) (plains : List Plain) → IsTaken origin outs loaded checked plains → IsEnoughWith checked plains limit
 
 -- it is enough for both files, whatever number the files of the right one begin with
 pub record IsEnoughForBoth (left right : List ℕ) (limit : ℕ) (seen : Seen) : Type 0 where
-  pub for_left : IsEnoughForOrigin (file_of seen 0 left) None limit
-  pub for_right : (first rest : Seen) (base : ℕ) → AreParts seen first rest → IsEnoughForOrigin (file_of rest base right) None limit
+  pub for_left : IsEnoughForOrigin (file_of seen 0 left) [] limit
+  pub for_right : (first rest : Seen) (base : ℕ) → AreParts seen first rest → IsEnoughForOrigin (file_of rest base right) [] limit
 
 -- the limit on the nodes and states of a step is at least each budget of each step of what the command asks for
 abbrev pub IsLimitEnough : Command → Seen → Type 0
-IsLimitEnough (Decide file out max_nodes stats format) seen = IsEnoughForOrigin (file_of seen 0 file) out max_nodes
+IsLimitEnough (Decide file out max_nodes stats format) seen = IsEnoughForOrigin (file_of seen 0 file) (names_for out) max_nodes
 IsLimitEnough (Same left right max_nodes) seen = IsEnoughForBoth left right max_nodes seen
 IsLimitEnough (Gen number false) seen = Unit {0}
-IsLimitEnough (Gen number true) seen = IsEnoughForOrigin (text_of generated_name (generated number)) None node_limit
+IsLimitEnough (Gen number true) seen = IsEnoughForOrigin (text_of generated_name (generated number)) [] node_limit
 IsLimitEnough (Ltl file max_nodes) seen = IsEnoughForFormula seen.before.held file max_nodes
 IsLimitEnough (Presburger file max_nodes) seen = IsEnoughForProblem seen.before.held file max_nodes
 IsLimitEnough (Check name) seen = Unit {0}
+IsLimitEnough (Certify file name max_nodes) seen = IsEnoughForOrigin (file_of seen 0 file) (names_to_certify name) max_nodes
 
 -- it was done: its text was printed, and its files written
 abbrev pub WasDone : Command → SinkTold → SinkTold → Seen → Status → Type 0

@@ -38,13 +38,13 @@ pub record IsFound (checked : Checked) (answers : Answers) (found : Found) : Typ
   pub main : AnswersMain (asks_main (declared_in checked) (goals_in checked)) (main_question checked answers) found.main
   pub goals : AllZip (IsGoalAnswer checked answers) (goals_in checked) found.goals
 
--- The source can be solved, and what was found is true of it, with counts where they are asked for; and these are the automaton files of its
--- exports, and of its main value where that is asked for, in a version.
-pub record IsDecided (origin : Origin) (out : Option (List ℕ)) (stats : Bool) (format : FileVersion) (found : Found) (files : List File) : Type 0 where
+-- The source can be solved, and exports no file of one of the names `outs`; what was found is true of it, with counts where they are asked for;
+-- and these are the automaton files of its exports, and of its main value where that is asked for, in a version.
+pub record IsDecided (origin : Origin) (outs : List (List ℕ)) (out : Option (List ℕ)) (stats : Bool) (format : FileVersion) (found : Found) (files : List File) : Type 0 where
   pub loaded : Loaded
   pub checked : Checked
   pub plains : List Plain
-  pub is : IsSolved origin out loaded checked plains
+  pub is : IsSolved origin outs loaded checked plains
   pub is_found : IsFound checked (answers_with checked plains) found
   pub counted : HasStats stats checked (answers_with checked plains) (length loaded.files) found.stats
   pub written : AreFilesOf format checked (answers_with checked plains) out files

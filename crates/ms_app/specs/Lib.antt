@@ -1,4 +1,5 @@
 pub mod Answer
+pub mod Certification
 pub mod Comparison
 pub mod Completeness
 pub mod Counts

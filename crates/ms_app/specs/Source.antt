@@ -1,5 +1,5 @@
 -- Where the source of a request comes from, and when it is one that can be solved.
-use Rattle.std.specs.Prelude.{◌≡◌, ◌≢◌, ℕ, List, [], ◌∷◌, All, Contains, map, Option, Some, None}
+use Rattle.std.specs.Prelude.{◌≡◌, ℕ, List, [], ◌∷◌, All, Contains, map, slice_get, take, Option, Some, None}
 use Rattle.ms_dfa.specs.declared.plain.Plain.{Plain}
 use Rattle.ms_edge.specs.declared.refusal.Refusal.{Refusal}
 use Rattle.ms_edge.specs.declared.refusal.Refusal.TheVariants.{Twice, Nodes, Memory}
@@ -64,24 +64,33 @@ pub record IsAccepted (origin : Origin) (loaded : Loaded) (checked : Checked) : 
   pub accepted : first_fault_of loaded.mode (map placed_of loaded.items) ≡ None
   pub typed : IsTyped loaded checked
 
--- the file for the automaton of the main value, if one is named, is none that the source exports
-abbrev pub IsOutFree : Option (List ℕ) → List ExportUse → Type 0
-IsOutFree None exports = Unit {0}
-IsOutFree (Some out) exports = All (λ used. used.name ≢ out) exports
+-- the name that a request gives the file of the automaton of the main value, if it gives one, in a list
+abbrev pub names_for : Option (List ℕ) → List (List ℕ)
+names_for None = []
+names_for (Some out) = out ∷ []
 
--- an export has its name: the refusal stands at this export
-abbrev pub IsOutTaken : Option (List ℕ) → List ExportUse → Refusal → Type 0
-IsOutTaken out exports refusal = (used : ExportUse) × Contains exports used × (out ≡ Some used.name) × (refusal ≡ Twice used.at used.name)
+-- no export has one of the names that a request gives to files of its own
+abbrev pub AreOutsFree : List (List ℕ) → List ExportUse → Type 0
+AreOutsFree outs exports = All (λ used. ¬ Contains outs used.name) exports
+
+-- an export has one of these names: the refusal stands at the first that has
+pub record IsOutTaken (outs : List (List ℕ)) (exports : List ExportUse) (refusal : Refusal) : Type 0 where
+  pub place : ℕ
+  pub used : ExportUse
+  pub here : slice_get exports place ≡ Some used
+  pub first : AreOutsFree outs (take place exports)
+  pub taken : Contains outs used.name
+  pub is : refusal ≡ Twice used.at used.name
 
 -- the files of its imports have these contents, and can be imported
-pub record IsTaken (origin : Origin) (out : Option (List ℕ)) (loaded : Loaded) (checked : Checked) (plains : List Plain) : Type 0 where
+pub record IsTaken (origin : Origin) (outs : List (List ℕ)) (loaded : Loaded) (checked : Checked) (plains : List Plain) : Type 0 where
   pub is : IsAccepted origin loaded checked
-  pub free : IsOutFree out checked.exports
+  pub free : AreOutsFree outs checked.exports
   pub imported : origin.Imports checked.mode checked.imports plains
 
 -- and it is within the limits
-pub record IsSolved (origin : Origin) (out : Option (List ℕ)) (loaded : Loaded) (checked : Checked) (plains : List Plain) : Type 0 where
-  pub is : IsTaken origin out loaded checked plains
+pub record IsSolved (origin : Origin) (outs : List (List ℕ)) (loaded : Loaded) (checked : Checked) (plains : List Plain) : Type 0 where
+  pub is : IsTaken origin outs loaded checked plains
   pub within : IsWithinLimits (problem_with checked plains)
 
 -- The source is refused before anything is imported, and these are its files that the refusal may number.
@@ -101,20 +110,20 @@ IsBelowBudgets checked plains limit refusal =
     (step : ℕ) → refusal ≡ Nodes step limit → IsBelowSource checked (answers_with checked plains) limit × ¬ IsEnoughWith checked plains limit
 
 -- The source is refused under a limit on the nodes and states of a step.
-pub data IsRefused (origin : Origin) (out : Option (List ℕ)) (limit : ℕ) (refusal : Refusal) (read : List (List ℕ)) : Type 0 where
+pub data IsRefused (origin : Origin) (outs : List (List ℕ)) (limit : ℕ) (refusal : Refusal) (read : List (List ℕ)) : Type 0 where
   -- before anything is imported
-  unaccepted : (why : IsUnaccepted origin refusal read) → IsRefused origin out limit refusal read
-  -- nothing is wrong in it, and it exports a file of the name for its main value
-  out_taken : (loaded : Loaded) (checked : Checked) (is : IsAccepted origin loaded checked) (all : read ≡ loaded.files) (why : IsOutTaken out checked.exports refusal)
-      → IsRefused origin out limit refusal read
+  unaccepted : (why : IsUnaccepted origin refusal read) → IsRefused origin outs limit refusal read
+  -- nothing is wrong in it, and it exports a file of a name that the request gives to one of its own
+  out_taken : (loaded : Loaded) (checked : Checked) (is : IsAccepted origin loaded checked) (all : read ≡ loaded.files) (why : IsOutTaken outs checked.exports refusal)
+      → IsRefused origin outs limit refusal read
   -- a file that it imports cannot be taken
-  unimported : (loaded : Loaded) (checked : Checked) (is : IsAccepted origin loaded checked) (free : IsOutFree out checked.exports) (all : read ≡ loaded.files)
-      (why : origin.IsUnimported checked.mode limit checked.imports refusal) → IsRefused origin out limit refusal read
+  unimported : (loaded : Loaded) (checked : Checked) (is : IsAccepted origin loaded checked) (free : AreOutsFree outs checked.exports) (all : read ≡ loaded.files)
+      (why : origin.IsUnimported checked.mode limit checked.imports refusal) → IsRefused origin outs limit refusal read
   -- all are taken, and it is not solved over the automata of its imports: they answer what the files say, and are within the limit; if nodes
   -- are wanting, the limit is below the budgets of a step, and not enough for the source
-  unsolved : (loaded : Loaded) (checked : Checked) (plains : List Plain) (is : IsTaken origin out loaded checked plains) (all : read ≡ loaded.files)
+  unsolved : (loaded : Loaded) (checked : Checked) (plains : List Plain) (is : IsTaken origin outs loaded checked plains) (all : read ≡ loaded.files)
       (contents : List (Content Sign)) (adopted : AreAdopted limit checked.mode checked.imports plains contents)
       (why : IsUnsolved checked (answers_by checked.imports plains) contents limit refusal)
-      (below : IsBelowBudgets checked plains limit refusal) → IsRefused origin out limit refusal read
+      (below : IsBelowBudgets checked plains limit refusal) → IsRefused origin outs limit refusal read
   -- want of memory needs no cause
-  no_memory : (why : refusal ≡ Memory) → IsRefused origin out limit refusal read
+  no_memory : (why : refusal ≡ Memory) → IsRefused origin outs limit refusal read

@@ -49,17 +49,17 @@ fn solve_file<F: Files>(
     requires few { length names.old ≤ 64 }
     requires limit { IsLimit limit }
     ensures solved { IfOk result (λ made. (loaded : Declarations) × (plains : List Plain)
-        × IsSolved (file_of (between (F.told files.old) (F.told files.new)) (length names.old) name.now) None loaded made.source.checked plains
+        × IsSolved (file_of (between (F.told files.old) (F.told files.new)) (length names.old) name.now) [] loaded made.source.checked plains
         × IsSolution made.source.checked (answers_with made.source.checked plains) made.solution
         × (length loaded.files ≤ 64) × (names.new ≡ names.old ++ loaded.files)) }
     ensures fits { IfOk result (λ made. length made.solution.automaton.nodes + length made.solution.automaton.states ≤ limit) }
     ensures named { IfOk result (λ made. IsNamed made.solution) }
     ensures refused { IfErr result (λ refusal. (refusal ≡ Refusal.Memory) ⊎ ((read : List (List ℕ)) × (names.new ≡ names.old ++ read)
-        × IsRefused (file_of (between (F.told files.old) (F.told files.new)) (length names.old) name.now) None limit refusal read)) }
+        × IsRefused (file_of (between (F.told files.old) (F.told files.new)) (length names.old) name.now) [] limit refusal read)) }
     ensures only_read { OnlyRead (F.told files.old) (F.told files.new) }
 {
     let wanted = Wanted {
-        out: None,
+        outs: &[],
         max_nodes: limit,
     };
     let taken = match take_file(alloc, name, wanted, files, names) {

@@ -4,7 +4,7 @@ ghost use Rattle.std.specs.Prelude.{[], codes, false};
 ghost use Rattle.ms_dfa.specs.declared.plain.FileVersion.TheVariants.{Two};
 ghost use Rattle.ms_edge.specs.Files.{between};
 ghost use Rattle.ms_gen.specs.Generated.{generated};
-ghost use Rattle.ms_app_words.specs.declared.command.Command.TheVariants.{Decide, Gen};
+ghost use Rattle.ms_app_words.specs.declared.command.Command.TheVariants.{Certify, Decide, Gen};
 ghost use Rattle.ms_app.specs.Answer.{IsDelivered};
 ghost use Rattle.ms_app.specs.Completeness.{CanBeDone, NothingFailed};
 ghost use Rattle.ms_app.specs.inner.CompletenessExamples.{empty_files, no_files, silent_files, sink_after, still};
@@ -13,6 +13,7 @@ ghost use Rattle.ms_app.specs.inner.CompletenessExamples.{empty_files, no_files,
 pub fn worked_requests()
     // A file without bytes is the source without declarations.
     ensures empty_file { CanBeDone (Decide (codes "a") None 5 false Two) (still (empty_files 0)) }
+    ensures to_certify { CanBeDone (Certify (codes "a") (codes "m") 5) (still (empty_files 0)) }
 
     // A file that is not there.
     ensures no_file { ¬ CanBeDone (Decide (codes "a") None 5 false Two) (still no_files) }

@@ -1,4 +1,4 @@
-ghost use Rattle.std.specs.Prelude.{◌≡◌, ◌⊎◌, ◌+◌, ◌≤◌, length, IfErr, IfOk};
+ghost use Rattle.std.specs.Prelude.{◌≡◌, ◌⊎◌, ◌+◌, ◌≤◌, [], length, IfErr, IfOk};
 ghost use Rattle.std.specs.Option.{option_copied};
 ghost use Rattle.ms_build.specs.Built.{IsLimit};
 ghost use Rattle.ms_logic.specs.View.{problem_of, Answers};
@@ -6,8 +6,10 @@ ghost use Rattle.ms_build_source.specs.Imported.{AreAnswersOf, AreLentFor};
 ghost use Rattle.ms_build_source.specs.Limits.{IsUnsolved, IsWithinLimits};
 ghost use Rattle.ms_build_source.specs.Solution.{AreExportFiles, IsNamed, IsSolution};
 ghost use Rattle.ms_app.specs.Counts.{HasStats};
-ghost use Rattle.ms_app.specs.Decision.{IsFound};
-ghost use Rattle.ms_app.specs.inner.Files.{AreNames, AreWritable, IsWithMain, IsWritable, pairs_of};
+ghost use Rattle.ms_app.specs.Decision.{IsDecided, IsFound};
+ghost use Rattle.ms_app.specs.Source.{IsRefused, file_of};
+ghost use Rattle.ms_edge.specs.Files.{OnlyRead, between};
+ghost use Rattle.ms_app.specs.inner.Files.{AreNames, AreWritable, HaveOwnNames, IsAmongNames, IsWithMain, IsWritable, pairs_of};
 ghost use Rattle.ms_app.specs.inner.Right.{IsRight};
 ghost use Rattle.ms_app.specs.Written.{AreFilesOf};
 
@@ -16,10 +18,10 @@ use crate::files::{AutomatonFile, add_file, export_files};
 use crate::found::{counts, found};
 use crate::options::Options;
 use crate::source::Accepted;
-use crate::taken::Taken;
+use crate::taken::{Taken, Wanted, take_file};
 use ms_build_source::{Solution, solve};
 use ms_dfa::Plain;
-use ms_edge::Refusal;
+use ms_edge::{Files, Refusal};
 use ms_list::{List, NoMemory, Text};
 use ms_report::{Found, Stats};
 use std::alloc::Global;
@@ -140,4 +142,33 @@ pub fn decide(alloc: Global, taken: &Taken, options: Options) -> Result<Decided,
         }),
         Err(_) => Err(Refusal::Memory),
     }
+}
+
+/// A file that is decided: what is found of it, and its automaton files.
+pub fn decide_file<F: Files>(
+    alloc: Global,
+    name: &Text,
+    options: Options,
+    files: &mut F,
+    names: &mut List<Text>,
+) -> Result<Decided, Refusal>
+    requires first { names.old ≡ [] }
+    requires limit { IsLimit options.max_nodes }
+    requires among { IsAmongNames (option_copied options.out) options.outs.now }
+    ensures decided { IfOk result (λ made. IsDecided (file_of (between (F.told files.old) (F.told files.new)) 0 name.now) options.entry.outs.now
+        (option_copied options.entry.out) options.entry.stats options.entry.format made.found (pairs_of made.files)) }
+    ensures own_names { IfOk result (λ made. HaveOwnNames (pairs_of made.files)) }
+    ensures refused { IfErr result (λ refusal. IsRefused (file_of (between (F.told files.old) (F.told files.new)) 0 name.now) options.entry.outs.now options.entry.max_nodes
+        refusal names.new) }
+    ensures only_read { OnlyRead (F.told files.old) (F.told files.new) }
+{
+    let wanted = Wanted {
+        outs: options.outs,
+        max_nodes: options.max_nodes,
+    };
+    let taken = match take_file(alloc, name, wanted, files, names) {
+        Ok(taken) => taken,
+        Err(refusal) => return Err(refusal),
+    };
+    decide(alloc, &taken, options)
 }

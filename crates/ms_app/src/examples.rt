@@ -11,7 +11,8 @@ ghost use Rattle.ms_app.specs.Comparison.{HaveSameGlobals, comparison_text};
 ghost use Rattle.ms_app.specs.Counts.{HasStats};
 ghost use Rattle.ms_app.specs.Decision.{AnswersMain, IsGoalAnswer, asks_main};
 ghost use Rattle.ms_app.specs.inner.Examples.{at, export_to, found_valid, nothing_held, one_held, one_set, other_mode, other_order, turned_round, two_files, two_sets};
-ghost use Rattle.ms_app.specs.Source.{IsOutFree, IsOutTaken};
+ghost use Rattle.ms_app.specs.Source.{AreOutsFree, IsOutTaken, names_for};
+ghost use Rattle.ms_app.specs.Certification.{names_to_certify};
 ghost use Rattle.ms_app.specs.Written.{AreFilesOf, AreHeld, AreHeldUpTo, KeepsAllBut};
 
 /// Sources that can be compared, and sources that cannot.
@@ -44,11 +45,13 @@ pub fn worked_questions()
 
 /// Names for the file of the main value, and files where nothing is written.
 pub fn worked_files()
-    // The name of the main value's file may not be one that the source exports.
-    ensures free { IsOutFree (Some (codes "m.aut")) (export_to (codes "e.aut") ∷ []) }
-    ensures not_free { ¬ IsOutFree (Some (codes "e.aut")) (export_to (codes "e.aut") ∷ []) }
-    ensures taken { IsOutTaken (Some (codes "e.aut")) (export_to (codes "e.aut") ∷ []) (Twice (at 7) (codes "e.aut")) }
-    ensures unnamed { ¬ IsOutTaken None (export_to (codes "e.aut") ∷ []) (Twice (at 7) (codes "e.aut")) }
+    // The name of the main value's file may not be one that the source exports, and no more that of its certificate.
+    ensures free { AreOutsFree (names_for (Some (codes "m.aut"))) (export_to (codes "e.aut") ∷ []) }
+    ensures not_free { ¬ AreOutsFree (names_for (Some (codes "e.aut"))) (export_to (codes "e.aut") ∷ []) }
+    ensures taken { IsOutTaken (names_for (Some (codes "e.aut"))) (export_to (codes "e.aut") ∷ []) (Twice (at 7) (codes "e.aut")) }
+    ensures unnamed { ¬ IsOutTaken (names_for None) (export_to (codes "e.aut") ∷ []) (Twice (at 7) (codes "e.aut")) }
+    ensures certificate { IsOutTaken (names_to_certify (codes "e")) (export_to (codes "e.cert") ∷ []) (Twice (at 7) (codes "e.cert")) }
+    ensures first { ¬ IsOutTaken (names_to_certify (codes "e")) (export_to (codes "e") ∷ export_to (codes "e.cert") ∷ []) (Twice (at 7) (codes "e.cert")) }
 
     // A source without exports writes nothing where no name is given, and what is held stays.
     ensures no_files { AreFilesOf Two two_sets [] None [] }

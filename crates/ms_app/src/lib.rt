@@ -2,6 +2,7 @@
 #![tactic(auto)]
 
 mod agreement;
+mod certification;
 mod compare;
 mod complete_examples;
 mod content;

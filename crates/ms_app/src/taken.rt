@@ -1,11 +1,10 @@
-ghost use Rattle.std.specs.Prelude.{◌≡◌, ◌≢◌, ◌≤◌, ◌⊎◌, ◌++◌, ℕ, [], All, Contains, List, Option, None, Some, length, IfErr, IfNone, IfOk, IfSome};
-ghost use Rattle.std.specs.Option.{option_copied};
+ghost use Rattle.std.specs.Prelude.{◌≡◌, ◌≤◌, ◌⊎◌, ◌↔◌, ◌++◌, ℕ, [], Contains, List, Some, length, slice_get, take, IfErr, IfNone, IfOk, IfSome, IsTrue};
 ghost use Rattle.ms_build.specs.Built.{IsLimit};
 ghost use Rattle.ms_dfa.specs.declared.plain.Plain.{Plain};
 ghost use Rattle.ms_edge.specs.Files.{OnlyRead, between};
 ghost use Rattle.ms_dfafile_imports.specs.Adopted.{AreAdopted};
 ghost use Rattle.ms_logic.specs.declared.source.Loaded.{Loaded as Declarations};
-ghost use Rattle.ms_app.specs.Source.{IsOutFree, IsOutTaken, IsRefused, IsTaken, file_of};
+ghost use Rattle.ms_app.specs.Source.{AreOutsFree, IsOutTaken, IsRefused, IsTaken, file_of};
 ghost use Rattle.ms_app.specs.inner.Right.{IsRight};
 
 use crate::source::{Accepted, accept_file};
@@ -16,11 +15,11 @@ use ms_list::{List, Text};
 use ms_logic::ExportUse;
 use std::alloc::Global;
 
-/// What is wanted of a file: the name under which the automaton of its main value is to be written, where there is one, and the
-/// greatest number of nodes and states of a step.
+/// What is wanted of a file: that it exports no file of one of the names `outs`, and the greatest number of nodes and states of a
+/// step.
 #[derive(Clone, Copy)]
 pub struct Wanted<'a> {
-    pub out: Option<&'a Text>,
+    pub outs: &'a [Text],
     pub max_nodes: u64,
 }
 
@@ -31,28 +30,38 @@ pub struct Taken {
     pub imports: List<Automaton>,
 }
 
-/// The first export of the name.
-fn export_named<'a>(exports: &'a [ExportUse], name: &str) -> Option<&'a ExportUse>
-    ensures found { IfSome result (λ used. Contains exports.entry.now used.now × (used.now.name ≡ name.now)) }
-    ensures none { IfNone result (All (λ used. used.name ≢ name.now) exports.entry.now) }
+/// Whether a name is one of these.
+fn is_among(names: &[Text], name: &str) -> bool
+    ensures { IsTrue result ↔ Contains names.now name.now }
+{
+    for one in names {
+        if one.text() == name {
+            return true;
+        }
+    }
+    false
+}
+
+/// The first export that has one of these names.
+fn first_taken<'a>(exports: &'a [ExportUse], outs: &[Text]) -> Option<&'a ExportUse>
+    ensures found { IfSome result (λ used. (place : ℕ) × (slice_get exports.entry.now place ≡ Some used.now)
+        × AreOutsFree outs.now (take place exports.entry.now) × Contains outs.now used.now.name) }
+    ensures none { IfNone result (AreOutsFree outs.now exports.entry.now) }
 {
     for used in exports {
-        if used.name.text() == name {
+        if is_among(outs, used.name.text()) {
             return Some(used);
         }
     }
     None
 }
 
-/// Whether the name for the automaton of the main value is none that the source exports, or the refusal of this name.
-fn free(alloc: Global, exports: &[ExportUse], out: Option<&Text>) -> Result<(), Refusal>
-    ensures free { IfOk result (λ done. IsOutFree (option_copied out.entry) exports.now) }
-    ensures refused { IfErr result (λ refusal. (refusal ≡ Refusal.Memory) ⊎ IsOutTaken (option_copied out.entry) exports.now refusal) }
+/// Whether no export has one of these names, or the refusal of the first that has.
+fn free(alloc: Global, exports: &[ExportUse], outs: &[Text]) -> Result<(), Refusal>
+    ensures free { IfOk result (λ done. AreOutsFree outs.now exports.now) }
+    ensures refused { IfErr result (λ refusal. (refusal ≡ Refusal.Memory) ⊎ IsOutTaken outs.now exports.now refusal) }
 {
-    let Some(name) = out else {
-        return Ok(());
-    };
-    let Some(used) = export_named(exports, name.text()) else {
+    let Some(used) = first_taken(exports, outs) else {
         return Ok(());
     };
     match Text::new(alloc, used.name.text()) {
@@ -73,19 +82,19 @@ pub fn take_file<F: Files>(
     requires few { length names.old ≤ 64 }
     requires limit { IsLimit wanted.max_nodes }
     ensures taken { IfOk result (λ made. (loaded : Declarations) × (plains : List Plain)
-        × IsTaken (file_of (between (F.told files.old) (F.told files.new)) (length names.old) name.now) (option_copied wanted.entry.out) loaded made.source.checked plains
+        × IsTaken (file_of (between (F.told files.old) (F.told files.new)) (length names.old) name.now) wanted.entry.outs.now loaded made.source.checked plains
         × AreAdopted wanted.entry.max_nodes made.source.checked.mode made.source.checked.imports plains made.imports
         × (made.source.files ≡ length loaded.files) × (length loaded.files ≤ 64) × (names.new ≡ names.old ++ loaded.files)) }
     ensures right { IfOk result (λ made. IsRight made.source.checked) }
     ensures refused { IfErr result (λ refusal. (refusal ≡ Refusal.Memory) ⊎ ((read : List (List ℕ)) × (names.new ≡ names.old ++ read)
-        × IsRefused (file_of (between (F.told files.old) (F.told files.new)) (length names.old) name.now) (option_copied wanted.entry.out) wanted.entry.max_nodes refusal read)) }
+        × IsRefused (file_of (between (F.told files.old) (F.told files.new)) (length names.old) name.now) wanted.entry.outs.now wanted.entry.max_nodes refusal read)) }
     ensures only_read { OnlyRead (F.told files.old) (F.told files.new) }
 {
     let source = match accept_file(alloc, name, files, names) {
         Ok(source) => source,
         Err(refusal) => return Err(refusal),
     };
-    match free(alloc, source.checked.exports.slice(), wanted.out) {
+    match free(alloc, source.checked.exports.slice(), wanted.outs) {
         Ok(()) => {}
         Err(refusal) => return Err(refusal),
     }

@@ -6,14 +6,15 @@ ghost use Rattle.ms_edge.specs.Files.{OnlyRead, Seen, between};
 ghost use Rattle.ms_app_words.specs.declared.command.Command.TheVariants.{Decide, Same, Gen, Ltl, Presburger, Check};
 ghost use Rattle.ms_app.specs.Answer.{IsGivenFor, IsRefusedFor};
 ghost use Rattle.ms_app.specs.Comparison.{comparison_text};
+ghost use Rattle.ms_app.specs.Source.{names_for};
 ghost use Rattle.ms_app.specs.inner.Files.{HaveOwnNames, pairs_of};
 
 use crate::compare::{Pair, compare};
-use crate::decide::decide;
+use crate::decide::{decide, decide_file};
 use crate::files::AutomatonFile;
 use crate::options::Options;
 use crate::source::accept_text;
-use crate::taken::{Taken, Wanted, take_file};
+use crate::taken::Taken;
 use ms_cert_check::check;
 use ms_dfa::FileVersion;
 use ms_edge::{Files, Refusal};
@@ -60,6 +61,7 @@ pub fn decision<F: Files>(
 ) -> Result<Given, Refusal>
     requires first { names.old ≡ [] }
     requires limit { IsLimit options.max_nodes }
+    requires named { options.outs.now ≡ names_for (option_copied options.out) }
     ensures given { IfOk result (λ given. IsGivenFor (Decide name.now (option_copied options.entry.out) options.entry.max_nodes options.entry.stats options.entry.format)
         (between (F.told files.old) (F.told files.new)) given.text (pairs_of given.files)) }
     ensures own_names { IfOk result (λ given. HaveOwnNames (pairs_of given.files)) }
@@ -67,15 +69,7 @@ pub fn decision<F: Files>(
         (between (F.told files.old) (F.told files.new)) refusal names.new) }
     ensures only_read { OnlyRead (F.told files.old) (F.told files.new) }
 {
-    let wanted = Wanted {
-        out: options.out,
-        max_nodes: options.max_nodes,
-    };
-    let taken = match take_file(alloc, name, wanted, files, names) {
-        Ok(taken) => taken,
-        Err(refusal) => return Err(refusal),
-    };
-    let decided = match decide(alloc, &taken, options) {
+    let decided = match decide_file(alloc, name, options, files, names) {
         Ok(decided) => decided,
         Err(refusal) => return Err(refusal),
     };
@@ -219,6 +213,7 @@ fn generation_summary(alloc: Global, number: u64, names: &mut List<Text>) -> Res
         max_nodes: NODE_LIMIT,
         stats: true,
         out: None,
+        outs: &[],
         format: FileVersion::Two,
     };
     let decided = match decide(alloc, &taken, options) {

@@ -6,9 +6,11 @@ ghost use Rattle.ms_app_words.specs.Command.{IsCommand};
 ghost use Rattle.ms_app_words.specs.declared.command.Command.{Command as Asked};
 ghost use Rattle.ms_app.specs.Answer.{IsAnswered, IsAnsweredFor, IsDelivered, IsDone, IsGeneration, IsGivenFor, IsLimited, IsRefusedFor};
 ghost use Rattle.ms_app.specs.Completeness.{IsComplete, IsDoneIfFavoured};
+ghost use Rattle.ms_app.specs.Source.{names_for};
 ghost use Rattle.ms_app.specs.inner.Delivery.{WasDelivered};
 ghost use Rattle.ms_app.specs.inner.Files.{HaveOwnNames, pairs_of};
 
+use crate::certification::{ToCertify, certification};
 use crate::compare::Pair;
 use crate::options::Options;
 use crate::print::{out_of_memory, print, print_unwritten, refuse};
@@ -20,6 +22,17 @@ use ms_app_words::{Command, WordsFault, options};
 use ms_edge::{CommandLine, Files, Refusal, Sink, Status};
 use ms_list::{List, Text};
 use std::alloc::Global;
+use std::slice;
+
+/// The name of the file of the main value, if one is named, in a list.
+fn names_of(out: &Option<Text>) -> &[Text]
+    ensures { result.now ≡ names_for out.now }
+{
+    match out {
+        Some(name) => slice::from_ref(name),
+        None => &[],
+    }
+}
 
 /// What a command asks for, by what the files hold. The files that a refusal numbers are in `names`.
 fn given<F: Files>(
@@ -49,6 +62,7 @@ fn given<F: Files>(
                 max_nodes: *max_nodes,
                 stats: *stats,
                 out: out.as_ref(),
+                outs: names_of(out),
                 format: *format,
             };
             decision(alloc, file, options, files, names)
@@ -64,6 +78,18 @@ fn given<F: Files>(
             problem_report(alloc, file, *max_nodes, files, names)
         }
         Command::Check { name } => certificate_report(alloc, name, files),
+        Command::Certify {
+            file,
+            name,
+            max_nodes,
+        } => {
+            let wanted = ToCertify {
+                file,
+                name,
+                max_nodes: *max_nodes,
+            };
+            certification(alloc, wanted, files, names)
+        }
     }
 }
 
@@ -102,7 +128,8 @@ fn answer<F: Files, S: Sink>(alloc: Global, command: &Command, files: &mut F, ou
 /// exports and that of its main value to NAME, in version V, and reports on its formula; `same LEFT RIGHT [--max-nodes N]` says whether the main values of
 /// two files agree; `gen K [--decide]` prints the generated source with this number, or decides it; `ltl FILE [--max-nodes N]` reports on a
 /// formula of linear temporal logic on finite traces, and `presburger FILE [--max-nodes N]` on one of linear arithmetic over the natural
-/// numbers; `check NAME` says what the certificate NAME.cert proves of the automaton file NAME. The words are those after the program's name. What is printed goes to the sink: the text, or one line where the request is refused or a file is not written
+/// numbers; `certify FILE NAME [--max-nodes N]` does what `decide FILE --out NAME` does, and writes a certificate of NAME to NAME.cert; `check NAME`
+/// says what the certificate NAME.cert proves of the automaton file NAME. The words are those after the program's name. What is printed goes to the sink: the text, or one line where the request is refused or a file is not written
 /// (docs/FORMATS.md).
 pub fn run<F: Files, S: Sink>(
     alloc: Global,
@@ -112,7 +139,7 @@ pub fn run<F: Files, S: Sink>(
 ) -> Status
     // Words that are no command are answered so. A file is decided, its automata are written, and the report on it is printed; two files
     // are compared; a source is generated, and decided; a formula is decided over all traces, or over all natural numbers; an automaton file
-    // is checked by its certificate; or the request is refused for a cause, with nothing written, or one of the files
+    // is checked by its certificate, or written with one; or the request is refused for a cause, with nothing written, or one of the files
     // is not, and the line of this is printed.
     ensures answered { IsAnswered words.now (S.told out.old) (S.told out.new) (between (F.told files.old) (F.told files.new)) result }
 

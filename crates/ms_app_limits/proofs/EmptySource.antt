@@ -46,14 +46,14 @@ reads_nothing = record {
   reads = record { read = ([], (refl, λ at f header. never_more _ _ header.3.1), refl); declarations = tt };
 }
 
-taken_alone : IsTaken (file_of (still (empty_files 0)) 0 (codes "a")) None (nothing_loaded (codes "a")) source []
+taken_alone : IsTaken (file_of (still (empty_files 0)) 0 (codes "a")) [] (nothing_loaded (codes "a")) source []
 taken_alone = record {
   is = record {
     is_loaded = record { source = nothing; is = ([], record { holds = refl; within = omega arith }, reads_nothing); mode = refl; items = (refl, refl) };
     accepted = refl;
     typed = record { mode = refl; globals_are = refl; predicates_are = refl; imports_are = refl; exports_are = refl; formulas_are = refl; files = refl };
   };
-  free = tt;
+  free = λ k used less. absurd (omega (arith, less));
   imported = record { each = tt; once = λ i j one other p q held held' name at at'. absurd (none-some p at) };
 }
 
@@ -97,17 +97,17 @@ enough_alone = record {
   imports = λ i below m r measure. absurd (omega (arith, below));
 }
 
-pub enough : IsEnoughForOrigin (file_of (still (empty_files 0)) 0 (codes "a")) None 6400
+pub enough : IsEnoughForOrigin (file_of (still (empty_files 0)) 0 (codes "a")) [] 6400
 enough loaded checked plains is =
     let seen = still (empty_files 0) in
     let settles = files_settle seen seen (record { holding = λ name. Some []; one_told = refl; other_told = refl }) no_rise 0 (codes "a") in
     let same_load : nothing_loaded (codes "a") ≡ loaded = settles.one_load (nothing_loaded (codes "a")) loaded taken_alone.is.is_loaded is.is.is_loaded in
     let same : source ≡ checked = typed_once checked (subst (λ l. IsTyped l checked) (sym same_load) is.is.typed) in
-    let taken = subst (λ (c : Checked). IsTaken (file_of seen 0 (codes "a")) None loaded c plains) (sym same) is in
+    let taken = subst (λ (c : Checked). IsTaken (file_of seen 0 (codes "a")) [] loaded c plains) (sym same) is in
     let none : [] ≡ plains = settles.one_content source.mode source.imports [] plains taken_alone.imported taken.imported in
     subst (λ (c : Checked). IsEnoughWith c plains 6400) same (subst (λ (ps : List Plain). IsEnoughWith source ps 6400) none enough_alone)
 
-pub too_little : IsEnoughForOrigin (file_of (still (empty_files 0)) 0 (codes "a")) None 6399 → ⊥
+pub too_little : IsEnoughForOrigin (file_of (still (empty_files 0)) 0 (codes "a")) [] 6399 → ⊥
 too_little all =
     let whole = main_root (main_question source []) in
     let within : budget 1 2 ≤ 6399 =

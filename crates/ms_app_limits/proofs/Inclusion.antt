@@ -43,7 +43,7 @@ question_is = λ i. record subset_source { formulas = tree.more_forms (inclusion
 problem_is : problem_of inclusion_checked [] ≡ subset_source
 problem_is = λ i. record subset_source { formulas = tree.more_forms (inclusion-is i) tree.no_forms }
 
-taken : IsTaken (file_of (still inclusion_files) 0 (codes "a")) None inclusion_loaded inclusion_checked []
+taken : IsTaken (file_of (still inclusion_files) 0 (codes "a")) [] inclusion_loaded inclusion_checked []
 taken = record {
   is = record {
     is_loaded = record {
@@ -55,11 +55,11 @@ taken = record {
     accepted = ap (first_fault_of inclusion_loaded.mode) source-seen;
     typed = is_typed;
   };
-  free = tt;
+  free = λ k used less. absurd (omega (arith, less));
   imported = record { each = tt; once = λ i j one other p q held held' name at at'. absurd (none-some p at) };
 }
 
-pub solved : CanBeSolved (file_of (still inclusion_files) 0 (codes "a")) None
+pub solved : CanBeSolved (file_of (still inclusion_files) 0 (codes "a")) []
 solved = (inclusion_loaded, inclusion_checked, [], record { is = taken; within = subst IsWithinLimits (sym problem_is) (record { depth = omega arith; size = omega arith }) })
 
 -- its steps are those of var2 P, Q; P sub Q
@@ -100,14 +100,14 @@ module _ (checked : Checked) (typed : IsTyped inclusion_loaded checked) where
   pub enough_with : (plains : List Plain) → IsEnoughWith checked plains 30976
   enough_with plains = subst (λ (uses : List ImportUse). IsEnoughFor checked (answers_by uses plains) (contents_of uses plains) 30976) (sym no_imports) enough_alone
 
-pub enough : IsEnoughForOrigin (file_of (still inclusion_files) 0 (codes "a")) None 30976
+pub enough : IsEnoughForOrigin (file_of (still inclusion_files) 0 (codes "a")) [] 30976
 enough loaded checked plains is =
     let seen = still inclusion_files in
     let settles = files_settle seen seen (record { holding = λ name. Some inclusion_text; one_told = refl; other_told = refl }) no_rise 0 (codes "a") in
     let same_load : inclusion_loaded ≡ loaded = settles.one_load inclusion_loaded loaded taken.is.is_loaded is.is.is_loaded in
     enough_with checked (subst (λ l. IsTyped l checked) (sym same_load) is.is.typed) plains
 
-pub too_little : IsEnoughForOrigin (file_of (still inclusion_files) 0 (codes "a")) None 30975 → ⊥
+pub too_little : IsEnoughForOrigin (file_of (still inclusion_files) 0 (codes "a")) [] 30975 → ⊥
 too_little all =
     let here : IsStepOfRoot (main_question inclusion_checked []) 0 (root (main_root subset_source)) =
     subst (λ (p : Problem). IsStepOfRoot p 0 (root (main_root subset_source))) (sym question_is) (main_root subset_source, refl, (0, omega arith, refl)) in

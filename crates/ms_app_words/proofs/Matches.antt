@@ -5,10 +5,10 @@ use Rattle.std.specs.Prelude.{List}
 use Rattle.clap.specs.Words.{Row, Text, first_of}
 use Rattle.ms_dfa.specs.declared.plain.FileVersion.{FileVersion}
 use Rattle.ms_app_words.specs.declared.command.Command.{Command}
-use Rattle.ms_app_words.specs.declared.command.Command.TheVariants.{Decide, Same, Gen, Ltl, Presburger, Check}
+use Rattle.ms_app_words.specs.declared.command.Command.TheVariants.{Decide, Same, Gen, Ltl, Presburger, Check, Certify}
 use Rattle.ms_app_words.specs.declared.command.Verb.TheVariants as verb
 use Rattle.ms_app_words.specs.Command.{Asks, AsksBy, AsksOfFile, HasFormat, HasLimit, HasNumber}
-use Rattle.ms_app_words.proofs.Verbs.{as_check, as_decide, as_gen, as_ltl, as_presburger, as_same}
+use Rattle.ms_app_words.proofs.Verbs.{as_certify, as_check, as_decide, as_gen, as_ltl, as_presburger, as_same}
 
 module _ (rows : List Row) where
   -- what asks for a command has the values that it names
@@ -74,3 +74,13 @@ module _ (rows : List Row) where
   no_name none command asked =
       let of = as_check command asked.0 in
       none-some of.0 (sym none ∙ subst (Asks rows) of.1 asked.1)
+
+  pub no_file_to_certify : ((file : Text) (limit : ℕ) → ¬ AsksOfFile rows file limit) → (command : Command) → AsksBy verb.Certify rows command → ⊥
+  no_file_to_certify none command asked =
+      let of = as_certify command asked.0 in
+      none of.0 of.2 (subst (Asks rows) of.3 asked.1).0
+
+  pub no_name_to_certify : first_of (codes "NAME") rows ≡ None → (command : Command) → AsksBy verb.Certify rows command → ⊥
+  no_name_to_certify none command asked =
+      let of = as_certify command asked.0 in
+      none-some of.1 (sym none ∙ (subst (Asks rows) of.3 asked.1).1)

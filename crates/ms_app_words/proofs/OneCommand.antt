@@ -5,9 +5,9 @@ use Rattle.ms_app_words.specs.Command.{Asks, AsksBy, AsksOfFile, HasFormat, HasL
 use Rattle.ms_dfa.specs.declared.plain.FileVersion.{FileVersion}
 use Rattle.ms_dfa.specs.declared.plain.FileVersion.TheVariants.{One, Two}
 use Rattle.ms_app_words.specs.declared.command.Command.{Command}
-use Rattle.ms_app_words.specs.declared.command.Command.TheVariants.{Decide, Same, Gen, Ltl, Presburger, Check}
+use Rattle.ms_app_words.specs.declared.command.Command.TheVariants.{Decide, Same, Gen, Ltl, Presburger, Check, Certify}
 use Rattle.ms_app_words.specs.declared.command.Verb.{Verb}
-use Rattle.ms_app_words.proofs.Verbs.{as_check, as_decide, as_gen, as_ltl, as_presburger, as_same}
+use Rattle.ms_app_words.proofs.Verbs.{as_certify, as_check, as_decide, as_gen, as_ltl, as_presburger, as_same}
 
 same_verb : (one other : Verb) → Some one ≡ Some other → one ≡ other
 same_verb one other same = cc
@@ -65,6 +65,11 @@ same_asked rows (Presburger file limit) other same asks others =
 same_asked rows (Check name) other same asks others =
     let of = as_check other (sym same) in
     ap (λ n. Check n) (same_text _ name of.0 asks (subst (Asks rows) of.1 others)) ∙ sym of.1
+same_asked rows (Certify file name limit) other same asks others =
+    let of = as_certify other (sym same) in
+    let asks' = subst (Asks rows) of.3 others in
+    let both = same_of_file rows file of.0 limit of.2 asks.0 asks'.0 in
+    ap (λ f. Certify f name limit) both.0 ∙ ap (λ n. Certify of.0 n limit) (same_text _ name of.1 asks.1 asks'.1) ∙ ap (λ l. Certify of.0 of.1 l) both.1 ∙ sym of.3
 
 pub one_command : (words : List Text) (one other : Command) → IsCommand words one → IsCommand words other → one ≡ other
 one_command words one other is is' =

@@ -7,7 +7,7 @@ use Rattle.std.specs.Str.Parse.{IsNumeral, digits_value, without_leading_plus}
 use Rattle.clap.specs.Words.{App, Row, Rule, Text, fault_of, first_of, matches_of, new_app, new_rule, with_rule}
 use Rattle.clap.specs.declared.builder.action.ArgAction.TheVariants.{SetTrue}
 use Rattle.ms_app_words.specs.declared.command.Command.{Command}
-use Rattle.ms_app_words.specs.declared.command.Command.TheVariants.{Decide, Same, Gen, Ltl, Presburger, Check}
+use Rattle.ms_app_words.specs.declared.command.Command.TheVariants.{Decide, Same, Gen, Ltl, Presburger, Check, Certify}
 use Rattle.ms_dfa.specs.declared.plain.FileVersion.{FileVersion}
 use Rattle.ms_dfa.specs.declared.plain.FileVersion.TheVariants.{One, Two}
 use Rattle.ms_app_words.specs.declared.command.Verb.{Verb}
@@ -61,6 +61,10 @@ presburger_app = formula_app (codes "presburger")
 abbrev pub check_app : App
 check_app = with_rule (command (codes "check")) (required (codes "NAME"))
 
+-- certify FILE NAME [--max-nodes N]
+abbrev pub certify_app : App
+certify_app = with_rule (with_rule (with_rule (command (codes "certify")) (required (codes "FILE"))) (required (codes "NAME"))) (option (codes "max-nodes"))
+
 abbrev pub app_for : Verb → App
 app_for verb.Decide = decide_app
 app_for verb.Same = same_app
@@ -68,6 +72,7 @@ app_for verb.Gen = gen_app
 app_for verb.Ltl = ltl_app
 app_for verb.Presburger = presburger_app
 app_for verb.Check = check_app
+app_for verb.Certify = certify_app
 
 -- the limit on the nodes and states of a step where the words name none
 abbrev pub node_limit : ℕ
@@ -114,6 +119,7 @@ verb_of (Gen number decide) = verb.Gen
 verb_of (Ltl file max_nodes) = verb.Ltl
 verb_of (Presburger file max_nodes) = verb.Presburger
 verb_of (Check name) = verb.Check
+verb_of (Certify file name max_nodes) = verb.Certify
 
 -- the matches of the words name a file, and a limit on the nodes and states of a step
 abbrev pub AsksOfFile : List Row → Text → ℕ → Type 0
@@ -130,6 +136,7 @@ Asks rows (Gen number decide) = HasNumber (first_of (codes "K") rows) number × 
 Asks rows (Ltl file max_nodes) = AsksOfFile rows file max_nodes
 Asks rows (Presburger file max_nodes) = AsksOfFile rows file max_nodes
 Asks rows (Check name) = first_of (codes "NAME") rows ≡ Some name
+Asks rows (Certify file name max_nodes) = AsksOfFile rows file max_nodes × (first_of (codes "NAME") rows ≡ Some name)
 
 -- they ask for it after this first word
 abbrev pub AsksBy : Verb → List Row → Command → Type 0
@@ -142,7 +149,8 @@ verb_in word =
     else (if bytes_eq word (codes "same") then Some verb.Same
     else (if bytes_eq word (codes "gen") then Some verb.Gen
     else (if bytes_eq word (codes "ltl") then Some verb.Ltl
-    else (if bytes_eq word (codes "presburger") then Some verb.Presburger else (if bytes_eq word (codes "check") then Some verb.Check else None)))))
+    else (if bytes_eq word (codes "presburger") then Some verb.Presburger
+    else (if bytes_eq word (codes "check") then Some verb.Check else (if bytes_eq word (codes "certify") then Some verb.Certify else None))))))
 
 abbrev pub first_verb : List Text → Option Verb
 first_verb [] = None

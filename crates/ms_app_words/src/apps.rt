@@ -1,6 +1,6 @@
 ghost use Rattle.std.specs.Prelude.{◌≡◌, false, IfOk};
 ghost use Rattle.clap.specs.Words.{app_of, new_app, rule_of};
-ghost use Rattle.ms_app_words.specs.Command.{app_for, check_app, command, decide_app, decide_front, flag, formula_app, gen_app, option, required, same_app};
+ghost use Rattle.ms_app_words.specs.Command.{app_for, certify_app, check_app, command, decide_app, decide_front, flag, formula_app, gen_app, option, required, same_app};
 
 use crate::command::Verb;
 use clap::{Arg, ArgAction, Command};
@@ -93,6 +93,16 @@ fn check_app<'a>(alloc: Global) -> Result<Command<'a>, AllocError>
     Ok(whole)
 }
 
+/// The command `certify FILE NAME [--max-nodes N]`.
+fn certify_app<'a>(alloc: Global) -> Result<Command<'a>, AllocError>
+    ensures { IfOk result (λ made. app_of made ≡ certify_app) }
+{
+    let with_file = command(alloc, "certify").arg(required(alloc, "FILE"))?;
+    let with_name = with_file.arg(required(alloc, "NAME"))?;
+    let whole = with_name.arg(option(alloc, "max-nodes"))?;
+    Ok(whole)
+}
+
 /// The command with this first word, as `clap` is told of it.
 pub(crate) fn app<'a>(alloc: Global, verb: Verb) -> Result<Command<'a>, AllocError>
     ensures { IfOk result (λ made. app_of made ≡ app_for verb) }
@@ -104,5 +114,6 @@ pub(crate) fn app<'a>(alloc: Global, verb: Verb) -> Result<Command<'a>, AllocErr
         Verb::Ltl => formula_app(alloc, "ltl"),
         Verb::Presburger => formula_app(alloc, "presburger"),
         Verb::Check => check_app(alloc),
+        Verb::Certify => certify_app(alloc),
     }
 }

@@ -10,6 +10,7 @@ pub enum Verb {
     Ltl,
     Presburger,
     Check,
+    Certify,
 }
 
 /// What the words of a command line ask for.
@@ -54,6 +55,14 @@ pub enum Command {
     /// To check the automaton file `name` by its certificate, which has this name with `.cert` behind it.
     Check {
         name: Text,
+    },
+
+    /// To decide a source as `Decide` does, where nodes and states of a step are together at most `max_nodes`; the automaton of its
+    /// main value is written to the file `name`, and a certificate of it beside it, under this name with `.cert` behind it.
+    Certify {
+        file: Text,
+        name: Text,
+        max_nodes: u64,
     },
 }
 

@@ -2,11 +2,11 @@
 
 ghost use Rattle.std.specs.Prelude.{◌≡◌, [], codes, false, true, None, Some};
 ghost use Rattle.clap.specs.Words.{fault_of, first_of, matches_of};
-ghost use Rattle.ms_app_words.specs.Command.{HasFormat, HasLimit, HasNumber, check_app, decide_app, first_verb, gen_app, is_given, ltl_app, presburger_app, same_app};
+ghost use Rattle.ms_app_words.specs.Command.{HasFormat, HasLimit, HasNumber, certify_app, check_app, decide_app, first_verb, gen_app, is_given, ltl_app, presburger_app, same_app};
 ghost use Rattle.ms_dfa.specs.declared.plain.FileVersion.{FileVersion};
 ghost use Rattle.ms_dfa.specs.declared.plain.FileVersion.TheVariants.{One, Two};
-ghost use Rattle.ms_app_words.specs.inner.Examples.{check_with_limit, for_help, formula_with_limit, formula_with_out, gen_and_decide, gen_by_number, no_file, one_certificate, one_file, one_formula, one_problem, only_left, two_files, two_to_compare, with_counts, with_format, with_limit, with_out};
-ghost use Rattle.ms_app_words.specs.declared.command.Verb.TheVariants.{Check, Decide, Gen, Ltl, Presburger, Same};
+ghost use Rattle.ms_app_words.specs.inner.Examples.{certify_alone, certify_one, certify_with_limit, certify_with_out, check_with_limit, for_help, formula_with_limit, formula_with_out, gen_and_decide, gen_by_number, no_file, one_certificate, one_file, one_formula, one_problem, only_left, two_files, two_to_compare, with_counts, with_format, with_limit, with_out};
+ghost use Rattle.ms_app_words.specs.declared.command.Verb.TheVariants.{Certify, Check, Decide, Gen, Ltl, Presburger, Same};
 
 /// The first word says which command it is.
 pub fn worked_verbs()
@@ -16,6 +16,7 @@ pub fn worked_verbs()
     ensures traces { first_verb one_formula ≡ Some Ltl }
     ensures numbers { first_verb one_problem ≡ Some Presburger }
     ensures certificate { first_verb one_certificate ≡ Some Check }
+    ensures certify { first_verb certify_one ≡ Some Certify }
     ensures none { first_verb [] ≡ None }
 {}
 
@@ -75,6 +76,18 @@ pub fn worked_checks()
     ensures one_certificate { fault_of check_app one_certificate ≡ [] }
     ensures the_name { first_of (codes "NAME") (matches_of check_app one_certificate) ≡ Some (codes "t.dfa") }
     ensures no_limit { ¬ (fault_of check_app check_with_limit ≡ []) }
+{}
+
+/// What is taken after `certify`.
+pub fn worked_certifications()
+    ensures one { fault_of certify_app certify_one ≡ [] }
+    ensures the_file { first_of (codes "FILE") (matches_of certify_app certify_one) ≡ Some (codes "t.mona") }
+    ensures the_name { first_of (codes "NAME") (matches_of certify_app certify_one) ≡ Some (codes "t.dfa") }
+    ensures no_limit { first_of (codes "max-nodes") (matches_of certify_app certify_one) ≡ None }
+    ensures with_limit { fault_of certify_app certify_with_limit ≡ [] }
+    ensures the_limit { first_of (codes "max-nodes") (matches_of certify_app certify_with_limit) ≡ Some (codes "5") }
+    ensures no_name { ¬ (fault_of certify_app certify_alone ≡ []) }
+    ensures no_out { ¬ (fault_of certify_app certify_with_out ≡ []) }
 {}
 
 /// Versions of files.

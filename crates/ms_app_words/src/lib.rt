@@ -9,8 +9,8 @@ mod words;
 
 pub use command::{Command, Verb, WordsFault};
 pub use examples::{
-    worked_checks, worked_comparisons, worked_formats, worked_formulas, worked_generations,
-    worked_limits, worked_verbs, worked_words,
+    worked_certifications, worked_checks, worked_comparisons, worked_formats, worked_formulas,
+    worked_generations, worked_limits, worked_verbs, worked_words,
 };
 pub use laws::one_command;
 pub use words::options;

@@ -251,6 +251,25 @@ fn check_by(alloc: Global, matches: &ArgMatches) -> Result<Command, WordsFault>
     }
 }
 
+/// What the matches of `certify FILE NAME [--max-nodes N]` ask for.
+fn certify_by(alloc: Global, matches: &ArgMatches) -> Result<Command, WordsFault>
+    ensures command { IfOk result (AsksBy Verb.Certify (rows_of (found_of matches.now))) }
+    ensures usage { IfErr result (λ fault. fault ≡ WordsFault.Usage → (command : Asked) → ¬ AsksBy Verb.Certify (rows_of (found_of matches.now)) command) }
+{
+    let LimitedFile { file, max_nodes } = match limited_file(alloc, matches) {
+        Ok(limited) => limited,
+        Err(fault) => return Err(fault),
+    };
+    match text_of(alloc, matches, "NAME") {
+        Ok(name) => Ok(Command::Certify {
+            file,
+            name,
+            max_nodes,
+        }),
+        Err(fault) => Err(fault),
+    }
+}
+
 /// What the matches of a command's words ask for.
 fn asked_by(alloc: Global, verb: Verb, matches: &ArgMatches) -> Result<Command, WordsFault>
     ensures command { IfOk result (AsksBy verb (rows_of (found_of matches.now))) }
@@ -263,6 +282,7 @@ fn asked_by(alloc: Global, verb: Verb, matches: &ArgMatches) -> Result<Command, 
         Verb::Ltl => ltl_by(alloc, matches),
         Verb::Presburger => presburger_by(alloc, matches),
         Verb::Check => check_by(alloc, matches),
+        Verb::Certify => certify_by(alloc, matches),
     }
 }
 
@@ -309,6 +329,8 @@ fn verb_in(word: &str) -> Option<Verb>
         Some(Verb::Presburger)
     } else if word == "check" {
         Some(Verb::Check)
+    } else if word == "certify" {
+        Some(Verb::Certify)
     } else {
         None
     }

@@ -2,3 +2,4 @@ pub mod Completeness
 pub mod Findings
 pub mod Later
 pub mod Lines
+pub mod Passed

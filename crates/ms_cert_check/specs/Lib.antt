@@ -1,3 +1,4 @@
+pub mod Certified
 pub mod Check
 pub mod Files
 pub mod Laws

@@ -64,8 +64,8 @@ pub(crate) fn automaton<F: Files>(
     }
 }
 
-/// The name of the certificate of a file.
-fn cert_name(alloc: Global, name: &Text) -> Result<Text, Refusal>
+/// The name of the certificate of a file: its own, with `.cert` behind it.
+pub fn cert_name(alloc: Global, name: &Text) -> Result<Text, Refusal>
     ensures name { IfOk result (λ made. made ≡ cert_name name.now) }
     ensures refused { IfErr result (λ refusal. refusal ≡ Refusal.Memory) }
 {

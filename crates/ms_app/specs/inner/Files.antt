@@ -1,6 +1,7 @@
 -- Automaton files that are made, and what can be written as one.
-use Rattle.std.specs.Prelude.{◌≡◌, ℕ, ◌+◌, ◌≤◌, List, [], ◌∷◌, ◌++◌, All, Option, Some, None, length, map}
+use Rattle.std.specs.Prelude.{◌≡◌, ℕ, ◌+◌, ◌-◌, ◌≤◌, List, [], ◌∷◌, ◌++◌, All, Contains, Option, Some, None, length, map, slice_get}
 use Rattle.ms_dfa.specs.Files.{HasSignsOf, content_of_file}
+use Rattle.ms_cert_check.specs.Certified.{IsCertificateOf}
 use Rattle.ms_names_checked.specs.Names.{AreDifferent}
 use Rattle.ms_dfa.specs.declared.plain.Plain.{Plain}
 use Rattle.ms_dfafile.specs.File.{IsSpelled, names_of}
@@ -45,3 +46,20 @@ IsWithMain files (Some out) plain more = (bytes : List ℕ) × (more ≡ files +
 -- no two files have one name
 abbrev pub HaveOwnNames : List File → Type 0
 HaveOwnNames files = AreDifferent (map (λ file. file.0) files)
+
+-- a name is among these, if there is one
+abbrev pub IsAmongNames : Option (List ℕ) → List (List ℕ) → Type 0
+IsAmongNames None names = Unit {0}
+IsAmongNames (Some name) names = Contains names name
+
+-- the last of some files
+abbrev pub IsLast : List File → File → Type 0
+IsLast files last = slice_get files (length files - 1) ≡ Some last
+
+-- files, and behind them a certificate of the last one under this name
+pub record IsWithCertificate (files : List File) (name : List ℕ) (more : List File) : Type 0 where
+  pub last : File
+  pub is_last : IsLast files last
+  pub certificate : List ℕ
+  pub certifies : IsCertificateOf last.1 certificate
+  pub all : more ≡ files ++ (name, certificate) ∷ []

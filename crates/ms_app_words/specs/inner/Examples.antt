@@ -55,3 +55,15 @@ one_certificate = codes "check" ∷ codes "t.dfa" ∷ []
 
 abbrev pub check_with_limit : List Text
 check_with_limit = codes "check" ∷ codes "t.dfa" ∷ codes "--max-nodes" ∷ codes "5" ∷ []
+
+abbrev pub certify_one : List Text
+certify_one = codes "certify" ∷ codes "t.mona" ∷ codes "t.dfa" ∷ []
+
+abbrev pub certify_with_limit : List Text
+certify_with_limit = codes "certify" ∷ codes "t.mona" ∷ codes "t.dfa" ∷ codes "--max-nodes" ∷ codes "5" ∷ []
+
+abbrev pub certify_alone : List Text
+certify_alone = codes "certify" ∷ codes "t.mona" ∷ []
+
+abbrev pub certify_with_out : List Text
+certify_with_out = codes "certify" ∷ codes "t.mona" ∷ codes "t.dfa" ∷ codes "--out" ∷ codes "u.dfa" ∷ []

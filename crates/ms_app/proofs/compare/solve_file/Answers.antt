@@ -1,4 +1,4 @@
-use Rattle.std.proofs.Common.{None, length}
+use Rattle.std.proofs.Common.{[], length}
 use Rattle.ms_edge.specs.Files.{between}
 use Rattle.ms_app.specs.Source.{file_of}
 use Rattle.ms_app.proofs.Adopted.{are_lent}
@@ -20,7 +20,7 @@ returns-in-Ok-solve-clause-solved g c =
     let solved = c.in-Ok-solve.ensures in (
       made.0,
       made.1,
-      solved_of checked c.args.limit made.1 taken.imports made.3 origin None made.0 made.2 solved.within,
+      solved_of checked c.args.limit made.1 taken.imports made.3 origin [] made.0 made.2 solved.within,
       solved.solution (answers checked c.args.limit made.1 taken.imports made.3) (are checked c.args.limit made.1 taken.imports made.3),
       made.5,
       made.6,
@@ -31,4 +31,4 @@ returns-in-Err-solve-clause-refused g c =
     let origin = file_of (between (g.F.Files.told c.args.files.now) (g.F.Files.told c.take_file.new.files)) (length c.args.names.now) c.args.name.now in
     let made = c.in-Ok.ensures.taken in
     let taken = c.in-Ok.taken in
-    unsolved_of taken.source.checked c.args.limit made.1 taken.imports made.3 origin None made.0 made.2 c.in-Ok.ensures.right c.in-Err-solve.refusal c.args.names.now c.take_file.new.names made.6 c.in-Err-solve.ensures.refused
+    unsolved_of taken.source.checked c.args.limit made.1 taken.imports made.3 origin [] made.0 made.2 c.in-Ok.ensures.right c.in-Err-solve.refusal c.args.names.now c.take_file.new.names made.6 c.in-Err-solve.ensures.refused

@@ -1,5 +1,6 @@
 use Rattle.ms_cert_check.proofs.Completeness.{checked}
 use Rattle.ms_cert_check.proofs.Lines.{lines}
+use Rattle.ms_cert_check.proofs.Passed.{passed}
 use Rattle.ms_cert_check.proofs.laws.laws_of_checks.Goals as goal
 
 pub returns-clause-lines : goal.returns-clause-lines
@@ -7,3 +8,6 @@ returns-clause-lines c = lines
 
 pub returns-clause-checked : goal.returns-clause-checked
 returns-clause-checked c = checked
+
+pub returns-clause-passed : goal.returns-clause-passed
+returns-clause-passed c = passed
