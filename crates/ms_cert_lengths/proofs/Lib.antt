@@ -1,0 +1,2 @@
+mod ExampleLemmas
+pub mod Lengths
