@@ -1,38 +1,39 @@
 //! Arenas of many nodes.
 use anyhow::{Result, bail};
 use ms_arena::{Arena, Node, Ref};
+use std::io;
 
 /// How many nodes are put into an arena.
 const MANY: u32 = 200_000;
 
 pub fn tell(rt: &HostRuntime) -> Result<()> {
     println!(rt; "An arena")?;
-    let mut arena = Arena::new(rt.alloc());
-    fill(&mut arena)?;
-    println!(rt;
-        "{} nodes, at their places: {}",
-        arena.len(),
-        at_places(&arena)
-    )?;
+    tell_changes(rt, &mut Arena::new(rt.alloc()))
+}
+
+/// What an arena has once it is filled, cleared, filled anew and copied.
+fn tell_changes(rt: &HostRuntime, arena: &mut Arena) -> Result<()> {
+    fill(arena)?;
+    tell_places(rt, "", arena)?;
     arena.clear();
-    println!(rt;
-        "cleared: {} nodes, at their places: {}",
-        arena.len(),
-        at_places(&arena)
-    )?;
-    fill(&mut arena)?;
-    println!(rt;
-        "filled anew: {} nodes, at their places: {}",
-        arena.len(),
-        at_places(&arena)
-    )?;
+    tell_places(rt, "cleared: ", arena)?;
+    fill(arena)?;
+    tell_places(rt, "filled anew: ", arena)?;
+    tell_copy(rt, arena)
+}
+
+fn tell_copy(rt: &HostRuntime, arena: &Arena) -> Result<()> {
     let copy = arena.copy()?;
-    println!(rt;
-        "copied: {} nodes, at their places: {}",
-        copy.len(),
-        at_places(&copy)
-    )?;
+    tell_places(rt, "copied: ", &copy)?;
     Ok(())
+}
+
+fn tell_places(rt: &HostRuntime, change: &str, arena: &Arena) -> io::Result<()> {
+    println!(rt;
+        "{change}{} nodes, at their places: {}",
+        arena.len(),
+        at_places(arena)
+    )
 }
 
 /// The node with this number.

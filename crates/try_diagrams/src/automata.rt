@@ -3,7 +3,7 @@ ghost use Rattle.std.specs.Prelude.{◌≡◌, IfOk};
 ghost use Rattle.ms_dfa.specs.Automaton.{states_of};
 ghost use Rattle.try_diagrams.specs.Lengths.{lengths_content};
 
-use crate::plains::ref_word;
+use crate::plains::{print_ref, ref_words};
 use anyhow::Result;
 use ms_arena::Ref;
 use ms_best::first;
@@ -13,14 +13,21 @@ use ms_list::{List, NoMemory, Word};
 use ms_logic::Mode;
 use ms_logic_words::Sign;
 use std::alloc::Global;
+use std::io;
 
 pub fn tell(rt: &HostRuntime) -> Result<()> {
     println!(rt; "An automaton")?;
     let automaton = lengths(rt.alloc())?;
-    print_automaton(rt, &automaton)?;
-    print_first(rt, &automaton, Sign::No)?;
-    print_first(rt, &automaton, Sign::Yes)?;
-    print_first(rt, &automaton, Sign::Undefined)
+    tell_lengths(rt, &automaton)
+}
+
+fn tell_lengths(rt: &HostRuntime, automaton: &Automaton) -> Result<()>
+    requires { automaton.now ≡ lengths_content }
+{
+    print_automaton(rt, automaton)?;
+    print_first(rt, automaton, Sign::No)?;
+    print_first(rt, automaton, Sign::Yes)?;
+    print_first(rt, automaton, Sign::Undefined)
 }
 
 /// The two states: at the empty string, and at any other.
@@ -53,26 +60,32 @@ fn lengths(alloc: Global) -> Result<Automaton, NoMemory>
     Ok(automaton)
 }
 
-fn print_automaton(rt: &HostRuntime, automaton: &Automaton) -> Result<()>
+fn print_automaton(rt: &HostRuntime, automaton: &Automaton) -> io::Result<()>
     requires { automaton.now ≡ lengths_content }
 {
     println!(rt; "over strings: {}", automaton.mode() == Mode::M2lStr)?;
     println!(rt; "{} tracks", automaton.tracks().len())?;
     println!(rt; "{} nodes", automaton.store().len())?;
-    println!(rt;
-        "it starts at {}",
-        ref_word(rt.alloc(), automaton.start_ref())?
-    )?;
+    print_ref(rt, "it starts at", automaton.start_ref())?;
     println!(rt; "which is state {}", automaton.start(&[]))?;
+    print_states(rt, automaton)
+}
+
+fn print_states(rt: &HostRuntime, automaton: &Automaton) -> io::Result<()>
+    requires { automaton.now ≡ lengths_content }
+{
     for state in 0..automaton.states() {
-        let sign = sign_word(automaton.sign(state));
-        let next = ref_word(rt.alloc(), automaton.next_ref(state))?;
-        println!(rt;
-            "state {state}: {sign}, then {next}, which is state {}",
-            automaton.step(state, &[])
-        )?;
+        let sign = automaton.sign(state);
+        let next = automaton.next_ref(state);
+        print_state(rt, state, sign, next, automaton.step(state, &[]))?;
     }
     Ok(())
+}
+
+fn print_state(rt: &HostRuntime, state: u32, sign: Sign, next: Ref, after: u32) -> io::Result<()> {
+    let sign = sign_word(sign);
+    let (kind, number) = ref_words(next);
+    println!(rt; "state {state}: {sign}, then {kind} {number}, which is state {after}")
 }
 
 fn sign_word(sign: Sign) -> &'static str {
@@ -86,19 +99,18 @@ fn sign_word(sign: Sign) -> &'static str {
 
 /// The first word with a sign.
 fn print_first(rt: &HostRuntime, automaton: &Automaton, sign: Sign) -> Result<()> {
-    let word = sign_word(sign);
-    match first(rt.alloc(), automaton, sign)? {
-        Some(found) => println!(rt;
-            "the first word with {word} has {}",
-            size_of(rt.alloc(), &found)?
-        )?,
-        None => println!(rt; "no word has {word}")?,
-    }
+    let found = first(rt.alloc(), automaton, sign)?;
+    print_found(rt, sign_word(sign), &found)?;
     Ok(())
 }
 
-fn size_of(alloc: Global, word: &Word) -> Result<String> {
-    let truth = word.truth.len();
-    let letters = word.letters.len();
-    Ok(format!(in alloc; "{truth} truth values and {letters} letters")?)
+fn print_found(rt: &HostRuntime, sign: &str, found: &Option<Word>) -> io::Result<()> {
+    match found {
+        Some(word) => println!(rt;
+            "the first word with {sign} has {} truth values and {} letters",
+            word.truth.len(),
+            word.letters.len()
+        ),
+        None => println!(rt; "no word has {sign}"),
+    }
 }

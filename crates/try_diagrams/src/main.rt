@@ -2,10 +2,13 @@
 #![tactic(auto)]
 
 mod arenas;
+mod at_bits;
 mod automata;
 mod functions;
 mod memos;
 mod numberings;
+mod parities;
+mod paths;
 mod plains;
 mod stores;
 
@@ -16,6 +19,9 @@ fn main(rt: HostRuntime) -> Result<()> {
     memos::tell(&rt)?;
     numberings::tell(&rt)?;
     stores::tell(&rt)?;
+    at_bits::tell(&rt)?;
+    parities::tell(&rt)?;
+    paths::tell(&rt)?;
     plains::tell(&rt)?;
     automata::tell(&rt)
 }

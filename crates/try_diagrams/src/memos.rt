@@ -2,18 +2,23 @@
 use anyhow::Result;
 use ms_arena::Ref;
 use ms_cache::{Key, Memo};
+use std::io;
 
 pub fn tell(rt: &HostRuntime) -> Result<()> {
     println!(rt; "A memo of two entries")?;
     let mut memo = Memo::new(rt.alloc(), 2)?;
+    tell_answers(rt, &mut memo)
+}
+
+fn tell_answers(rt: &HostRuntime, memo: &mut Memo) -> Result<()> {
     for number in 1..4 {
         memo.tell(key(number), Ref::Leaf(number))?;
     }
     for number in 1..4 {
-        tell_answer(rt, &mut memo, number)?;
+        tell_answer(rt, memo, number)?;
     }
     memo.clear();
-    tell_answer(rt, &mut memo, 3)?;
+    tell_answer(rt, memo, 3)?;
     println!(rt; "{} answers", memo.hits())?;
     Ok(())
 }
@@ -25,11 +30,10 @@ fn key(number: u32) -> Key {
     }
 }
 
-fn tell_answer(rt: &HostRuntime, memo: &mut Memo, number: u32) -> Result<()> {
+fn tell_answer(rt: &HostRuntime, memo: &mut Memo, number: u32) -> io::Result<()> {
     match memo.ask(key(number)) {
-        Some(Ref::Leaf(value)) => println!(rt; "{number} has become the leaf {value}")?,
-        Some(Ref::Inner(place)) => println!(rt; "{number} has become the node {place}")?,
-        None => println!(rt; "nothing is known of {number}")?,
+        Some(Ref::Leaf(value)) => println!(rt; "{number} has become the leaf {value}"),
+        Some(Ref::Inner(place)) => println!(rt; "{number} has become the node {place}"),
+        None => println!(rt; "nothing is known of {number}"),
     }
-    Ok(())
 }

@@ -1,6 +1,7 @@
 //! Numberings of pairs and of sets.
 use anyhow::Result;
 use ms_diagram::{Pairs, Sets};
+use std::io;
 
 pub fn tell(rt: &HostRuntime) -> Result<()> {
     println!(rt; "Numberings")?;
@@ -10,6 +11,10 @@ pub fn tell(rt: &HostRuntime) -> Result<()> {
 
 fn pairs(rt: &HostRuntime) -> Result<()> {
     let mut pairs = Pairs::new(rt.alloc());
+    number_pairs(rt, &mut pairs)
+}
+
+fn number_pairs(rt: &HostRuntime, pairs: &mut Pairs) -> Result<()> {
     for (left, right) in [(4, 2), (2, 4), (4, 2)] {
         if pairs.len() < 9 {
             println!(rt;
@@ -18,6 +23,11 @@ fn pairs(rt: &HostRuntime) -> Result<()> {
             )?;
         }
     }
+    print_pairs(rt, pairs)?;
+    Ok(())
+}
+
+fn print_pairs(rt: &HostRuntime, pairs: &Pairs) -> io::Result<()> {
     println!(rt; "{} pairs", pairs.len())?;
     for i in 0..pairs.len() {
         println!(rt; "pair {i} is {:?}", pairs.get(i))?;
@@ -27,9 +37,18 @@ fn pairs(rt: &HostRuntime) -> Result<()> {
 
 fn sets(rt: &HostRuntime) -> Result<()> {
     let mut sets = Sets::new(rt.alloc());
-    number_full(rt, &mut sets)?;
-    number_empty(rt, &mut sets)?;
-    number_full(rt, &mut sets)?;
+    number_sets(rt, &mut sets)
+}
+
+fn number_sets(rt: &HostRuntime, sets: &mut Sets) -> Result<()> {
+    number_full(rt, sets)?;
+    number_empty(rt, sets)?;
+    number_full(rt, sets)?;
+    print_sets(rt, sets)?;
+    Ok(())
+}
+
+fn print_sets(rt: &HostRuntime, sets: &Sets) -> io::Result<()> {
     println!(rt; "{} sets", sets.len())?;
     for i in 0..sets.len() {
         println!(rt; "set {i} is {:?}", sets.get(i))?;

@@ -1,0 +1,96 @@
+//! Answers on diagrams, at all bits of four variables.
+use crate::functions::{leaf_at, parity};
+use anyhow::Result;
+use ms_diagram::{Pairs, Sets, Store};
+use ms_list::{List, StepFault};
+
+pub fn tell(rt: &HostRuntime) -> Result<()> {
+    pairs_at_bits(rt)?;
+    sets_at_bits(rt)?;
+    leaves_at_bits(rt)
+}
+
+/// The pair of two leaves at all bits of four variables.
+fn pairs_at_bits(rt: &HostRuntime) -> Result<()> {
+    let mut store = Store::new(rt.alloc(), 100);
+    let mut pairs = Pairs::new(rt.alloc());
+    let right = right_pairs(&mut store, &mut pairs);
+    print_right(rt, "pairs", right)
+}
+
+fn right_pairs(store: &mut Store, pairs: &mut Pairs) -> Result<u32, StepFault> {
+    let odd = parity(store, 4)?;
+    let zero = store.leaf(0);
+    let one = store.leaf(1);
+    let second = store.mk(1, zero, one)?;
+    let both = store.apply(odd, second, pairs)?;
+    let mut right = 0u32;
+    for word in 0..16u32 {
+        let number = leaf_at(store, both, word);
+        let wanted = (word.count_ones() % 2, word / 2 % 2);
+        if number < pairs.len() && pairs.get(number) == wanted {
+            right = right.saturating_add(1);
+        }
+    }
+    Ok(right)
+}
+
+/// Prints at how many lists of bits the answer is right.
+fn print_right(rt: &HostRuntime, what: &str, right: Result<u32, StepFault>) -> Result<()> {
+    println!(rt; "{what} at 16 lists of bits: {} right", right?)?;
+    Ok(())
+}
+
+/// The set of the leaves with either bit of a track, at all bits of four variables.
+fn sets_at_bits(rt: &HostRuntime) -> Result<()> {
+    let mut store = Store::new(rt.alloc(), 100);
+    let mut sets = Sets::new(rt.alloc());
+    let right = right_sets(&mut store, &mut sets);
+    print_right(rt, "sets", right)
+}
+
+fn right_sets(store: &mut Store, sets: &mut Sets) -> Result<u32, StepFault> {
+    let zero = store.leaf(0);
+    let one = store.leaf(1);
+    let second = store.mk(1, zero, one)?;
+    let either = store.collect(&[one, second], 0, sets)?;
+    let mut right = 0u32;
+    for word in 0..16u32 {
+        let number = leaf_at(store, either, word);
+        let wanted = 2 - (word / 2 % 2) as usize;
+        if number < sets.len() && sets.get(number).len() == wanted {
+            right = right.saturating_add(1);
+        }
+    }
+    Ok(right)
+}
+
+/// Mapped leaves at all bits of four variables, and their order.
+fn leaves_at_bits(rt: &HostRuntime) -> Result<()> {
+    let mut store = Store::new(rt.alloc(), 100);
+    let mapped = map_leaves(&mut store);
+    print_mapped(rt, mapped)
+}
+
+/// At how many lists of bits the mapped leaf is right, and the mapped leaves by first sight.
+fn map_leaves(store: &mut Store) -> Result<(u32, List<u32>), StepFault> {
+    let odd = parity(store, 4)?;
+    let renamed = store.relabel(odd, &[9, 7])?;
+    let mut right = 0u32;
+    for word in 0..16u32 {
+        if leaf_at(store, renamed, word) == 9 - 2 * (word.count_ones() % 2) {
+            right = right.saturating_add(1);
+        }
+    }
+    match store.leaves_in_order(renamed) {
+        Ok(leaves) => Ok((right, leaves)),
+        Err(_) => Err(StepFault::Memory),
+    }
+}
+
+fn print_mapped(rt: &HostRuntime, mapped: Result<(u32, List<u32>), StepFault>) -> Result<()> {
+    let (right, leaves) = mapped?;
+    print_right(rt, "leaves", Ok(right))?;
+    println!(rt; "leaves by first sight: {:?}", leaves.slice())?;
+    Ok(())
+}

@@ -1,0 +1,107 @@
+//! Diagrams as long as a variable may be high.
+ghost use Rattle.std.specs.Prelude.{◌≡◌, []};
+
+use crate::functions::{chain, identity, parity};
+use anyhow::Result;
+use ms_diagram::{Pairs, Sets, Store};
+use ms_list::{List, StepFault};
+use std::alloc::Global;
+
+/// How many variables a long path has.
+const LONG: u32 = 65_534;
+
+/// How many nodes a store of long paths may hold.
+const ROOM: u64 = 1_000_000;
+
+pub fn tell(rt: &HostRuntime) -> Result<()> {
+    println!(rt; "Paths of {LONG} variables")?;
+    paired_path(rt)?;
+    collected_path(rt)?;
+    relabelled_path(rt)?;
+    brought_path(rt)
+}
+
+fn paired_path(rt: &HostRuntime) -> Result<()> {
+    let mut store = Store::new(rt.alloc(), ROOM);
+    let mut pairs = Pairs::new(rt.alloc());
+    let leaves = pair_path(&mut store, &mut pairs);
+    print_paired(rt, store.len(), pairs.len(), leaves)
+}
+
+/// The leaves of a long path that is paired with itself.
+fn pair_path(store: &mut Store, pairs: &mut Pairs) -> Result<List<u32>, StepFault> {
+    let odd = parity(store, LONG)?;
+    let same = store.apply(odd, odd, pairs)?;
+    match store.leaves_in_order(same) {
+        Ok(leaves) => Ok(leaves),
+        Err(_) => Err(StepFault::Memory),
+    }
+}
+
+fn print_paired(
+    rt: &HostRuntime,
+    nodes: u64,
+    pairs: u32,
+    leaves: Result<List<u32>, StepFault>,
+) -> Result<()> {
+    let leaves = leaves?;
+    println!(rt;
+        "paired with itself: {nodes} nodes, {pairs} pairs, leaves {:?}",
+        leaves.slice()
+    )?;
+    Ok(())
+}
+
+fn collected_path(rt: &HostRuntime) -> Result<()> {
+    let mut store = Store::new(rt.alloc(), ROOM);
+    let mut sets = Sets::new(rt.alloc());
+    let collected = collect_path(&mut store, &mut sets);
+    print_collected(rt, collected)
+}
+
+fn collect_path(store: &mut Store, sets: &mut Sets) -> Result<(u64, u32), StepFault> {
+    let odd = parity(store, LONG)?;
+    let _sets = store.collect(&[odd], LONG, sets)?;
+    Ok((store.len(), sets.len()))
+}
+
+fn print_collected(rt: &HostRuntime, collected: Result<(u64, u32), StepFault>) -> Result<()> {
+    let (nodes, sets) = collected?;
+    println!(rt; "collected: {nodes} nodes, {sets} sets")?;
+    Ok(())
+}
+
+fn relabelled_path(rt: &HostRuntime) -> Result<()> {
+    let relabelled = relabel_path(&mut Store::new(rt.alloc(), ROOM));
+    println!(rt; "relabelled: {} nodes", relabelled?)?;
+    Ok(())
+}
+
+fn relabel_path(store: &mut Store) -> Result<u64, StepFault> {
+    let odd = parity(store, LONG)?;
+    let _renamed = store.relabel(odd, &[9, 7])?;
+    Ok(store.len())
+}
+
+fn brought_path(rt: &HostRuntime) -> Result<()> {
+    let mut store = Store::new(rt.alloc(), ROOM);
+    let mut other = Store::new(rt.alloc(), ROOM);
+    let nodes = bring_path(rt.alloc(), &mut store, &mut other);
+    print_brought(rt, nodes)
+}
+
+fn bring_path(alloc: Global, store: &mut Store, other: &mut Store) -> Result<u64, StepFault>
+    requires { store.old.nodes ≡ [] }
+{
+    let root = chain(store, LONG)?;
+    let Ok(map) = identity(alloc, LONG) else {
+        return Err(StepFault::Memory);
+    };
+    let _brought = other.bring(store, root, map.slice())?;
+    Ok(other.len())
+}
+
+fn print_brought(rt: &HostRuntime, nodes: Result<u64, StepFault>) -> Result<()> {
+    println!(rt; "brought: {} nodes", nodes?)?;
+    Ok(())
+}
