@@ -2,28 +2,49 @@
 use crate::shown;
 use anyhow::Result;
 use ms_edge::{Files, MemFiles, ReadAnswer, WriteFailed};
-use ms_list::{Bytes, List};
+use ms_list::{Bytes, List, NoMemory, push};
+use std::alloc::Global;
+use std::io;
 
 pub fn tell(rt: &HostRuntime) -> Result<()> {
     println!(rt; "Files in memory")?;
-    let alloc = rt.alloc();
-    let failing_reads = List::from(vec![in alloc; 1u64]?);
-    let failing_writes = List::from(vec![in alloc; 2u64]?);
-    let mut files = MemFiles::new(alloc, 4, 12, failing_reads, failing_writes)?;
-    files.put("a", b"abc")?;
-    reads(rt, &mut files)?;
-    writes(rt, &mut files)?;
-    holdings(rt, &files)?;
-    files.put("a", b"last")?;
-    holdings(rt, &files)
+    let mut files = new_files(rt.alloc())?;
+    tell_files(rt, &mut files)
 }
 
-fn reads(rt: &HostRuntime, files: &mut MemFiles) -> Result<()> {
+fn new_files(alloc: Global) -> Result<MemFiles, NoMemory> {
+    let failing_reads = only(alloc, 1)?;
+    let failing_writes = only(alloc, 2)?;
+    MemFiles::new(alloc, 4, 12, failing_reads, failing_writes)
+}
+
+/// The list of one call.
+fn only(alloc: Global, call: u64) -> Result<List<u64>, NoMemory> {
+    let mut calls = List::new(alloc);
+    push(&mut calls, call)?;
+    Ok(calls)
+}
+
+fn tell_files(rt: &HostRuntime, files: &mut MemFiles) -> Result<()> {
+    files.put("a", b"abc")?;
+    reads(rt, files)?;
+    writes(rt, files)?;
+    holdings(rt, files)?;
+    files.put("a", b"last")?;
+    holdings(rt, files)?;
+    Ok(())
+}
+
+fn reads(rt: &HostRuntime, files: &mut MemFiles) -> io::Result<()> {
     for (name, limit) in [("a", 3), ("a", 3), ("a", 2), ("b", 9), ("a", 9)] {
-        let answer = files.read(rt.alloc(), name, limit);
-        print_read(rt, name, limit, &answer)?;
+        read(rt, files, name, limit)?;
     }
     Ok(())
+}
+
+fn read(rt: &HostRuntime, files: &mut MemFiles, name: &str, limit: u64) -> io::Result<()> {
+    let answer = files.read(rt.alloc(), name, limit);
+    print_read(rt, name, limit, &answer)
 }
 
 /// Prints what a read answers.
@@ -32,18 +53,17 @@ pub fn print_read(
     name: &str,
     limit: u64,
     answer: &Result<Bytes, ReadAnswer>,
-) -> Result<()> {
+) -> io::Result<()> {
     match answer {
         Ok(bytes) => println!(rt;
             "reading {name}, {limit} bytes at most: {}",
             shown(bytes.slice())
-        )?,
-        Err(answer) => println!(rt; "reading {name}, {limit} bytes at most: {answer}")?,
+        ),
+        Err(answer) => println!(rt; "reading {name}, {limit} bytes at most: {answer}"),
     }
-    Ok(())
 }
 
-fn writes(rt: &HostRuntime, files: &mut MemFiles) -> Result<()> {
+fn writes(rt: &HostRuntime, files: &mut MemFiles) -> io::Result<()> {
     let writes: [(&str, &[u8]); 5] = [
         ("b", b"1234"),
         ("a", b"xy"),
@@ -62,15 +82,18 @@ fn writes(rt: &HostRuntime, files: &mut MemFiles) -> Result<()> {
 }
 
 /// Prints what a write answers.
-pub fn print_write(rt: &HostRuntime, name: &str, answer: &Result<(), WriteFailed>) -> Result<()> {
+pub fn print_write(
+    rt: &HostRuntime,
+    name: &str,
+    answer: &Result<(), WriteFailed>,
+) -> io::Result<()> {
     match answer {
-        Ok(()) => println!(rt; "writing {name}: done")?,
-        Err(failed) => println!(rt; "writing {name}: {failed}")?,
+        Ok(()) => println!(rt; "writing {name}: done"),
+        Err(failed) => println!(rt; "writing {name}: {failed}"),
     }
-    Ok(())
 }
 
-fn holdings(rt: &HostRuntime, files: &MemFiles) -> Result<()> {
+fn holdings(rt: &HostRuntime, files: &MemFiles) -> io::Result<()> {
     for name in ["a", "b", "abc"] {
         match files.get(name) {
             Some(bytes) => println!(rt; "{name} holds {}", shown(bytes))?,

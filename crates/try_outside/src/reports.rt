@@ -15,9 +15,9 @@ const AT: At = At { file: 1, place: 10 };
 
 pub fn tell(rt: &HostRuntime) -> Result<()> {
     println!(rt; "Reports")?;
-    print_report(rt, &full(rt.alloc())?)?;
-    print_report(rt, &bare(rt.alloc(), Verdict::Vacuous))?;
-    print_report(rt, &goals_alone(rt.alloc())?)?;
+    full_report(rt)?;
+    bare_report(rt)?;
+    report_of_goals(rt)?;
     println!(rt; "Lines of refusals")?;
     lines_of_texts(rt)?;
     lines_of_names(rt)?;
@@ -33,6 +33,11 @@ fn print_report(rt: &HostRuntime, found: &Found) -> Result<()> {
 }
 
 /// A report with all its lines.
+fn full_report(rt: &HostRuntime) -> Result<()> {
+    let found = full(rt.alloc())?;
+    print_report(rt, &found)
+}
+
 fn full(alloc: Global) -> Result<Found> {
     let stats = Stats {
         files: 1,
@@ -41,33 +46,51 @@ fn full(alloc: Global) -> Result<Found> {
         states: 2,
         nodes: 18_446_744_073_709_551_615,
     };
-    let main = Answer {
-        verdict: Verdict::Contingent,
-        example: Some(assignment(alloc, 5, (&[0, 1, 4], 3, true))?),
-        counterexample: Some(assignment(alloc, 1, (&[], 0, false))?),
-    };
-    let valid = Answer {
-        verdict: Verdict::Valid,
-        example: Some(assignment(alloc, 0, (&[], 0, true))?),
-        counterexample: None,
-    };
-    let mut goals = List::new(alloc);
-    push(&mut goals, goal(alloc, "P is caf\u{e9}", valid)?)?;
-    push(
-        &mut goals,
-        goal(alloc, "", nothing_shown(Verdict::Vacuous))?,
-    )?;
+    let globals = names(alloc, &["P", "x'", "a"])?;
+    let main = contingent(alloc)?;
+    let goals = two_goals(alloc)?;
     Ok(Found {
-        globals: names(alloc, &["P", "x'", "a"])?,
+        globals,
         main: Some(main),
         goals,
         stats: Some(stats),
     })
 }
 
-fn goal(alloc: Global, title: &str, answer: Answer) -> Result<GoalAnswer> {
-    let title = Text::new(alloc, title)?;
+fn contingent(alloc: Global) -> Result<Answer> {
+    let example = assignment(alloc, 5, (&[0, 1, 4], 3, true))?;
+    let counterexample = assignment(alloc, 1, (&[], 0, false))?;
+    Ok(Answer {
+        verdict: Verdict::Contingent,
+        example: Some(example),
+        counterexample: Some(counterexample),
+    })
+}
+
+fn two_goals(alloc: Global) -> Result<List<GoalAnswer>> {
+    let mut goals = List::new(alloc);
+    push(&mut goals, valid_goal(alloc)?)?;
+    push(&mut goals, goal(alloc, "", Verdict::Vacuous)?)?;
+    Ok(goals)
+}
+
+fn valid_goal(alloc: Global) -> Result<GoalAnswer> {
+    let title = Text::new(alloc, "P is caf\u{e9}")?;
+    let example = assignment(alloc, 0, (&[], 0, true))?;
+    let answer = Answer {
+        verdict: Verdict::Valid,
+        example: Some(example),
+        counterexample: None,
+    };
     Ok(GoalAnswer { title, answer })
+}
+
+/// A goal of which nothing is shown but the verdict.
+fn goal(alloc: Global, title: &str, verdict: Verdict) -> Result<GoalAnswer, NoMemory> {
+    Ok(GoalAnswer {
+        title: Text::new(alloc, title)?,
+        answer: nothing_shown(verdict),
+    })
 }
 
 fn nothing_shown(verdict: Verdict) -> Answer {
@@ -76,6 +99,11 @@ fn nothing_shown(verdict: Verdict) -> Answer {
         example: None,
         counterexample: None,
     }
+}
+
+fn bare_report(rt: &HostRuntime) -> Result<()> {
+    let found = bare(rt.alloc(), Verdict::Vacuous);
+    print_report(rt, &found)
 }
 
 fn bare(alloc: Global, verdict: Verdict) -> Found {
@@ -88,12 +116,14 @@ fn bare(alloc: Global, verdict: Verdict) -> Found {
 }
 
 /// A report on a goal, where the main value is not asked for.
-fn goals_alone(alloc: Global) -> Result<Found> {
+fn report_of_goals(rt: &HostRuntime) -> Result<()> {
+    let found = goals_alone(rt.alloc())?;
+    print_report(rt, &found)
+}
+
+fn goals_alone(alloc: Global) -> Result<Found, NoMemory> {
     let mut goals = List::new(alloc);
-    push(
-        &mut goals,
-        goal(alloc, "never", nothing_shown(Verdict::Unsatisfiable))?,
-    )?;
+    push(&mut goals, goal(alloc, "never", Verdict::Unsatisfiable)?)?;
     Ok(Found {
         globals: List::new(alloc),
         main: None,
@@ -102,7 +132,7 @@ fn goals_alone(alloc: Global) -> Result<Found> {
     })
 }
 
-fn names(alloc: Global, all: &[&str]) -> Result<List<Name>> {
+fn names(alloc: Global, all: &[&str]) -> Result<List<Name>, NoMemory> {
     let mut names = List::new(alloc);
     for name in all {
         push(&mut names, Name::new(alloc, name)?)?;

@@ -3,6 +3,8 @@ use crate::shown;
 use anyhow::Result;
 use ms_edge::{MemSink, Sink, SinkStop, StdSink, write_all};
 use ms_list::List;
+use std::alloc::Global;
+use std::io;
 
 /// A sink that takes so many bytes in a piece and at all, and fails at the listed pieces; and a text for it.
 #[derive(Clone, Copy)]
@@ -57,32 +59,51 @@ pub fn tell(rt: &HostRuntime) -> Result<()> {
     for case in CASES {
         write_case(rt, case)?;
     }
-    write_piece(rt)?;
-    let mut out = StdSink::new(rt.clone()?);
-    let answer = write_all(&mut out, b"a line of the sink\n");
-    print_stop(rt, answer)
+    write_pieces(rt)?;
+    write_out(rt)
 }
 
 fn write_case(rt: &HostRuntime, case: Case) -> Result<()> {
-    let failing = List::from(Vec::from_slice(rt.alloc(), case.failing)?);
-    let mut sink = MemSink::new(rt.alloc(), case.piece.max(1), case.room, failing)?;
-    let answer = write_all(&mut sink, case.text.as_bytes());
-    println!(rt; "of \"{}\" it took \"{}\"", case.text, shown(sink.bytes()))?;
-    print_stop(rt, answer)
-}
-
-fn print_stop(rt: &HostRuntime, answer: Result<(), SinkStop>) -> Result<()> {
-    match answer {
-        Ok(()) => println!(rt; "all of it")?,
-        Err(stop) => println!(rt; "it failed after {} bytes", stop.taken)?,
-    }
+    let mut sink = sink_of(rt.alloc(), case)?;
+    write_text(rt, &mut sink, case.text)?;
     Ok(())
 }
 
+fn sink_of(alloc: Global, case: Case) -> Result<MemSink> {
+    let failing = List::from(Vec::from_slice(alloc, case.failing)?);
+    Ok(MemSink::new(alloc, case.piece.max(1), case.room, failing)?)
+}
+
+fn write_text(rt: &HostRuntime, sink: &mut MemSink, text: &str) -> io::Result<()> {
+    let answer = write_all(sink, text.as_bytes());
+    println!(rt; "of \"{text}\" it took \"{}\"", shown(sink.bytes()))?;
+    print_stop(rt, answer)
+}
+
+/// A line on standard output.
+fn write_out(rt: &HostRuntime) -> Result<()> {
+    let mut out = StdSink::new(rt.clone()?);
+    let answer = write_all(&mut out, b"a line of the sink\n");
+    print_stop(rt, answer)?;
+    Ok(())
+}
+
+fn print_stop(rt: &HostRuntime, answer: Result<(), SinkStop>) -> io::Result<()> {
+    match answer {
+        Ok(()) => println!(rt; "all of it"),
+        Err(stop) => println!(rt; "it failed after {} bytes", stop.taken),
+    }
+}
+
 /// Two pieces of a sink that takes two bytes in a piece, and fails at the second.
-fn write_piece(rt: &HostRuntime) -> Result<()> {
+fn write_pieces(rt: &HostRuntime) -> Result<()> {
     let failing = List::from(vec![in rt.alloc(); 1u64]?);
     let mut sink = MemSink::new(rt.alloc(), 2, 9, failing)?;
+    write_twice(rt, &mut sink)?;
+    Ok(())
+}
+
+fn write_twice(rt: &HostRuntime, sink: &mut MemSink) -> io::Result<()> {
     for _ in 0..2 {
         match sink.write(b"abc") {
             Ok(count) => println!(rt; "of a piece of 3 bytes it takes {count}")?,
