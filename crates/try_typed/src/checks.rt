@@ -4,9 +4,11 @@ use ms_edge::Refusal;
 use ms_include::load_bytes;
 use ms_list::{Bytes, List, Name};
 use ms_logic::{
-    Checked, ExportUse, Formula, Global, ImportUse, Mode, Order, Param, Placed, Predicate, Term1,
+    Checked, ExportUse, Formula, Global, ImportUse, Loaded, Mode, Order, Param, Placed, Predicate,
+    Term1,
 };
 use ms_names::check;
+use std::io;
 
 const SOURCE: &str =
     "m2l-str; var1 x; var2 P; pred p(var1 y, var2 Q) = y in Q; ex1 z: p(z, P) & x < z; import(\"a\", u -> x); export(\"b\", x in P);";
@@ -27,22 +29,36 @@ fn check_text(rt: &HostRuntime, text: &str) -> Result<()> {
     let Ok(loaded) = load_bytes(rt.alloc(), "generated", bytes) else {
         bail!("the text is refused");
     };
-    let answer = check(rt.alloc(), &loaded);
-    print_answer(rt, &answer)
+    check_loaded(rt, &loaded)
 }
 
-fn print_answer(rt: &HostRuntime, answer: &Result<Checked, Refusal>) -> Result<()> {
-    match answer {
-        Ok(checked) => print_checked(rt, checked)?,
-        Err(Refusal::UnknownName { at, name }) => {
-            println!(rt; "an unknown name, {} at {}", name.text(), at.place)?;
-        }
-        Err(_) => println!(rt; "another refusal")?,
-    }
+fn check_loaded(rt: &HostRuntime, loaded: &Loaded) -> Result<()> {
+    let answer = check(rt.alloc(), loaded);
+    tell_answer(rt, &answer)
+}
+
+fn tell_answer(rt: &HostRuntime, answer: &Result<Checked, Refusal>) -> Result<()> {
+    print_answer(rt, answer)?;
     Ok(())
 }
 
-fn print_checked(rt: &HostRuntime, checked: &Checked) -> Result<()> {
+fn print_answer(rt: &HostRuntime, answer: &Result<Checked, Refusal>) -> io::Result<()> {
+    match answer {
+        Ok(checked) => print_checked(rt, checked),
+        Err(refusal) => print_refusal(rt, refusal),
+    }
+}
+
+fn print_refusal(rt: &HostRuntime, refusal: &Refusal) -> io::Result<()> {
+    match refusal {
+        Refusal::UnknownName { at, name } => {
+            println!(rt; "an unknown name, {} at {}", name.text(), at.place)
+        }
+        _ => println!(rt; "another refusal"),
+    }
+}
+
+fn print_checked(rt: &HostRuntime, checked: &Checked) -> io::Result<()> {
     let mode = mode_word(checked.mode);
     println!(rt; "{mode}, {} files", checked.files.len())?;
     print_globals(rt, checked.globals.slice())?;
@@ -52,7 +68,7 @@ fn print_checked(rt: &HostRuntime, checked: &Checked) -> Result<()> {
     print_exports(rt, checked.exports.slice())
 }
 
-fn print_globals(rt: &HostRuntime, globals: &[Global]) -> Result<()> {
+fn print_globals(rt: &HostRuntime, globals: &[Global]) -> io::Result<()> {
     for global in globals {
         let order = order_word(global.order);
         println!(rt;
@@ -65,7 +81,7 @@ fn print_globals(rt: &HostRuntime, globals: &[Global]) -> Result<()> {
     Ok(())
 }
 
-fn print_predicates(rt: &HostRuntime, predicates: &[Predicate]) -> Result<()> {
+fn print_predicates(rt: &HostRuntime, predicates: &[Predicate]) -> io::Result<()> {
     for predicate in predicates {
         println!(rt; "a predicate")?;
         print_parameters(rt, predicate.params.slice())?;
@@ -73,7 +89,7 @@ fn print_predicates(rt: &HostRuntime, predicates: &[Predicate]) -> Result<()> {
     Ok(())
 }
 
-fn print_parameters(rt: &HostRuntime, params: &[Param]) -> Result<()> {
+fn print_parameters(rt: &HostRuntime, params: &[Param]) -> io::Result<()> {
     for param in params {
         let order = order_word(param.order);
         println!(rt; "parameter {}, {order}", param.variable)?;
@@ -81,7 +97,7 @@ fn print_parameters(rt: &HostRuntime, params: &[Param]) -> Result<()> {
     Ok(())
 }
 
-fn print_formulas(rt: &HostRuntime, formulas: &[Placed]) -> Result<()> {
+fn print_formulas(rt: &HostRuntime, formulas: &[Placed]) -> io::Result<()> {
     for placed in formulas {
         if let Some(title) = &placed.title {
             println!(rt; "goal {}:", title.text())?;
@@ -96,7 +112,7 @@ fn print_formulas(rt: &HostRuntime, formulas: &[Placed]) -> Result<()> {
 }
 
 /// The number of a bound variable, and of the variable on the left of its body where that is a comparison.
-fn print_bound(rt: &HostRuntime, formula: &Formula) -> Result<()> {
+fn print_bound(rt: &HostRuntime, formula: &Formula) -> io::Result<()> {
     let Formula::Bind(_, _, bound, _, body) = formula else {
         return Ok(());
     };
@@ -107,7 +123,7 @@ fn print_bound(rt: &HostRuntime, formula: &Formula) -> Result<()> {
     Ok(())
 }
 
-fn print_imports(rt: &HostRuntime, imports: &[ImportUse]) -> Result<()> {
+fn print_imports(rt: &HostRuntime, imports: &[ImportUse]) -> io::Result<()> {
     for import in imports {
         println!(rt; "import {} at {}", import.name.text(), import.at.place)?;
         for pair in import.pairs.slice() {
@@ -118,7 +134,7 @@ fn print_imports(rt: &HostRuntime, imports: &[ImportUse]) -> Result<()> {
     Ok(())
 }
 
-fn print_exports(rt: &HostRuntime, exports: &[ExportUse]) -> Result<()> {
+fn print_exports(rt: &HostRuntime, exports: &[ExportUse]) -> io::Result<()> {
     for export in exports {
         println!(rt; "export {} at {}", export.name.text(), export.at.place)?;
         println!(rt; "over {:?}", export.variables.slice())?;
@@ -127,7 +143,7 @@ fn print_exports(rt: &HostRuntime, exports: &[ExportUse]) -> Result<()> {
     Ok(())
 }
 
-fn print_names(rt: &HostRuntime, names: &List<Name>) -> Result<()> {
+fn print_names(rt: &HostRuntime, names: &List<Name>) -> io::Result<()> {
     for name in names.slice() {
         println!(rt; "named {}", name.text())?;
     }

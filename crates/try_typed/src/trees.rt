@@ -8,25 +8,52 @@ use std::alloc::Global;
 
 pub fn tell(rt: &HostRuntime) -> Result<()> {
     println!(rt; "Copies of trees")?;
-    let alloc = rt.alloc();
-    let formula = sample(alloc, 1)?;
-    let copy = copy_formula(alloc, &formula)?;
+    tell_formula(rt)?;
+    tell_core(rt)
+}
+
+fn tell_formula(rt: &HostRuntime) -> Result<()> {
+    let formula = sample(rt.alloc(), 1)?;
+    tell_copy(rt, &formula)
+}
+
+fn tell_copy(rt: &HostRuntime, formula: &Formula) -> Result<()> {
+    let copy = copy_formula(rt.alloc(), formula)?;
+    tell_whether_same(rt, formula, &copy)
+}
+
+fn tell_whether_same(rt: &HostRuntime, formula: &Formula, copy: &Formula) -> Result<()> {
     println!(rt;
         "a formula and its copy are equal: {}",
-        same_formula(&formula, &copy)
+        same_formula(formula, copy)
     )?;
-    let other = sample(alloc, 2)?;
-    println!(rt;
-        "with another number they are equal: {}",
-        same_formula(&other, &copy)
-    )?;
+    let is_same = is_same_with(rt.alloc(), 2, copy)?;
+    println!(rt; "with another number they are equal: {is_same}")?;
     println!(rt;
         "`true` is equal to it: {}",
-        same_formula(&Formula::True, &copy)
+        same_formula(&Formula::True, copy)
     )?;
-    let core = restriction(alloc)?;
-    let copy = copy_core(alloc, &core)?;
-    println!(rt; "a copy of a core formula: {}", core_word(&copy))?;
+    Ok(())
+}
+
+/// Whether the sample with this number is the formula.
+fn is_same_with(alloc: Global, offset: u64, formula: &Formula) -> Result<bool> {
+    let other = sample(alloc, offset)?;
+    Ok(same_formula(&other, formula))
+}
+
+fn tell_core(rt: &HostRuntime) -> Result<()> {
+    let core = restriction(rt.alloc())?;
+    tell_copy_of_core(rt, &core)
+}
+
+fn tell_copy_of_core(rt: &HostRuntime, core: &Core) -> Result<()> {
+    let copy = copy_core(rt.alloc(), core)?;
+    print_core(rt, &copy)
+}
+
+fn print_core(rt: &HostRuntime, core: &Core) -> Result<()> {
+    println!(rt; "a copy of a core formula: {}", core_word(core))?;
     Ok(())
 }
 
