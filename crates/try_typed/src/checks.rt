@@ -2,7 +2,7 @@
 use anyhow::{Result, bail};
 use ms_edge::Refusal;
 use ms_include::load_bytes;
-use ms_list::{Bytes, List, Name};
+use ms_list::{Bytes, List, Name, let_go};
 use ms_logic::{
     Checked, ExportUse, Formula, Global, ImportUse, Loaded, Mode, Order, Param, Placed, Predicate,
     Term1,
@@ -26,15 +26,24 @@ fn check_text(rt: &HostRuntime, text: &str) -> Result<()> {
     if bytes.len() > 1_048_576 {
         bail!("the text is too long");
     }
-    let Ok(loaded) = load_bytes(rt.alloc(), "generated", bytes) else {
-        bail!("the text is refused");
-    };
-    check_loaded(rt, &loaded)
+    let loaded = load_bytes(rt.alloc(), "generated", bytes);
+    let told = check_loaded(rt, &loaded);
+    let_go(loaded);
+    told
 }
 
-fn check_loaded(rt: &HostRuntime, loaded: &Loaded) -> Result<()> {
+fn check_loaded(rt: &HostRuntime, loaded: &Result<Loaded, Refusal>) -> Result<()> {
+    match loaded {
+        Ok(loaded) => check_source(rt, loaded),
+        Err(_) => bail!("the text is refused"),
+    }
+}
+
+fn check_source(rt: &HostRuntime, loaded: &Loaded) -> Result<()> {
     let answer = check(rt.alloc(), loaded);
-    tell_answer(rt, &answer)
+    let told = tell_answer(rt, &answer);
+    let_go(answer);
+    told
 }
 
 fn tell_answer(rt: &HostRuntime, answer: &Result<Checked, Refusal>) -> Result<()> {
