@@ -1,6 +1,7 @@
 //! Arenas of many nodes.
 use anyhow::{Result, bail};
 use ms_arena::{Arena, Node, Ref};
+use ms_list::let_go;
 use std::io;
 
 /// How many nodes are put into an arena.
@@ -8,7 +9,10 @@ const MANY: u32 = 200_000;
 
 pub fn tell(rt: &HostRuntime) -> Result<()> {
     println!(rt; "An arena")?;
-    tell_changes(rt, &mut Arena::new(rt.alloc()))
+    let mut arena = Arena::new(rt.alloc());
+    let told = tell_changes(rt, &mut arena);
+    let_go(arena);
+    told
 }
 
 /// What an arena has once it is filled, cleared, filled anew and copied.
@@ -24,7 +28,9 @@ fn tell_changes(rt: &HostRuntime, arena: &mut Arena) -> Result<()> {
 
 fn tell_copy(rt: &HostRuntime, arena: &Arena) -> Result<()> {
     let copy = arena.copy()?;
-    tell_places(rt, "copied: ", &copy)?;
+    let told = tell_places(rt, "copied: ", &copy);
+    let_go(copy);
+    told?;
     Ok(())
 }
 

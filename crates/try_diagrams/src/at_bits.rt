@@ -2,7 +2,7 @@
 use crate::functions::{leaf_at, parity};
 use anyhow::Result;
 use ms_diagram::{Pairs, Sets, Store};
-use ms_list::{List, StepFault};
+use ms_list::{List, StepFault, let_go};
 
 pub fn tell(rt: &HostRuntime) -> Result<()> {
     pairs_at_bits(rt)?;
@@ -15,6 +15,8 @@ fn pairs_at_bits(rt: &HostRuntime) -> Result<()> {
     let mut store = Store::new(rt.alloc(), 100);
     let mut pairs = Pairs::new(rt.alloc());
     let right = right_pairs(&mut store, &mut pairs);
+    let_go(store);
+    let_go(pairs);
     print_right(rt, "pairs", right)
 }
 
@@ -46,6 +48,8 @@ fn sets_at_bits(rt: &HostRuntime) -> Result<()> {
     let mut store = Store::new(rt.alloc(), 100);
     let mut sets = Sets::new(rt.alloc());
     let right = right_sets(&mut store, &mut sets);
+    let_go(store);
+    let_go(sets);
     print_right(rt, "sets", right)
 }
 
@@ -69,6 +73,7 @@ fn right_sets(store: &mut Store, sets: &mut Sets) -> Result<u32, StepFault> {
 fn leaves_at_bits(rt: &HostRuntime) -> Result<()> {
     let mut store = Store::new(rt.alloc(), 100);
     let mapped = map_leaves(&mut store);
+    let_go(store);
     print_mapped(rt, mapped)
 }
 

@@ -9,7 +9,7 @@ use ms_arena::Ref;
 use ms_best::first;
 use ms_dfa::{Automaton, State};
 use ms_diagram::Store;
-use ms_list::{List, NoMemory, Word};
+use ms_list::{List, NoMemory, Word, let_go};
 use ms_logic::Mode;
 use ms_logic_words::Sign;
 use std::alloc::Global;
@@ -18,7 +18,9 @@ use std::io;
 pub fn tell(rt: &HostRuntime) -> Result<()> {
     println!(rt; "An automaton")?;
     let automaton = lengths(rt.alloc())?;
-    tell_lengths(rt, &automaton)
+    let told = tell_lengths(rt, &automaton);
+    let_go(automaton);
+    told
 }
 
 fn tell_lengths(rt: &HostRuntime, automaton: &Automaton) -> Result<()>
@@ -100,7 +102,9 @@ fn sign_word(sign: Sign) -> &'static str {
 /// The first word with a sign.
 fn print_first(rt: &HostRuntime, automaton: &Automaton, sign: Sign) -> Result<()> {
     let found = first(rt.alloc(), automaton, sign)?;
-    print_found(rt, sign_word(sign), &found)?;
+    let printed = print_found(rt, sign_word(sign), &found);
+    let_go(found);
+    printed?;
     Ok(())
 }
 

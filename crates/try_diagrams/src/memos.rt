@@ -2,12 +2,15 @@
 use anyhow::Result;
 use ms_arena::Ref;
 use ms_cache::{Key, Memo};
+use ms_list::let_go;
 use std::io;
 
 pub fn tell(rt: &HostRuntime) -> Result<()> {
     println!(rt; "A memo of two entries")?;
     let mut memo = Memo::new(rt.alloc(), 2)?;
-    tell_answers(rt, &mut memo)
+    let told = tell_answers(rt, &mut memo);
+    let_go(memo);
+    told
 }
 
 fn tell_answers(rt: &HostRuntime, memo: &mut Memo) -> Result<()> {

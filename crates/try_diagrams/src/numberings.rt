@@ -1,6 +1,7 @@
 //! Numberings of pairs and of sets.
 use anyhow::Result;
 use ms_diagram::{Pairs, Sets};
+use ms_list::let_go;
 use std::io;
 
 pub fn tell(rt: &HostRuntime) -> Result<()> {
@@ -11,7 +12,9 @@ pub fn tell(rt: &HostRuntime) -> Result<()> {
 
 fn pairs(rt: &HostRuntime) -> Result<()> {
     let mut pairs = Pairs::new(rt.alloc());
-    number_pairs(rt, &mut pairs)
+    let told = number_pairs(rt, &mut pairs);
+    let_go(pairs);
+    told
 }
 
 fn number_pairs(rt: &HostRuntime, pairs: &mut Pairs) -> Result<()> {
@@ -37,7 +40,9 @@ fn print_pairs(rt: &HostRuntime, pairs: &Pairs) -> io::Result<()> {
 
 fn sets(rt: &HostRuntime) -> Result<()> {
     let mut sets = Sets::new(rt.alloc());
-    number_sets(rt, &mut sets)
+    let told = number_sets(rt, &mut sets);
+    let_go(sets);
+    told
 }
 
 fn number_sets(rt: &HostRuntime, sets: &mut Sets) -> Result<()> {

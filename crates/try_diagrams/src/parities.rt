@@ -2,7 +2,8 @@
 use crate::functions::parity;
 use anyhow::Result;
 use ms_diagram::{Pairs, Store};
-use ms_list::StepFault;
+use ms_list::{StepFault, let_go};
+use std::io;
 
 pub fn tell(rt: &HostRuntime) -> Result<()> {
     shared(rt)?;
@@ -14,7 +15,11 @@ fn shared(rt: &HostRuntime) -> Result<()> {
     let mut store = Store::new(rt.alloc(), 1000);
     let mut pairs = Pairs::new(rt.alloc());
     let paired = pair_with_itself(&mut store, &mut pairs);
-    print_paired(rt, paired)
+    let_go(store);
+    let_go(pairs);
+    let (nodes, pairs) = paired?;
+    println!(rt; "the parity of 200 bits with itself: {nodes} nodes, {pairs} pairs")?;
+    Ok(())
 }
 
 fn pair_with_itself(store: &mut Store, pairs: &mut Pairs) -> Result<(u64, u32), StepFault> {
@@ -23,19 +28,16 @@ fn pair_with_itself(store: &mut Store, pairs: &mut Pairs) -> Result<(u64, u32), 
     Ok((store.len(), pairs.len()))
 }
 
-fn print_paired(rt: &HostRuntime, paired: Result<(u64, u32), StepFault>) -> Result<()> {
-    let (nodes, pairs) = paired?;
-    println!(rt; "the parity of 200 bits with itself: {nodes} nodes, {pairs} pairs")?;
-    Ok(())
-}
-
 /// In the pair of the parity of 200 bits with itself, 396 of 795 pairs of nodes are seen again. A call knows nothing of
 /// the calls before it.
 fn memo(rt: &HostRuntime) -> Result<()> {
     let mut store = Store::new(rt.alloc(), 1000);
     let mut pairs = Pairs::new(rt.alloc());
     let hits = pair_again(&mut store, &mut pairs);
-    print_hits(rt, hits)
+    let_go(store);
+    let_go(pairs);
+    print_hits(rt, hits?)?;
+    Ok(())
 }
 
 /// The hits of the memo before a first pair, after it, after a second, and those of a copy.
@@ -55,8 +57,8 @@ fn hits_of_copy(store: &Store) -> Result<u64, StepFault> {
     }
 }
 
-fn print_hits(rt: &HostRuntime, hits: Result<[u64; 4], StepFault>) -> Result<()> {
-    for hits in hits? {
+fn print_hits(rt: &HostRuntime, hits: [u64; 4]) -> io::Result<()> {
+    for hits in hits {
         println!(rt; "hits of the memo: {hits}")?;
     }
     Ok(())

@@ -4,7 +4,7 @@ ghost use Rattle.std.specs.Prelude.{◌≡◌, []};
 use crate::functions::{chain, identity, parity};
 use anyhow::Result;
 use ms_diagram::{Pairs, Sets, Store};
-use ms_list::{List, StepFault};
+use ms_list::{List, StepFault, let_go};
 use std::alloc::Global;
 
 /// How many variables a long path has.
@@ -25,7 +25,10 @@ fn paired_path(rt: &HostRuntime) -> Result<()> {
     let mut store = Store::new(rt.alloc(), ROOM);
     let mut pairs = Pairs::new(rt.alloc());
     let leaves = pair_path(&mut store, &mut pairs);
-    print_paired(rt, store.len(), pairs.len(), leaves)
+    let (nodes, pairs_made) = (store.len(), pairs.len());
+    let_go(store);
+    let_go(pairs);
+    print_paired(rt, nodes, pairs_made, leaves)
 }
 
 /// The leaves of a long path that is paired with itself.
@@ -56,7 +59,11 @@ fn collected_path(rt: &HostRuntime) -> Result<()> {
     let mut store = Store::new(rt.alloc(), ROOM);
     let mut sets = Sets::new(rt.alloc());
     let collected = collect_path(&mut store, &mut sets);
-    print_collected(rt, collected)
+    let_go(store);
+    let_go(sets);
+    let (nodes, sets) = collected?;
+    println!(rt; "collected: {nodes} nodes, {sets} sets")?;
+    Ok(())
 }
 
 fn collect_path(store: &mut Store, sets: &mut Sets) -> Result<(u64, u32), StepFault> {
@@ -65,14 +72,10 @@ fn collect_path(store: &mut Store, sets: &mut Sets) -> Result<(u64, u32), StepFa
     Ok((store.len(), sets.len()))
 }
 
-fn print_collected(rt: &HostRuntime, collected: Result<(u64, u32), StepFault>) -> Result<()> {
-    let (nodes, sets) = collected?;
-    println!(rt; "collected: {nodes} nodes, {sets} sets")?;
-    Ok(())
-}
-
 fn relabelled_path(rt: &HostRuntime) -> Result<()> {
-    let relabelled = relabel_path(&mut Store::new(rt.alloc(), ROOM));
+    let mut store = Store::new(rt.alloc(), ROOM);
+    let relabelled = relabel_path(&mut store);
+    let_go(store);
     println!(rt; "relabelled: {} nodes", relabelled?)?;
     Ok(())
 }
@@ -87,7 +90,10 @@ fn brought_path(rt: &HostRuntime) -> Result<()> {
     let mut store = Store::new(rt.alloc(), ROOM);
     let mut other = Store::new(rt.alloc(), ROOM);
     let nodes = bring_path(rt.alloc(), &mut store, &mut other);
-    print_brought(rt, nodes)
+    let_go(store);
+    let_go(other);
+    println!(rt; "brought: {} nodes", nodes?)?;
+    Ok(())
 }
 
 fn bring_path(alloc: Global, store: &mut Store, other: &mut Store) -> Result<u64, StepFault>
@@ -99,9 +105,4 @@ fn bring_path(alloc: Global, store: &mut Store, other: &mut Store) -> Result<u64
     };
     let _brought = other.bring(store, root, map.slice())?;
     Ok(other.len())
-}
-
-fn print_brought(rt: &HostRuntime, nodes: Result<u64, StepFault>) -> Result<()> {
-    println!(rt; "brought: {} nodes", nodes?)?;
-    Ok(())
 }

@@ -2,7 +2,7 @@
 use anyhow::Result;
 use ms_arena::{Node, Ref};
 use ms_dfa::{FileSign, FileState, FileVar, FileVersion, Part, Plain, is_in};
-use ms_list::{List, Name};
+use ms_list::{List, Name, let_go};
 use ms_logic::{Mode, Order};
 use std::alloc::Global;
 use std::io;
@@ -19,7 +19,9 @@ pub fn tell(rt: &HostRuntime) -> Result<()> {
 /// What a copy of the sample has.
 fn tell_copy(rt: &HostRuntime) -> Result<()> {
     let plain = sample(rt.alloc())?;
-    print_copy(rt, &plain)
+    let printed = print_copy(rt, &plain);
+    let_go(plain);
+    printed
 }
 
 /// The parts of a word in which a variable of an order stands.
@@ -98,7 +100,9 @@ fn nodes(alloc: Global) -> Result<List<Node>> {
 
 fn print_copy(rt: &HostRuntime, plain: &Plain) -> Result<()> {
     let copy = plain.copy(rt.alloc())?;
-    print_plain(rt, &copy)?;
+    let printed = print_plain(rt, &copy);
+    let_go(copy);
+    printed?;
     Ok(())
 }
 

@@ -5,7 +5,7 @@ use crate::functions::leaf_at;
 use anyhow::Result;
 use ms_arena::Ref;
 use ms_diagram::{Pairs, Store};
-use ms_list::StepFault;
+use ms_list::{StepFault, let_go};
 
 pub fn tell(rt: &HostRuntime) -> Result<()> {
     println!(rt; "Stores")?;
@@ -18,7 +18,9 @@ pub fn tell(rt: &HostRuntime) -> Result<()> {
 
 /// Two equal nodes are one.
 fn node_once(rt: &HostRuntime) -> Result<()> {
-    let made = make_twice(&mut Store::new(rt.alloc(), 9));
+    let mut store = Store::new(rt.alloc(), 9);
+    let made = make_twice(&mut store);
+    let_go(store);
     let (is_equal, is_same, nodes) = made?;
     println!(rt; "an equal node is the same: {is_equal}, {is_same}")?;
     println!(rt; "nodes: {nodes}")?;
@@ -35,7 +37,9 @@ fn make_twice(store: &mut Store) -> Result<(bool, bool, u64), StepFault> {
 
 /// The leaf of a node.
 fn leaf_of_node(rt: &HostRuntime) -> Result<()> {
-    let found = find_leaf(&mut Store::new(rt.alloc(), 1));
+    let mut store = Store::new(rt.alloc(), 1);
+    let found = find_leaf(&mut store);
+    let_go(store);
     println!(rt; "the leaf at 1: {}", found?)?;
     Ok(())
 }
@@ -50,7 +54,11 @@ fn brought_node(rt: &HostRuntime) -> Result<()> {
     let mut store = Store::new(rt.alloc(), 1);
     let mut other = Store::new(rt.alloc(), 1);
     let brought = bring_node(&mut store, &mut other);
-    print_brought(rt, brought)
+    let_go(store);
+    let_go(other);
+    let (below, above) = brought?;
+    println!(rt; "brought to variable 5, the leaves at the numbers 31 and 32: {below}, {above}")?;
+    Ok(())
 }
 
 fn bring_node(store: &mut Store, other: &mut Store) -> Result<(u32, u32), StepFault>
@@ -61,15 +69,11 @@ fn bring_node(store: &mut Store, other: &mut Store) -> Result<(u32, u32), StepFa
     Ok((leaf_at(other, brought, 31), leaf_at(other, brought, 32)))
 }
 
-fn print_brought(rt: &HostRuntime, brought: Result<(u32, u32), StepFault>) -> Result<()> {
-    let (below, above) = brought?;
-    println!(rt; "brought to variable 5, the leaves at the numbers 31 and 32: {below}, {above}")?;
-    Ok(())
-}
-
 /// A node more than the store may hold is refused, and the store is as it was.
 fn refused_node(rt: &HostRuntime) -> Result<()> {
-    let refused = refuse_node(&mut Store::new(rt.alloc(), 1));
+    let mut store = Store::new(rt.alloc(), 1);
+    let refused = refuse_node(&mut store);
+    let_go(store);
     let (limit, nodes) = refused?;
     if let Some(limit) = limit {
         println!(rt; "another node is refused at the limit {limit}")?;
@@ -96,6 +100,8 @@ fn middle(rt: &HostRuntime) -> Result<()> {
         let mut store = Store::new(rt.alloc(), limit);
         let mut pairs = Pairs::new(rt.alloc());
         let paired = pair_nodes(&mut store, &mut pairs);
+        let_go(store);
+        let_go(pairs);
         print_paired(rt, limit, paired)?;
     }
     Ok(())
