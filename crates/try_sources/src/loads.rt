@@ -3,31 +3,43 @@ use crate::told::{mode_word, told};
 use anyhow::{Result, bail};
 use ms_edge::{MemFiles, Refusal};
 use ms_include::{load, load_bytes};
-use ms_list::{Bytes, List, Text, push};
+use ms_list::{Bytes, List, NoMemory, Text, let_go, push};
 use ms_logic::Loaded;
-use std::alloc::Global;
+use std::alloc::{AllocError, Global};
 
 pub fn tell(rt: &HostRuntime) -> Result<()> {
     println!(rt; "Loads")?;
-    let alloc = rt.alloc();
-    let mut files = files_of(alloc)?;
-    for name in ["empty", "header", "twice", "t"] {
-        load_file(rt, &mut files, name)?;
-    }
+    load_files(rt)?;
     for text in [
         "ws1s; var2 P; P = P;",
         "true; include \"b\"; include \"c\";",
         "true; @",
     ] {
-        let answer = load_text(alloc, text)?;
-        print_answer(rt, &answer)?;
+        load_text(rt, text)?;
+    }
+    Ok(())
+}
+
+fn load_files(rt: &HostRuntime) -> Result<()> {
+    let mut files = files_of(rt.alloc())?;
+    load_each(rt, &mut files)
+}
+
+fn load_each(rt: &HostRuntime, files: &mut MemFiles) -> Result<()> {
+    for name in ["empty", "header", "twice", "t"] {
+        load_file(rt, files, name)?;
     }
     Ok(())
 }
 
 /// Files in memory.
-fn files_of(alloc: Global) -> Result<MemFiles> {
+fn files_of(alloc: Global) -> Result<MemFiles, NoMemory> {
     let mut files = MemFiles::new(alloc, 0, 0, List::new(alloc), List::new(alloc))?;
+    put_files(&mut files)?;
+    Ok(files)
+}
+
+fn put_files(files: &mut MemFiles) -> Result<(), NoMemory> {
     files.put("empty", b"")?;
     files.put("header", b"m2l-str; true; false;")?;
     files.put("twice", b"include \"v\"; include \"v\"; P sub Q;")?;
@@ -35,16 +47,30 @@ fn files_of(alloc: Global) -> Result<MemFiles> {
     files.put("t", b"include \"b\"; include \"d\"; include \"e\";")?;
     files.put("b", b"include \"c\";")?;
     files.put("c", b"")?;
-    files.put("d", b"")?;
-    Ok(files)
+    files.put("d", b"")
 }
 
 /// Loads a file, where the name of another is noted before.
 fn load_file(rt: &HostRuntime, files: &mut MemFiles, name: &str) -> Result<()> {
-    let mut names = List::new(rt.alloc());
-    push(&mut names, Text::new(rt.alloc(), "earlier")?)?;
-    load_noting(rt, files, name, &mut names)?;
-    println!(rt; "noted: {}", joined(rt.alloc(), names.slice())?)?;
+    let mut names = noted_before(rt.alloc())?;
+    tell_load(rt, files, name, &mut names)
+}
+
+fn noted_before(alloc: Global) -> Result<List<Text>, NoMemory> {
+    let mut names = List::new(alloc);
+    push(&mut names, Text::new(alloc, "earlier")?)?;
+    Ok(names)
+}
+
+fn tell_load(
+    rt: &HostRuntime,
+    files: &mut MemFiles,
+    name: &str,
+    names: &mut List<Text>,
+) -> Result<()> {
+    load_noting(rt, files, name, names)?;
+    let noted = joined(rt.alloc(), names.slice())?;
+    println!(rt; "noted: {noted}")?;
     Ok(())
 }
 
@@ -59,39 +85,57 @@ fn load_noting(
         bail!("more names than were noted");
     }
     let answer = load(rt.alloc(), files, name, names);
-    print_answer(rt, &answer)
+    let told = print_answer(rt, &answer);
+    let_go(answer);
+    told
 }
 
-/// Loads a text.
-fn load_text(alloc: Global, text: &str) -> Result<Result<Loaded, Refusal>> {
-    let bytes = Bytes::from(Vec::from_slice(alloc, text.as_bytes())?);
+/// Loads a text and prints the answer.
+fn load_text(rt: &HostRuntime, text: &str) -> Result<()> {
+    let bytes = Bytes::from(Vec::from_slice(rt.alloc(), text.as_bytes())?);
     if bytes.len() > 1_048_576 {
         bail!("the text is too long");
     }
-    Ok(load_bytes(alloc, "generated", bytes))
+    let answer = load_bytes(rt.alloc(), "generated", bytes);
+    let told = print_answer(rt, &answer);
+    let_go(answer);
+    told
 }
 
 fn print_answer(rt: &HostRuntime, answer: &Result<Loaded, Refusal>) -> Result<()> {
     match answer {
-        Ok(loaded) => {
-            let mode = mode_word(loaded.mode);
-            let count = loaded.items.len();
-            let files = joined(rt.alloc(), loaded.files.slice())?;
-            println!(rt; "{mode}, {count} declarations, of {files}")?;
-        }
-        Err(refusal) => println!(rt; "refused: {}", told(rt.alloc(), refusal)?)?,
+        Ok(loaded) => print_loaded(rt, loaded),
+        Err(refusal) => print_refusal(rt, refusal),
     }
+}
+
+fn print_loaded(rt: &HostRuntime, loaded: &Loaded) -> Result<()> {
+    let mode = mode_word(loaded.mode);
+    let count = loaded.items.len();
+    let files = joined(rt.alloc(), loaded.files.slice())?;
+    println!(rt; "{mode}, {count} declarations, of {files}")?;
+    Ok(())
+}
+
+fn print_refusal(rt: &HostRuntime, refusal: &Refusal) -> Result<()> {
+    let told = told(rt.alloc(), refusal)?;
+    println!(rt; "refused: {told}")?;
     Ok(())
 }
 
 /// The texts with a comma between them.
-fn joined(alloc: Global, texts: &[Text]) -> Result<String> {
+fn joined(alloc: Global, texts: &[Text]) -> Result<String, AllocError> {
     let mut made = String::new(alloc);
+    push_joined(&mut made, texts)?;
+    Ok(made)
+}
+
+fn push_joined(made: &mut String, texts: &[Text]) -> Result<(), AllocError> {
     for (i, text) in texts.iter().enumerate() {
         if i > 0 {
             made.push_str(", ")?;
         }
         made.push_str(text.text())?;
     }
-    Ok(made)
+    Ok(())
 }

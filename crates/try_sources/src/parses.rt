@@ -1,9 +1,10 @@
 //! Trees of sources: their outermost forms.
 use crate::rows::{Question, run_rows};
 use crate::tokens::{FILE, tokens_of};
-use crate::told::{mode_word, told};
-use anyhow::{Result, bail};
-use ms_list::{Bytes, List};
+use crate::told::{mode_word, refused, told};
+use anyhow::Result;
+use ms_edge::Refusal;
+use ms_list::{Bytes, List, let_go};
 use ms_logic::{Decl, Expr, Form, Item, Source};
 use ms_parse::parse;
 use ms_text::Tokens;
@@ -17,16 +18,30 @@ pub fn tell(rt: &HostRuntime) -> Result<()> {
 
 /// The outermost forms of the last formula of a source, or its refusal.
 pub fn answer(alloc: Global, bytes: Bytes) -> Result<String> {
-    match tokens_of(alloc, bytes)? {
-        Ok(all) => shape_of(alloc, &all),
-        Err(refusal) => told(alloc, &refusal),
+    let read = tokens_of(alloc, bytes)?;
+    let shape = shape_of(alloc, &read);
+    let_go(read);
+    shape
+}
+
+fn shape_of(alloc: Global, read: &Result<Tokens, Refusal>) -> Result<String> {
+    match read {
+        Ok(all) => shape_of_tokens(alloc, all),
+        Err(refusal) => told(alloc, refusal),
     }
 }
 
-fn shape_of(alloc: Global, all: &Tokens) -> Result<String> {
-    match parse(alloc, all, FILE) {
+fn shape_of_tokens(alloc: Global, all: &Tokens) -> Result<String> {
+    let parsed = parse(alloc, all, FILE);
+    let shape = shape_of_parsed(alloc, &parsed);
+    let_go(parsed);
+    shape
+}
+
+fn shape_of_parsed(alloc: Global, parsed: &Result<Source, Refusal>) -> Result<String> {
+    match parsed {
         Ok(source) => Ok(last_shape(alloc, source.items.slice())?),
-        Err(refusal) => told(alloc, &refusal),
+        Err(refusal) => told(alloc, refusal),
     }
 }
 
@@ -87,28 +102,47 @@ fn one(alloc: Global, expr: &Expr, inner: &Expr) -> Result<String, AllocError> {
 
 fn several(alloc: Global, expr: &Expr, list: &List<Expr>) -> Result<String, AllocError> {
     let mut text = format!(in alloc; "{}: ", root(expr))?;
-    for (i, operand) in list.slice().iter().enumerate() {
+    push_roots(&mut text, list.slice())?;
+    Ok(text)
+}
+
+fn push_roots(text: &mut String, operands: &[Expr]) -> Result<(), AllocError> {
+    for (i, operand) in operands.iter().enumerate() {
         if i > 0 {
             text.push_str(", ")?;
         }
         text.push_str(root(operand))?;
     }
-    Ok(text)
+    Ok(())
 }
 
 /// The header of a source that has one, and how many declarations follow it.
 fn header(rt: &HostRuntime) -> Result<()> {
     let bytes = List::from(Vec::from_slice(rt.alloc(), b" m2l-str; var1 x; x = 0;")?);
-    match tokens_of(rt.alloc(), bytes)? {
-        Ok(all) => header_of(rt, &all),
-        Err(refusal) => bail!("refused: {}", told(rt.alloc(), &refusal)?),
+    let read = tokens_of(rt.alloc(), bytes)?;
+    let told = tell_header(rt, &read);
+    let_go(read);
+    told
+}
+
+fn tell_header(rt: &HostRuntime, read: &Result<Tokens, Refusal>) -> Result<()> {
+    match read {
+        Ok(all) => header_of(rt, all),
+        Err(refusal) => refused(rt.alloc(), refusal),
     }
 }
 
 fn header_of(rt: &HostRuntime, all: &Tokens) -> Result<()> {
-    match parse(rt.alloc(), all, FILE) {
-        Ok(source) => print_header(rt, &source),
-        Err(refusal) => bail!("refused: {}", told(rt.alloc(), &refusal)?),
+    let parsed = parse(rt.alloc(), all, FILE);
+    let told = tell_parsed(rt, &parsed);
+    let_go(parsed);
+    told
+}
+
+fn tell_parsed(rt: &HostRuntime, parsed: &Result<Source, Refusal>) -> Result<()> {
+    match parsed {
+        Ok(source) => print_header(rt, source),
+        Err(refusal) => refused(rt.alloc(), refusal),
     }
 }
 

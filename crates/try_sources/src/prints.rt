@@ -3,12 +3,14 @@ use crate::rows::{Question, run_rows};
 use crate::tokens::{FILE, tokens_of};
 use crate::told::{shown, told};
 use anyhow::{Result, bail};
-use ms_list::{At, Boxed, Bytes, List, Name, on_heap, push};
+use ms_edge::Refusal;
+use ms_list::{At, Boxed, Bytes, List, Name, NoMemory, let_go, on_heap, push};
 use ms_logic::{Bound, Decl, Expr, Form, Item, Mode, Order, Quant, Rel, Source};
 use ms_parse::parse;
 use ms_parse_print::{fits, print};
 use ms_text::Tokens;
 use std::alloc::Global;
+use std::io;
 
 pub fn tell(rt: &HostRuntime) -> Result<()> {
     println!(rt; "Sources that are printed")?;
@@ -30,31 +32,52 @@ pub fn answer(alloc: Global, bytes: Bytes) -> Result<String> {
     if once.starts_with(|c: char| c.is_ascii_digit()) {
         return Ok(once);
     }
+    same_again(alloc, once.as_str())
+}
+
+/// The text that was printed, if it is printed once more where it is read. The end of the last line is left out.
+fn same_again(alloc: Global, once: &str) -> Result<String> {
     let bytes = Bytes::from(Vec::from_slice(alloc, once.as_bytes())?);
     let twice = printed(alloc, bytes)?;
-    if once.as_str() != twice.as_str() {
+    if once != twice.as_str() {
         bail!("it is printed otherwise when it is read again");
     }
-    let line = once.as_str().strip_suffix("\n").unwrap_or("");
+    let line = once.strip_suffix("\n").unwrap_or("");
     Ok(String::from_str(alloc, line)?)
 }
 
 /// What is printed of a source, or its refusal.
 fn printed(alloc: Global, bytes: Bytes) -> Result<String> {
-    match tokens_of(alloc, bytes)? {
-        Ok(all) => printed_tokens(alloc, &all),
-        Err(refusal) => told(alloc, &refusal),
+    let read = tokens_of(alloc, bytes)?;
+    let printed = printed_read(alloc, &read);
+    let_go(read);
+    printed
+}
+
+fn printed_read(alloc: Global, read: &Result<Tokens, Refusal>) -> Result<String> {
+    match read {
+        Ok(all) => printed_tokens(alloc, all),
+        Err(refusal) => told(alloc, refusal),
     }
 }
 
 fn printed_tokens(alloc: Global, all: &Tokens) -> Result<String> {
-    match parse(alloc, all, FILE) {
-        Ok(source) => {
-            let text = print_behind(alloc, b"", &source)?;
-            Ok(String::from_str(alloc, shown(text.slice()))?)
-        }
-        Err(refusal) => told(alloc, &refusal),
+    let parsed = parse(alloc, all, FILE);
+    let printed = printed_parsed(alloc, &parsed);
+    let_go(parsed);
+    printed
+}
+
+fn printed_parsed(alloc: Global, parsed: &Result<Source, Refusal>) -> Result<String> {
+    match parsed {
+        Ok(source) => printed_source(alloc, source),
+        Err(refusal) => told(alloc, refusal),
     }
+}
+
+fn printed_source(alloc: Global, source: &Source) -> Result<String> {
+    let text = print_behind(alloc, b"", source)?;
+    Ok(String::from_str(alloc, shown(text.slice()))?)
 }
 
 /// The source printed behind these bytes, or an empty text where it cannot be printed.
@@ -79,29 +102,50 @@ fn named(alloc: Global, text: &str) -> Result<Form> {
 
 /// Prints a source with one formula, behind a comment.
 fn print_tree(rt: &HostRuntime, header: Option<(At, Mode)>, form: Form) -> Result<()> {
-    let mut items = List::new(rt.alloc());
+    let source = source_of(rt.alloc(), header, form)?;
+    let printed = print_source(rt, &source);
+    let_go(source);
+    printed
+}
+
+fn source_of(alloc: Global, header: Option<(At, Mode)>, form: Form) -> Result<Source, NoMemory> {
+    let mut items = List::new(alloc);
     let decl = Decl::Formula(Expr { at: AT, form });
     push(&mut items, Item { at: AT, decl })?;
-    let source = Source { header, items };
-    let text = print_behind(rt.alloc(), b"# printed\n", &source)?;
-    if text.is_empty() {
-        println!(rt; "no text reads as it")?;
-    } else {
-        rt.print(shown(text.slice()))?;
-    }
+    Ok(Source { header, items })
+}
+
+fn print_source(rt: &HostRuntime, source: &Source) -> Result<()> {
+    let text = print_behind(rt.alloc(), b"# printed\n", source)?;
+    print_text(rt, text.slice())?;
     Ok(())
+}
+
+fn print_text(rt: &HostRuntime, text: &[u8]) -> io::Result<()> {
+    if text.is_empty() {
+        println!(rt; "no text reads as it")
+    } else {
+        rt.print(shown(text))
+    }
 }
 
 /// `p & $ = q`
 fn conjunction(alloc: Global) -> Result<Form> {
+    let mut operands = List::new(alloc);
+    push_operand(&mut operands, named(alloc, "p")?)?;
+    push_operand(&mut operands, equation(alloc)?)?;
+    Ok(Form::And(operands))
+}
+
+fn push_operand(operands: &mut List<Expr>, form: Form) -> Result<(), NoMemory> {
+    push(operands, Expr { at: AT, form })
+}
+
+/// `$ = q`
+fn equation(alloc: Global) -> Result<Form> {
     let left = boxed(alloc, Form::Whole)?;
     let right = boxed(alloc, named(alloc, "q")?)?;
-    let mut operands = List::new(alloc);
-    let form = named(alloc, "p")?;
-    push(&mut operands, Expr { at: AT, form })?;
-    let form = Form::Relation(Rel::Equal, left, right);
-    push(&mut operands, Expr { at: AT, form })?;
-    Ok(Form::And(operands))
+    Ok(Form::Relation(Rel::Equal, left, right))
 }
 
 /// `~(p & $ = q)`
@@ -112,16 +156,27 @@ fn negation(alloc: Global) -> Result<Form> {
 
 /// `ex1 x: x < 3`
 fn quantified(alloc: Global) -> Result<Form> {
+    let body = boxed(alloc, below_three(alloc)?)?;
+    let bounds = first_order(alloc, "x")?;
+    Ok(Form::Bind(Quant::Ex, Order::One, bounds, body))
+}
+
+/// `x < 3`
+fn below_three(alloc: Global) -> Result<Form> {
     let left = boxed(alloc, named(alloc, "x")?)?;
     let right = boxed(alloc, Form::Number(3))?;
-    let body = boxed(alloc, Form::Relation(Rel::Less, left, right))?;
+    Ok(Form::Relation(Rel::Less, left, right))
+}
+
+/// One bound variable of order 1.
+fn first_order(alloc: Global, name: &str) -> Result<List<Bound>, NoMemory> {
     let bound = Bound {
         at: AT,
         order: Order::One,
-        name: Name::new(alloc, "x")?,
+        name: Name::new(alloc, name)?,
         domain: None,
     };
     let mut bounds = List::new(alloc);
     push(&mut bounds, bound)?;
-    Ok(Form::Bind(Quant::Ex, Order::One, bounds, body))
+    Ok(bounds)
 }

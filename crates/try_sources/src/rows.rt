@@ -2,6 +2,7 @@
 use anyhow::{Context, Result, bail};
 use ms_list::Bytes;
 use std::alloc::Global;
+use std::io;
 use toml::{Table, Value};
 use try_table::{allow_keys, bytes_of, rows_of, table_of, text_of};
 
@@ -15,16 +16,30 @@ pub enum Question {
 
 /// Runs the rows of a file and prints how many agree, and each that differs.
 pub fn run_rows(rt: &HostRuntime, file: &str, question: Question) -> Result<()> {
+    let table = table_in(rt, file)?;
+    let agree = agreeing(rt, rows_of(&table), question);
+    print_agreeing(rt, file, agree)
+}
+
+fn table_in(rt: &HostRuntime, file: &str) -> Result<Table> {
     let text = std::fs::read_to_string(rt, file).context("a data file cannot be read")?;
-    let table = table_of(rt.alloc(), text.as_str())?;
+    table_of(rt.alloc(), text.as_str())
+}
+
+fn print_agreeing(rt: &HostRuntime, file: &str, agree: Result<u64>) -> Result<()> {
+    println!(rt; "{file}: {} rows agree", agree?)?;
+    Ok(())
+}
+
+/// How many rows agree.
+fn agreeing(rt: &HostRuntime, rows: &[Value], question: Question) -> Result<u64> {
     let mut agree = 0u64;
-    for (i, row) in rows_of(&table).iter().enumerate() {
+    for (i, row) in rows.iter().enumerate() {
         if run_row(rt, row, question, i)? {
             agree = agree.saturating_add(1);
         }
     }
-    println!(rt; "{file}: {agree} rows agree")?;
-    Ok(())
+    Ok(agree)
 }
 
 /// Whether the answer to a row is the right one. If not, it is printed.
@@ -38,11 +53,12 @@ fn run_row(rt: &HostRuntime, row: &Value, question: Question, i: usize) -> Resul
     if came.as_str() == right {
         return Ok(true);
     }
-    println!(rt;
-        "row {i}, counted from 0: {:?} and not {right:?}",
-        came.as_str()
-    )?;
+    print_other(rt, i, came.as_str(), right)?;
     Ok(false)
+}
+
+fn print_other(rt: &HostRuntime, i: usize, came: &str, right: &str) -> io::Result<()> {
+    println!(rt; "row {i}, counted from 0: {came:?} and not {right:?}")
 }
 
 fn source_of(alloc: Global, row: &Table) -> Result<Vec<u8>> {

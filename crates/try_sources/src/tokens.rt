@@ -1,9 +1,9 @@
 //! Tokens.
 use crate::rows::{Question, run_rows};
-use crate::told::{shown, told};
+use crate::told::{refused, shown, told};
 use anyhow::{Result, bail};
 use ms_edge::Refusal;
-use ms_list::{Bytes, List};
+use ms_list::{Bytes, List, let_go};
 use ms_text::{Kind, MAX_BYTES, Token, Tokens, is_name, name_length, tokens};
 use std::alloc::Global;
 
@@ -27,22 +27,37 @@ pub fn tokens_of(alloc: Global, bytes: Bytes) -> Result<Result<Tokens, Refusal>>
 
 /// Each token of a source with its place and its length, or how many they are where they are many, or the refusal.
 pub fn answer(alloc: Global, bytes: Bytes) -> Result<String> {
-    match tokens_of(alloc, bytes)? {
-        Ok(all) if all.len() > 99 => Ok(format!(in alloc; "{} tokens", all.len())?),
-        Ok(all) => listed(alloc, &all),
-        Err(refusal) => told(alloc, &refusal),
+    let read = tokens_of(alloc, bytes)?;
+    let told = told_tokens(alloc, &read);
+    let_go(read);
+    told
+}
+
+fn told_tokens(alloc: Global, read: &Result<Tokens, Refusal>) -> Result<String> {
+    match read {
+        Ok(all) => listed(alloc, all),
+        Err(refusal) => told(alloc, refusal),
     }
 }
 
 fn listed(alloc: Global, all: &Tokens) -> Result<String> {
     let mut text = String::new(alloc);
+    if all.len() > 99 {
+        write!(text, "{} tokens", all.len())?;
+    } else {
+        push_tokens(&mut text, all)?;
+    }
+    Ok(text)
+}
+
+fn push_tokens(text: &mut String, all: &Tokens) -> Result<()> {
     for i in 0..all.len() {
         if i > 0 {
             text.push_str(", ")?;
         }
-        push_token(&mut text, all.get(i))?;
+        push_token(text, all.get(i))?;
     }
-    Ok(text)
+    Ok(())
 }
 
 fn push_token(text: &mut String, token: Token) -> Result<()> {
@@ -61,9 +76,16 @@ fn push_token(text: &mut String, token: Token) -> Result<()> {
 /// The bytes of each token of a source, and how many bytes it has.
 fn slices(rt: &HostRuntime) -> Result<()> {
     let bytes = List::from(Vec::from_slice(rt.alloc(), b"ex1 x': # all\n x'<=>{007}")?);
-    match tokens_of(rt.alloc(), bytes)? {
-        Ok(all) => print_slices(rt, &all),
-        Err(refusal) => bail!("refused: {}", told(rt.alloc(), &refusal)?),
+    let read = tokens_of(rt.alloc(), bytes)?;
+    let told = tell_slices(rt, &read);
+    let_go(read);
+    told
+}
+
+fn tell_slices(rt: &HostRuntime, read: &Result<Tokens, Refusal>) -> Result<()> {
+    match read {
+        Ok(all) => print_slices(rt, all),
+        Err(refusal) => refused(rt.alloc(), refusal),
     }
 }
 

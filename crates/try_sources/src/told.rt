@@ -1,5 +1,5 @@
 //! Answers in words.
-use anyhow::Result;
+use anyhow::{Result, anyhow};
 use ms_edge::Refusal;
 use ms_logic::Mode;
 use std::alloc::Global;
@@ -11,16 +11,23 @@ pub fn shown(bytes: &[u8]) -> &str {
 
 /// The number of a refusal, with the number of its file and its place there, and its detail.
 pub fn told(alloc: Global, refusal: &Refusal) -> Result<String> {
-    let mut text = format!(in alloc; "{}", number(refusal))?;
-    if let Some(at) = refusal.place() {
-        let place = format!(in alloc; " at {}:{}", at.file, at.place)?;
-        text.push_str(place.as_str())?;
-    }
-    if let Some(detail) = detail(alloc, refusal)? {
-        text.push_str(": ")?;
-        text.push_str(detail.as_str())?;
-    }
+    let mut text = String::new(alloc);
+    push_told(&mut text, refusal)?;
     Ok(text)
+}
+
+fn push_told(text: &mut String, refusal: &Refusal) -> Result<()> {
+    write!(text, "{}", number(refusal))?;
+    if let Some(at) = refusal.place() {
+        write!(text, " at {}:{}", at.file, at.place)?;
+    }
+    push_detail(text, refusal)
+}
+
+/// The error that tells a refusal which should not have been.
+pub fn refused(alloc: Global, refusal: &Refusal) -> Result<()> {
+    let told = told(alloc, refusal)?;
+    Err(anyhow!("refused: {told}"))
 }
 
 /// The number of a refusal that a source can have, and 99 of any other.
@@ -40,17 +47,17 @@ fn number(refusal: &Refusal) -> u32 {
     }
 }
 
-fn detail(alloc: Global, refusal: &Refusal) -> Result<Option<String>> {
-    let detail = match refusal {
-        Refusal::Word { byte, .. } => format!(in alloc; "{byte:02x}")?,
-        Refusal::LeftOut { word, .. } => String::from_str(alloc, word.text())?,
-        Refusal::FileMissing { name, .. } => String::from_str(alloc, name.text())?,
+fn push_detail(text: &mut String, refusal: &Refusal) -> Result<()> {
+    match refusal {
+        Refusal::Word { byte, .. } => write!(text, ": {byte:02x}")?,
+        Refusal::LeftOut { word, .. } => write!(text, ": {}", word.text())?,
+        Refusal::FileMissing { name, .. } => write!(text, ": {}", name.text())?,
         Refusal::IncludeCycle { name, chain, .. } => {
-            format!(in alloc; "{} {:?}", name.text(), chain.slice())?
+            write!(text, ": {} {:?}", name.text(), chain.slice())?;
         }
-        _ => return Ok(None),
-    };
-    Ok(Some(detail))
+        _ => {}
+    }
+    Ok(())
 }
 
 pub fn mode_word(mode: Mode) -> &'static str {
