@@ -70,7 +70,7 @@ try_request() {
 }
 
 # The programs that try the product.
-tries=(try_rows try_signs try_sources try_typed try_built try_lowered try_diagrams try_outside)
+tries=(try_rows try_signs try_sources try_built try_diagrams try_outside)
 
 # How many are tried at once: one for each processor, and one for each three gigabytes at most.
 count_tries() {

@@ -1,5 +1,5 @@
--- A source that lacks nodes is refused under a limit below the budgets of one of its steps, which is not enough for it.
-use Rattle.std.proofs.Common.{◌≡◌, ℕ, ◌+◌, ◌≤◌, List, [], ◌∷◌, length, sym, ◌∙◌}
+-- A source that lacks nodes is refused under a limit below the budgets of the step that is told, which is not enough for it.
+use Rattle.std.proofs.Common.{◌≡◌, ℕ, ◌+◌, ◌≤◌, List, [], ◌∷◌, length, sym, subst, ◌∙◌}
 use Rattle.ms_build.specs.Built.{IsWithin}
 use Rattle.ms_build_source.proofs.SharedRoots.{each_all}
 use Rattle.ms_build_source.specs.Limits.{IsUnsolved, lacks_nodes, not_made, too_deep, too_large}
@@ -18,7 +18,8 @@ use Rattle.ms_logic_words.specs.declared.sign.Sign.{Sign}
 use Rattle.ms_names_rules.specs.Numbers.{IsWellNumbered}
 use Rattle.ms_dfafile_imports.specs.Enough.{contents_of}
 use Rattle.ms_source_steps.proofs.EnoughLaws.{enough_is_not_below}
-use Rattle.ms_source_steps.proofs.OwnSteps.{lacking_sources_are_below_their_steps}
+use Rattle.ms_source_steps.proofs.OwnSteps.{lacking_steps_are_below_their_budgets, numbered_steps_are_steps_of_source}
+use Rattle.ms_source_steps.specs.Laws.{IsBelowNumbered}
 use Rattle.ms_app.specs.Source.{IsBelowBudgets}
 use Rattle.ms_app.proofs.Adopted.{are_answers, are_lent}
 
@@ -46,6 +47,11 @@ below_budgets limit checked plains contents numbered adopted refusal (lacks_node
     let answers = answers_by checked.imports plains in
     let lent = are_lent limit checked.mode checked.imports plains contents adopted in
     let answered = are_answers limit checked.mode checked.imports plains contents adopted in
-    let below = lacking_sources_are_below_their_steps checked answers contents limit there numbered lent answered
+    let same : there ≡ step = let one = sym nodes ∙ is in cc in
+    let numbered_below = lacking_steps_are_below_their_budgets checked answers contents limit there numbered lent answered
     (each_all (IsWithin limit) contents (all_within limit checked.mode checked.imports plains contents adopted)) why in
-    (below, λ enough. enough_is_not_below checked answers contents (contents_of checked.imports plains) limit numbered lent answered enough below)
+    let below = numbered_steps_are_steps_of_source checked answers limit there numbered numbered_below in (
+      subst (λ (number : ℕ). IsBelowNumbered checked answers limit number) same numbered_below,
+      below,
+      λ enough. enough_is_not_below checked answers contents (contents_of checked.imports plains) limit numbered lent answered enough below,
+    )

@@ -152,5 +152,5 @@ module _ (origin other : Origin) (settles : Settles origin other) (outs : List (
       let same_answers : answers_by checked.imports plains ≡ answers = ap (λ uses. answers_by uses plains) (imports_are loaded' checked' is') ∙ ap (answers_by checked'.imports) one in
       let problem : problem_of checked answers ≡ problem_of checked' answers = one_problem loaded checked checked' answers accepted.typed (typed' loaded' checked' is') in
       let within : IsWithinLimits (problem_of checked' answers) = subst IsWithinLimits problem (subst (λ list. IsWithinLimits (problem_of checked list)) same_answers is.within) in
-      memory_or limit refusal (unsolved limit checked' answers contents refusal within why) (λ step nodes enough. (below step nodes).1 (enough loaded' checked' plains' taken))
+      memory_or limit refusal (unsolved limit checked' answers contents refusal within why) (λ step nodes enough. (below step nodes).2 (enough loaded' checked' plains' taken))
   solvable limit refusal read (sources.no_memory why) = inl why

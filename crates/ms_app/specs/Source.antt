@@ -21,7 +21,7 @@ use Rattle.ms_names_rules.specs.View.{placed_of}
 use Rattle.ms_build_source.specs.Limits.{IsUnsolved, IsWithinLimits}
 use Rattle.ms_dfafile_imports.specs.Enough.{contents_of}
 use Rattle.ms_source_steps.specs.Enough.{IsEnoughFor}
-use Rattle.ms_source_steps.specs.Laws.{IsBelowSource}
+use Rattle.ms_source_steps.specs.Laws.{IsBelowNumbered, IsBelowSource}
 use Rattle.ms_logic_words.specs.Content.{Content}
 use Rattle.ms_logic_words.specs.declared.sign.Sign.{Sign}
 
@@ -104,10 +104,14 @@ pub data IsUnaccepted (origin : Origin) (refusal : Refusal) (read : List (List �
 abbrev pub IsEnoughWith : Checked → List Plain → ℕ → Type 0
 IsEnoughWith checked plains limit = IsEnoughFor checked (answers_with checked plains) (contents_of checked.imports plains) limit
 
--- for want of nodes alone: the limit is below each budget of a step of the source, and so it is not enough for the source
+-- for want of nodes alone: the limit is below each budget of the step that the refusal names by its number, which is a step of the source,
+-- and so it is not enough for the source
 abbrev pub IsBelowBudgets : Checked → List Plain → ℕ → Refusal → Type 0
 IsBelowBudgets checked plains limit refusal =
-    (step : ℕ) → refusal ≡ Nodes step limit → IsBelowSource checked (answers_with checked plains) limit × ¬ IsEnoughWith checked plains limit
+    (step : ℕ) → refusal ≡ Nodes step limit
+    → IsBelowNumbered checked (answers_with checked plains) limit step
+    × IsBelowSource checked (answers_with checked plains) limit
+    × ¬ IsEnoughWith checked plains limit
 
 -- The source is refused under a limit on the nodes and states of a step.
 pub data IsRefused (origin : Origin) (outs : List (List ℕ)) (limit : ℕ) (refusal : Refusal) (read : List (List ℕ)) : Type 0 where

@@ -14,8 +14,8 @@ use Rattle.ms_logic_words.specs.Content.{Content}
 use Rattle.ms_logic_words.specs.declared.sign.Sign.{Sign}
 use Rattle.ms_names_rules.specs.Numbers.{IsWellNumbered}
 use Rattle.ms_source_steps.proofs.EnoughLaws.{enough_is_not_below}
-use Rattle.ms_source_steps.specs.Laws.{IsBelowSource}
-use Rattle.ms_source_steps.proofs.OwnSteps.{lacking_sources_are_below_their_steps}
+use Rattle.ms_source_steps.specs.Laws.{IsBelowNumbered, IsBelowSource}
+use Rattle.ms_source_steps.proofs.OwnSteps.{lacking_steps_are_below_their_budgets, numbered_steps_are_steps_of_source}
 
 module _ (source : Checked) (alone : source.imports ≡ []) where
   -- nothing is lent, and nothing answered
@@ -30,18 +30,28 @@ module _ (source : Checked) (alone : source.imports ≡ []) where
       subst P (sym alone) (subst (λ (lent : List (Content Sign)). AreAnswersOf source.mode [] [] lent) (sym none) tt)
 
   module _ (numbered : IsWellNumbered source) (limit : ℕ) (refusal : Refusal) where
-    below : IsUnsolved source [] [] limit refusal → (step : ℕ) → refusal ≡ Nodes step limit → IsBelowSource source [] limit
+    below : IsUnsolved source [] [] limit refusal → (step : ℕ) → refusal ≡ Nodes step limit → IsBelowNumbered source [] limit step
     below (not_made (too_deep deep)) step same = absurd (let never : Depth deep.at ≡ Nodes step limit = sym deep.is ∙ same in cc)
     below (not_made (too_large large)) step same = absurd (let never : CoreSize ≡ Nodes step limit = sym large.is ∙ same in cc)
     below (lacks_nodes within there why nodes) step same =
-        lacking_sources_are_below_their_steps source [] [] limit there numbered (nothing-lent [] refl) (nothing-answered [] refl) (each_all (IsWithin limit) [] tt) why
+        let one : there ≡ step = let named = sym nodes ∙ same in cc in
+        subst (λ (number : ℕ). IsBelowNumbered source [] limit number) one
+        (lacking_steps_are_below_their_budgets source [] [] limit there numbered (nothing-lent [] refl) (nothing-answered [] refl) (each_all (IsWithin limit) [] tt) why)
+
+    of_source : IsUnsolved source [] [] limit refusal → (step : ℕ) → refusal ≡ Nodes step limit → IsBelowSource source [] limit
+    of_source unsolved step same = numbered_steps_are_steps_of_source source [] limit step numbered (below unsolved step same)
 
     pub refused-for : (contents : List (Content Sign)) → contents ≡ [] → (refusal ≡ Memory) ⊎ IsUnsolved source [] contents limit refusal → (refusal ≡ Memory) ⊎ IsUnsolvedAlone source limit refusal
     refused-for contents none why =
         ⊎_elim (λ memory. inl memory)
         (λ unsolved.
         let unlent = subst (λ (lent : List (Content Sign)). IsUnsolved source [] lent limit refusal) none unsolved in
-        inr (record { why = unlent; below = below unlent; short = λ step same enough. enough_is_not_below source [] [] [] limit numbered (nothing-lent [] refl) (nothing-answered [] refl) enough (below unlent step same) }))
+        inr (record {
+          why = unlent;
+          numbered = below unlent;
+          below = of_source unlent;
+          short = λ step same enough. enough_is_not_below source [] [] [] limit numbered (nothing-lent [] refl) (nothing-answered [] refl) enough (of_source unlent step same);
+        }))
         why
 
 -- a source within the limits is refused for want of memory or of nodes alone

@@ -1,7 +1,7 @@
-ghost use Rattle.std.specs.Prelude.{◌≡◌, IfOk, IsTrue, OnOk};
+ghost use Rattle.std.specs.Prelude.{◌≡◌, ◌<◌, IfOk, IsFalse, IsTrue, OnOk};
 ghost use Rattle.ms_dfa.specs.Automaton.{variables_of};
 ghost use Rattle.ms_logic.specs.Lists.{AreRising};
-ghost use Rattle.ms_build.specs.inner.Lacked.{HasNumber, IsLacked, with_track};
+ghost use Rattle.ms_build.specs.inner.Lacked.{AreBelow, HasNumber, IsLacked, IsNotBelow, with_track};
 
 use ms_dfa::Track;
 use ms_list::{List, NoMemory, push};
@@ -29,7 +29,11 @@ impl Lacked {
 }
 
 /// The first place from this one on at which no lower variable than this one stands.
-fn place_from(tracks: &[Track], place: usize, variable: u32) -> usize {
+fn place_from(tracks: &[Track], place: usize, variable: u32) -> usize
+    requires { AreBelow (variables_of tracks.now) place variable }
+    ensures before { AreBelow (variables_of tracks.now) result variable }
+    ensures there { IsNotBelow (variables_of tracks.now) result variable }
+{
     let mut next = place;
     while next < tracks.len() && tracks[next].variable < variable {
         next += 1;
@@ -37,9 +41,13 @@ fn place_from(tracks: &[Track], place: usize, variable: u32) -> usize {
     next
 }
 
-/// Whether a track of this variable stands at a place.
+/// Whether a track of this variable is there: it would stand at the first place at which no lower one does.
 fn stands_at(tracks: &[Track], place: usize, variable: u32) -> bool
-    ensures { IsTrue result → HasNumber (variables_of tracks.now) variable }
+    requires rising { AreRising (variables_of tracks.now) }
+    requires before { AreBelow (variables_of tracks.now) place variable }
+    requires there { IsNotBelow (variables_of tracks.now) place variable }
+    ensures stands { IsTrue result → HasNumber (variables_of tracks.now) variable }
+    ensures lacks { IsFalse result → ¬ HasNumber (variables_of tracks.now) variable }
 {
     place < tracks.len() && tracks[place].variable == variable
 }
@@ -50,7 +58,8 @@ pub(crate) fn lacked_tracks(
     own: &[Track],
     wanted: &[Track],
 ) -> Result<Lacked, NoMemory>
-    requires { AreRising (variables_of wanted.now) }
+    requires own { AreRising (variables_of own.now) }
+    requires wanted { AreRising (variables_of wanted.now) }
     ensures { IfOk result (IsLacked (variables_of own.now) (variables_of wanted.now)) }
 {
     let mut lacked = Lacked {

@@ -1,5 +1,6 @@
 //! The operators of time in strings. The position is the variable `x`, what an operator binds are the variables behind it, and
-//! the operands stand where they were made for: at `x + 1`, or in the left operand of until and release at `x + 2`.
+//! the operands stand where they were made for: at `x + 1`, or in the left operand of until and release at `x + 2`. Those that
+//! `formula_at` calls are not inlined there, so that a level of a formula takes little stack.
 
 ghost use Rattle.ms_logic.specs.Tree.{Form};
 ghost use Rattle.ms_ltlf.specs.inner.Made.{Gives};
@@ -12,6 +13,7 @@ use ms_list::NoMemory;
 use ms_logic::Formula;
 use std::alloc::Global;
 
+#[inline(never)]
 pub(crate) fn next(
     alloc: Global,
     x: u32,
@@ -23,6 +25,7 @@ pub(crate) fn next(
     exists(alloc, x + 1, both_hold(alloc, follows(alloc, x), body))
 }
 
+#[inline(never)]
 pub(crate) fn weak_next(
     alloc: Global,
     x: u32,
@@ -34,6 +37,7 @@ pub(crate) fn weak_next(
     every(alloc, x + 1, implication(alloc, follows(alloc, x), body))
 }
 
+#[inline(never)]
 pub(crate) fn eventually(
     alloc: Global,
     x: u32,
@@ -45,6 +49,7 @@ pub(crate) fn eventually(
     exists(alloc, x + 1, both_hold(alloc, Ok(at_most(x, x + 1)), body))
 }
 
+#[inline(never)]
 pub(crate) fn always(
     alloc: Global,
     x: u32,
@@ -76,6 +81,7 @@ fn kept(alloc: Global, x: u32, left: Result<Formula, NoMemory>) -> Result<Formul
     every(alloc, x + 2, implication(alloc, between(alloc, x), left))
 }
 
+#[inline(never)]
 pub(crate) fn until(
     alloc: Global,
     x: u32,
@@ -102,6 +108,7 @@ fn freed(alloc: Global, x: u32, left: Result<Formula, NoMemory>) -> Result<Formu
     )
 }
 
+#[inline(never)]
 pub(crate) fn release(
     alloc: Global,
     x: u32,

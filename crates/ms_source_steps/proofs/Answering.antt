@@ -1,5 +1,5 @@
 -- What is below each budget where imports answer as automata is so where they answer as the source's imports do.
-use Rattle.std.proofs.Common.{◌≡◌, ℕ, ⊎_elim, List, ◌∷◌, Contains, length, slice_get, sym, ap, subst, ◌∙◌}
+use Rattle.std.proofs.Common.{◌≡◌, ℕ, ⊎_elim, List, ◌∷◌, Contains, Some, length, slice_get, sym, ap, subst, ◌∙◌}
 use Rattle.std.specs.List.Sorted.{IsStrictlyIncreasing}
 use Rattle.ms_build.specs.Built.{imports_of}
 use Rattle.ms_build.specs.Roots.{named}
@@ -8,11 +8,14 @@ use Rattle.ms_build_source.specs.Imported.{AreAnswersOf, AreLentFor}
 use Rattle.ms_build_source.specs.inner.Asked.{AnswerAlike}
 use Rattle.ms_build_source.proofs.ImportAnswers.{answers_alike, given_by, variables_alike}
 use Rattle.ms_build_steps.proofs.Ordered.{each_at}
-use Rattle.ms_build_steps.specs.Laws.{IsBelowRoots, whole_root}
+use Rattle.ms_build_steps.specs.Kinds.{IsBelowKind}
+use Rattle.ms_build_steps.specs.Laws.{IsBelowNode, IsBelowRoot, whole_root}
 use Rattle.ms_dag.specs.declared.dag.Dag.{Dag}
+use Rattle.ms_dag.specs.declared.node.Entry.{Entry}
 use Rattle.ms_dag.specs.Lowered.{IsLowered, IsLoweredRoot}
 use Rattle.ms_dag_steps.specs.Occurrences.{whole_formula}
-use Rattle.ms_diagram.proofs.ListLemmas.{Contains-cases}
+use Rattle.ms_dag_steps.proofs.SubformulaSteps.{own_step_of_subformula}
+use Rattle.ms_diagram.proofs.ListLemmas.{Contains-cases, Contains-first, Contains-rest}
 use Rattle.ms_logic.specs.Truth.{Import}
 use Rattle.ms_logic.specs.View.{Answers, problem_of}
 use Rattle.ms_logic.specs.declared.checked.Checked.{Checked}
@@ -46,30 +49,46 @@ module _ (mode : Mode) (first second : List Import) (orders : (i : ℕ) → orde
       (λ later. steps_known first (whole_formula calls root) of_root.own (own_apart root of_root) of_root.stands step later)
       (Contains-cases (step_of_root (whole_root calls lowered.orders root)) (steps_of (whole_formula calls root)) step there)
 
-  below_alike : (limit : ℕ) → IsBelowRoots second calls mode lowered limit → IsBelowRoots first calls mode lowered limit
-  below_alike limit found =
-      let step = found.below.0 in
-      let one = found.below.2 in
-      let known = step_known found.root (each_at (IsLoweredRoot first calls lowered.orders) lowered.roots is.roots found.number found.root found.is_root) step found.below.1 in
+  -- what is below each budget of a step of a root
+  kind_below : (root : Root) (number : ℕ) → slice_get lowered.roots number ≡ Some root → (step : Step) → Contains (step_of_root (whole_root calls lowered.orders root) ∷ steps_of (whole_formula calls root)) step
+      → (limit : ℕ) → IsBelowKind second mode step limit → IsBelowKind first mode step limit
+  kind_below root number is_root step there limit one =
+      let known = step_known root (each_at (IsLoweredRoot first calls lowered.orders) lowered.roots is.roots number root is_root) step there in
       record {
-        number = found.number;
+        kind = one.kind;
+        has = one.has;
+        below = λ files m r measure. one.below files m r (kind_alike mode first second orders alike files step known one.kind m r measure);
+      }
+
+  node_alike : (entries : List Entry) (i limit : ℕ) → IsBelowNode second calls mode lowered entries i limit → IsBelowNode first calls mode lowered entries i limit
+  node_alike entries i limit found =
+      let at = found.at in
+      let step = found.below.0 in
+      let whole = whole_formula calls at.root in
+      let there = Contains-rest (step_of_root (whole_root calls lowered.orders at.root)) (steps_of whole) step (own_step_of_subformula whole at.formula at.occurs.subformula step found.below.1) in
+      record { at = at; below = (step, found.below.1, kind_below at.root at.number at.is_root step there limit found.below.2) }
+
+  root_alike : (i limit : ℕ) → IsBelowRoot second calls mode lowered i limit → IsBelowRoot first calls mode lowered i limit
+  root_alike i limit found =
+      let step = step_of_root (whole_root calls lowered.orders found.root) in
+      record {
         root = found.root;
         is_root = found.is_root;
-        below = (
-          step,
-          found.below.1,
-          record {
-            kind = one.kind;
-            has = one.has;
-            below = λ files m r measure. one.below files m r (kind_alike mode first second orders alike files step known one.kind m r measure);
-          },
-        );
+        below = kind_below found.root i found.is_root step (Contains-first step (steps_of (whole_formula calls found.root))) limit found.below;
       }
 
 -- where the imports of a source answer as what is lent for them
-pub below_own_imports : (checked : Checked) (answers : Answers) (contents : List (Content Sign)) → length answers ≡ length checked.imports → AreLentFor checked.mode checked.imports contents
-    → AreAnswersOf checked.mode checked.imports answers contents → (dag : Dag) (graph : IsGraphOf checked answers dag) (limit : ℕ)
-    → IsBelowRoots (imports_of contents) (calls_in checked answers) checked.mode graph.lowered limit → IsBelowRoots (problem_of checked answers).given.imports (calls_in checked answers) checked.mode graph.lowered limit
-below_own_imports checked answers contents long lent are dag graph limit found =
-    below_alike checked.mode (given_by checked.imports answers) (imports_of contents) (variables_alike checked.mode checked.imports answers contents lent long)
-    (answers_alike checked.mode checked.imports answers contents lent are) (calls_in checked answers) graph.lowered graph.is_lowered limit found
+module _ (checked : Checked) (answers : Answers) (contents : List (Content Sign)) (long : length answers ≡ length checked.imports) (lent : AreLentFor checked.mode checked.imports contents)
+    (are : AreAnswersOf checked.mode checked.imports answers contents) (dag : Dag) (graph : IsGraphOf checked answers dag) (i limit : ℕ) where
+  abbrev own : List Import
+  own = (problem_of checked answers).given.imports
+
+  pub below_own_node : IsBelowNode (imports_of contents) (calls_in checked answers) checked.mode graph.lowered dag.entries i limit → IsBelowNode own (calls_in checked answers) checked.mode graph.lowered dag.entries i limit
+  below_own_node found =
+      node_alike checked.mode (given_by checked.imports answers) (imports_of contents) (variables_alike checked.mode checked.imports answers contents lent long)
+      (answers_alike checked.mode checked.imports answers contents lent are) (calls_in checked answers) graph.lowered graph.is_lowered dag.entries i limit found
+
+  pub below_own_root : IsBelowRoot (imports_of contents) (calls_in checked answers) checked.mode graph.lowered i limit → IsBelowRoot own (calls_in checked answers) checked.mode graph.lowered i limit
+  below_own_root found =
+      root_alike checked.mode (given_by checked.imports answers) (imports_of contents) (variables_alike checked.mode checked.imports answers contents lent long)
+      (answers_alike checked.mode checked.imports answers contents lent are) (calls_in checked answers) graph.lowered graph.is_lowered i limit found

@@ -1,15 +1,16 @@
--- A source that lacks nodes lacks them below each budget of a step of one of its roots.
-use Rattle.std.proofs.Common.{◌≡◌, ◌⊎◌, ℕ, ⊎_elim, inl, inr, List, [], ◌∷◌, All, length, map, refl, sym, ap, ap₂, subst}
+-- A source that lacks nodes lacks them below each budget of the step that has the number of the refusal.
+use Rattle.std.proofs.Common.{◌≡◌, ◌⊎◌, ℕ, ◌+◌, ⊎_elim, inl, inr, List, [], ◌∷◌, All, length, map, refl, sym, ap, ap₂, subst, ◌∙◌}
 use Rattle.ms_build.specs.Built.{AreImportsOf, IsWithin, imports_of}
 use Rattle.ms_build.specs.Roots.{named}
-use Rattle.ms_build.specs.Short.{NodeLacks, RootLacks}
 use Rattle.ms_build_source.specs.Graph.{calls_in}
 use Rattle.ms_build_source.specs.Imported.{AreLentFor}
 use Rattle.ms_build_source.specs.Limits.{LacksNodes}
 use Rattle.ms_build_source.proofs.ImportAnswers.{given_by, lent_to_nodes, variables_alike}
 use Rattle.ms_build_source.proofs.ImportsOfExports.{all_roots_import}
-use Rattle.ms_build_steps.specs.Laws.{IsBelowRoots, IsPlanned}
-use Rattle.ms_build_steps.proofs.Graph.{lacking_is_below_roots}
+use Rattle.ms_build_steps.specs.Laws.{IsBelowNode, IsBelowRoot, IsPlanned}
+use Rattle.ms_build_steps.proofs.Graph.{lacking_is_below_its_steps}
+use Rattle.ms_dag.specs.declared.dag.Dag.{Dag}
+use Rattle.ms_dag.specs.declared.node.Entry.{Entry}
 use Rattle.ms_dag.specs.Laws.{HasOrder}
 use Rattle.ms_dag.specs.Share.{IsDagOf}
 use Rattle.ms_dag.proofs.ImportLemmas.{nodes_import_as_roots_do}
@@ -17,6 +18,7 @@ use Rattle.ms_logic.specs.Assignment.{Variable}
 use Rattle.ms_logic.specs.Lists.{Each}
 use Rattle.ms_logic.specs.View.{Answers}
 use Rattle.ms_logic.specs.declared.checked.Checked.{Checked}
+use Rattle.ms_logic.specs.declared.mode.Mode.{Mode}
 use Rattle.ms_logic.specs.declared.mode.Order.{Order}
 use Rattle.ms_logic_core.specs.Calls.{Calls}
 use Rattle.ms_logic_words.specs.Content.{Content}
@@ -51,10 +53,21 @@ module _ (checked : Checked) (answers : Answers) (contents : List (Content Sign)
       (subst (λ mode. AreImportsOf lacks.plan.imports.now mode lacks.dag.entries) (sym lacks.is_plan.mode_is)
       (subst (λ cs. AreImportsOf cs checked.mode lacks.dag.entries) (sym lacks.is_plan.imports_are) there))
 
-  pub below_roots : All (IsWithin limit) contents → IsBelowRoots (imports_of contents) calls checked.mode lacks.is_graph.lowered limit
-  below_roots within =
-      let here = subst (λ n. All (IsWithin n) lacks.plan.imports.now) (sym lacks.is_plan.limit_is) (subst (λ cs. All (IsWithin limit) cs) (sym lacks.is_plan.imports_are) within) in
-      let by = λ (k : ℕ) (short : NodeLacks lacks.plan k ⊎ RootLacks lacks.plan k). lacking_is_below_roots (imports_of contents) calls lacks.is_graph.lowered lacks.plan k planned nodes_lent here short in
-      subst (λ mode. IsBelowRoots (imports_of contents) calls mode lacks.is_graph.lowered limit) lacks.is_plan.mode_is
-      (subst (λ n. IsBelowRoots (imports_of contents) calls lacks.plan.mode lacks.is_graph.lowered n) lacks.is_plan.limit_is
-      (⊎_elim (λ node. by step (inl node)) (λ of_root. by of_root.0 (inr of_root.2)) lacks.lacks))
+  within_here : All (IsWithin limit) contents → All (IsWithin lacks.plan.limit) lacks.plan.imports.now
+  within_here within = subst (λ n. All (IsWithin n) lacks.plan.imports.now) (sym lacks.is_plan.limit_is) (subst (λ cs. All (IsWithin limit) cs) (sym lacks.is_plan.imports_are) within)
+
+  -- the node with the number of the refusal, or the root
+  abbrev Short : Mode → List Entry → ℕ → Type 0
+  Short mode entries most =
+      IsBelowNode (imports_of contents) calls mode lacks.is_graph.lowered entries step most
+      ⊎ ((root : ℕ) × (step ≡ length entries + root) × IsBelowRoot (imports_of contents) calls mode lacks.is_graph.lowered root most)
+
+  pub below_number : All (IsWithin limit) contents → Short checked.mode lacks.dag.entries limit
+  below_number within =
+      let here = within_here within in
+      let by = λ (k : ℕ). lacking_is_below_its_steps (imports_of contents) calls lacks.is_graph.lowered lacks.plan k planned nodes_lent here in
+      let counted = ap (λ (dag : Dag). length dag.entries) lacks.is_plan.dag_is in
+      subst (λ (dag : Dag). Short checked.mode dag.entries limit) lacks.is_plan.dag_is
+      (subst (λ mode. Short mode lacks.plan.dag.now.entries limit) lacks.is_plan.mode_is
+      (subst (λ most. Short lacks.plan.mode lacks.plan.dag.now.entries most) lacks.is_plan.limit_is
+      (⊎_elim (λ node. inl ((by step).0 node)) (λ of_root. inr (of_root.0, of_root.1 ∙ sym (ap (λ n. n + of_root.0) counted), (by of_root.0).1 of_root.2)) lacks.lacks)))

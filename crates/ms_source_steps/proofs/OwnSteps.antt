@@ -10,6 +10,7 @@ use Rattle.ms_build_source.proofs.SharedRoots.{root_listed}
 use Rattle.ms_build_source.proofs.Solved.{answers_counted}
 use Rattle.ms_build_steps.specs.Kinds.{IsBelowKind, IsBelowOneOf, IsMeasureOfKind, kinds_of}
 use Rattle.ms_build_steps.specs.Laws.{IsBelowRoots, whole_root}
+use Rattle.ms_build_steps.proofs.Graph.{below_its_steps_is_below_roots}
 use Rattle.ms_dag.specs.declared.dag.Dag.{Dag}
 use Rattle.ms_diagram.proofs.ListLemmas.{Contains-cases}
 use Rattle.ms_diagram.proofs.RootLemmas.{Contains-from_mapped}
@@ -31,10 +32,10 @@ use Rattle.ms_lower.proofs.SameNumbers.{numbers_rise}
 use Rattle.ms_logic_spread.specs.RootLaws.{AreFormulasOf}
 use Rattle.ms_logic_spread.proofs.Questions.{declared_asked, goal_asked, whole_asked}
 use Rattle.ms_names_rules.specs.Numbers.{IsWellNumbered}
-use Rattle.ms_source_steps.specs.Laws.{IsBelowSource, IsStepOfRoot, LackingSourcesAreBelowTheirSteps, of_declarations, of_export, of_goal}
-use Rattle.ms_source_steps.proofs.Answering.{below_own_imports}
+use Rattle.ms_source_steps.specs.Laws.{IsBelowSource, IsStepOfRoot, LackingSourcesAreBelowTheirSteps, LackingStepsAreBelowTheirBudgets, NumberedStepsAreStepsOfSource, of_declarations, of_export, of_goal}
+use Rattle.ms_source_steps.proofs.Answering.{below_own_node, below_own_root}
 use Rattle.ms_source_steps.proofs.Known.{IsKnownStep, steps_known}
-use Rattle.ms_source_steps.proofs.Lacking.{below_roots, named_again}
+use Rattle.ms_source_steps.proofs.Lacking.{below_number, named_again}
 use Rattle.ms_source_steps.proofs.NumberedMeasures.{kind_moved}
 use Rattle.ms_source_steps.proofs.NumberedSteps.{moved_kinds, moved_step, steps_moved}
 use Rattle.ms_source_steps.proofs.Numbers.{KnowsImports, NumbersRise}
@@ -136,8 +137,27 @@ module _ (checked : Checked) (answers : Answers) (well : IsWellNumbered checked)
     below_source : IsBelowSource checked answers limit
     below_source = of_number found.number found.is_root
 
+-- the step that has the number of a refusal
+pub numbered_steps_are_steps_of_source : NumberedStepsAreStepsOfSource
+numbered_steps_are_steps_of_source checked answers limit number well found =
+    below_source checked answers well found.dag found.graph limit
+    (⊎_elim
+    (λ node. below_its_steps_is_below_roots (problem_of checked answers).given.imports (calls_in checked answers) checked.mode found.graph.lowered found.dag.entries number limit (inl node))
+    (λ root. below_its_steps_is_below_roots (problem_of checked answers).given.imports (calls_in checked answers) checked.mode found.graph.lowered found.dag.entries root.0 limit (inr root.2))
+    found.below)
+
+pub lacking_steps_are_below_their_budgets : LackingStepsAreBelowTheirBudgets
+lacking_steps_are_below_their_budgets checked answers contents limit step well lent are within lacks =
+    let long = answers_counted checked.mode checked.imports answers contents are in
+    record {
+      dag = lacks.dag;
+      graph = lacks.is_graph;
+      below = ⊎_elim
+          (λ node. inl (below_own_node checked answers contents long lent are lacks.dag lacks.is_graph step limit node))
+          (λ root. inr (root.0, root.1, below_own_root checked answers contents long lent are lacks.dag lacks.is_graph root.0 limit root.2))
+          (below_number checked answers contents limit step well long lent lacks within);
+    }
+
 pub lacking_sources_are_below_their_steps : LackingSourcesAreBelowTheirSteps
 lacking_sources_are_below_their_steps checked answers contents limit step well lent are within lacks =
-    let long = answers_counted checked.mode checked.imports answers contents are in
-    below_source checked answers well lacks.dag lacks.is_graph limit
-    (below_own_imports checked answers contents long lent are lacks.dag lacks.is_graph limit (below_roots checked answers contents limit step well long lent lacks within))
+    numbered_steps_are_steps_of_source checked answers limit step well (lacking_steps_are_below_their_budgets checked answers contents limit step well lent are within lacks)

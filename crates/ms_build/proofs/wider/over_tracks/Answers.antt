@@ -12,6 +12,10 @@ use Rattle.ms_build.proofs.RefusalLemmas.{fault_more}
 use Rattle.ms_build.proofs.wider.over_tracks.Goals as goal
 use Rattle.ms_logic_words.specs.Content.{Content}
 use Rattle.ms_logic_words.specs.declared.sign.Sign.{Sign}
+use Rattle.ms_logic.specs.Lists.{AreRising}
+
+pub lacked_tracks-requires-clause-own : goal.lacked_tracks-requires-clause-own
+lacked_tracks-requires-clause-own c = subst AreRising (sym c.tracks.ensures.variables) c.tracks.ensures.automaton.rising
 
 pub with_free-requires-clause-orders : goal.with_free-requires-clause-orders
 with_free-requires-clause-orders c =

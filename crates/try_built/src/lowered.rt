@@ -1,7 +1,5 @@
 //! What lowering answers at its limits: the size and the depth of sources, on both sides of what is let through; and what a call
 //! becomes.
-#![tactic(auto)]
-
 use anyhow::Result;
 use ms_edge::Refusal;
 use ms_list::{At, List, NoMemory, on_heap, push};
@@ -10,18 +8,18 @@ use ms_logic_core::{Basic, Core, Lowered};
 use ms_lower::{Tables, lower, lower_call};
 use std::alloc::Global;
 
-fn main(rt: HostRuntime) -> Result<()> {
+pub fn tell(rt: &HostRuntime) -> Result<()> {
     println!(rt; "Depth")?;
-    tell_source(&rt, 20, 1)?;
-    tell_source(&rt, 1, 298)?;
-    tell_source(&rt, 1, 299)?;
+    tell_source(rt, 20, 1)?;
+    tell_source(rt, 1, 298)?;
+    tell_source(rt, 1, 299)?;
     println!(rt; "Size")?;
-    tell_source(&rt, 999_999, 0)?;
-    tell_source(&rt, 1_000_000, 0)?;
+    tell_source(rt, 999_999, 0)?;
+    tell_source(rt, 1_000_000, 0)?;
     println!(rt; "Both")?;
-    tell_source(&rt, 4_000, 299)?;
+    tell_source(rt, 4_000, 299)?;
     println!(rt; "Calls")?;
-    tell_calls(&rt)
+    tell_calls(rt)
 }
 
 /// A source of so many formulas, each `true` under so many negations, at the places from 5 on.
@@ -95,10 +93,10 @@ fn negated(alloc: Global, negations: u32) -> Result<Formula, NoMemory> {
 
 fn tell_source(rt: &HostRuntime, formulas: u32, negations: u32) -> Result<()> {
     let checked = source(rt.alloc(), formulas, negations)?;
-    tell(rt, &lower(rt.alloc(), &checked))
+    tell_answer(rt, &lower(rt.alloc(), &checked))
 }
 
-fn tell(rt: &HostRuntime, answer: &Result<Lowered, Refusal>) -> Result<()> {
+fn tell_answer(rt: &HostRuntime, answer: &Result<Lowered, Refusal>) -> Result<()> {
     match answer {
         Ok(lowered) => tell_sizes(rt, lowered),
         Err(refusal) => tell_refusal(rt, refusal),
