@@ -21,6 +21,7 @@ use ms_logic::{Formula, Order, Quant, Rel};
 use std::alloc::Global;
 
 /// The relation of two sums.
+#[inline(never)]
 fn relation(
     alloc: Global,
     bindings: &Bindings,
@@ -41,6 +42,7 @@ fn relation(
 }
 
 /// Sets bound around the body, from `x` on.
+#[inline(never)]
 fn wrapped(
     alloc: Global,
     quant: Quant,

@@ -1,4 +1,5 @@
-//! Formulas of sets from their parts, where these were made.
+//! Formulas of sets from their parts, where these were made. Those that `formula_at` calls are not inlined there, so that a
+//! level of a formula takes little stack.
 
 ghost use Rattle.ms_logic.specs.Tree.{Form, conjunction, disjunction, equivalence, implication, negation, quantified, unrestricted};
 ghost use Rattle.ms_logic.specs.View.{forms};
@@ -11,12 +12,14 @@ use ms_list::{List, NoMemory, push};
 use ms_logic::{Formula, Order, Quant};
 use std::alloc::Global;
 
+#[inline(never)]
 pub(crate) fn negation(alloc: Global, body: Result<Formula, NoMemory>) -> Result<Formula, NoMemory>
     ensures { (f : Form) → Gives body f → Gives result (negation f) }
 {
     Ok(Formula::Not(heaped(alloc, body)?))
 }
 
+#[inline(never)]
 pub(crate) fn implication(
     alloc: Global,
     left: Result<Formula, NoMemory>,
@@ -28,6 +31,7 @@ pub(crate) fn implication(
     Ok(Formula::Implies(left, right))
 }
 
+#[inline(never)]
 pub(crate) fn equivalence(
     alloc: Global,
     left: Result<Formula, NoMemory>,
@@ -66,12 +70,14 @@ pub(crate) fn some_set(
     Ok(Formula::Bind(Quant::Ex, Order::Two, x, Some(domain), body))
 }
 
+#[inline(never)]
 pub(crate) fn conjunction(operands: Result<List<Formula>, NoMemory>) -> Result<Formula, NoMemory>
     ensures { (fs : Sequence Form) → GiveAll operands fs → Gives result (conjunction (forms fs)) }
 {
     Ok(Formula::And(operands?))
 }
 
+#[inline(never)]
 pub(crate) fn disjunction(operands: Result<List<Formula>, NoMemory>) -> Result<Formula, NoMemory>
     ensures { (fs : Sequence Form) → GiveAll operands fs → Gives result (disjunction (forms fs)) }
 {

@@ -64,6 +64,7 @@ pub(crate) fn free(alloc: Global, names: &[Name]) -> Result<Bindings, NoMemory>
 }
 
 /// The names are bound from `x` on. Gives the variables that they had, in the order of the names.
+#[inline(never)]
 pub(crate) fn bind(
     alloc: Global,
     bindings: &mut Bindings,
@@ -83,6 +84,7 @@ pub(crate) fn bind(
 }
 
 /// The names have the variables again that they had before they were bound.
+#[inline(never)]
 pub(crate) fn unbind(
     alloc: Global,
     bindings: &mut Bindings,
