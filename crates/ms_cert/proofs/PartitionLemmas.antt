@@ -14,7 +14,7 @@ use Rattle.ms_cert.specs.inner.Partition.{Classes, IsIn, IsParting, IsPartition,
 use Rattle.ms_cert.proofs.MemberLemmas.{number-below, number-in, replicate-at, replicate-held}
 
 -- a list of one item
-only-first : {X : Type 0} (x y : X) (place : ℕ) → slice_get (x ∷ []) place ≡ Some y → (place ≡ 0) × (x ≡ y)
+pub only-first : {X : Type 0} (x y : X) (place : ℕ) → slice_get (x ∷ []) place ≡ Some y → (place ≡ 0) × (x ≡ y)
 only-first x y zero held = (refl, same_Some x y held)
 only-first x y (suc place) held = absurd (none-some y held)
 
@@ -40,7 +40,7 @@ module _ (content : Content FileSign) where
         let both = only-first (numbers_below (length content.states)) states class held in
         let less = number-below (length content.states) state (subst (λ (s : List ℕ). IsIn s state) (sym both.1) in_list) in
         replicate-at (length content.states) 0 state less ∙ ap Some (sym both.0);
-    over = λ class splitter held. subst (λ (s : Splitter). AreLetters content.variables s.letters) (only-first (record { sign = Plus; letters = [] }) splitter class held).1 tt;
+    over = λ class splitter held. subst (λ (s : Splitter). AreLetters content.variables s.letters) (only-first (record { sign = Plus; letters = []; tail = 0 }) splitter class held).1 tt;
     told = λ split parent state class stem splitter some held. let own = (only-first 0 parent split held).0 in absurd (omega (arith, own, some));
   }
 

@@ -1,7 +1,8 @@
 -- From which classes others were split off.
-use Rattle.std.proofs.Common.{◌≡◌, ◌≢◌, ℕ, zero, suc, ◌<◌, ◌≤◌, List, [], ◌∷◌, ◌++◌, length, max, slice_get, Some, refl, sym, ap, subst, ◌∙◌, arith, inl, inr}
+use Rattle.std.proofs.Common.{◌≡◌, ◌≢◌, ◌⊎◌, ℕ, zero, suc, ◌+◌, ◌<◌, ◌≤◌, List, [], ◌∷◌, ◌++◌, length, max, slice_get, Some, refl, sym, ap, subst, ◌∙◌, arith, inl, inr, ⊎_elim}
+use Rattle.std.proofs.lemmas.Bool.{cases_eq}
 use Rattle.std.proofs.lemmas.Option.{same_Some}
-use Rattle.ms_arena.proofs.Lists.{slice_get-append_left}
+use Rattle.ms_arena.proofs.Lists.{slice_get-append_left, slice_get-held}
 use Rattle.ms_cert.specs.inner.Partition.{AreEarlier, IsParting, StemsFrom, StemsWithin}
 
 -- a class up to the bound stems from itself
@@ -25,6 +26,10 @@ stems-parent parents bound class parent own high held stems = by stems.0 stems.1
     by zero is = let low = is.1 in absurd (omega (arith, low, high))
     by (suc steps) (inl is) = let low = is.1 in absurd (omega (arith, low, high))
     by (suc steps) (inr up) = (steps, subst (λ (p : ℕ). StemsWithin steps parents bound p own) (same_Some up.1.0 parent (sym up.1.1 ∙ held)) up.1.2)
+
+-- and what its parent stems from
+pub stems-up : (parents : List ℕ) (bound class parent own : ℕ) → bound < class → slice_get parents class ≡ Some parent → StemsFrom parents bound parent own → StemsFrom parents bound class own
+stems-up parents bound class parent own high held stems = (suc stems.0, inr (high, (parent, held, stems.1)))
 
 -- the bound may be lowered as far as the class from which another stems
 pub stems-lower : (parents : List ℕ) (bound less class own : ℕ) → own ≤ less → less ≤ bound → StemsFrom parents bound class own → StemsFrom parents less class own
@@ -60,6 +65,50 @@ stems-old parents more bound class own earlier within stems = (stems.0, by stems
         let high = up.0 in
         let before = earlier class up.1.0 held (omega (arith, high)) in
         inr (up.0, (up.1.0, held, by steps up.1.0 (omega (arith, before, less)) up.1.2))
+
+stems-own : (parents : List ℕ) (bound class : ℕ) → class ≡ bound → StemsFrom parents bound class bound
+stems-own parents bound class same = (0, (same, omega (arith, same)))
+
+-- the bound may be raised by one, to where the class just above it still stood apart
+pub stems-raise : (parents : List ℕ) (bound class own : ℕ) → AreEarlier parents → StemsFrom parents bound class own
+    → StemsFrom parents (bound + 1) class own ⊎ (StemsFrom parents (bound + 1) class (bound + 1) × (slice_get parents (bound + 1) ≡ Some own))
+stems-raise parents bound class own earlier stems = by stems.0 class stems.1
+  where
+    by : (steps class : ℕ) → StemsWithin steps parents bound class own
+        → StemsFrom parents (bound + 1) class own ⊎ (StemsFrom parents (bound + 1) class (bound + 1) × (slice_get parents (bound + 1) ≡ Some own))
+    by zero class is = let low = is.1 in inl (0, (is.0, omega (arith, low)))
+    by (suc steps) class (inl is) = let low = is.1 in inl (0, (is.0, omega (arith, low)))
+    by (suc steps) class (inr up) =
+        let above = up.0 in
+        let parent = up.1.0 in
+        let held = up.1.1 in
+        let before : parent < class = earlier class parent held (omega (arith, above)) in
+        ⊎_elim
+        (λ same.
+        let is_own : parent ≡ own = stems-low parents bound parent own (omega (arith, before, same)) (steps, up.1.2) in
+        inr (stems-own parents (bound + 1) class same, subst (λ (k : ℕ). slice_get parents k ≡ Some own) same (held ∙ ap Some is_own)))
+        (λ differ.
+        let high : bound + 1 < class = omega (arith, above, differ) in
+        ⊎_elim
+        (λ stems. inl (stems-up parents (bound + 1) class parent own high held stems))
+        (λ both. inr (stems-up parents (bound + 1) class parent (bound + 1) high held both.0, both.1))
+        (by steps parent up.1.2))
+        (cases_eq class (bound + 1))
+
+-- all classes stem from the first one
+pub stems-first : (parents : List ℕ) → AreEarlier parents → (class : ℕ) → class < length parents → StemsFrom parents 0 class 0
+stems-first parents earlier class within = by class class (omega arith) within
+  where
+    by : (most class : ℕ) → class ≤ most → class < length parents → StemsFrom parents 0 class 0
+    by zero class low less = let same : class ≡ 0 = omega (arith, low) in (0, (same, omega (arith, same)))
+    by (suc most) class low less = ⊎_elim
+        (λ same. (0, (same, omega (arith, same))))
+        (λ differ.
+        let parent = slice_get-held parents class less in
+        let high : 0 < class = omega (arith, differ) in
+        let before = earlier class parent.0 parent.1 high in
+        stems-up parents 0 class parent.0 0 high parent.1 (by most parent.0 (omega (arith, before, low)) (omega (arith, before, less))))
+        (cases_eq class 0)
 
 -- the way from two classes to where their states parted: the classes in which these were before those above were split off
 pub record AreOnWay (parents : List ℕ) (one other first second : ℕ) : Type 0 where

@@ -1,5 +1,5 @@
 -- A certificate that certifies a file is whole.
-use Rattle.std.proofs.Common.{◌≡◌, ℕ, ◌+◌, ◌*◌, ◌<◌, ◌^◌, not, List, [], ◌∷◌, ◌++◌, filter, length, length-append, refl, sym, ap, subst, arith}
+use Rattle.std.proofs.Common.{◌≡◌, ℕ, ◌+◌, ◌*◌, ◌<◌, ◌^◌, not, List, filter, length, length-append, refl, sym, ap, subst, arith}
 use Rattle.std.specs.List.{AllByRecursion}
 use Rattle.ms_dfa.specs.Files.{content_of_file}
 use Rattle.ms_dfa.specs.declared.plain.FileSign.{FileSign}
@@ -12,13 +12,9 @@ use Rattle.ms_cert.specs.Text.{IsSmallLine, IsWhole}
 use Rattle.ms_cert.specs.declared.cert.Cert.{Cert}
 use Rattle.ms_cert.specs.inner.Partition.{IsIn}
 use Rattle.ms_cert.proofs.ContentLemmas.{length-states}
-use Rattle.ms_cert.proofs.GrowingLemmas.{length-sides}
+use Rattle.ms_cert.proofs.GrowingLemmas.{all-join, length-sides}
 use Rattle.ms_cert.proofs.MemberLemmas.{in-filter, number-below}
 use Rattle.std.proofs.lemmas.List.FromFn.{length-range_with_len}
-
-all-join : {X : Type 0} (P : X → Type 0) (xs ys : List X) → AllByRecursion P xs → AllByRecursion P ys → AllByRecursion P (xs ++ ys)
-all-join P [] ys all also = also
-all-join P (x ∷ xs) ys all also = (all.0, all-join P xs ys all.1 also)
 
 module _ (content : Content FileSign) where
   -- a tree has two lines for each state that it separates, but for one

@@ -31,6 +31,6 @@ pub fn certificate(alloc: Global, plain: &Plain) -> Result<Cert, NoMemory>
         slots: layout.slots.slice(),
     };
     let partition = refine(&file)?;
-    let tree = grow_tree(&file, &partition)?;
+    let tree = grow_tree(&file, partition)?;
     Ok(Cert { words, tree })
 }

@@ -1,15 +1,15 @@
-ghost use Rattle.std.specs.Prelude.{◌≡◌, ◌≢◌, ◌<◌, ◌^◌, ◌∷◌, ◌++◌, [], ℕ, filter, length, not, slice_set, IfOk, OnOk};
+ghost use Rattle.std.specs.Prelude.{◌≡◌, ◌≢◌, ◌<◌, ◌^◌, ◌∷◌, ◌++◌, [], ℕ, filter, length, not, slice_get, slice_set, IfOk, OnOk, Some};
 ghost use Rattle.ms_dfa.specs.Files.{content_of_file};
-ghost use Rattle.ms_logic_words.specs.Content.{IsContent};
-ghost use Rattle.ms_cert.specs.inner.Partition.{AreEarlier, IsIn, IsParting, IsPartition, assigned, classes_of, is_split_off, one_class, with_sides, with_split};
+ghost use Rattle.ms_logic_words.specs.Content.{IsContent, next_state};
+ghost use Rattle.ms_cert.specs.inner.Partition.{AreEarlier, IsBehind, IsIn, IsParting, IsPartition, StemsFrom, assigned, classes_of, is_split_off, one_class, with_sides, with_split};
 ghost use Rattle.ms_cert.specs.inner.Separation.{AreStates};
 ghost use Rattle.ms_cert.specs.inner.Slots.{slots_of};
 
-use crate::cert::TreeLine;
 use crate::laid_out::LaidOut;
-use crate::levels::copy_letters;
 use crate::room::{MOST_LETTERS, take_room};
-use crate::separation::{Sides, all_states, split};
+use crate::running::{state_after, step};
+use crate::separation::{Sides, all_states};
+use crate::sign::is_same;
 use ms_dfa::{FileSign, Plain};
 use ms_list::{List, NoMemory, push};
 use std::alloc::Global;
@@ -19,6 +19,8 @@ use std::alloc::Global;
 pub(crate) struct Splitter {
     pub sign: FileSign,
     pub letters: List<List<bool>>,
+    /// The class whose splitter has the letters behind the first one, and the same sign; 0 where that is not known.
+    pub tail: usize,
 }
 
 /// Classes of states, each but the first of which was split off from an earlier one.
@@ -49,7 +51,7 @@ impl Drop for Partition {
 }
 
 /// Appends an item, which is let go where memory is refused.
-fn append<T: Drop>(items: &mut Vec<T>, item: T) -> Result<(), NoMemory>
+pub(crate) fn append<T: Drop>(items: &mut Vec<T>, item: T) -> Result<(), NoMemory>
     ensures { OnOk result (items.new.items ≡ items.old.items ++ item ∷ []) }
 {
     match items.push(item) {
@@ -75,6 +77,7 @@ pub(crate) fn one_class(alloc: Global, plain: &Plain) -> Result<Partition, NoMem
     let nothing = Splitter {
         sign: FileSign::Plus,
         letters: List::new(alloc),
+        tail: 0,
     };
     append(&mut splitters, nothing)?;
     Ok(Partition {
@@ -104,17 +107,86 @@ fn replace(members: &mut Vec<List<u32>>, class: usize, states: List<u32>)
     members[class] = states;
 }
 
-/// The states from which the letters of a splitter end in its sign, and the others.
-fn sides_by(file: &LaidOut, splitter: &Splitter, states: &[u32]) -> Result<Sides, NoMemory>
+/// The class in which the states of a class were before those above a bound were split off.
+fn stem(parents: &[usize], bound: usize, class: usize) -> usize
+    requires earlier { AreEarlier parents.now }
+    requires class { class < length parents.now }
+    ensures { StemsFrom parents.now bound class result }
+{
+    let mut own = class;
+    while own > bound {
+        own = parents[own];
+    }
+    own
+}
+
+/// The class of the state to which a letter leads.
+pub(crate) fn class_behind(
+    file: &LaidOut,
+    partition: &Partition,
+    state: u32,
+    letter: &[bool],
+) -> usize
     requires content { IsContent (content_of_file file.now.plain.now) }
     requires slots { file.now.slots.now ≡ slots_of file.now.plain.now }
+    requires partition { IsPartition (content_of_file file.now.plain.now) (classes_of partition.now) }
+    requires state { state < length file.now.plain.now.states }
+    ensures class { slice_get partition.now.classes.items (next_state (content_of_file file.now.plain.now) state letter.now) ≡ Some result }
+    ensures within { result < length partition.now.parents.items }
+{
+    let next = step(file.plain, file.slots, state, letter);
+    partition.classes[next as usize] as usize
+}
+
+/// Whether the letters of a splitter end in its sign from a state. Where its tail split the states apart to which its first letter
+/// leads, their classes tell; else the letters are run.
+fn is_split_off(file: &LaidOut, partition: &Partition, splitter: &Splitter, state: u32) -> bool
+    requires content { IsContent (content_of_file file.now.plain.now) }
+    requires slots { file.now.slots.now ≡ slots_of file.now.plain.now }
+    requires partition { IsPartition (content_of_file file.now.plain.now) (classes_of partition.now) }
+    requires behind { IsBehind (classes_of partition.now) splitter.now }
+    requires state { state < length file.now.plain.now.states }
+    ensures { result ≡ is_split_off (content_of_file file.now.plain.now) splitter.now state }
+{
+    if splitter.tail > 0 {
+        let class = class_behind(file, partition, state, splitter.letters.get(0).slice());
+        let own = stem(partition.parents.as_slice(), splitter.tail, class);
+        if own == splitter.tail {
+            return true;
+        }
+        if own == partition.parents[splitter.tail] {
+            return false;
+        }
+    }
+    let last = state_after(file.plain, file.slots, state, splitter.letters.slice());
+    is_same(file.plain.states.get(last as usize).sign, splitter.sign)
+}
+
+/// The states from which the letters of a splitter end in its sign, and the others.
+fn sides_by(
+    file: &LaidOut,
+    partition: &Partition,
+    splitter: &Splitter,
+    states: &[u32],
+) -> Result<Sides, NoMemory>
+    requires content { IsContent (content_of_file file.now.plain.now) }
+    requires slots { file.now.slots.now ≡ slots_of file.now.plain.now }
+    requires partition { IsPartition (content_of_file file.now.plain.now) (classes_of partition.now) }
+    requires behind { IsBehind (classes_of partition.now) splitter.now }
     requires states { AreStates file.now.plain.now states.now }
     ensures first { IfOk result (λ sides. sides.first ≡ filter (is_split_off (content_of_file file.now.plain.now) splitter.now) states.now) }
     ensures second { IfOk result (λ sides. sides.second ≡ filter (λ state. not (is_split_off (content_of_file file.now.plain.now) splitter.now state)) states.now) }
 {
-    let letters = copy_letters(file.alloc, splitter.letters.slice())?;
-    let line = TreeLine::By(splitter.sign, letters);
-    split(file.alloc, file.plain, file.slots, &line, states)
+    let mut first = List::new(file.alloc);
+    let mut second = List::new(file.alloc);
+    for state in states {
+        if is_split_off(file, partition, splitter, *state) {
+            push(&mut first, *state)?;
+        } else {
+            push(&mut second, *state)?;
+        }
+    }
+    Ok(Sides { first, second })
 }
 
 /// The states of the first side make a class from now on, and those of the second are what is left of the old one.
@@ -151,9 +223,15 @@ pub(crate) fn split_off(
     requires slots { file.now.slots.now ≡ slots_of file.now.plain.now }
     requires class { class < length partition.old.members.items }
     requires partition { IsPartition (content_of_file file.now.plain.now) (classes_of partition.old) }
+    requires behind { IsBehind (classes_of partition.old) splitter }
     ensures { OnOk result (classes_of partition.new ≡ with_split (content_of_file file.now.plain.now) (classes_of partition.old) class splitter) }
 {
-    let sides = sides_by(file, &splitter, partition.members[class].slice())?;
+    let sides = sides_by(
+        file,
+        &*partition,
+        &splitter,
+        partition.members[class].slice(),
+    )?;
     put(partition, class, splitter, sides)
 }
 

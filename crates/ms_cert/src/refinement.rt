@@ -3,7 +3,7 @@ ghost use Rattle.ms_dfa.specs.Files.{content_of_file};
 ghost use Rattle.ms_logic_words.specs.Canonical.{IsCanonical};
 ghost use Rattle.ms_logic_words.specs.Content.{AreLetters, IsContent, count_of, is_in_letters};
 ghost use Rattle.ms_cert.specs.inner.Images.{AreImages, IsImageBehind};
-ghost use Rattle.ms_cert.specs.inner.Partition.{IsDiscrete, IsPartition, classes_of};
+ghost use Rattle.ms_cert.specs.inner.Partition.{IsBehind, IsDiscrete, IsPartition, classes_of};
 ghost use Rattle.ms_cert.specs.inner.Refinement.{AreAlike, AreAllAlike, AreSettled, LeadTogether, LeadsApart, Refines, TellsApart, TellsSomeApart};
 ghost use Rattle.ms_cert.specs.inner.Separation.{AreStates};
 ghost use Rattle.ms_cert.specs.inner.Slots.{slots_of};
@@ -60,6 +60,7 @@ fn behind_letter(
     requires other { other < length round.now.file.now.plain.now.states }
     ensures over { IfOk result (λ made. AreLetters (content_of_file round.now.file.now.plain.now).variables made.letters) }
     ensures apart { IfOk result (λ made. TellsApart (content_of_file round.now.file.now.plain.now) one other made) }
+    ensures behind { IfOk result (IsBehind (classes_of partition.now)) }
 {
     let file = round.file;
     let mut letters = List::new(file.alloc);
@@ -74,6 +75,7 @@ fn behind_letter(
     Ok(Splitter {
         sign: found.sign,
         letters,
+        tail: split,
     })
 }
 
@@ -131,6 +133,7 @@ fn difference(
     requires one { one < length round.now.file.now.plain.now.states }
     requires other { other < length round.now.file.now.plain.now.states }
     ensures over { IfOk result (λ found. IfSome found (λ splitter. AreLetters (content_of_file round.now.file.now.plain.now).variables splitter.letters)) }
+    ensures behind { IfOk result (λ found. IfSome found (IsBehind (classes_of partition.now))) }
     ensures apart { IfOk result (λ found. IfSome found (TellsApart (content_of_file round.now.file.now.plain.now) one other)) }
     ensures none { IfOk result (λ found. IfNone found (AreAlike (content_of_file round.now.file.now.plain.now) round.now.classes.now one other)) }
 {
@@ -141,6 +144,7 @@ fn difference(
         return Ok(Some(Splitter {
             sign: first,
             letters: List::new(round.file.alloc),
+            tail: 0,
         }));
     }
     match letter_apart(round, one, other)? {
@@ -162,6 +166,7 @@ fn difference_among(
     requires refines { Refines partition.now.classes.items round.now.classes.now }
     requires states { AreStates round.now.file.now.plain.now states.now }
     ensures over { IfOk result (λ found. IfSome found (λ splitter. AreLetters (content_of_file round.now.file.now.plain.now).variables splitter.letters)) }
+    ensures behind { IfOk result (λ found. IfSome found (IsBehind (classes_of partition.now))) }
     ensures apart { IfOk result (λ found. IfSome found (TellsSomeApart (content_of_file round.now.file.now.plain.now) states.now)) }
     ensures none { IfOk result (λ found. IfNone found (AreAllAlike (content_of_file round.now.file.now.plain.now) round.now.classes.now states.now)) }
 {
@@ -191,6 +196,7 @@ fn difference_in(
     requires refines { Refines partition.now.classes.items round.now.classes.now }
     requires class { class < length partition.now.members.items }
     ensures over { IfOk result (λ found. IfSome found (λ splitter. AreLetters (content_of_file round.now.file.now.plain.now).variables splitter.letters)) }
+    ensures behind { IfOk result (λ found. IfSome found (IsBehind (classes_of partition.now))) }
     ensures apart { IfOk result (λ found. IfSome found (λ splitter. (states : Sequence ℕ) → slice_get partition.now.members.items class ≡ Some states → TellsSomeApart (content_of_file round.now.file.now.plain.now) states splitter)) }
     ensures none { IfOk result (λ found. IfNone found ((states : Sequence ℕ) → slice_get partition.now.members.items class ≡ Some states → AreAllAlike (content_of_file round.now.file.now.plain.now) round.now.classes.now states)) }
 {

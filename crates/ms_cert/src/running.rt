@@ -1,7 +1,7 @@
 ghost use Rattle.std.specs.Prelude.{◌≡◌, ◌<◌, length};
 ghost use Rattle.ms_arena.specs.Diagram.{leaf_of};
 ghost use Rattle.ms_dfa.specs.Files.{content_of_file};
-ghost use Rattle.ms_logic_words.specs.Content.{IsContent, NamesPart, last_state, state_after};
+ghost use Rattle.ms_logic_words.specs.Content.{IsContent, NamesPart, last_state, next_state, state_after};
 ghost use Rattle.ms_cert.specs.inner.Slots.{slot_bits, slots_of};
 
 use ms_arena::Ref;
@@ -43,6 +43,18 @@ fn led_to(plain: &Plain, slots: &[usize], values: &[bool], from: Ref) -> u32
     }
 }
 
+/// The state to which a letter leads.
+pub(crate) fn step(plain: &Plain, slots: &[usize], from: u32, letter: &[bool]) -> u32
+    requires content { IsContent (content_of_file plain.now) }
+    requires slots { slots.now ≡ slots_of plain.now }
+    requires from { from < length plain.now.states }
+    ensures next { result ≡ next_state (content_of_file plain.now) from letter.now }
+    ensures state { result < length plain.now.states }
+{
+    let next = plain.states.get(from as usize).next;
+    led_to(plain, slots, letter, next)
+}
+
 /// The state after letters.
 pub(crate) fn state_after(plain: &Plain, slots: &[usize], from: u32, letters: &[List<bool>]) -> u32
     requires content { IsContent (content_of_file plain.now) }
@@ -53,8 +65,7 @@ pub(crate) fn state_after(plain: &Plain, slots: &[usize], from: u32, letters: &[
 {
     let mut state = from;
     for letter in letters {
-        let next = plain.states.get(state as usize).next;
-        state = led_to(plain, slots, letter.slice(), next);
+        state = step(plain, slots, state, letter.slice());
     }
     state
 }

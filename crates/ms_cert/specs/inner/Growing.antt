@@ -1,33 +1,56 @@
--- A tree that grows line by line. Only the contracts and proofs inside this crate cite it.
-use Rattle.std.specs.Prelude.{ℕ, ◌+◌, ◌-◌, ◌<◌, ◌≤◌, List, [], ◌∷◌, ◌++◌, length, reverse}
+-- A tree that grows from its leaves on, as classes go back into those from which they were split off. Only the contracts and proofs
+-- inside this crate cite it.
+use Rattle.std.specs.Prelude.{◌≡◌, ℕ, ◌+◌, ◌≤◌, Bool, true, false, List, [], ◌∷◌, ◌++◌, length, reverse, slice_get, slice_set, Some}
+use Rattle.std.specs.List.{AllByRecursion}
 use Rattle.ms_dfa.specs.declared.plain.FileSign.{FileSign}
-use Rattle.ms_dfa.specs.declared.plain.Plain.{Plain}
 use Rattle.ms_logic_words.specs.Content.{Content}
-use Rattle.ms_cert.specs.Certificate.{AreApart}
+use Rattle.ms_cert.specs.Certificate.{IsLineOver, Tree, branch, ends_in, leaf, lines_of}
 use Rattle.ms_cert.specs.declared.cert.TreeLine.{TreeLine}
-use Rattle.ms_cert.specs.inner.Separation.{AreStates, SeparateEach}
+use Rattle.ms_cert.specs.inner.Partition.{Classes, IsIn, StemsFrom}
 
 -- numbers that rise, from a least one on
 abbrev pub RiseFrom : ℕ → List ℕ → Type 0
 RiseFrom least [] = Unit {0}
 RiseFrom least (n ∷ more) = (least ≤ n) × RiseFrom (n + 1) more
 
--- rising states, one at least
-pub record AreToPart (plain : Plain) (states : List ℕ) : Type 0 where
-  pub some : 0 < length states
-  pub each : AreStates plain states
-  pub rising : RiseFrom 0 states
+-- the states at the leaves of a tree
+abbrev pub leaves_of : Tree → List ℕ
+leaves_of (leaf state) = state ∷ []
+leaves_of (branch sign letters one other) = leaves_of one ++ leaves_of other
 
--- how many lines lists of states take: two for each state, but for one
-abbrev pub lines_for : List (List ℕ) → ℕ
-lines_for [] = 0
-lines_for (states ∷ more) = (length states + length states - 1) + lines_for more
+module _ (content : Content FileSign) where
+  -- the letters of each branch end in its sign from the leaves of its first tree, and from none of its second
+  abbrev pub TellsLeaves : Tree → Type 0
+  TellsLeaves (leaf state) = Unit {0}
+  TellsLeaves (branch sign letters one other) =
+      ((state : ℕ) → IsIn (leaves_of one) state → ends_in content sign letters state ≡ true)
+      × ((state : ℕ) → IsIn (leaves_of other) state → ends_in content sign letters state ≡ false)
+      × TellsLeaves one
+      × TellsLeaves other
 
--- with the line, whatever separates the lists that are left separates those that waited
-abbrev pub GoesOn : Content FileSign → List (List ℕ) → TreeLine → List (List ℕ) → Type 0
-GoesOn content waiting line left =
-    (rest : List TreeLine) → SeparateEach content (reverse left) rest → SeparateEach content (reverse waiting) (line ∷ rest)
+  -- the lines of a tree that tells its leaves apart: the states that were in a class before those above a bound were split off
+  pub record IsGrown (parts : Classes) (bound class : ℕ) (lines : List TreeLine) : Type 0 where
+    pub tree : Tree
+    pub spelled : lines ≡ lines_of tree
+    pub tells : TellsLeaves tree
+    pub over : AllByRecursion (IsLineOver content.variables) lines
+    pub from :
+        (state : ℕ) → IsIn (leaves_of tree) state
+        → (own : ℕ) × (slice_get parts.classes state ≡ Some own) × StemsFrom parts.parents bound own class
+    pub to :
+        (state own : ℕ) → slice_get parts.classes state ≡ Some own → StemsFrom parts.parents bound own class
+        → IsIn (leaves_of tree) state
 
--- lines that separate what still waits complete the lines so far
-abbrev pub IsBegun : Content FileSign → List TreeLine → List (List ℕ) → Type 0
-IsBegun content lines waiting = (rest : List TreeLine) → SeparateEach content (reverse waiting) rest → AreApart content (lines ++ rest)
+  -- the same of each class up to the bound, with its lines from the last one on
+  pub record AreGrown (parts : Classes) (bound : ℕ) (trees : List (List TreeLine)) : Type 0 where
+    pub count : length trees ≡ bound + 1
+    pub each : (class : ℕ) (lines : List TreeLine) → slice_get trees class ≡ Some lines → IsGrown parts bound class (reverse lines)
+
+-- the lines of the last class stand behind those of another one, and a line behind both
+pub record Joins (parent : ℕ) (line : TreeLine) (old new : List (List TreeLine)) : Type 0 where
+  pub front : List (List TreeLine)
+  pub first : List TreeLine
+  pub second : List TreeLine
+  pub parts : old ≡ front ++ first ∷ []
+  pub there : slice_get front parent ≡ Some second
+  pub made : new ≡ slice_set front parent (second ++ first ++ line ∷ [])

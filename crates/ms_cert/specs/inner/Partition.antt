@@ -55,6 +55,18 @@ pub record IsParting (parents : List ℕ) (one other split : ℕ) : Type 0 where
   pub there : slice_get parents split ≡ Some parent
   pub sides : (StemsFrom parents split one split × StemsFrom parents split other parent) ⊎ (StemsFrom parents split other split × StemsFrom parents split one parent)
 
+-- the letters of a splitter are a letter and those of an earlier one, which has the same sign
+pub record HasTail (parts : Classes) (splitter : Splitter) : Type 0 where
+  pub letter : List Bool
+  pub tail : Splitter
+  pub there : slice_get parts.splitters splitter.tail ≡ Some tail
+  pub letters : splitter.letters ≡ letter ∷ tail.letters
+  pub sign : splitter.sign ≡ tail.sign
+
+-- where a tail is named, it is one
+abbrev pub IsBehind : Classes → Splitter → Type 0
+IsBehind parts splitter = 0 < splitter.tail → HasTail parts splitter
+
 -- different states have different classes
 abbrev pub IsDiscrete : List ℕ → Type 0
 IsDiscrete classes = (one other class : ℕ) → slice_get classes one ≡ Some class → slice_get classes other ≡ Some class → one ≡ other
@@ -79,7 +91,7 @@ module _ (content : Content FileSign) where
     classes = replicate (length content.states) 0;
     members = numbers_below (length content.states) ∷ [];
     parents = 0 ∷ [];
-    splitters = record { sign = Plus; letters = [] } ∷ [];
+    splitters = record { sign = Plus; letters = []; tail = 0 } ∷ [];
   }
 
   -- a class with those of its states split off that a splitter tells apart
