@@ -24,5 +24,6 @@ pub mod SplitLemmas
 pub mod StemLemmas
 pub mod TellingLemmas
 pub mod TreesLemmas
+pub mod WaitingLemmas
 pub mod WholeLemmas
 pub mod WordsLemmas

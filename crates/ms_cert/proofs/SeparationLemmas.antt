@@ -62,7 +62,7 @@ module _ (content : Content FileSign) where
   no-line [] each = refl
   no-line (states ∷ more) each = absurd (some-line each.0 each.1 (sym each.2))
 
-  last_first : (front : List (List ℕ)) (states : List ℕ) → reverse (front ++ states ∷ []) ≡ states ∷ reverse front
+  pub last_first : (front : List (List ℕ)) (states : List ℕ) → reverse (front ++ states ∷ []) ≡ states ∷ reverse front
   last_first front states = reverse-append front (states ∷ [])
 
   pub takes-leaf : (line : TreeLine) (own : ℕ) (waiting left : List (List ℕ)) (states : List ℕ) (goes_on : Bool) → line ≡ At own → waiting ≡ left ++ states ∷ [] → IsTrue goes_on ↔ (states ≡ own ∷ []) → Takes content line waiting left goes_on
@@ -172,7 +172,7 @@ states-below plain states all place state held =
     in_range a (suc n) (suc place) state held = let less = in_range (a + 1) n place state held in omega (arith, less)
 
 -- whether no list waits
-pub none-waits : (items : List (List ℕ)) (count : ℕ) (result : Bool) → length items ≡ count → result ≡ (count == 0) → IsTrue result ↔ (items ≡ [])
+pub none-waits : {X : Type 0} (items : List X) (count : ℕ) (result : Bool) → length items ≡ count → result ≡ (count == 0) → IsTrue result ↔ (items ≡ [])
 none-waits items count result long is = (
   λ yes. nil_from_length items (let none : count ≡ 0 = grind (arith, nat_tests) in long ∙ none),
   λ none. let empty : count ≡ 0 = sym long ∙ ap length none in is ∙ grind (arith, nat_tests),

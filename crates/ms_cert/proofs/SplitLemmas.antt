@@ -17,22 +17,22 @@ true-or-false true = inl refl
 true-or-false false = inr refl
 
 module _ (content : Content FileSign) (old : Classes) (is : IsPartition content old) (class : ℕ) (splitter : Splitter) (within : class < length old.members) where
-  abbrev count : ℕ
+  abbrev pub count : ℕ
   count = length old.parents
 
-  abbrev test : ℕ → Bool
+  abbrev pub test : ℕ → Bool
   test = is_split_off content splitter
 
-  abbrev states : List ℕ
+  abbrev pub states : List ℕ
   states = slice_index_or old.members class []
 
-  abbrev moved : List ℕ
+  abbrev pub moved : List ℕ
   moved = filter test states
 
-  abbrev left : List ℕ
+  abbrev pub left : List ℕ
   left = filter (λ state. not (test state)) states
 
-  abbrev new : Classes
+  abbrev pub new : Classes
   new = with_split content old class splitter
 
   class-below : class < count
@@ -95,10 +95,10 @@ module _ (content : Content FileSign) (old : Classes) (is : IsPartition content 
   count-members = length-set old.members class left ∙ is.members_count
 
   -- the lists of the classes
-  new-last : slice_get new.members count ≡ Some moved
+  pub new-last : slice_get new.members count ≡ Some moved
   new-last = subst (λ (k : ℕ). slice_get new.members k ≡ Some moved) count-members (slice_get-push (slice_set old.members class left) moved)
 
-  new-own : slice_get new.members class ≡ Some left
+  pub new-own : slice_get new.members class ≡ Some left
   new-own =
       let less : class < length (slice_set old.members class left) = omega (arith, within, length-set old.members class left) in
       slice_get-append_left (slice_set old.members class left) (moved ∷ []) class less ∙ get-set_same old.members class left within

@@ -5,6 +5,7 @@ ghost use Rattle.ms_cert.specs.Certificate.{IsCertified};
 ghost use Rattle.ms_cert.specs.Proven.{IsProven};
 
 use crate::cert::{Cert, Proven};
+use crate::laid_out::LaidOut;
 use crate::layout::lay_out;
 use crate::lengths::grow_by_letters;
 use crate::separation::are_apart;
@@ -29,7 +30,12 @@ fn certifies(alloc: Global, plain: &Plain, cert: &Cert) -> Result<bool, NoMemory
     if !grow_by_letters(alloc, plain, cert.words.slice())? {
         return Ok(false);
     }
-    are_apart(alloc, plain, layout.slots.slice(), cert.tree.slice())
+    let file = LaidOut {
+        alloc,
+        plain,
+        slots: layout.slots.slice(),
+    };
+    are_apart(&file, cert.tree.slice())
 }
 
 /// What the certificate proves of the file; None where it does not certify it.

@@ -163,7 +163,7 @@ fn is_split_off(file: &LaidOut, partition: &Partition, splitter: &Splitter, stat
 }
 
 /// The states from which the letters of a splitter end in its sign, and the others.
-fn sides_by(
+pub(crate) fn sides_by(
     file: &LaidOut,
     partition: &Partition,
     splitter: &Splitter,
@@ -190,7 +190,7 @@ fn sides_by(
 }
 
 /// The states of the first side make a class from now on, and those of the second are what is left of the old one.
-fn put(
+pub(crate) fn put(
     partition: &mut Partition,
     class: usize,
     splitter: Splitter,

@@ -1,33 +1,24 @@
-ghost use Rattle.std.specs.Prelude.{◌≡◌, ◌↔◌, ◌<◌, ◌^◌, ◌++◌, ◌∷◌, [], All, IfOk, IsTrue, OnOk, length};
+ghost use Rattle.std.specs.Prelude.{◌≡◌, ◌↔◌, ◌<◌, ◌^◌, ◌++◌, ◌∷◌, [], ℕ, IfOk, IsTrue, Some, length, slice_get};
 ghost use Rattle.ms_dfa.specs.Files.{content_of_file};
 ghost use Rattle.ms_logic.specs.FiniteSet.{numbers_below};
-ghost use Rattle.ms_logic_words.specs.Content.{IsContent};
-ghost use Rattle.ms_cert.specs.Certificate.{AreApart};
-ghost use Rattle.ms_cert.specs.inner.Separation.{AreStates, IsSplit, Takes, passes};
+ghost use Rattle.ms_logic_words.specs.Content.{AreLetters, IsContent};
+ghost use Rattle.ms_cert.specs.Certificate.{AreApart, IsLineOver};
+ghost use Rattle.ms_cert.specs.declared.cert.TreeLine.{TreeLine as ALine};
+ghost use Rattle.ms_cert.specs.declared.cert.TreeLine.TheVariants.{By};
+ghost use Rattle.ms_cert.specs.inner.Partition.{IsBehind, IsPartition, classes_of};
+ghost use Rattle.ms_cert.specs.inner.Separation.{AreStates, AreWaiting, Takes, lists_of};
 ghost use Rattle.ms_cert.specs.inner.Slots.{slots_of};
 
 use crate::cert::TreeLine;
-use crate::running::state_after;
+use crate::laid_out::LaidOut;
+use crate::levels::copy_letters;
+use crate::partition::{
+    Partition, Splitter, append, class_behind, one_class, parting, put, sides_by,
+};
 use crate::sign::is_same;
-use ms_dfa::Plain;
+use ms_dfa::FileSign;
 use ms_list::{List, NoMemory, push};
 use std::alloc::Global;
-
-/// Whether a state is on the first side of a line: the state itself, or one from which the letters end in the sign.
-fn passes(plain: &Plain, slots: &[usize], line: &TreeLine, state: u32) -> bool
-    requires content { IsContent (content_of_file plain.now) }
-    requires slots { slots.now ≡ slots_of plain.now }
-    requires state { state < length plain.now.states }
-    ensures { result ≡ passes (content_of_file plain.now) line.now state }
-{
-    match line {
-        TreeLine::At(own) => state == *own,
-        TreeLine::By(sign, letters) => {
-            let last = state_after(plain, slots, state, letters.slice());
-            is_same(plain.states.get(last as usize).sign, *sign)
-        }
-    }
-}
 
 /// The two sides of a line.
 #[derive(Drop)]
@@ -36,29 +27,128 @@ pub(crate) struct Sides {
     pub second: List<u32>,
 }
 
-/// The states on each side of a line.
-pub(crate) fn split(
-    alloc: Global,
-    plain: &Plain,
-    slots: &[usize],
-    line: &TreeLine,
-    states: &[u32],
-) -> Result<Sides, NoMemory>
-    requires content { IsContent (content_of_file plain.now) }
-    requires slots { slots.now ≡ slots_of plain.now }
-    requires states { AreStates plain.now states.now }
-    ensures { IfOk result (IsSplit (content_of_file plain.now) line.now states.now) }
+/// Whether these are the same letters.
+fn are_same(letters: &[List<bool>], others: &[List<bool>]) -> bool
+    ensures { IsTrue result → letters.now ≡ others.now }
 {
-    let mut first = List::new(alloc);
-    let mut second = List::new(alloc);
-    for state in states {
-        if passes(plain, slots, line, *state) {
-            push(&mut first, *state)?;
-        } else {
-            push(&mut second, *state)?;
+    if letters.len() != others.len() {
+        return false;
+    }
+    for (place, letter) in letters.iter().enumerate() {
+        if letter.slice() != others[place].slice() {
+            return false;
         }
     }
-    Ok(Sides { first, second })
+    true
+}
+
+/// The class that was split off when the states first parted to which a letter leads from these; 0 where they are of one class.
+fn parted(file: &LaidOut, partition: &Partition, states: &[u32], letter: &[bool]) -> usize
+    requires content { IsContent (content_of_file file.now.plain.now) }
+    requires slots { file.now.slots.now ≡ slots_of file.now.plain.now }
+    requires partition { IsPartition (content_of_file file.now.plain.now) (classes_of partition.now) }
+    requires states { AreStates file.now.plain.now states.now }
+    ensures { result < length partition.now.parents.items }
+{
+    if states.is_empty() {
+        return 0;
+    }
+    let first = class_behind(file, partition, states[0], letter);
+    let mut least = 0usize;
+    for state in states {
+        let class = class_behind(file, partition, *state, letter);
+        let split = parting(partition.parents.as_slice(), first, class);
+        if least == 0 || (split > 0 && split < least) {
+            least = split;
+        }
+    }
+    least
+}
+
+/// The class by whose splitter the states part to which the first letter leads, where that has the letters behind it; else 0.
+fn tail_of(
+    file: &LaidOut,
+    partition: &Partition,
+    states: &[u32],
+    sign: FileSign,
+    letters: &[List<bool>],
+) -> usize
+    requires content { IsContent (content_of_file file.now.plain.now) }
+    requires slots { file.now.slots.now ≡ slots_of file.now.plain.now }
+    requires partition { IsPartition (content_of_file file.now.plain.now) (classes_of partition.now) }
+    requires states { AreStates file.now.plain.now states.now }
+    ensures { IsBehind (classes_of partition.now) (record { sign = sign; letters = letters.now; tail = result }) }
+{
+    let [letter, behind @ ..] = letters else {
+        return 0;
+    };
+    let split = parted(file, partition, states, letter.slice());
+    let found = &partition.splitters[split];
+    if is_same(found.sign, sign) && are_same(found.letters.slice(), behind) {
+        split
+    } else {
+        0
+    }
+}
+
+/// What a line splits the states of a class by.
+fn splitter_of(
+    file: &LaidOut,
+    partition: &Partition,
+    states: &[u32],
+    sign: FileSign,
+    letters: &[List<bool>],
+) -> Result<Splitter, NoMemory>
+    requires content { IsContent (content_of_file file.now.plain.now) }
+    requires slots { file.now.slots.now ≡ slots_of file.now.plain.now }
+    requires partition { IsPartition (content_of_file file.now.plain.now) (classes_of partition.now) }
+    requires states { AreStates file.now.plain.now states.now }
+    ensures sign { IfOk result (λ made. made.sign ≡ sign) }
+    ensures letters { IfOk result (λ made. made.letters ≡ letters.now) }
+    ensures behind { IfOk result (IsBehind (classes_of partition.now)) }
+{
+    let tail = tail_of(file, partition, states, sign, letters);
+    let letters = copy_letters(file.alloc, letters)?;
+    Ok(Splitter {
+        sign,
+        letters,
+        tail,
+    })
+}
+
+/// Splits a class, whose two sides wait from now on, and answers whether both have a state.
+fn part(
+    file: &LaidOut,
+    splitter: Splitter,
+    class: usize,
+    partition: &mut Partition,
+    waiting: &mut Vec<usize>,
+) -> Result<bool, NoMemory>
+    requires few { length file.now.plain.now.states < 2 ^ 32 }
+    requires content { IsContent (content_of_file file.now.plain.now) }
+    requires slots { file.now.slots.now ≡ slots_of file.now.plain.now }
+    requires partition { IsPartition (content_of_file file.now.plain.now) (classes_of partition.old) }
+    requires behind { IsBehind (classes_of partition.old) splitter }
+    requires over { AreLetters (content_of_file file.now.plain.now).variables splitter.letters }
+    requires waiting { AreWaiting partition.old.members.items (waiting.old.items ++ class ∷ []) }
+    ensures partition { IfOk result (λ parted. IsTrue parted → IsPartition (content_of_file file.now.plain.now) (classes_of partition.new)) }
+    ensures waiting { IfOk result (λ parted. IsTrue parted → AreWaiting partition.new.members.items waiting.new.items) }
+    ensures takes { IfOk result (Takes (content_of_file file.now.plain.now) (By splitter.sign splitter.letters) (lists_of partition.old.members.items (waiting.old.items ++ class ∷ [])) (lists_of partition.new.members.items waiting.new.items)) }
+{
+    let sides = sides_by(
+        file,
+        &*partition,
+        &splitter,
+        partition.members[class].slice(),
+    )?;
+    if sides.first.is_empty() || sides.second.is_empty() {
+        return Ok(false);
+    }
+    let count = partition.parents.len();
+    put(partition, class, splitter, sides)?;
+    append(waiting, class)?;
+    append(waiting, count)?;
+    Ok(true)
 }
 
 /// Whether this state alone is among them.
@@ -71,39 +161,33 @@ fn is_only(states: &[u32], own: u32) -> bool
     }
 }
 
-/// Takes a line of the tree for the list that waits last, and answers whether the lines may go on.
+/// Takes a line of the tree for the class that waits last, and answers whether the lines may go on.
 fn take(
-    alloc: Global,
-    plain: &Plain,
-    slots: &[usize],
+    file: &LaidOut,
     line: &TreeLine,
-    waiting: &mut Vec<List<u32>>,
+    partition: &mut Partition,
+    waiting: &mut Vec<usize>,
 ) -> Result<bool, NoMemory>
-    requires content { IsContent (content_of_file plain.now) }
-    requires slots { slots.now ≡ slots_of plain.now }
-    requires states { All (AreStates plain.now) waiting.old.items }
-    ensures takes { IfOk result (Takes (content_of_file plain.now) line.now waiting.old.items waiting.new.items) }
-    ensures states { OnOk result (All (AreStates plain.now) waiting.new.items) }
+    requires few { length file.now.plain.now.states < 2 ^ 32 }
+    requires content { IsContent (content_of_file file.now.plain.now) }
+    requires slots { file.now.slots.now ≡ slots_of file.now.plain.now }
+    requires over { IsLineOver (content_of_file file.now.plain.now).variables line.now }
+    requires partition { IsPartition (content_of_file file.now.plain.now) (classes_of partition.old) }
+    requires waiting { AreWaiting partition.old.members.items waiting.old.items }
+    ensures partition { IfOk result (λ goes_on. IsTrue goes_on → IsPartition (content_of_file file.now.plain.now) (classes_of partition.new)) }
+    ensures waiting { IfOk result (λ goes_on. IsTrue goes_on → AreWaiting partition.new.members.items waiting.new.items) }
+    ensures takes { IfOk result (Takes (content_of_file file.now.plain.now) line.now (lists_of partition.old.members.items waiting.old.items) (lists_of partition.new.members.items waiting.new.items)) }
 {
-    let Some(states) = waiting.pop() else {
+    let Some(class) = waiting.pop() else {
         return Ok(false);
     };
-    if let TreeLine::At(own) = line {
-        return Ok(is_only(states.slice(), *own));
-    }
-    let Sides { first, second } = split(alloc, plain, slots, line, states.slice())?;
-    wait(waiting, second)?;
-    wait(waiting, first)?;
-    Ok(true)
-}
-
-/// Lets a list wait.
-pub(crate) fn wait(waiting: &mut Vec<List<u32>>, states: List<u32>) -> Result<(), NoMemory>
-    ensures { OnOk result (waiting.new.items ≡ waiting.old.items ++ states ∷ []) }
-{
-    match waiting.push(states) {
-        Ok(()) => Ok(()),
-        Err(_) => Err(NoMemory),
+    match line {
+        TreeLine::At(own) => Ok(is_only(partition.members[class].slice(), *own)),
+        TreeLine::By(sign, letters) => {
+            let states = partition.members[class].slice();
+            let splitter = splitter_of(file, &*partition, states, *sign, letters.slice())?;
+            part(file, splitter, class, partition, waiting)
+        }
     }
 }
 
@@ -119,21 +203,19 @@ pub(crate) fn all_states(alloc: Global, count: u32) -> Result<List<u32>, NoMemor
 }
 
 /// Whether the lines spell one tree, which separates all states.
-pub(crate) fn are_apart(
-    alloc: Global,
-    plain: &Plain,
-    slots: &[usize],
-    lines: &[TreeLine],
-) -> Result<bool, NoMemory>
-    requires content { IsContent (content_of_file plain.now) }
-    requires few { length plain.now.states < 2 ^ 32 }
-    requires slots { slots.now ≡ slots_of plain.now }
-    ensures { IfOk result (λ apart. IsTrue apart ↔ AreApart (content_of_file plain.now) lines.now) }
+pub(crate) fn are_apart(file: &LaidOut, lines: &[TreeLine]) -> Result<bool, NoMemory>
+    requires few { length file.now.plain.now.states < 2 ^ 32 }
+    requires content { IsContent (content_of_file file.now.plain.now) }
+    requires slots { file.now.slots.now ≡ slots_of file.now.plain.now }
+    requires over { (place : ℕ) (line : ALine) → slice_get lines.now place ≡ Some line → IsLineOver (content_of_file file.now.plain.now).variables line }
+    ensures { IfOk result (λ apart. IsTrue apart ↔ AreApart (content_of_file file.now.plain.now) lines.now) }
 {
-    let mut waiting = Vec::new(alloc);
-    wait(&mut waiting, all_states(alloc, plain.states.len() as u32)?)?;
+    let mut partition = one_class(file.alloc, file.plain)?;
+    partition.room = usize::MAX;
+    let mut waiting = Vec::new(file.alloc);
+    append(&mut waiting, 0)?;
     for line in lines {
-        if !take(alloc, plain, slots, line, &mut waiting)? {
+        if !take(file, line, &mut partition, &mut waiting)? {
             return Ok(false);
         }
     }

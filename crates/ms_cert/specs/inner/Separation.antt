@@ -1,5 +1,5 @@
 -- Trees that stand one after the other, and separate lists of states. Only the contracts and proofs inside this crate cite it.
-use Rattle.std.specs.Prelude.{◌≡◌, ◌↔◌, ℕ, zero, suc, ◌<◌, ◌==◌, Bool, not, IsTrue, List, [], ◌∷◌, ◌++◌, filter, length, reverse, slice_get, Some}
+use Rattle.std.specs.Prelude.{◌≡◌, ◌↔◌, ℕ, zero, suc, ◌<◌, ◌==◌, Bool, not, IsTrue, List, [], ◌∷◌, ◌++◌, filter, length, map, reverse, slice_get, slice_index_or, Some}
 use Rattle.ms_dfa.specs.declared.plain.FileSign.{FileSign}
 use Rattle.ms_dfa.specs.declared.plain.Plain.{Plain}
 use Rattle.ms_logic_words.specs.Content.{Content}
@@ -40,6 +40,15 @@ module _ (content : Content FileSign) where
   abbrev pub Takes : TreeLine → List (List ℕ) → List (List ℕ) → Bool → Type 0
   Takes line waiting left goes_on =
       (rest : List TreeLine) → SeparateEach (reverse waiting) (line ∷ rest) ↔ (IsTrue goes_on × SeparateEach (reverse left) rest)
+
+-- the lists of classes
+abbrev pub lists_of : List (List ℕ) → List ℕ → List (List ℕ)
+lists_of members classes = map (λ class. slice_index_or members class []) classes
+
+-- classes that wait: each is there, and none waits twice
+pub record AreWaiting (members : List (List ℕ)) (classes : List ℕ) : Type 0 where
+  pub within : (place class : ℕ) → slice_get classes place ≡ Some class → class < length members
+  pub once : (one other class : ℕ) → slice_get classes one ≡ Some class → slice_get classes other ≡ Some class → one ≡ other
 
 -- places of states
 abbrev pub AreStates : Plain → List ℕ → Type 0
