@@ -20,6 +20,9 @@ use ms_dfa::FileSign;
 use ms_list::{List, NoMemory, push};
 use std::alloc::Global;
 
+/// So many letters are run in the time in which it is found that an earlier line has them.
+const FEW_LETTERS: usize = 16;
+
 /// The two sides of a line.
 #[derive(Drop)]
 pub(crate) struct Sides {
@@ -65,7 +68,8 @@ fn parted(file: &LaidOut, partition: &Partition, states: &[u32], letter: &[bool]
     least
 }
 
-/// The class by whose splitter the states part to which the first letter leads, where that has the letters behind it; else 0.
+/// The class by whose splitter the states part to which the first letter leads, where that has the letters behind it; else 0. It is
+/// not looked for where the letters are few, since they are run as soon.
 fn tail_of(
     file: &LaidOut,
     partition: &Partition,
@@ -82,6 +86,9 @@ fn tail_of(
     let [letter, behind @ ..] = letters else {
         return 0;
     };
+    if behind.len() < FEW_LETTERS {
+        return 0;
+    }
     let split = parted(file, partition, states, letter.slice());
     let found = &partition.splitters[split];
     if is_same(found.sign, sign) && are_same(found.letters.slice(), behind) {
