@@ -1,4 +1,4 @@
-ghost use Rattle.std.specs.Prelude.{◌≡◌, ◌≢◌, ◌<◌, ◌^◌, ◌∷◌, ◌++◌, [], ℕ, filter, length, not, slice_get, slice_set, IfOk, OnOk, Some};
+ghost use Rattle.std.specs.Prelude.{◌≡◌, ◌≢◌, ◌<◌, ◌^◌, ◌∷◌, ◌++◌, [], ℕ, filter, length, not, slice_get, slice_set, IfOk, IfSome, OnOk, Some};
 ghost use Rattle.ms_dfa.specs.Files.{content_of_file};
 ghost use Rattle.ms_logic_words.specs.Content.{IsContent, next_state};
 ghost use Rattle.ms_cert.specs.inner.Partition.{AreEarlier, IsBehind, IsIn, IsParting, IsPartition, StemsFrom, assigned, classes_of, is_split_off, one_class, with_sides, with_split};
@@ -107,17 +107,20 @@ fn replace(members: &mut Vec<List<u32>>, class: usize, states: List<u32>)
     members[class] = states;
 }
 
-/// The class in which the states of a class were before those above a bound were split off.
-fn stem(parents: &[usize], bound: usize, class: usize) -> usize
+/// The class in which the states of a class were before those above a bound were split off, where it is found in so many turns.
+fn stem(parents: &[usize], bound: usize, class: usize, turns: usize) -> Option<usize>
     requires earlier { AreEarlier parents.now }
     requires class { class < length parents.now }
-    ensures { StemsFrom parents.now bound class result }
+    ensures { IfSome result (StemsFrom parents.now bound class) }
 {
     let mut own = class;
-    while own > bound {
+    'rising: for _ in 0..turns {
+        if own <= bound {
+            return Some(own);
+        }
         own = parents[own];
     }
-    own
+    None
 }
 
 /// The class of the state to which a letter leads.
@@ -139,7 +142,7 @@ pub(crate) fn class_behind(
 }
 
 /// Whether the letters of a splitter end in its sign from a state. Where its tail split the states apart to which its first letter
-/// leads, their classes tell; else the letters are run.
+/// leads, their classes tell, if this is found as soon as the letters are run; else they are run.
 fn is_split_off(file: &LaidOut, partition: &Partition, splitter: &Splitter, state: u32) -> bool
     requires content { IsContent (content_of_file file.now.plain.now) }
     requires slots { file.now.slots.now ≡ slots_of file.now.plain.now }
@@ -150,12 +153,14 @@ fn is_split_off(file: &LaidOut, partition: &Partition, splitter: &Splitter, stat
 {
     if splitter.tail > 0 {
         let class = class_behind(file, partition, state, splitter.letters.get(0).slice());
-        let own = stem(partition.parents.as_slice(), splitter.tail, class);
-        if own == splitter.tail {
-            return true;
-        }
-        if own == partition.parents[splitter.tail] {
-            return false;
+        let turns = splitter.letters.len();
+        if let Some(own) = stem(partition.parents.as_slice(), splitter.tail, class, turns) {
+            if own == splitter.tail {
+                return true;
+            }
+            if own == partition.parents[splitter.tail] {
+                return false;
+            }
         }
     }
     let last = state_after(file.plain, file.slots, state, splitter.letters.slice());

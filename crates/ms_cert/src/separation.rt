@@ -5,16 +5,14 @@ ghost use Rattle.ms_logic_words.specs.Content.{AreLetters, IsContent};
 ghost use Rattle.ms_cert.specs.Certificate.{AreApart, IsLineOver};
 ghost use Rattle.ms_cert.specs.declared.cert.TreeLine.{TreeLine as ALine};
 ghost use Rattle.ms_cert.specs.declared.cert.TreeLine.TheVariants.{By};
-ghost use Rattle.ms_cert.specs.inner.Partition.{IsBehind, IsPartition, classes_of};
+ghost use Rattle.ms_cert.specs.inner.Partition.{AreEarlier, IsBehind, IsPartition, classes_of};
 ghost use Rattle.ms_cert.specs.inner.Separation.{AreStates, AreWaiting, Takes, lists_of};
 ghost use Rattle.ms_cert.specs.inner.Slots.{slots_of};
 
 use crate::cert::TreeLine;
 use crate::laid_out::LaidOut;
 use crate::levels::copy_letters;
-use crate::partition::{
-    Partition, Splitter, append, class_behind, one_class, parting, put, sides_by,
-};
+use crate::partition::{Partition, Splitter, append, class_behind, one_class, put, sides_by};
 use crate::sign::is_same;
 use ms_dfa::FileSign;
 use ms_list::{List, NoMemory, push};
@@ -45,8 +43,40 @@ fn are_same(letters: &[List<bool>], others: &[List<bool>]) -> bool
     true
 }
 
-/// The class that was split off when the states first parted to which a letter leads from these; 0 where they are of one class.
-fn parted(file: &LaidOut, partition: &Partition, states: &[u32], letter: &[bool]) -> usize
+/// The class that was split off when the states of two classes parted, where that is found in so many turns; else 0.
+fn near_parting(parents: &[usize], one: usize, other: usize, turns: usize) -> usize
+    requires earlier { AreEarlier parents.now }
+    requires one { one < length parents.now }
+    requires other { other < length parents.now }
+    ensures { result < length parents.now }
+{
+    let mut first = one;
+    let mut second = other;
+    'rising: for _ in 0..turns {
+        if first == second {
+            return 0;
+        }
+        if first < second {
+            std::mem::swap(&mut first, &mut second);
+        }
+        let parent = parents[first];
+        if parent == second {
+            return first;
+        }
+        first = parent;
+    }
+    0
+}
+
+/// The class that was split off when the states first parted to which a letter leads from these, as far as that is found in so many
+/// turns for each; 0 where they are of one class.
+fn parted(
+    file: &LaidOut,
+    partition: &Partition,
+    states: &[u32],
+    letter: &[bool],
+    turns: usize,
+) -> usize
     requires content { IsContent (content_of_file file.now.plain.now) }
     requires slots { file.now.slots.now ≡ slots_of file.now.plain.now }
     requires partition { IsPartition (content_of_file file.now.plain.now) (classes_of partition.now) }
@@ -60,7 +90,7 @@ fn parted(file: &LaidOut, partition: &Partition, states: &[u32], letter: &[bool]
     let mut least = 0usize;
     for state in states {
         let class = class_behind(file, partition, *state, letter);
-        let split = parting(partition.parents.as_slice(), first, class);
+        let split = near_parting(partition.parents.as_slice(), first, class, turns);
         if least == 0 || (split > 0 && split < least) {
             least = split;
         }
@@ -89,7 +119,7 @@ fn tail_of(
     if behind.len() < FEW_LETTERS {
         return 0;
     }
-    let split = parted(file, partition, states, letter.slice());
+    let split = parted(file, partition, states, letter.slice(), behind.len());
     let found = &partition.splitters[split];
     if is_same(found.sign, sign) && are_same(found.letters.slice(), behind) {
         split

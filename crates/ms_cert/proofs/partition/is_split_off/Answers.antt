@@ -27,8 +27,8 @@ returns-then-own-splitter c =
     let has : HasTail parts splitter = c.requires.behind c.if-splitter-gt0.true in
     let letter : c.slice.result.now ≡ has.letter = c.slice.ensures ∙ same_Some c.get.result.now has.letter (sym c.get.ensures ∙ ap (λ (ls : List (List Bool)). slice_get ls 0) has.letters) in
     let held = subst (λ (l : List Bool). slice_get parts.classes (next_state content c.args.state l) ≡ Some c.class_behind-class.result) letter c.class_behind-class.ensures.class in
-    let stems = subst (λ (ps : List ℕ). StemsFrom ps splitter.tail c.class_behind-class.result c.stem-own.result) c.as_slice.ensures.value c.stem-own.ensures in
-    sym ((tail-tells content parts c.requires.partition splitter c.if-splitter-gt0.true has c.args.state c.class_behind-class.result c.stem-own.result held stems).0 c.if-own-splitter.true)
+    let stems = subst (λ (ps : List ℕ). StemsFrom ps splitter.tail c.class_behind-class.result c.in-Some.own) c.as_slice.ensures.value c.in-Some.ensures in
+    sym ((tail-tells content parts c.requires.partition splitter c.if-splitter-gt0.true has c.args.state c.class_behind-class.result c.in-Some.own held stems).0 c.if-own-splitter.true)
 
 pub returns-then-own-index : goal.returns-then-own-index
 returns-then-own-index c =
@@ -38,12 +38,12 @@ returns-then-own-index c =
     let has : HasTail parts splitter = c.requires.behind c.if-splitter-gt0.true in
     let letter : c.slice.result.now ≡ has.letter = c.slice.ensures ∙ same_Some c.get.result.now has.letter (sym c.get.ensures ∙ ap (λ (ls : List (List Bool)). slice_get ls 0) has.letters) in
     let held = subst (λ (l : List Bool). slice_get parts.classes (next_state content c.args.state l) ≡ Some c.class_behind-class.result) letter c.class_behind-class.ensures.class in
-    let stems = subst (λ (ps : List ℕ). StemsFrom ps splitter.tail c.class_behind-class.result c.stem-own.result) c.as_slice.ensures.value c.stem-own.ensures in
+    let stems = subst (λ (ps : List ℕ). StemsFrom ps splitter.tail c.class_behind-class.result c.in-Some.own) c.as_slice.ensures.value c.in-Some.ensures in
     let within = slice_get_within parts.splitters splitter.tail has.tail has.there in
     let long = c.requires.partition.splitters_count in
     let parent : c.index.result.now ≡ slice_index parts.parents splitter.tail = same_Some c.index.result.now (slice_index parts.parents splitter.tail)
     (sym (get-item parts.parents splitter.tail c.index.result.now (omega (arith, within, long)) c.index.ensures) ∙ slice_get-get_or parts.parents splitter.tail 0 (omega (arith, within, long))) in
-    sym ((tail-tells content parts c.requires.partition splitter c.if-splitter-gt0.true has c.args.state c.class_behind-class.result c.stem-own.result held stems).1 (c.if-own-index.true ∙ parent))
+    sym ((tail-tells content parts c.requires.partition splitter c.if-splitter-gt0.true has c.args.state c.class_behind-class.result c.in-Some.own held stems).1 (c.if-own-index.true ∙ parent))
 
 pub returns : goal.returns
 returns c =

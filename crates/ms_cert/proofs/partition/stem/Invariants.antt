@@ -3,11 +3,8 @@ use Rattle.ms_cert.specs.inner.Partition.{StemsFrom}
 use Rattle.ms_cert.proofs.partition.stem.Given as goal
 
 -- the class stems from what the one so far stems from
-abbrev pub invariant-loop-own : goal.invariant-loop-own
-invariant-loop-own l = record {
+abbrev pub invariant-rising : goal.invariant-rising
+invariant-rising l = record {
   within : l.own < length l.parents;
   stems : (stem : ℕ) → StemsFrom l.parents l.bound l.own stem → StemsFrom l.parents l.bound l.class stem;
 }
-
-abbrev pub decreases-loop-own : goal.decreases-loop-own
-decreases-loop-own l = l.own
