@@ -10,6 +10,7 @@ ghost use Rattle.ms_cert.specs.Certificate.{AreWordsTo, GrowByLetters};
 ghost use Rattle.ms_cert.specs.ShortestWords.{AreShortest};
 ghost use Rattle.ms_cert.specs.inner.Levels.{AreUpTo, HasBegun, IsKept, IsReached, IsWordOf, Leads, MakesWords, level_of, made_word, reached_of, with_word};
 
+use crate::partition::append;
 use crate::room::{MOST_LETTERS, take_room};
 use ms_arena::{Node, Ref};
 use ms_dfa::{FileVar, Part, Plain, is_in};
@@ -54,11 +55,14 @@ pub(crate) fn copy_letters(
 ) -> Result<List<List<bool>>, NoMemory>
     ensures { IfOk result (λ made. made ≡ letters.now) }
 {
-    let mut made = List::new(alloc);
+    // There is room for one letter more, which a longer word has.
+    let Ok(mut made) = Vec::with_capacity(alloc, letters.len() + 1) else {
+        return Err(NoMemory);
+    };
     for letter in letters {
-        push(&mut made, copy_bits(alloc, letter.slice())?)?;
+        append(&mut made, copy_bits(alloc, letter.slice())?)?;
     }
-    Ok(made)
+    Ok(List::from(made))
 }
 
 fn copy_word(alloc: Global, word: &Word) -> Result<Word, NoMemory>
