@@ -35,8 +35,8 @@ pub Ran-from : (words : List (List ℕ)) (given : List Entry) (status : Status) 
     → Ran words given status text written
 Ran-from words given status text written absences overlongs empty full before after is_empty is_full is_before is_after answered done usage_only generated complete favoured =
     let with = λ (P : SinkTold → SinkTold → FilesTold → FilesTold → Type 0) (holds : P empty full before after).
-        moved P empty full (sink_told [] 0) (sink_told text 0) before after (files_told given 0 0 0) (files_told (given ++ written) 0 absences overlongs)
-        is_empty is_full is_before is_after holds in
+    moved P empty full (sink_told [] 0) (sink_told text 0) before after (files_told given 0 0 0) (files_told (given ++ written) 0 absences overlongs)
+    is_empty is_full is_before is_after holds in
     record {
       absences = absences;
       overlongs = overlongs;
