@@ -11,8 +11,8 @@
  * What a call is given to write into (room, written, answer) belongs to that call until it returns.
  * Do not call it from a signal handler, nor in the child of a process with threads between fork and exec.
  *
- * Stack. 512 KiB are enough for the deepest sources of each form that were tried, and 1 MiB for the
- * deepest formulas of temporal logic. A smaller stack is for sources that are less deep.
+ * Stack. 512 KiB are enough for the deepest sources and formulas of each form that were tried. A smaller
+ * stack is for what is less deep.
  *
  * Memory. A call takes memory by malloc and realloc, and gives all of it back by free before it returns.
  * Where malloc or realloc answers null, the call answers MONASTR_NO_MEMORY.
