@@ -6,24 +6,10 @@ use Rattle.std.proofs.lemmas.Option.{same_Some, slice_get_within, slice_get-map}
 use Rattle.std.specs.Option.{option_map}
 use Rattle.ms_arena.specs.declared.node.Node.{Node}
 use Rattle.ms_arena.specs.Target.{IsNew}
-use Rattle.ms_arena.proofs.Lists.{slice_get-append_left}
+use Rattle.ms_arena.proofs.Lists.{slice_get-append_left, slice_get-set_other, slice_get-set_same}
 use Rattle.ms_arena.specs.declared.cells.Cell.{Cell}
 use Rattle.ms_arena.specs.inner.Bucket.{bucket_of}
 use Rattle.ms_arena.specs.inner.Chain.{nodes_of, AreEmpty, IsLast, IsLinked}
-
--- a place that is written has the new item
-slice_get-set_same : {X : Type 0} (xs : List X) (i : ℕ) (x : X) → i < length xs → slice_get (set xs i x) i ≡ Some x
-slice_get-set_same [] i x within = absurd (omega arith)
-slice_get-set_same (y ∷ xs) zero x within = refl
-slice_get-set_same (y ∷ xs) (suc i) x within = slice_get-set_same xs i x (omega arith)
-
--- and each other place keeps its own
-slice_get-set_other : {X : Type 0} (xs : List X) (i j : ℕ) (x : X) → j ≢ i → slice_get (set xs i x) j ≡ slice_get xs j
-slice_get-set_other [] i j x differ = refl
-slice_get-set_other (y ∷ xs) zero zero x differ = absurd (differ refl)
-slice_get-set_other (y ∷ xs) zero (suc j) x differ = refl
-slice_get-set_other (y ∷ xs) (suc i) zero x differ = refl
-slice_get-set_other (y ∷ xs) (suc i) (suc j) x differ = slice_get-set_other xs i j x (λ same. differ (ap suc same))
 
 -- a link that is written leaves the nodes
 pub nodes_of-set : (cells : List Cell) (place : ℕ) (cell : Cell) (link : ℕ) → slice_get cells place ≡ Some cell → nodes_of (set cells place (record { node = cell.node; next = link })) ≡ nodes_of cells

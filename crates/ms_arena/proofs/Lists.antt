@@ -1,5 +1,5 @@
--- The item at a place of a list that grows at its end.
-use Rattle.std.proofs.Common.{◌≡◌, ℕ, zero, suc, ◌<◌, ◌⊎◌, List, [], ◌∷◌, ◌++◌, length, slice_get, Some, refl, ap, inl, inr, ⊎_elim, arith}
+-- The item at a place of a list that grows at its end, or in which one item is written anew.
+use Rattle.std.proofs.Common.{◌≡◌, ◌≢◌, ℕ, zero, suc, ◌<◌, ◌⊎◌, List, [], ◌∷◌, ◌++◌, length, set, slice_get, Some, refl, ap, inl, inr, ⊎_elim, arith}
 use Rattle.std.proofs.lemmas.Option.{slice_get_within, same_Some, none-some}
 
 module _ {X : Type 0} where
@@ -32,3 +32,17 @@ module _ {X : Type 0} where
   slice_get-pushed [] x (suc i) y there = absurd (none-some y there)
   slice_get-pushed (z ∷ xs) x zero y there = inl there
   slice_get-pushed (z ∷ xs) x (suc i) y there = ⊎_elim inl (λ last. inr (ap suc last.0, last.1)) (slice_get-pushed xs x i y there)
+
+  -- a place that is written has the new item
+  pub slice_get-set_same : (xs : List X) (i : ℕ) (x : X) → i < length xs → slice_get (set xs i x) i ≡ Some x
+  slice_get-set_same [] i x within = absurd (omega arith)
+  slice_get-set_same (y ∷ xs) zero x within = refl
+  slice_get-set_same (y ∷ xs) (suc i) x within = slice_get-set_same xs i x (omega arith)
+
+  -- and each other place keeps its own
+  pub slice_get-set_other : (xs : List X) (i j : ℕ) (x : X) → j ≢ i → slice_get (set xs i x) j ≡ slice_get xs j
+  slice_get-set_other [] i j x differ = refl
+  slice_get-set_other (y ∷ xs) zero zero x differ = absurd (differ refl)
+  slice_get-set_other (y ∷ xs) zero (suc j) x differ = refl
+  slice_get-set_other (y ∷ xs) (suc i) zero x differ = refl
+  slice_get-set_other (y ∷ xs) (suc i) (suc j) x differ = slice_get-set_other xs i j x (λ same. differ (ap suc same))

@@ -4,6 +4,7 @@ use Rattle.std.specs.Option.{option_map}
 use Rattle.std.proofs.lemmas.Bool.{cases_eq}
 use Rattle.std.proofs.lemmas.Option.{slice_get_within, slice_get-get_or, slice_get-map}
 use Rattle.std.proofs.lemmas.List.Elements.{Contains-append_cases}
+use Rattle.ms_arena.proofs.Lists.{slice_get-set_other}
 use Rattle.ms_dag.specs.declared.node.Child.{Child}
 use Rattle.ms_dag.specs.declared.dag.SharedRoot.{SharedRoot}
 use Rattle.ms_dag.specs.Share.{children_of_roots}
@@ -42,14 +43,6 @@ root_next roots place root less is =
     take_next (map (λ (c : Child). c.node) (children_of_roots roots)) place root.child.node
     (slice_get-map (λ (c : Child). c.node) (children_of_roots roots) place
     ∙ ap (option_map (λ (c : Child). c.node)) (slice_get-map (λ (r : SharedRoot). r.child) roots place ∙ ap (option_map (λ (r : SharedRoot). r.child)) (slice_get-get_or roots place root less ∙ ap Some (sym is))))
-
--- what is written at a place leaves the others
-slice_get-set_other : {X : Type 0} (xs : List X) (i j : ℕ) (x : X) → j ≢ i → slice_get (slice_set xs i x) j ≡ slice_get xs j
-slice_get-set_other [] i j x differ = refl
-slice_get-set_other (y ∷ xs) zero zero x differ = absurd (differ refl)
-slice_get-set_other (y ∷ xs) zero (suc j) x differ = refl
-slice_get-set_other (y ∷ xs) (suc i) zero x differ = refl
-slice_get-set_other (y ∷ xs) (suc i) (suc j) x differ = slice_get-set_other xs i j x (λ same. differ (ap suc same))
 
 -- what no later node uses may be let go
 pub let_go_of : (plan : Plan) (last : List ℕ) (built : List (Content Sign)) (node : ℕ) (small : Content Sign) → AreLastUses (entries_of plan) (roots_of plan) last → AreBuiltFor plan built

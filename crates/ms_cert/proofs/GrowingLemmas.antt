@@ -4,7 +4,7 @@ use Rattle.std.proofs.lemmas.Bool.{cases_eq}
 use Rattle.std.proofs.lemmas.List.{length-map, reverse-append}
 use Rattle.std.proofs.lemmas.Option.{none-some, same_Some, slice_get-get_or, slice_get_within}
 use Rattle.std.specs.List.{AllByRecursion, range_with_len}
-use Rattle.ms_arena.proofs.Lists.{slice_get-append_left, slice_get-held, slice_get-push}
+use Rattle.ms_arena.proofs.Lists.{slice_get-append_left, slice_get-held, slice_get-push, slice_get-set_other, slice_get-set_same}
 use Rattle.ms_dfa.specs.declared.plain.FileSign.{FileSign}
 use Rattle.ms_logic.specs.FiniteSet.{numbers_below}
 use Rattle.ms_logic_words.specs.Content.{Content}
@@ -14,7 +14,6 @@ use Rattle.ms_cert.specs.declared.cert.TreeLine.TheVariants.{At, By}
 use Rattle.ms_cert.specs.declared.partition.Splitter.{Splitter}
 use Rattle.ms_cert.specs.inner.Growing.{AreGrown, IsGrown, Joins, RiseFrom, TellsLeaves, leaves_of}
 use Rattle.ms_cert.specs.inner.Partition.{Classes, IsDiscrete, IsIn, IsPartition}
-use Rattle.ms_cert.proofs.LevelsLemmas.{get-set_other, get-set_same}
 use Rattle.ms_cert.proofs.MemberLemmas.{in-filter, kept, number-below, number-in}
 use Rattle.ms_cert.proofs.PartitionLemmas.{only-first}
 use Rattle.ms_cert.proofs.StemLemmas.{stems-first, stems-further, stems-here, stems-low, stems-lower, stems-raise}
@@ -214,12 +213,12 @@ module _ (content : Content FileSign) where
                 let there = ap (λ (ts : List (List TreeLine)). slice_get ts class) (sym joins.made) ∙ held in
                 ⊎_elim
                 (λ same.
-                let is_made : made ≡ lines = same_Some made lines (sym (get-set_same front parent made (slice_get_within front parent joins.second joins.there)) ∙ ap (slice_get (slice_set front parent made)) (sym same) ∙ there) in
+                let is_made : made ≡ lines = same_Some made lines (sym (slice_get-set_same front parent made (slice_get_within front parent joins.second joins.there)) ∙ ap (slice_get (slice_set front parent made)) (sym same) ∙ there) in
                 subst (λ (k : ℕ). IsGrown content parts bound k (reverse lines)) (sym same)
                 (subst (λ (ls : List TreeLine). IsGrown content parts bound parent (reverse ls)) is_made
                 (grown-branch joins.first joins.second (grown.each (bound + 1) joins.first last) (grown.each parent joins.second (early old parent joins.second front joins.first joins.parts joins.there)))))
                 (λ differ.
-                let was = sym (get-set_other front parent class made differ) ∙ there in
+                let was = sym (slice_get-set_other front parent class made differ) ∙ there in
                 let less = slice_get_within front class lines was in
                 grown-other class (reverse lines) (omega (arith, less, long)) differ (grown.each class lines (early old class lines front joins.first joins.parts was)))
                 (cases_eq class parent);

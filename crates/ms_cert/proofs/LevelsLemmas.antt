@@ -8,7 +8,7 @@ use Rattle.ms_arena.specs.declared.node.Ref.{Ref}
 use Rattle.ms_arena.specs.declared.node.Ref.TheVariants.{Leaf, Inner}
 use Rattle.ms_arena.specs.Diagram.{Bits, TestsAbove, leaf_of}
 use Rattle.ms_arena.proofs.Canonicity.{end_for, TestsAbove-end_for}
-use Rattle.ms_arena.proofs.Lists.{slice_get-held}
+use Rattle.ms_arena.proofs.Lists.{slice_get-held, slice_get-set_other, slice_get-set_same}
 use Rattle.ms_arena.proofs.Paths.{leaf_of-leaf, leaf_of-node}
 use Rattle.ms_dfa.specs.declared.part.Part.{Part}
 use Rattle.ms_dfa.specs.declared.plain.FileSign.{FileSign}
@@ -16,19 +16,7 @@ use Rattle.ms_logic_words.specs.Content.{Content, IsContent, NamesPart, bits_at}
 use Rattle.ms_cert.specs.inner.Lengths.{letters_in, letters_to}
 use Rattle.ms_cert.specs.inner.Levels.{AgreeBefore, IsKept, IsKnown, IsWordOf, Leads, MakesWords, Reached, level_of, made_word}
 
--- what is written at a place stands there, and leaves the others
-pub get-set_same : {X : Type 0} (xs : List X) (i : ℕ) (x : X) → i < length xs → slice_get (slice_set xs i x) i ≡ Some x
-get-set_same [] i x within = absurd (omega arith)
-get-set_same (y ∷ xs) zero x within = refl
-get-set_same (y ∷ xs) (suc i) x within = get-set_same xs i x (omega arith)
-
-pub get-set_other : {X : Type 0} (xs : List X) (i j : ℕ) (x : X) → j ≢ i → slice_get (slice_set xs i x) j ≡ slice_get xs j
-get-set_other [] i j x differ = refl
-get-set_other (y ∷ xs) zero zero x differ = absurd (differ refl)
-get-set_other (y ∷ xs) zero (suc j) x differ = refl
-get-set_other (y ∷ xs) (suc i) zero x differ = refl
-get-set_other (y ∷ xs) (suc i) (suc j) x differ = get-set_other xs i j x (λ same. differ (ap suc same))
-
+-- a bit that is written stands at its place, and leaves the others
 pub at-set_same : (xs : List Bool) (i : ℕ) (x : Bool) → i < length xs → bits_at (slice_set xs i x) i ≡ x
 at-set_same [] i x within = absurd (omega arith)
 at-set_same (y ∷ xs) zero x within = refl
@@ -49,14 +37,14 @@ get-replicate (suc n) (suc i) is = get-replicate n i is
 
 -- a bit that is written stands at one place more
 pub true-set : (xs : List Bool) (i j : ℕ) → slice_get (slice_set xs i true) j ≡ Some true → (j ≡ i) ⊎ (slice_get xs j ≡ Some true)
-true-set xs i j is = ⊎_elim (λ same. inl same) (λ other. inr (sym (get-set_other xs i j true other) ∙ is)) (cases_eq j i)
+true-set xs i j is = ⊎_elim (λ same. inl same) (λ other. inr (sym (slice_get-set_other xs i j true other) ∙ is)) (cases_eq j i)
 
 -- and leaves the others
 pub true-stays : (xs : List Bool) (i j : ℕ) → slice_get xs j ≡ Some true → slice_get (slice_set xs i true) j ≡ Some true
 true-stays xs i j is = ⊎_elim
     (λ same. subst (λ (k : ℕ). slice_get (slice_set xs i true) k ≡ Some true) (sym same)
-    (get-set_same xs i true (subst (λ (k : ℕ). k < length xs) same (slice_get_within xs j true is))))
-    (λ other. get-set_other xs i j true other ∙ is)
+    (slice_get-set_same xs i true (subst (λ (k : ℕ). k < length xs) same (slice_get_within xs j true is))))
+    (λ other. slice_get-set_other xs i j true other ∙ is)
     (cases_eq j i)
 
 pub kept-same : (one : Reached) → IsKept one one

@@ -3,9 +3,9 @@ use Rattle.std.proofs.Common.{◌≡◌, ◌≢◌, ◌⊎◌, ℕ, zero, suc, �
 use Rattle.std.proofs.lemmas.Bool.{cases_eq}
 use Rattle.std.proofs.lemmas.Option.{none-some, same_Some, slice_get_within}
 use Rattle.std.specs.List.{range_with_len}
+use Rattle.ms_arena.proofs.Lists.{slice_get-set_other, slice_get-set_same}
 use Rattle.ms_logic.specs.FiniteSet.{numbers_below}
 use Rattle.ms_cert.specs.inner.Partition.{IsIn, assigned}
-use Rattle.ms_cert.proofs.LevelsLemmas.{get-set_other, get-set_same}
 
 -- a state is in a list or not
 pub in-or_not : (states : List ℕ) (state : ℕ) → IsIn states state ⊎ (IsIn states state → ⊥)
@@ -52,8 +52,8 @@ in-filter test (s ∷ states) state place held = by (λ at. in-filter test state
 -- an item that is written leaves equal ones
 set-stays : {X : Type 0} (xs : List X) (i j : ℕ) (x : X) → slice_get xs j ≡ Some x → slice_get (slice_set xs i x) j ≡ Some x
 set-stays xs i j x is = ⊎_elim
-    (λ same. subst (λ (k : ℕ). slice_get (slice_set xs i x) k ≡ Some x) (sym same) (get-set_same xs i x (subst (λ (k : ℕ). k < length xs) same (slice_get_within xs j x is))))
-    (λ other. get-set_other xs i j x other ∙ is)
+    (λ same. subst (λ (k : ℕ). slice_get (slice_set xs i x) k ≡ Some x) (sym same) (slice_get-set_same xs i x (subst (λ (k : ℕ). k < length xs) same (slice_get_within xs j x is))))
+    (λ other. slice_get-set_other xs i j x other ∙ is)
     (cases_eq j i)
 
 pub length-assigned : (classes states : List ℕ) (class : ℕ) → length (assigned classes states class) ≡ length classes
@@ -70,7 +70,7 @@ assigned-in classes [] class state place held within = absurd (none-some state h
 assigned-in classes (s ∷ states) class state zero held within =
     let same = same_Some s state held in
     assigned-stays (slice_set classes s class) states class state
-    (subst (λ (k : ℕ). slice_get (slice_set classes s class) k ≡ Some class) same (get-set_same classes s class (subst (λ (k : ℕ). k < length classes) (sym same) within)))
+    (subst (λ (k : ℕ). slice_get (slice_set classes s class) k ≡ Some class) same (slice_get-set_same classes s class (subst (λ (k : ℕ). k < length classes) (sym same) within)))
 assigned-in classes (s ∷ states) class state (suc place) held within =
     assigned-in (slice_set classes s class) states class state place held (omega (arith, within, length-set classes s class))
 
@@ -79,7 +79,7 @@ pub assigned-out : (classes states : List ℕ) (class state : ℕ) → (IsIn sta
 assigned-out classes [] class state never = refl
 assigned-out classes (s ∷ states) class state never =
     assigned-out (slice_set classes s class) states class state (λ there. never (suc there.0, there.1))
-    ∙ get-set_other classes s state class (λ same. never (0, ap Some (sym same)))
+    ∙ slice_get-set_other classes s state class (λ same. never (0, ap Some (sym same)))
 
 -- equal items
 pub replicate-held : (n x i y : ℕ) → slice_get (replicate n x) i ≡ Some y → (i < n) × (y ≡ x)

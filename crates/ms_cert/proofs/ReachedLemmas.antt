@@ -4,12 +4,12 @@ use Rattle.std.proofs.lemmas.List.{length-replicate}
 use Rattle.std.proofs.lemmas.Option.{none-some, same_Some, slice_get_within}
 use Rattle.ms_list.specs.declared.word.Word.{Word}
 use Rattle.ms_arena.specs.declared.node.Ref.TheVariants.{Inner}
-use Rattle.ms_arena.proofs.Lists.{slice_get-append_some, slice_get-push, slice_get-pushed}
+use Rattle.ms_arena.proofs.Lists.{slice_get-append_some, slice_get-push, slice_get-pushed, slice_get-set_other, slice_get-set_same}
 use Rattle.ms_dfa.specs.declared.plain.FileSign.{FileSign}
 use Rattle.ms_logic_words.specs.Content.{Content}
 use Rattle.ms_cert.specs.inner.Lengths.{letters_in, letters_to}
 use Rattle.ms_cert.specs.inner.Levels.{AreUpTo, IsKept, IsKnown, IsReached, IsWordOf, IsWordTo, Leads, Reached, with_node, with_word}
-use Rattle.ms_cert.proofs.LevelsLemmas.{get-replicate, get-set_other, get-set_same, leads-kept, letters-kept, true-set, true-stays}
+use Rattle.ms_cert.proofs.LevelsLemmas.{get-replicate, leads-kept, letters-kept, true-set, true-stays}
 
 -- what is reached is the same where its parts are
 pub reached-same : (one two : Reached) → one.words ≡ two.words → one.known ≡ two.known → one.seen ≡ two.seen → one.order ≡ two.order → one ≡ two
@@ -28,18 +28,18 @@ module _ (content : Content FileSign) (old : Reached) (is : IsReached content ol
     pub word-kept : IsKept old (with_word old state word)
     word-kept = record {
       known = λ s known. true-stays old.known state s known;
-      words = λ s known. get-set_other old.words state s word (differ s known);
+      words = λ s known. slice_get-set_other old.words state s word (differ s known);
       order = λ at s there. slice_get-append_some old.order (state ∷ []) at s there;
     }
 
     own_word : slice_get (slice_set old.words state word) state ≡ Some word
-    own_word = get-set_same old.words state word (omega (arith, is.words_count, within))
+    own_word = slice_get-set_same old.words state word (omega (arith, is.words_count, within))
 
     own_letters : letters_to (slice_set old.words state word) state ≡ level
     own_letters = ap letters_in own_word ∙ of_level.long
 
     pub word-known : IsKnown (with_word old state word) state
-    word-known = get-set_same old.known state true (omega (arith, is.known_count, within))
+    word-known = slice_get-set_same old.known state true (omega (arith, is.known_count, within))
 
     -- what is known has the same letters as before, or is the state
     old_letters : (s : ℕ) → IsKnown old s → letters_to (slice_set old.words state word) s ≡ letters_to old.words s
@@ -83,7 +83,7 @@ module _ (content : Content FileSign) (old : Reached) (is : IsReached content ol
           let held : slice_get (slice_set old.words state word) state ≡ Some found = subst (λ (n : ℕ). slice_get (slice_set old.words state word) n ≡ Some found) here there in
           let same : word ≡ found = same_Some word found (sym own_word ∙ held) in
           subst (λ (n : ℕ). IsWordTo content n found) (sym here) (subst (λ (w : Word). IsWordTo content state w) same of_level.word_to))
-          (λ before. is.words s found before (sym (get-set_other old.words state s word (differ s before)) ∙ there))
+          (λ before. is.words s found before (sym (slice_get-set_other old.words state s word (differ s before)) ∙ there))
           (true-set old.known state s known);
       seen = λ at seen. leads-kept content old (with_word old state word) (Inner at) word-kept (is.seen at seen);
       listed = λ s known. ⊎_elim

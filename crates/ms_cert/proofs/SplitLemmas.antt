@@ -2,13 +2,12 @@
 use Rattle.std.proofs.Common.{◌≡◌, ◌≢◌, ◌⊎◌, ℕ, ◌+◌, ◌<◌, Bool, true, false, not, List, [], ◌∷◌, filter, length, length-append, length-set, slice_get, slice_index_or, slice_set, Some, refl, sym, ap, subst, ◌∙◌, arith, inl, inr, ⊎_elim}
 use Rattle.std.proofs.lemmas.Bool.{cases_eq}
 use Rattle.std.proofs.lemmas.Option.{same_Some, slice_get-get_or, slice_get_within}
-use Rattle.ms_arena.proofs.Lists.{slice_get-append_left, slice_get-push, slice_get-pushed}
+use Rattle.ms_arena.proofs.Lists.{slice_get-append_left, slice_get-push, slice_get-pushed, slice_get-set_other, slice_get-set_same}
 use Rattle.ms_dfa.specs.declared.plain.FileSign.{FileSign}
 use Rattle.ms_logic_words.specs.Content.{AreLetters, Content}
 use Rattle.ms_cert.specs.declared.partition.Splitter.{Splitter}
 use Rattle.ms_cert.specs.inner.Partition.{Classes, IsIn, IsPartition, StemsFrom, is_split_off, with_split}
 use Rattle.ms_cert.specs.inner.Refinement.{TellsSomeApart}
-use Rattle.ms_cert.proofs.LevelsLemmas.{get-set_other, get-set_same}
 use Rattle.ms_cert.proofs.MemberLemmas.{assigned-in, assigned-out, in-filter, in-or_not, kept, length-assigned}
 use Rattle.ms_cert.proofs.StemLemmas.{stems-low, stems-old, stems-parent}
 
@@ -101,12 +100,12 @@ module _ (content : Content FileSign) (old : Classes) (is : IsPartition content 
   pub new-own : slice_get new.members class ≡ Some left
   new-own =
       let less : class < length (slice_set old.members class left) = omega (arith, within, length-set old.members class left) in
-      slice_get-append_left (slice_set old.members class left) (moved ∷ []) class less ∙ get-set_same old.members class left within
+      slice_get-append_left (slice_set old.members class left) (moved ∷ []) class less ∙ slice_get-set_same old.members class left within
 
   pub new-other : (other : ℕ) → other < length old.members → other ≢ class → slice_get new.members other ≡ slice_get old.members other
   new-other other less differ =
       let long : other < length (slice_set old.members class left) = omega (arith, less, length-set old.members class left) in
-      slice_get-append_left (slice_set old.members class left) (moved ∷ []) other long ∙ get-set_other old.members class other left differ
+      slice_get-append_left (slice_set old.members class left) (moved ∷ []) other long ∙ slice_get-set_other old.members class other left differ
 
   new-listed : (state own : ℕ) → slice_get new.classes state ≡ Some own → (list : List ℕ) × (slice_get new.members own ≡ Some list) × IsIn list state
   new-listed state own held = ⊎_elim
@@ -133,13 +132,13 @@ module _ (content : Content FileSign) (old : Classes) (is : IsPartition content 
   new-own_class at state list held in_list = ⊎_elim
       (λ early. ⊎_elim
       (λ same.
-      let is_left : left ≡ list = same_Some left list (sym (get-set_same old.members class left within) ∙ ap (slice_get (slice_set old.members class left)) (sym same) ∙ early) in
+      let is_left : left ≡ list = same_Some left list (sym (slice_get-set_same old.members class left within) ∙ ap (slice_get (slice_set old.members class left)) (sym same) ∙ early) in
       let in_left = subst (λ (s : List ℕ). IsIn s state) (sym is_left) in_list in
       let both = in-filter (λ s. not (test s)) states state in_left.0 in_left.1 in
       assigned-out old.classes moved count state (never-fails state both.1)
       ∙ is.own class state states there both.0 ∙ ap Some (sym same))
       (λ differ.
-      let was = is.own at state list (sym (get-set_other old.members class at left differ) ∙ early) in_list in
+      let was = is.own at state list (sym (slice_get-set_other old.members class at left differ) ∙ early) in_list in
       assigned-out old.classes moved count state (λ in_moved. differ (same_Some at class (sym was ∙ (moved-was state in_moved).0)))
       ∙ was)
       (cases_eq at class))
@@ -172,9 +171,9 @@ module _ (content : Content FileSign) (old : Classes) (is : IsPartition content 
   new-some apart at list held = ⊎_elim
       (λ early. ⊎_elim
       (λ same.
-      let is_left : left ≡ list = same_Some left list (sym (get-set_same old.members class left within) ∙ ap (slice_get (slice_set old.members class left)) (sym same) ∙ early) in
+      let is_left : left ≡ list = same_Some left list (sym (slice_get-set_same old.members class left within) ∙ ap (slice_get (slice_set old.members class left)) (sym same) ∙ early) in
       subst (λ (s : List ℕ). 0 < length s) is_left (sides-some apart).1)
-      (λ differ. is.some at list (sym (get-set_other old.members class at left differ) ∙ early))
+      (λ differ. is.some at list (sym (slice_get-set_other old.members class at left differ) ∙ early))
       (cases_eq at class))
       (λ last. subst (λ (s : List ℕ). 0 < length s) last.1 (sides-some apart).0)
       (slice_get-pushed (slice_set old.members class left) moved at list held)

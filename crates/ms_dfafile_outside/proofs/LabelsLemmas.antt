@@ -5,7 +5,7 @@ use Rattle.std.proofs.lemmas.List.{length-set, length-replicate}
 use Rattle.std.proofs.lemmas.Option.{none-some, same_Some, slice_get_within}
 use Rattle.ms_arena.specs.declared.node.Ref.{Ref}
 use Rattle.ms_arena.specs.declared.node.Ref.TheVariants.{Leaf, Inner}
-use Rattle.ms_arena.proofs.Lists.{slice_get-append_some, slice_get-held, slice_get-push, slice_get-pushed}
+use Rattle.ms_arena.proofs.Lists.{slice_get-append_some, slice_get-held, slice_get-push, slice_get-pushed, slice_get-set_other, slice_get-set_same}
 use Rattle.ms_dfa.specs.Files.{MarksOutside}
 use Rattle.ms_dfa.specs.declared.plain.FileSign.{FileSign}
 use Rattle.ms_logic.specs.Lists.{AreRising}
@@ -15,18 +15,6 @@ use Rattle.ms_dfafile_outside.specs.declared.label.Label.TheVariants.{Seen}
 use Rattle.ms_dfafile_outside.specs.inner.Labels.{AreKept, AreLabels, AreSettled, Brings, Finds, HasArrived, HasCome, HasNoGap, IsKnown, IsNoted, IsSettled, index_of}
 use Rattle.ms_dfafile_outside.proofs.ClosedLemmas.{marks-closed}
 use Rattle.ms_dfafile_outside.proofs.ComeLemmas.{come-agree}
-
-slice_get-set-same : {X : Type 0} (xs : List X) (i : ℕ) (x : X) → i < length xs → slice_get (set xs i x) i ≡ Some x
-slice_get-set-same [] i x within = absurd (omega (arith, within))
-slice_get-set-same (y ∷ xs) zero x within = refl
-slice_get-set-same (y ∷ xs) (suc i) x within = slice_get-set-same xs i x (omega (arith, within))
-
-slice_get-set-other : {X : Type 0} (xs : List X) (i j : ℕ) (x : X) → (j ≡ i → ⊥) → slice_get (set xs i x) j ≡ slice_get xs j
-slice_get-set-other [] i j x differ = refl
-slice_get-set-other (y ∷ xs) zero zero x differ = absurd (differ refl)
-slice_get-set-other (y ∷ xs) zero (suc j) x differ = refl
-slice_get-set-other (y ∷ xs) (suc i) zero x differ = refl
-slice_get-set-other (y ∷ xs) (suc i) (suc j) x differ = slice_get-set-other xs i j x (λ same. differ (ap (λ n. suc n) same))
 
 slice_get-replicate-some : {X : Type 0} (n i : ℕ) (x y : X) → slice_get (replicate n x) i ≡ Some y → x ≡ y
 slice_get-replicate-some zero i x y held = absurd (none-some y held)
@@ -78,13 +66,13 @@ module _ (content : Content FileSign) where
 
     kept-more : slice_get known at ≡ Some None → AreKept known more work longer
     kept-more none = record {
-      labels = λ i other held. slice_get-set-other known at i (Some label)
+      labels = λ i other held. slice_get-set_other known at i (Some label)
           (λ same. none-label (slice_get known at) other none (ap (slice_get known) (sym same) ∙ held)) ∙ held;
       listed = λ i other held. slice_get-append_some work (reference ∷ []) i other held;
     }
 
     own : IsKnown content more reference label
-    own = slice_get-set-same known at (Some label) (index-within reference known work are named)
+    own = slice_get-set_same known at (Some label) (index-within reference known work are named)
 
     -- a part with a label is this one, or had it before
     was-known : (other : Ref) (its : Label) → NamesPart content other → IsKnown content more other its → ((other ≡ reference) × (its ≡ label)) ⊎ IsKnown content known other its
@@ -93,7 +81,7 @@ module _ (content : Content FileSign) where
           same-part other reference other_named named same,
           same_Some its label (same_Some (Some its) (Some label) (sym held ∙ ap (slice_get more) same ∙ own)),
         ))
-        (λ differ. inr (sym (slice_get-set-other known at (index_of content other) (Some label) differ) ∙ held))
+        (λ differ. inr (sym (slice_get-set_other known at (index_of content other) (Some label) differ) ∙ held))
         (cases_eq (index_of content other) at)
 
     are-more : (level : ℕ) → slice_get known at ≡ Some None → HasCome content reference label level → AreLabels content more longer
