@@ -1,4 +1,5 @@
 pub mod AgreementLemmas
+pub mod AtLeastLemmas
 pub mod BinderLemmas
 pub mod ChangeLemmas
 pub mod ChildLemmas

@@ -1,3 +1,4 @@
+pub mod AtLeast
 pub mod Examples
 pub mod Lacked
 pub mod Uses

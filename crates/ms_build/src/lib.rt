@@ -1,6 +1,7 @@
 //! From a graph of formulas to automata of fewest states, one for each root.
 #![tactic(auto)]
 
+mod at_least;
 mod bodies;
 mod built;
 mod children;

@@ -5,10 +5,11 @@ ghost use Rattle.ms_build.specs.Short.{FormLacks, NodeLacks, QuantifierLacks};
 ghost use Rattle.ms_dfa.specs.Automaton.{variable_of};
 ghost use Rattle.ms_dfa_explore.specs.Explored.{OnRefused};
 
+use crate::at_least::over_all;
 use crate::connectives::{many, negation, pair, restriction};
 use crate::leaves::{falsity, imported, relation, truth};
 use crate::plan::{Many, Plan};
-use crate::quantified::{Scope, over_all, within};
+use crate::quantified::{Scope, within};
 use ms_dag::{Child, DagNode, Entry};
 use ms_dfa::{Automaton, Track};
 use ms_list::StepFault;

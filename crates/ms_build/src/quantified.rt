@@ -14,8 +14,8 @@ use ms_list::StepFault;
 use ms_logic::Order;
 use ms_project::{Quantifier, project};
 
-/// A quantifier over all values of its variable.
-pub(crate) fn over_all(
+/// A quantifier over all values of its variable, by the sets of states to which they lead.
+pub(crate) fn by_projection(
     plan: &Plan,
     built: &[Automaton],
     quantifier: Quantifier,

@@ -1,4 +1,4 @@
-use Rattle.std.proofs.Common.{get_or, arith}
+use Rattle.std.proofs.Common.{arith}
 use Rattle.ms_dfa.specs.declared.track.Track.{Track}
 use Rattle.ms_logic.specs.declared.mode.Order.TheVariants.{Zero}
 use Rattle.ms_build.proofs.LackedLemmas.{AreBelow-next, IsNotBelow-past, IsNotBelow-there}

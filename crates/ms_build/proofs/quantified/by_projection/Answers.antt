@@ -7,7 +7,7 @@ use Rattle.ms_build.proofs.RefusalLemmas.{fault_more, refused_more}
 use Rattle.ms_dfa.specs.Automaton.{variable_of}
 use Rattle.ms_build.specs.Built.{entries_of, imports_for}
 use Rattle.ms_build.proofs.BinderLemmas.{bound_among, over_all_by}
-use Rattle.ms_build.proofs.quantified.over_all.Goals as goal
+use Rattle.ms_build.proofs.quantified.by_projection.Goals as goal
 use Rattle.ms_logic_words.specs.declared.sign.Sign.{Sign}
 
 pub project-requires-clause-bound : goal.project-requires-clause-bound
