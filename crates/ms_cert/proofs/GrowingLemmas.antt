@@ -11,7 +11,7 @@ use Rattle.ms_logic_words.specs.Content.{Content}
 use Rattle.ms_cert.specs.Certificate.{AreApart, IsLineOver, Separates, Tree, branch, ends_in, leaf}
 use Rattle.ms_cert.specs.declared.cert.TreeLine.{TreeLine}
 use Rattle.ms_cert.specs.declared.cert.TreeLine.TheVariants.{At, By}
-use Rattle.ms_cert.specs.declared.partition.Splitter.{Splitter}
+use Rattle.ms_cert.specs.declared.splitter.Splitter.{Splitter}
 use Rattle.ms_cert.specs.inner.Growing.{AreGrown, IsGrown, Joins, RiseFrom, TellsLeaves, leaves_of}
 use Rattle.ms_cert.specs.inner.Partition.{Classes, IsDiscrete, IsIn, IsPartition}
 use Rattle.ms_cert.proofs.MemberLemmas.{in-filter, kept, number-below, number-in}

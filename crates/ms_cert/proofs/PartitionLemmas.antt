@@ -9,7 +9,7 @@ use Rattle.ms_dfa.specs.declared.plain.FileSign.TheVariants.{Plus}
 use Rattle.ms_logic.specs.FiniteSet.{numbers_below}
 use Rattle.ms_logic_measures.proofs.Pigeonhole.{pigeonhole}
 use Rattle.ms_logic_words.specs.Content.{AreLetters, Content}
-use Rattle.ms_cert.specs.declared.partition.Splitter.{Splitter}
+use Rattle.ms_cert.specs.declared.splitter.Splitter.{Splitter}
 use Rattle.ms_cert.specs.inner.Partition.{Classes, IsIn, IsParting, IsPartition, StemsFrom, is_split_off, one_class}
 use Rattle.ms_cert.proofs.MemberLemmas.{number-below, number-in, replicate-at, replicate-held}
 

@@ -5,7 +5,7 @@ use Rattle.std.proofs.lemmas.Option.{same_Some, slice_get-get_or, slice_get_with
 use Rattle.ms_arena.proofs.Lists.{slice_get-append_left, slice_get-push, slice_get-pushed, slice_get-set_other, slice_get-set_same}
 use Rattle.ms_dfa.specs.declared.plain.FileSign.{FileSign}
 use Rattle.ms_logic_words.specs.Content.{AreLetters, Content}
-use Rattle.ms_cert.specs.declared.partition.Splitter.{Splitter}
+use Rattle.ms_cert.specs.declared.splitter.Splitter.{Splitter}
 use Rattle.ms_cert.specs.inner.Partition.{Classes, IsIn, IsPartition, StemsFrom, is_split_off, with_split}
 use Rattle.ms_cert.specs.inner.Refinement.{TellsSomeApart}
 use Rattle.ms_cert.proofs.MemberLemmas.{assigned-in, assigned-out, in-filter, in-or_not, kept, length-assigned}

@@ -5,7 +5,7 @@ use Rattle.std.specs.Option.{option_map_or}
 use Rattle.ms_dfa.specs.declared.plain.FileSign.{FileSign}
 use Rattle.ms_logic_words.specs.Content.{Content, next_state, sign_at}
 use Rattle.ms_cert.specs.Certificate.{ends_in, is_sign}
-use Rattle.ms_cert.specs.declared.partition.Splitter.{Splitter}
+use Rattle.ms_cert.specs.declared.splitter.Splitter.{Splitter}
 use Rattle.ms_cert.specs.inner.Partition.{Classes, HasTail, IsParting, IsPartition, StemsFrom, is_split_off}
 use Rattle.ms_cert.specs.inner.Refinement.{LeadsApart, Refines, TellsApart}
 use Rattle.ms_cert.proofs.PartitionLemmas.{parting-tells}

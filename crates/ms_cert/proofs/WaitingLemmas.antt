@@ -8,7 +8,7 @@ use Rattle.ms_dfa.specs.declared.plain.Plain.{Plain}
 use Rattle.ms_logic_words.specs.Content.{Content}
 use Rattle.ms_cert.specs.Certificate.{Separates, Tree, branch, ends_in, leaf}
 use Rattle.ms_cert.specs.declared.cert.TreeLine.TheVariants.{By}
-use Rattle.ms_cert.specs.declared.partition.Splitter.{Splitter}
+use Rattle.ms_cert.specs.declared.splitter.Splitter.{Splitter}
 use Rattle.ms_cert.specs.declared.separation.Sides.{Sides}
 use Rattle.ms_cert.specs.inner.Partition.{Classes, IsPartition, is_split_off, with_split}
 use Rattle.ms_cert.specs.inner.Refinement.{TellsSomeApart}

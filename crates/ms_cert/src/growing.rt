@@ -8,7 +8,8 @@ ghost use Rattle.ms_cert.specs.inner.Partition.{IsDiscrete, IsPartition, classes
 
 use crate::cert::TreeLine;
 use crate::laid_out::LaidOut;
-use crate::partition::{Partition, Splitter, append};
+use crate::partition::{Partition, append};
+use crate::splitter::Splitter;
 use ms_list::{List, NoMemory};
 use std::alloc::Global;
 
@@ -79,6 +80,7 @@ pub(crate) fn grow_tree(file: &LaidOut, partition: Partition) -> Result<List<Tre
         };
         let Splitter { sign, letters, .. } = splitter;
         let parent = partition.parents[trees.len() - 1];
+        let letters = letters.into_list(file.alloc)?;
         join(file.alloc, &mut trees, parent, TreeLine::By(sign, letters))?;
     }
     let Some(last) = trees.pop() else {

@@ -25,6 +25,7 @@ mod running;
 mod separation;
 mod shortest;
 mod sign;
+mod splitter;
 mod tree;
 mod tree_line;
 mod word;

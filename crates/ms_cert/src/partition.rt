@@ -10,21 +10,13 @@ use crate::room::{MOST_LETTERS, take_room};
 use crate::running::{state_after, step};
 use crate::separation::{Sides, all_states};
 use crate::sign::is_same;
+use crate::splitter::{Letters, Splitter};
 use ms_dfa::{FileSign, Plain};
 use ms_list::{List, NoMemory, push};
 use std::alloc::Global;
 
-/// A sign, and letters that end in it from some states and not from others.
-#[derive(Drop)]
-pub(crate) struct Splitter {
-    pub sign: FileSign,
-    pub letters: List<List<bool>>,
-    /// The class whose splitter has the letters behind the first one, and the same sign; 0 where that is not known.
-    pub tail: usize,
-}
-
 /// Classes of states, each but the first of which was split off from an earlier one.
-pub(crate) struct Partition {
+pub(crate) struct Partition<'a> {
     /// For each state its class.
     pub classes: Vec<u32>,
     /// For each class its states.
@@ -32,13 +24,13 @@ pub(crate) struct Partition {
     /// For each class the one from which it was split off.
     pub parents: Vec<usize>,
     /// For each class what it was split off by: from its states the letters end in the sign.
-    pub splitters: Vec<Splitter>,
+    pub splitters: Vec<Splitter<'a>>,
     /// How many letters further splitters may have.
     pub room: usize,
 }
 
 // Written out, so that a function that lets one go at each of its exits is proved at the cost of a call.
-impl Drop for Partition {
+impl Drop for Partition<'_> {
     fn drop(self) {
         let Partition {
             classes: _,
@@ -61,7 +53,7 @@ pub(crate) fn append<T: Drop>(items: &mut Vec<T>, item: T) -> Result<(), NoMemor
 }
 
 /// All states in one class, which was split off by nothing.
-pub(crate) fn one_class(alloc: Global, plain: &Plain) -> Result<Partition, NoMemory>
+pub(crate) fn one_class<'a>(alloc: Global, plain: &Plain) -> Result<Partition<'a>, NoMemory>
     requires { length plain.now.states < 2 ^ 32 }
     ensures { IfOk result (λ made. classes_of made ≡ one_class (content_of_file plain.now)) }
 {
@@ -76,7 +68,7 @@ pub(crate) fn one_class(alloc: Global, plain: &Plain) -> Result<Partition, NoMem
     let mut splitters = Vec::new(alloc);
     let nothing = Splitter {
         sign: FileSign::Plus,
-        letters: List::new(alloc),
+        letters: Letters::own(List::new(alloc)),
         tail: 0,
     };
     append(&mut splitters, nothing)?;
@@ -195,16 +187,16 @@ pub(crate) fn sides_by(
 }
 
 /// The states of the first side make a class from now on, and those of the second are what is left of the old one.
-pub(crate) fn put(
-    partition: &mut Partition,
+pub(crate) fn put<'a>(
+    partition: &mut Partition<'a>,
     class: usize,
-    splitter: Splitter,
+    splitter: Splitter<'a>,
     sides: Sides,
 ) -> Result<(), NoMemory>
     requires few { length partition.old.parents.items < 2 ^ 32 }
     requires class { class < length partition.old.members.items }
     requires states { (state : ℕ) → IsIn sides.first state → state < length partition.old.classes.items }
-    ensures { OnOk result (classes_of partition.new ≡ with_sides (classes_of partition.old) class splitter sides) }
+    ensures { OnOk result (classes_of partition.new ≡ with_sides (classes_of partition.old) class splitter.entry sides) }
 {
     take_room(&mut partition.room, splitter.letters.len())?;
     let count = partition.parents.len();
@@ -217,11 +209,11 @@ pub(crate) fn put(
 }
 
 /// Splits off from a class the states from which the letters of the splitter end in its sign.
-pub(crate) fn split_off(
+pub(crate) fn split_off<'a>(
     file: &LaidOut,
     class: usize,
-    splitter: Splitter,
-    partition: &mut Partition,
+    splitter: Splitter<'a>,
+    partition: &mut Partition<'a>,
 ) -> Result<(), NoMemory>
     requires few { length file.now.plain.now.states < 2 ^ 32 }
     requires content { IsContent (content_of_file file.now.plain.now) }
@@ -229,7 +221,7 @@ pub(crate) fn split_off(
     requires class { class < length partition.old.members.items }
     requires partition { IsPartition (content_of_file file.now.plain.now) (classes_of partition.old) }
     requires behind { IsBehind (classes_of partition.old) splitter }
-    ensures { OnOk result (classes_of partition.new ≡ with_split (content_of_file file.now.plain.now) (classes_of partition.old) class splitter) }
+    ensures { OnOk result (classes_of partition.new ≡ with_split (content_of_file file.now.plain.now) (classes_of partition.old) class splitter.entry) }
 {
     let sides = sides_by(
         file,

@@ -12,9 +12,10 @@ use crate::difference::bits_apart;
 use crate::images::{Images, image, images_of};
 use crate::laid_out::LaidOut;
 use crate::levels::{copy_bits, gather};
-use crate::partition::{Partition, Splitter, one_class, parting, split_off};
+use crate::partition::{Partition, one_class, parting, split_off};
 use crate::running::state_after;
 use crate::sign::is_same;
+use crate::splitter::{Letters, Splitter};
 use ms_arena::Ref;
 use ms_dfa::Part;
 use ms_list::{List, NoMemory, push};
@@ -43,13 +44,13 @@ fn append_letters(
 }
 
 /// The splitter by which the states parted to which the letter leads from two states, behind the letter.
-fn behind_letter(
+fn behind_letter<'a>(
     round: &Round,
     partition: &Partition,
     letter: List<bool>,
     one: u32,
     other: u32,
-) -> Result<Splitter, NoMemory>
+) -> Result<Splitter<'a>, NoMemory>
     requires content { IsContent (content_of_file round.now.file.now.plain.now) }
     requires slots { round.now.file.now.slots.now ≡ slots_of round.now.file.now.plain.now }
     requires partition { IsPartition (content_of_file round.now.file.now.plain.now) (classes_of partition.now) }
@@ -74,7 +75,7 @@ fn behind_letter(
     append_letters(file.alloc, &mut letters, found.letters.slice())?;
     Ok(Splitter {
         sign: found.sign,
-        letters,
+        letters: Letters::own(letters),
         tail: split,
     })
 }
@@ -119,12 +120,12 @@ fn letter_apart(round: &Round, one: u32, other: u32) -> Result<Option<List<bool>
 }
 
 /// What tells two states apart: their signs, or the classes to which a letter leads.
-fn difference(
+fn difference<'a>(
     round: &Round,
     partition: &Partition,
     one: u32,
     other: u32,
-) -> Result<Option<Splitter>, NoMemory>
+) -> Result<Option<Splitter<'a>>, NoMemory>
     requires content { IsContent (content_of_file round.now.file.now.plain.now) }
     requires slots { round.now.file.now.slots.now ≡ slots_of round.now.file.now.plain.now }
     requires images { AreImages round.now.file.now.plain.now round.now.classes.now round.now.images.now }
@@ -143,7 +144,7 @@ fn difference(
     if !is_same(first, second) {
         return Ok(Some(Splitter {
             sign: first,
-            letters: List::new(round.file.alloc),
+            letters: Letters::own(List::new(round.file.alloc)),
             tail: 0,
         }));
     }
@@ -154,11 +155,11 @@ fn difference(
 }
 
 /// What tells two of the states apart.
-fn difference_among(
+fn difference_among<'a>(
     round: &Round,
     partition: &Partition,
     states: &[u32],
-) -> Result<Option<Splitter>, NoMemory>
+) -> Result<Option<Splitter<'a>>, NoMemory>
     requires content { IsContent (content_of_file round.now.file.now.plain.now) }
     requires slots { round.now.file.now.slots.now ≡ slots_of round.now.file.now.plain.now }
     requires images { AreImages round.now.file.now.plain.now round.now.classes.now round.now.images.now }
@@ -184,11 +185,11 @@ fn difference_among(
 }
 
 /// What tells two states of a class apart.
-fn difference_in(
+fn difference_in<'a>(
     round: &Round,
     partition: &Partition,
     class: usize,
-) -> Result<Option<Splitter>, NoMemory>
+) -> Result<Option<Splitter<'a>>, NoMemory>
     requires content { IsContent (content_of_file round.now.file.now.plain.now) }
     requires slots { round.now.file.now.slots.now ≡ slots_of round.now.file.now.plain.now }
     requires images { AreImages round.now.file.now.plain.now round.now.classes.now round.now.images.now }
@@ -236,7 +237,7 @@ fn refine_once(file: &LaidOut, partition: &mut Partition) -> Result<(), NoMemory
 }
 
 /// Classes of one state each, for a file whose states differ: all states in one class, split round by round (Moore, 1956).
-pub(crate) fn refine(file: &LaidOut) -> Result<Partition, NoMemory>
+pub(crate) fn refine<'a>(file: &LaidOut) -> Result<Partition<'a>, NoMemory>
     requires few { length file.now.plain.now.states < 2 ^ 32 }
     requires canonical { IsCanonical (content_of_file file.now.plain.now) }
     requires slots { file.now.slots.now ≡ slots_of file.now.plain.now }

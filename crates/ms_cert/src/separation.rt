@@ -11,9 +11,9 @@ ghost use Rattle.ms_cert.specs.inner.Slots.{slots_of};
 
 use crate::cert::TreeLine;
 use crate::laid_out::LaidOut;
-use crate::levels::copy_letters;
-use crate::partition::{Partition, Splitter, append, class_behind, one_class, put, sides_by};
+use crate::partition::{Partition, append, class_behind, one_class, put, sides_by};
 use crate::sign::is_same;
+use crate::splitter::{Letters, Splitter};
 use ms_dfa::FileSign;
 use ms_list::{List, NoMemory, push};
 use std::alloc::Global;
@@ -129,36 +129,35 @@ fn tail_of(
 }
 
 /// What a line splits the states of a class by.
-fn splitter_of(
+fn splitter_of<'a>(
     file: &LaidOut,
     partition: &Partition,
     states: &[u32],
     sign: FileSign,
-    letters: &[List<bool>],
-) -> Result<Splitter, NoMemory>
+    letters: &'a [List<bool>],
+) -> Splitter<'a>
     requires content { IsContent (content_of_file file.now.plain.now) }
     requires slots { file.now.slots.now ≡ slots_of file.now.plain.now }
     requires partition { IsPartition (content_of_file file.now.plain.now) (classes_of partition.now) }
     requires states { AreStates file.now.plain.now states.now }
-    ensures sign { IfOk result (λ made. made.sign ≡ sign) }
-    ensures letters { IfOk result (λ made. made.letters ≡ letters.now) }
-    ensures behind { IfOk result (IsBehind (classes_of partition.now)) }
+    ensures sign { result.sign ≡ sign }
+    ensures letters { result.letters ≡ letters.now }
+    ensures behind { IsBehind (classes_of partition.now) result }
 {
     let tail = tail_of(file, partition, states, sign, letters);
-    let letters = copy_letters(file.alloc, letters)?;
-    Ok(Splitter {
+    Splitter {
         sign,
-        letters,
+        letters: Letters::lent(file.alloc, letters),
         tail,
-    })
+    }
 }
 
 /// Splits a class, whose two sides wait from now on, and answers whether both have a state.
-fn part(
+fn part<'a>(
     file: &LaidOut,
-    splitter: Splitter,
+    splitter: Splitter<'a>,
     class: usize,
-    partition: &mut Partition,
+    partition: &mut Partition<'a>,
     waiting: &mut Vec<usize>,
 ) -> Result<bool, NoMemory>
     requires few { length file.now.plain.now.states < 2 ^ 32 }
@@ -170,7 +169,7 @@ fn part(
     requires waiting { AreWaiting partition.old.members.items (waiting.old.items ++ class ∷ []) }
     ensures partition { IfOk result (λ parted. IsTrue parted → IsPartition (content_of_file file.now.plain.now) (classes_of partition.new)) }
     ensures waiting { IfOk result (λ parted. IsTrue parted → AreWaiting partition.new.members.items waiting.new.items) }
-    ensures takes { IfOk result (Takes (content_of_file file.now.plain.now) (By splitter.sign splitter.letters) (lists_of partition.old.members.items (waiting.old.items ++ class ∷ [])) (lists_of partition.new.members.items waiting.new.items)) }
+    ensures takes { IfOk result (Takes (content_of_file file.now.plain.now) (By splitter.entry.sign splitter.entry.letters) (lists_of partition.old.members.items (waiting.old.items ++ class ∷ [])) (lists_of partition.new.members.items waiting.new.items)) }
 {
     let sides = sides_by(
         file,
@@ -199,10 +198,10 @@ fn is_only(states: &[u32], own: u32) -> bool
 }
 
 /// Takes a line of the tree for the class that waits last, and answers whether the lines may go on.
-fn take(
+fn take<'a>(
     file: &LaidOut,
-    line: &TreeLine,
-    partition: &mut Partition,
+    line: &'a TreeLine,
+    partition: &mut Partition<'a>,
     waiting: &mut Vec<usize>,
 ) -> Result<bool, NoMemory>
     requires few { length file.now.plain.now.states < 2 ^ 32 }
@@ -222,7 +221,7 @@ fn take(
         TreeLine::At(own) => Ok(is_only(partition.members[class].slice(), *own)),
         TreeLine::By(sign, letters) => {
             let states = partition.members[class].slice();
-            let splitter = splitter_of(file, &*partition, states, *sign, letters.slice())?;
+            let splitter = splitter_of(file, &*partition, states, *sign, letters.slice());
             part(file, splitter, class, partition, waiting)
         }
     }

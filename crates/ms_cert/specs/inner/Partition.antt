@@ -6,7 +6,7 @@ use Rattle.ms_logic.specs.FiniteSet.{numbers_below}
 use Rattle.ms_logic_words.specs.Content.{AreLetters, Content}
 use Rattle.ms_cert.specs.Certificate.{ends_in}
 use Rattle.ms_cert.specs.declared.partition.Partition.{Partition}
-use Rattle.ms_cert.specs.declared.partition.Splitter.{Splitter}
+use Rattle.ms_cert.specs.declared.splitter.Splitter.{Splitter}
 use Rattle.ms_cert.specs.declared.separation.Sides.{Sides}
 
 -- for each state its class, and for each class its states, the class from which it was split off, and by what

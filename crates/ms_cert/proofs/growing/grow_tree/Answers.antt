@@ -1,13 +1,13 @@
-use Rattle.std.proofs.Common.{◌≡◌, ℕ, ◌+◌, ◌-◌, ◌<◌, ◌++◌, ◌∷◌, [], List, length, length-append, map, reverse, slice_get, slice_index, slice_index_or, Some, refl, sym, ap, subst, ◌∙◌, arith}
+use Rattle.std.proofs.Common.{◌≡◌, ℕ, ◌+◌, ◌-◌, ◌<◌, ◌++◌, ◌∷◌, [], Bool, List, length, length-append, map, reverse, slice_get, slice_index, slice_index_or, Some, refl, sym, ap, subst, ◌∙◌, arith}
 use Rattle.ms_arena.proofs.Lists.{slice_get-append_left, slice_get-held, slice_get-push}
 use Rattle.std.proofs.lemmas.Option.{slice_get_within}
 use Rattle.ms_dfa.specs.Files.{content_of_file}
 use Rattle.ms_dfa.specs.declared.plain.FileSign.{FileSign}
 use Rattle.ms_logic_words.specs.Content.{Content}
 use Rattle.ms_cert.specs.declared.cert.TreeLine.{TreeLine}
-use Rattle.ms_cert.specs.declared.cert.TreeLine.TheVariants.{At}
-use Rattle.ms_cert.specs.declared.partition.Splitter.{Splitter}
-use Rattle.ms_cert.specs.inner.Growing.{AreGrown, IsGrown}
+use Rattle.ms_cert.specs.declared.cert.TreeLine.TheVariants.{At, By}
+use Rattle.ms_cert.specs.declared.splitter.Splitter.{Splitter}
+use Rattle.ms_cert.specs.inner.Growing.{AreGrown, IsGrown, Joins}
 use Rattle.ms_cert.specs.inner.Partition.{Classes, IsPartition, classes_of}
 use Rattle.ms_cert.proofs.ContentLemmas.{length-states}
 use Rattle.ms_cert.proofs.GrowingLemmas.{grown-all, grown-join, grown-leaves}
@@ -112,7 +112,8 @@ joining-preserved c =
     let bound = back.0 in
     let long = back.1 in
     let up : length trees - 1 ≡ bound + 1 = omega (arith, long) in
-    let grown = grown-join content parts c.requires.partition bound c.index-parent.result.now c.in-Some.splitter back.3 back.4 trees after (subst (λ (b : ℕ). AreGrown content parts b trees) up was.grown) c.in_ok-join.ensures in
+    let grown = grown-join content parts c.requires.partition bound c.index-parent.result.now c.in-Some.splitter back.3 back.4 trees after (subst (λ (b : ℕ). AreGrown content parts b trees) up was.grown)
+    (subst (λ (ls : List (List Bool)). Joins c.index-parent.result.now (By c.in-Some.splitter.sign ls) trees after) c.in_ok-letters.ensures c.in_ok-join.ensures) in
     let count = grown.count in
     let down : bound ≡ length after - 1 = omega (arith, count) in
     let left = back.2 in

@@ -1,6 +1,6 @@
 use Rattle.std.proofs.Common.{◌≡◌, ℕ, ◌-◌, Some, length, slice_get}
 use Rattle.ms_dfa.specs.Files.{content_of_file}
-use Rattle.ms_cert.specs.declared.partition.Splitter.{Splitter}
+use Rattle.ms_cert.specs.declared.splitter.Splitter.{Splitter}
 use Rattle.ms_cert.specs.inner.Growing.{AreGrown}
 use Rattle.ms_cert.specs.inner.Partition.{classes_of}
 use Rattle.ms_cert.proofs.growing.grow_tree.Given as goal

@@ -28,6 +28,6 @@ returns-clause-apart c =
     let held_second : slice_get parts.classes second ≡ Some c.index-2.result.now = get-item parts.classes second c.index-2.result.now (omega (arith, second_in, count, length-states plain)) c.index-2.ensures in
     let parting = λ (differ : c.index.result.now ≢ c.index-2.result.now). subst (λ (parents : List ℕ). IsParting parents c.index.result.now c.index-2.result.now split) c.as_slice.ensures.value (c.parting-split.ensures.parting differ) in
     let within : split < length parts.splitters = let less = c.parting-split.ensures.within in let long = is.splitters_count in omega (arith, less, long, ap length c.as_slice.ensures.value) in
-    let letters : c.append_letters.new.made ≡ letter ∷ found.letters = c.in_ok-append_letters.ensures ∙ ap (λ (l : List (List Bool)). l ++ c.slice-3.result.now) pushed ∙ ap (λ (l : List (List Bool)). letter ∷ l) c.slice-3.ensures in
-    tells-behind content c.args.one c.args.other parts is c.args.round.now.classes.now letter first second c.index.result.now c.index-2.result.now split found c.append_letters.new.made c.requires.refines
+    let letters : c.own.result ≡ letter ∷ found.letters = c.own.ensures ∙ c.in_ok-append_letters.ensures ∙ ap (λ (l : List (List Bool)). l ++ c.slice-3.result.now) pushed ∙ ap (λ (l : List (List Bool)). letter ∷ l) c.slice-3.ensures in
+    tells-behind content c.args.one c.args.other parts is c.args.round.now.classes.now letter first second c.index.result.now c.index-2.result.now split found c.own.result c.requires.refines
     c.requires.apart is_first is_second held_first held_second parting (get-item parts.splitters split found within c.index-found.ensures) letters

@@ -1,7 +1,7 @@
 use Rattle.std.proofs.Common.{IfNone, Option, slice_index_or, subst, arith}
 use Rattle.std.proofs.lemmas.Option.{slice_get-get_or}
 use Rattle.ms_dfa.specs.Files.{content_of_file}
-use Rattle.ms_cert.specs.declared.partition.Splitter.{Splitter}
+use Rattle.ms_cert.specs.declared.splitter.Splitter.{Splitter}
 use Rattle.ms_cert.specs.inner.Refinement.{AreAlike}
 use Rattle.ms_cert.proofs.RefinementLemmas.{alike-all, alike-more}
 use Rattle.ms_cert.proofs.refinement.difference_among.Goals as goal

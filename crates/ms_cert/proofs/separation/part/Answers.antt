@@ -6,7 +6,7 @@ use Rattle.ms_dfa.specs.Files.{content_of_file}
 use Rattle.ms_dfa.specs.declared.plain.FileSign.{FileSign}
 use Rattle.ms_logic_words.specs.Content.{Content}
 use Rattle.ms_cert.specs.declared.cert.TreeLine.TheVariants.{By}
-use Rattle.ms_cert.specs.declared.partition.Splitter.{Splitter}
+use Rattle.ms_cert.specs.declared.splitter.Splitter.{Splitter}
 use Rattle.ms_cert.specs.declared.separation.Sides.{Sides}
 use Rattle.ms_cert.specs.inner.Partition.{Classes, IsIn, IsPartition, classes_of, is_split_off, with_sides, with_split}
 use Rattle.ms_cert.specs.inner.Refinement.{TellsSomeApart}

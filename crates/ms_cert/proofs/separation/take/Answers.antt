@@ -13,8 +13,8 @@ use Rattle.ms_cert.proofs.separation.take.Goals as goal
 within-last : (members : List (List ℕ)) (all front : List ℕ) (class : ℕ) → AreWaiting members all → all ≡ front ++ class ∷ [] → class < length members
 within-last members all front class are parts = are.within (length front) class (ap (λ (w : List ℕ). slice_get w (length front)) parts ∙ slice_get-push front class)
 
-pub splitter_of-requires-clause-states : goal.splitter_of-requires-clause-states
-splitter_of-requires-clause-states c =
+pub splitter_of-splitter-requires-clause-states : goal.splitter_of-splitter-requires-clause-states
+splitter_of-splitter-requires-clause-states c =
     let parts = classes_of c.args.partition.now in
     let class = c.in-Some.class in
     let within = within-last parts.members c.args.waiting.now.items c.pop.new.self.items class c.requires.waiting c.in-Some.ensures.items in
