@@ -13,7 +13,7 @@ use Rattle.ms_logic_words.specs.Content.{Content}
 use Rattle.ms_dfa_explore.specs.Explored.{Explores}
 use Rattle.ms_dfa_explore.specs.Tracks.{merged, places_among}
 use Rattle.ms_product.specs.declared.op.Op.{Op}
-use Rattle.ms_product.specs.Pairing.{Operands, Pairing, IsLaterPairing, operands_over, product_findings, AreStates}
+use Rattle.ms_product.specs.Pairing.{Operands, Pairing, IsLaterPairing, operands_over, product_findings, AreReachedPairs, AreStates}
 
 module _ (op : Op) (operands : Operands) (initial inside seen : Pairing) (op_is : initial.op ≡ op) (operands_are : initial.operands ≡ operands) (later : IsLaterPairing initial seen)
     (view_is : inside ≡ seen) where
@@ -32,6 +32,10 @@ module _ (op : Op) (operands : Operands) (initial inside seen : Pairing) (op_is 
   pub AreStates-seen : AreStates inside.operands inside.pairs → AreStates operands seen.pairs
   AreStates-seen are =
       subst (λ o. AreStates o seen.pairs) seen_operands (subst (λ (p : Pairing). AreStates p.operands p.pairs) view_is are)
+
+  pub AreReached-seen : AreReachedPairs inside.operands inside.pairs → AreReachedPairs operands seen.pairs
+  AreReached-seen reached =
+      subst (λ o. AreReachedPairs o seen.pairs) seen_operands (subst (λ (p : Pairing). AreReachedPairs p.operands p.pairs) view_is reached)
 
   pub IsNumbering-seen : IsNumbering inside.pairs → IsNumbering seen.pairs
   IsNumbering-seen numbering = subst (λ (p : Pairing). IsNumbering p.pairs) view_is numbering

@@ -26,7 +26,7 @@ use Rattle.ms_dfa.specs.Narrow.{narrowed_truth, narrowed_letter, narrowed}
 use Rattle.ms_dfa_explore.specs.inner.Run.{IsOver, AreNames}
 use Rattle.ms_product.specs.declared.op.Op.{Op}
 use Rattle.ms_product.specs.Widened.{behind_through, next_through}
-use Rattle.ms_product.specs.Pairing.{Operands, HaveRisingMaps, sides_of, first_pair, next_pair, pair_sign, behind_pair, sign_of_number, product_findings, AreStates}
+use Rattle.ms_product.specs.Pairing.{Operands, HaveRisingMaps, sides_of, first_pair, next_pair, pair_sign, behind_pair, sign_of_number, product_findings, AreReachedPairs, AreStates, IsReachedPair, from_starts, from_pair}
 use Rattle.ms_product.proofs.WidenedLemmas.{Renames-followed, first_reads, next_reads, first_narrowed, next_narrowed}
 
 -- two references of the operands' diagrams
@@ -61,6 +61,25 @@ module _ (operands : Operands) (roots : Ref × Ref) where
       (left.states (read_through operands.left_map has.0), right.states (read_through operands.right_map has.0)))
       (cases_lt number (length early))
 
+  -- and of pairs that are reached, where all those behind the references are
+  pub AreReached-added : ((bits : Bits) → IsReachedPair operands (leaves_across (sides_of operands) roots bits)) → (early late : List (ℕ × ℕ)) → AreReachedPairs operands early
+      → Extends early late → AddsOnly (HasLeavesAcross (sides_of operands) roots) early late → AreReachedPairs operands late
+  AreReached-added behind early late were extends added number pair held = ⊎_elim
+      (λ before.
+      let there = slice_get-held early number before in
+      let same : there.0 ≡ pair = same_Some there.0 pair (sym (slice_get-extends early late extends number there.0 there.1) ∙ held) in
+      subst (IsReachedPair operands) same (were number there.0 there.1))
+      (λ past. let has = added number pair past held in subst (IsReachedPair operands) has.1 (behind has.0))
+      (cases_lt number (length early))
+
+-- where the bits lead from the references of both starts
+pub first_leads : (operands : Operands) (roots : Ref × Ref) → roots.0 ≡ operands.left.start → roots.1 ≡ operands.right.start
+    → (bits : Bits) → first_pair operands bits ≡ leaves_across (sides_of operands) roots bits
+first_leads operands roots left right bits =
+    let one = ap (λ (r : Ref). leaf_of operands.left.nodes r (read_through operands.left_map bits)) (sym left) in
+    let other = ap (λ (r : Ref). leaf_of operands.right.nodes r (read_through operands.right_map bits)) (sym right) in
+    λ i. (one i, other i)
+
 -- what a state of an operand leads to
 next_leads_one : (content : Content Sign) (map : List ℕ) (state : ℕ) (root : Ref) → state < length content.states → IfSome (slice_get content.states state) (λ (found : StateOf Sign). root ≡ found.next)
     → (bits : Bits) → leaf_of content.nodes root (read_through map bits) ≡ next_through content map state bits
@@ -86,6 +105,13 @@ pub Builds-next_pair : (operands : Operands) (pairs late : List (ℕ × ℕ)) �
 Builds-next_pair operands pairs late extends state pair held roots leads old new result builds =
     subst (λ found. Builds old new (behind_pair operands late found) (length late ≡ 4294967295) result) (sym (slice_get-extends pairs late extends state pair held))
     (Builds-across operands roots (next_pair operands pair) leads late old new result builds)
+
+-- operands that lead alike reach the same pairs
+pub IsReachedPair-same : (one other : Operands) → ((bits : Bits) → first_pair one bits ≡ first_pair other bits) → ((pair : ℕ × ℕ) (bits : Bits) → next_pair one pair bits ≡ next_pair other pair bits)
+    → (pair : ℕ × ℕ) → IsReachedPair one pair → IsReachedPair other pair
+IsReachedPair-same one other first next pair (from_starts bits leads) = from_starts bits (sym (first bits) ∙ leads)
+IsReachedPair-same one other first next pair (from_pair before bits reached leads) =
+    from_pair before bits (IsReachedPair-same one other first next before reached) (sym (next before bits) ∙ leads)
 
 -- two automata that go side by side
 abbrev pub side_by_side : Operands → List Variable → Machine (ℕ × ℕ)

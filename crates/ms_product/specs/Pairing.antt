@@ -89,6 +89,15 @@ abbrev pub AreStates : Operands → List (ℕ × ℕ) → Type 0
 AreStates operands pairs =
     (number : ℕ) (pair : ℕ × ℕ) → slice_get pairs number ≡ Some pair → (pair.0 < length operands.left.states) × (pair.1 < length operands.right.states)
 
+-- bits lead to the pair from both starts, or from a pair that is reached
+pub data IsReachedPair (operands : Operands) : ℕ × ℕ → Type 0 where
+  from_starts : {pair : ℕ × ℕ} (bits : Bits) → first_pair operands bits ≡ pair → IsReachedPair operands pair
+  from_pair : {pair : ℕ × ℕ} (before : ℕ × ℕ) (bits : Bits) → IsReachedPair operands before → next_pair operands before bits ≡ pair → IsReachedPair operands pair
+
+-- so is each of the pairs
+abbrev pub AreReachedPairs : Operands → List (ℕ × ℕ) → Type 0
+AreReachedPairs operands pairs = (number : ℕ) (pair : ℕ × ℕ) → slice_get pairs number ≡ Some pair → IsReachedPair operands pair
+
 -- a product under way
 pub record Pairing : Type 0 where
   pub op : Op
@@ -130,3 +139,8 @@ pub record AreAtLeast (count : ℕ) (op : Op) (operands : Operands) : Type 0 whe
   pub numbering : IsNumbering pairs
   pub states : AreStates operands pairs
   pub many : count ≤ length nodes + length pairs
+
+-- the same of pairs that are reached
+pub record ReachedAreAtLeast (count : ℕ) (op : Op) (operands : Operands) : Type 0 where
+  pub least : AreAtLeast count op operands
+  pub reached : AreReachedPairs operands least.pairs

@@ -3,7 +3,7 @@ ghost use Rattle.ms_dfa_explore.specs.Explored.{OnRefused};
 ghost use Rattle.ms_dfa_explore.specs.Tracks.{merged};
 ghost use Rattle.ms_dfa.specs.Values.{HasValues, own_meaning};
 ghost use Rattle.ms_product.specs.Combined.{HaveEqualOrders, combined};
-ghost use Rattle.ms_product.specs.Pairing.{AreAtLeast, operands_of};
+ghost use Rattle.ms_product.specs.Pairing.{AreAtLeast, ReachedAreAtLeast, operands_of};
 
 use crate::op::Op;
 use crate::operand::over_tracks;
@@ -30,8 +30,10 @@ pub fn combine(
     ensures variables { IfOk result (λ made. made.variables ≡ merged a.now.variables b.now.variables) }
     ensures values { IfOk result (HasValues (combined op (own_meaning a.now) (own_meaning b.now))) }
     ensures size { IfOk result (λ made. AreAtLeast (length made.nodes + length made.states) op (operands_of a.now b.now)) }
+    ensures reached_size { IfOk result (λ made. ReachedAreAtLeast (length made.nodes + length made.states) op (operands_of a.now b.now)) }
     ensures within { IfOk result (λ made. length made.nodes + length made.states ≤ limit) }
     ensures nodes { OnRefused result (λ refused. (refused ≡ limit) × AreAtLeast limit op (operands_of a.now b.now)) }
+    ensures reached_nodes { OnRefused result (λ refused. ReachedAreAtLeast limit op (operands_of a.now b.now)) }
 {
     let Ok(tracks) = merge(alloc, a.tracks(), b.tracks()) else {
         return Err(StepFault::Memory);

@@ -1,6 +1,6 @@
 ghost use Rattle.std.specs.Prelude.{◌≡◌, ◌≤◌, ◌+◌, length, IfOk};
 ghost use Rattle.ms_dfa_explore.specs.Explored.{OnRefused};
-ghost use Rattle.ms_product.specs.Pairing.{AreAtLeast, IsPairedIn, IsPairedStore};
+ghost use Rattle.ms_product.specs.Pairing.{AreAtLeast, AreReachedPairs, IsPairedIn, IsPairedStore, ReachedAreAtLeast};
 ghost use Rattle.ms_product.specs.Widened.{IsRisingMap};
 
 use crate::op::Op;
@@ -37,10 +37,14 @@ pub fn pair_up(
     requires small { limit ≤ 4000000000 }
     ensures paired { IfOk result (λ p. IsPairedIn p.store.nodes op
         (record { left = left.entry.automaton.now; left_map = left.entry.map; right = right.entry.automaton.now; right_map = right.entry.map }) p.pairs p.start p.states) }
+    ensures reached { IfOk result (λ p. AreReachedPairs
+        (record { left = left.entry.automaton.now; left_map = left.entry.map; right = right.entry.automaton.now; right_map = right.entry.map }) p.pairs) }
     ensures store { IfOk result (λ p. IsPairedStore p.store limit op
         (record { left = left.entry.automaton.now; left_map = left.entry.map; right = right.entry.automaton.now; right_map = right.entry.map }) p.pairs) }
     ensures within { IfOk result (λ p. length p.store.nodes + length p.states ≤ limit) }
     ensures nodes { OnRefused result (λ refused. (refused ≡ limit) × AreAtLeast limit op
+        (record { left = left.entry.automaton.now; left_map = left.entry.map; right = right.entry.automaton.now; right_map = right.entry.map })) }
+    ensures reached_nodes { OnRefused result (λ refused. ReachedAreAtLeast limit op
         (record { left = left.entry.automaton.now; left_map = left.entry.map; right = right.entry.automaton.now; right_map = right.entry.map })) }
 {
     let product = Product {

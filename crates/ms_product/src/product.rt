@@ -22,7 +22,7 @@ pub(crate) struct Product<'a> {
 }
 
 impl<'a> Model for Product<'a> {
-    ghost use Rattle.ms_product.specs.Pairing.{AreStates, Pairing};
+    ghost use Rattle.ms_product.specs.Pairing.{AreReachedPairs, AreStates, Pairing};
 
     ghost Value = { Pairing };
 
@@ -33,6 +33,9 @@ impl<'a> Model for Product<'a> {
     } };
 
     ghost invariant = { λ p. AreStates
+        (record { left = p.left.automaton.now; left_map = p.left.map; right = p.right.automaton.now; right_map = p.right.map })
+        p.pairs
+        × AreReachedPairs
         (record { left = p.left.automaton.now; left_map = p.left.map; right = p.right.automaton.now; right_map = p.right.map })
         p.pairs };
 }

@@ -7,11 +7,11 @@ use Rattle.ms_dfa.specs.Values.{HasValues, own_meaning}
 use Rattle.ms_dfa_explore.specs.Tracks.{merged}
 use Rattle.ms_dfa_explore.proofs.RunLemmas.{explored, length-states_of}
 use Rattle.ms_product.specs.Combined.{combined}
-use Rattle.ms_product.specs.Pairing.{Operands, operands_of, product_findings, IsPairedIn, IsPairedStore, AreAtLeast}
+use Rattle.ms_product.specs.Pairing.{Operands, operands_of, product_findings, AreReachedPairs, IsPairedIn, IsPairedStore, AreAtLeast, ReachedAreAtLeast}
 use Rattle.ms_product.proofs.ChangeLemmas.{content_is}
 use Rattle.ms_product.proofs.CombineSteps.{variables_joined, operands_as}
 use Rattle.ms_product.proofs.CombinedLemmas.{wide-rising, left_among, right_among, HasValues-made, IsAutomaton-made}
-use Rattle.ms_product.proofs.SizeLemmas.{AreAtLeast-held}
+use Rattle.ms_product.proofs.SizeLemmas.{AreAtLeast-held, ReachedAreAtLeast-held}
 use Rattle.ms_product.proofs.connective.combine.Goals as goal
 
 pub over_tracks-requires-clause-rising : goal.over_tracks-requires-clause-rising
@@ -88,6 +88,24 @@ returns-clause-size c =
     let all = paired.all in
     subst (λ (content : Content Sign). AreAtLeast (length content.nodes + length content.states) c.args.op (operands_of a b)) (sym c.make.ensures)
     (AreAtLeast-held c.args.op (operands_of a b) c.args.limit made.pairs made.store held paired.numbering paired.are (length made.store.nodes + length (states_of made.states)) (omega (arith, counted, all)))
+
+pub returns-clause-reached_size : goal.returns-clause-reached_size
+returns-clause-reached_size c =
+    let a = c.args.a.now in
+    let b = c.args.b.now in
+    let left = c.in-Ok-over_tracks.left in
+    let right = c.in-Ok-over_tracks-2.right in
+    let made = c.in-Ok-pair_up.paired in
+    let are = operands_as a b left.automaton.now right.automaton.now left.map right.map (merged a.variables b.variables) (variables_of c.slice.result.now) (variables_of c.slice-2.result.now)
+    c.in-Ok-over_tracks.ensures.automaton c.in-Ok-over_tracks.ensures.map (variables_joined c.slice.result.now c.in-Ok.tracks c.tracks.result.now c.tracks-2.result.now a b c.slice.ensures c.in-Ok.ensures c.tracks.ensures.variables c.tracks-2.ensures.variables)
+    c.in-Ok-over_tracks-2.ensures.automaton c.in-Ok-over_tracks-2.ensures.map (variables_joined c.slice-2.result.now c.in-Ok.tracks c.tracks.result.now c.tracks-2.result.now a b c.slice-2.ensures c.in-Ok.ensures c.tracks.ensures.variables c.tracks-2.ensures.variables) in
+    let paired = subst (λ (o : Operands). IsPairedIn made.store.nodes c.args.op o made.pairs made.start made.states) are c.in-Ok-pair_up.ensures.paired in
+    let held = subst (λ (o : Operands). IsPairedStore made.store c.args.limit c.args.op o made.pairs) are c.in-Ok-pair_up.ensures.store in
+    let reached = subst (λ (o : Operands). AreReachedPairs o made.pairs) are c.in-Ok-pair_up.ensures.reached in
+    let counted = length-states_of made.states in
+    let all = paired.all in
+    subst (λ (content : Content Sign). ReachedAreAtLeast (length content.nodes + length content.states) c.args.op (operands_of a b)) (sym c.make.ensures)
+    (ReachedAreAtLeast-held c.args.op (operands_of a b) c.args.limit made.pairs made.store held paired.numbering paired.are reached (length made.store.nodes + length (states_of made.states)) (omega (arith, counted, all)))
 
 pub returns-clause-within : goal.returns-clause-within
 returns-clause-within c =

@@ -5,8 +5,8 @@ use Rattle.ms_diagram.specs.Across.{AreOn, HasLeavesAcross, NumberAcross, LacksA
 use Rattle.ms_diagram.specs.Growth.{Builds}
 use Rattle.ms_diagram.specs.Numbering.{AddsOnly}
 use Rattle.ms_logic_words.specs.Content.{is_in_letters}
-use Rattle.ms_product.specs.Pairing.{Operands, Pairing, HaveRisingMaps}
-use Rattle.ms_product.proofs.ProductLemmas.{AreOn-followed, AreStates-added, Builds-next_pair, next_leads}
+use Rattle.ms_product.specs.Pairing.{Operands, Pairing, HaveRisingMaps, from_pair}
+use Rattle.ms_product.proofs.ProductLemmas.{AreOn-followed, AreReached-added, AreStates-added, Builds-next_pair, next_leads}
 use Rattle.ms_product.proofs.product.Product.lead_from.Goals as goal
 
 pub apply_across-requires-clause-on : goal.apply_across-requires-clause-on
@@ -21,9 +21,15 @@ pub invariant_of-self : goal.invariant_of-self
 invariant_of-self c =
     let operands : Operands = record { left = c.self.inside.left.automaton.now; left_map = c.self.inside.left.map; right = c.self.inside.right.automaton.now; right_map = c.self.inside.right.map } in
     let roots : Ref × Ref = (c.next_ref-left.result, c.next_ref-right.result) in
-    AreStates-added operands roots is_in_letters c.next_ref-left.ensures.followed c.next_ref-right.ensures.followed c.self.inside.pairs c.apply_across.new.pairs c.self.invariant
-    c.apply_across.ensures.pairs
-    (subst (λ (s : Sides). AddsOnly (HasLeavesAcross s roots) c.self.inside.pairs c.apply_across.new.pairs) c.sides-sides.ensures c.apply_across.ensures.added)
+    let pair = c.get-left_state.result in
+    let within = c.self.invariant.0 c.args.state pair c.get-left_state.ensures in
+    let before = c.self.invariant.1 c.args.state pair c.get-left_state.ensures in
+    let leads = next_leads operands pair roots within.0 within.1 c.next_ref-left.ensures.next c.next_ref-right.ensures.next in
+    let added = subst (λ (s : Sides). AddsOnly (HasLeavesAcross s roots) c.self.inside.pairs c.apply_across.new.pairs) c.sides-sides.ensures c.apply_across.ensures.added in (
+      AreStates-added operands roots is_in_letters c.next_ref-left.ensures.followed c.next_ref-right.ensures.followed c.self.inside.pairs c.apply_across.new.pairs c.self.invariant.0
+          c.apply_across.ensures.pairs added,
+      AreReached-added operands roots (λ bits. from_pair pair bits before (sym (leads bits))) c.self.inside.pairs c.apply_across.new.pairs c.self.invariant.1 c.apply_across.ensures.pairs added,
+    )
 
 pub returns-clause-builds : goal.returns-clause-builds
 returns-clause-builds c =
@@ -31,7 +37,7 @@ returns-clause-builds c =
     let roots : Ref × Ref = (c.next_ref-left.result, c.next_ref-right.result) in
     let pairs = c.apply_across.new.pairs in
     let pair = c.get-left_state.result in
-    let within = c.self.invariant c.args.state pair c.get-left_state.ensures in
+    let within = c.self.invariant.0 c.args.state pair c.get-left_state.ensures in
     Builds-next_pair operands c.self.inside.pairs pairs c.apply_across.ensures.pairs c.args.state pair c.get-left_state.ensures roots
     (next_leads operands pair roots within.0 within.1 c.next_ref-left.ensures.next c.next_ref-right.ensures.next) c.args.store.now c.apply_across.new.self c.apply_across.result
     (subst (λ (s : Sides). Builds c.args.store.now c.apply_across.new.self (NumberAcross s pairs roots) (LacksAcross s pairs roots) c.apply_across.result) c.sides-sides.ensures c.apply_across.ensures.builds)

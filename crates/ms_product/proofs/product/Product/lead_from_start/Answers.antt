@@ -4,8 +4,8 @@ use Rattle.ms_diagram.specs.declared.sides.Sides.{Sides}
 use Rattle.ms_diagram.specs.Across.{AreOn, HasLeavesAcross}
 use Rattle.ms_diagram.specs.Numbering.{AddsOnly}
 use Rattle.ms_logic_words.specs.Content.{is_truth_value}
-use Rattle.ms_product.specs.Pairing.{Operands, Pairing, HaveRisingMaps}
-use Rattle.ms_product.proofs.ProductLemmas.{AreOn-followed, AreStates-added}
+use Rattle.ms_product.specs.Pairing.{Operands, Pairing, HaveRisingMaps, from_starts}
+use Rattle.ms_product.proofs.ProductLemmas.{AreOn-followed, AreReached-added, AreStates-added, first_leads}
 use Rattle.ms_product.proofs.product.Product.lead_from_start.Goals as goal
 
 pub apply_across-requires-clause-on : goal.apply_across-requires-clause-on
@@ -20,6 +20,9 @@ pub invariant_of-self : goal.invariant_of-self
 invariant_of-self c =
     let operands : Operands = record { left = c.self.inside.left.automaton.now; left_map = c.self.inside.left.map; right = c.self.inside.right.automaton.now; right_map = c.self.inside.right.map } in
     let roots : Ref × Ref = (c.start_ref-left.result, c.start_ref-right.result) in
-    AreStates-added operands roots is_truth_value c.start_ref-left.ensures.followed c.start_ref-right.ensures.followed c.self.inside.pairs c.apply_across.new.pairs c.self.invariant
-    c.apply_across.ensures.pairs
-    (subst (λ (s : Sides). AddsOnly (HasLeavesAcross s roots) c.self.inside.pairs c.apply_across.new.pairs) c.sides-sides.ensures c.apply_across.ensures.added)
+    let added = subst (λ (s : Sides). AddsOnly (HasLeavesAcross s roots) c.self.inside.pairs c.apply_across.new.pairs) c.sides-sides.ensures c.apply_across.ensures.added in (
+      AreStates-added operands roots is_truth_value c.start_ref-left.ensures.followed c.start_ref-right.ensures.followed c.self.inside.pairs c.apply_across.new.pairs c.self.invariant.0
+          c.apply_across.ensures.pairs added,
+      AreReached-added operands roots (λ bits. from_starts bits (first_leads operands roots c.start_ref-left.ensures.start c.start_ref-right.ensures.start bits)) c.self.inside.pairs
+          c.apply_across.new.pairs c.self.invariant.1 c.apply_across.ensures.pairs added,
+    )
