@@ -8,6 +8,7 @@ pub mod ImageLemmas
 pub mod LeadLemmas
 pub mod LettersLemmas
 pub mod MarkLemmas
+pub mod NeededLemmas
 pub mod NodeLemmas
 pub mod OriginLemmas
 pub mod PartitionLemmas

@@ -28,7 +28,7 @@ module _ (reading : SignReading) (content : Content Sign) where
   pub length-read : length read.states ≡ length content.states
   length-read = length-map content.states (read_state reading)
 
-  read_at : (place : ℕ) → slice_get read.states place ≡ option_map (read_state reading) (slice_get content.states place)
+  pub read_at : (place : ℕ) → slice_get read.states place ≡ option_map (read_state reading) (slice_get content.states place)
   read_at place = slice_get-map (read_state reading) content.states place
 
   pub read-followed : (has_value : Order → Bool) (reference : Ref) → IsFollowed content has_value reference → IsFollowed read has_value reference
@@ -67,7 +67,7 @@ module _ (reading : SignReading) (content : Content Sign) where
       by None = refl
       by (Some there) = refl
 
-  after-read : (state : ℕ) (letters : List (List Bool)) → state_after read state letters ≡ state_after content state letters
+  pub after-read : (state : ℕ) (letters : List (List Bool)) → state_after read state letters ≡ state_after content state letters
   after-read state [] = refl
   after-read state (letter ∷ letters) = ap (λ next. state_after read next letters) (next-read state letter) ∙ after-read (next_state content state letter) letters
 

@@ -1,5 +1,6 @@
 ghost use Rattle.std.specs.Prelude.{◌≡◌, ◌≤◌, ◌<◌, ◌+◌, length, IfOk};
 ghost use Rattle.ms_dfa_explore.specs.Explored.{OnRefused};
+ghost use Rattle.ms_minim.specs.Needed.{NeedsAtLeast};
 ghost use Rattle.ms_minim.specs.Residual.{AreReached, HasFewestStates, HaveDifferentResiduals, HaveEqualSigns};
 
 use crate::reading::SignReading;
@@ -31,6 +32,7 @@ pub fn minimise(alloc: Global, a: &Automaton, limit: u64) -> Result<Automaton, S
     ensures within { IfOk result (λ made. length made.nodes + length made.states ≤ limit) }
     ensures no_more_nodes { IfOk result (λ made. length made.nodes ≤ length a.now.nodes) }
     ensures nodes { OnRefused result (λ refused. (refused ≡ limit) × (limit < length a.now.nodes + length a.now.states)) }
+    ensures needs { OnRefused result (λ refused. NeedsAtLeast limit a.now) }
 {
     let tracks = match copy_tracks(alloc, a.tracks()) {
         Ok(tracks) => tracks,

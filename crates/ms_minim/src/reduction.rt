@@ -1,6 +1,7 @@
 ghost use Rattle.std.specs.Prelude.{◌≡◌, ◌≤◌, ◌<◌, ◌+◌, List as Sequence, length, IsTrue, IfOk};
 ghost use Rattle.ms_arena.specs.declared.node.Node.{Node};
 ghost use Rattle.ms_dfa_explore.specs.Explored.{OnRefused};
+ghost use Rattle.ms_minim.specs.Needed.{NeedsAtLeast};
 ghost use Rattle.ms_minim.specs.inner.Lead.{AreNoted};
 ghost use Rattle.ms_minim.specs.SignReading.{read_content};
 ghost use Rattle.ms_minim.specs.Reduced.{IsReducedOf, content_over};
@@ -56,24 +57,19 @@ fn machine_of<'a>(alloc: Global, automaton: &'a Reader<'a>) -> Result<QuotientMa
     })
 }
 
-/// The quotient of an automaton where each class has its own number: its diagrams are the images of the automaton's nodes. Nodes
-/// and states are together at most `limit`.
-fn reduce_settled(machine: QuotientMachine, limit: u64) -> Result<Reduced, StepFault>
+/// The quotient of an automaton where each class has its own number: its diagrams are the images of the automaton's nodes.
+fn reduce_settled(machine: QuotientMachine) -> Result<Reduced, NoMemory>
     requires ready { (nodes : Sequence Node) → AreNoted machine.quotient nodes machine.tables }
     requires settled { IsTrue machine.tables.settled }
     requires few { length machine.tables.images.store.nodes ≤ length machine.quotient.content.nodes }
     ensures reduced { IfOk result (λ made. IsReducedOf machine.entry.quotient.content (content_over machine.entry.quotient.content made.store.nodes made.start made.states)) }
-    ensures few { IfOk result (λ made. length made.store.nodes + length made.states ≤ limit) }
-    ensures nodes { OnRefused result (λ refused. (refused ≡ limit) × (limit < length machine.entry.quotient.content.nodes + length machine.entry.quotient.content.states)) }
+    ensures own { IfOk result (λ made. length made.store.nodes + length made.states ≡ length machine.entry.tables.images.store.nodes + length machine.entry.quotient.pairs) }
 {
     let QuotientMachine { quotient, tables } = machine;
     let Quotient { source, pairs } = quotient;
-    if tables.images.store.len() + u64::from(pairs.len()) > limit {
-        return Err(StepFault::Nodes { limit });
-    }
-    let Ok(states) = own_states(&source, &pairs, &tables) else {
-        return Err(StepFault::Memory);
-    };
+    // The length tells that the nodes are those of a store.
+    let _ = tables.images.store.len();
+    let states = own_states(&source, &pairs, &tables)?;
     let start = own_start(&source, &pairs, &tables);
     Ok(Reduced {
         store: tables.into_store(),
@@ -82,11 +78,15 @@ fn reduce_settled(machine: QuotientMachine, limit: u64) -> Result<Reduced, StepF
     })
 }
 
-/// Whether each class has its own number, and few nodes fall together, so that little room is left in the store of the images.
-fn is_nearly_reduced(tables: &QuotientTables, nodes: u64) -> bool
-    ensures { IsTrue result → IsTrue tables.now.settled }
+/// Whether each class has its own number, and few nodes fall together, so that little room is left in the store of the images, and
+/// these and the classes are within a limit.
+fn is_nearly_reduced(machine: &QuotientMachine, nodes: u64, limit: u64) -> bool
+    ensures settled { IsTrue result → IsTrue machine.now.tables.settled }
+    ensures within { IsTrue result → length machine.now.tables.images.store.nodes + length machine.now.quotient.pairs ≤ limit }
 {
-    tables.settled && tables.images.store.len() >= nodes / 2
+    let images = machine.tables.images.store.len();
+    let classes = u64::from(machine.quotient.count());
+    machine.tables.settled && images >= nodes / 2 && images + classes <= limit
 }
 
 /// The states of an automaton that words reach, one for all with equal residuals, where its signs are read in some way. Nodes
@@ -102,13 +102,17 @@ pub fn reduce(
     ensures reduced { IfOk result (λ made. IsReducedOf (read_content reading a.now) (content_over a.now made.store.nodes made.start made.states)) }
     ensures few { IfOk result (λ made. length made.store.nodes + length made.states ≤ limit) }
     ensures nodes { OnRefused result (λ refused. (refused ≡ limit) × (limit < length a.now.nodes + length a.now.states)) }
+    ensures needs { OnRefused result (λ refused. NeedsAtLeast limit a.now) }
 {
     let reader = Reader::new(a, reading);
     let Ok(mut machine) = machine_of(alloc, &reader) else {
         return Err(StepFault::Memory);
     };
-    if is_nearly_reduced(&machine.tables, a.store().len()) {
-        return reduce_settled(machine, limit);
+    if is_nearly_reduced(&machine, a.store().len(), limit) {
+        return match reduce_settled(machine) {
+            Ok(made) => Ok(made),
+            Err(_) => Err(StepFault::Memory),
+        };
     }
     let mut store = Store::new(alloc, limit);
     let Ok(()) = store.reserve(machine.tables.images.store.len()) else {

@@ -5,6 +5,7 @@ ghost use Rattle.ms_logic_words.specs.Canonical.{IsCanonical};
 ghost use Rattle.ms_logic_words.specs.Content.{IsWordOver, sign_of};
 ghost use Rattle.ms_dfa_explore.specs.Explored.{OnRefused};
 ghost use Rattle.ms_dfa.specs.Files.{content_of_file, file_sign};
+ghost use Rattle.ms_minim.specs.Needed.{NeedsAtLeast};
 ghost use Rattle.ms_minim_canonical.specs.inner.Reading.{IsReadingFor};
 
 use crate::renumber::renumbered;
@@ -63,6 +64,7 @@ pub fn canonical(
     ensures canonical { IfOk result (λ made. IsCanonical (content_of_file made)) }
     ensures few { IfOk result (λ made. length made.nodes + length made.states ≤ limit) }
     ensures nodes { OnRefused result (λ refused. (refused ≡ limit) × (limit < length a.now.nodes + length a.now.states)) }
+    ensures needs { OnRefused result (λ refused. NeedsAtLeast limit a.now) }
 {
     let variables = match file_variables(alloc, a.tracks(), names.slice()) {
         Ok(variables) => variables,

@@ -6,20 +6,33 @@ use Rattle.ms_minim.specs.declared.reduction.Reduced.{Reduced}
 use Rattle.ms_minim.specs.SignReading.{read_content}
 use Rattle.ms_minim.specs.inner.Quotient.{Quotienting}
 use Rattle.ms_minim.proofs.FewestLemmas.{quotient_of, explores_of, IsReducedOf-made}
+use Rattle.ms_minim.proofs.NeededLemmas.{refused_needs, refused_unread}
 use Rattle.ms_minim.proofs.NodeLemmas.{few_nodes, refused_quotient}
 use Rattle.ms_minim.proofs.ReadingLemmas.{refused-read}
 use Rattle.ms_minim.proofs.reduction.reduce.Goals as goal
 
-pub returns-in-Err-clause-nodes : goal.returns-in-Err-clause-nodes
-returns-in-Err-clause-nodes c =
+pub returns-in-Err-explored-clause-nodes : goal.returns-in-Err-explored-clause-nodes
+returns-in-Err-explored-clause-nodes c =
     let a = c.args.a.now in
     let content = read_content c.args.reading a in
     let seen = c.explore-explored.new.machine.quotient in
     let same = ap (λ (q : Quotienting). q.content) c.explore-explored.ensures.later.same ∙ c.in-Ok.ensures.automaton ∙ c.new-reader.ensures in
     let quotient = quotient_of content seen same _ _ c.quotient.view_is c.quotient.invariant in
-    refused-read Reduced c.args.reading a c.args.limit c.in-Err.fault
+    refused-read Reduced c.args.reading a c.args.limit c.in-Err-explored.fault
     (refused_quotient content seen.classes seen.members _ seen.pairs quotient (Content Sign) c.reserve.new.self c.explore-explored.new.store c.args.limit (ap (λ (s : Contents). s.nodes) c.reserve.ensures ∙ c.new-store.ensures.empty) (ap (λ (s : Contents). s.limit) c.reserve.ensures ∙ c.new-store.ensures.limit) c.explore-explored.new.states
-    c.in-Err.fault (explores_of content seen same c.reserve.new.self c.explore-explored.new.store c.explore-explored.new.states _ c.in-Err.ensures.explored))
+    c.in-Err-explored.fault (explores_of content seen same c.reserve.new.self c.explore-explored.new.store c.explore-explored.new.states _ c.in-Err-explored.ensures.explored))
+
+pub returns-in-Err-explored-clause-needs : goal.returns-in-Err-explored-clause-needs
+returns-in-Err-explored-clause-needs c =
+    let a = c.args.a.now in
+    let content = read_content c.args.reading a in
+    let seen = c.explore-explored.new.machine.quotient in
+    let same = ap (λ (q : Quotienting). q.content) c.explore-explored.ensures.later.same ∙ c.in-Ok.ensures.automaton ∙ c.new-reader.ensures in
+    let quotient = quotient_of content seen same _ _ c.quotient.view_is c.quotient.invariant in
+    refused_unread Reduced c.args.reading a c.args.limit c.in-Err-explored.fault
+    (refused_needs content seen.classes seen.members _ seen.pairs quotient (Content Sign) c.reserve.new.self c.explore-explored.new.store c.args.limit (ap (λ (s : Contents). s.nodes) c.reserve.ensures ∙ c.new-store.ensures.empty)
+    (ap (λ (s : Contents). s.limit) c.reserve.ensures ∙ c.new-store.ensures.limit) c.explore-explored.new.states c.in-Err-explored.fault
+    (explores_of content seen same c.reserve.new.self c.explore-explored.new.store c.explore-explored.new.states _ c.in-Err-explored.ensures.explored))
 
 pub returns-clause-reduced : goal.returns-clause-reduced
 returns-clause-reduced c =
