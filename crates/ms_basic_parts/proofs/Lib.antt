@@ -3,5 +3,7 @@ pub mod Budgets
 pub mod ChosenLemmas
 pub mod FoolingSets
 pub mod LetterLemmas
+pub mod Measures
 pub mod NumberStates
+pub mod PairStates
 pub mod ShiftStates

@@ -8,7 +8,7 @@ use Rattle.ms_logic_core.specs.Operands.{at_places}
 use Rattle.ms_logic_core.specs.declared.core_formula.Basic.{Basic}
 use Rattle.ms_logic_core.specs.declared.core_formula.Basic.TheVariants.{Number, Plus, Up, Down, Bits}
 use Rattle.ms_logic_measures.specs.Budgets.{budget}
-use Rattle.ms_logic_measures.specs.CallMeasures.{IsBasicMeasure, place_variables}
+use Rattle.ms_logic_measures.specs.CallMeasures.{IsBasicMeasure, call_measure, place_variables}
 use Rattle.ms_logic_measures.specs.FullContent.{IsFullContent}
 use Rattle.ms_logic_words.specs.Content.{Content}
 use Rattle.ms_logic_words.specs.declared.sign.Sign.{Sign}
@@ -40,3 +40,7 @@ BitsNeedStates = (mode : Mode) (s n : ℕ) (content : Content Sign) → IsConten
 -- so what the making of a relation's machine may need, eight nodes for each state and for one more, is within the budget of its step
 abbrev pub RelationsAreWithinBudget : Type 0
 RelationsAreWithinBudget = (mode : Mode) (b : Basic) (m r : ℕ) → IsBasicMeasure mode b m r → 8 * (states_of b + 1) ≤ budget m r
+
+-- and within the measure of the call that makes it
+abbrev pub RelationsAreWithinMeasure : Type 0
+RelationsAreWithinMeasure = (mode : Mode) (b : Basic) (m r : ℕ) → IsBasicMeasure mode b m r → 8 * (states_of b + 1) ≤ call_measure m r
