@@ -1,0 +1,23 @@
+use Rattle.ms_calls.proofs.ExampleCalls.{apart, first, needs_one, no_five, second, stands, swapped}
+use Rattle.ms_calls.proofs.examples.worked_calls.Goals as goal
+
+pub returns-clause-first : goal.returns-clause-first
+returns-clause-first c = first
+
+pub returns-clause-second : goal.returns-clause-second
+returns-clause-second c = second
+
+pub returns-clause-apart : goal.returns-clause-apart
+returns-clause-apart c = apart
+
+pub returns-clause-stands : goal.returns-clause-stands
+returns-clause-stands c = stands
+
+pub returns-clause-swapped : goal.returns-clause-swapped
+returns-clause-swapped c = swapped
+
+pub returns-clause-one : goal.returns-clause-one
+returns-clause-one c = needs_one
+
+pub returns-clause-no_five : goal.returns-clause-no_five
+returns-clause-no_five c = no_five

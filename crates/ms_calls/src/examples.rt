@@ -1,0 +1,24 @@
+//! The definitions at small cases, worked out by hand. The function has an empty body, and its contract is the table of its examples.
+
+ghost use Rattle.std.specs.Prelude.{◌-◌};
+ghost use Rattle.ms_calls.specs.Products.{StandsAmong};
+ghost use Rattle.ms_logic.specs.inner.Examples.{set_P_and_Q};
+ghost use Rattle.ms_logic_words.specs.inner.ContentExamples.{encodings_content, full_subset_content};
+ghost use Rattle.ms_minim.specs.Needed.{NeedsAtLeast};
+ghost use Rattle.ms_product.specs.Pairing.{IsReachedPair, operands_of};
+
+/// The full contents of P sub Q and of `true`.
+pub fn worked_calls()
+    // bits lead P sub Q and itself to state 0, and, where the letter has P alone, to state 1; but never to different states
+    ensures first { IsReachedPair (operands_of full_subset_content full_subset_content) (0, 0) }
+    ensures second { IsReachedPair (operands_of full_subset_content full_subset_content) (1, 1) }
+    ensures apart { ¬ IsReachedPair (operands_of full_subset_content full_subset_content) (0, 1) }
+
+    // P and Q stand where they are, and not each in the place of the other
+    ensures stands { StandsAmong full_subset_content (λ place. place) set_P_and_Q }
+    ensures swapped { ¬ StandsAmong full_subset_content (λ place. 1 - place) set_P_and_Q }
+
+    // `true` needs its one state; P sub Q has two states and two nodes, and needs no more
+    ensures one { NeedsAtLeast 1 encodings_content }
+    ensures no_five { ¬ NeedsAtLeast 5 full_subset_content }
+{}

@@ -1,0 +1,10 @@
+//! What each call of an operation on automata lacks and makes, by its own measure. Laws alone.
+#![tactic(auto)]
+
+mod connectives;
+mod examples;
+mod fewest;
+
+pub use connectives::laws_of_connectives;
+pub use examples::worked_calls;
+pub use fewest::laws_of_fewest_states;
