@@ -41,7 +41,8 @@ module _ (content : Content Sign) (classes members map : List ℕ) (pairs : List
   same_class : (one other number : ℕ) → slice_get classes other ≡ slice_get classes one → IsNumberOf classes pairs one number → IsNumberOf classes pairs other number
   same_class one other number same is = record { class = is.class; class_is = same ∙ is.class_is; number_is = is.number_is }
 
-  needed_behind : (nodes : List Node) (node : Node) (origin : Origin) → IsFound findings origin → IsNeeded nodes (target_of findings origin) node → IsNeededBehindWord content classes pairs nodes node
+  needed_behind : (nodes : List Node) (node : Node) (origin : Origin) → IsFound findings origin → IsNeeded nodes (target_of findings origin) node
+      → IsNeededBehindWord content classes pairs nodes node
   needed_behind nodes node None found needed = inl needed
   needed_behind nodes node (Some number) found needed =
       let to = word_to number found in
@@ -80,7 +81,8 @@ module _ (content : Content Sign) (classes members map : List ℕ) (pairs : List
     }
 
   -- a quotient that is refused needs so many as the limit
-  pub refused_needs : (A : Type 0) (old new : Contents) (limit : ℕ) → old.nodes ≡ [] → old.limit ≡ limit → (states : List State) (fault : StepFault) → Explores old new findings states (Err fault)
+  pub refused_needs : (A : Type 0) (old new : Contents) (limit : ℕ) → old.nodes ≡ [] → old.limit ≡ limit → (states : List State) (fault : StepFault)
+      → Explores old new findings states (Err fault)
       → OnRefused {A = A} (Err fault) (λ refused. NeedsAtLeast limit content)
   refused_needs A old new limit empty limit_is states Memory explores = tt
   refused_needs A old new limit empty limit_is states (Nodes refused) explores =
@@ -136,6 +138,7 @@ module _ (reading : SignReading) (content : Content Sign) where
 
 -- so of a refusal too
 pub refused_unread : (A : Type 0) (reading : SignReading) (content : Content Sign) (limit : ℕ) (fault : StepFault)
-    → OnRefused {A = Content Sign} (Err fault) (λ refused. NeedsAtLeast limit (read_content reading content)) → OnRefused {A = A} (Err fault) (λ refused. NeedsAtLeast limit content)
+    → OnRefused {A = Content Sign} (Err fault) (λ refused. NeedsAtLeast limit (read_content reading content))
+    → OnRefused {A = A} (Err fault) (λ refused. NeedsAtLeast limit content)
 refused_unread A reading content limit Memory refused = tt
 refused_unread A reading content limit (Nodes most) refused = needs_unread reading content limit refused
