@@ -17,7 +17,8 @@ use Rattle.ms_calls.proofs.Joined.{joined_merged}
 use Rattle.ms_calls.proofs.Pairs.{products_need_few_pairs}
 
 -- an automaton stands among variables that rise and have its own
-pub stands_among : (content : Content Sign) (wide : List Variable) → IsAutomaton content → AreRising wide → ((v : Variable) → IsAmong content.variables v → IsAmong wide v)
+pub stands_among : (content : Content Sign) (wide : List Variable) → IsAutomaton content → AreRising wide
+    → ((v : Variable) → IsAmong content.variables v → IsAmong wide v)
     → StandsAmong content (slice_index (places_among content.variables wide)) wide
 stands_among content wide is rising among = record {
   ordered = is.ordered;

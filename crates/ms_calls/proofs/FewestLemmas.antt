@@ -92,7 +92,8 @@ module _ (content : Content Sign) (is : IsRead content) where
           (λ full. absurd (never_one (same full)))
           (cases_lt few all)
 
-    led_first : (i : ℕ) (node : Node) → slice_get nodes i ≡ Some node → IsNeeded nodes (λ bits number. HasNumber (leaf_of content.nodes content.start bits) number) node
+    led_first : (i : ℕ) (node : Node) → slice_get nodes i ≡ Some node
+        → IsNeeded nodes (λ bits number. HasNumber (leaf_of content.nodes content.start bits) number) node
         → IsLedTo (IsStartOver vs) Leads (Inner i)
     led_first i node held needed =
         let first = needed.0 in
@@ -165,10 +166,12 @@ module _ (content other : Content Sign) (is : IsRead content) where
     behind_word : (word : Word) → IsWordOver content.variables word → (letters : List (List Bool)) → AreLetters content.variables letters
         → sign_at made (state_after made (last_state made word) letters) ≡ sign_at content (state_after content (last_state content word) letters)
     behind_word word over letters are =
-        sym (sign_of-with_letters made word letters) ∙ signs (with_letters word letters) (over-with_letters content.variables word letters over are) ∙ sign_of-with_letters content word letters
+        sym (sign_of-with_letters made word letters) ∙ signs (with_letters word letters) (over-with_letters content.variables word letters over are)
+        ∙ sign_of-with_letters content word letters
 
     -- starts that leave the same of the first leave the same of this
-    same_left : (one two : Start) → IsStartOver content.variables one → IsStartOver content.variables two → LeaveSame content content.variables one two → LeaveSame made content.variables one two
+    same_left : (one two : Start) → IsStartOver content.variables one → IsStartOver content.variables two → LeaveSame content content.variables one two
+        → LeaveSame made content.variables one two
     same_left one two is_one is_two alike rest =
         let first = word_of content.variables one rest in
         let second = word_of content.variables two rest in
@@ -176,7 +179,8 @@ module _ (content other : Content Sign) (is : IsRead content) where
         let over_second = word_of-over content.variables two rest is_two in
         let state : last_state content first ≡ last_state content second = sym (left_is content is one rest is_one) ∙ alike rest ∙ left_is content is two rest is_two in
         let residuals : HaveEqualResiduals made (last_state made first) (last_state made second) = λ letters are.
-        behind_word first over_first letters are ∙ ap (λ s. sign_at content (state_after content s letters)) state ∙ sym (behind_word second over_second letters are) in
+        behind_word first over_first letters are ∙ ap (λ s. sign_at content (state_after content s letters)) state
+        ∙ sym (behind_word second over_second letters are) in
         left_is made is_made one rest is_one
         ∙ differ (last_state made first) (last_state made second) (last_within made is_made.closed first) (last_within made is_made.closed second) residuals
         ∙ sym (left_is made is_made two rest is_two)

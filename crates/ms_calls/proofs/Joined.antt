@@ -15,7 +15,8 @@ with-old : (v u : Variable) (ws : List Variable) → IsAmong ws u → IsAmong (w
 with-old v u [] there = absurd there
 with-old v u (w ∷ ws) there = by_tests (nat_lt v.name w.name) (v.name == w.name) (λ later. with-old v u ws later)
   where
-    by_tests : (a b : Bool) → (IsAmong ws u → IsAmong (with_variable v ws) u) → IsAmong (if a then v ∷ (w ∷ ws) else (if b then w ∷ ws else w ∷ with_variable v ws)) u
+    by_tests : (a b : Bool) → (IsAmong ws u → IsAmong (with_variable v ws) u)
+        → IsAmong (if a then v ∷ (w ∷ ws) else (if b then w ∷ ws else w ∷ with_variable v ws)) u
     by_tests true b more = inr there
     by_tests false true more = there
     by_tests false false more = ⊎_elim (λ same. inl same) (λ later. inr (more later)) there
@@ -25,7 +26,8 @@ with-new : (v : Variable) (ws : List Variable) → ((w : Variable) → IsAmong w
 with-new v [] same = inl refl
 with-new v (w ∷ ws) same = by_tests (nat_lt v.name w.name) (v.name == w.name) refl (with-new v ws (λ u there. same u (inr there)))
   where
-    by_tests : (a b : Bool) → v.name == w.name ≡ b → IsAmong (with_variable v ws) v → IsAmong (if a then v ∷ (w ∷ ws) else (if b then w ∷ ws else w ∷ with_variable v ws)) v
+    by_tests : (a b : Bool) → v.name == w.name ≡ b → IsAmong (with_variable v ws) v
+        → IsAmong (if a then v ∷ (w ∷ ws) else (if b then w ∷ ws else w ∷ with_variable v ws)) v
     by_tests true b is more = inl refl
     by_tests false true is more = inl (same w (inl refl) (sym (eqb-true v.name w.name is)))
     by_tests false false is more = inr more
@@ -34,7 +36,8 @@ with-either : (v u : Variable) (ws : List Variable) → IsAmong (with_variable v
 with-either v u [] there = there
 with-either v u (w ∷ ws) there = by_tests (nat_lt v.name w.name) (v.name == w.name) there (λ later. with-either v u ws later)
   where
-    by_tests : (a b : Bool) → IsAmong (if a then v ∷ (w ∷ ws) else (if b then w ∷ ws else w ∷ with_variable v ws)) u → (IsAmong (with_variable v ws) u → (v ≡ u) ⊎ IsAmong ws u)
+    by_tests : (a b : Bool) → IsAmong (if a then v ∷ (w ∷ ws) else (if b then w ∷ ws else w ∷ with_variable v ws)) u
+        → (IsAmong (with_variable v ws) u → (v ≡ u) ⊎ IsAmong ws u)
         → (v ≡ u) ⊎ IsAmong (w ∷ ws) u
     by_tests true b held more = held
     by_tests false true held more = inr held
@@ -83,7 +86,8 @@ joined-left (v ∷ vs) ws rising equal u there = ⊎_elim
     there
 
 -- rising lists of the same variables are one list
-one_rising : (xs ys : List Variable) → AreRising xs → AreRising ys → ((v : Variable) → IsAmong xs v → IsAmong ys v) → ((v : Variable) → IsAmong ys v → IsAmong xs v) → xs ≡ ys
+one_rising : (xs ys : List Variable) → AreRising xs → AreRising ys → ((v : Variable) → IsAmong xs v → IsAmong ys v)
+    → ((v : Variable) → IsAmong ys v → IsAmong xs v) → xs ≡ ys
 one_rising [] [] rising_x rising_y to from = refl
 one_rising [] (y ∷ ys) rising_x rising_y to from = absurd (from y (inl refl))
 one_rising (x ∷ xs) [] rising_x rising_y to from = absurd (to x (inl refl))

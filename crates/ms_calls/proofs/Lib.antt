@@ -6,3 +6,5 @@ pub mod Joined
 pub mod Own
 pub mod Pairs
 pub mod Parts
+pub mod Positions
+pub mod RisingNames

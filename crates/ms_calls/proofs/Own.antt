@@ -35,7 +35,8 @@ word_of-over vs (part_of_letter word bits) rest over =
     }
 
 -- a word is narrowed to itself
-letters_own : (vs : List Variable) (letters : List (List Bool)) → HaveDistinctNumbers vs → AreLetters vs letters → map (λ letter. bits_for is_in_letters vs letter vs) letters ≡ letters
+letters_own : (vs : List Variable) (letters : List (List Bool)) → HaveDistinctNumbers vs → AreLetters vs letters
+    → map (λ letter. bits_for is_in_letters vs letter vs) letters ≡ letters
 letters_own vs [] distinct are = refl
 letters_own vs (letter ∷ letters) distinct are =
     ap (λ (first : List Bool). first ∷ map (λ other. bits_for is_in_letters vs other vs) letters) (bits_for_own is_in_letters vs letter distinct are.0)
@@ -61,14 +62,16 @@ module _ (content : Content Sign) (is : IsRead content) where
   pub state_own : (word : Word) → IsWordOver content.variables word → state_at content content.variables word ≡ last_state content word
   state_own word over = ap (last_state content) (narrowed_own content.variables word distinct over)
 
-  left_found : (s : ℕ) (found : Option (StateOf Sign)) → slice_get content.states s ≡ found → (own : Bits) → next_at content found own ≡ next_from content found (all_values is_in_letters vs own)
+  left_found : (s : ℕ) (found : Option (StateOf Sign)) → slice_get content.states s ≡ found → (own : Bits)
+      → next_at content found own ≡ next_from content found (all_values is_in_letters vs own)
   left_found s None held own = refl
   left_found s (Some state) held own =
       let there = followed content [] is.closed s state held in
       sym (leaf_of_all is_in_letters vs distinct content.nodes is.ordered state.next there.valid there.tests own)
 
   -- the start leaves the state to which the word leads
-  pub left_is : (start : Start) (rest : Bits) → IsStartOver content.variables start → left_by content content.variables start rest ≡ last_state content (word_of content.variables start rest)
+  pub left_is : (start : Start) (rest : Bits) → IsStartOver content.variables start
+      → left_by content content.variables start rest ≡ last_state content (word_of content.variables start rest)
   left_is (some_truth_values values) rest over =
       let own = with_free_bits is_truth_value vs values vs rest in
       sym (leaf_of_all is_truth_value vs distinct content.nodes is.ordered content.start is.closed.start.valid is.closed.start.tests own)

@@ -32,21 +32,24 @@ use Rattle.ms_calls.specs.Products.{ProductsNeedFewPairs, StandsAmong}
 use Rattle.ms_calls.proofs.Given.{all_values, left_first, left_next, length-all_values, one_first, one_next, state_first, state_next, values}
 
 -- to leave the same of two contents is an equivalence
-pub leave_same_of_both : {Left Right : Type 0} (left : Content Left) (right : Content Right) (variables : List Variable) → IsEquivalence (LeaveSameOfBoth left right variables)
+pub leave_same_of_both : {Left Right : Type 0} (left : Content Left) (right : Content Right) (variables : List Variable)
+    → IsEquivalence (LeaveSameOfBoth left right variables)
 leave_same_of_both left right variables = record {
   symmetric = λ one other same. ((λ rest. sym (same.0 rest)), λ rest. sym (same.1 rest));
   transitive = λ one two three first second. ((λ rest. first.0 rest ∙ second.0 rest), λ rest. first.1 rest ∙ second.1 rest);
 }
 
 -- bits lead on from a state as they do from it through a map
-through : (content : Content Sign) (map : List ℕ) (s : ℕ) (bits : Bits) → next_at content (slice_get content.states s) (read_through map bits) ≡ next_through content map s bits
+through : (content : Content Sign) (map : List ℕ) (s : ℕ) (bits : Bits)
+    → next_at content (slice_get content.states s) (read_through map bits) ≡ next_through content map s bits
 through content map s bits = by_found (slice_get content.states s)
   where
     by_found : (found : Option (StateOf Sign)) → next_at content found (read_through map bits) ≡ behind_through content map found bits
     by_found None = refl
     by_found (Some state) = refl
 
-pub AreLetters-push : (variables : List Variable) (letters : List (List Bool)) (letter : List Bool) → AreLetters variables letters → length letter ≡ count_of is_in_letters variables
+pub AreLetters-push : (variables : List Variable) (letters : List (List Bool)) (letter : List Bool) → AreLetters variables letters
+    → length letter ≡ count_of is_in_letters variables
     → AreLetters variables (letters ++ letter ∷ [])
 AreLetters-push variables [] letter are long = (long, tt)
 AreLetters-push variables (first ∷ letters) letter are long = (are.0, AreLetters-push variables letters letter are.1 long)
@@ -124,7 +127,8 @@ module _ (operands : Operands) (wide : List Variable) (distinct : HaveDistinctNu
           (λ full. absurd (never_one (same full)))
           (cases_lt few all)
 
-    led_from_starts : (i : ℕ) (node : Node) → slice_get nodes i ≡ Some node → IsNeeded nodes (λ bits number. slice_get pairs number ≡ Some (first_pair operands bits)) node
+    led_from_starts : (i : ℕ) (node : Node) → slice_get nodes i ≡ Some node
+        → IsNeeded nodes (λ bits number. slice_get pairs number ≡ Some (first_pair operands bits)) node
         → IsLedTo (IsStartOver wide) Leads (Inner i)
     led_from_starts i node held needed =
         let first = needed.0 in

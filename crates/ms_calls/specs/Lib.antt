@@ -1,2 +1,3 @@
 pub mod Fewest
 pub mod Products
+pub mod Renamings

@@ -4,7 +4,9 @@
 mod connectives;
 mod examples;
 mod fewest;
+mod renamings;
 
 pub use connectives::laws_of_connectives;
 pub use examples::worked_calls;
 pub use fewest::laws_of_fewest_states;
+pub use renamings::law_of_rising_renamings;
