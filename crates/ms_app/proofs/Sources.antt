@@ -9,7 +9,7 @@ use Rattle.ms_logic.specs.declared.source.Loaded.{Loaded}
 use Rattle.ms_names_rules.specs.Checking.{IsFirstFault}
 use Rattle.ms_names_rules.specs.Declarations.{first_fault_of}
 use Rattle.ms_names_rules.specs.TypedSource.{IsTyped}
-use Rattle.ms_names_rules.specs.View.{placed_of}
+use Rattle.ms_parse_grammar.specs.View.{declared_of}
 use Rattle.ms_app.specs.Source.{IsAccepted, IsUnaccepted, Origin, file_of, text_of, not_loaded, faulty}
 
 pub wrong_refused : (origin : Origin) (loaded : Loaded) → origin.Loads loaded → (refusal : Refusal) → (refusal ≡ Memory) ⊎ IsFirstFault loaded refusal
@@ -17,7 +17,7 @@ pub wrong_refused : (origin : Origin) (loaded : Loaded) → origin.Loads loaded 
 wrong_refused origin loaded is refusal (inl memory) = inl memory
 wrong_refused origin loaded is refusal (inr why) = inr (faulty loaded is refl why)
 
-pub right_accepted : (origin : Origin) (loaded : Loaded) → origin.Loads loaded → (checked : Checked) → first_fault_of loaded.mode (map placed_of loaded.items) ≡ None → IsTyped loaded checked
+pub right_accepted : (origin : Origin) (loaded : Loaded) → origin.Loads loaded → (checked : Checked) → first_fault_of loaded.mode (map declared_of loaded.items) ≡ None → IsTyped loaded checked
     → IsAccepted origin loaded checked
 right_accepted origin loaded is checked accepted typed = record { is_loaded = is; accepted = accepted; typed = typed }
 

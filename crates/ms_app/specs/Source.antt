@@ -17,7 +17,7 @@ use Rattle.ms_logic.specs.View.{Answers, problem_of}
 use Rattle.ms_names_rules.specs.Checking.{IsFirstFault}
 use Rattle.ms_names_rules.specs.Declarations.{first_fault_of}
 use Rattle.ms_names_rules.specs.TypedSource.{IsTyped}
-use Rattle.ms_names_rules.specs.View.{placed_of}
+use Rattle.ms_parse_grammar.specs.View.{declared_of}
 use Rattle.ms_build_source.specs.Limits.{IsUnsolved, IsWithinLimits}
 use Rattle.ms_dfafile_imports.specs.Enough.{contents_of}
 use Rattle.ms_source_steps.specs.Enough.{IsEnoughFor}
@@ -61,7 +61,7 @@ problem_with checked plains = problem_of checked (answers_with checked plains)
 -- it is loaded as a source in which nothing is wrong, and this is its typed tree
 pub record IsAccepted (origin : Origin) (loaded : Loaded) (checked : Checked) : Type 0 where
   pub is_loaded : origin.Loads loaded
-  pub accepted : first_fault_of loaded.mode (map placed_of loaded.items) ≡ None
+  pub accepted : first_fault_of loaded.mode (map declared_of loaded.items) ≡ None
   pub typed : IsTyped loaded checked
 
 -- the name that a request gives the file of the automaton of the main value, if it gives one, in a list

@@ -6,7 +6,7 @@ ghost use Rattle.ms_names_rules.specs.Checking.{IsFirstFault};
 ghost use Rattle.ms_names_rules.specs.Declarations.{first_fault_of};
 ghost use Rattle.ms_names_rules.specs.Numbers.{IsWellNumbered};
 ghost use Rattle.ms_names_rules.specs.TypedSource.{IsTyped};
-ghost use Rattle.ms_names_rules.specs.View.{placed_of};
+ghost use Rattle.ms_parse_grammar.specs.View.{declared_of};
 ghost use Rattle.ms_app.specs.inner.Right.{IsRight};
 ghost use Rattle.ms_app.specs.Source.{IsAccepted, IsUnaccepted, file_of, text_of};
 
@@ -34,7 +34,7 @@ impl Drop for Accepted {
 
 /// The typed tree of a loaded source in which nothing is wrong.
 fn accept(alloc: Global, loaded: &Loaded) -> Result<Accepted, Refusal>
-    ensures accepted { IfOk result (λ made. first_fault_of loaded.now.mode (map placed_of loaded.now.items) ≡ None) }
+    ensures accepted { IfOk result (λ made. first_fault_of loaded.now.mode (map declared_of loaded.now.items) ≡ None) }
     ensures typed { IfOk result (λ made. IsTyped loaded.now made.checked) }
     ensures numbered { IfOk result (λ made. IsWellNumbered made.checked) }
     ensures meets_rules { IfOk result (λ made. MeetsRules made.checked) }

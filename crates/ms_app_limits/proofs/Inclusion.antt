@@ -34,7 +34,7 @@ use Rattle.ms_source_steps.specs.Laws.{IsStepOfRoot, IsStepOfSource, of_declarat
 use Rattle.ms_app_limits.specs.inner.Inclusion.{inclusion_files, inclusion_text, inclusion_words}
 use Rattle.ms_app_limits.proofs.Asked.{asked}
 use Rattle.ms_app_limits.proofs.EmptySource.{no_rise, none_mapped}
-use Rattle.ms_app_limits.proofs.InclusionText.{inclusion-is, inclusion_checked, inclusion_loaded, inclusion_source, is_typed, read_as, source-seen}
+use Rattle.ms_app_limits.proofs.InclusionText.{inclusion-is, inclusion_checked, inclusion_loaded, inclusion_source, is_typed, items-viewed, read_as}
 
 -- it can be solved
 question_is : main_question inclusion_checked [] ≡ subset_source
@@ -52,7 +52,7 @@ taken = record {
       mode = refl;
       items = (_, _, _, (refl, refl), (_, _, _, (refl, refl), (refl, refl), refl), refl);
     };
-    accepted = ap (first_fault_of inclusion_loaded.mode) source-seen;
+    accepted = ap (first_fault_of inclusion_loaded.mode) items-viewed;
     typed = is_typed;
   };
   free = λ k used less. absurd (omega (arith, less));

@@ -27,12 +27,9 @@ use Rattle.ms_parse_grammar.specs.declared.operator.Binary.TheVariants.{Relation
 use Rattle.ms_parse_grammar.specs.Declarations.{Reads}
 use Rattle.ms_parse_grammar.specs.Symbol.{symbols}
 use Rattle.ms_parse_grammar.specs.Tree.{Document, Variables, named, atom, binary, no_variables, and_variable, unrestricted, variables, formula}
-use Rattle.ms_parse_grammar.specs.View.{Variable, document_of, expression_of, variable_of}
+use Rattle.ms_parse_grammar.specs.View.{Variable, declared_of, document_of, expression_of, variable_of}
 use Rattle.ms_include.specs.File.{ReadAs}
-use Rattle.ms_names_rules.specs.Syntax as syntax
 use Rattle.ms_names_rules.specs.TypedSource.{IsTyped, exports_of_source, formulas_of_source, globals_of_source, imports_of_source, predicates_of_source}
-use Rattle.ms_names_rules.specs.View as seen
-use Rattle.ms_names_rules.specs.View.{placed_of}
 use Rattle.ms_gen.proofs.Pieces.{Piece, ArePieces, at, symbols_from, symbols_listed, tokens_from, tokens_listed}
 use Rattle.ms_gen.proofs.Spelling.{mark, name_piece, word}
 use Rattle.ms_app_limits.specs.inner.Inclusion.{inclusion_text}
@@ -204,41 +201,9 @@ read_as =
       reads = subst (Reads true (symbols 0 lexed)) (sym source-viewed) (subst (λ all. Reads true all document) (sym said) document_reads);
     }
 
--- as the rules of names see it
-
-name-seen : (there : At) (n : List ℕ) → seen.expression_of (record { at = there; form = form.Name n }) ≡ syntax.name there n
-name-seen there n = search (rules, the_lemmas)
-
-relation-seen : (there : At) (l e : Expr)
-    → seen.expression_of (record { at = there; form = form.Relation Sub l e }) ≡ syntax.relation there Sub (seen.expression_of l) (seen.expression_of e)
-relation-seen there l e = search (rules, the_lemmas)
-
-bound-seen : (place : ℕ) (n : List ℕ) → seen.bound_of (bound_code place n) ≡ record { at = at place; order = Two; name = n; domain = syntax.unrestricted }
-bound-seen place n = search (rules, the_lemmas)
-
-inclusion-seen : seen.expression_of inclusion_code ≡ syntax.relation (at 17) Sub (syntax.name (at 17) (codes "P")) (syntax.name (at 23) (codes "Q"))
-inclusion-seen =
-    relation-seen (at 17) (name_code 17 (codes "P")) (name_code 23 (codes "Q"))
-    ∙ (λ i. syntax.relation (at 17) Sub (name-seen (at 17) (codes "P") i) (name-seen (at 23) (codes "Q") i))
-
-abbrev seen_items : List syntax.Placed
-seen_items =
-    record {
-      at = at 6;
-      declaration = syntax.globals (syntax.more_bounds (at 11) Two (codes "P") syntax.unrestricted
-          (syntax.more_bounds (at 14) Two (codes "Q") syntax.unrestricted syntax.no_bounds));
-    }
-    ∷ record { at = at 17; declaration = syntax.formula None (syntax.relation (at 17) Sub (syntax.name (at 17) (codes "P")) (syntax.name (at 23) (codes "Q"))) }
-    ∷ []
-
-abbrev bounds_with : seen.OneBound → seen.OneBound → syntax.Bounds
-bounds_with v w = syntax.more_bounds v.at v.order v.name v.domain (syntax.more_bounds w.at w.order w.name w.domain syntax.no_bounds)
-
-pub source-seen : map placed_of inclusion_source.items ≡ seen_items
-source-seen = λ i.
-    record { at = at 6; declaration = syntax.globals (bounds_with (bound-seen 11 (codes "P") i) (bound-seen 14 (codes "Q") i)) }
-    ∷ record { at = at 17; declaration = syntax.formula None (inclusion-seen i) }
-    ∷ []
+-- its declarations stand for those of the document
+pub items-viewed : map declared_of inclusion_source.items ≡ document.declarations
+items-viewed = ap (λ (d : Document). d.declarations) source-viewed
 
 -- its typed tree
 
@@ -264,7 +229,7 @@ inclusion_checked = record {
 
 pub is_typed : IsTyped inclusion_loaded inclusion_checked
 is_typed =
-    let same = sym source-seen in
+    let same = sym items-viewed in
     record {
       mode = refl;
       globals_are = ap (globals_of_source Ws1s) same;

@@ -8,7 +8,7 @@ use Rattle.ms_gen.specs.inner.AcceptanceLaws.{GeneratedSourcesAreAccepted}
 use Rattle.ms_gen.proofs.Becoming.{no-fault}
 use Rattle.ms_gen.proofs.Limits.{depth-is, size-is}
 use Rattle.ms_gen.proofs.Loading.{is-loaded, last_below, loaded}
-use Rattle.ms_gen.proofs.Seen.{source-seen}
+use Rattle.ms_gen.proofs.Source.{items-viewed}
 use Rattle.ms_gen.proofs.Typing.{checked, is-typed}
 
 module _ (number : ℕ) (name : List ℕ) (is : IsNumber number) where
@@ -22,7 +22,7 @@ module _ (number : ℕ) (name : List ℕ) (is : IsNumber number) where
   accepted = record {
     loaded = loaded number is name;
     is_loaded = is-loaded number is name;
-    no_fault = ap (first_fault_of Ws1s) (source-seen last) ∙ no-fault last small;
+    no_fault = ap (first_fault_of Ws1s) (items-viewed last) ∙ no-fault last small;
     checked = checked last name;
     is_typed = is-typed last small name;
     within = record { imports = refl; exports = refl; goals = refl; depth = omega (arith, depth-is last name); size = omega (arith, size-is last name, small) };

@@ -11,19 +11,16 @@ use Rattle.ms_logic.specs.View.{goals_in, main_question, problem_of}
 use Rattle.ms_parse_grammar.specs.Declarations.{Reads}
 use Rattle.ms_parse_grammar.specs.Symbol.{symbols}
 use Rattle.ms_parse_grammar.specs.Tree.{Document}
-use Rattle.ms_parse_grammar.specs.View.{document_of}
+use Rattle.ms_parse_grammar.specs.View.{document_of, declared_of}
 use Rattle.ms_include.specs.Load.{IsLoadedText, mode_of}
 use Rattle.ms_parse.proofs.OneTree.{one_document}
 use Rattle.ms_names_rules.specs.Declarations.{first_fault_of}
 use Rattle.ms_names_rules.specs.TypedSource.{IsTyped, exports_of_source, formulas_of_source, globals_of_source, imports_of_source, predicates_of_source}
-use Rattle.ms_names_rules.specs.View.{placed_of}
 use Rattle.ms_gen.specs.inner.AcceptanceLaws.{GeneratedSourcesAreValid, GeneratedSourcesHaveNoFault}
 use Rattle.ms_gen.proofs.Accepting.{accepted}
 use Rattle.ms_gen.proofs.Pieces.{tokens_from}
 use Rattle.ms_gen.proofs.Loading.{document-read, tokens-are}
-use Rattle.ms_include_laws.specs.inner.trees.Shown.{shown_declared}
 use Rattle.ms_include_laws.proofs.of_loads.Typing.{one_main_question, one_problem, same_goals_asked}
-use Rattle.ms_include_laws.proofs.of_trees.ShownLemmas.{items-shown}
 use Rattle.ms_gen.proofs.Source.{source}
 use Rattle.ms_gen.proofs.Spelling.{pieces}
 use Rattle.ms_gen.proofs.Validity.{valid}
@@ -32,7 +29,7 @@ none-mapped : {A B : Type 0} (f : A → B) (xs : List A) → map f xs ≡ [] →
 none-mapped f [] none = refl
 none-mapped f (x ∷ xs) none = let never : ⊥ = cc in absurd never
 
-typed-alike : (l k : Loaded) (c : Checked) → l.mode ≡ k.mode → map placed_of l.items ≡ map placed_of k.items → l.files ≡ k.files → IsTyped l c → IsTyped k c
+typed-alike : (l k : Loaded) (c : Checked) → l.mode ≡ k.mode → map declared_of l.items ≡ map declared_of k.items → l.files ≡ k.files → IsTyped l c → IsTyped k c
 typed-alike l k c modes items files typed = record {
   mode = typed.mode ∙ modes;
   globals_are = typed.globals_are ∙ (λ i. globals_of_source (modes i) (items i));
@@ -56,15 +53,14 @@ module _ (number : ℕ) (name : List ℕ) (is : IsNumber number) (loaded : Loade
       (subst (λ tokens. Reads true (symbols 0 (record { bytes = generated number; tokens = tokens })) (document_of loads.source)) same-tokens loads.reads.reads)
       (document-read number is)
 
-  same-items : map placed_of (source last).items ≡ map placed_of loaded.items
+  same-items : map declared_of (source last).items ≡ map declared_of loaded.items
   same-items =
-      sym (items-shown (source last).items) ∙ ap (λ (d : Document). map shown_declared d.declarations) (sym same-document) ∙ items-shown loads.source.items
-      ∙ ap (map placed_of) (sym loads.items)
+      ap (λ (d : Document). d.declarations) (sym same-document) ∙ ap (map declared_of) (sym loads.items)
 
   same-mode : Ws1s ≡ loaded.mode
   same-mode = ap (λ (d : Document). mode_of d.header) (sym same-document) ∙ sym loads.mode
 
-  no-fault-here : first_fault_of loaded.mode (map placed_of loaded.items) ≡ None
+  no-fault-here : first_fault_of loaded.mode (map declared_of loaded.items) ≡ None
   no-fault-here = sym (λ i. first_fault_of (same-mode i) (same-items i)) ∙ (accepted number name is).no_fault
 
   typed-here : IsTyped loaded (accepted number name is).checked

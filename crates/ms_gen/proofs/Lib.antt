@@ -9,7 +9,6 @@ pub mod Loading
 pub mod Names
 pub mod Pieces
 pub mod Reading
-pub mod Seen
 pub mod Source
 pub mod Spelling
 pub mod Typing

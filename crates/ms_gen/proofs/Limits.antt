@@ -5,7 +5,7 @@ use Rattle.ms_list.specs.declared.at.At.{At}
 use Rattle.ms_logic_core.specs.Size.{depth_of_source, extent_under, extents_of_each, extents_of_restrictions, greatest_depth, no_extents, size_of_source, total_size}
 use Rattle.ms_logic.specs.Tree.{Form, Forms, no_forms, more_forms}
 use Rattle.ms_logic.specs.View.{forms, globals_from, problem_of}
-use Rattle.ms_names_rules.specs.Syntax.{Bytes}
+use Rattle.ms_names_rules.specs.Scope.{Bytes}
 use Rattle.ms_gen.proofs.Becoming.{antecedent_form, chain_form, chain_parts, free_form, inclusion}
 use Rattle.ms_gen.proofs.Known.{length-set_names, set_names}
 use Rattle.ms_gen.proofs.Pieces.{at}

@@ -18,8 +18,8 @@ use Rattle.ms_logic.specs.declared.source.Form.TheVariants as form
 use Rattle.ms_logic.specs.declared.source.Source.{Source}
 use Rattle.ms_parse_grammar.specs.declared.operator.Binary.TheVariants.{Implication, Relation}
 use Rattle.ms_parse_grammar.specs.declared.operator.Junction.TheVariants.{Conjunction}
-use Rattle.ms_parse_grammar.specs.Tree.{truth, named, atom, binary, joined, quantified, no_expressions, and_expression, Variables, no_variables, and_variable, unrestricted, variables, formula}
-use Rattle.ms_parse_grammar.specs.View.{Variable, document_of, expression_of, expressions_behind, expressions_of, variable_of, variables_behind, variables_of}
+use Rattle.ms_parse_grammar.specs.Tree.{truth, named, atom, binary, joined, quantified, no_expressions, and_expression, Variables, no_variables, and_variable, unrestricted, variables, formula, Document}
+use Rattle.ms_parse_grammar.specs.View.{Variable, declared_of, document_of, expression_of, expressions_behind, expressions_of, variable_of, variables_behind, variables_of}
 use Rattle.ms_parse_print.proofs.Lists.{expressions_push, variables_push}
 use Rattle.ms_gen.proofs.Pieces.{at}
 use Rattle.ms_gen.proofs.Reading.{antecedent, behind_joining, behind_mark, behind_name, chain, chain_start, conclusion_start, document, first_start, free, free_start, last_start, left_start, links_end, links_start, name_at, operands, outside, right_start, set_start, sets, sets_start}
@@ -191,3 +191,7 @@ module _ (last : ℕ) where
         ∷ record { at = at (free_start last + 1); declaration = formula (free-viewed (free_start last) i) }
         ∷ [];
   }
+
+  -- and its declarations for those of the document
+  pub items-viewed : map declared_of (source last).items ≡ (document last).declarations
+  items-viewed = ap (λ (d : Document). d.declarations) source-viewed

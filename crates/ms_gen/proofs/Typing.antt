@@ -1,7 +1,8 @@
 -- The checked source that a generated source becomes.
-use Rattle.std.proofs.Common.{◌≡◌, ◌≤◌, ℕ, zero, suc, ◌+◌, false, List, [], ◌∷◌, ◌++◌, flat_map, map, Some, None, refl, sym, ap, ◌∙◌}
+use Rattle.std.proofs.Common.{◌≡◌, ◌≤◌, ℕ, zero, suc, ◌+◌, false, List, [], ◌∷◌, ◌++◌, flat_map, map, Option, Some, None, refl, sym, ap, ◌∙◌}
 use Rattle.std.specs.Option.{option_map}
 use Rattle.std.proofs.lemmas.List.{append-nil, map-append}
+use Rattle.ms_gen.specs.Generated.{name_of}
 use Rattle.ms_list.specs.declared.at.At.{At}
 use Rattle.ms_logic.specs.declared.checked.Checked.{Checked}
 use Rattle.ms_logic.specs.declared.checked.Global.{Global}
@@ -15,22 +16,19 @@ use Rattle.ms_logic.specs.declared.source.Loaded.{Loaded}
 use Rattle.ms_logic.specs.declared.term.Term1.TheVariants as number
 use Rattle.ms_logic.specs.declared.term.Term2.TheVariants as set
 use Rattle.ms_logic.specs.Tree as tree
-use Rattle.ms_logic.specs.Tree.{Form, Forms}
+use Rattle.ms_logic.specs.Tree.{Form}
 use Rattle.ms_logic.specs.View.{formula_of, forms}
 use Rattle.ms_logic.proofs.Views.{formula_of-And, formula_of-Bind-none, formula_of-Compare, formula_of-CompareSets, formula_of-Implies, formula_of-Member, formula_of-True, set_term_of-Var, term_of-Var}
-use Rattle.ms_names_rules.specs.declared.meaning.Meaning.TheVariants.{Variable}
 use Rattle.ms_names_rules.specs.Before.{Before}
-use Rattle.ms_names_rules.specs.Scope.{Scope, bind}
-use Rattle.ms_names_rules.specs.Syntax.{Bytes}
+use Rattle.ms_names_rules.specs.Scope.{Bytes, Scope, count_of_bounds, under_bounds}
 use Rattle.ms_names_rules.specs.Typed.{default_restriction, formula_in}
-use Rattle.ms_names_rules.specs.TypedSource.{IsTyped, TypedFormula, exports_of_source, formulas_of_source, global_of, globals_of_bounds, globals_of_source, imports_of_source, predicates_of_source}
+use Rattle.ms_names_rules.specs.TypedSource.{IsTyped, TypedFormula, TypedGlobal, exports_of_source, formulas_of_source, global_of, globals_of_bounds, globals_of_source, imports_of_source, predicates_of_source}
 use Rattle.ms_names_rules.specs.Uses.{export_at, import_at}
 use Rattle.ms_gen.proofs.Becoming.{antecedent_form, chain-stands, chain_form, chain_parts, first, free-is, free-stands, free_form, inclusion, outside_forms, third}
-use Rattle.ms_gen.proofs.Known.{inside-plain, plain, set_names}
+use Rattle.ms_gen.proofs.Known.{inside-sets, set_names}
 use Rattle.ms_gen.proofs.Pieces.{at}
-use Rattle.ms_gen.proofs.Reading.{chain_start, free_start, sets_start}
-use Rattle.ms_gen.proofs.Seen.{seen, source-seen}
-use Rattle.ms_gen.proofs.Source.{source}
+use Rattle.ms_gen.proofs.Reading.{chain_start, document, free_start, set_start, sets, sets_start}
+use Rattle.ms_gen.proofs.Source.{items-viewed, source}
 
 -- the formulas of the code
 
@@ -89,11 +87,21 @@ free-made-is x last =
 abbrev pub global_made : At → At × Bytes → Global
 global_made there v = record { at = there; item = 0; order = Two; name = v.1; domain = None }
 
-globals-are : (there : At) (s : Scope) (x : ℕ) (b : Before) (vs : List (At × Bytes)) → s.default_of_sets ≡ None
-    → map (λ g. Some (global_of g)) (map (global_made there) vs) ≡ globals_of_bounds there 0 s x b (plain vs)
-globals-are there s x b [] none = refl
-globals-are there s x b (v ∷ vs) none =
-    λ i. Some (record { at = there; item = 0; order = Two; name = v.1; restriction = default_restriction (sym none i) x }) ∷ globals-are there (bind v.1 (Variable x Two) s) (x + 1) b vs none i
+defaults-kept : (s : Scope) (start n : ℕ) → (under_bounds s 0 (sets start n)).default_of_sets ≡ s.default_of_sets
+defaults-kept s start zero = refl
+defaults-kept s start (suc n) = defaults-kept s start n
+
+globals-are : (there : At) (s : Scope) (b : Before) (start n : ℕ) → s.default_of_sets ≡ None
+    → map (λ g. Some (global_of g)) (map (global_made there) (set_names start n)) ≡ globals_of_bounds there 0 s 0 b (sets start n)
+globals-are there s b start zero none = λ i. Some (record { at = there; item = 0; order = Two; name = name_of 0; restriction = default_restriction (sym none i) 0 }) ∷ []
+globals-are there s b start (suc n) none =
+    let some : Global → Option TypedGlobal = λ g. Some (global_of g) in
+    let v : At × Bytes = (at (set_start start (suc n) + 1), name_of (n + 1)) in
+    let kept = sym (defaults-kept s start (suc n) ∙ none) in
+    ap (map some) (map-append (global_made there) (set_names start n) (v ∷ []))
+    ∙ (map-append some (map (global_made there) (set_names start n)) (global_made there v ∷ [])
+    ∙ (λ i. globals-are there s b start n none i
+    ++ Some (record { at = there; item = 0; order = Two; name = name_of (n + 1); restriction = default_restriction (kept i) (0 + count_of_bounds (sets start n)) }) ∷ []))
 
 -- the checked source
 
@@ -115,24 +123,26 @@ checked last name = record {
 }
 
 module _ (last : ℕ) (small : last ≤ 2000) where
-  globals-seen : map (λ g. Some (global_of g)) (map (global_made (at 6)) (set_names sets_start last)) ≡ globals_of_source Ws1s (seen last)
-  globals-seen = globals-are (at 6) (first last).scope 0 (first last).before (set_names sets_start last) refl ∙ sym (append-nil (globals_of_bounds (at 6) 0 (first last).scope 0 (first last).before (plain (set_names sets_start last))))
+  globals-seen : map (λ g. Some (global_of g)) (map (global_made (at 6)) (set_names sets_start last)) ≡ globals_of_source Ws1s (document last).declarations
+  globals-seen =
+      globals-are (at 6) (first last).scope (first last).before sets_start last refl
+      ∙ sym (append-nil (globals_of_bounds (at 6) 0 (first last).scope 0 (first last).before (sets sets_start last)))
 
-  imports-seen : [] ≡ imports_of_source Ws1s (seen last)
+  imports-seen : [] ≡ imports_of_source Ws1s (document last).declarations
   imports-seen = sym (λ i.
-      flat_map import_at (inside-plain (first last).scope 0 (first last).before (set_names sets_start last) i)
+      flat_map import_at (inside-sets (first last).scope 0 (first last).before sets_start last i)
       ++ ((chain-stands last small).harmless.imports i ++ ((free-stands last small).imports i ++ [])))
 
-  exports-seen : [] ≡ exports_of_source Ws1s (seen last)
+  exports-seen : [] ≡ exports_of_source Ws1s (document last).declarations
   exports-seen = sym (λ i.
-      flat_map export_at (inside-plain (first last).scope 0 (first last).before (set_names sets_start last) i)
+      flat_map export_at (inside-sets (first last).scope 0 (first last).before sets_start last i)
       ++ ((chain-stands last small).harmless.exports i ++ ((free-stands last small).exports i ++ [])))
 
   abbrev one_formula : At → ℕ → Form → TypedFormula
   one_formula there item f = record { at = there; item = item; title = None; formula = f }
 
   formulas-seen : Some (one_formula (at (chain_start last + 1)) 1 (formula_of (chain_made last))) ∷ Some (one_formula (at (free_start last + 1)) 2 (formula_of (free_made (x_number last) last))) ∷ []
-      ≡ formulas_of_source Ws1s (seen last)
+      ≡ formulas_of_source Ws1s (document last).declarations
   formulas-seen =
       (λ i. Some (one_formula (at (chain_start last + 1)) 1 (chain-is last i)) ∷ Some (one_formula (at (free_start last + 1)) 2 (free-made-is (x_number last) last i)) ∷ [])
       ∙ sym (λ i. option_map (one_formula (at (chain_start last + 1)) 1) (formula_in ((chain-stands last small).typed_is i))
@@ -144,7 +154,7 @@ module _ (last : ℕ) (small : last ≤ 2000) where
 
     pub is-typed : IsTyped loaded (checked last name)
     is-typed =
-        let same = sym (source-seen last) in
+        let same = sym (items-viewed last) in
         record {
           mode = refl;
           globals_are = globals-seen ∙ ap (globals_of_source Ws1s) same;

@@ -19,7 +19,7 @@ use Rattle.ms_logic.specs.Letters.{bound_of_set}
 use Rattle.ms_logic.proofs.Consistent.{yes_is_not_no}
 use Rattle.ms_logic.proofs.Members.{no_member_from_bound}
 use Rattle.ms_logic.proofs.SetLaws.{subset_law}
-use Rattle.ms_names_rules.specs.Syntax.{Bytes}
+use Rattle.ms_names_rules.specs.Scope.{Bytes}
 use Rattle.ms_gen.proofs.Becoming.{antecedent_form, chain_form, chain_parts, free_form, inclusion, outside_forms}
 use Rattle.ms_gen.proofs.Known.{set_names}
 use Rattle.ms_gen.proofs.Limits.{formulas-are}

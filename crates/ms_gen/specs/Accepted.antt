@@ -7,7 +7,7 @@ use Rattle.ms_logic_core.specs.Size.{depth_of_source, size_of_source}
 use Rattle.ms_logic.specs.View.{goals_in, problem_of}
 use Rattle.ms_names_rules.specs.Declarations.{first_fault_of}
 use Rattle.ms_names_rules.specs.TypedSource.{IsTyped}
-use Rattle.ms_names_rules.specs.View.{placed_of}
+use Rattle.ms_parse_grammar.specs.View.{declared_of}
 
 -- a checked source imports and exports nothing, has no goals, and is within the limits of depth and size
 pub record IsAloneWithinLimits (checked : Checked) : Type 0 where
@@ -19,7 +19,7 @@ pub record IsAloneWithinLimits (checked : Checked) : Type 0 where
 
 -- nothing is wrong with a loaded source
 abbrev pub HasNoFault : Loaded → Type 0
-HasNoFault loaded = first_fault_of loaded.mode (map placed_of loaded.items) ≡ None
+HasNoFault loaded = first_fault_of loaded.mode (map declared_of loaded.items) ≡ None
 
 -- The text reads as a source without includes in which nothing is wrong, and which becomes a checked source that stands alone and
 -- is within the limits.

@@ -1,4 +1,3 @@
 pub mod of_loads
 pub mod of_places
 pub mod of_spellings
-pub mod of_trees

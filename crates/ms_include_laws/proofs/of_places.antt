@@ -2,11 +2,9 @@ pub mod Declarations
 pub mod Faults
 pub mod Files
 pub mod FirstFaults
-pub mod Grammar
 pub mod Loads
 pub mod Occurrences
 pub mod Reading
 pub mod Refused
 pub mod TypedSources
-pub mod Views
 pub mod Worked

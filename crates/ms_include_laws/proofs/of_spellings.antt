@@ -1,6 +1,5 @@
 pub mod Files
-pub mod Grammar
+pub mod Items
 pub mod Loads
 pub mod Reading
-pub mod Views
 pub mod Worked

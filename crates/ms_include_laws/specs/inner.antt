@@ -1,4 +1,3 @@
 pub mod loads
 pub mod places
 pub mod spellings
-pub mod trees

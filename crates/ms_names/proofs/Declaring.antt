@@ -5,12 +5,13 @@ use Rattle.ms_logic.specs.declared.mode.Order.{Order}
 use Rattle.ms_logic.specs.Tree as tree
 use Rattle.ms_logic.specs.Tree.{Argument}
 use Rattle.ms_names_rules.specs.declared.meaning.Meaning.TheVariants.{Variable}
-use Rattle.ms_names_rules.specs.Syntax.{Bytes, Expression, Bounds}
+use Rattle.ms_names_rules.specs.Scope.{Bytes, Scope, bind, count_of_bounds, under_bounds, without_exports}
+use Rattle.ms_parse_grammar.specs.Tree.{Expression, Variables}
 use Rattle.ms_names_rules.specs.Before.{after, after_bounds, with_names}
 use Rattle.ms_names_rules.specs.inner.Binder.{restricted_variable, restricted_variables, predicate_with}
 use Rattle.ms_names_rules.specs.Declarations.{occurrences_in_default, occurrences_in_predicate}
-use Rattle.ms_names_rules.specs.Occurrence.{occurrences, inside_bounds, formula_wanted}
-use Rattle.ms_names_rules.specs.Scope.{Scope, bind, count_of_bounds, under_bounds, without_exports}
+use Rattle.ms_names_rules.specs.Order.{formula_wanted}
+use Rattle.ms_names_rules.specs.Occurrence.{occurrences, inside_bounds}
 use Rattle.ms_names_rules.specs.Typed.{both, formula_in, typed}
 use Rattle.ms_names_rules.specs.TypedSource.{parameters_of_bounds, typed_default, typed_predicate}
 use Rattle.ms_names_rules.proofs.Exports.{typed-same, under_bounds-same}
@@ -19,8 +20,10 @@ use Rattle.ms_names_rules.proofs.Declaring.{restricted-same}
 use Rattle.ms_names_scopes.specs.inner.Found.{after_restrictions, unbound, Found, passed}
 use Rattle.ms_names_scopes.proofs.Findings.{passed-passed}
 use Rattle.ms_names.proofs.Walk.{unbound-bounds}
+use Rattle.ms_names_rules.proofs.Standing.{counted}
+use Rattle.ms_names_rules.specs.inner.Examples.{without}
 
-pub predicate-passed : (s r q t u v w : Found) (vs : Bounds) (e : Expression) (x n m : ℕ) (allowed : Bool) →
+pub predicate-passed : (s r q t u v w : Found) (vs : Variables) (e : Expression) (x n m : ℕ) (allowed : Bool) →
     x ≡ s.before.next → n ≡ count_of_bounds vs → m ≡ count_of_bounds vs →
     r ≡ record s { before = with_names s.before n } →
     allowed ≡ r.scope.exports_allowed →
@@ -52,7 +55,7 @@ predicate-passed s r q t u v w vs e x n m allowed first counted counted_again nu
     ∙ ap (λ (there : Scope). record (passed s (before ++ os) end) { scope = there }) (unbound-bounds outer s.before.next vs)))))
     ∙ ap (λ (can : Bool). record (passed s (before ++ os) end) { scope = record outer { exports_allowed = can } }) was_is)
 
-pub predicate-typed : (s r q t : Found) (vs : Bounds) (e : Expression) (x n : ℕ) (made : Option (List tree.Declaration)) (body : Option Argument) →
+pub predicate-typed : (s r q t : Found) (vs : Variables) (e : Expression) (x n : ℕ) (made : Option (List tree.Declaration)) (body : Option Argument) →
     x ≡ s.before.next → n ≡ count_of_bounds vs →
     r ≡ record s { before = with_names s.before n } →
     q ≡ record r { scope = without_exports r.scope } →

@@ -3,9 +3,10 @@ use Rattle.std.proofs.Common.{◌≡◌, List, Option, refl, ap, ◌∙◌}
 use Rattle.ms_list.specs.declared.at.At.{At}
 use Rattle.ms_logic.specs.Tree.{Argument, Forms}
 use Rattle.ms_names_rules.specs.Before.{Before, after, after_all}
-use Rattle.ms_names_rules.specs.Occurrence.{Occurrence, formula_wanted, inside_operands, occurrences, set_wanted}
+use Rattle.ms_names_rules.specs.Order.{formula_wanted, set_wanted}
+use Rattle.ms_names_rules.specs.Occurrence.{Occurrence, inside_operands, occurrences}
 use Rattle.ms_names_rules.specs.Scope.{Scope}
-use Rattle.ms_names_rules.specs.Syntax.{Expression, Expressions}
+use Rattle.ms_parse_grammar.specs.Tree.{Expression, Expressions}
 use Rattle.ms_names_rules.specs.Typed.{typed, typed_formulas}
 use Rattle.ms_names.specs.declared.operation.Binary.{Binary}
 use Rattle.ms_names.specs.declared.operation.Binary.TheVariants.{Implies, Iff, Union, Inter, Minus}

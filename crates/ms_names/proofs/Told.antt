@@ -1,5 +1,5 @@
 -- A check after a declaration but for its exports.
-use Rattle.std.proofs.Common.{◌≡◌, ℕ, List, [], ◌∷◌, ◌++◌, append_assoc, ◌≤◌, length, length-append, arith, drop, Option, None, refl, sym, subst, ap, ◌∙◌}
+use Rattle.std.proofs.Common.{◌≡◌, ℕ, List, [], ◌∷◌, ◌++◌, append_assoc, ◌≤◌, length, length-append, arith, drop, None, refl, sym, subst, ap, ◌∙◌, Bool}
 use Rattle.std.specs.Prelude.{flat_map}
 use Rattle.std.proofs.lemmas.List.{append-nil}
 use Rattle.std.proofs.Math.Seq.{drop-append_seam}
@@ -9,34 +9,36 @@ use Rattle.ms_logic.specs.declared.source.PlacedInt.{PlacedInt}
 use Rattle.ms_names_rules.specs.declared.fault.Fault.{Fault}
 use Rattle.ms_names_rules.specs.declared.meaning.Meaning.TheVariants.{Constant, Predicate}
 use Rattle.ms_names_rules.specs.declared.meaning.Reading.{Reading}
-use Rattle.ms_names_rules.specs.Syntax.{Bytes, Expression, Bounds, Declaration, Title, globals, constant, predicate, default, formula}
+use Rattle.ms_names_rules.specs.Scope.{Bytes, bind, count_of_bounds, under_bounds, with_default}
+use Rattle.ms_parse_grammar.specs.Tree.{Expression, Variables, Declaration, variables, constant, predicate, default_restriction, formula}
+use Rattle.ms_names_rules.specs.Declarations.{Known, after_declaration, declared_names, exports_in, faults_of_declaration, faults_of_sum, faults_of_title, next_predicate, occurrences_in, occurrences_in_default, occurrences_in_predicate, orders_of_bounds, title_in}
 use Rattle.ms_names_rules.specs.Before.{after, after_bounds, with_names}
 use Rattle.ms_names_rules.specs.Constant.{sum_from, value_of_sum}
-use Rattle.ms_names_rules.specs.Declarations.{Known, after_declaration, declared_names, exports_in, faults_of_declaration, faults_of_sum, faults_of_title, next_predicate, occurrences_in, occurrences_in_default, occurrences_in_predicate, orders_of_bounds, title_in}
 use Rattle.ms_names_rules.specs.Fault.{first_with}
-use Rattle.ms_names_rules.specs.Occurrence.{occurrences, inside_bounds, formula_wanted}
+use Rattle.ms_names_rules.specs.Order.{formula_wanted}
+use Rattle.ms_names_rules.specs.Occurrence.{occurrences, inside_bounds}
 use Rattle.ms_names_rules.specs.Reads.{readings_at}
 use Rattle.ms_names_rules.specs.Rules.{faults_at, faults_of_bounds, faults_of_exports, faults_of_placed, faults_of_repeat}
-use Rattle.ms_names_rules.specs.Scope.{bind, count_of_bounds, under_bounds, with_default}
 use Rattle.ms_names_rules.specs.Uses.{import_at, export_at, with_files}
 use Rattle.ms_names_scopes.specs.declared.taken.Taken.{Taken}
 use Rattle.ms_names_scopes.specs.inner.Found.{after_restrictions, Found, with_faults, passed}
 use Rattle.ms_names_scopes.specs.inner.Declaration.{known_at, read_through, told}
 use Rattle.ms_names.specs.inner.Outcome.{declared_in}
 use Rattle.ms_names_scopes.proofs.Findings.{first_with-append}
+use Rattle.ms_names_rules.proofs.Orders.{ordered}
 
 kept-reads : (u v : Found) → u ≡ v → u ≡ record v { reads = u.reads }
 kept-reads u v same = let P : Found → Type 0 = λ there. u ≡ record there { reads = u.reads } in subst P same refl
 
-pub formula-told : (s u : Found) (count : ℕ) (taken : Taken) (title : Option Title) (e : Expression) →
+pub formula-told : (s u : Found) (count : ℕ) (taken : Taken) (e : Expression) →
     u ≡ passed s (occurrences s.scope s.before formula_wanted e) (after s.before e) →
-    u ≡ told s (known_at s count taken) (formula title e) u.reads
-formula-told s u count taken title e within = kept-reads u (passed s (occurrences s.scope s.before formula_wanted e) (after s.before e)) within
+    u ≡ told s (known_at s count taken) (formula e) u.reads
+formula-told s u count taken e within = kept-reads u (passed s (occurrences s.scope s.before formula_wanted e) (after s.before e)) within
 
-pub globals-told : (s r u : Found) (first : ℕ) (taken : Taken) (vs : Bounds) →
+pub globals-told : (s r u : Found) (first : ℕ) (taken : Taken) (vs : Variables) →
     r ≡ with_faults s (faults_of_bounds (declared_names s.scope) vs) →
     u ≡ after_restrictions r first vs →
-    u ≡ told s (known_at s first taken) (globals vs) u.reads
+    u ≡ told s (known_at s first taken) (variables vs) u.reads
 globals-told s r u first taken vs checked restricted_are =
     let fs = faults_of_bounds (declared_names s.scope) vs in
     let os = inside_bounds s.scope first s.before vs in
@@ -74,7 +76,7 @@ constant-told s r u count taken at n is value checked valued bound =
     (bound ∙ (ap (λ v. record r { scope = bind n (Constant v) r.scope }) valued
     ∙ (ap (λ (there : Found). record there { scope = bind n m there.scope }) checked ∙ padded)))
 
-pub predicate-told : (s r p t u v : Found) (count : ℕ) (taken : Taken) (at : At) (n : Bytes) (vs : Bounds) (e : Expression) (number : ℕ) (orders : List Order) →
+pub predicate-told : (s r p t u v : Found) (count : ℕ) (taken : Taken) (is_pred : Bool) (at : At) (n : Bytes) (vs : Variables) (e : Expression) (number : ℕ) (orders : List Order) →
     s.reads ≡ [] →
     r ≡ with_faults s (faults_of_repeat at n (declared_names s.scope)) →
     p ≡ with_faults r (faults_of_bounds [] vs) →
@@ -82,8 +84,8 @@ pub predicate-told : (s r p t u v : Found) (count : ℕ) (taken : Taken) (at : A
     number ≡ next_predicate t.scope → u ≡ read_through t →
     orders ≡ orders_of_bounds vs →
     v ≡ record u { scope = bind n (Predicate number orders) u.scope } →
-    v ≡ told s (known_at s count taken) (predicate at n vs e) v.reads
-predicate-told s r p t u v count taken at n vs e number orders empty declared_once different within numbered noted_as ordered bound =
+    v ≡ told s (known_at s count taken) (predicate is_pred at n vs e) v.reads
+predicate-told s r p t u v count taken is_pred at n vs e number orders empty declared_once different within numbered noted_as ordered bound =
     let fs = faults_of_repeat at n (declared_names s.scope) in
     let gs = faults_of_bounds [] vs in
     let os = occurrences_in_predicate s.scope s.before vs e in
@@ -116,7 +118,7 @@ pub default-told : (s t u v : Found) (count : ℕ) (taken : Taken) (o : Order) (
     t ≡ passed s (occurrences_in_default s.scope s.before o n e) (after (with_names s.before 1) e) →
     number ≡ next_predicate t.scope → u ≡ read_through t →
     v ≡ record u { scope = with_default o number u.scope } →
-    v ≡ told s (known_at s count taken) (default o n e) v.reads
+    v ≡ told s (known_at s count taken) (default_restriction o n e) v.reads
 default-told s t u v count taken o n e number empty within numbered noted_as held =
     let os = occurrences_in_default s.scope s.before o n e in
     let end = after (with_names s.before 1) e in

@@ -9,41 +9,46 @@ use Rattle.ms_logic.specs.Tree.{Form, Argument, Arguments}
 use Rattle.ms_names_rules.specs.declared.fault.Fault.{Fault}
 use Rattle.ms_names_rules.specs.declared.meaning.Meaning.TheVariants.{Variable}
 use Rattle.ms_names_rules.specs.declared.meaning.Reading.{Reading}
-use Rattle.ms_names_rules.specs.Syntax.{Bytes, Expression, call, quantified, where_let, Expressions, Bounds, Domain, restricted, Parts}
+use Rattle.ms_parse_grammar.specs.declared.operator.Listing.TheVariants.{Call}
+use Rattle.ms_names_rules.specs.Scope.{Bytes, bind, count_of_bounds, count_of_parts, meaning_of, under_bounds, under_parts, without_exports, count}
+use Rattle.ms_parse_grammar.specs.Tree.{Expression, listed, quantified, let_in, Expressions, Variables, Domain, restricted, Parts}
 use Rattle.ms_names_rules.specs.Before.{Before, after_bounds, after_parts, with_names}
 use Rattle.ms_names_rules.specs.inner.Binder.{quantified_over, restricted_variable, restricted_variables, restriction_in, typed_sides}
 use Rattle.ms_names_rules.specs.Occurrence.{Occurrence}
 use Rattle.ms_names_rules.specs.Order.{parameters_of}
-use Rattle.ms_names_rules.specs.Rules.{count}
-use Rattle.ms_names_rules.specs.Scope.{bind, count_of_bounds, count_of_parts, meaning_of, under_bounds, under_parts, without_exports}
-use Rattle.ms_names_rules.specs.Typed.{both, formula_in, numbers_of_parts, typed, typed_arguments, typed_call, typed_parts, typed_restriction}
+use Rattle.ms_names_rules.specs.Typed.{both, formula_in, numbers_of_parts, typed, typed_arguments, typed_call, typed_parts, typed_restriction, as_many}
 use Rattle.ms_names_rules.proofs.Exports.{arguments-same, parts-same, typed-same, under_parts-same}
-use Rattle.ms_names_rules.proofs.Lists.{call-typed, quantifiers-all, restriction-own}
-use Rattle.ms_names.proofs.FewParameters.{arguments-typed-few}
+use Rattle.ms_names_rules.proofs.Lists.{quantifiers-all, restriction-own}
 use Rattle.ms_names_scopes.specs.inner.Found.{after_restrictions, Found, with_faults, passed, noted}
+use Rattle.ms_names_rules.proofs.Standing.{counted}
+use Rattle.ms_names.specs.inner.Progress.{known}
+use Rattle.ms_names_rules.specs.inner.Examples.{without}
+use Rattle.ms_names.proofs.FewParameters.{call-few}
 
 pub call-value : (s r q u v : Found) (fs : List Fault) (rs : List Reading) (os : List Occurrence) (b : Before) (at : At) (n : Bytes) (es : Expressions)
     (given : ℕ) (parameters : List Order) (allowed : Bool) (made : Option Arguments) (value : Option Argument) →
     given ≡ count es → parameters ≡ take (given + 1) (parameters_of (meaning_of s.scope n)) →
     r ≡ noted s fs rs → q ≡ record r { scope = without_exports r.scope } → u ≡ passed q os b →
     v ≡ record u { scope = record u.scope { exports_allowed = allowed } } →
-    made ≡ typed_arguments q.scope q.before parameters es →
-    value ≡ typed_call (meaning_of v.scope n) (λ orders. made) →
-    value ≡ typed s.scope s.before (call at n es)
+    made ≡ as_many (count es) parameters (typed_arguments q.scope q.before parameters es) →
+    value ≡ typed_call (meaning_of v.scope n) made →
+    value ≡ typed s.scope s.before (listed at (Call n) es)
 call-value s r q u v fs rs os b at n es given parameters allowed made value counted known named without within last typed_so called =
     let outer = without_exports s.scope in
     let m = meaning_of s.scope n in
     let meant : meaning_of v.scope n ≡ m =
     ap (λ (there : Found). meaning_of there.scope n) last ∙ (ap (λ (there : Found). meaning_of there.scope n) within
     ∙ (ap (λ (there : Found). meaning_of there.scope n) without ∙ ap (λ (there : Found). meaning_of there.scope n) named)) in
-    let given_is : made ≡ typed_arguments s.scope s.before (parameters_of m) es =
-    typed_so ∙ (ap (λ (there : Found). typed_arguments there.scope there.before parameters es) without
-    ∙ (ap (λ (there : Found). typed_arguments (without_exports there.scope) there.before parameters es) named
-    ∙ (ap (λ orders. typed_arguments outer s.before orders es) known
-    ∙ (arguments-typed-few outer s.before (parameters_of m) es (given + 1) (omega (arith, counted))
-    ∙ arguments-same outer s.scope s.before (parameters_of m) es refl)))) in
-    called ∙ (ap (λ there. typed_call there (λ orders. made)) meant
-    ∙ (ap (λ there. typed_call m (λ orders. there)) given_is ∙ call-typed s.scope s.before es m))
+    let ps = parameters_of m in
+    let G : List Order → Found → Option Arguments = λ orders there. as_many (count es) orders (typed_arguments there.scope there.before orders es) in
+    let few : given + 1 ≡ count es + 1 = omega (arith, counted) in
+    let given_is : made ≡ as_many (count es) ps (typed_arguments s.scope s.before ps es) =
+    typed_so ∙ (ap (G parameters) without
+    ∙ (ap (λ (there : Found). G parameters (record there { scope = without_exports there.scope })) named
+    ∙ (ap (λ orders. as_many (count es) orders (typed_arguments outer s.before orders es)) (known ∙ ap (λ k. take k ps) few)
+    ∙ (call-few outer s.before ps es
+    ∙ ap (as_many (count es) ps) (arguments-same outer s.scope s.before ps es refl))))) in
+    called ∙ (ap (λ there. typed_call there made) meant ∙ ap (typed_call m) given_is)
 
 -- a variable with the restriction of its own
 pub restriction-value : (s r q : Found) (takes_defaults : Bool) (x : ℕ) (o p : Order) (n m : Bytes) (e : Expression) (d : Domain) (value : Option Argument) →
@@ -65,14 +70,14 @@ restriction-value s r q takes_defaults x o p n m e d value order named own bound
     ∙ (ap (λ there. option_map (restricted_variable x o) (restriction_in takes_defaults (bind there (Variable x o) s.scope) s.before o x d)) named
     ∙ ap (λ there. option_map (restricted_variable x there) (restriction_in takes_defaults (bind m (Variable x there) s.scope) s.before there x d)) order)))
 
-pub quantified-value : (s r t : Found) (fs : List Fault) (rs : List Reading) (at : At) (q : Quant) (vs : Bounds) (e : Expression) (x : ℕ)
+pub quantified-value : (s r t : Found) (fs : List Fault) (rs : List Reading) (at : At) (q : Quant) (o : Order) (vs : Variables) (e : Expression) (x : ℕ)
     (made : Option (List tree.Declaration)) →
     x ≡ s.before.next →
     r ≡ record (noted s fs rs) { before = with_names s.before (count_of_bounds vs) } →
     t ≡ after_restrictions r x vs →
     made ≡ restricted_variables true r.scope x r.before vs →
-    option_map (λ f. tree.truth_argument f) (both (quantified_over q) made (formula_in (typed t.scope t.before e))) ≡ typed s.scope s.before (quantified at q vs e)
-quantified-value s r t fs rs at q vs e x made first begun restricted_are made_are =
+    option_map (λ f. tree.truth_argument f) (both (quantified_over q) made (formula_in (typed t.scope t.before e))) ≡ typed s.scope s.before (quantified at q o vs e)
+quantified-value s r t fs rs at q o vs e x made first begun restricted_are made_are =
     let here = with_names s.before (count_of_bounds vs) in
     let body = typed t.scope t.before e in
     let inside = typed (under_bounds s.scope s.before.next vs) (after_bounds here vs) e in
@@ -103,7 +108,7 @@ pub let-value : (s r p q t w : Found) (fs : List Fault) (os : List Occurrence) (
     w ≡ record t { scope = under_parts t.scope x o ps } →
     made ≡ typed_sides q.scope x q.before o ps →
     both (λ (there : List ℕ × Arguments) (g : Form). tree.truth_argument (tree.where_let there.0 there.1 g)) made (formula_in (typed w.scope w.before e))
-    ≡ typed s.scope s.before (where_let at o ps e)
+    ≡ typed s.scope s.before (let_in at o ps e)
 let-value s r p q t w fs os at o ps e x n made first counted checked numbered without right_sides named made_are =
     let here = with_names s.before (count_of_parts ps) in
     let body = typed w.scope w.before e in

@@ -13,24 +13,27 @@ use Rattle.ms_logic.specs.Tree.{Argument}
 use Rattle.ms_logic.specs.View.{argument_of}
 use Rattle.ms_names_rules.specs.declared.fault.Fault.{Fault}
 use Rattle.ms_names_rules.specs.declared.fault.Fault.TheVariants.{NotHere}
-use Rattle.ms_names_rules.specs.declared.meaning.Meaning.{Meaning}
-use Rattle.ms_names_rules.specs.declared.meaning.Meaning.TheVariants.{Variable}
 use Rattle.ms_names_rules.specs.declared.meaning.Reading.{Reading}
 use Rattle.ms_names_rules.specs.declared.wanted.Wanted.{Wanted}
-use Rattle.ms_names_rules.specs.Syntax.{Bytes, Expression, Expressions, Bounds, no_bounds, more_bounds, Parts, no_parts, more_parts, call, quantified, where_let, exported}
+use Rattle.ms_parse_grammar.specs.declared.operator.Bracket.TheVariants.{Export}
+use Rattle.ms_parse_grammar.specs.declared.operator.Listing.TheVariants.{Call}
+use Rattle.ms_names_rules.specs.Scope.{Bytes, Scope, count_of_bounds, count_of_parts, meaning_of, under_bounds, under_parts, without_exports, count}
+use Rattle.ms_parse_grammar.specs.Tree.{Expression, enclosed, listed, quantified, let_in, Expressions, Variables, no_variables, and_variable, Parts, no_parts, and_part}
 use Rattle.ms_names_rules.specs.Before.{Before, after, after_all, after_bounds, after_parts, with_names, with_export}
 use Rattle.ms_names_rules.specs.Fault.{first_with}
 use Rattle.ms_names_rules.specs.inner.Free.{export_use}
-use Rattle.ms_names_rules.specs.Occurrence.{Occurrence, occurrences, inside, inside_arguments, inside_bounds, inside_parts, formula_wanted}
-use Rattle.ms_names_rules.specs.Order.{parameters_of}
+use Rattle.ms_names_rules.specs.Order.{formula_wanted, parameters_of}
+use Rattle.ms_names_rules.specs.Occurrence.{Occurrence, occurrences, inside, inside_arguments, inside_bounds, inside_parts}
 use Rattle.ms_names_rules.specs.Reads.{readings_at, readings_of_bounds, readings_of_call, variables_read}
-use Rattle.ms_names_rules.specs.Rules.{count, faults_at, faults_of_bounds, faults_of_call, faults_of_form, faults_of_order, faults_of_parts, in_case}
-use Rattle.ms_names_rules.specs.Scope.{Scope, bind, count_of_bounds, count_of_parts, meaning_of, under_bounds, under_parts, without_exports}
+use Rattle.ms_names_rules.specs.Rules.{faults_at, faults_of_bounds, faults_of_call, faults_of_form, faults_of_order, faults_of_parts, in_case}
 use Rattle.ms_names_rules.specs.Typed.{typed}
 use Rattle.ms_names_rules.specs.Uses.{import_at, export_at}
 use Rattle.ms_names_scopes.specs.inner.Found.{after_restrictions, unbound, Found, with_faults, passed, noted, formed}
 use Rattle.ms_names.proofs.FewParameters.{arguments-inside-few}
 use Rattle.ms_names_scopes.proofs.Findings.{first_with-append, passed-passed}
+use Rattle.ms_names_rules.proofs.Standing.{counted}
+use Rattle.ms_names_rules.proofs.Orders.{ordered}
+use Rattle.ms_names_rules.specs.inner.Examples.{without}
 
 -- after some faults and readings, and then some expressions
 abbrev pub with_inside : Found → List Fault → List Reading → List Occurrence → Before → Found
@@ -79,7 +82,7 @@ pub call-formed : (s r t u v : Found) (at : At) (n : Bytes) (es : Expressions) (
     t ≡ record r { scope = without_exports r.scope } →
     u ≡ passed t (inside_arguments t.scope t.before parameters es) (after_all t.before es) →
     v ≡ record u { scope = record u.scope { exports_allowed = allowed } } →
-    v ≡ formed s (call at n es)
+    v ≡ formed s (listed at (Call n) es)
 call-formed s r t u v at n es given parameters allowed counted known named was without within last =
     let m = meaning_of s.scope n in
     let F : Found → Found = λ there. passed (record there { scope = without_exports there.scope })
@@ -96,34 +99,33 @@ call-formed s r t u v at n es given parameters allowed counted known named was w
     ∙ (ap (λ k. passed (noted s (faults_of_call at n k m) (readings_of_call m)) (inside_arguments (without_exports s.scope) s.before (parameters_of m) es) (after_all s.before es)) counted
     ∙ noted-passed s (faults_of_call at n (count es) m) (readings_of_call m) (inside_arguments (without_exports s.scope) s.before (parameters_of m) es) (after_all s.before es)))))))
 
+without-last : {A : Type 0} (n : ℕ) (xs : List A) → drop (n + 1) xs ≡ drop n (drop 1 xs)
+without-last n xs =
+    let turned : n + 1 ≡ 1 + n = omega arith in
+    ap (λ k. drop k xs) turned ∙ sym (drop-drop n 1 xs)
+
 -- without the variables of a list
-pub unbound-bounds : (s : Scope) (x : ℕ) (vs : Bounds) →
+pub unbound-bounds : (s : Scope) (x : ℕ) (vs : Variables) →
     record (under_bounds s x vs) { names = drop (count_of_bounds vs) (under_bounds s x vs).names } ≡ s
-unbound-bounds s x no_bounds = refl
-unbound-bounds s x (more_bounds at o n d vs) =
-    let inner = bind n (Variable x o) s in
-    let N : List (Bytes × Meaning) → Scope = λ names. record (under_bounds inner (x + 1) vs) { names = names } in
-    ap N
-    (sym (drop-drop 1 (count_of_bounds vs) (under_bounds inner (x + 1) vs).names))
-    ∙ ap (λ (there : Scope). record there { names = drop 1 there.names }) (unbound-bounds inner (x + 1) vs)
+unbound-bounds s x no_variables = refl
+unbound-bounds s x (and_variable vs at o n d) =
+    let names = (under_bounds s x (and_variable vs at o n d)).names in
+    ap (λ rest. record (under_bounds s x vs) { names = rest }) (without-last (count_of_bounds vs) names) ∙ unbound-bounds s x vs
 
 pub unbound-parts : (s : Scope) (x : ℕ) (o : Order) (ps : Parts) →
     record (under_parts s x o ps) { names = drop (count_of_parts ps) (under_parts s x o ps).names } ≡ s
 unbound-parts s x o no_parts = refl
-unbound-parts s x o (more_parts at n e ps) =
-    let inner = bind n (Variable x o) s in
-    let N : List (Bytes × Meaning) → Scope = λ names. record (under_parts inner (x + 1) o ps) { names = names } in
-    ap N
-    (sym (drop-drop 1 (count_of_parts ps) (under_parts inner (x + 1) o ps).names))
-    ∙ ap (λ (there : Scope). record there { names = drop 1 there.names }) (unbound-parts inner (x + 1) o ps)
+unbound-parts s x o (and_part ps at n e) =
+    let names = (under_parts s x o (and_part ps at n e)).names in
+    ap (λ rest. record (under_parts s x o ps) { names = rest }) (without-last (count_of_parts ps) names) ∙ unbound-parts s x o ps
 
-pub quantified-formed : (s r t v : Found) (at : At) (q : Quant) (vs : Bounds) (e : Expression) (x n : ℕ) →
+pub quantified-formed : (s r t v : Found) (at : At) (q : Quant) (o : Order) (vs : Variables) (e : Expression) (x n : ℕ) →
     x ≡ s.before.next → n ≡ count_of_bounds vs →
     r ≡ record (noted s (faults_of_bounds [] vs) (readings_of_bounds s.scope vs)) { before = with_names s.before (count_of_bounds vs) } →
     t ≡ after_restrictions r x vs →
     v ≡ unbound n (passed t (occurrences t.scope t.before formula_wanted e) (after t.before e)) →
-    v ≡ formed s (quantified at q vs e)
-quantified-formed s r t v at q vs e x n first counted begun restricted last =
+    v ≡ formed s (quantified at q o vs e)
+quantified-formed s r t v at q o vs e x n first counted begun restricted last =
     let here = with_names s.before (count_of_bounds vs) in
     let fs = faults_of_bounds [] vs in
     let rs = readings_of_bounds s.scope vs in
@@ -151,7 +153,7 @@ pub let-formed : (s r p q t w l : Found) (at : At) (o : Order) (ps : Parts) (e :
     t ≡ passed q (inside_parts q.scope q.before o ps) (after_parts q.before ps) →
     w ≡ record t { scope = under_parts t.scope x o ps } →
     (let v = unbound n (passed w (occurrences w.scope w.before formula_wanted e) (after w.before e)) in l ≡ record v { scope = record v.scope { exports_allowed = allowed } }) →
-    l ≡ formed s (where_let at o ps e)
+    l ≡ formed s (let_in at o ps e)
 let-formed s r p q t w l at o ps e x n allowed first counted checked numbered was without right_sides named last =
     let here = with_names s.before (count_of_parts ps) in
     let fs = faults_of_parts [] ps in
@@ -189,7 +191,7 @@ pub export-formed : (s r t u : Found) (at text_at : At) (file : Bytes) (e : Expr
     t ≡ passed r (occurrences r.scope r.before formula_wanted e) (after r.before e) →
     entry ≡ length s.exports → from ≡ length s.reads →
     u ≡ record t { exports = insert t.exports entry (export_use text_at file (variables_read t.scope (drop from t.reads))) } →
-    u ≡ formed s (exported at text_at file e)
+    u ≡ formed s (enclosed at (Export text_at file) e)
 export-formed s r t u at text_at file e entry from begun within entry_is from_is last =
     let fs = in_case (not s.scope.exports_allowed) (NotHere at) in
     let os = occurrences s.scope (with_export s.before) formula_wanted e in

@@ -14,7 +14,7 @@ use ms_names_typing::call;
 /// A call, by what its arguments became.
 #[inline(never)]
 pub(crate) fn called(checker: &Checker, name: &Name, arguments: Option<List<Arg>>) -> Option<Arg>
-    ensures { option_map argument_of result ≡ typed_call (meaning_of checker.now.scope name.now) (λ parameters. option_map arguments_of arguments) }
+    ensures { option_map argument_of result ≡ typed_call (meaning_of checker.now.scope name.now) (option_map arguments_of arguments) }
 {
     match checker.meaning(name) {
         None => None,

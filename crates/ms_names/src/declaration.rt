@@ -3,7 +3,7 @@ ghost use Rattle.ms_names_rules.specs.Before.{after, after_bounds, with_names};
 ghost use Rattle.ms_names_rules.specs.Declarations.{occurrences_in_default, occurrences_in_predicate};
 ghost use Rattle.ms_names_rules.specs.Scope.{count_of_bounds};
 ghost use Rattle.ms_names_rules.specs.TypedSource.{typed_default, typed_predicate};
-ghost use Rattle.ms_names_rules.specs.View.{bounds_of, expression_of};
+ghost use Rattle.ms_parse_grammar.specs.View.{variables_of, expression_of};
 ghost use Rattle.ms_names_scopes.specs.inner.Found.{passed};
 ghost use Rattle.std.specs.Option.{option_map};
 ghost use Rattle.std.specs.Prelude.{◌≡◌, IfOk, OnOk};
@@ -22,10 +22,10 @@ pub(crate) fn predicate_parts(
     body: &Expr,
 ) -> Result<Option<Predicate>, NoMemory>
     ensures state { OnOk result (checker.new ≡ passed checker.old
-        (occurrences_in_predicate checker.old.scope checker.old.before (bounds_of bounds.now) (expression_of body.now))
-        (after (after_bounds (with_names checker.old.before (count_of_bounds (bounds_of bounds.now))) (bounds_of bounds.now)) (expression_of body.now))) }
+        (occurrences_in_predicate checker.old.scope checker.old.before (variables_of bounds.now) (expression_of body.now))
+        (after (after_bounds (with_names checker.old.before (count_of_bounds (variables_of bounds.now))) (variables_of bounds.now)) (expression_of body.now))) }
     ensures value { IfOk result (λ made. option_map predicate_of made
-        ≡ typed_predicate checker.old.scope checker.old.before (bounds_of bounds.now) (expression_of body.now)) }
+        ≡ typed_predicate checker.old.scope checker.old.before (variables_of bounds.now) (expression_of body.now)) }
 {
     let first = checker.number_names(bounds.len())?;
     let allowed = checker.forbid_exports();

@@ -1,13 +1,13 @@
 ghost use Rattle.ms_logic.specs.View.{declaration_of, formula_of, predicate_of};
 ghost use Rattle.ms_names_rules.specs.inner.Binder.{restricted_variables};
-ghost use Rattle.ms_names_rules.specs.Syntax.{Title, constant, default, formula, globals, predicate};
+ghost use Rattle.ms_parse_grammar.specs.Tree.{constant, default_restriction, formula, predicate, variables};
 ghost use Rattle.ms_names_rules.specs.Typed.{formula_in, typed};
 ghost use Rattle.ms_names_rules.specs.TypedSource.{typed_default, typed_predicate};
-ghost use Rattle.ms_names_rules.specs.View.{bounds_of, expression_of};
+ghost use Rattle.ms_parse_grammar.specs.View.{variables_of, expression_of};
 ghost use Rattle.ms_names_scopes.specs.declared.taken.Taken.{Taken};
 ghost use Rattle.ms_names_scopes.specs.inner.Declaration.{known_at, told};
 ghost use Rattle.std.specs.Option.{option_map};
-ghost use Rattle.std.specs.Prelude.{◌≡◌, [], ℕ, true, map, IfOk, OnOk, Option};
+ghost use Rattle.std.specs.Prelude.{◌≡◌, [], ℕ, Bool, true, map, IfOk, OnOk};
 
 use crate::declaration::{default_parts, predicate_parts};
 use crate::expression::{expression, variables};
@@ -19,8 +19,8 @@ use ms_names_typing::formula_in;
 
 /// A formula, of a declaration or of a goal.
 pub(crate) fn declare_formula(checker: &mut Checker, e: &Expr) -> Result<Option<Formula>, NoMemory>
-    ensures state { OnOk result ((count : ℕ) (taken : Taken) (title : Option Title)
-        → checker.new ≡ told checker.old (known_at checker.old count taken) (formula title (expression_of e.now)) checker.new.reads) }
+    ensures state { OnOk result ((count : ℕ) (taken : Taken)
+        → checker.new ≡ told checker.old (known_at checker.old count taken) (formula (expression_of e.now)) checker.new.reads) }
     ensures value { IfOk result (λ made. option_map formula_of made ≡ formula_in (typed checker.old.scope checker.old.before (expression_of e.now))) }
 {
     let value = expression(checker, Wanted::Exactly(Order::Zero), e)?;
@@ -34,9 +34,9 @@ pub(crate) fn declare_globals(
     bounds: &[Bound],
 ) -> Result<Option<Vec<Param>>, NoMemory>
     ensures state { OnOk result ((taken : Taken)
-        → checker.new ≡ told checker.old (known_at checker.old first taken) (globals (bounds_of bounds.now)) checker.new.reads) }
+        → checker.new ≡ told checker.old (known_at checker.old first taken) (variables (variables_of bounds.now)) checker.new.reads) }
     ensures value { IfOk result (λ made. option_map (λ ps. map declaration_of ps.items) made
-        ≡ restricted_variables true checker.old.scope first checker.old.before (bounds_of bounds.now)) }
+        ≡ restricted_variables true checker.old.scope first checker.old.before (variables_of bounds.now)) }
 {
     checker.check_globals(bounds)?;
     let made = variables(checker, first, true, bounds)?;
@@ -67,11 +67,11 @@ pub(crate) fn declare_predicate(
     body: &Expr,
 ) -> Result<Option<Predicate>, NoMemory>
     requires { checker.old.reads ≡ [] }
-    ensures state { OnOk result ((count : ℕ) (taken : Taken)
+    ensures state { OnOk result ((count : ℕ) (taken : Taken) (is_pred : Bool)
         → checker.new ≡ told checker.old (known_at checker.old count taken)
-        (predicate at name.now (bounds_of bounds.now) (expression_of body.now)) checker.new.reads) }
+        (predicate is_pred at name.now (variables_of bounds.now) (expression_of body.now)) checker.new.reads) }
     ensures value { IfOk result (λ made. option_map predicate_of made
-        ≡ typed_predicate checker.old.scope checker.old.before (bounds_of bounds.now) (expression_of body.now)) }
+        ≡ typed_predicate checker.old.scope checker.old.before (variables_of bounds.now) (expression_of body.now)) }
 {
     checker.check_declared(at, name)?;
     checker.check_bounds(bounds)?;
@@ -89,7 +89,7 @@ pub(crate) fn declare_default(
 ) -> Result<Option<Predicate>, NoMemory>
     requires { checker.old.reads ≡ [] }
     ensures state { OnOk result ((count : ℕ) (taken : Taken)
-        → checker.new ≡ told checker.old (known_at checker.old count taken) (default order name.now (expression_of body.now)) checker.new.reads) }
+        → checker.new ≡ told checker.old (known_at checker.old count taken) (default_restriction order name.now (expression_of body.now)) checker.new.reads) }
     ensures value { IfOk result (λ made. option_map predicate_of made
         ≡ typed_default checker.old.scope checker.old.before order name.now (expression_of body.now)) }
 {

@@ -1,16 +1,21 @@
 ghost use Rattle.ms_list.specs.declared.at.At.{At};
+ghost use Rattle.ms_logic.specs.declared.mode.Order.{Order};
 ghost use Rattle.ms_logic.specs.Tree as tree;
 ghost use Rattle.ms_logic.specs.Tree.{truth_argument};
 ghost use Rattle.ms_logic.specs.View.{argument_of, declaration_of};
 ghost use Rattle.ms_names.specs.inner.Operation.{of_all, of_one, of_two};
 ghost use Rattle.ms_names_rules.specs.Before.{after, after_all, after_parts};
 ghost use Rattle.ms_names_rules.specs.inner.Binder.{quantified_over, restricted_variable, restricted_variables, restriction_in, sides_of, typed_sides};
-ghost use Rattle.ms_names_rules.specs.inner.Lists.{arguments_of, expressions_of};
-ghost use Rattle.ms_names_rules.specs.Occurrence.{formula_wanted, inside_arguments, inside_parts, occurrences};
-ghost use Rattle.ms_names_rules.specs.Scope.{bind};
-ghost use Rattle.ms_names_rules.specs.Syntax.{call, exported, literal, quantified, relation, shift, where_let};
-ghost use Rattle.ms_names_rules.specs.Typed.{both, formula_in, typed, typed_arguments};
-ghost use Rattle.ms_names_rules.specs.View.{bound_of, bounds_of, expression_of, parts_of};
+ghost use Rattle.ms_names_rules.specs.inner.Lists.{arguments_of};
+ghost use Rattle.ms_names_rules.specs.Order.{formula_wanted};
+ghost use Rattle.ms_names_rules.specs.Occurrence.{inside_arguments, inside_parts, occurrences};
+ghost use Rattle.ms_names_rules.specs.Scope.{bind, count};
+ghost use Rattle.ms_parse_grammar.specs.declared.operator.Binary.TheVariants.{Relation};
+ghost use Rattle.ms_parse_grammar.specs.declared.operator.Bracket.TheVariants.{Export};
+ghost use Rattle.ms_parse_grammar.specs.declared.operator.Listing.TheVariants.{Literal, Call};
+ghost use Rattle.ms_parse_grammar.specs.Tree.{binary, shifted, enclosed, listed, quantified, let_in};
+ghost use Rattle.ms_names_rules.specs.Typed.{as_many, both, formula_in, typed, typed_arguments};
+ghost use Rattle.ms_parse_grammar.specs.View.{variable_of, variables_of, expression_of, parts_of, expressions_of};
 ghost use Rattle.ms_names_rules.specs.declared.meaning.Meaning.TheVariants.{Variable};
 ghost use Rattle.ms_names_scopes.specs.inner.Found.{after_restriction, after_restrictions, formed, passed, unbound};
 ghost use Rattle.std.specs.Option.{option_map};
@@ -152,9 +157,9 @@ fn of_all(
 #[cycle(expression)]
 #[inline(never)]
 fn literal_of(checker: &mut Checker, elements: &[Expr]) -> Result<Option<Arg>, NoMemory>
-    ensures state { (at : At) → OnOk result (checker.new ≡ formed checker.old (literal at (expressions_of elements.now))) }
+    ensures state { (at : At) → OnOk result (checker.new ≡ formed checker.old (listed at Literal (expressions_of elements.now))) }
     ensures value { (at : At) → IfOk result (λ value. option_map argument_of value
-        ≡ typed checker.old.scope checker.old.before (literal at (expressions_of elements.now))) }
+        ≡ typed checker.old.scope checker.old.before (listed at Literal (expressions_of elements.now))) }
 {
     let mut made = Some(List::new(checker.alloc));
     for element in elements {
@@ -173,9 +178,9 @@ fn related(
     left: &Expr,
     right: &Expr,
 ) -> Result<Option<Arg>, NoMemory>
-    ensures state { (at : At) → OnOk result (checker.new ≡ formed checker.old (relation at rel (expression_of left.now) (expression_of right.now))) }
+    ensures state { (at : At) → OnOk result (checker.new ≡ formed checker.old (binary at (Relation rel) (expression_of left.now) (expression_of right.now))) }
     ensures value { (at : At) → IfOk result (λ value. option_map argument_of value
-        ≡ typed checker.old.scope checker.old.before (relation at rel (expression_of left.now) (expression_of right.now))) }
+        ≡ typed checker.old.scope checker.old.before (binary at (Relation rel) (expression_of left.now) (expression_of right.now))) }
 {
     let order = checker.order(left);
     let first = expression(checker, Wanted::on_the_left(rel), left)?;
@@ -187,9 +192,9 @@ fn related(
 #[cycle(expression)]
 #[inline(never)]
 fn shifted(checker: &mut Checker, operand: &Expr, int: &PlacedInt) -> Result<Option<Arg>, NoMemory>
-    ensures state { (at : At) → OnOk result (checker.new ≡ formed checker.old (shift at (expression_of operand.now) int.now)) }
+    ensures state { (at : At) → OnOk result (checker.new ≡ formed checker.old (shifted at (expression_of operand.now) int.now)) }
     ensures value { (at : At) → IfOk result (λ value. option_map argument_of value
-        ≡ typed checker.old.scope checker.old.before (shift at (expression_of operand.now) int.now)) }
+        ≡ typed checker.old.scope checker.old.before (shifted at (expression_of operand.now) int.now)) }
 {
     checker.check_int(int)?;
     let by = checker.value(int);
@@ -207,9 +212,9 @@ fn call_of(
     name: &Name,
     arguments: &[Expr],
 ) -> Result<Option<Arg>, NoMemory>
-    ensures state { OnOk result (checker.new ≡ formed checker.old (call at name.now (expressions_of arguments.now))) }
+    ensures state { OnOk result (checker.new ≡ formed checker.old (listed at (Call name.now) (expressions_of arguments.now))) }
     ensures value { IfOk result (λ value. option_map argument_of value
-        ≡ typed checker.old.scope checker.old.before (call at name.now (expressions_of arguments.now))) }
+        ≡ typed checker.old.scope checker.old.before (listed at (Call name.now) (expressions_of arguments.now))) }
 {
     let parameters = checker.begin_call(at, name, arguments.len())?;
     let allowed = checker.forbid_exports();
@@ -229,7 +234,8 @@ fn arguments_for(
     ensures state { OnOk result (checker.new ≡ passed checker.old
         (inside_arguments checker.old.scope checker.old.before parameters.now (expressions_of arguments.now))
         (after_all checker.old.before (expressions_of arguments.now))) }
-    ensures value { IfOk result (λ made. option_map arguments_of made ≡ typed_arguments checker.old.scope checker.old.before parameters.now (expressions_of arguments.now)) }
+    ensures value { IfOk result (λ made. option_map arguments_of made ≡ as_many (count (expressions_of arguments.now)) parameters.now
+        (typed_arguments checker.old.scope checker.old.before parameters.now (expressions_of arguments.now))) }
 {
     let mut made = Some(List::new(checker.alloc));
     for (i, argument) in arguments.iter().enumerate() {
@@ -252,9 +258,9 @@ fn binder(
     bounds: &[Bound],
     body: &Expr,
 ) -> Result<Option<Arg>, NoMemory>
-    ensures state { (at : At) → OnOk result (checker.new ≡ formed checker.old (quantified at quant (bounds_of bounds.now) (expression_of body.now))) }
-    ensures value { (at : At) → IfOk result (λ value. option_map argument_of value
-        ≡ typed checker.old.scope checker.old.before (quantified at quant (bounds_of bounds.now) (expression_of body.now))) }
+    ensures state { (at : At) (o : Order) → OnOk result (checker.new ≡ formed checker.old (quantified at quant o (variables_of bounds.now) (expression_of body.now))) }
+    ensures value { (at : At) (o : Order) → IfOk result (λ value. option_map argument_of value
+        ≡ typed checker.old.scope checker.old.before (quantified at quant o (variables_of bounds.now) (expression_of body.now))) }
 {
     let first = checker.begin_bounds(bounds)?;
     let made = variables(checker, first, true, bounds)?;
@@ -292,9 +298,9 @@ pub(crate) fn variables(
     takes_defaults: bool,
     bounds: &[Bound],
 ) -> Result<Option<Vec<Param>>, NoMemory>
-    ensures state { OnOk result (checker.new ≡ after_restrictions checker.old first (bounds_of bounds.now)) }
+    ensures state { OnOk result (checker.new ≡ after_restrictions checker.old first (variables_of bounds.now)) }
     ensures value { IfOk result (λ made. option_map (λ ps. map declaration_of ps.items) made
-        ≡ restricted_variables takes_defaults checker.old.scope first checker.old.before (bounds_of bounds.now)) }
+        ≡ restricted_variables takes_defaults checker.old.scope first checker.old.before (variables_of bounds.now)) }
 {
     let mut made = Some(Vec::new(checker.alloc));
     let mut x = first;
@@ -318,12 +324,12 @@ fn one_variable(
     takes_defaults: bool,
     bound: &Bound,
 ) -> Result<Option<Vec<Param>>, NoMemory>
-    ensures state { OnOk result (checker.new ≡ after_restriction checker.old x (bound_of bound.now).order (bound_of bound.now).name (bound_of bound.now).domain) }
+    ensures state { OnOk result (checker.new ≡ after_restriction checker.old x (variable_of bound.now).order (variable_of bound.now).name (variable_of bound.now).domain) }
     ensures value { IfOk result (λ more. option_map (λ ps. map declaration_of ps.items) more
         ≡ both (λ front v. front ++ v ∷ []) (option_map (λ ps. map declaration_of ps.items) made)
-        (option_map (restricted_variable x (bound_of bound.now).order)
-        (restriction_in takes_defaults (bind (bound_of bound.now).name (Variable x (bound_of bound.now).order) checker.old.scope)
-        checker.old.before (bound_of bound.now).order x (bound_of bound.now).domain))) }
+        (option_map (restricted_variable x (variable_of bound.now).order)
+        (restriction_in takes_defaults (bind (variable_of bound.now).name (Variable x (variable_of bound.now).order) checker.old.scope)
+        checker.old.before (variable_of bound.now).order x (variable_of bound.now).domain))) }
 {
     checker.bind(&bound.name, Meaning::Variable(x, bound.order))?;
     match &bound.domain {
@@ -346,9 +352,9 @@ fn let_in(
     parts: &[LetPart],
     body: &Expr,
 ) -> Result<Option<Arg>, NoMemory>
-    ensures state { (at : At) → OnOk result (checker.new ≡ formed checker.old (where_let at order (parts_of parts.now) (expression_of body.now))) }
+    ensures state { (at : At) → OnOk result (checker.new ≡ formed checker.old (let_in at order (parts_of parts.now) (expression_of body.now))) }
     ensures value { (at : At) → IfOk result (λ value. option_map argument_of value
-        ≡ typed checker.old.scope checker.old.before (where_let at order (parts_of parts.now) (expression_of body.now))) }
+        ≡ typed checker.old.scope checker.old.before (let_in at order (parts_of parts.now) (expression_of body.now))) }
 {
     checker.check_parts(parts)?;
     let first = checker.number_names(parts.len())?;
@@ -418,9 +424,9 @@ fn export(
     file: &Text,
     body: &Expr,
 ) -> Result<Option<Arg>, NoMemory>
-    ensures state { OnOk result (checker.new ≡ formed checker.old (exported at text_at file.now (expression_of body.now))) }
+    ensures state { OnOk result (checker.new ≡ formed checker.old (enclosed at (Export text_at file.now) (expression_of body.now))) }
     ensures value { IfOk result (λ value. option_map argument_of value
-        ≡ typed checker.old.scope checker.old.before (exported at text_at file.now (expression_of body.now))) }
+        ≡ typed checker.old.scope checker.old.before (enclosed at (Export text_at file.now) (expression_of body.now))) }
 {
     let begun = checker.begin_export(at)?;
     let body = expression(checker, FORMULA, body)?;

@@ -3,7 +3,7 @@ ghost use Rattle.ms_logic.specs.View.{argument_of};
 ghost use Rattle.ms_names_rules.specs.Reads.{readings_of_name};
 ghost use Rattle.ms_names_rules.specs.Rules.{faults_of_name};
 ghost use Rattle.ms_names_rules.specs.Scope.{meaning_of};
-ghost use Rattle.ms_names_rules.specs.Syntax.{pconst};
+ghost use Rattle.ms_parse_grammar.specs.Tree.{pconst, atom};
 ghost use Rattle.ms_names_rules.specs.Typed.{typed, typed_name};
 ghost use Rattle.ms_names_scopes.specs.inner.Found.{formed, noted};
 ghost use Rattle.std.specs.Option.{option_map};
@@ -56,8 +56,8 @@ pub(crate) fn lone_name(checker: &mut Checker, at: At, name: &Name) -> Result<Op
 /// `pconst` of a number or of the name of a constant, likewise.
 #[inline(never)]
 pub(crate) fn lone_pconst(checker: &mut Checker, int: &PlacedInt) -> Result<Option<Arg>, NoMemory>
-    ensures state { (at : At) → OnOk result (checker.new ≡ formed checker.old (pconst at int.now)) }
-    ensures value { (at : At) → IfOk result (λ value. option_map argument_of value ≡ typed checker.old.scope checker.old.before (pconst at int.now)) }
+    ensures state { (at : At) → OnOk result (checker.new ≡ formed checker.old (atom at (pconst int.now))) }
+    ensures value { (at : At) → IfOk result (λ value. option_map argument_of value ≡ typed checker.old.scope checker.old.before (atom at (pconst int.now))) }
 {
     checker.check_int(int)?;
     Ok(pconst(checker.value(int)))

@@ -1,5 +1,5 @@
 ghost use Rattle.ms_names_rules.specs.Declarations.{after_declaration, faults_of_title, title_in, with_title};
-ghost use Rattle.ms_names_rules.specs.View.{declaration_of};
+ghost use Rattle.ms_parse_grammar.specs.View.{declaration_of};
 ghost use Rattle.ms_names_scopes.specs.declared.taken.Taken.{Taken};
 ghost use Rattle.ms_names_scopes.specs.inner.Declaration.{known_at, told};
 ghost use Rattle.ms_names_scopes.specs.inner.Found.{with_faults};

@@ -1,9 +1,8 @@
 ghost use Rattle.ms_logic.specs.View.{declaration_of as parameter_of};
-ghost use Rattle.ms_names_rules.specs.Declarations.{count_of_globals, globals_in, title_in};
-ghost use Rattle.ms_names_rules.specs.Syntax.{Title};
-ghost use Rattle.ms_names_rules.specs.View.{bounds_of, declaration_of, placed_of};
+ghost use Rattle.ms_names_rules.specs.Declarations.{count_of_globals, globals_in, title_in, Title};
+ghost use Rattle.ms_parse_grammar.specs.View.{variables_of, declaration_of, declared_of};
 ghost use Rattle.ms_names.specs.inner.Outcome.{outcome_of};
-ghost use Rattle.ms_names.specs.inner.Progress.{IsAfter, IsBeginning, IsFirstOf, IsMade, IsNext, Keeps, bounds_in, globals_with, kept_globals, known};
+ghost use Rattle.ms_names.specs.inner.Progress.{IsAfter, IsBeginning, IsFirstOf, IsMade, IsNext, Keeps, bounds_in, globals_with, kept_globals, known, listed_bounds};
 ghost use Rattle.std.specs.Option.{option_map};
 ghost use Rattle.std.specs.Prelude.{◌≡◌, ◌+◌, ◌∷◌, ◌++◌, ◌⊎◌, [], map, IfErr, IfOk, OnOk};
 
@@ -29,7 +28,7 @@ pub(crate) struct Progress {
 
 // The globals that a declaration declares.
 fn globals(decl: &Decl) -> &[Bound]
-    ensures { bounds_of result.now ≡ bounds_in (declaration_of decl.now) }
+    ensures { variables_of result.now ≡ bounds_in (declaration_of decl.now) }
 {
     match decl {
         Decl::Vars(bounds) => bounds.slice(),
@@ -50,7 +49,7 @@ fn more(count: u32, decl: &Decl) -> Result<u32, NoMemory>
 
 // How many globals the declarations have.
 fn count_globals(items: &[Item]) -> Result<u32, NoMemory>
-    ensures { IfOk result (λ count. count ≡ count_of_globals (map placed_of items.now)) }
+    ensures { IfOk result (λ count. count ≡ count_of_globals (map declared_of items.now)) }
 {
     let mut count = 0;
     for item in items {
@@ -69,7 +68,7 @@ fn add_globals(
     params: Vec<Param>,
 ) -> Result<(), NoMemory>
     ensures { OnOk result (kept_globals list.new
-        ≡ kept_globals list.old ++ globals_with at item (map parameter_of params.items) (bounds_of bounds.now)) }
+        ≡ kept_globals list.old ++ globals_with at item (map parameter_of params.items) (listed_bounds (variables_of bounds.now))) }
 {
     let mut params = params.into_iter();
     for bound in bounds {
@@ -106,7 +105,7 @@ fn title(alloc: Global, decl: &Decl) -> Result<Option<Text>, NoMemory>
 impl Progress {
     /// Before the first declaration. Bound names are numbered after all globals.
     pub(crate) fn begin(alloc: Global, mode: Mode, items: &[Item]) -> Result<Progress, NoMemory>
-        ensures { IfOk result (λ begun. IsBeginning begun mode (map placed_of items.now)) }
+        ensures { IfOk result (λ begun. IsBeginning begun mode (map declared_of items.now)) }
     {
         let next = count_globals(items)?;
         Ok(Progress {
@@ -127,7 +126,7 @@ impl Progress {
     // Keeps what a declaration gave.
     fn keep(&mut self, item: &Item, made: Outcome) -> Result<(), NoMemory>
         requires { IsMade (outcome_of made) }
-        ensures kept { OnOk result (Keeps self.old self.new (placed_of item.now) (outcome_of made)) }
+        ensures kept { OnOk result (Keeps self.old self.new (declared_of item.now) (outcome_of made)) }
         ensures checker { OnOk result (self.new.checker ≡ self.old.checker) }
         ensures taken { OnOk result (self.new.taken ≡ self.old.taken) }
         ensures count { OnOk result (self.new.count ≡ self.old.count) }
@@ -175,8 +174,8 @@ impl Progress {
 
     // One more declaration, or its first fault.
     fn declare(&mut self, item: &Item) -> Result<(), Refusal>
-        ensures next { OnOk result (IsNext self.old self.new (placed_of item.now)) }
-        ensures refused { IfErr result (λ refusal. (refusal ≡ Refusal.Memory) ⊎ IsFirstOf (known self.old) (placed_of item.now ∷ []) refusal) }
+        ensures next { OnOk result (IsNext self.old self.new (declared_of item.now)) }
+        ensures refused { IfErr result (λ refusal. (refusal ≡ Refusal.Memory) ⊎ IsFirstOf (known self.old) (declared_of item.now ∷ []) refusal) }
     {
         let Ok(made) = declare(&mut self.checker, self.count, &mut self.taken, &item.decl) else {
             return Err(Refusal::Memory);
@@ -195,8 +194,8 @@ impl Progress {
 
     /// More declarations, or the first fault of the first that has one.
     pub(crate) fn declare_all(&mut self, items: &[Item]) -> Result<(), Refusal>
-        ensures after { OnOk result (IsAfter self.old self.new (map placed_of items.now)) }
-        ensures refused { IfErr result (λ refusal. (refusal ≡ Refusal.Memory) ⊎ IsFirstOf (known self.old) (map placed_of items.now) refusal) }
+        ensures after { OnOk result (IsAfter self.old self.new (map declared_of items.now)) }
+        ensures refused { IfErr result (λ refusal. (refusal ≡ Refusal.Memory) ⊎ IsFirstOf (known self.old) (map declared_of items.now) refusal) }
     {
         for item in items {
             self.declare(item)?;

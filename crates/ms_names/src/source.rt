@@ -3,7 +3,7 @@ ghost use Rattle.ms_names_rules.specs.Checking.{IsFirstFault};
 ghost use Rattle.ms_names_rules.specs.Declarations.{first_fault_of};
 ghost use Rattle.ms_names_rules.specs.Numbers.{IsWellNumbered};
 ghost use Rattle.ms_names_rules.specs.TypedSource.{IsTyped};
-ghost use Rattle.ms_names_rules.specs.View.{placed_of};
+ghost use Rattle.ms_parse_grammar.specs.View.{declared_of};
 ghost use Rattle.ms_names.specs.inner.Progress.{IsEnd, checked_with};
 ghost use Rattle.std.specs.Prelude.{◌≡◌, ◌⊎◌, None, map, IfErr, IfOk};
 
@@ -68,7 +68,7 @@ fn checked(progress: Progress, mode: Mode, files: List<Text>) -> Checked
 /// level of an expression, of which a source that is read has 300 at most; a deeper one that is made by hand takes stack
 /// for each level.
 pub fn check(alloc: Global, loaded: &Loaded) -> Result<Checked, Refusal>
-    ensures accepted { IfOk result (λ checked. first_fault_of loaded.now.mode (map placed_of loaded.now.items) ≡ None) }
+    ensures accepted { IfOk result (λ checked. first_fault_of loaded.now.mode (map declared_of loaded.now.items) ≡ None) }
     ensures typed { IfOk result (IsTyped loaded.now) }
     ensures numbered { IfOk result IsWellNumbered }
     ensures meets_rules { IfOk result MeetsRules }

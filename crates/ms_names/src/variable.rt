@@ -1,6 +1,6 @@
 ghost use Rattle.ms_logic.specs.View.{argument_of, declaration_of};
 ghost use Rattle.ms_names_rules.specs.inner.Binder.{restricted_variable, restriction_in};
-ghost use Rattle.ms_names_rules.specs.Syntax.{unrestricted};
+ghost use Rattle.ms_parse_grammar.specs.Tree.{unrestricted};
 ghost use Rattle.ms_names_rules.specs.Typed.{both, typed_restriction};
 ghost use Rattle.std.specs.Option.{option_map};
 ghost use Rattle.std.specs.Prelude.{◌≡◌, ◌∷◌, ◌++◌, [], map, IfOk};

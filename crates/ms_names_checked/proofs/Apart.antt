@@ -5,29 +5,29 @@ use Rattle.std.proofs.lemmas.List.Elements.{All-cons, All-head, All-nil, All-tai
 use Rattle.std.proofs.lemmas.List.Kept.{AllPairs-cons}
 use Rattle.std.proofs.lemmas.Option.{none-some, same_Some}
 use Rattle.std.proofs.lemmas.Slice.Eq.{bytes_eq-Decides}
-use Rattle.ms_logic.specs.declared.checked.ImportUse.{ImportUse}
 use Rattle.ms_logic.specs.declared.checked.MapPair.{MapPair}
 use Rattle.ms_logic.specs.declared.mode.Order.{Order}
 use Rattle.ms_logic.specs.declared.source.Rename.{Rename}
 use Rattle.ms_logic.specs.Lists.{Each}
 use Rattle.ms_names_rules.specs.declared.meaning.Meaning.{Meaning}
 use Rattle.ms_names_rules.specs.declared.meaning.Meaning.TheVariants as meaning
-use Rattle.ms_names_rules.specs.Declarations.{Known, after_declaration, before_after, count_of_globals, first_fault_from, globals_in, occurrences_in}
+use Rattle.ms_names_rules.specs.Declarations.{Known, after_declaration, count_of_globals, first_fault_from, occurrences_in}
 use Rattle.ms_names_rules.specs.Occurrence.{Occurrence}
 use Rattle.ms_names_rules.specs.Rules.{faults_at, faults_of_form, faults_of_order, faults_of_renames, faults_of_repeat, faults_of_variable, is_name_among}
-use Rattle.ms_names_rules.specs.Scope.{Scope, meaning_among, meaning_of}
-use Rattle.ms_names_rules.specs.Syntax.{Bytes, Expression, imported, Placed}
+use Rattle.ms_names_rules.specs.Scope.{Scope, meaning_among, meaning_of, Bytes}
+use Rattle.ms_parse_grammar.specs.Tree.{imported, Expression, atom, Declared}
 use Rattle.ms_names_rules.specs.TypedSource.{collected}
 use Rattle.ms_names_rules.specs.Uses.{import_at, import_of_form, pair_of, pairs_of}
 use Rattle.ms_names_rules.proofs.Fitting.{Falls, IsBelow, each-append}
 use Rattle.ms_names_rules.proofs.Makes.{right-there}
 use Rattle.ms_names_rules.proofs.Orders.{AreRight, back-empty, front-empty}
-use Rattle.ms_names_checked.specs.Names.{AreDifferent, HasDifferentRights}
+use Rattle.ms_names_checked.specs.Names.{HasDifferentRights}
 use Rattle.ms_names_checked.proofs.Collected.{right-both}
-use Rattle.ms_names_checked.proofs.Differing.{Fresh, all-others, fresh-different, none-among, not-in-case}
+use Rattle.ms_names_checked.proofs.Differing.{Fresh, all-others, none-among, not-in-case}
 use Rattle.ms_names_checked.proofs.Falling.{AreFalling, HasFalling, declaration-falling, falling-after}
 use Rattle.ms_names_checked.proofs.Scopes.{Names}
 use Rattle.ms_names_checked.proofs.Stages.{declaration-grows}
+use Rattle.ms_names_rules.proofs.Lists.{apart}
 
 -- names of a scope
 
@@ -113,7 +113,7 @@ module _ (s : Scope) (falls : Falls s.names) where
 -- imports
 
 form-apart : (s : Scope) (e : Expression) → Falls s.names → faults_of_form s e ≡ [] → Each HasDifferentRights (import_of_form s e)
-form-apart s (imported at file rs) falls right = (numbers-apart s falls [] rs (fresh-rights s [] [] rs right), tt)
+form-apart s (atom at (imported file rs)) falls right = (numbers-apart s falls [] rs (fresh-rights s [] [] rs right), tt)
 form-apart s _ falls right = tt
 
 rights-apart : (os : List Occurrence) → Each HasFalling os → AreRight os → Each HasDifferentRights (flat_map import_at os)
@@ -124,7 +124,7 @@ rights-apart (o ∷ os) falls right =
     (form-apart o.scope o.expression falls.0 (back-empty (faults_of_order o.scope o.wanted o.expression) (faults_of_form o.scope o.expression) here))
     (rights-apart os falls.1 (back-empty (faults_at o) (flat_map faults_at os) right))
 
-pub imports-apart : (k : Known) (item : ℕ) (ds : List Placed) → k.globals + count_of_globals ds ≤ k.before.next → AreFalling k.globals k.scope.names → first_fault_from k ds ≡ None
+pub imports-apart : (k : Known) (item : ℕ) (ds : List Declared) → k.globals + count_of_globals ds ≤ k.before.next → AreFalling k.globals k.scope.names → first_fault_from k ds ≡ None
     → Each HasDifferentRights (collected (λ k item d. flat_map import_at (occurrences_in k d.declaration)) k item ds)
 imports-apart k item [] enough falling right = tt
 imports-apart k item (d ∷ ds) enough falling right =

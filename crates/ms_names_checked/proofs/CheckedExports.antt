@@ -1,15 +1,15 @@
 -- The exports of a checked source stand where they may, and list the free variables of what they export.
-use Rattle.std.proofs.Common.{option_map, ◌≡◌, ℕ, map, sym, subst, None}
+use Rattle.std.proofs.Common.{◌≡◌, ℕ, map, sym, subst, None, Some}
 use Rattle.ms_list.specs.declared.at.At.{At as Place}
 use Rattle.ms_logic.specs.declared.checked.Checked.{Checked}
 use Rattle.ms_logic.specs.declared.source.Loaded.{Loaded}
-use Rattle.ms_names_rules.specs.Syntax.{Declaration, globals, constant, predicate, include, default, formula, Title}
+use Rattle.ms_parse_grammar.specs.Tree.{Declaration, variables, constant, predicate, included, default_restriction, formula, goal}
 use Rattle.ms_names_rules.specs.Declarations.{Known, at_the_beginning, occurrences_in, first_fault_of}
 use Rattle.ms_logic.specs.Lists.{Each}
-use Rattle.ms_names_rules.specs.Occurrence.{formula_wanted}
+use Rattle.ms_names_rules.specs.Order.{formula_wanted}
 use Rattle.ms_names_rules.specs.Typed.{formula_in, typed}
 use Rattle.ms_names_rules.specs.TypedSource.{IsTyped, TypedFormula, formulas_of, placed_formula_of}
-use Rattle.ms_names_rules.specs.View.{placed_of}
+use Rattle.ms_parse_grammar.specs.View.{declared_of}
 use Rattle.ms_names_rules.proofs.Fitting.{If, if-one}
 use Rattle.ms_names_rules.proofs.Makes.{right-there}
 use Rattle.ms_names_rules.proofs.Orders.{AreRight}
@@ -19,23 +19,28 @@ use Rattle.ms_names_checked.proofs.FreeInSources.{variables-listed}
 use Rattle.ms_names_checked.proofs.InPlace.{formula-in-place, in-place}
 
 formulas-in-place : (k : Known) (at : Place) (item : ℕ) (d : Declaration) → AreRight (occurrences_in k d) → Each (If (λ (f : TypedFormula). HasExportsInPlace f.formula)) (formulas_of k at item d)
-formulas-in-place k at item (globals vs) right = tt
+formulas-in-place k at item (variables vs) right = tt
 formulas-in-place k at item (constant name_at n is) right = tt
-formulas-in-place k at item (predicate name_at n vs e) right = tt
-formulas-in-place k at item include right = tt
-formulas-in-place k at item (default o n e) right = tt
-formulas-in-place k at item (formula title e) right = (
-  if-one HasExportsInPlace (λ (f : TypedFormula). HasExportsInPlace f.formula) (λ form. record { at = at; item = item; title = option_map (λ (t : Title). t.text) title; formula = form }) (formula_in (typed k.scope k.before e)) (λ f h. h)
+formulas-in-place k at item (predicate is_pred name_at n vs e) right = tt
+formulas-in-place k at item (included text_at file) right = tt
+formulas-in-place k at item (default_restriction o n e) right = tt
+formulas-in-place k at item (formula e) right = (
+  if-one HasExportsInPlace (λ (f : TypedFormula). HasExportsInPlace f.formula) (λ form. record { at = at; item = item; title = None; formula = form }) (formula_in (typed k.scope k.before e)) (λ f h. h)
+      (formula-in-place (typed k.scope k.before e) (in-place k.scope k.before formula_wanted e right)),
+  tt,
+)
+formulas-in-place k at item (goal name_at title e) right = (
+  if-one HasExportsInPlace (λ (f : TypedFormula). HasExportsInPlace f.formula) (λ form. record { at = at; item = item; title = Some title; formula = form }) (formula_in (typed k.scope k.before e)) (λ f h. h)
       (formula-in-place (typed k.scope k.before e) (in-place k.scope k.before formula_wanted e right)),
   tt,
 )
 
-pub list-free-variables : (loaded : Loaded) (checked : Checked) → IsTyped loaded checked → first_fault_of loaded.mode (map placed_of loaded.items) ≡ None → ListsFreeVariables checked
+pub list-free-variables : (loaded : Loaded) (checked : Checked) → IsTyped loaded checked → first_fault_of loaded.mode (map declared_of loaded.items) ≡ None → ListsFreeVariables checked
 list-free-variables loaded checked typed right =
     let P : TypedFormula → Type 0 = λ f. HasExportsInPlace f.formula in
     let all = each-collected (λ k item d. formulas_of k d.at item d.declaration) (If P) (λ k. Unit {0}) (λ k d is. tt)
     (λ k item d is none. formulas-in-place k d.at item d.declaration (right-there k d.declaration none))
-    (at_the_beginning loaded.mode (map placed_of loaded.items)) 0 (map placed_of loaded.items) tt right in
+    (at_the_beginning loaded.mode (map declared_of loaded.items)) 0 (map declared_of loaded.items) tt right in
     record {
       in_place = each-kept P placed_formula_of checked.formulas (subst (λ xs. Each (If P) xs) (sym typed.formulas_are) all);
       variables = λ answers long. variables-listed loaded checked typed answers long;

@@ -8,9 +8,9 @@ use Rattle.ms_logic.specs.declared.source.Loaded.{Loaded}
 use Rattle.ms_names_rules.specs.TypedSource.{IsTyped}
 use Rattle.ms_names_rules.specs.Declarations.{at_the_beginning, occurrences_in, first_fault_of}
 use Rattle.ms_logic.specs.Lists.{Each}
-use Rattle.ms_names_rules.specs.Syntax.{Bytes}
+use Rattle.ms_names_rules.specs.Scope.{Bytes}
 use Rattle.ms_names_rules.specs.Uses.{import_at}
-use Rattle.ms_names_rules.specs.View.{placed_of}
+use Rattle.ms_parse_grammar.specs.View.{declared_of}
 use Rattle.ms_names_rules.proofs.Makes.{right-there}
 use Rattle.ms_names_checked.specs.Names.{AreDifferent, HasDifferentRights, NamesDiffer}
 use Rattle.ms_names_checked.proofs.Apart.{imports-apart}
@@ -18,9 +18,9 @@ use Rattle.ms_names_checked.proofs.Collected.{each-collected}
 use Rattle.ms_names_checked.proofs.Globals.{globals-picked, names_of_globals}
 use Rattle.ms_names_checked.proofs.Differing.{HasDifferentLefts, HaveDifferent, exports-different, files_of, fresh-different, fresh-globals, imports-different}
 
-pub different-names : (loaded : Loaded) (checked : Checked) → IsTyped loaded checked → first_fault_of loaded.mode (map placed_of loaded.items) ≡ None → NamesDiffer checked
+pub different-names : (loaded : Loaded) (checked : Checked) → IsTyped loaded checked → first_fault_of loaded.mode (map declared_of loaded.items) ≡ None → NamesDiffer checked
 different-names loaded checked typed right =
-    let ds = map placed_of loaded.items in
+    let ds = map declared_of loaded.items in
     let k = at_the_beginning loaded.mode ds in
     let names = globals-picked (λ o n. n) k 0 ds checked.globals typed.globals_are in
     let used = exports-different k 0 ds right in

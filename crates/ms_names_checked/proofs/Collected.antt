@@ -4,9 +4,10 @@ use Rattle.ms_names_rules.specs.declared.fault.Fault.{Fault}
 use Rattle.ms_names_rules.specs.Declarations.{Known, after_declaration, faults_in, first_fault_from, or_later}
 use Rattle.ms_names_rules.specs.Fault.{comes_before, first_fault, first_with}
 use Rattle.ms_logic.specs.Lists.{Each}
-use Rattle.ms_names_rules.specs.Syntax.{Declaration, Placed}
+use Rattle.ms_parse_grammar.specs.Tree.{Declaration, Declared}
 use Rattle.ms_names_rules.specs.TypedSource.{collected}
 use Rattle.ms_names_rules.proofs.Fitting.{If, each-append}
+use Rattle.ms_names_checked.specs.inner.Examples.{holds}
 
 -- where there is no first fault there is none
 
@@ -24,15 +25,15 @@ or-later-both None later e = (refl, e)
 or-later-both (Some f) later e = absurd (cc)
 
 -- there is no fault here and none further on
-pub right-both : (k : Known) (d : Placed) (ds : List Placed) → first_fault_from k (d ∷ ds) ≡ None →
+pub right-both : (k : Known) (d : Declared) (ds : List Declared) → first_fault_from k (d ∷ ds) ≡ None →
     (first_fault (faults_in k d.declaration) ≡ None) × (first_fault_from (after_declaration k d.declaration) ds ≡ None)
 right-both k d ds right = or-later-both (first_fault (faults_in k d.declaration)) (first_fault_from (after_declaration k d.declaration) ds) right
 
 -- P holds of what each declaration gives that has no fault, where I holds before it
-pub each-collected : {A : Type 0} (given : Known → ℕ → Placed → List A) (P : A → Type 0) (I : Known → Type 0) →
+pub each-collected : {A : Type 0} (given : Known → ℕ → Declared → List A) (P : A → Type 0) (I : Known → Type 0) →
     ((k : Known) (d : Declaration) → I k → I (after_declaration k d)) →
-    ((k : Known) (item : ℕ) (d : Placed) → I k → first_fault (faults_in k d.declaration) ≡ None → Each P (given k item d)) →
-    (k : Known) (item : ℕ) (ds : List Placed) → I k → first_fault_from k ds ≡ None → Each P (collected given k item ds)
+    ((k : Known) (item : ℕ) (d : Declared) → I k → first_fault (faults_in k d.declaration) ≡ None → Each P (given k item d)) →
+    (k : Known) (item : ℕ) (ds : List Declared) → I k → first_fault_from k ds ≡ None → Each P (collected given k item ds)
 each-collected given P I next holds k item [] is right = tt
 each-collected given P I next holds k item (d ∷ ds) is right =
     let both = right-both k d ds right in

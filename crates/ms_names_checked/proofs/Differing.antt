@@ -1,5 +1,5 @@
 -- Where nothing is wrong, names differ.
-use Rattle.std.proofs.Common.{◌≡◌, ◌≢◌, ℕ, ◌+◌, All, Bool, true, false, if◌then◌else◌, List, [], ◌∷◌, ◌++◌, length, map, Option, Some, None, refl, sym, ap, subst, arith}
+use Rattle.std.proofs.Common.{◌≡◌, ◌≢◌, ℕ, ◌+◌, All, Bool, true, false, if◌then◌else◌, List, [], ◌∷◌, ◌++◌, length, map, Option, Some, None, refl, sym, ap, subst, arith, append_assoc}
 use Rattle.std.specs.Prelude.{bytes_eq, flat_map}
 use Rattle.std.proofs.lemmas.Bool.Decides.{not_from_Decides}
 use Rattle.std.proofs.lemmas.List.Elements.{All-cons, All-nil}
@@ -16,9 +16,9 @@ use Rattle.ms_names_rules.specs.declared.meaning.Meaning.TheVariants as meaning
 use Rattle.ms_names_rules.specs.Declarations.{Known, after_declaration, declared_names, exports_in, faults_in, faults_of_declaration, faults_of_title, first_fault_from, occurrences_in, title_in, with_readings}
 use Rattle.ms_logic.specs.Lists.{Each}
 use Rattle.ms_names_rules.specs.Occurrence.{Occurrence}
-use Rattle.ms_names_rules.specs.Rules.{faults_at, faults_of_bounds, faults_of_export, faults_of_exports, faults_of_form, faults_of_names, faults_of_order, faults_of_renames, faults_of_repeat, faults_of_variable, first_name_twice, in_case, is_name_among}
-use Rattle.ms_names_rules.specs.Scope.{Scope, bind, meaning_of, under_bounds}
-use Rattle.ms_names_rules.specs.Syntax.{Bytes, Expression, imported, Bounds, no_bounds, more_bounds, Declaration, globals, constant, predicate, include, default, formula, Placed}
+use Rattle.ms_names_rules.specs.Rules.{faults_at, faults_of_bounds, faults_of_export, faults_of_exports, faults_of_form, faults_of_names, faults_of_order, faults_of_renames, faults_of_repeat, faults_of_variable, first_name_twice, in_case, is_name_among, with_names_of_bounds}
+use Rattle.ms_names_rules.specs.Scope.{Scope, meaning_of, under_bounds, Bytes}
+use Rattle.ms_parse_grammar.specs.Tree.{imported, Expression, atom, Variables, no_variables, and_variable, Declaration, variables, constant, predicate, included, default_restriction, formula, goal, Declared}
 use Rattle.ms_names_rules.specs.TypedSource.{collected}
 use Rattle.ms_names_rules.specs.Uses.{export_at, import_at, import_of_form, pair_of, pairs_of, with_files}
 use Rattle.ms_names_rules.proofs.Fitting.{each-append}
@@ -83,25 +83,32 @@ fresh-different earlier (n ∷ ns) h =
 
 -- globals
 
-fresh-bounds : (s : Scope) (x : ℕ) (vs : Bounds) (ns : List Bytes) → faults_of_bounds (declared_names s) vs ≡ [] → Fresh (declared_names (under_bounds s x vs)) ns →
+declared-bounds : (s : Scope) (x : ℕ) (vs : Variables) → with_names_of_bounds (declared_names s) vs ≡ declared_names (under_bounds s x vs)
+declared-bounds s x no_variables = refl
+declared-bounds s x (and_variable vs at o n d) = ap (λ names. n ∷ names) (declared-bounds s x vs)
+
+fresh-bounds : (s : Scope) (x : ℕ) (vs : Variables) (ns : List Bytes) → faults_of_bounds (declared_names s) vs ≡ [] → Fresh (declared_names (under_bounds s x vs)) ns →
     Fresh (declared_names s) (names_of_bounds vs ++ ns)
-fresh-bounds s x no_bounds ns right h = h
-fresh-bounds s x (more_bounds at o n d vs) ns right h =
-    let here = front-empty (faults_of_repeat at n (declared_names s)) (faults_of_bounds (n ∷ declared_names s) vs) right in
-    let rest = back-empty (faults_of_repeat at n (declared_names s)) (faults_of_bounds (n ∷ declared_names s) vs) right in
-    (not-in-case (is_name_among n (declared_names s)) _ here, fresh-bounds (bind n (meaning.Variable x o) s) (x + 1) vs ns rest h)
+fresh-bounds s x no_variables ns right h = h
+fresh-bounds s x (and_variable vs at o n d) ns right h =
+    let before = faults_of_bounds (declared_names s) vs in
+    let last = faults_of_repeat at n (with_names_of_bounds (declared_names s) vs) in
+    let here = not-in-case (is_name_among n (with_names_of_bounds (declared_names s) vs)) _ (back-empty before last right) in
+    subst (Fresh (declared_names s)) (sym (append_assoc (names_of_bounds vs) (n ∷ []) ns))
+    (fresh-bounds s x vs (n ∷ ns) (front-empty before last right) (subst (λ names. is_name_among n names ≡ false) (declared-bounds s x vs) here, h))
 
 fresh-declaration : (k : Known) (d : Declaration) (ns : List Bytes) → faults_of_declaration k d ≡ [] → Fresh (declared_names (after_declaration k d).scope) ns →
     Fresh (declared_names k.scope) (names_in d ++ ns)
-fresh-declaration k (globals vs) ns right h = fresh-bounds k.scope k.globals vs ns right h
+fresh-declaration k (variables vs) ns right h = fresh-bounds k.scope k.globals vs ns right h
 fresh-declaration k (constant at n is) ns right h = fresh-later n (declared_names k.scope) ns h
-fresh-declaration k (predicate at n vs e) ns right h = fresh-later n (declared_names k.scope) ns h
-fresh-declaration k include ns right h = h
-fresh-declaration k (default o n e) ns right h =
-    subst (λ earlier. Fresh earlier ns) (ap (map (λ entry. entry.0)) (default-names (with_readings (occurrences_in k (default o n e)) k.scope) o (length k.scope.readings))) h
-fresh-declaration k (formula title e) ns right h = h
+fresh-declaration k (predicate is_pred at n vs e) ns right h = fresh-later n (declared_names k.scope) ns h
+fresh-declaration k (included text_at file) ns right h = h
+fresh-declaration k (default_restriction o n e) ns right h =
+    subst (λ earlier. Fresh earlier ns) (ap (map (λ entry. entry.0)) (default-names (with_readings (occurrences_in k (default_restriction o n e)) k.scope) o (length k.scope.readings))) h
+fresh-declaration k (formula e) ns right h = h
+fresh-declaration k (goal name_at title e) ns right h = h
 
-pub fresh-globals : (k : Known) (ds : List Placed) → first_fault_from k ds ≡ None → Fresh (declared_names k.scope) (names_of_globals ds)
+pub fresh-globals : (k : Known) (ds : List Declared) → first_fault_from k ds ≡ None → Fresh (declared_names k.scope) (names_of_globals ds)
 fresh-globals k [] right = tt
 fresh-globals k (d ∷ ds) right =
     let both = right-both k d ds right in
@@ -150,7 +157,7 @@ fresh-exports earlier (x ∷ xs) more right h k =
     let rest = fresh-exports (x.name ∷ earlier) xs more (back-empty (faults_of_export earlier x) (faults_of_exports (x.name ∷ earlier) xs) right) h k in
     ((here.0, rest.0), (once-different x.names (none-twice x.at (first_name_twice x.names) here.1), rest.1))
 
-pub exports-different : (k : Known) (item : ℕ) (ds : List Placed) → first_fault_from k ds ≡ None →
+pub exports-different : (k : Known) (item : ℕ) (ds : List Declared) → first_fault_from k ds ≡ None →
     Fresh k.files (files_of (collected (λ k item d. flat_map export_at (occurrences_in k d.declaration)) k item ds))
     × HaveDifferent (collected (λ k item d. flat_map export_at (occurrences_in k d.declaration)) k item ds)
 exports-different k item [] right = (tt, tt)
@@ -191,7 +198,7 @@ abbrev pub HasDifferentLefts : ImportUse → Type 0
 HasDifferentLefts used = AreDifferent (lefts_of used.pairs)
 
 form-different : (s : Scope) (e : Expression) → faults_of_form s e ≡ [] → Each HasDifferentLefts (import_of_form s e)
-form-different s (imported at file rs) right = (fresh-different [] (lefts_of (pairs_of s rs)) (fresh-renames s [] [] rs right), tt)
+form-different s (atom at (imported file rs)) right = (fresh-different [] (lefts_of (pairs_of s rs)) (fresh-renames s [] [] rs right), tt)
 form-different s _ right = tt
 
 pub imports-different : (os : List Occurrence) → AreRight os → Each HasDifferentLefts (flat_map import_at os)

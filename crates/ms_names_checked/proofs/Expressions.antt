@@ -10,21 +10,23 @@ use Rattle.ms_logic.specs.Assignment.{Variable}
 use Rattle.ms_logic.specs.FreeVariables.{IsVariable, Reads, FreeInArgument, FreeInArguments, FreeInForms, FreeInRestriction, FreeUnder, SetTermReads, TermReads, TermsRead, orders_of}
 use Rattle.ms_logic_core.specs.Roots.{exports_among, exports_in}
 use Rattle.ms_logic.specs.Tree.{Argument, Arguments, Form, Forms, SetTerm, Term, Terms}
-use Rattle.ms_names_rules.specs.Syntax.{Bytes, Expression}
-use Rattle.ms_names_rules.specs.Syntax.{Bounds, no_bounds, more_bounds, Domain, unrestricted, restricted}
+use Rattle.ms_names_rules.specs.Scope.{Bytes, Scope, default_of, under_bounds}
+use Rattle.ms_parse_grammar.specs.Tree.{Expression, Variables, no_variables, and_variable, Domain, unrestricted, restricted}
 use Rattle.ms_names_rules.specs.Before.{Before, with_export}
 use Rattle.ms_names_rules.specs.inner.Free.{Readings}
 use Rattle.ms_names_rules.specs.Numbers.{Tables}
-use Rattle.ms_names_rules.specs.Occurrence.{Occurrence, occurrences, formula_wanted}
+use Rattle.ms_names_rules.specs.Order.{formula_wanted}
+use Rattle.ms_names_rules.specs.Occurrence.{Occurrence, occurrences}
 use Rattle.ms_names_rules.specs.Reads.{free_variables, readings_at, readings_of_bounds, readings_of_default}
-use Rattle.ms_names_rules.specs.Scope.{Scope, default_of}
 use Rattle.ms_names_rules.specs.Typed.{default_restriction}
 use Rattle.ms_names_rules.proofs.Fitting.{If}
-use Rattle.ms_names_checked.proofs.Hiding.{At}
 use Rattle.ms_names_checked.proofs.Leading.{Any, LeadsTo, Reaches}
 use Rattle.ms_names_checked.proofs.Listing.{lists-free}
 use Rattle.ms_names_checked.proofs.Scopes.{IsDefault, IsInScope, Names, old-more}
 use Rattle.ms_names_checked.proofs.Told.{ExportLists, ListsFreeUnder, Told, exports_of, only, told-none}
+use Rattle.ms_names_rules.specs.inner.Examples.{nothing}
+use Rattle.std.proofs.lemmas.List.{append-nil}
+use Rattle.ms_names_checked.proofs.Hiding.{At}
 
 -- the default restriction of a variable that has none of its own
 abbrev pub readings_of_domain : Scope → Order → Domain → Readings
@@ -36,17 +38,32 @@ default-under s t Zero numbers sets = refl
 default-under s t One numbers sets = numbers
 default-under s t Two numbers sets = sets
 
-pub readings-under : (s t : Scope) (vs : Bounds) → s.default_of_numbers ≡ t.default_of_numbers → s.default_of_sets ≡ t.default_of_sets → readings_of_bounds s vs ≡ readings_of_bounds t vs
-readings-under s t no_bounds numbers sets = refl
-readings-under s t (more_bounds at o n unrestricted vs) numbers sets =
-    ap (λ d. readings_of_default d ++ readings_of_bounds s vs) (default-under s t o numbers sets)
-    ∙ ap (λ rs. readings_of_default (default_of t o) ++ rs) (readings-under s t vs numbers sets)
-readings-under s t (more_bounds at o n (restricted e) vs) numbers sets = readings-under s t vs numbers sets
+pub readings-under : (s t : Scope) (vs : Variables) → s.default_of_numbers ≡ t.default_of_numbers → s.default_of_sets ≡ t.default_of_sets → readings_of_bounds s vs ≡ readings_of_bounds t vs
+readings-under s t no_variables numbers sets = refl
+readings-under s t (and_variable vs at o n unrestricted) numbers sets =
+    ap (λ d. readings_of_bounds s vs ++ readings_of_default d) (default-under s t o numbers sets)
+    ∙ ap (λ rs. rs ++ readings_of_default (default_of t o)) (readings-under s t vs numbers sets)
+readings-under s t (and_variable vs at o n (restricted e)) numbers sets = readings-under s t vs numbers sets
 
-pub readings-split : (s : Scope) (at : Place) (o : Order) (n : Bytes) (d : Domain) (vs : Bounds) →
-    readings_of_bounds s (more_bounds at o n d vs) ≡ readings_of_domain s o d ++ readings_of_bounds s vs
+pub domain-under : (s t : Scope) (o : Order) (d : Domain) → s.default_of_numbers ≡ t.default_of_numbers → s.default_of_sets ≡ t.default_of_sets →
+    readings_of_domain s o d ≡ readings_of_domain t o d
+domain-under s t o unrestricted numbers sets = ap readings_of_default (default-under s t o numbers sets)
+domain-under s t o (restricted e) numbers sets = refl
+
+pub readings-split : (s : Scope) (at : Place) (o : Order) (n : Bytes) (d : Domain) (vs : Variables) →
+    readings_of_bounds s (and_variable vs at o n d) ≡ readings_of_bounds s vs ++ readings_of_domain s o d
 readings-split s at o n unrestricted vs = refl
-readings-split s at o n (restricted e) vs = refl
+readings-split s at o n (restricted e) vs = sym (append-nil (readings_of_bounds s vs))
+
+-- the defaults are the same under the variables of a list
+
+pub numbers-under : (s : Scope) (x : ℕ) (vs : Variables) → (under_bounds s x vs).default_of_numbers ≡ s.default_of_numbers
+numbers-under s x no_variables = refl
+numbers-under s x (and_variable vs at o n d) = numbers-under s x vs
+
+pub sets-under : (s : Scope) (x : ℕ) (vs : Variables) → (under_bounds s x vs).default_of_sets ≡ s.default_of_sets
+sets-under s x no_variables = refl
+sets-under s x (and_variable vs at o n d) = sets-under s x vs
 
 module _ (tables : Tables) (r : Reads) (R : List Readings) (low : ℕ) where
   abbrev pub ArgumentTold : ℕ → Names → List Occurrence → Argument → Type 0

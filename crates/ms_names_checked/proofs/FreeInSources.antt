@@ -3,22 +3,20 @@ use Rattle.std.proofs.Common.{◌≡◌, ℕ, zero, suc, ◌↔◌, inl, inr, �
 use Rattle.std.specs.Prelude.{slice_get}
 use Rattle.std.specs.List.{zip}
 use Rattle.std.specs.Option.{IsSomeAnd}
-use Rattle.ms_logic.specs.declared.assignment.Value.{Value}
 use Rattle.ms_logic.specs.declared.checked.Checked.{Checked}
 use Rattle.ms_logic.specs.declared.checked.ImportUse.{ImportUse}
 use Rattle.ms_logic.specs.declared.checked.MapPair.{MapPair}
 use Rattle.ms_logic.specs.declared.checked.Placed as code
 use Rattle.ms_logic.specs.declared.source.Loaded.{Loaded}
-use Rattle.ms_logic.specs.Assignment.{Universe, Variable}
+use Rattle.ms_logic.specs.Assignment.{Variable}
 use Rattle.ms_logic.specs.FreeVariables.{IsListed, IsReadBy, reads_of_imports, reads_with_predicates}
 use Rattle.ms_logic_core.specs.Roots.{Export, exports_among, exports_in}
-use Rattle.ms_logic.specs.Truth.{Answer}
 use Rattle.ms_logic.specs.View.{formula_of, forms, import_of, predicate_of, problem_of, Answers}
 use Rattle.ms_names_rules.specs.Declarations.{at_the_beginning, count_of_globals}
 use Rattle.ms_logic.specs.Lists.{Each}
 use Rattle.ms_names_rules.specs.Numbers.{tables_of}
 use Rattle.ms_names_rules.specs.TypedSource.{IsTyped, TypedFormula, placed_formula_of}
-use Rattle.ms_names_rules.specs.View.{placed_of}
+use Rattle.ms_parse_grammar.specs.View.{declared_of}
 use Rattle.ms_names_rules.proofs.Fitting.{If, each-append, each-weaker}
 use Rattle.ms_names_rules.proofs.Numbering.{Stand}
 use Rattle.ms_names_rules.proofs.Standing.{stand-all}
@@ -71,7 +69,7 @@ formulas-listed P (f ∷ fs) h =
 pub variables-listed : (loaded : Loaded) (checked : Checked) → IsTyped loaded checked → (answers : Answers) → length answers ≡ length checked.imports →
     Each (ExportListsFree (problem_of checked answers).given checked.exports) (exports_among (problem_of checked answers).formulas)
 variables-listed loaded checked typed answers long =
-    let ds = map placed_of loaded.items in
+    let ds = map declared_of loaded.items in
     let k = at_the_beginning loaded.mode ds in
     let low = count_of_globals ds in
     let tables = tables_of checked in

@@ -1,28 +1,33 @@
 -- What an expression becomes binds its variables with their orders.
-use Rattle.std.proofs.Common.{◌≡◌, ℕ, ◌+◌, Bool, true, false, List, [], ◌∷◌, ◌++◌, length, Option, Some, None, refl, sym, ap, subst, ◌∙◌}
+use Rattle.std.proofs.Common.{◌≡◌, ℕ, ◌+◌, Bool, true, false, List, [], ◌∷◌, ◌++◌, length, Option, Some, None, refl, sym, ap, subst, ◌∙◌, slice_get, ◌==◌}
 use Rattle.std.specs.Option.{option_and_then}
 use Rattle.ms_logic.specs.declared.mode.Order.{Order}
 use Rattle.ms_logic.specs.declared.mode.Order.TheVariants.{Zero, One, Two}
 use Rattle.ms_logic.specs.declared.mode.Quant.{Quant}
 use Rattle.ms_logic.specs.Tree as tree
-use Rattle.ms_logic.specs.Tree.{Argument, truth_argument, number_argument, set_argument, Arguments, no_arguments, more_arguments, Form}
+use Rattle.ms_logic.specs.Tree.{Argument, truth_argument, number_argument, set_argument, Arguments, no_arguments, more_arguments, Form, Forms}
 use Rattle.ms_names_rules.specs.declared.meaning.Meaning.{Meaning}
 use Rattle.ms_names_rules.specs.declared.meaning.Meaning.TheVariants as meaning
-use Rattle.ms_names_rules.specs.Syntax.{Expression, truth, falsity, whole, empty_set, name, number, pconst, brackets, literal, call, negation, conjunction, disjunction, implication, equivalence, relation, emptiness, union, intersection, difference, shift, minimum, maximum, quantified, where_let, restrict, imported, exported}
-use Rattle.ms_names_rules.specs.Syntax.{Expressions, no_expressions, more_expressions, Bounds, no_bounds, more_bounds, Domain, unrestricted, restricted, Parts, no_parts, more_parts}
-use Rattle.ms_names_rules.specs.Before.{Before, with_names, with_export, after, after_bounds, after_domain, after_parts}
+use Rattle.ms_parse_grammar.specs.Tree.{truth, falsity, whole, empty_set, named, numeral, pconst, imported, Expression, atom, prefixed, binary, joined, shifted, enclosed, listed, quantified, let_in, Expressions, no_expressions, and_expression, Variables, no_variables, and_variable, Domain, unrestricted, restricted, Parts, no_parts, and_part, Atom}
+use Rattle.ms_parse_grammar.specs.declared.operator.Junction.TheVariants.{Conjunction, Disjunction}
+use Rattle.ms_parse_grammar.specs.declared.operator.Listing.TheVariants.{Literal, Call}
+use Rattle.ms_names_rules.specs.Before.{Before, with_names, after, after_bounds, after_parts, after_all, opened}
 use Rattle.ms_names_rules.specs.Constant.{value_of}
 use Rattle.ms_names_rules.specs.Declarations.{orders_of_bounds}
 use Rattle.ms_names_rules.specs.Numbers.{order_of_argument, orders_of_arguments}
-use Rattle.ms_names_rules.specs.Scope.{Scope, bind, count_of_bounds, count_of_parts, default_of, meaning_of, under_bounds, under_parts}
-use Rattle.ms_names_rules.specs.Typed.{default_restriction, formula_in, set_in, numbers_of_parts, of_order, typed, typed_arguments, typed_call, typed_domain, typed_formulas, typed_name, typed_numbers, typed_parts, typed_quantifiers, typed_shift, variable_argument}
-use Rattle.ms_names_rules.proofs.Fitting.{If, if-any, if-one}
+use Rattle.ms_names_rules.specs.Scope.{Scope, count_of_bounds, count_of_parts, default_of, meaning_of, under_bounds, under_parts, count}
+use Rattle.ms_names_rules.specs.Typed.{default_restriction, formula_in, numbers_of_parts, of_order, typed, typed_arguments, typed_call, typed_domain, typed_formulas, typed_name, typed_numbers, typed_parts, typed_quantifiers, typed_shift, variable_argument, argument_behind, argument_for, as_many, formula_behind, joined_formula, typed_atom, quantifier}
+use Rattle.ms_names_rules.proofs.Fitting.{If, if-any, if-one, if-test, if-weaker}
 use Rattle.ms_names_rules.proofs.Numbering.{Stand, if-two}
 use Rattle.ms_names_rules.proofs.Standing.{stand-back, stand-front}
 use Rattle.ms_names_checked.specs.Orders.{ArgumentBindsInOrder, ArgumentsBindInOrder, BindsInOrder, EachBindsInOrder, NamesHaveOrders, RestrictionBindsInOrder}
-use Rattle.ms_names_checked.proofs.Hiding.{orders_of_parts}
-use Rattle.ms_names_checked.proofs.OrdersInText.{bounds-long, domain-long, orders-long, orders_in, orders_in_all, orders_in_bounds, orders_in_domain, orders_in_parts, parts-long, restrictions-long, sides-long}
-use Rattle.ms_names_checked.proofs.Told.{relation-holds}
+use Rattle.ms_names_checked.proofs.Hiding.{from, orders_of_parts, numbers-from}
+use Rattle.ms_names_checked.proofs.OrdersInText.{bounds-long, orders-long, orders_in, orders_in_all, orders_in_bounds, orders_in_domain, orders_in_parts, parts-long, restrictions-long, sides-long}
+use Rattle.ms_names_checked.proofs.Operators.{Combines, bracket-holds, opened-next, prefix-holds, binary-holds}
+use Rattle.ms_parse_grammar.specs.declared.operator.Junction.{Junction}
+use Rattle.ms_names_rules.proofs.Behind.{orders-behind}
+use Rattle.ms_names_checked.proofs.OrdersInText.{all-long}
+use Rattle.ms_names_rules.specs.Order.{parameters_of}
 
 pub stand-next : (T : List Order) (n m : ℕ) (xs ys : List Order) → m ≡ n + length xs → Stand T n (xs ++ ys) → Stand T m ys
 stand-next T n m xs ys same h = subst (λ k. Stand T k ys) (sym same) (stand-back T n xs ys h)
@@ -70,68 +75,92 @@ module _ (T : List Order) where
   shift-in-order true (Some n) (Some (set_argument s)) = tt
   shift-in-order false (Some n) (Some (set_argument s)) = tt
 
-  call-in-order : (m : Option Meaning) (given : List Order → Option Arguments) → ((parameters : List Order) → If (ArgumentsBindInOrder T) (given parameters)) →
-      If (ArgumentBindsInOrder T) (typed_call m given)
-  call-in-order None given h = tt
-  call-in-order (Some (meaning.Variable x o)) given h = tt
-  call-in-order (Some (meaning.Constant value)) given h = tt
-  call-in-order (Some (meaning.Predicate p parameters)) given h =
-      if-one (ArgumentsBindInOrder T) (ArgumentBindsInOrder T) (λ arguments. truth_argument (tree.call p arguments)) (given parameters) (λ arguments k. k) (h parameters)
+  argument-in-order : (o : Option Order) (a : Option Argument) → If (ArgumentBindsInOrder T) a → If (ArgumentBindsInOrder T) (argument_for o a)
+  argument-in-order None a h = tt
+  argument-in-order (Some o) a h = if-weaker (IsSide o) (ArgumentBindsInOrder T) (option_and_then (of_order o) a) (λ b k. k.0) (side-in-order o a h)
+
+  call-in-order : (m : Option Meaning) (n : ℕ) (given : Option Arguments) → If (ArgumentsBindInOrder T) given → If (ArgumentBindsInOrder T) (typed_call m (as_many n (parameters_of m) given))
+  call-in-order None n given h = tt
+  call-in-order (Some (meaning.Variable x o)) n given h = tt
+  call-in-order (Some (meaning.Constant value)) n given h = tt
+  call-in-order (Some (meaning.Predicate p parameters)) n given h =
+      if-one (ArgumentsBindInOrder T) (ArgumentBindsInOrder T) (λ arguments. truth_argument (tree.call p arguments)) (as_many n parameters given) (λ arguments k. k)
+      (if-test (ArgumentsBindInOrder T) (n == length parameters) given (λ test. h))
+
+  -- lists with one more behind
+
+  formulas-behind : (fs : Forms) (f : Form) → EachBindsInOrder T fs → BindsInOrder T f → EachBindsInOrder T (formula_behind fs f)
+  formulas-behind tree.no_forms f h k = (k, tt)
+  formulas-behind (tree.more_forms first fs) f h k = (h.0, formulas-behind fs f h.1 k)
+
+  arguments-behind : (given : Arguments) (a : Argument) → ArgumentsBindInOrder T given → ArgumentBindsInOrder T a → ArgumentsBindInOrder T (argument_behind given a)
+  arguments-behind no_arguments a h k = (k, tt)
+  arguments-behind (more_arguments first more) a h k = (h.0, arguments-behind more a h.1 k)
 
   default-in-order : (d : Option ℕ) (x : ℕ) → RestrictionBindsInOrder T (default_restriction d x)
   default-in-order None x = tt
   default-in-order (Some p) x = tt
 
+  -- arguments of these orders take the numbers from x on
+  names-from : (x : ℕ) (os : List Order) (sides : Arguments) → orders_of_arguments sides ≡ os → Stand T x os → NamesHaveOrders T (from x os) sides
+  names-from x [] sides same h = tt
+  names-from x (o ∷ os) no_arguments same h = tt
+  names-from x (o ∷ os) (more_arguments a more) same h =
+      let first : order_of_argument a ≡ o = cc in
+      let rest : orders_of_arguments more ≡ os = cc in
+      (h.0 ∙ ap (λ p. Some p) (sym first), names-from (x + 1) os more rest h.1)
+
   names-in-order : (x : ℕ) (o : Order) (ps : Parts) (sides : Arguments) → orders_of_arguments sides ≡ orders_of_parts o ps → Stand T x (orders_of_parts o ps) →
       NamesHaveOrders T (numbers_of_parts x ps) sides
-  names-in-order x o no_parts sides same h = tt
-  names-in-order x o (more_parts at n e ps) no_arguments same h = tt
-  names-in-order x o (more_parts at n e ps) (more_arguments a more) same h =
-      let first : order_of_argument a ≡ o = cc in
-      let rest : orders_of_arguments more ≡ orders_of_parts o ps = cc in
-      (h.0 ∙ ap (λ p. Some p) (sym first), names-in-order (x + 1) o ps more rest h.1)
+  names-in-order x o ps sides same h =
+      subst (λ xs. NamesHaveOrders T xs sides) (sym (numbers-from x o ps)) (names-from x (orders_of_parts o ps) sides same h)
+
+  atom-in-order : (s : Scope) (b : Before) (a : Atom) → If (ArgumentBindsInOrder T) (typed_atom s b a)
+  atom-in-order s b truth = tt
+  atom-in-order s b falsity = tt
+  atom-in-order s b whole = tt
+  atom-in-order s b empty_set = tt
+  atom-in-order s b (named n) = name-in-order (meaning_of s n)
+  atom-in-order s b (numeral n) = tt
+  atom-in-order s b (pconst i) = if-one (λ k. Unit {0}) (ArgumentBindsInOrder T) (λ k. set_argument (tree.pconst k)) (value_of s i) (λ k trivial. tt) (if-any (value_of s i))
+  atom-in-order s b (imported file rs) = tt
+
+  joined-in-order : (op : Junction) (fs : Forms) → EachBindsInOrder T fs → BindsInOrder T (joined_formula op fs)
+  joined-in-order Conjunction fs h = h
+  joined-in-order Disjunction fs h = h
+
+  combines : Combines (ArgumentBindsInOrder T) (ArgumentBindsInOrder T) (ArgumentBindsInOrder T)
+  combines = record {
+    implied = λ f g i j. (i, j);
+    equated = λ f g i j. (i, j);
+    numbers = λ p is t u i j. tt;
+    sets = λ p is t u i j. tt;
+    members = λ positive t u i j. tt;
+    united = λ t u i j. tt;
+    met = λ t u i j. tt;
+    left = λ t u i j. tt;
+  }
 
   mutual
     pub in-order : (s : Scope) (b : Before) (e : Expression) → Stand T b.next (orders_in e) → If (ArgumentBindsInOrder T) (typed s b e)
-    in-order s b (truth at) h = tt
-    in-order s b (falsity at) h = tt
-    in-order s b (whole at) h = tt
-    in-order s b (empty_set at) h = tt
-    in-order s b (name at n) h = name-in-order (meaning_of s n)
-    in-order s b (number at n) h = tt
-    in-order s b (pconst at i) h = if-one (λ k. Unit {0}) (ArgumentBindsInOrder T) (λ k. set_argument (tree.pconst k)) (value_of s i) (λ k trivial. tt) (if-any (value_of s i))
-    in-order s b (brackets at e) h = in-order s b e h
-    in-order s b (literal at es) h = if-one (λ ts. Unit {0}) (ArgumentBindsInOrder T) (λ ts. set_argument (tree.literal ts)) (typed_numbers s b es) (λ ts trivial. tt) (if-any (typed_numbers s b es))
-    in-order s b (call at n es) h = call-in-order (meaning_of s n) (λ parameters. typed_arguments s b parameters es) (λ parameters. arguments-all s b parameters es h)
-    in-order s b (negation at e) h =
-        if-one (BindsInOrder T) (ArgumentBindsInOrder T) (λ f. truth_argument (tree.negation f)) (formula_in (typed s b e)) (λ f k. k) (formula-in-order (typed s b e) (in-order s b e h))
-    in-order s b (conjunction at es) h = if-one (EachBindsInOrder T) (ArgumentBindsInOrder T) (λ fs. truth_argument (tree.conjunction fs)) (typed_formulas s b es) (λ fs k. k) (formulas-all s b es h)
-    in-order s b (disjunction at es) h = if-one (EachBindsInOrder T) (ArgumentBindsInOrder T) (λ fs. truth_argument (tree.disjunction fs)) (typed_formulas s b es) (λ fs k. k) (formulas-all s b es h)
-    in-order s b (implication at e f) h =
-        if-two (BindsInOrder T) (BindsInOrder T) (ArgumentBindsInOrder T) (λ g k. truth_argument (tree.implication g k)) (formula_in (typed s b e)) (formula_in (typed s (after b e) f)) (λ g k i j. (i, j))
-        (formula-in-order (typed s b e) (in-order s b e (stand-front T b.next (orders_in e) (orders_in f) h)))
-        (formula-in-order (typed s (after b e) f) (in-order s (after b e) f (stand-next T b.next (after b e).next (orders_in e) (orders_in f) (orders-long b e) h)))
-    in-order s b (equivalence at e f) h =
-        if-two (BindsInOrder T) (BindsInOrder T) (ArgumentBindsInOrder T) (λ g k. truth_argument (tree.equivalence g k)) (formula_in (typed s b e)) (formula_in (typed s (after b e) f)) (λ g k i j. (i, j))
-        (formula-in-order (typed s b e) (in-order s b e (stand-front T b.next (orders_in e) (orders_in f) h)))
-        (formula-in-order (typed s (after b e) f) (in-order s (after b e) f (stand-next T b.next (after b e).next (orders_in e) (orders_in f) (orders-long b e) h)))
-    in-order s b (relation at q e f) h =
-        relation-holds (ArgumentBindsInOrder T) (λ a. Unit {0}) (λ a. Unit {0}) q (typed s b e) (typed s (after b e) f) (λ p is t u i j. tt) (λ p is t u i j. tt) (λ positive t u i j. tt)
-        (if-any (typed s b e)) (if-any (typed s (after b e) f))
-    in-order s b (emptiness at e) h = if-one (λ t. Unit {0}) (ArgumentBindsInOrder T) (λ t. truth_argument (tree.emptiness t)) (set_in (typed s b e)) (λ t trivial. tt) (if-any (set_in (typed s b e)))
-    in-order s b (union at e f) h =
-        if-two (λ t. Unit {0}) (λ t. Unit {0}) (ArgumentBindsInOrder T) (λ t u. set_argument (tree.union t u)) (set_in (typed s b e)) (set_in (typed s (after b e) f)) (λ t u i j. tt)
-        (if-any (set_in (typed s b e))) (if-any (set_in (typed s (after b e) f)))
-    in-order s b (intersection at e f) h =
-        if-two (λ t. Unit {0}) (λ t. Unit {0}) (ArgumentBindsInOrder T) (λ t u. set_argument (tree.intersection t u)) (set_in (typed s b e)) (set_in (typed s (after b e) f)) (λ t u i j. tt)
-        (if-any (set_in (typed s b e))) (if-any (set_in (typed s (after b e) f)))
-    in-order s b (difference at e f) h =
-        if-two (λ t. Unit {0}) (λ t. Unit {0}) (ArgumentBindsInOrder T) (λ t u. set_argument (tree.difference t u)) (set_in (typed s b e)) (set_in (typed s (after b e) f)) (λ t u i j. tt)
-        (if-any (set_in (typed s b e))) (if-any (set_in (typed s (after b e) f)))
-    in-order s b (shift at e i) h = shift-in-order i.minus (value_of s i) (typed s b e)
-    in-order s b (minimum at e) h = if-one (λ t. Unit {0}) (ArgumentBindsInOrder T) (λ t. number_argument (tree.minimum t)) (set_in (typed s b e)) (λ t trivial. tt) (if-any (set_in (typed s b e)))
-    in-order s b (maximum at e) h = if-one (λ t. Unit {0}) (ArgumentBindsInOrder T) (λ t. number_argument (tree.maximum t)) (set_in (typed s b e)) (λ t trivial. tt) (if-any (set_in (typed s b e)))
-    in-order s b (quantified at q vs e) h =
+    in-order s b (atom at a) h = atom-in-order s b a
+    in-order s b (prefixed at op e) h =
+        prefix-holds (ArgumentBindsInOrder T) (ArgumentBindsInOrder T) op (typed s b e) (λ f k. k) (λ t k. tt) (λ t k. tt) (in-order s b e h)
+    in-order s b (binary at op e f) h =
+        binary-holds (ArgumentBindsInOrder T) (ArgumentBindsInOrder T) (ArgumentBindsInOrder T) op (typed s b e) (typed s (after b e) f) combines
+        (in-order s b e (stand-front T b.next (orders_in e) (orders_in f) h))
+        (in-order s (after b e) f (stand-next T b.next (after b e).next (orders_in e) (orders_in f) (orders-long b e) h))
+    in-order s b (joined at op es) h =
+        if-one (EachBindsInOrder T) (ArgumentBindsInOrder T) (λ fs. truth_argument (joined_formula op fs)) (typed_formulas s b es) (joined-in-order op) (formulas-all s b es h)
+    in-order s b (shifted at e i) h = shift-in-order i.minus (value_of s i) (typed s b e)
+    in-order s b (enclosed at k e) h =
+        bracket-holds (ArgumentBindsInOrder T) (ArgumentBindsInOrder T) b k (typed s (opened b k) e) (λ a i. i) (λ t i. tt) (λ f i. i) (λ f i. i)
+        (in-order s (opened b k) e (subst (λ n. Stand T n (orders_in e)) (sym (opened-next b k)) h))
+    in-order s b (listed at Literal es) h = if-one (λ ts. Unit {0}) (ArgumentBindsInOrder T) (λ ts. set_argument (tree.literal ts)) (typed_numbers s b es) (λ ts trivial. tt) (if-any (typed_numbers s b es))
+    in-order s b (listed at (Call n) es) h =
+        let parameters = parameters_of (meaning_of s n) in
+        call-in-order (meaning_of s n) (count es) (typed_arguments s b parameters es) (arguments-all s b parameters es h)
+    in-order s b (quantified at q o vs e) h =
         let next = with_names b (count_of_bounds vs) in
         let end = after_bounds next vs in
         let inner = under_bounds s b.next vs in
@@ -141,7 +170,7 @@ module _ (T : List Order) where
         (quantifiers-all s b.next next q vs (formula_in (typed inner end e)) (stand-front T b.next (orders_of_bounds vs) (orders_in_bounds vs ++ orders_in e) h)
         (stand-front T next.next (orders_in_bounds vs) (orders_in e) rest)
         (formula-in-order (typed inner end e) (in-order inner end e (stand-next T next.next end.next (orders_in_bounds vs) (orders_in e) (restrictions-long next vs) rest))))
-    in-order s b (where_let at o ps e) h =
+    in-order s b (let_in at o ps e) h =
         let next = with_names b (count_of_parts ps) in
         let end = after_parts next ps in
         let inner = under_parts s b.next o ps in
@@ -152,38 +181,36 @@ module _ (T : List Order) where
         (λ sides f i j. (names-in-order b.next o ps sides i.1 (stand-front T b.next (orders_of_parts o ps) (orders_in_parts ps ++ orders_in e) h), i.0, j))
         (parts-all s next o ps (stand-front T next.next (orders_in_parts ps) (orders_in e) rest))
         (formula-in-order (typed inner end e) (in-order inner end e (stand-next T next.next end.next (orders_in_parts ps) (orders_in e) (sides-long next ps) rest)))
-    in-order s b (restrict at e) h =
-        if-one (BindsInOrder T) (ArgumentBindsInOrder T) (λ f. truth_argument (tree.restrict f)) (formula_in (typed s b e)) (λ f k. k) (formula-in-order (typed s b e) (in-order s b e h))
-    in-order s b (imported at file rs) h = tt
-    in-order s b (exported at text_at file e) h =
-        if-one (BindsInOrder T) (ArgumentBindsInOrder T) (λ f. truth_argument (tree.exported b.exports f)) (formula_in (typed s (with_export b) e)) (λ f k. k)
-        (formula-in-order (typed s (with_export b) e) (in-order s (with_export b) e h))
 
     formulas-all : (s : Scope) (b : Before) (es : Expressions) → Stand T b.next (orders_in_all es) → If (EachBindsInOrder T) (typed_formulas s b es)
     formulas-all s b no_expressions h = tt
-    formulas-all s b (more_expressions e es) h =
-        if-two (BindsInOrder T) (EachBindsInOrder T) (EachBindsInOrder T) (λ f fs. tree.more_forms f fs) (formula_in (typed s b e)) (typed_formulas s (after b e) es) (λ f fs i j. (i, j))
-        (formula-in-order (typed s b e) (in-order s b e (stand-front T b.next (orders_in e) (orders_in_all es) h)))
-        (formulas-all s (after b e) es (stand-next T b.next (after b e).next (orders_in e) (orders_in_all es) (orders-long b e) h))
+    formulas-all s b (and_expression es e) h =
+        let end = after_all b es in
+        if-two (EachBindsInOrder T) (BindsInOrder T) (EachBindsInOrder T) formula_behind (typed_formulas s b es) (formula_in (typed s end e)) formulas-behind
+        (formulas-all s b es (stand-front T b.next (orders_in_all es) (orders_in e) h))
+        (formula-in-order (typed s end e) (in-order s end e (stand-next T b.next end.next (orders_in_all es) (orders_in e) (all-long b es) h)))
 
     arguments-all : (s : Scope) (b : Before) (parameters : List Order) (es : Expressions) → Stand T b.next (orders_in_all es) → If (ArgumentsBindInOrder T) (typed_arguments s b parameters es)
-    arguments-all s b [] no_expressions h = tt
-    arguments-all s b (o ∷ parameters) no_expressions h = tt
-    arguments-all s b [] (more_expressions e es) h = tt
-    arguments-all s b (o ∷ parameters) (more_expressions e es) h =
-        if-two (IsSide o) (ArgumentsBindInOrder T) (ArgumentsBindInOrder T) (λ a more. tree.more_arguments a more) (option_and_then (of_order o) (typed s b e)) (typed_arguments s (after b e) parameters es)
-        (λ a more i j. (i.0, j)) (side-in-order o (typed s b e) (in-order s b e (stand-front T b.next (orders_in e) (orders_in_all es) h)))
-        (arguments-all s (after b e) parameters es (stand-next T b.next (after b e).next (orders_in e) (orders_in_all es) (orders-long b e) h))
+    arguments-all s b parameters no_expressions h = tt
+    arguments-all s b parameters (and_expression es e) h =
+        let end = after_all b es in
+        let o = slice_get parameters (count es) in
+        if-two (ArgumentsBindInOrder T) (ArgumentBindsInOrder T) (ArgumentsBindInOrder T) argument_behind (typed_arguments s b parameters es) (argument_for o (typed s end e)) arguments-behind
+        (arguments-all s b parameters es (stand-front T b.next (orders_in_all es) (orders_in e) h))
+        (argument-in-order o (typed s end e) (in-order s end e (stand-next T b.next end.next (orders_in_all es) (orders_in e) (all-long b es) h)))
 
-    quantifiers-all : (s : Scope) (x : ℕ) (b : Before) (q : Quant) (vs : Bounds) (f : Option Form) → Stand T x (orders_of_bounds vs) → Stand T b.next (orders_in_bounds vs) →
+    quantifiers-all : (s : Scope) (x : ℕ) (b : Before) (q : Quant) (vs : Variables) (f : Option Form) → Stand T x (orders_of_bounds vs) → Stand T b.next (orders_in_bounds vs) →
         If (BindsInOrder T) f → If (BindsInOrder T) (typed_quantifiers s x b q vs f)
-    quantifiers-all s x b q no_bounds f own h body = body
-    quantifiers-all s x b q (more_bounds at o n d vs) f own h body =
-        let inner = bind n (meaning.Variable x o) s in
-        let next = after_domain b d in
-        if-two (RestrictionBindsInOrder T) (BindsInOrder T) (BindsInOrder T) (λ r g. tree.quantified q o x r g) (typed_domain inner b o x d) (typed_quantifiers inner (x + 1) next q vs f)
-        (λ r g i j. (own.0, i, j)) (domain-in-order inner b o x d (stand-front T b.next (orders_in_domain d) (orders_in_bounds vs) h))
-        (quantifiers-all inner (x + 1) next q vs f own.1 (stand-next T b.next next.next (orders_in_domain d) (orders_in_bounds vs) (domain-long b d) h) body)
+    quantifiers-all s x b q no_variables f own h body = body
+    quantifiers-all s x b q (and_variable vs at o n d) f own h body =
+        let y = x + count_of_bounds vs in
+        let begin = after_bounds b vs in
+        let inner = under_bounds s x (and_variable vs at o n d) in
+        let last = stand-next T x y (orders_of_bounds vs) (o ∷ []) (ap (λ k. x + k) (sym (bounds-long vs))) own in
+        quantifiers-all s x b q vs (quantifier q o y (typed_domain inner begin o y d) f) (stand-front T x (orders_of_bounds vs) (o ∷ []) own)
+        (stand-front T b.next (orders_in_bounds vs) (orders_in_domain d) h)
+        (if-two (RestrictionBindsInOrder T) (BindsInOrder T) (BindsInOrder T) (λ r g. tree.quantified q o y r g) (typed_domain inner begin o y d) f (λ r g i j. (last.0, i, j))
+        (domain-in-order inner begin o y d (stand-next T b.next begin.next (orders_in_bounds vs) (orders_in_domain d) (restrictions-long b vs) h)) body)
 
     pub domain-in-order : (s : Scope) (b : Before) (o : Order) (x : ℕ) (d : Domain) → Stand T b.next (orders_in_domain d) → If (RestrictionBindsInOrder T) (typed_domain s b o x d)
     domain-in-order s b o x unrestricted h = default-in-order (default_of s o) x
@@ -193,10 +220,11 @@ module _ (T : List Order) where
     parts-all : (s : Scope) (b : Before) (o : Order) (ps : Parts) → Stand T b.next (orders_in_parts ps) →
         If (λ sides. ArgumentsBindInOrder T sides × (orders_of_arguments sides ≡ orders_of_parts o ps)) (typed_parts s b o ps)
     parts-all s b o no_parts h = (tt, refl)
-    parts-all s b o (more_parts at n e ps) h =
-        if-two (IsSide o) (λ sides. ArgumentsBindInOrder T sides × (orders_of_arguments sides ≡ orders_of_parts o ps))
-        (λ sides. ArgumentsBindInOrder T sides × (orders_of_arguments sides ≡ orders_of_parts o (more_parts at n e ps))) (λ a more. tree.more_arguments a more)
-        (option_and_then (of_order o) (typed s b e)) (typed_parts s (after b e) o ps)
-        (λ a more i j. ((i.0, j.0), ap (λ p. p ∷ orders_of_arguments more) i.1 ∙ ap (λ rest. o ∷ rest) j.1))
-        (side-in-order o (typed s b e) (in-order s b e (stand-front T b.next (orders_in e) (orders_in_parts ps) h)))
-        (parts-all s (after b e) o ps (stand-next T b.next (after b e).next (orders_in e) (orders_in_parts ps) (orders-long b e) h))
+    parts-all s b o (and_part ps at n e) h =
+        let end = after_parts b ps in
+        if-two (λ sides. ArgumentsBindInOrder T sides × (orders_of_arguments sides ≡ orders_of_parts o ps)) (IsSide o)
+        (λ sides. ArgumentsBindInOrder T sides × (orders_of_arguments sides ≡ orders_of_parts o (and_part ps at n e))) argument_behind
+        (typed_parts s b o ps) (option_and_then (of_order o) (typed s end e))
+        (λ sides a i j. (arguments-behind sides a i.0 j.0, orders-behind sides a ∙ (ap (λ os. os ++ order_of_argument a ∷ []) i.1 ∙ ap (λ p. orders_of_parts o ps ++ p ∷ []) j.1)))
+        (parts-all s b o ps (stand-front T b.next (orders_in_parts ps) (orders_in e) h))
+        (side-in-order o (typed s end e) (in-order s end e (stand-next T b.next end.next (orders_in_parts ps) (orders_in e) (sides-long b ps) h)))

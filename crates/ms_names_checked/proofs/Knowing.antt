@@ -8,13 +8,13 @@ use Rattle.ms_logic.specs.FreeVariables.{Reads, reads_with_predicate}
 use Rattle.ms_logic.specs.Tree.{Predicate}
 use Rattle.ms_names_rules.specs.declared.meaning.Meaning.TheVariants as meaning
 use Rattle.ms_names_rules.specs.declared.meaning.Reading.TheVariants as reading
-use Rattle.ms_names_rules.specs.Syntax.{Bytes, Bounds, no_bounds, more_bounds}
+use Rattle.ms_names_rules.specs.Scope.{Bytes, Scope, bind, count_of_bounds, under_bounds, with_default}
+use Rattle.ms_parse_grammar.specs.Tree.{Variables, no_variables, and_variable}
 use Rattle.ms_names_rules.specs.Declarations.{with_readings}
 use Rattle.ms_names_rules.specs.inner.Free.{Readings}
 use Rattle.ms_logic.specs.Lists.{Each}
 use Rattle.ms_names_rules.specs.Occurrence.{Occurrence}
 use Rattle.ms_names_rules.specs.Reads.{readings_at}
-use Rattle.ms_names_rules.specs.Scope.{Scope, bind, count_of_bounds, under_bounds, with_default}
 use Rattle.ms_names_rules.proofs.Fitting.{IsBelow, below-more, each-weaker}
 use Rattle.ms_names_checked.proofs.Leading.{LeadsTo, leads-earlier}
 use Rattle.ms_names_checked.proofs.Predicates.{AgreeBelow, agree-next}
@@ -55,15 +55,19 @@ knows-constant r R low high s n value knows =
     }
 
 -- with globals, whose numbers go on from x
-pub knows-globals : (r : Reads) (R : List Readings) (low high : ℕ) (s : Scope) (x : ℕ) (vs : Bounds) → x + count_of_bounds vs ≤ low → Each (IsBelow x) s.names → Knows r R low high s →
+pub knows-globals : (r : Reads) (R : List Readings) (low high : ℕ) (s : Scope) (x : ℕ) (vs : Variables) → x + count_of_bounds vs ≤ low → Each (IsBelow x) s.names → Knows r R low high s →
     Knows r R low high (under_bounds s x vs) × Each (IsBelow (x + count_of_bounds vs)) (under_bounds s x vs).names
-knows-globals r R low high s x no_bounds le below knows = (knows, each-weaker (IsBelow x) (IsBelow (x + 0)) s.names (below-more x (x + 0) (omega arith)) below)
-knows-globals r R low high s x (more_bounds at o n d vs) le below knows =
-    let inner = bind n (meaning.Variable x o) s in
-    let same : x + 1 + count_of_bounds vs ≡ x + count_of_bounds (more_bounds at o n d vs) = omega arith in
-    let more : Each (IsBelow (x + 1)) inner.names = (omega arith, each-weaker (IsBelow x) (IsBelow (x + 1)) s.names (below-more x (x + 1) (omega arith)) below) in
-    let there = knows-globals r R low high inner (x + 1) vs (omega (arith, le)) more (knows-bind r R low high s x o n knows below (inl (omega (arith, le)))) in
-    (there.0, subst (λ y. Each (IsBelow y) (under_bounds inner (x + 1) vs).names) same there.1)
+knows-globals r R low high s x no_variables le below knows = (knows, each-weaker (IsBelow x) (IsBelow (x + 0)) s.names (below-more x (x + 0) (omega arith)) below)
+knows-globals r R low high s x (and_variable vs at o n d) le below knows =
+    let z = x + count_of_bounds vs in
+    let there = under_bounds s x vs in
+    let before = knows-globals r R low high s x vs (omega (arith, le)) below knows in
+    let same : z + 1 ≡ x + count_of_bounds (and_variable vs at o n d) = omega arith in
+    let more : Each (IsBelow (z + 1)) (bind n (meaning.Variable z o) there).names =
+    (omega arith, each-weaker (IsBelow z) (IsBelow (z + 1)) there.names (below-more z (z + 1) (omega arith)) before.1) in (
+      knows-bind r R low high there z o n before.0 before.1 (inl (omega (arith, le))),
+      subst (λ y. Each (IsBelow y) (bind n (meaning.Variable z o) there).names) same more,
+    )
 
 -- with one more predicate, which is not named yet
 pub knows-next : (r : Reads) (R : List Readings) (low high more : ℕ) (s : Scope) (os : List Occurrence) (p : Predicate) → high ≤ more → s.readings ≡ R → Knows r R low high s →

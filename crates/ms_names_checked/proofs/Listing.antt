@@ -15,6 +15,7 @@ use Rattle.ms_names_rules.proofs.Fitting.{Falls, IsBelow, each-append}
 use Rattle.ms_names_checked.proofs.Leading.{Reaches, leads-reach, leads-read, reaches-leads, read-leads}
 use Rattle.ms_names_checked.proofs.Scopes.{IsInScope, Names}
 use Rattle.ms_names_checked.proofs.Told.{Told}
+use Rattle.ms_names_checked.specs.inner.Examples.{holds}
 
 abbrev pub variable_of : Named → Variable
 variable_of v = record { name = v.number; order = v.order }

@@ -1,5 +1,5 @@
 -- What predicates and default restrictions read is free in them.
-use Rattle.std.proofs.Common.{◌≡◌, ℕ, ◌+◌, ◌<◌, ◌≤◌, ◌==◌, ◌⊎◌, ◌↔◌, inl, inr, ⊎_elim, Bool, true, false, MatchBool, List, [], ◌∷◌, ◌++◌, length, map, Some, refl, sym, subst, ◌∙◌, arith}
+use Rattle.std.proofs.Common.{◌≡◌, ℕ, ◌+◌, ◌<◌, ◌≤◌, ◌==◌, ◌⊎◌, ◌↔◌, inl, inr, ⊎_elim, Bool, true, false, MatchBool, List, [], ◌∷◌, ◌++◌, length, map, Some, refl, sym, subst, ◌∙◌, arith, append_assoc}
 use Rattle.std.specs.Prelude.{flat_map, slice_get}
 use Rattle.std.proofs.lemmas.Bool.Decides.{nat_tests}
 use Rattle.ms_logic.specs.declared.checked.ImportUse.{ImportUse}
@@ -11,30 +11,32 @@ use Rattle.ms_logic.specs.Tree as tree
 use Rattle.ms_logic.specs.Tree.{Form, Predicate, Restriction}
 use Rattle.ms_names_rules.specs.declared.meaning.Meaning.TheVariants as meaning
 use Rattle.ms_names_rules.specs.declared.meaning.Reading.TheVariants as reading
-use Rattle.ms_names_rules.specs.Syntax.{Bytes, Expression, Bounds, no_bounds, more_bounds, Domain, unrestricted, restricted}
+use Rattle.ms_names_rules.specs.Scope.{Bytes, Scope, bind, count_of_bounds, under_bounds, without_exports}
+use Rattle.ms_parse_grammar.specs.Tree.{Expression, Variables, no_variables, and_variable, Domain, unrestricted, restricted}
 use Rattle.ms_names_rules.specs.Before.{Before, with_names, after, after_bounds, after_domain}
 use Rattle.ms_names_rules.specs.inner.Binder.{predicate_with, restricted_variable}
 use Rattle.ms_names_rules.specs.Declarations.{occurrences_in_default, occurrences_in_predicate}
 use Rattle.ms_names_rules.specs.inner.Free.{Readings}
 use Rattle.ms_names_rules.specs.Numbers.{Tables, IsOnePlain}
 use Rattle.ms_logic.specs.Lists.{Each}
-use Rattle.ms_names_rules.specs.Occurrence.{Occurrence, occurrences, inside_bounds, inside_domain, formula_wanted}
+use Rattle.ms_names_rules.specs.Order.{formula_wanted}
+use Rattle.ms_names_rules.specs.Occurrence.{Occurrence, occurrences, inside_bounds, inside_domain}
 use Rattle.ms_names_rules.specs.Reads.{readings_at}
-use Rattle.ms_names_rules.specs.Scope.{Scope, bind, count_of_bounds, under_bounds, without_exports}
 use Rattle.ms_names_rules.specs.Typed.{formula_in, typed}
 use Rattle.ms_names_rules.specs.TypedSource.{parameters_of_bounds, restriction_of_parameter, typed_default, typed_predicate}
 use Rattle.ms_names_rules.proofs.Declaring.{restricted-same}
 use Rattle.ms_names_rules.proofs.Exports.{typed-same, under_bounds-same}
-use Rattle.ms_names_rules.proofs.Fitting.{If, each-back, each-front, if-one, if-weaker}
+use Rattle.ms_names_rules.proofs.Fitting.{If, each-back, each-front, if-one, if-weaker, IsBelow}
 use Rattle.ms_names_rules.proofs.Growth.{grows, grows-bounds, grows-domain}
 use Rattle.ms_names_rules.proofs.Lists.{parameters-all}
 use Rattle.ms_names_rules.proofs.Numbering.{UsesStand, if-two}
 use Rattle.ms_names_checked.proofs.FreeVariables.{domain-all, told}
 use Rattle.ms_names_checked.proofs.Expressions.{ArgumentTold, FormTold}
-use Rattle.ms_names_checked.proofs.Hiding.{At, at-bind, at-bounds, at-without, hide-one}
+use Rattle.ms_names_checked.proofs.Hiding.{at-bind, at-bounds, at-without, hide-one, At}
 use Rattle.ms_names_checked.proofs.Leading.{Any, LeadsTo, Reaches, any-back, any-front, any-split, leads-last, leads-reach, reaches-leads}
 use Rattle.ms_names_checked.proofs.Scopes.{IsDefault, IsPredicate, Names, in-scope-below}
 use Rattle.ms_names_checked.proofs.Told.{IsPaired, Told, formula-told, told-drop, told-join, told-none, told-same}
+use Rattle.std.proofs.lemmas.List.{append-nil}
 
 module _ (tables : Tables) (r : Reads) (R : List Readings) (low : ℕ)
     (imports : (i : ℕ) (used : ImportUse) (w : Variable) → slice_get tables.imports i ≡ Some used → r.imported i w ↔ IsPaired used.pairs w) where
@@ -46,12 +48,12 @@ module _ (tables : Tables) (r : Reads) (R : List Readings) (low : ℕ)
   abbrev pub PredicateTold : ℕ → Names → List Occurrence → Predicate → Type 0
   PredicateTold high names os p = Told r tables.exports low high names (Reaches R os) (λ w. FreeBehind p.parameters p.body w) []
 
-  -- parameters with each body, and their numbers go on from x
-  abbrev ParametersTold : ℕ → Scope → ℕ → Names → List Occurrence → List Occurrence → List tree.Declaration → Type 0
-  ParametersTold high s x wide os within ps =
-      ((body : Form) → Told r tables.exports low high wide (Reaches R within) (λ w. FreeUnder r body w) []
-      → Told r tables.exports low high s.names (λ y. Reaches R os y ⊎ Reaches R within y) (λ w. FreeBehind ps body w) [])
-      × ((w : Variable) → IsBound (map (λ d. d.variable.name) ps) (map (λ d. d.variable.order) ps) w → x ≤ w.name)
+  -- parameters with all that follow, whose numbers go on from x, and each body
+  abbrev ParametersTold : ℕ → Scope → ℕ → Names → List Occurrence → (ℕ → Type 0) → List tree.Declaration → Type 0
+  ParametersTold high s x wide os Q ps =
+      (more : List tree.Declaration) (body : Form) → ((w : Variable) → IsBound (map (λ d. d.variable.name) more) (map (λ d. d.variable.order) more) w → x ≤ w.name)
+      → Told r tables.exports low high wide Q (λ w. FreeBehind more body w) []
+      → Told r tables.exports low high s.names (λ y. Reaches R os y ⊎ Q y) (λ w. FreeBehind (ps ++ more) body w) []
 
   parameter-told : (start : ℕ) (s : Scope) (x : ℕ) (b : Before) (o : Order) (n : Bytes) (d : Domain) → At r R low start s x → x < b.next →
       Each (UsesStand tables) (inside_domain (without_exports (bind n (meaning.Variable x o) s)) b d) →
@@ -70,56 +72,70 @@ module _ (tables : Tables) (r : Reads) (R : List Readings) (low : ℕ)
       (λ v. (IsVariable x o v → ⊥) × FreeInRestriction r restriction v) [] (omega arith) (λ y. (λ any. ⊎_elim (λ none. absurd none) (λ inside. inside) any, λ any. inr any)) (λ v. (λ free. free, λ free. free)) h)
       (domain-all tables r R low imports start s x b o n (restricted e) here less uses)
 
-  parameters-told : (start : ℕ) (s : Scope) (x : ℕ) (b : Before) (vs : Bounds) (last : ℕ) (within : List Occurrence) → At r R low start s x → x + count_of_bounds vs ≤ b.next →
-      (after_bounds b vs).next ≤ last → Each (UsesStand tables) (inside_bounds s x b vs) →
-      If (ParametersTold last s x (under_bounds s x vs).names (inside_bounds s x b vs) within) (parameters_of_bounds s x b vs)
-  parameters-told start s x b no_bounds last within here le ends uses = (
-    λ body h. told-same r tables.exports R low last last s.names (Reaches R within) (λ y. ⊥ ⊎ Reaches R within y) (λ w. FreeUnder r body w) (λ w. (⊥ → ⊥) × (⊥ ⊎ FreeUnder r body w)) [] (omega arith)
-        (λ y. (λ any. inr any, λ any. ⊎_elim (λ none. absurd none) (λ inside. inside) any))
-        (λ w. (λ free. (λ none. none, inr free), λ free. ⊎_elim (λ none. absurd none) (λ in_body. in_body) free.1)) h,
-    λ w bound. absurd bound,
-  )
-  parameters-told start s x b (more_bounds at o n d vs) last within here le ends uses =
-      let inner = bind n (meaning.Variable x o) s in
-      let next = after_domain b d in
-      let dom = inside_domain (without_exports inner) b d in
-      let rest = inside_bounds inner (x + 1) next vs in
-      let wide = (under_bounds inner (x + 1) vs).names in
-      let more = grows-domain b d in
-      let others = grows-bounds next vs in
-      let P : ℕ → Occurrence → Type 0 = λ y there. Any (LeadsTo R y) (readings_at there) in
-      let QR : ℕ → Type 0 = λ y. Reaches R rest y ⊎ Reaches R within y in
-      if-two (λ restriction. Told r tables.exports low next.next s.names (Reaches R dom) (λ v. (IsVariable x o v → ⊥) × FreeInRestriction r restriction v) [])
-      (ParametersTold last inner (x + 1) wide rest within) (ParametersTold last s x wide (dom ++ rest) within)
-      (λ restriction ps. record { variable = record { name = x; order = o }; restriction = restriction } ∷ ps)
-      (restriction_of_parameter inner b d) (parameters_of_bounds inner (x + 1) next vs)
-      (λ restriction ps h k. (
-        λ body in_body.
-            let deep = hide-one r tables.exports low last s.names x o n QR (λ v. FreeBehind ps body v) [] here.from (omega (arith, le, more, others, ends)) here.below (k.0 body in_body) in
-            let joined = told-join r tables.exports R low next.next last s.names (Reaches R dom) QR (λ v. (IsVariable x o v → ⊥) × FreeInRestriction r restriction v)
-            (λ v. (IsVariable x o v → ⊥) × FreeBehind ps body v) [] [] (omega (arith, others, ends)) h deep in
-            record {
-              free = λ w free.
-                  let there = joined.free w (⊎_elim
-                  (λ restrictions. ⊎_elim (λ first. inl (λ is. free.0 (inl is), first)) (λ later. inr (λ is. free.0 (inl is), (λ bound. free.0 (inr bound), inl later))) restrictions)
-                  (λ body_free. inr (λ is. free.0 (inl is), (λ bound. free.0 (inr bound), inr body_free))) free.1) in
-                  (⊎_elim (λ first. inl (any-front (P w.name) dom rest first)) (λ later. ⊎_elim (λ second. inl (any-back (P w.name) dom rest second)) (λ in_it. inr in_it) later) there.0, there.1);
-              back = λ w seen reached.
-                  let under = in-scope-below x s.names w here.below seen in
-                  let found = joined.back w seen
-                  (⊎_elim (λ both. ⊎_elim (λ first. inl first) (λ second. inr (inl second)) (any-split (P w.name) dom rest both)) (λ in_it. inr (inr in_it)) reached) in (
-                    λ bound. ⊎_elim (λ is. let same = is.0 in omega (arith, under, same)) (λ later. let above = k.1 w later in omega (arith, under, above)) bound,
-                    ⊎_elim (λ first. inl (inl first.1)) (λ later. ⊎_elim (λ others_read. inl (inr others_read)) (λ body_free. inr body_free) later.1.1) found,
-                  );
-              old = λ y reached. joined.old y (⊎_elim (λ both. ⊎_elim (λ first. inl first) (λ second. inr (inl second)) (any-split (P y) dom rest both)) (λ in_it. inr (inr in_it)) reached);
-              listed = tt;
-            },
-        λ w bound. ⊎_elim (λ is. let same = is.0 in omega (arith, same)) (λ later. let above = k.1 w later in omega (arith, above)) bound,
-      ))
-      (parameter-told start s x b o n d here (omega arith) (each-front (UsesStand tables) dom rest uses))
-      (parameters-told start inner (x + 1) next vs last within (at-bind r R low start s x o n here) (omega (arith, le, more)) ends (each-back (UsesStand tables) dom rest uses))
+  -- a parameter before others, by its own restriction and what is free behind it
+  one-more : (last : ℕ) (names : Names) (x : ℕ) (o : Order) (restriction : Restriction) (more : List tree.Declaration) (body : Form) (Q : ℕ → Type 0) → Each (IsBelow x) names →
+      ((w : Variable) → IsBound (map (λ d. d.variable.name) more) (map (λ d. d.variable.order) more) w → x + 1 ≤ w.name) →
+      Told r tables.exports low last names Q (λ v. ((IsVariable x o v → ⊥) × FreeInRestriction r restriction v) ⊎ ((IsVariable x o v → ⊥) × FreeBehind more body v)) [] →
+      Told r tables.exports low last names Q (λ w. FreeBehind (restricted_variable x o restriction ∷ more) body w) []
+  one-more last names x o restriction more body Q below above joined = record {
+    free = λ w free.
+        joined.free w (⊎_elim
+        (λ restrictions. ⊎_elim (λ first. inl (λ is. free.0 (inl is), first)) (λ later. inr (λ is. free.0 (inl is), (λ bound. free.0 (inr bound), inl later))) restrictions)
+        (λ body_free. inr (λ is. free.0 (inl is), (λ bound. free.0 (inr bound), inr body_free))) free.1);
+    back = λ w seen reached.
+        let under = in-scope-below x names w below seen in (
+          λ bound. ⊎_elim (λ is. let same = is.0 in omega (arith, under, same)) (λ later. let up = above w later in omega (arith, under, up)) bound,
+          ⊎_elim (λ first. inl (inl first.1)) (λ later. ⊎_elim (λ others_read. inl (inr others_read)) (λ body_free. inr body_free) later.1.1) (joined.back w seen reached),
+        );
+    old = joined.old;
+    listed = tt;
+  }
 
-  pub predicate-told : (start : ℕ) (s : Scope) (b : Before) (vs : Bounds) (e : Expression) → At r R low start s b.next → Each (UsesStand tables) (occurrences_in_predicate s b vs e) →
+  parameters-told : (start : ℕ) (s : Scope) (x : ℕ) (b : Before) (vs : Variables) (last : ℕ) (Q : ℕ → Type 0) → At r R low start s x → x + count_of_bounds vs ≤ b.next →
+      (after_bounds b vs).next ≤ last → Each (UsesStand tables) (inside_bounds s x b vs) →
+      If (ParametersTold last s (x + count_of_bounds vs) (under_bounds s x vs).names (inside_bounds s x b vs) Q) (parameters_of_bounds s x b vs)
+  parameters-told start s x b no_variables last Q here le ends uses =
+      λ more body above h. told-same r tables.exports R low last last s.names Q (λ y. ⊥ ⊎ Q y) (λ w. FreeBehind more body w) (λ w. FreeBehind more body w) [] (omega arith)
+      (λ y. (λ any. inr any, λ any. ⊎_elim (λ none. absurd none) (λ inside. inside) any)) (λ w. (λ free. free, λ free. free)) h
+  parameters-told start s x b (and_variable vs at o n d) last Q here le ends uses =
+      let there = under_bounds s x vs in
+      let z = x + count_of_bounds vs in
+      let begin = after_bounds b vs in
+      let end = after_domain begin d in
+      let inner = bind n (meaning.Variable z o) there in
+      let before = inside_bounds s x b vs in
+      let dom = inside_domain (without_exports inner) begin d in
+      let grown = grows-bounds b vs in
+      let others = grows-domain begin d in
+      let below : end.next ≤ last = ends in
+      let begun : At r R low start there z = at-bounds r R low start s x z vs (omega arith) here in
+      let P : ℕ → Occurrence → Type 0 = λ y occurrence. Any (LeadsTo R y) (readings_at occurrence) in
+      let QI : ℕ → Type 0 = λ y. Reaches R dom y ⊎ Q y in
+      if-two (ParametersTold last s z there.names before QI)
+      (λ restriction. Told r tables.exports low end.next there.names (Reaches R dom) (λ v. (IsVariable z o v → ⊥) × FreeInRestriction r restriction v) [])
+      (ParametersTold last s (x + count_of_bounds (and_variable vs at o n d)) inner.names (before ++ dom) Q) (λ earlier restriction. earlier ++ restricted_variable z o restriction ∷ [])
+      (parameters_of_bounds s x b vs) (restriction_of_parameter inner begin d)
+      (λ ps restriction h k more body above told_behind.
+      let v = restricted_variable z o restriction in
+      let next : (w : Variable) → IsBound (map (λ d. d.variable.name) more) (map (λ d. d.variable.order) more) w → z + 1 ≤ w.name = λ w bound. let up = above w bound in omega (arith, up) in
+      let from_here : (w : Variable) → IsBound (map (λ d. d.variable.name) (v ∷ more)) (map (λ d. d.variable.order) (v ∷ more)) w → z ≤ w.name =
+      λ w bound. ⊎_elim (λ is. let same = is.0 in omega (arith, same)) (λ later. let up = next w later in omega (arith, up)) bound in
+      let deep = hide-one r tables.exports low last there.names z o n Q (λ w. FreeBehind more body w) [] begun.from (omega (arith, le, grown, others, below)) begun.below told_behind in
+      let joined = told-join r tables.exports R low end.next last there.names (Reaches R dom) Q (λ w. (IsVariable z o w → ⊥) × FreeInRestriction r restriction w)
+      (λ w. (IsVariable z o w → ⊥) × FreeBehind more body w) [] [] below k deep in
+      subst (λ all. Told r tables.exports low last s.names (λ y. Reaches R (before ++ dom) y ⊎ Q y) (λ w. FreeBehind all body w) []) (sym (append_assoc ps (v ∷ []) more))
+      (told-same r tables.exports R low last last s.names (λ y. Reaches R before y ⊎ QI y) (λ y. Reaches R (before ++ dom) y ⊎ Q y)
+      (λ w. FreeBehind (ps ++ v ∷ more) body w) (λ w. FreeBehind (ps ++ v ∷ more) body w) [] (omega arith)
+      (λ y. (
+        λ any. ⊎_elim (λ first. inl (any-front (P y) before dom first)) (λ later. ⊎_elim (λ second. inl (any-back (P y) before dom second)) (λ in_it. inr in_it) later) any,
+        λ any. ⊎_elim (λ both. ⊎_elim (λ first. inl first) (λ second. inr (inl second)) (any-split (P y) before dom both)) (λ in_it. inr (inr in_it)) any,
+      ))
+      (λ w. (λ free. free, λ free. free))
+      (h (v ∷ more) body from_here (one-more last there.names z o restriction more body QI begun.below next joined))))
+      (parameters-told start s x b vs last QI here (omega (arith, le)) (omega (arith, others, below)) (each-front (UsesStand tables) before dom uses))
+      (parameter-told start there z begin o n d begun (omega (arith, le, grown)) (each-back (UsesStand tables) before dom uses))
+
+  pub predicate-told : (start : ℕ) (s : Scope) (b : Before) (vs : Variables) (e : Expression) → At r R low start s b.next → Each (UsesStand tables) (occurrences_in_predicate s b vs e) →
       If (PredicateTold (after (after_bounds (with_names b (count_of_bounds vs)) vs) e).next s.names (occurrences_in_predicate s b vs e)) (typed_predicate s b vs e)
   predicate-told start s b vs e here uses =
       let next = with_names b (count_of_bounds vs) in
@@ -133,14 +149,18 @@ module _ (tables : Tables) (r : Reads) (R : List Readings) (low : ℕ)
       let P : ℕ → Occurrence → Type 0 = λ y there. Any (LeadsTo R y) (readings_at there) in
       let own : parameters_of_bounds outer b.next next vs ≡ parameters_of_bounds s b.next next vs =
       parameters-all outer b.next next vs ∙ (restricted-same false outer s b.next next vs refl ∙ sym (parameters-all s b.next next vs)) in
-      if-two (ParametersTold last outer b.next inner.names before within) (FormTold tables r R low last inner.names within) (PredicateTold last s.names (before ++ within))
+      if-two (ParametersTold last outer (b.next + count_of_bounds vs) inner.names before (Reaches R within)) (FormTold tables r R low last inner.names within) (PredicateTold last s.names (before ++ within))
       predicate_with (parameters_of_bounds s b.next next vs) (formula_in (typed plain end e))
       (λ ps body h k.
       told-same r tables.exports R low last last s.names (λ y. Reaches R before y ⊎ Reaches R within y) (Reaches R (before ++ within)) (λ w. FreeBehind ps body w) (λ w. FreeBehind ps body w) [] (omega arith)
       (λ y. (λ both. ⊎_elim (any-front (P y) before within) (any-back (P y) before within) both, any-split (P y) before within))
-      (λ w. (λ free. free, λ free. free)) (h.0 body (told-drop r tables.exports R low k)))
-      (subst (λ ps. If (ParametersTold last outer b.next inner.names before within) ps) own
-      (parameters-told start outer b.next next vs last within (at-without r R low start s b.next here) (omega arith) (grows end e) (each-front (UsesStand tables) before within uses)))
+      (λ w. (λ free. free, λ free. free))
+      (subst (λ all. Told r tables.exports low last s.names (λ y. Reaches R before y ⊎ Reaches R within y) (λ w. FreeBehind all body w) []) (append-nil ps)
+      (h [] body (λ w bound. absurd bound)
+      (told-same r tables.exports R low last last inner.names (Reaches R within) (Reaches R within) (λ w. FreeUnder r body w) (λ w. FreeBehind [] body w) [] (omega arith) (λ y. (λ any. any, λ any. any))
+      (λ w. (λ free. (λ none. none, inr free), λ free. ⊎_elim (λ none. absurd none) (λ in_body. in_body) free.1)) (told-drop r tables.exports R low k)))))
+      (subst (λ ps. If (ParametersTold last outer (b.next + count_of_bounds vs) inner.names before (Reaches R within)) ps) own
+      (parameters-told start outer b.next next vs last (Reaches R within) (at-without r R low start s b.next here) (omega arith) (grows end e) (each-front (UsesStand tables) before within uses)))
       (formula-told r tables.exports R low last inner.names (Reaches R within) (typed plain end e)
       (subst (λ a. If (ArgumentTold tables r R low last inner.names within) a) (typed-same inner plain end e (under_bounds-same outer s b.next vs refl))
       (told tables r R low imports start inner end formula_wanted e (at-bounds r R low start outer b.next end.next vs (grows-bounds next vs) (at-without r R low start s b.next here))

@@ -10,8 +10,7 @@ use Rattle.ms_names_rules.specs.declared.meaning.Meaning.TheVariants as meaning
 use Rattle.ms_names_rules.specs.declared.meaning.Reading.TheVariants.{Predicate}
 use Rattle.ms_names_rules.specs.inner.Free.{Readings}
 use Rattle.ms_logic.specs.Lists.{Each}
-use Rattle.ms_names_rules.specs.Scope.{Scope, bind, default_of, meaning_among, with_default, without_exports}
-use Rattle.ms_names_rules.specs.Syntax.{Bytes}
+use Rattle.ms_names_rules.specs.Scope.{Scope, bind, default_of, meaning_among, with_default, without_exports, Bytes}
 use Rattle.ms_names_rules.proofs.Fitting.{Falls, If, IsBelow, each-weaker, if-weaker}
 use Rattle.ms_names_checked.proofs.Leading.{LeadsTo}
 

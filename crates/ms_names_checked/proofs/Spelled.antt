@@ -1,5 +1,6 @@
 -- What an expression exports and imports has names of the language, where what it binds and what is bound round it has.
-use Rattle.std.proofs.Common.{ℕ, ◌+◌, List, [], ◌∷◌, map, Option, Some, None}
+use Rattle.std.proofs.Common.{ℕ, List, [], ◌∷◌, map, Option, Some, None, slice_get}
+use Rattle.ms_list.specs.declared.at.At.{At as Place}
 use Rattle.ms_logic.specs.declared.checked.ExportUse.{ExportUse}
 use Rattle.ms_logic.specs.declared.checked.ImportUse.{ImportUse}
 use Rattle.ms_logic.specs.declared.checked.MapPair.{MapPair}
@@ -8,20 +9,23 @@ use Rattle.ms_logic.specs.declared.source.Rename.{Rename}
 use Rattle.ms_names_rules.specs.declared.meaning.Meaning.{Meaning}
 use Rattle.ms_names_rules.specs.declared.meaning.Meaning.TheVariants as meaning
 use Rattle.ms_names_rules.specs.declared.wanted.Wanted.{Wanted}
-use Rattle.ms_names_rules.specs.declared.wanted.Wanted.TheVariants.{Exactly, NumberOrSet, Anything}
-use Rattle.ms_names_rules.specs.Syntax.{Bytes, Expression, truth, falsity, whole, empty_set, name, number, pconst, brackets, literal, call, negation, conjunction, disjunction, implication, equivalence, relation, emptiness, union, intersection, difference, shift, minimum, maximum, quantified, where_let, restrict, imported, exported}
-use Rattle.ms_names_rules.specs.Syntax.{Expressions, no_expressions, more_expressions, Bounds, no_bounds, more_bounds, Domain, unrestricted, restricted, Parts, no_parts, more_parts}
-use Rattle.ms_names_rules.specs.Before.{Before, with_names, with_export, after, after_bounds, after_domain, after_parts}
+use Rattle.ms_names_rules.specs.declared.wanted.Wanted.TheVariants.{Exactly, NumberOrSet}
+use Rattle.ms_parse_grammar.specs.Tree as written
+use Rattle.ms_parse_grammar.specs.Tree.{truth, falsity, whole, empty_set, numeral, pconst, imported, Expression, atom, prefixed, binary, joined, shifted, enclosed, listed, quantified, let_in, Expressions, no_expressions, and_expression, Variables, no_variables, and_variable, Domain, unrestricted, restricted, Parts, no_parts, and_part, Atom}
+use Rattle.ms_parse_grammar.specs.declared.operator.Bracket.TheVariants.{Parentheses, Emptiness, Restriction, Export}
+use Rattle.ms_parse_grammar.specs.declared.operator.Listing.TheVariants.{Literal, Call}
+use Rattle.ms_names_rules.specs.Scope.{Bytes, Named, Scope, count_of_bounds, count_of_parts, meaning_of, under_bounds, under_parts, variables_among, without_exports, count}
+use Rattle.ms_names_rules.specs.Before.{Before, with_names, with_export, after, after_bounds, after_parts, after_all, opened}
 use Rattle.ms_logic.specs.Lists.{Each}
-use Rattle.ms_names_rules.specs.Occurrence.{Occurrence, occurrences, inside_operands, inside_arguments, inside_bounds, inside_domain, inside_parts, formula_wanted, number_wanted, set_wanted}
-use Rattle.ms_names_rules.specs.Order.{later_parameters, order_of, parameters_of, wanted_by, wanted_on_the_left, wanted_on_the_right}
+use Rattle.ms_names_rules.specs.Order.{formula_wanted, number_wanted, order_of, parameters_of, wanted_by, content_wanted, left_wanted, operand_wanted, right_wanted}
+use Rattle.ms_names_rules.specs.Occurrence.{Occurrence, occurrences, inside_operands, inside_arguments, inside_bounds, inside_domain, inside_parts, standing}
 use Rattle.ms_names_rules.specs.Reads.{free_variables}
-use Rattle.ms_names_rules.specs.Scope.{Named, Scope, bind, count_of_bounds, count_of_parts, meaning_of, under_bounds, under_parts, variables_among, without_exports}
 use Rattle.ms_names_rules.specs.Uses.{export_at, import_at, pair_of, pairs_of}
 use Rattle.ms_names_rules.proofs.Fitting.{each-append}
-use Rattle.ms_names_checked.specs.Spellings.{BindsNames, BoundsHaveNames, DomainBindsNames, EachBindsNames, IsName, PartsHaveNames}
+use Rattle.ms_names_checked.specs.Spellings.{BindsNames, BoundsHaveNames, DomainBindsNames, EachBindsNames, IsName, PartsHaveNames, ImportsNames}
 use Rattle.ms_names_checked.proofs.Listing.{each-filter}
 use Rattle.ms_names_checked.proofs.Scopes.{Names}
+use Rattle.ms_parse_grammar.specs.declared.operator.Bracket.{Bracket}
 
 -- a variable among the names has a name of the language
 abbrev pub IsNamed : Bytes × Meaning → Type 0
@@ -63,44 +67,45 @@ pairs-named s [] h = tt
 pairs-named s (r ∷ rs) h =
     each-append (λ (pair : MapPair). IsName pair.name) (pair_of r.left (meaning_of s r.right)) (pairs_of s rs) (pair-named r.left (meaning_of s r.right) h.0) (pairs-named s rs h.1)
 
-pub bounds-scope : (s : Scope) (x : ℕ) (vs : Bounds) → Each IsNamed s.names → BoundsHaveNames vs → Each IsNamed (under_bounds s x vs).names
-bounds-scope s x no_bounds h k = h
-bounds-scope s x (more_bounds at o n d vs) h k = bounds-scope (bind n (meaning.Variable x o) s) (x + 1) vs (k.0, h) k.2
+pub bounds-scope : (s : Scope) (x : ℕ) (vs : Variables) → Each IsNamed s.names → BoundsHaveNames vs → Each IsNamed (under_bounds s x vs).names
+bounds-scope s x no_variables h k = h
+bounds-scope s x (and_variable vs at o n d) h k = (k.1, bounds-scope s x vs h k.0)
 
 parts-scope : (s : Scope) (x : ℕ) (o : Order) (ps : Parts) → Each IsNamed s.names → PartsHaveNames ps → Each IsNamed (under_parts s x o ps).names
 parts-scope s x o no_parts h k = h
-parts-scope s x o (more_parts at n e ps) h k = parts-scope (bind n (meaning.Variable x o) s) (x + 1) o ps (k.0, h) k.2
+parts-scope s x o (and_part ps at n e) h k = (k.1, parts-scope s x o ps h k.0)
+
+atom-named : (s : Scope) (b : Before) (w : Wanted) (at : Place) (a : Atom) → ImportsNames a → UsesNamed (standing s b w (atom at a))
+atom-named s b w at truth k = (tt, tt)
+atom-named s b w at falsity k = (tt, tt)
+atom-named s b w at whole k = (tt, tt)
+atom-named s b w at empty_set k = (tt, tt)
+atom-named s b w at (written.named n) k = (tt, tt)
+atom-named s b w at (numeral n) k = (tt, tt)
+atom-named s b w at (pconst i) k = (tt, tt)
+atom-named s b w at (imported file rs) k = (tt, (pairs-named s rs k, tt))
+
+bracket-named : (s : Scope) (b : Before) (w : Wanted) (at : Place) (k : Bracket) (e : Expression) → Each IsNamed s.names → UsesNamed (standing s b w (enclosed at k e))
+bracket-named s b w at Parentheses e h = (tt, tt)
+bracket-named s b w at Emptiness e h = (tt, tt)
+bracket-named s b w at Restriction e h = (tt, tt)
+bracket-named s b w at (Export text_at file) e h = ((free-named s (with_export b) e h, tt), tt)
 
 mutual
   pub named : (s : Scope) (b : Before) (w : Wanted) (e : Expression) → Each IsNamed s.names → BindsNames e → Each UsesNamed (occurrences s b w e)
-  named s b w (truth at) h k = ((tt, tt), tt)
-  named s b w (falsity at) h k = ((tt, tt), tt)
-  named s b w (whole at) h k = ((tt, tt), tt)
-  named s b w (empty_set at) h k = ((tt, tt), tt)
-  named s b w (name at n) h k = ((tt, tt), tt)
-  named s b w (number at n) h k = ((tt, tt), tt)
-  named s b w (pconst at i) h k = ((tt, tt), tt)
-  named s b w (brackets at e) h k = ((tt, tt), named s b Anything e h k)
-  named s b w (literal at es) h k = ((tt, tt), operands-named s b number_wanted es h k)
-  named s b w (call at n es) h k = ((tt, tt), arguments-named (without_exports s) b (parameters_of (meaning_of s n)) es h k)
-  named s b w (negation at e) h k = ((tt, tt), named s b formula_wanted e h k)
-  named s b w (conjunction at es) h k = ((tt, tt), operands-named s b formula_wanted es h k)
-  named s b w (disjunction at es) h k = ((tt, tt), operands-named s b formula_wanted es h k)
-  named s b w (implication at e f) h k = ((tt, tt), each-append UsesNamed (occurrences s b formula_wanted e) (occurrences s (after b e) formula_wanted f) (named s b formula_wanted e h k.0) (named s (after b e) formula_wanted f h k.1))
-  named s b w (equivalence at e f) h k = ((tt, tt), each-append UsesNamed (occurrences s b formula_wanted e) (occurrences s (after b e) formula_wanted f) (named s b formula_wanted e h k.0) (named s (after b e) formula_wanted f h k.1))
-  named s b w (relation at r e f) h k = (
+  named s b w (atom at a) h k = (atom-named s b w at a k, tt)
+  named s b w (prefixed at op e) h k = ((tt, tt), named s b (operand_wanted op) e h k)
+  named s b w (binary at op e f) h k = (
     (tt, tt),
-    each-append UsesNamed (occurrences s b (wanted_on_the_left r) e) (occurrences s (after b e) (wanted_on_the_right r (order_of s e)) f) (named s b (wanted_on_the_left r) e h k.0)
-        (named s (after b e) (wanted_on_the_right r (order_of s e)) f h k.1),
+    each-append UsesNamed (occurrences s b (left_wanted op) e) (occurrences s (after b e) (right_wanted op (order_of s e)) f) (named s b (left_wanted op) e h k.0)
+        (named s (after b e) (right_wanted op (order_of s e)) f h k.1),
   )
-  named s b w (emptiness at e) h k = ((tt, tt), named s b set_wanted e h k)
-  named s b w (union at e f) h k = ((tt, tt), each-append UsesNamed (occurrences s b set_wanted e) (occurrences s (after b e) set_wanted f) (named s b set_wanted e h k.0) (named s (after b e) set_wanted f h k.1))
-  named s b w (intersection at e f) h k = ((tt, tt), each-append UsesNamed (occurrences s b set_wanted e) (occurrences s (after b e) set_wanted f) (named s b set_wanted e h k.0) (named s (after b e) set_wanted f h k.1))
-  named s b w (difference at e f) h k = ((tt, tt), each-append UsesNamed (occurrences s b set_wanted e) (occurrences s (after b e) set_wanted f) (named s b set_wanted e h k.0) (named s (after b e) set_wanted f h k.1))
-  named s b w (shift at e i) h k = ((tt, tt), named s b NumberOrSet e h k)
-  named s b w (minimum at e) h k = ((tt, tt), named s b set_wanted e h k)
-  named s b w (maximum at e) h k = ((tt, tt), named s b set_wanted e h k)
-  named s b w (quantified at q vs e) h k =
+  named s b w (joined at op es) h k = ((tt, tt), operands-named s b formula_wanted es h k)
+  named s b w (shifted at e i) h k = ((tt, tt), named s b NumberOrSet e h k)
+  named s b w (enclosed at bracket e) h k = (bracket-named s b w at bracket e h, named s (opened b bracket) (content_wanted bracket) e h k)
+  named s b w (listed at Literal es) h k = ((tt, tt), operands-named s b number_wanted es h k)
+  named s b w (listed at (Call n) es) h k = ((tt, tt), arguments-named (without_exports s) b (parameters_of (meaning_of s n)) es h k)
+  named s b w (quantified at q o vs e) h k =
       let here = with_names b (count_of_bounds vs) in
       let end = after_bounds here vs in
       let inner = under_bounds s b.next vs in (
@@ -108,7 +113,7 @@ mutual
         each-append UsesNamed (inside_bounds s b.next here vs) (occurrences inner end formula_wanted e) (bounds-named s b.next here vs h k.0)
             (named inner end formula_wanted e (bounds-scope s b.next vs h k.0) k.1),
       )
-  named s b w (where_let at o ps e) h k =
+  named s b w (let_in at o ps e) h k =
       let here = with_names b (count_of_parts ps) in
       let end = after_parts here ps in
       let outer = without_exports s in
@@ -117,27 +122,24 @@ mutual
         each-append UsesNamed (inside_parts outer here o ps) (occurrences inner end formula_wanted e) (parts-named outer here o ps h k.0)
             (named inner end formula_wanted e (parts-scope outer b.next o ps h k.0) k.1),
       )
-  named s b w (restrict at e) h k = ((tt, tt), named s b formula_wanted e h k)
-  named s b w (imported at file rs) h k = ((tt, (pairs-named s rs k, tt)), tt)
-  named s b w (exported at text_at file e) h k = (((free-named s (with_export b) e h, tt), tt), named s (with_export b) formula_wanted e h k)
 
   operands-named : (s : Scope) (b : Before) (w : Wanted) (es : Expressions) → Each IsNamed s.names → EachBindsNames es → Each UsesNamed (inside_operands s b w es)
   operands-named s b w no_expressions h k = tt
-  operands-named s b w (more_expressions e es) h k =
-      each-append UsesNamed (occurrences s b w e) (inside_operands s (after b e) w es) (named s b w e h k.0) (operands-named s (after b e) w es h k.1)
+  operands-named s b w (and_expression es e) h k =
+      each-append UsesNamed (inside_operands s b w es) (occurrences s (after_all b es) w e) (operands-named s b w es h k.0) (named s (after_all b es) w e h k.1)
 
   arguments-named : (s : Scope) (b : Before) (parameters : List Order) (es : Expressions) → Each IsNamed s.names → EachBindsNames es → Each UsesNamed (inside_arguments s b parameters es)
   arguments-named s b parameters no_expressions h k = tt
-  arguments-named s b parameters (more_expressions e es) h k =
-      each-append UsesNamed (occurrences s b (wanted_by parameters) e) (inside_arguments s (after b e) (later_parameters parameters) es) (named s b (wanted_by parameters) e h k.0)
-      (arguments-named s (after b e) (later_parameters parameters) es h k.1)
+  arguments-named s b parameters (and_expression es e) h k =
+      let w = wanted_by (slice_get parameters (count es)) in
+      each-append UsesNamed (inside_arguments s b parameters es) (occurrences s (after_all b es) w e) (arguments-named s b parameters es h k.0) (named s (after_all b es) w e h k.1)
 
-  pub bounds-named : (s : Scope) (x : ℕ) (b : Before) (vs : Bounds) → Each IsNamed s.names → BoundsHaveNames vs → Each UsesNamed (inside_bounds s x b vs)
-  bounds-named s x b no_bounds h k = tt
-  bounds-named s x b (more_bounds at o n d vs) h k =
-      let inner = bind n (meaning.Variable x o) s in
-      each-append UsesNamed (inside_domain (without_exports inner) b d) (inside_bounds inner (x + 1) (after_domain b d) vs) (domain-named (without_exports inner) b d (k.0, h) k.1)
-      (bounds-named inner (x + 1) (after_domain b d) vs (k.0, h) k.2)
+  pub bounds-named : (s : Scope) (x : ℕ) (b : Before) (vs : Variables) → Each IsNamed s.names → BoundsHaveNames vs → Each UsesNamed (inside_bounds s x b vs)
+  bounds-named s x b no_variables h k = tt
+  bounds-named s x b (and_variable vs at o n d) h k =
+      let inner = without_exports (under_bounds s x (and_variable vs at o n d)) in
+      each-append UsesNamed (inside_bounds s x b vs) (inside_domain inner (after_bounds b vs) d) (bounds-named s x b vs h k.0)
+      (domain-named inner (after_bounds b vs) d (bounds-scope s x (and_variable vs at o n d) h k) k.2)
 
   domain-named : (s : Scope) (b : Before) (d : Domain) → Each IsNamed s.names → DomainBindsNames d → Each UsesNamed (inside_domain s b d)
   domain-named s b unrestricted h k = tt
@@ -145,5 +147,5 @@ mutual
 
   parts-named : (s : Scope) (b : Before) (o : Order) (ps : Parts) → Each IsNamed s.names → PartsHaveNames ps → Each UsesNamed (inside_parts s b o ps)
   parts-named s b o no_parts h k = tt
-  parts-named s b o (more_parts at n e ps) h k =
-      each-append UsesNamed (occurrences s b (Exactly o) e) (inside_parts s (after b e) o ps) (named s b (Exactly o) e h k.1) (parts-named s (after b e) o ps h k.2)
+  parts-named s b o (and_part ps at n e) h k =
+      each-append UsesNamed (inside_parts s b o ps) (occurrences s (after_parts b ps) (Exactly o) e) (parts-named s b o ps h k.0) (named s (after_parts b ps) (Exactly o) e h k.2)

@@ -1,5 +1,5 @@
 -- What is read and what is free: the same variables, of those in scope.
-use Rattle.std.proofs.Common.{◌≡◌, ℕ, ◌≤◌, ◌⊎◌, ◌↔◌, inl, inr, ⊎_elim, Bool, true, false, List, [], ◌∷◌, ◌++◌, map, Option, Some, None, refl, sym, subst, arith}
+use Rattle.std.proofs.Common.{◌≡◌, ℕ, ◌≤◌, ◌⊎◌, ◌↔◌, inl, inr, ⊎_elim, Bool, true, false, List, [], ◌∷◌, ◌++◌, map, Option, Some, None, refl, sym, subst, arith, take}
 use Rattle.std.specs.Prelude.{slice_get}
 use Rattle.std.specs.Option.{IsSomeAnd, option_and_then}
 use Rattle.ms_logic.specs.declared.checked.ExportUse.{ExportUse}
@@ -22,14 +22,15 @@ use Rattle.ms_names_rules.specs.inner.Free.{Readings}
 use Rattle.ms_names_rules.specs.Occurrence.{Occurrence}
 use Rattle.ms_names_rules.specs.Order.{parameters_of}
 use Rattle.ms_names_rules.specs.Reads.{readings_at, readings_of_call, readings_of_name, readings_of_renames, readings_of_variable}
-use Rattle.ms_names_rules.specs.Scope.{Scope, meaning_of}
-use Rattle.ms_names_rules.specs.Syntax.{Bytes}
-use Rattle.ms_names_rules.specs.Typed.{formula_in, number_in, set_in, of_order, related_member, related_numbers, related_sets, typed_call, typed_name, typed_relation, typed_shift, variable_argument}
+use Rattle.ms_names_rules.specs.Scope.{Scope, meaning_of, Bytes}
+use Rattle.ms_names_rules.specs.Typed.{formula_in, number_in, set_in, of_order, related_member, related_numbers, related_sets, typed_call, typed_name, typed_relation, typed_shift, variable_argument, as_many}
 use Rattle.ms_names_rules.specs.Uses.{pair_of, pairs_of}
 use Rattle.ms_names_rules.proofs.Fitting.{Falls, If, each-append, if-one}
 use Rattle.ms_names_checked.specs.Constants.{RelatesNumbers, RelatesSets}
 use Rattle.ms_names_checked.proofs.Leading.{Any, LeadsTo, Reaches, any-back, any-front, any-split, leads-variable, variable-leads}
 use Rattle.ms_names_checked.proofs.Scopes.{IsInScope, IsMeaning, IsOld, IsPredicate, Knows, Names, in-scope-once, in-scope-same, meaning-known, old-more}
+use Rattle.ms_names_rules.proofs.Numbering.{all-taken}
+use Rattle.ms_names_rules.specs.inner.Examples.{nothing}
 
 -- an entry of the table of exports lists the free variables of a formula, where predicates and imports read so
 abbrev pub ListsFreeUnder : Reads → Form → ExportUse → Type 0
@@ -210,17 +211,17 @@ module _ (r : Reads) (exports : List ExportUse) (R : List Readings) (low : ℕ) 
 
   -- calls
 
-  pub call-told : (start high : ℕ) (names : Names) (m : Option Meaning) (given : List Order → Option Arguments) (os : List Occurrence) → start ≤ high →
+  pub call-told : (start high : ℕ) (names : Names) (m : Option Meaning) (n : ℕ) (given : Option Arguments) (os : List Occurrence) → start ≤ high →
       If (IsMeaning r R low start names) m →
-      If (λ arguments. Told r exports low high names (Reaches R os) (λ v. FreeInArguments r arguments v) [] × (orders_of arguments ≡ parameters_of m)) (given (parameters_of m)) →
-      If (λ a. Told r exports low high names (λ y. Any (LeadsTo R y) (readings_of_call m) ⊎ Reaches R os y) (λ v. FreeInArgument r a v) (exports_of a)) (typed_call m given)
-  call-told start high names None given os le h all = tt
-  call-told start high names (Some (meaning.Variable x o)) given os le h all = tt
-  call-told start high names (Some (meaning.Constant value)) given os le h all = tt
-  call-told start high names (Some (meaning.Predicate p parameters)) given os le h all =
+      If (λ arguments. Told r exports low high names (Reaches R os) (λ v. FreeInArguments r arguments v) [] × (orders_of arguments ≡ take n (parameters_of m))) given →
+      If (λ a. Told r exports low high names (λ y. Any (LeadsTo R y) (readings_of_call m) ⊎ Reaches R os y) (λ v. FreeInArgument r a v) (exports_of a)) (typed_call m (as_many n (parameters_of m) given))
+  call-told start high names None n given os le h all = tt
+  call-told start high names (Some (meaning.Variable x o)) n given os le h all = tt
+  call-told start high names (Some (meaning.Constant value)) n given os le h all = tt
+  call-told start high names (Some (meaning.Predicate p parameters)) n given os le h all =
       if-one (λ arguments. Told r exports low high names (Reaches R os) (λ v. FreeInArguments r arguments v) [] × (orders_of arguments ≡ parameters))
       (λ a. Told r exports low high names (λ y. (LeadsTo R y (Predicate p) ⊎ ⊥) ⊎ Reaches R os y) (λ v. FreeInArgument r a v) (exports_of a))
-      (λ arguments. truth_argument (tree.call p arguments)) (given parameters)
+      (λ arguments. truth_argument (tree.call p arguments)) (as_many n parameters given)
       (λ arguments k.
       told-same high high names (λ y. LeadsTo R y (Predicate p) ⊎ Reaches R os y) (λ y. (LeadsTo R y (Predicate p) ⊎ ⊥) ⊎ Reaches R os y)
       (λ v. r.called p parameters v ⊎ FreeInArguments r arguments v) (λ v. FreeInArgument r (truth_argument (tree.call p arguments)) v) [] (omega arith)
@@ -231,7 +232,7 @@ module _ (r : Reads) (exports : List ExportUse) (R : List Readings) (low : ℕ) 
       ))
       (told-join high high names (λ y. LeadsTo R y (Predicate p)) (Reaches R os) (λ v. r.called p parameters v) (λ v. FreeInArguments r arguments v) [] [] (omega arith)
       (predicate-told start high names p parameters le h) k.0))
-      all
+      (all-taken (λ ps arguments. Told r exports low high names (Reaches R os) (λ v. FreeInArguments r arguments v) [] × (orders_of arguments ≡ ps)) parameters n given all)
 
   -- imports
 

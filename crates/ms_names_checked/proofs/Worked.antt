@@ -23,7 +23,7 @@ use Rattle.ms_logic.proofs.Views.{formula_of-And, formula_of-Bind-none, formula_
 use Rattle.ms_names_rules.specs.Numbers as numbers
 use Rattle.ms_names_rules.specs.Numbers.{CountUp, IsNumbered, IsWellNumbered, globals_seen, tables_of}
 use Rattle.ms_logic.specs.Lists.{Each}
-use Rattle.ms_names_rules.specs.Syntax.{Bytes}
+use Rattle.ms_names_rules.specs.Scope.{Bytes}
 use Rattle.ms_names_checked.specs.Constants.{HasConstantsInRange, IsInRange}
 use Rattle.ms_names_checked.specs.inner.Examples.{binds_two, compares, compares_bits, declares, declares_twice, empty_string, exports_emptiness, exports_in_a_let, exports_twice, lists_a_name_twice, lists_too_little, lists_too_much, orders_sets, reads_a_name_twice, reads_into_one}
 use Rattle.ms_names_checked.specs.Exports.{ExportListsFree, HasExportsInPlace, ListsFreeVariables}

@@ -1,13 +1,12 @@
 -- The exports of a checked source: where they stand, and which variables they list.
 use Rattle.std.specs.Prelude.{◌≡◌, List, [], length, map, slice_get}
 use Rattle.std.specs.Option.{IsSomeAnd}
-use Rattle.ms_logic.specs.declared.assignment.Value.{Value}
 use Rattle.ms_logic.specs.declared.checked.Checked.{Checked}
 use Rattle.ms_logic.specs.declared.checked.ExportUse.{ExportUse}
-use Rattle.ms_logic.specs.Assignment.{Universe, Variable}
+use Rattle.ms_logic.specs.Assignment.{Variable}
 use Rattle.ms_logic_core.specs.Roots.{AreFreeVariables, Export, exports_among}
 use Rattle.ms_logic.specs.Tree.{Form, truth, falsity, truth_variable, negation, conjunction, disjunction, implication, equivalence, comparison, set_comparison, membership, emptiness, quantified, where_let, call, restrict, imported, exported, default_at, Forms, no_forms, more_forms}
-use Rattle.ms_logic.specs.Truth.{Answer, Given}
+use Rattle.ms_logic.specs.Truth.{Given}
 use Rattle.ms_logic.specs.View.{formula_of, problem_of, Answers}
 use Rattle.ms_logic.specs.Lists.{Each}
 use Rattle.ms_names_rules.specs.Numbers.{exports_in, exports_in_arguments, exports_in_restriction}

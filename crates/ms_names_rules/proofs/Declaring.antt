@@ -3,15 +3,14 @@ use Rattle.std.proofs.Common.{◌≡◌, ℕ, ◌+◌, Bool, true, false, if◌t
 use Rattle.std.specs.Prelude.{bytes_eq}
 use Rattle.ms_logic.specs.declared.mode.Order.{Order}
 use Rattle.ms_logic.specs.declared.source.PlacedInt.{PlacedInt}
-use Rattle.ms_names_rules.specs.declared.meaning.Meaning.TheVariants.{Variable}
-use Rattle.ms_names_rules.specs.Syntax.{Bytes, Bounds, no_bounds, more_bounds, Domain, unrestricted, restricted}
-use Rattle.ms_names_rules.specs.Before.{Before, after_domain}
+use Rattle.ms_names_rules.specs.Scope.{Bytes, Scope, without_exports, count_of_bounds, under_bounds}
+use Rattle.ms_parse_grammar.specs.Tree.{Variables, no_variables, and_variable, Domain, unrestricted, restricted}
+use Rattle.ms_names_rules.specs.Before.{Before, after_bounds}
 use Rattle.ms_names_rules.specs.inner.Binder.{restricted_variable, restricted_variables, restriction_in}
 use Rattle.ms_names_rules.specs.Constant.{leaves_range, has_no_value, next_sum, sum_from, sum_in_range, sum_of_value, value_of}
 use Rattle.ms_names_rules.specs.Rules.{is_name_among}
-use Rattle.ms_names_rules.specs.Scope.{Scope, bind, without_exports}
-use Rattle.ms_names_rules.specs.Typed.{both, typed_restriction}
-use Rattle.ms_names_rules.proofs.Exports.{domain-same, typed-same}
+use Rattle.ms_names_rules.specs.Typed.{typed_restriction}
+use Rattle.ms_names_rules.proofs.Exports.{domain-same, typed-same, both-same, under_bounds-same}
 
 -- constants
 
@@ -48,14 +47,12 @@ restriction_in-same true s t b o x d h = domain-same s t b o x d h
 restriction_in-same false s t b o x unrestricted h = refl
 restriction_in-same false s t b o x (restricted e) h = ap typed_restriction (typed-same s t b e h)
 
-pub restricted-same : (takes_defaults : Bool) (s t : Scope) (x : ℕ) (b : Before) (vs : Bounds) → without_exports s ≡ without_exports t →
+pub restricted-same : (takes_defaults : Bool) (s t : Scope) (x : ℕ) (b : Before) (vs : Variables) → without_exports s ≡ without_exports t →
     restricted_variables takes_defaults s x b vs ≡ restricted_variables takes_defaults t x b vs
-restricted-same takes_defaults s t x b no_bounds h = refl
-restricted-same takes_defaults s t x b (more_bounds at o n d vs) h =
-    let inner = bind n (Variable x o) s in
-    let other = bind n (Variable x o) t in
-    let same : without_exports inner ≡ without_exports other = ap (bind n (Variable x o)) h in
-    ap (λ r. both (λ there more. restricted_variable x o there ∷ more) r (restricted_variables takes_defaults inner (x + 1) (after_domain b d) vs))
-    (restriction_in-same takes_defaults inner other b o x d same)
-    ∙ ap (both (λ there more. restricted_variable x o there ∷ more) (restriction_in takes_defaults other b o x d))
-    (restricted-same takes_defaults inner other (x + 1) (after_domain b d) vs same)
+restricted-same takes_defaults s t x b no_variables h = refl
+restricted-same takes_defaults s t x b (and_variable vs at o n d) h =
+    let y = x + count_of_bounds vs in
+    let inner = under_bounds s x (and_variable vs at o n d) in
+    let other = under_bounds t x (and_variable vs at o n d) in
+    both-same (λ earlier r. earlier ++ restricted_variable y o r ∷ []) (restricted-same takes_defaults s t x b vs h)
+    (restriction_in-same takes_defaults inner other (after_bounds b vs) o y d (under_bounds-same s t x (and_variable vs at o n d) h))

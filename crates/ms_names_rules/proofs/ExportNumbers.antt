@@ -1,5 +1,5 @@
 -- The exports in a typed tree count up in the order of the text.
-use Rattle.std.proofs.Common.{◌≡◌, ℕ, ◌+◌, Bool, true, false, List, [], ◌∷◌, ◌++◌, Option, Some, None, refl, sym, subst, ◌∙◌}
+use Rattle.std.proofs.Common.{◌≡◌, ℕ, ◌+◌, Bool, true, false, List, [], ◌∷◌, ◌++◌, Option, Some, None, refl, sym, subst, ◌∙◌, length, slice_get, ◌==◌}
 use Rattle.std.specs.Option.{option_map, option_and_then}
 use Rattle.ms_logic.specs.declared.mode.Order.{Order}
 use Rattle.ms_logic.specs.declared.mode.Order.TheVariants.{Zero, One, Two}
@@ -7,18 +7,29 @@ use Rattle.ms_logic.specs.declared.mode.Quant.{Quant}
 use Rattle.ms_logic.specs.declared.mode.Rel.{Rel}
 use Rattle.ms_logic.specs.declared.mode.Rel.TheVariants.{Equal, Differs, Less, AtMost, Greater, AtLeast, Member, NotMember, Sub}
 use Rattle.ms_logic.specs.Tree as tree
-use Rattle.ms_logic.specs.Tree.{Term, SetTerm, Terms, Form, Forms, Restriction, Argument, truth_argument, number_argument, set_argument, Arguments}
+use Rattle.ms_logic.specs.Tree.{Term, SetTerm, Form, Forms, Restriction, Argument, truth_argument, number_argument, set_argument, Arguments}
 use Rattle.ms_names_rules.specs.declared.meaning.Meaning.{Meaning}
 use Rattle.ms_names_rules.specs.declared.meaning.Meaning.TheVariants as meaning
-use Rattle.ms_names_rules.specs.Syntax.{Expression, truth, falsity, whole, empty_set, name, number, pconst, brackets, literal, call, negation, conjunction, disjunction, implication, equivalence, relation, emptiness, union, intersection, difference, shift, minimum, maximum, quantified, where_let, restrict, imported, exported}
-use Rattle.ms_names_rules.specs.Syntax.{Expressions, no_expressions, more_expressions, Bounds, no_bounds, more_bounds, Domain, unrestricted, restricted, Parts, no_parts, more_parts}
-use Rattle.ms_names_rules.specs.Before.{Before, with_names, with_export, after, after_all, after_bounds, after_domain, after_parts}
+use Rattle.ms_parse_grammar.specs.Tree.{truth, falsity, whole, empty_set, named, numeral, pconst, imported, Expression, atom, prefixed, binary, joined, shifted, enclosed, listed, quantified, let_in, Expressions, no_expressions, and_expression, Variables, no_variables, and_variable, Domain, unrestricted, restricted, Parts, no_parts, and_part, Atom}
+use Rattle.ms_parse_grammar.specs.declared.operator.Prefix.TheVariants.{Negation, Minimum, Maximum}
+use Rattle.ms_parse_grammar.specs.declared.operator.Binary.TheVariants.{Implication, Equivalence, Relation, Union, Intersection, Difference}
+use Rattle.ms_parse_grammar.specs.declared.operator.Junction.TheVariants.{Conjunction, Disjunction}
+use Rattle.ms_parse_grammar.specs.declared.operator.Bracket.TheVariants as bracket
+use Rattle.ms_parse_grammar.specs.declared.operator.Bracket.TheVariants.{Parentheses, Emptiness, Export}
+use Rattle.ms_parse_grammar.specs.declared.operator.Listing.TheVariants.{Literal, Call}
+use Rattle.ms_names_rules.specs.Before.{Before, with_names, after, after_all, after_bounds, after_domain, after_parts, after_atom, opened}
 use Rattle.ms_names_rules.specs.Constant.{value_of}
 use Rattle.ms_names_rules.specs.Numbers.{CountUp, exports_in, exports_in_all, exports_in_argument, exports_in_arguments, exports_in_restriction}
-use Rattle.ms_names_rules.specs.Scope.{Scope, bind, count_of_bounds, count_of_parts, default_of, meaning_of, under_bounds, under_parts}
-use Rattle.ms_names_rules.specs.Typed.{default_restriction, formula_in, number_in, set_in, numbers_of_parts, of_order, related_member, related_numbers, related_sets, typed, typed_arguments, typed_call, typed_domain, typed_formulas, typed_name, typed_numbers, typed_parts, typed_quantifiers, typed_relation, typed_shift, variable_argument}
-use Rattle.ms_names_rules.proofs.Fitting.{If, if-one}
+use Rattle.ms_names_rules.specs.Scope.{Scope, count_of_bounds, count_of_parts, default_of, meaning_of, under_bounds, under_parts, count}
+use Rattle.ms_names_rules.specs.Typed.{default_restriction, formula_in, number_in, set_in, numbers_of_parts, of_order, related_member, related_numbers, related_sets, typed, typed_arguments, typed_call, typed_domain, typed_formulas, typed_name, typed_numbers, typed_parts, typed_quantifiers, typed_relation, typed_shift, variable_argument, argument_behind, argument_for, as_many, formula_behind, joined_formula, number_behind, quantifier, set_of_two, typed_atom, typed_binary, typed_bracket, typed_prefix}
+use Rattle.ms_names_rules.proofs.Fitting.{If, if-one, if-test}
 use Rattle.ms_names_rules.proofs.Numbering.{if-two}
+use Rattle.ms_parse_grammar.specs.declared.operator.Junction.{Junction}
+use Rattle.ms_parse_grammar.specs.declared.operator.Bracket.{Bracket}
+use Rattle.ms_parse_grammar.specs.declared.operator.Binary.{Binary}
+use Rattle.ms_names_rules.specs.Order.{parameters_of}
+use Rattle.ms_parse_grammar.specs.declared.operator.Prefix.{Prefix}
+use Rattle.ms_names_rules.proofs.Behind.{argument-exports-behind, exports-behind}
 
 abbrev pub ArgumentCounts : ℕ → ℕ → Argument → Type 0
 ArgumentCounts n m a = CountUp n (exports_in_argument a) m
@@ -74,15 +85,17 @@ name-counts n (Some (meaning.Constant value)) = refl
 name-counts n (Some (meaning.Predicate p [])) = refl
 name-counts n (Some (meaning.Predicate p (o ∷ parameters))) = tt
 
-call-counts : (n m : ℕ) (known : Option Meaning) (given : List Order → Option Arguments) →
-    ((parameters : List Order) → If (λ arguments_are. CountUp n (exports_in_arguments arguments_are) m) (given parameters)) →
+call-counts : (n m : ℕ) (known : Option Meaning) (given : Option Arguments) → If (λ arguments_are. CountUp n (exports_in_arguments arguments_are) m) given →
     If (ArgumentCounts n m) (typed_call known given)
 call-counts n m None given h = tt
 call-counts n m (Some (meaning.Variable x o)) given h = tt
 call-counts n m (Some (meaning.Constant value)) given h = tt
 call-counts n m (Some (meaning.Predicate p parameters)) given h =
-    if-one (λ arguments_are. CountUp n (exports_in_arguments arguments_are) m) (ArgumentCounts n m) (λ arguments_are. truth_argument (tree.call p arguments_are)) (given parameters)
-    (λ arguments_are k. k) (h parameters)
+    if-one (λ arguments_are. CountUp n (exports_in_arguments arguments_are) m) (ArgumentCounts n m) (λ arguments_are. truth_argument (tree.call p arguments_are)) given (λ arguments_are k. k) h
+
+argument-counts : (n m : ℕ) (o : Option Order) (a : Option Argument) → If (ArgumentCounts n m) a → If (ArgumentCounts n m) (argument_for o a)
+argument-counts n m None a h = tt
+argument-counts n m (Some o) a h = order-counts n m o a h
 
 numbers-count : (n m : ℕ) (r : Rel) (t u : Term) → n ≡ m → If (ArgumentCounts n m) (related_numbers r t u)
 numbers-count n m Equal t u h = h
@@ -145,60 +158,75 @@ value-counts : (n : ℕ) (i : Option ℕ) → If (ArgumentCounts n n) (option_ma
 value-counts n None = tt
 value-counts n (Some k) = refl
 
+atom-counts : (s : Scope) (b : Before) (a : Atom) → If (ArgumentCounts b.exports (after_atom b a).exports) (typed_atom s b a)
+atom-counts s b truth = refl
+atom-counts s b falsity = refl
+atom-counts s b whole = refl
+atom-counts s b empty_set = refl
+atom-counts s b (named n) = name-counts b.exports (meaning_of s n)
+atom-counts s b (numeral n) = refl
+atom-counts s b (pconst i) = value-counts b.exports (value_of s i)
+atom-counts s b (imported file rs) = refl
+
+prefix-counts : (n m : ℕ) (op : Prefix) (a : Option Argument) → If (ArgumentCounts n m) a → If (ArgumentCounts n m) (typed_prefix op a)
+prefix-counts n m Negation a h = if-one (FormCounts n m) (ArgumentCounts n m) (λ f. truth_argument (tree.negation f)) (formula_in a) (λ f k. k) (formula-counts n m a h)
+prefix-counts n m Minimum a h = if-one (λ t. n ≡ m) (ArgumentCounts n m) (λ t. number_argument (tree.minimum t)) (set_in a) (λ t k. k) (set-counts n m a h)
+prefix-counts n m Maximum a h = if-one (λ t. n ≡ m) (ArgumentCounts n m) (λ t. number_argument (tree.maximum t)) (set_in a) (λ t k. k) (set-counts n m a h)
+
+sets-both-count : (n l m : ℕ) (make : SetTerm → SetTerm → SetTerm) (a c : Option Argument) → If (ArgumentCounts n l) a → If (ArgumentCounts l m) c →
+    If (ArgumentCounts n m) (set_of_two make a c)
+sets-both-count n l m make a c h k =
+    if-two (λ t. n ≡ l) (λ u. l ≡ m) (ArgumentCounts n m) (λ t u. set_argument (make t u)) (set_in a) (set_in c) (λ t u i j. i ∙ j) (set-counts n l a h) (set-counts l m c k)
+
+binary-counts : (n l m : ℕ) (op : Binary) (a c : Option Argument) → If (ArgumentCounts n l) a → If (ArgumentCounts l m) c → If (ArgumentCounts n m) (typed_binary op a c)
+binary-counts n l m Implication a c h k =
+    if-two (FormCounts n l) (FormCounts l m) (ArgumentCounts n m) (λ f g. truth_argument (tree.implication f g)) (formula_in a) (formula_in c)
+    (λ f g i j. count-append n l m (exports_in f) (exports_in g) i j) (formula-counts n l a h) (formula-counts l m c k)
+binary-counts n l m Equivalence a c h k =
+    if-two (FormCounts n l) (FormCounts l m) (ArgumentCounts n m) (λ f g. truth_argument (tree.equivalence f g)) (formula_in a) (formula_in c)
+    (λ f g i j. count-append n l m (exports_in f) (exports_in g) i j) (formula-counts n l a h) (formula-counts l m c k)
+binary-counts n l m (Relation r) a c h k = relation-counts n l m r a c h k
+binary-counts n l m Union a c h k = sets-both-count n l m (λ t u. tree.union t u) a c h k
+binary-counts n l m Intersection a c h k = sets-both-count n l m (λ t u. tree.intersection t u) a c h k
+binary-counts n l m Difference a c h k = sets-both-count n l m (λ t u. tree.difference t u) a c h k
+
+joined-counts : (n m : ℕ) (op : Junction) (fs : Forms) → CountUp n (exports_in_all fs) m → CountUp n (exports_in (joined_formula op fs)) m
+joined-counts n m Conjunction fs h = h
+joined-counts n m Disjunction fs h = h
+
+bracket-counts : (b : Before) (k : Bracket) (m : ℕ) (a : Option Argument) → If (ArgumentCounts (opened b k).exports m) a → If (ArgumentCounts b.exports m) (typed_bracket b k a)
+bracket-counts b Parentheses m a h = h
+bracket-counts b Emptiness m a h =
+    if-one (λ t. b.exports ≡ m) (ArgumentCounts b.exports m) (λ t. truth_argument (tree.emptiness t)) (set_in a) (λ t k. k) (set-counts b.exports m a h)
+bracket-counts b bracket.Restriction m a h =
+    if-one (FormCounts b.exports m) (ArgumentCounts b.exports m) (λ f. truth_argument (tree.restrict f)) (formula_in a) (λ f k. k) (formula-counts b.exports m a h)
+bracket-counts b (Export text_at file) m a h =
+    if-one (FormCounts (b.exports + 1) m) (ArgumentCounts b.exports m) (λ f. truth_argument (tree.exported b.exports f)) (formula_in a) (λ f k. (refl, k)) (formula-counts (b.exports + 1) m a h)
+
+count-behind : (n l m : ℕ) (xs ys all : List ℕ) → all ≡ xs ++ ys → CountUp n xs l → CountUp l ys m → CountUp n all m
+count-behind n l m xs ys all same h k = subst (λ there. CountUp n there m) (sym same) (count-append n l m xs ys h k)
+
 mutual
   pub exports-count : (s : Scope) (b : Before) (e : Expression) → If (ArgumentCounts b.exports (after b e).exports) (typed s b e)
-  exports-count s b (truth at) = refl
-  exports-count s b (falsity at) = refl
-  exports-count s b (whole at) = refl
-  exports-count s b (empty_set at) = refl
-  exports-count s b (name at n) = name-counts b.exports (meaning_of s n)
-  exports-count s b (number at n) = refl
-  exports-count s b (pconst at i) = value-counts b.exports (value_of s i)
-  exports-count s b (brackets at e) = exports-count s b e
-  exports-count s b (literal at es) =
+  exports-count s b (atom at a) = atom-counts s b a
+  exports-count s b (prefixed at op e) = prefix-counts b.exports (after b e).exports op (typed s b e) (exports-count s b e)
+  exports-count s b (binary at op e f) =
+      binary-counts b.exports (after b e).exports (after (after b e) f).exports op (typed s b e) (typed s (after b e) f) (exports-count s b e) (exports-count s (after b e) f)
+  exports-count s b (joined at op es) =
+      let m = (after_all b es).exports in
+      if-one (λ fs. CountUp b.exports (exports_in_all fs) m) (ArgumentCounts b.exports m) (λ fs. truth_argument (joined_formula op fs)) (typed_formulas s b es)
+      (joined-counts b.exports m op) (formulas-all s b es)
+  exports-count s b (shifted at e i) = shift-counts b.exports (after b e).exports i.minus (value_of s i) (typed s b e) (exports-count s b e)
+  exports-count s b (enclosed at k e) = bracket-counts b k (after (opened b k) e).exports (typed s (opened b k) e) (exports-count s (opened b k) e)
+  exports-count s b (listed at Literal es) =
       if-one (λ ts. b.exports ≡ (after_all b es).exports) (ArgumentCounts b.exports (after_all b es).exports) (λ ts. set_argument (tree.literal ts)) (typed_numbers s b es) (λ ts h. h)
       (numbers-all s b es)
-  exports-count s b (call at n es) =
-      call-counts b.exports (after_all b es).exports (meaning_of s n) (λ parameters. typed_arguments s b parameters es) (λ parameters. arguments-all s b parameters es)
-  exports-count s b (negation at e) =
-      if-one (FormCounts b.exports (after b e).exports) (ArgumentCounts b.exports (after b e).exports) (λ f. truth_argument (tree.negation f)) (formula_in (typed s b e)) (λ f h. h)
-      (formula-counts b.exports (after b e).exports (typed s b e) (exports-count s b e))
-  exports-count s b (conjunction at es) =
-      if-one (λ fs. CountUp b.exports (exports_in_all fs) (after_all b es).exports) (ArgumentCounts b.exports (after_all b es).exports) (λ fs. truth_argument (tree.conjunction fs))
-      (typed_formulas s b es) (λ fs h. h) (formulas-all s b es)
-  exports-count s b (disjunction at es) =
-      if-one (λ fs. CountUp b.exports (exports_in_all fs) (after_all b es).exports) (ArgumentCounts b.exports (after_all b es).exports) (λ fs. truth_argument (tree.disjunction fs))
-      (typed_formulas s b es) (λ fs h. h) (formulas-all s b es)
-  exports-count s b (implication at e f) =
-      if-two (FormCounts b.exports (after b e).exports) (FormCounts (after b e).exports (after (after b e) f).exports) (ArgumentCounts b.exports (after (after b e) f).exports) (λ g k. truth_argument (tree.implication g k)) (formula_in (typed s b e)) (formula_in (typed s (after b e) f))
-      (λ g k h j. count-append b.exports (after b e).exports (after (after b e) f).exports (exports_in g) (exports_in k) h j)
-      (formula-counts b.exports (after b e).exports (typed s b e) (exports-count s b e)) (formula-counts (after b e).exports (after (after b e) f).exports (typed s (after b e) f) (exports-count s (after b e) f))
-  exports-count s b (equivalence at e f) =
-      if-two (FormCounts b.exports (after b e).exports) (FormCounts (after b e).exports (after (after b e) f).exports) (ArgumentCounts b.exports (after (after b e) f).exports) (λ g k. truth_argument (tree.equivalence g k)) (formula_in (typed s b e)) (formula_in (typed s (after b e) f))
-      (λ g k h j. count-append b.exports (after b e).exports (after (after b e) f).exports (exports_in g) (exports_in k) h j)
-      (formula-counts b.exports (after b e).exports (typed s b e) (exports-count s b e)) (formula-counts (after b e).exports (after (after b e) f).exports (typed s (after b e) f) (exports-count s (after b e) f))
-  exports-count s b (relation at r e f) =
-      relation-counts b.exports (after b e).exports (after (after b e) f).exports r (typed s b e) (typed s (after b e) f) (exports-count s b e) (exports-count s (after b e) f)
-  exports-count s b (emptiness at e) =
-      if-one (λ t. b.exports ≡ (after b e).exports) (ArgumentCounts b.exports (after b e).exports) (λ t. truth_argument (tree.emptiness t)) (set_in (typed s b e)) (λ t h. h) (set-counts b.exports (after b e).exports (typed s b e) (exports-count s b e))
-  exports-count s b (union at e f) =
-      if-two (λ t. b.exports ≡ (after b e).exports) (λ u. (after b e).exports ≡ (after (after b e) f).exports) (ArgumentCounts b.exports (after (after b e) f).exports) (λ t u. set_argument (tree.union t u))
-      (set_in (typed s b e)) (set_in (typed s (after b e) f)) (λ t u h j. h ∙ j)
-      (set-counts b.exports (after b e).exports (typed s b e) (exports-count s b e)) (set-counts (after b e).exports (after (after b e) f).exports (typed s (after b e) f) (exports-count s (after b e) f))
-  exports-count s b (intersection at e f) =
-      if-two (λ t. b.exports ≡ (after b e).exports) (λ u. (after b e).exports ≡ (after (after b e) f).exports) (ArgumentCounts b.exports (after (after b e) f).exports) (λ t u. set_argument (tree.intersection t u))
-      (set_in (typed s b e)) (set_in (typed s (after b e) f)) (λ t u h j. h ∙ j)
-      (set-counts b.exports (after b e).exports (typed s b e) (exports-count s b e)) (set-counts (after b e).exports (after (after b e) f).exports (typed s (after b e) f) (exports-count s (after b e) f))
-  exports-count s b (difference at e f) =
-      if-two (λ t. b.exports ≡ (after b e).exports) (λ u. (after b e).exports ≡ (after (after b e) f).exports) (ArgumentCounts b.exports (after (after b e) f).exports) (λ t u. set_argument (tree.difference t u))
-      (set_in (typed s b e)) (set_in (typed s (after b e) f)) (λ t u h j. h ∙ j)
-      (set-counts b.exports (after b e).exports (typed s b e) (exports-count s b e)) (set-counts (after b e).exports (after (after b e) f).exports (typed s (after b e) f) (exports-count s (after b e) f))
-  exports-count s b (shift at e i) = shift-counts b.exports (after b e).exports i.minus (value_of s i) (typed s b e) (exports-count s b e)
-  exports-count s b (minimum at e) =
-      if-one (λ t. b.exports ≡ (after b e).exports) (ArgumentCounts b.exports (after b e).exports) (λ t. number_argument (tree.minimum t)) (set_in (typed s b e)) (λ t h. h) (set-counts b.exports (after b e).exports (typed s b e) (exports-count s b e))
-  exports-count s b (maximum at e) =
-      if-one (λ t. b.exports ≡ (after b e).exports) (ArgumentCounts b.exports (after b e).exports) (λ t. number_argument (tree.maximum t)) (set_in (typed s b e)) (λ t h. h) (set-counts b.exports (after b e).exports (typed s b e) (exports-count s b e))
-  exports-count s b (quantified at q vs e) =
+  exports-count s b (listed at (Call n) es) =
+      let m = (after_all b es).exports in
+      let parameters = parameters_of (meaning_of s n) in
+      call-counts b.exports m (meaning_of s n) (as_many (count es) parameters (typed_arguments s b parameters es))
+      (if-test (λ given. CountUp b.exports (exports_in_arguments given) m) (count es == length parameters) (typed_arguments s b parameters es) (λ test. arguments-all s b parameters es))
+  exports-count s b (quantified at q o vs e) =
       let here = with_names b (count_of_bounds vs) in
       let end = after_bounds here vs in
       let inner = under_bounds s b.next vs in
@@ -206,7 +234,7 @@ mutual
       (typed_quantifiers s b.next here q vs (formula_in (typed inner end e))) (λ f h. h)
       (quantifiers-all s b.next here q vs (formula_in (typed inner end e)) (after end e).exports
       (formula-counts end.exports (after end e).exports (typed inner end e) (exports-count inner end e)))
-  exports-count s b (where_let at o ps e) =
+  exports-count s b (let_in at o ps e) =
       let here = with_names b (count_of_parts ps) in
       let end = after_parts here ps in
       let inner = under_parts s b.next o ps in
@@ -214,53 +242,50 @@ mutual
       (λ sides f. truth_argument (tree.where_let (numbers_of_parts b.next ps) sides f)) (typed_parts s here o ps) (formula_in (typed inner end e))
       (λ sides f h k. count-append b.exports end.exports (after end e).exports (exports_in_arguments sides) (exports_in f) h k)
       (parts-all s here o ps) (formula-counts end.exports (after end e).exports (typed inner end e) (exports-count inner end e))
-  exports-count s b (restrict at e) =
-      if-one (FormCounts b.exports (after b e).exports) (ArgumentCounts b.exports (after b e).exports) (λ f. truth_argument (tree.restrict f)) (formula_in (typed s b e)) (λ f h. h)
-      (formula-counts b.exports (after b e).exports (typed s b e) (exports-count s b e))
-  exports-count s b (imported at file rs) = refl
-  exports-count s b (exported at text_at file e) =
-      let inner = with_export b in
-      if-one (FormCounts inner.exports (after inner e).exports) (ArgumentCounts b.exports (after inner e).exports) (λ f. truth_argument (tree.exported b.exports f))
-      (formula_in (typed s inner e)) (λ f h. (refl, h)) (formula-counts inner.exports (after inner e).exports (typed s inner e) (exports-count s inner e))
 
   numbers-all : (s : Scope) (b : Before) (es : Expressions) → If (λ ts. b.exports ≡ (after_all b es).exports) (typed_numbers s b es)
   numbers-all s b no_expressions = refl
-  numbers-all s b (more_expressions e es) =
-      if-two (λ t. b.exports ≡ (after b e).exports) (λ ts. (after b e).exports ≡ (after_all (after b e) es).exports) (λ ts. b.exports ≡ (after_all (after b e) es).exports)
-      (λ t ts. tree.more_terms t ts) (number_in (typed s b e)) (typed_numbers s (after b e) es) (λ t ts h k. h ∙ k)
-      (number-counts b.exports (after b e).exports (typed s b e) (exports-count s b e)) (numbers-all s (after b e) es)
+  numbers-all s b (and_expression es e) =
+      let end = after_all b es in
+      if-two (λ ts. b.exports ≡ end.exports) (λ t. end.exports ≡ (after end e).exports) (λ ts. b.exports ≡ (after end e).exports)
+      number_behind (typed_numbers s b es) (number_in (typed s end e)) (λ ts t h k. h ∙ k)
+      (numbers-all s b es) (number-counts end.exports (after end e).exports (typed s end e) (exports-count s end e))
 
   formulas-all : (s : Scope) (b : Before) (es : Expressions) → If (λ fs. CountUp b.exports (exports_in_all fs) (after_all b es).exports) (typed_formulas s b es)
   formulas-all s b no_expressions = refl
-  formulas-all s b (more_expressions e es) =
-      let end = after_all (after b e) es in
-      if-two (FormCounts b.exports (after b e).exports) (λ fs. CountUp (after b e).exports (exports_in_all fs) end.exports) (λ fs. CountUp b.exports (exports_in_all fs) end.exports)
-      (λ f fs. tree.more_forms f fs) (formula_in (typed s b e)) (typed_formulas s (after b e) es)
-      (λ f fs h k. count-append b.exports (after b e).exports end.exports (exports_in f) (exports_in_all fs) h k)
-      (formula-counts b.exports (after b e).exports (typed s b e) (exports-count s b e)) (formulas-all s (after b e) es)
+  formulas-all s b (and_expression es e) =
+      let end = after_all b es in
+      let m = (after end e).exports in
+      if-two (λ fs. CountUp b.exports (exports_in_all fs) end.exports) (FormCounts end.exports m) (λ fs. CountUp b.exports (exports_in_all fs) m)
+      formula_behind (typed_formulas s b es) (formula_in (typed s end e))
+      (λ fs f h k. count-behind b.exports end.exports m (exports_in_all fs) (exports_in f) (exports_in_all (formula_behind fs f)) (exports-behind fs f) h k)
+      (formulas-all s b es) (formula-counts end.exports m (typed s end e) (exports-count s end e))
 
   arguments-all : (s : Scope) (b : Before) (parameters : List Order) (es : Expressions) →
       If (λ given. CountUp b.exports (exports_in_arguments given) (after_all b es).exports) (typed_arguments s b parameters es)
-  arguments-all s b [] no_expressions = refl
-  arguments-all s b (o ∷ parameters) no_expressions = tt
-  arguments-all s b [] (more_expressions e es) = tt
-  arguments-all s b (o ∷ parameters) (more_expressions e es) =
-      let end = after_all (after b e) es in
-      if-two (ArgumentCounts b.exports (after b e).exports) (λ more. CountUp (after b e).exports (exports_in_arguments more) end.exports) (λ given. CountUp b.exports (exports_in_arguments given) end.exports)
-      (λ a more. tree.more_arguments a more) (option_and_then (of_order o) (typed s b e)) (typed_arguments s (after b e) parameters es)
-      (λ a more h k. count-append b.exports (after b e).exports end.exports (exports_in_argument a) (exports_in_arguments more) h k)
-      (order-counts b.exports (after b e).exports o (typed s b e) (exports-count s b e)) (arguments-all s (after b e) parameters es)
+  arguments-all s b parameters no_expressions = refl
+  arguments-all s b parameters (and_expression es e) =
+      let end = after_all b es in
+      let m = (after end e).exports in
+      let o = slice_get parameters (count es) in
+      if-two (λ given. CountUp b.exports (exports_in_arguments given) end.exports) (ArgumentCounts end.exports m) (λ given. CountUp b.exports (exports_in_arguments given) m)
+      argument_behind (typed_arguments s b parameters es) (argument_for o (typed s end e))
+      (λ given a h k. count-behind b.exports end.exports m (exports_in_arguments given) (exports_in_argument a) (exports_in_arguments (argument_behind given a)) (argument-exports-behind given a) h k)
+      (arguments-all s b parameters es) (argument-counts end.exports m o (typed s end e) (exports-count s end e))
 
-  quantifiers-all : (s : Scope) (x : ℕ) (b : Before) (q : Quant) (vs : Bounds) (f : Option Form) (m : ℕ) →
+  quantifiers-all : (s : Scope) (x : ℕ) (b : Before) (q : Quant) (vs : Variables) (f : Option Form) (m : ℕ) →
       If (FormCounts (after_bounds b vs).exports m) f → If (FormCounts b.exports m) (typed_quantifiers s x b q vs f)
-  quantifiers-all s x b q no_bounds f m body = body
-  quantifiers-all s x b q (more_bounds at o n d vs) f m body =
-      let inner = bind n (meaning.Variable x o) s in
-      let end = after_domain b d in
-      if-two (λ r. CountUp b.exports (exports_in_restriction r) end.exports) (FormCounts end.exports m) (FormCounts b.exports m) (λ r g. tree.quantified q o x r g)
-      (typed_domain inner b o x d) (typed_quantifiers inner (x + 1) end q vs f)
-      (λ r g h k. count-append b.exports end.exports m (exports_in_restriction r) (exports_in g) h k)
-      (domain-count inner b o x d) (quantifiers-all inner (x + 1) end q vs f m body)
+  quantifiers-all s x b q no_variables f m body = body
+  quantifiers-all s x b q (and_variable vs at o n d) f m body =
+      let y = x + count_of_bounds vs in
+      let begin = after_bounds b vs in
+      let end = after_domain begin d in
+      let inner = under_bounds s x (and_variable vs at o n d) in
+      quantifiers-all s x b q vs (quantifier q o y (typed_domain inner begin o y d) f) m
+      (if-two (λ r. CountUp begin.exports (exports_in_restriction r) end.exports) (FormCounts end.exports m) (FormCounts begin.exports m) (λ r g. tree.quantified q o y r g)
+      (typed_domain inner begin o y d) f
+      (λ r g h k. count-append begin.exports end.exports m (exports_in_restriction r) (exports_in g) h k)
+      (domain-count inner begin o y d) body)
 
   pub domain-count : (s : Scope) (b : Before) (o : Order) (x : ℕ) (d : Domain) → If (λ r. CountUp b.exports (exports_in_restriction r) (after_domain b d).exports) (typed_domain s b o x d)
   domain-count s b o x unrestricted = default-counts b.exports (default_of s o) x
@@ -270,9 +295,10 @@ mutual
 
   parts-all : (s : Scope) (b : Before) (o : Order) (ps : Parts) → If (λ sides. CountUp b.exports (exports_in_arguments sides) (after_parts b ps).exports) (typed_parts s b o ps)
   parts-all s b o no_parts = refl
-  parts-all s b o (more_parts at n e ps) =
-      let end = after_parts (after b e) ps in
-      if-two (ArgumentCounts b.exports (after b e).exports) (λ more. CountUp (after b e).exports (exports_in_arguments more) end.exports) (λ sides. CountUp b.exports (exports_in_arguments sides) end.exports)
-      (λ a more. tree.more_arguments a more) (option_and_then (of_order o) (typed s b e)) (typed_parts s (after b e) o ps)
-      (λ a more h k. count-append b.exports (after b e).exports end.exports (exports_in_argument a) (exports_in_arguments more) h k)
-      (order-counts b.exports (after b e).exports o (typed s b e) (exports-count s b e)) (parts-all s (after b e) o ps)
+  parts-all s b o (and_part ps at n e) =
+      let end = after_parts b ps in
+      let m = (after end e).exports in
+      if-two (λ sides. CountUp b.exports (exports_in_arguments sides) end.exports) (ArgumentCounts end.exports m) (λ sides. CountUp b.exports (exports_in_arguments sides) m)
+      argument_behind (typed_parts s b o ps) (option_and_then (of_order o) (typed s end e))
+      (λ sides a h k. count-behind b.exports end.exports m (exports_in_arguments sides) (exports_in_argument a) (exports_in_arguments (argument_behind sides a)) (argument-exports-behind sides a) h k)
+      (parts-all s b o ps) (order-counts end.exports m o (typed s end e) (exports-count s end e))

@@ -1,21 +1,21 @@
 -- The exports of a checked source count up through its formulas, and stand nowhere else.
-use Rattle.std.proofs.Common.{option_map, ◌≡◌, ℕ, ◌+◌, ◌≤◌, List, [], ◌∷◌, ◌++◌, length, Option, Some, None, refl, sym, subst, ◌∙◌, arith, add-zero, length-append}
+use Rattle.std.proofs.Common.{◌≡◌, ℕ, ◌+◌, Bool, ◌≤◌, List, [], ◌∷◌, ◌++◌, length, Option, Some, None, refl, sym, subst, ◌∙◌, arith, add-zero, length-append, ap, append_assoc}
 use Rattle.std.specs.Prelude.{flat_map}
 use Rattle.ms_list.specs.declared.at.At.{At}
 use Rattle.ms_logic.specs.declared.mode.Order.{Order}
 use Rattle.ms_logic.specs.Tree as tree
-use Rattle.ms_logic.specs.Tree.{Form, Predicate}
 use Rattle.ms_names_rules.specs.declared.fault.Fault.{Fault}
 use Rattle.ms_names_rules.specs.declared.meaning.Meaning.TheVariants as meaning
-use Rattle.ms_names_rules.specs.Syntax.{Bytes, Expression, Bounds, no_bounds, more_bounds, Domain, unrestricted, restricted, Declaration, globals, constant, predicate, include, default, formula, Placed, Title}
-use Rattle.ms_names_rules.specs.Before.{Before, with_names, after, after_bounds, after_domain}
-use Rattle.ms_names_rules.specs.inner.Binder.{predicate_with}
+use Rattle.ms_names_rules.specs.Scope.{Bytes, Scope, bind, count_of_bounds, under_bounds, without_exports}
+use Rattle.ms_parse_grammar.specs.Tree.{Expression, Variables, no_variables, and_variable, Domain, unrestricted, restricted, Declaration, variables, constant, predicate, included, default_restriction, formula, goal, Declared}
 use Rattle.ms_names_rules.specs.Declarations.{Known, after_declaration, before_after, faults_in, first_fault_from, occurrences_in, or_later}
+use Rattle.ms_names_rules.specs.Before.{Before, with_names, after, after_bounds, after_domain}
+use Rattle.ms_names_rules.specs.inner.Binder.{predicate_with, restricted_variable}
 use Rattle.ms_names_rules.specs.Fault.{first_fault}
 use Rattle.ms_names_rules.specs.Numbers.{CountUp, exports_in, exports_in_parameters, exports_in_predicate, exports_in_restriction}
 use Rattle.ms_logic.specs.Lists.{Each}
-use Rattle.ms_names_rules.specs.Occurrence.{occurrences, inside_bounds, inside_domain, formula_wanted}
-use Rattle.ms_names_rules.specs.Scope.{Scope, bind, count_of_bounds, under_bounds, without_exports}
+use Rattle.ms_names_rules.specs.Order.{formula_wanted}
+use Rattle.ms_names_rules.specs.Occurrence.{occurrences, inside_bounds, inside_domain}
 use Rattle.ms_names_rules.specs.Typed.{formula_in, typed, typed_domain}
 use Rattle.ms_names_rules.specs.TypedSource.{TypedFormula, TypedGlobal, collected, formulas_of, globals_of, globals_of_bounds, parameters_of_bounds, predicates_of, restriction_of_parameter, typed_default, typed_predicate}
 use Rattle.ms_names_rules.specs.Uses.{export_at}
@@ -27,6 +27,7 @@ use Rattle.ms_names_rules.proofs.NumberedDeclarations.{counts-declaration}
 use Rattle.ms_names_rules.proofs.Numbering.{if-two}
 use Rattle.ms_names_rules.proofs.Orders.{AreRight, right-back, right-front}
 use Rattle.ms_names_rules.proofs.Standing.{counted}
+use Rattle.std.proofs.lemmas.List.{append-nil}
 
 -- numbers that count up to where they begin are none
 
@@ -40,28 +41,32 @@ count-none n m (x ∷ xs) same h = let rest = count-grows (n + 1) m xs h.1 in ab
 
 -- globals
 
-bounds-empty : (at : At) (item : ℕ) (s : Scope) (x : ℕ) (b : Before) (vs : Bounds) → AreRight (inside_bounds s x b vs) →
+bounds-empty : (at : At) (item : ℕ) (s : Scope) (x : ℕ) (b : Before) (vs : Variables) → AreRight (inside_bounds s x b vs) →
     Each (If (λ (g : TypedGlobal). exports_in_restriction g.restriction ≡ [])) (globals_of_bounds at item s x b vs)
-bounds-empty at item s x b no_bounds h = tt
-bounds-empty at item s x b (more_bounds name_at o n d vs) h =
-    let inner = bind n (meaning.Variable x o) s in
-    let here = inside_domain (without_exports inner) b d in
-    let rest = inside_bounds inner (x + 1) (after_domain b d) vs in
-    let same = domain-none (without_exports inner) b d refl (right-front here rest h) in (
-      if-one (λ r. CountUp b.exports (exports_in_restriction r) (after_domain b d).exports) (λ (g : TypedGlobal). exports_in_restriction g.restriction ≡ [])
-          (λ restriction. record { at = at; item = item; order = o; name = n; restriction = restriction }) (typed_domain inner b o x d)
-          (λ r k. count-none b.exports (after_domain b d).exports (exports_in_restriction r) same k) (domain-count inner b o x d),
-      bounds-empty at item inner (x + 1) (after_domain b d) vs (right-back here rest h),
+bounds-empty at item s x b no_variables h = tt
+bounds-empty at item s x b (and_variable vs name_at o n d) h =
+    let y = x + count_of_bounds vs in
+    let begin = after_bounds b vs in
+    let inner = under_bounds s x (and_variable vs name_at o n d) in
+    let before = inside_bounds s x b vs in
+    let here = inside_domain (without_exports inner) begin d in
+    let same = domain-none (without_exports inner) begin d refl (right-back before here h) in
+    each-append (If (λ (g : TypedGlobal). exports_in_restriction g.restriction ≡ [])) (globals_of_bounds at item s x b vs) _ (bounds-empty at item s x b vs (right-front before here h)) (
+      if-one (λ r. CountUp begin.exports (exports_in_restriction r) (after_domain begin d).exports) (λ (g : TypedGlobal). exports_in_restriction g.restriction ≡ [])
+          (λ restriction. record { at = at; item = item; order = o; name = n; restriction = restriction }) (typed_domain inner begin o y d)
+          (λ r k. count-none begin.exports (after_domain begin d).exports (exports_in_restriction r) same k) (domain-count inner begin o y d),
+      tt,
     )
 
 globals-empty : (k : Known) (at : At) (item : ℕ) (d : Declaration) → AreRight (occurrences_in k d) →
     Each (If (λ (g : TypedGlobal). exports_in_restriction g.restriction ≡ [])) (globals_of k at item d)
-globals-empty k at item (globals vs) h = bounds-empty at item k.scope k.globals k.before vs h
+globals-empty k at item (variables vs) h = bounds-empty at item k.scope k.globals k.before vs h
 globals-empty k at item (constant name_at n is) h = tt
-globals-empty k at item (predicate name_at n vs e) h = tt
-globals-empty k at item include h = tt
-globals-empty k at item (default o n e) h = tt
-globals-empty k at item (formula title e) h = tt
+globals-empty k at item (predicate is_pred name_at n vs e) h = tt
+globals-empty k at item (included text_at file) h = tt
+globals-empty k at item (default_restriction o n e) h = tt
+globals-empty k at item (formula e) h = tt
+globals-empty k at item (goal name_at title e) h = tt
 
 -- predicates
 
@@ -71,19 +76,27 @@ parameter-counts s b (restricted e) =
     if-one (FormCounts b.exports (after b e).exports) (λ r. CountUp b.exports (exports_in_restriction r) (after b e).exports) (λ f. tree.restricted f) (formula_in (typed s b e)) (λ f h. h)
     (formula-counts b.exports (after b e).exports (typed s b e) (exports-count s b e))
 
-parameters-count : (s : Scope) (x : ℕ) (b : Before) (vs : Bounds) → If (λ ps. CountUp b.exports (exports_in_parameters ps) (after_bounds b vs).exports) (parameters_of_bounds s x b vs)
-parameters-count s x b no_bounds = refl
-parameters-count s x b (more_bounds at o n d vs) =
-    let inner = bind n (meaning.Variable x o) s in
-    let next = after_domain b d in
-    let end = after_bounds next vs in
-    if-two (λ r. CountUp b.exports (exports_in_restriction r) next.exports) (λ ps. CountUp next.exports (exports_in_parameters ps) end.exports)
-    (λ ps. CountUp b.exports (exports_in_parameters ps) end.exports) (λ r more. record { variable = record { name = x; order = o }; restriction = r } ∷ more)
-    (restriction_of_parameter inner b d) (parameters_of_bounds inner (x + 1) next vs)
-    (λ r ps h k. count-append b.exports next.exports end.exports (exports_in_restriction r) (exports_in_parameters ps) h k)
-    (parameter-counts inner b d) (parameters-count inner (x + 1) next vs)
+parameter-exports-behind : (ps : List tree.Declaration) (v : tree.Declaration) → exports_in_parameters (ps ++ v ∷ []) ≡ exports_in_parameters ps ++ exports_in_restriction v.restriction
+parameter-exports-behind [] v = append-nil (exports_in_restriction v.restriction)
+parameter-exports-behind (first ∷ ps) v =
+    ap (λ xs. exports_in_restriction first.restriction ++ xs) (parameter-exports-behind ps v)
+    ∙ sym (append_assoc (exports_in_restriction first.restriction) (exports_in_parameters ps) (exports_in_restriction v.restriction))
 
-predicate-counts : (s : Scope) (b : Before) (vs : Bounds) (e : Expression) →
+parameters-count : (s : Scope) (x : ℕ) (b : Before) (vs : Variables) → If (λ ps. CountUp b.exports (exports_in_parameters ps) (after_bounds b vs).exports) (parameters_of_bounds s x b vs)
+parameters-count s x b no_variables = refl
+parameters-count s x b (and_variable vs at o n d) =
+    let y = x + count_of_bounds vs in
+    let inner = under_bounds s x (and_variable vs at o n d) in
+    let next = after_bounds b vs in
+    let end = after_domain next d in
+    if-two (λ ps. CountUp b.exports (exports_in_parameters ps) next.exports) (λ r. CountUp next.exports (exports_in_restriction r) end.exports)
+    (λ ps. CountUp b.exports (exports_in_parameters ps) end.exports) (λ earlier r. earlier ++ restricted_variable y o r ∷ [])
+    (parameters_of_bounds s x b vs) (restriction_of_parameter inner next d)
+    (λ ps r h k. subst (λ xs. CountUp b.exports xs end.exports) (sym (parameter-exports-behind ps (restricted_variable y o r)))
+    (count-append b.exports next.exports end.exports (exports_in_parameters ps) (exports_in_restriction r) h k))
+    (parameters-count s x b vs) (parameter-counts inner next d)
+
+predicate-counts : (s : Scope) (b : Before) (vs : Variables) (e : Expression) →
     If (λ p. CountUp b.exports (exports_in_predicate p) (after (after_bounds (with_names b (count_of_bounds vs)) vs) e).exports) (typed_predicate s b vs e)
 predicate-counts s b vs e =
     let here = with_names b (count_of_bounds vs) in
@@ -106,9 +119,9 @@ default-counts s b o n e =
 
 -- a declaration without a fault that is no formula has no exports
 
-predicate-none : (k : Known) (at : At) (n : Bytes) (vs : Bounds) (e : Expression) → AreRight (occurrences_in k (predicate at n vs e)) →
-    (before_after k.before (predicate at n vs e)).exports ≡ k.before.exports
-predicate-none k at n vs e h =
+predicate-none : (k : Known) (is_pred : Bool) (at : At) (n : Bytes) (vs : Variables) (e : Expression) → AreRight (occurrences_in k (predicate is_pred at n vs e)) →
+    (before_after k.before (predicate is_pred at n vs e)).exports ≡ k.before.exports
+predicate-none k is_pred at n vs e h =
     let b = k.before in
     let here = with_names b (count_of_bounds vs) in
     let end = after_bounds here vs in
@@ -118,30 +131,31 @@ predicate-none k at n vs e h =
     let within = occurrences inner end formula_wanted e in
     none-exported inner end formula_wanted e (allowed-bounds outer b.next vs) (right-back before within h) ∙ bounds-none outer b.next here vs (right-front before within h)
 
-default-none : (k : Known) (o : Order) (n : Bytes) (e : Expression) → AreRight (occurrences_in k (default o n e)) →
-    (before_after k.before (default o n e)).exports ≡ k.before.exports
+default-none : (k : Known) (o : Order) (n : Bytes) (e : Expression) → AreRight (occurrences_in k (default_restriction o n e)) →
+    (before_after k.before (default_restriction o n e)).exports ≡ k.before.exports
 default-none k o n e h =
     none-exported (bind n (meaning.Variable k.before.next o) (without_exports k.scope)) (with_names k.before 1) formula_wanted e refl h
 
 predicates-empty : (k : Known) (d : Declaration) → AreRight (occurrences_in k d) → Each (If (λ p. exports_in_predicate p ≡ [])) (predicates_of k d)
-predicates-empty k (globals vs) h = tt
+predicates-empty k (variables vs) h = tt
 predicates-empty k (constant at n is) h = tt
-predicates-empty k (predicate at n vs e) h =
+predicates-empty k (predicate is_pred at n vs e) h =
     let b = k.before in
-    let end = before_after b (predicate at n vs e) in (
+    let end = before_after b (predicate is_pred at n vs e) in (
       if-weaker (λ p. CountUp b.exports (exports_in_predicate p) end.exports) (λ p. exports_in_predicate p ≡ []) (typed_predicate k.scope b vs e)
-          (λ p c. count-none b.exports end.exports (exports_in_predicate p) (predicate-none k at n vs e h) c) (predicate-counts k.scope b vs e),
+          (λ p c. count-none b.exports end.exports (exports_in_predicate p) (predicate-none k is_pred at n vs e h) c) (predicate-counts k.scope b vs e),
       tt,
     )
-predicates-empty k include h = tt
-predicates-empty k (default o n e) h =
+predicates-empty k (included text_at file) h = tt
+predicates-empty k (default_restriction o n e) h =
     let b = k.before in
-    let end = before_after b (default o n e) in (
+    let end = before_after b (default_restriction o n e) in (
       if-weaker (λ p. CountUp b.exports (exports_in_predicate p) end.exports) (λ p. exports_in_predicate p ≡ []) (typed_default k.scope b o n e)
           (λ p c. count-none b.exports end.exports (exports_in_predicate p) (default-none k o n e h) c) (default-counts k.scope b o n e),
       tt,
     )
-predicates-empty k (formula title e) h = tt
+predicates-empty k (formula e) h = tt
+predicates-empty k (goal name_at title e) h = tt
 
 -- formulas
 
@@ -152,17 +166,25 @@ FormulasCount n (found ∷ more) m = (l : ℕ) × If (λ (f : TypedFormula). Cou
 
 formulas-count : (k : Known) (at : At) (item : ℕ) (d : Declaration) (more : List (Option TypedFormula)) (m : ℕ) → AreRight (occurrences_in k d) →
     FormulasCount (before_after k.before d).exports more m → FormulasCount k.before.exports (formulas_of k at item d ++ more) m
-formulas-count k at item (globals vs) more m h rest =
+formulas-count k at item (variables vs) more m h rest =
     subst (λ n. FormulasCount n more m) (bounds-none k.scope k.globals k.before vs h) rest
 formulas-count k at item (constant name_at n is) more m h rest = rest
-formulas-count k at item (predicate name_at n vs e) more m h rest = subst (λ l. FormulasCount l more m) (predicate-none k name_at n vs e h) rest
-formulas-count k at item include more m h rest = rest
-formulas-count k at item (default o n e) more m h rest = subst (λ l. FormulasCount l more m) (default-none k o n e h) rest
-formulas-count k at item (formula title e) more m h rest =
+formulas-count k at item (predicate is_pred name_at n vs e) more m h rest = subst (λ l. FormulasCount l more m) (predicate-none k is_pred name_at n vs e h) rest
+formulas-count k at item (included text_at file) more m h rest = rest
+formulas-count k at item (default_restriction o n e) more m h rest = subst (λ l. FormulasCount l more m) (default-none k o n e h) rest
+formulas-count k at item (formula e) more m h rest =
     let b = k.before in (
       (after b e).exports,
       if-one (FormCounts b.exports (after b e).exports) (λ (f : TypedFormula). CountUp b.exports (exports_in f.formula) (after b e).exports)
-          (λ form. record { at = at; item = item; title = option_map (λ (t : Title). t.text) title; formula = form }) (formula_in (typed k.scope b e)) (λ f j. j)
+          (λ form. record { at = at; item = item; title = None; formula = form }) (formula_in (typed k.scope b e)) (λ f j. j)
+          (formula-counts b.exports (after b e).exports (typed k.scope b e) (exports-count k.scope b e)),
+      rest,
+    )
+formulas-count k at item (goal name_at title e) more m h rest =
+    let b = k.before in (
+      (after b e).exports,
+      if-one (FormCounts b.exports (after b e).exports) (λ (f : TypedFormula). CountUp b.exports (exports_in f.formula) (after b e).exports)
+          (λ form. record { at = at; item = item; title = Some title; formula = form }) (formula_in (typed k.scope b e)) (λ f j. j)
           (formula-counts b.exports (after b e).exports (typed k.scope b e) (exports-count k.scope b e)),
       rest,
     )
@@ -173,13 +195,13 @@ or_later-both : (o later : Option Fault) → or_later o later ≡ None → (o �
 or_later-both None later e = (refl, e)
 or_later-both (Some f) later e = absurd (cc)
 
-pub record Exported (k : Known) (item : ℕ) (ds : List Placed) : Type 0 where
+pub record Exported (k : Known) (item : ℕ) (ds : List Declared) : Type 0 where
   pub globals_are : Each (If (λ (g : TypedGlobal). exports_in_restriction g.restriction ≡ [])) (collected (λ k item d. globals_of k d.at item d.declaration) k item ds)
   pub predicates_are : Each (If (λ p. exports_in_predicate p ≡ [])) (collected (λ k item d. predicates_of k d.declaration) k item ds)
   pub formulas_are : FormulasCount k.before.exports (collected (λ k item d. formulas_of k d.at item d.declaration) k item ds)
       (k.before.exports + length (collected (λ k item d. flat_map export_at (occurrences_in k d.declaration)) k item ds))
 
-pub exported-rest : (k : Known) (item : ℕ) (ds : List Placed) → first_fault_from k ds ≡ None → Exported k item ds
+pub exported-rest : (k : Known) (item : ℕ) (ds : List Declared) → first_fault_from k ds ≡ None → Exported k item ds
 exported-rest k item [] right = record { globals_are = tt; predicates_are = tt; formulas_are = sym (add-zero k.before.exports) }
 exported-rest k item (d ∷ ds) right =
     let next = after_declaration k d.declaration in

@@ -1,5 +1,5 @@
 -- Scopes whose numbers are those of variables that are seen and of predicates below a bound.
-use Rattle.std.proofs.Common.{ℕ, ◌+◌, ◌<◌, ◌≤◌, inl, inr, Bool, true, false, if◌then◌else◌, List, [], ◌∷◌, ◌++◌, Option, Some, None, refl, subst, arith}
+use Rattle.std.proofs.Common.{ℕ, ◌+◌, ◌<◌, ◌≤◌, inl, inr, Bool, true, false, if◌then◌else◌, List, [], ◌∷◌, ◌++◌, Option, Some, None, refl, subst, arith, ◌≡◌}
 use Rattle.std.specs.Prelude.{bytes_eq}
 use Rattle.std.specs.Option.{option_map}
 use Rattle.ms_logic.specs.declared.mode.Order.{Order}
@@ -9,8 +9,8 @@ use Rattle.ms_names_rules.specs.declared.meaning.Meaning.{Meaning}
 use Rattle.ms_names_rules.specs.declared.meaning.Meaning.TheVariants as meaning
 use Rattle.ms_names_rules.specs.Numbers.{Tables, HasParameters, IsDefault, IsNew, Sees, seeing}
 use Rattle.ms_logic.specs.Lists.{Each, IsAmong}
-use Rattle.ms_names_rules.specs.Scope.{Scope, bind, count_of_bounds, count_of_parts, meaning_among, under_bounds, under_parts, without_exports}
-use Rattle.ms_names_rules.specs.Syntax.{Bytes, Bounds, no_bounds, more_bounds, Parts, no_parts, more_parts}
+use Rattle.ms_names_rules.specs.Scope.{Scope, bind, count_of_bounds, count_of_parts, meaning_among, under_bounds, under_parts, without_exports, Bytes}
+use Rattle.ms_parse_grammar.specs.Tree.{Variables, no_variables, and_variable, Parts, no_parts, and_part}
 
 -- lists
 
@@ -48,6 +48,10 @@ pub if-one : {A B : Type 0} (P : A → Type 0) (Q : B → Type 0) (make : A → 
 if-one P Q make None made h = tt
 if-one P Q make (Some a) made h = made a h
 
+pub if-test : {A : Type 0} (P : A → Type 0) (b : Bool) (a : Option A) → (b ≡ true → If P a) → If P (if b then a else None)
+if-test P true a h = h refl
+if-test P false a h = tt
+
 -- variables that are seen
 
 pub new-more : (seen : List Variable) (x y : ℕ) (o : Order) → IsNew seen y → x < y → IsNew (seeing x o seen) y
@@ -62,21 +66,22 @@ new-above seen x y new le =
 pub new-next : (seen : List Variable) (x : ℕ) (o : Order) → IsNew seen x → IsNew (seeing x o seen) (x + 1)
 new-next seen x o new = (omega arith, new-above seen x (x + 1) new (omega arith))
 
-abbrev pub seeing_bounds : ℕ → Bounds → List Variable → List Variable
-seeing_bounds x no_bounds seen = seen
-seeing_bounds x (more_bounds at o n d vs) seen = seeing_bounds (x + 1) vs (seeing x o seen)
+-- with the variables of a list
+abbrev pub seeing_bounds : ℕ → Variables → List Variable → List Variable
+seeing_bounds x no_variables seen = seen
+seeing_bounds x (and_variable vs at o n d) seen = seeing (x + count_of_bounds vs) o (seeing_bounds x vs seen)
 
 abbrev pub seeing_parts : ℕ → Order → Parts → List Variable → List Variable
 seeing_parts x o no_parts seen = seen
-seeing_parts x o (more_parts at n e ps) seen = seeing_parts (x + 1) o ps (seeing x o seen)
+seeing_parts x o (and_part ps at n e) seen = seeing (x + count_of_parts ps) o (seeing_parts x o ps seen)
 
-pub new-bounds : (x y : ℕ) (vs : Bounds) (seen : List Variable) → IsNew seen x → x + count_of_bounds vs ≤ y → IsNew (seeing_bounds x vs seen) y
-new-bounds x y no_bounds seen new le = new-above seen x y new (omega arith)
-new-bounds x y (more_bounds at o n d vs) seen new le = new-bounds (x + 1) y vs (seeing x o seen) (new-next seen x o new) (omega arith)
+pub new-bounds : (x y : ℕ) (vs : Variables) (seen : List Variable) → IsNew seen x → x + count_of_bounds vs ≤ y → IsNew (seeing_bounds x vs seen) y
+new-bounds x y no_variables seen new le = new-above seen x y new (omega arith)
+new-bounds x y (and_variable vs at o n d) seen new le = (omega (arith, le), new-bounds x y vs seen new (omega (arith, le)))
 
 pub new-parts : (x y : ℕ) (o : Order) (ps : Parts) (seen : List Variable) → IsNew seen x → x + count_of_parts ps ≤ y → IsNew (seeing_parts x o ps seen) y
 new-parts x y o no_parts seen new le = new-above seen x y new (omega arith)
-new-parts x y o (more_parts at n e ps) seen new le = new-parts (x + 1) y o ps (seeing x o seen) (new-next seen x o new) (omega arith)
+new-parts x y o (and_part ps at n e) seen new le = (omega (arith, le), new-parts x y o ps seen new (omega (arith, le)))
 
 -- scopes
 
@@ -145,19 +150,21 @@ fits-bind tables bound seen s x o n new fits = record {
 pub fits-without : (tables : Tables) (bound : ℕ) (seen : List Variable) (s : Scope) → Fits tables bound seen s → Fits tables bound seen (without_exports s)
 fits-without tables bound seen s fits = record { names = fits.names; numbers = fits.numbers; sets = fits.sets; falls = fits.falls }
 
-pub fits-bounds : (tables : Tables) (bound : ℕ) (seen : List Variable) (s : Scope) (x : ℕ) (vs : Bounds) → IsNew seen x →
+pub fits-bounds : (tables : Tables) (bound : ℕ) (seen : List Variable) (s : Scope) (x : ℕ) (vs : Variables) → IsNew seen x →
     Fits tables bound seen s → Fits tables bound (seeing_bounds x vs seen) (under_bounds s x vs)
-fits-bounds tables bound seen s x no_bounds new fits = fits
-fits-bounds tables bound seen s x (more_bounds at o n d vs) new fits =
-    fits-bounds tables bound (seeing x o seen) (bind n (meaning.Variable x o) s) (x + 1) vs (new-next seen x o new)
-    (fits-bind tables bound seen s x o n new fits)
+fits-bounds tables bound seen s x no_variables new fits = fits
+fits-bounds tables bound seen s x (and_variable vs at o n d) new fits =
+    let y = x + count_of_bounds vs in
+    fits-bind tables bound (seeing_bounds x vs seen) (under_bounds s x vs) y o n (new-bounds x y vs seen new (omega arith))
+    (fits-bounds tables bound seen s x vs new fits)
 
 pub fits-parts : (tables : Tables) (bound : ℕ) (seen : List Variable) (s : Scope) (x : ℕ) (o : Order) (ps : Parts) → IsNew seen x →
     Fits tables bound seen s → Fits tables bound (seeing_parts x o ps seen) (under_parts s x o ps)
 fits-parts tables bound seen s x o no_parts new fits = fits
-fits-parts tables bound seen s x o (more_parts at n e ps) new fits =
-    fits-parts tables bound (seeing x o seen) (bind n (meaning.Variable x o) s) (x + 1) o ps (new-next seen x o new)
-    (fits-bind tables bound seen s x o n new fits)
+fits-parts tables bound seen s x o (and_part ps at n e) new fits =
+    let y = x + count_of_parts ps in
+    fits-bind tables bound (seeing_parts x o ps seen) (under_parts s x o ps) y o n (new-parts x y o ps seen new (omega arith))
+    (fits-parts tables bound seen s x o ps new fits)
 
 meaning-chosen : (tables : Tables) (bound : ℕ) (seen : List Variable) (here : Bool) (m : Meaning) (outer : Option Meaning) →
     MeaningFits tables bound seen m → If (MeaningFits tables bound seen) outer → If (MeaningFits tables bound seen) (if here then Some m else outer)

@@ -8,8 +8,7 @@ use Rattle.ms_names_rules.specs.declared.meaning.Reading.{Reading}
 use Rattle.ms_names_rules.specs.declared.meaning.Reading.TheVariants.{Variable, Predicate}
 use Rattle.ms_names_rules.specs.inner.Free.{Readings}
 use Rattle.ms_names_rules.specs.Reads.{reads_predicate, reads_variable}
-use Rattle.ms_names_rules.specs.Scope.{variables_among}
-use Rattle.ms_names_rules.specs.Syntax.{Bytes}
+use Rattle.ms_names_rules.specs.Scope.{variables_among, Bytes}
 
 pub flip : (a b : ℕ) (c : Bool) → (if a == b then true else c) ≡ (if b == a then true else c)
 flip a b c = grind (arith, nat_tests)

@@ -1,3 +1,4 @@
+pub mod Behind
 pub mod Declaring
 pub mod ExportNumbers
 pub mod ExportedSource

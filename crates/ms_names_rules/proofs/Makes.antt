@@ -5,14 +5,15 @@ use Rattle.std.specs.Option.{IsSome}
 use Rattle.ms_logic.specs.declared.mode.Order.{Order}
 use Rattle.ms_names_rules.specs.declared.fault.Fault.{Fault}
 use Rattle.ms_names_rules.specs.declared.meaning.Meaning.TheVariants.{Variable}
-use Rattle.ms_names_rules.specs.Syntax.{Bytes, Expression, Bounds, no_bounds, more_bounds, Domain, unrestricted, restricted, Declaration}
-use Rattle.ms_names_rules.specs.Before.{Before, with_names, after_bounds, after_domain}
+use Rattle.ms_names_rules.specs.Scope.{Bytes, Scope, bind, count_of_bounds, under_bounds, without_exports}
+use Rattle.ms_parse_grammar.specs.Tree.{Expression, Variables, no_variables, and_variable, Domain, unrestricted, restricted, Declaration}
+use Rattle.ms_names_rules.specs.Before.{Before, with_names, after_bounds}
 use Rattle.ms_names_rules.specs.inner.Binder.{restricted_variables, restriction_in, predicate_with}
 use Rattle.ms_names_rules.specs.Declarations.{Known, exports_in, faults_in, faults_of_declaration, faults_of_title, occurrences_in, occurrences_in_default, occurrences_in_predicate, title_in}
 use Rattle.ms_names_rules.specs.Fault.{comes_before, first_fault, first_with}
-use Rattle.ms_names_rules.specs.Occurrence.{occurrences, inside_bounds, inside_domain, formula_wanted}
+use Rattle.ms_names_rules.specs.Order.{formula_wanted}
+use Rattle.ms_names_rules.specs.Occurrence.{occurrences, inside_bounds, inside_domain}
 use Rattle.ms_names_rules.specs.Rules.{faults_at, faults_of_exports}
-use Rattle.ms_names_rules.specs.Scope.{Scope, bind, count_of_bounds, under_bounds, without_exports}
 use Rattle.ms_names_rules.specs.Typed.{formula_in, typed}
 use Rattle.ms_names_rules.specs.TypedSource.{parameters_of_bounds, typed_default, typed_predicate}
 use Rattle.ms_names_rules.proofs.Declaring.{restricted-same}
@@ -39,17 +40,19 @@ restriction-all true s b o x d h = domain-all s b o x d h
 restriction-all false s b o x unrestricted h = refl
 restriction-all false s b o x (restricted e) h = domain-all s b o x (restricted e) h
 
-pub restricted-all : (takes_defaults : Bool) (s : Scope) (x : ℕ) (b : Before) (vs : Bounds) → AreRight (inside_bounds s x b vs) →
+pub restricted-all : (takes_defaults : Bool) (s : Scope) (x : ℕ) (b : Before) (vs : Variables) → AreRight (inside_bounds s x b vs) →
     IsSome (restricted_variables takes_defaults s x b vs)
-restricted-all takes_defaults s x b no_bounds h = refl
-restricted-all takes_defaults s x b (more_bounds at o n d vs) h =
-    let inner = bind n (Variable x o) s in
-    let here = inside_domain (without_exports inner) b d in
-    let rest = inside_bounds inner (x + 1) (after_domain b d) vs in
-    some-both _ (restriction_in takes_defaults inner b o x d) (restricted_variables takes_defaults inner (x + 1) (after_domain b d) vs)
-    (restriction-all takes_defaults inner b o x d (right-front here rest h)) (restricted-all takes_defaults inner (x + 1) (after_domain b d) vs (right-back here rest h))
+restricted-all takes_defaults s x b no_variables h = refl
+restricted-all takes_defaults s x b (and_variable vs at o n d) h =
+    let y = x + count_of_bounds vs in
+    let end = after_bounds b vs in
+    let inner = under_bounds s x (and_variable vs at o n d) in
+    let before = inside_bounds s x b vs in
+    let here = inside_domain (without_exports inner) end d in
+    some-both _ (restricted_variables takes_defaults s x b vs) (restriction_in takes_defaults inner end o y d)
+    (restricted-all takes_defaults s x b vs (right-front before here h)) (restriction-all takes_defaults inner end o y d (right-back before here h))
 
-pub predicate-all : (s : Scope) (b : Before) (vs : Bounds) (e : Expression) → AreRight (occurrences_in_predicate s b vs e) → IsSome (typed_predicate s b vs e)
+pub predicate-all : (s : Scope) (b : Before) (vs : Variables) (e : Expression) → AreRight (occurrences_in_predicate s b vs e) → IsSome (typed_predicate s b vs e)
 predicate-all s b vs e h =
     let here = with_names b (count_of_bounds vs) in
     let outer = without_exports s in

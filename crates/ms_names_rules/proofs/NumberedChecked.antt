@@ -14,9 +14,9 @@ use Rattle.ms_logic.specs.View.{formula_of, globals_from, predicate_of, restrict
 use Rattle.ms_names_rules.specs.Declarations.{Known, after_declaration, at_the_beginning, count_of_globals, first_fault_of, globals_in}
 use Rattle.ms_names_rules.specs.Numbers.{CountUp, exports_in, exports_in_predicate, exports_in_restriction, Tables, IsNew, Sees, IsNumbered, IsNumberedRestriction, AreNumberedPredicates, IsWellNumbered, globals_seen, tables_of}
 use Rattle.ms_logic.specs.Lists.{Each}
-use Rattle.ms_names_rules.specs.Syntax.{Placed}
+use Rattle.ms_parse_grammar.specs.Tree.{Declared}
 use Rattle.ms_names_rules.specs.TypedSource.{IsTyped, exports_of_source, TypedFormula, TypedGlobal, collected, global_of, globals_of, placed_formula_of}
-use Rattle.ms_names_rules.specs.View.{placed_of}
+use Rattle.ms_parse_grammar.specs.View.{declared_of}
 use Rattle.ms_names_rules.proofs.ExportNumbers.{count-append}
 use Rattle.ms_names_rules.proofs.ExportedSource.{FormulasCount, exported-rest}
 use Rattle.ms_names_rules.proofs.Fitting.{If}
@@ -69,7 +69,7 @@ restrictions-kept : (P : Restriction → Type 0) (n : ℕ) (gs : List Global) �
 restrictions-kept P n [] h = tt
 restrictions-kept P n (g ∷ gs) h = (h.0, restrictions-kept P (n + 1) gs h.1)
 
-collected-long : (k : Known) (item : ℕ) (ds : List Placed) → length (collected (λ k item d. globals_of k d.at item d.declaration) k item ds) ≡ count_of_globals ds
+collected-long : (k : Known) (item : ℕ) (ds : List Declared) → length (collected (λ k item d. globals_of k d.at item d.declaration) k item ds) ≡ count_of_globals ds
 collected-long k item [] = refl
 collected-long k item (d ∷ ds) =
     let here = globals-long k d.at item d.declaration in
@@ -92,9 +92,9 @@ none-kept (p ∷ ps) h = (h.0, none-kept ps h.1)
 -- the source
 
 pub well-numbered : (loaded : Loaded) (checked : Checked) → IsTyped loaded checked →
-    first_fault_of loaded.mode (map placed_of loaded.items) ≡ None → IsWellNumbered checked
+    first_fault_of loaded.mode (map declared_of loaded.items) ≡ None → IsWellNumbered checked
 well-numbered loaded checked typed right =
-    let ds = map placed_of loaded.items in
+    let ds = map declared_of loaded.items in
     let k = at_the_beginning loaded.mode ds in
     let tables = tables_of checked in
     let seen = globals_seen checked in

@@ -1,5 +1,5 @@
 -- The typed tree of an expression is well numbered, where its scope is and its imports and exports stand in the tables.
-use Rattle.std.proofs.Common.{◌≡◌, ℕ, ◌+◌, ◌<◌, Bool, true, false, if◌then◌else◌, List, [], ◌∷◌, ◌++◌, length, map, Option, Some, None, refl, sym, subst, ap, ◌∙◌, arith}
+use Rattle.std.proofs.Common.{◌≡◌, ℕ, ◌+◌, ◌<◌, Bool, true, false, if◌then◌else◌, List, [], ◌∷◌, ◌++◌, length, map, Option, Some, None, refl, sym, subst, ap, ◌∙◌, arith, take, ◌==◌}
 use Rattle.std.specs.Prelude.{filter, slice_get}
 use Rattle.std.specs.Option.{option_and_then}
 use Rattle.ms_logic.specs.declared.checked.ExportUse.{ExportUse}
@@ -12,21 +12,30 @@ use Rattle.ms_logic.specs.declared.source.Rename.{Rename}
 use Rattle.ms_logic.specs.Assignment.{Variable}
 use Rattle.ms_logic.specs.FiniteSet.{IsRising}
 use Rattle.ms_logic.specs.Tree as tree
-use Rattle.ms_logic.specs.Tree.{Term, SetTerm, Terms, Form, Forms, Restriction, Argument, truth_argument, number_argument, set_argument, Arguments}
+use Rattle.ms_logic.specs.Tree.{Term, SetTerm, Form, Forms, Argument, truth_argument, number_argument, set_argument, Arguments}
 use Rattle.ms_names_rules.specs.declared.meaning.Meaning.{Meaning}
 use Rattle.ms_names_rules.specs.declared.meaning.Meaning.TheVariants as meaning
-use Rattle.ms_names_rules.specs.Syntax.{Bytes, Expression}
-use Rattle.ms_names_rules.specs.Syntax.{Parts, no_parts}
+use Rattle.ms_names_rules.specs.Scope.{Bytes, Named, Scope, default_of, meaning_of, variables_among, count_of_parts}
+use Rattle.ms_parse_grammar.specs.Tree.{Expression, Parts, no_parts, and_part}
 use Rattle.ms_names_rules.specs.Before.{Before}
-use Rattle.ms_names_rules.specs.Numbers.{Tables, IsNew, Sees, seeing, TermSees, SetSees, order_of_argument, orders_of_arguments, HasParameters, IsDefault, ExportSees, AreNew, seeing_all, IsNumbered, IsNumberedRestriction, IsNumberedArgument, AreNumberedArguments}
+use Rattle.ms_names_rules.specs.Numbers.{Tables, IsNew, Sees, seeing, TermSees, SetSees, order_of_argument, orders_of_arguments, HasParameters, IsDefault, ExportSees, AreNew, seeing_all, IsNumbered, IsNumberedRestriction, IsNumberedArgument, AreNumberedArguments, AreNumbered}
 use Rattle.ms_logic.specs.Lists.{Each}
 use Rattle.ms_names_rules.specs.Occurrence.{Occurrence}
 use Rattle.ms_names_rules.specs.Order.{parameters_of}
 use Rattle.ms_names_rules.specs.Reads.{free_variables}
-use Rattle.ms_names_rules.specs.Scope.{Named, Scope, default_of, meaning_of, variables_among}
-use Rattle.ms_names_rules.specs.Typed.{both, default_restriction, formula_in, number_in, set_in, numbers_of_parts, of_order, related_member, related_numbers, related_sets, typed_call, typed_name, typed_relation, typed_shift, variable_argument}
+use Rattle.ms_names_rules.specs.Typed.{both, default_restriction, formula_in, number_in, set_in, numbers_of_parts, of_order, related_member, related_numbers, related_sets, typed_call, typed_name, typed_relation, typed_shift, variable_argument, argument_behind, argument_for, as_many, formula_of_two, joined_formula, set_of_two, typed_binary, typed_prefix}
 use Rattle.ms_names_rules.specs.Uses.{export_at, import_at, pair_of, pairs_of}
-use Rattle.ms_names_rules.proofs.Fitting.{EntryFits, Falls, Fits, If, IsBelow, MeaningFits, each-append, if-one, meaning-fits, new-next, seeing_parts}
+use Rattle.ms_names_rules.proofs.Fitting.{EntryFits, Falls, Fits, If, IsBelow, MeaningFits, each-append, if-one, meaning-fits, seeing_parts, if-test, if-weaker, new-parts}
+use Rattle.ms_names_rules.proofs.Behind.{arguments-numbered-behind, new-behind, orders-behind, seeing-behind, taken-orders}
+use Rattle.ms_parse_grammar.specs.declared.operator.Junction.{Junction}
+use Rattle.ms_parse_grammar.specs.declared.operator.Binary.TheVariants.{Difference, Equivalence, Implication, Intersection, Relation, Union}
+use Rattle.ms_parse_grammar.specs.declared.operator.Prefix.TheVariants.{Maximum, Minimum, Negation}
+use Rattle.ms_list.specs.declared.at.At.{At}
+use Rattle.ms_parse_grammar.specs.declared.operator.Junction.TheVariants.{Conjunction, Disjunction}
+use Rattle.ms_parse_grammar.specs.declared.operator.Binary.{Binary}
+use Rattle.ms_parse_grammar.specs.declared.operator.Prefix.{Prefix}
+use Rattle.std.proofs.lemmas.List.{take_all}
+use Rattle.std.proofs.lemmas.Bool.Decides.{nat_tests}
 
 -- a list stands in another from a place on
 abbrev pub Stand : {A : Type 0} → List A → ℕ → List A → Type 0
@@ -109,16 +118,45 @@ name-numbered tables bound seen (Some (meaning.Predicate p (o ∷ parameters))) 
 abbrev pub AreFor : Tables → ℕ → List Variable → List Order → Arguments → Type 0
 AreFor tables bound seen parameters given = AreNumberedArguments tables bound seen given × (orders_of_arguments given ≡ parameters)
 
-pub call-numbered : (tables : Tables) (bound : ℕ) (seen : List Variable) (m : Option Meaning) (given : List Order → Option Arguments) →
-    If (MeaningFits tables bound seen) m → If (AreFor tables bound seen (parameters_of m)) (given (parameters_of m)) →
-    If (IsNumberedArgument tables bound seen) (typed_call m given)
-call-numbered tables bound seen None given h all = tt
-call-numbered tables bound seen (Some (meaning.Variable x o)) given h all = tt
-call-numbered tables bound seen (Some (meaning.Constant value)) given h all = tt
-call-numbered tables bound seen (Some (meaning.Predicate p parameters)) given h all =
+-- an argument has the order of its parameter
+abbrev pub IsFor : Tables → ℕ → List Variable → Option Order → Argument → Type 0
+IsFor tables bound seen o a = IsNumberedArgument tables bound seen a × (Some (order_of_argument a) ≡ o)
+
+pub argument-numbered : (tables : Tables) (bound : ℕ) (seen : List Variable) (o : Option Order) (a : Option Argument) →
+    If (IsNumberedArgument tables bound seen) a → If (IsFor tables bound seen o) (argument_for o a)
+argument-numbered tables bound seen None a h = tt
+argument-numbered tables bound seen (Some o) a h =
+    if-weaker (IsOf tables bound seen o) (IsFor tables bound seen (Some o)) (option_and_then (of_order o) a) (λ b k. (k.0, ap Some k.1)) (order-numbered tables bound seen o a h)
+
+-- arguments with one more, which have the orders of the first parameters
+pub more-arguments : (tables : Tables) (bound : ℕ) (seen : List Variable) (parameters : List Order) (n : ℕ) (given : Arguments) (a : Argument) →
+    AreFor tables bound seen (take n parameters) given → IsFor tables bound seen (slice_get parameters n) a →
+    AreFor tables bound seen (take (n + 1) parameters) (argument_behind given a)
+more-arguments tables bound seen parameters n given a h k = (
+  arguments-numbered-behind tables bound seen given a h.0 k.0,
+  orders-behind given a ∙ (ap (λ os. os ++ order_of_argument a ∷ []) h.1 ∙ taken-orders parameters n (order_of_argument a) k.1),
+)
+
+-- what holds of arguments by the first parameters, as many as there are arguments, holds by all where they are as many
+pub all-taken : (P : List Order → Arguments → Type 0) (parameters : List Order) (n : ℕ) (given : Option Arguments) → If (P (take n parameters)) given →
+    If (P parameters) (as_many n parameters given)
+all-taken P parameters n given h =
+    if-test (P parameters) (n == length parameters) given
+    (λ test.
+    let counted : n ≡ length parameters = grind (arith, nat_tests) in
+    subst (λ ps. If (P ps) given) (take_all n parameters (omega (arith, counted))) h)
+
+pub call-numbered : (tables : Tables) (bound : ℕ) (seen : List Variable) (m : Option Meaning) (n : ℕ) (given : Option Arguments) →
+    If (MeaningFits tables bound seen) m → If (AreFor tables bound seen (take n (parameters_of m))) given →
+    If (IsNumberedArgument tables bound seen) (typed_call m (as_many n (parameters_of m) given))
+call-numbered tables bound seen None n given h all = tt
+call-numbered tables bound seen (Some (meaning.Variable x o)) n given h all = tt
+call-numbered tables bound seen (Some (meaning.Constant value)) n given h all = tt
+call-numbered tables bound seen (Some (meaning.Predicate p parameters)) n given h all =
     let P : List Order → Type 0 = λ orders. HasParameters tables bound p orders in
-    if-one (AreFor tables bound seen parameters) (IsNumberedArgument tables bound seen) (λ arguments. truth_argument (tree.call p arguments)) (given parameters)
-    (λ arguments fit. (subst P (sym fit.1) h, fit.0)) all
+    if-one (AreFor tables bound seen parameters) (IsNumberedArgument tables bound seen) (λ arguments. truth_argument (tree.call p arguments)) (as_many n parameters given)
+    (λ arguments fit. (subst P (sym fit.1) h, fit.0))
+    (all-taken (AreFor tables bound seen) parameters n given all)
 
 numbers-numbered : (tables : Tables) (bound : ℕ) (seen : List Variable) (r : Rel) (t u : Term) → TermSees seen t → TermSees seen u →
     If (IsNumberedArgument tables bound seen) (related_numbers r t u)
@@ -178,6 +216,45 @@ shift-numbered tables bound seen true (Some n) (Some (number_argument t)) h = h
 shift-numbered tables bound seen false (Some n) (Some (number_argument t)) h = h
 shift-numbered tables bound seen true (Some n) (Some (set_argument s)) h = h
 shift-numbered tables bound seen false (Some n) (Some (set_argument s)) h = h
+
+-- operators
+
+pub prefix-numbered : (tables : Tables) (bound : ℕ) (seen : List Variable) (op : Prefix) (a : Option Argument) →
+    If (IsNumberedArgument tables bound seen) a → If (IsNumberedArgument tables bound seen) (typed_prefix op a)
+prefix-numbered tables bound seen Negation a h =
+    if-one (IsNumbered tables bound seen) (IsNumberedArgument tables bound seen) (λ f. truth_argument (tree.negation f)) (formula_in a) (λ f k. k) (formula-numbered tables bound seen a h)
+prefix-numbered tables bound seen Minimum a h =
+    if-one (SetSees seen) (IsNumberedArgument tables bound seen) (λ t. number_argument (tree.minimum t)) (set_in a) (λ t k. k) (set-sees tables bound seen a h)
+prefix-numbered tables bound seen Maximum a h =
+    if-one (SetSees seen) (IsNumberedArgument tables bound seen) (λ t. number_argument (tree.maximum t)) (set_in a) (λ t k. k) (set-sees tables bound seen a h)
+
+formulas-numbered : (tables : Tables) (bound : ℕ) (seen : List Variable) (make : Form → Form → Form) (a c : Option Argument) →
+    ((f g : Form) → IsNumbered tables bound seen f → IsNumbered tables bound seen g → IsNumbered tables bound seen (make f g)) →
+    If (IsNumberedArgument tables bound seen) a → If (IsNumberedArgument tables bound seen) c → If (IsNumberedArgument tables bound seen) (formula_of_two make a c)
+formulas-numbered tables bound seen make a c made h k =
+    if-two (IsNumbered tables bound seen) (IsNumbered tables bound seen) (IsNumberedArgument tables bound seen) (λ f g. truth_argument (make f g)) (formula_in a) (formula_in c) made
+    (formula-numbered tables bound seen a h) (formula-numbered tables bound seen c k)
+
+sets-see : (tables : Tables) (bound : ℕ) (seen : List Variable) (make : SetTerm → SetTerm → SetTerm) (a c : Option Argument) →
+    ((t u : SetTerm) → SetSees seen t → SetSees seen u → SetSees seen (make t u)) →
+    If (IsNumberedArgument tables bound seen) a → If (IsNumberedArgument tables bound seen) c → If (IsNumberedArgument tables bound seen) (set_of_two make a c)
+sets-see tables bound seen make a c made h k =
+    if-two (SetSees seen) (SetSees seen) (IsNumberedArgument tables bound seen) (λ t u. set_argument (make t u)) (set_in a) (set_in c) made
+    (set-sees tables bound seen a h) (set-sees tables bound seen c k)
+
+pub binary-numbered : (tables : Tables) (bound : ℕ) (seen : List Variable) (op : Binary) (a c : Option Argument) →
+    If (IsNumberedArgument tables bound seen) a → If (IsNumberedArgument tables bound seen) c → If (IsNumberedArgument tables bound seen) (typed_binary op a c)
+binary-numbered tables bound seen Implication a c h k = formulas-numbered tables bound seen (λ f g. tree.implication f g) a c (λ f g i j. (i, j)) h k
+binary-numbered tables bound seen Equivalence a c h k = formulas-numbered tables bound seen (λ f g. tree.equivalence f g) a c (λ f g i j. (i, j)) h k
+binary-numbered tables bound seen (Relation r) a c h k = relation-numbered tables bound seen r a c h k
+binary-numbered tables bound seen Union a c h k = sets-see tables bound seen (λ t u. tree.union t u) a c (λ t u i j. (i, j)) h k
+binary-numbered tables bound seen Intersection a c h k = sets-see tables bound seen (λ t u. tree.intersection t u) a c (λ t u i j. (i, j)) h k
+binary-numbered tables bound seen Difference a c h k = sets-see tables bound seen (λ t u. tree.difference t u) a c (λ t u i j. (i, j)) h k
+
+pub joined-numbered : (tables : Tables) (bound : ℕ) (seen : List Variable) (op : Junction) (fs : Forms) → AreNumbered tables bound seen fs →
+    IsNumbered tables bound seen (joined_formula op fs)
+joined-numbered tables bound seen Conjunction fs h = h
+joined-numbered tables bound seen Disjunction fs h = h
 
 pair-sees : (tables : Tables) (bound : ℕ) (seen : List Variable) (n : Bytes) (m : Option Meaning) → If (MeaningFits tables bound seen) m →
     Each (λ (pair : MapPair). Sees seen pair.variable pair.order) (pair_of n m)
@@ -288,9 +365,13 @@ AreSides o ps sides = (x : ℕ) (inner : List Variable) → IsNew inner x →
 pub no-sides : (o : Order) → AreSides o no_parts tree.no_arguments
 no-sides o = λ x inner new. (tt, refl)
 
-pub more-sides : (o : Order) (ps : Parts) (a : Argument) (sides : Arguments) (rest : AreSides o ps sides) → order_of_argument a ≡ o → (x : ℕ) (inner : List Variable) → IsNew inner x →
-    (IsNew inner x × AreNew (seeing x (order_of_argument a) inner) (numbers_of_parts (x + 1) ps) sides)
-    × (seeing_all (numbers_of_parts (x + 1) ps) sides (seeing x (order_of_argument a) inner) ≡ seeing_parts (x + 1) o ps (seeing x o inner))
-more-sides o ps a sides rest is x inner new =
-    let there = rest (x + 1) (seeing x (order_of_argument a) inner) (new-next inner x (order_of_argument a) new) in
-    ((new, there.0), there.1 ∙ ap (λ p. seeing_parts (x + 1) o ps (seeing x p inner)) is)
+pub more-sides : (o : Order) (ps : Parts) (at : At) (n : Bytes) (e : Expression) (a : Argument) (sides : Arguments) (rest : AreSides o ps sides) → order_of_argument a ≡ o →
+    AreSides o (and_part ps at n e) (argument_behind sides a)
+more-sides o ps at n e a sides rest is = λ x inner new.
+    let y = x + count_of_parts ps in
+    let xs = numbers_of_parts x ps in
+    let before = rest x inner new in
+    let wide : IsNew (seeing_all xs sides inner) y = subst (λ seen. IsNew seen y) (sym before.1) (new-parts x y o ps inner new (omega arith)) in (
+      new-behind inner xs sides y a before.0 wide,
+      seeing-behind inner xs sides y a before.0 ∙ (ap (λ p. seeing y p (seeing_all xs sides inner)) is ∙ ap (seeing y o) before.1),
+    )

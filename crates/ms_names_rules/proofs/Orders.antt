@@ -1,5 +1,5 @@
 -- Where nothing is wrong with an expression, it becomes a typed tree of its order.
-use Rattle.std.proofs.Common.{◌≡◌, ℕ, ◌+◌, ◌==◌, Bool, true, false, if◌then◌else◌, nat_lt, List, [], ◌∷◌, ◌++◌, length, Option, Some, None, refl, sym, subst, ◌∙◌, arith}
+use Rattle.std.proofs.Common.{◌≡◌, ℕ, ◌+◌, ◌==◌, Bool, true, false, if◌then◌else◌, nat_lt, List, [], ◌∷◌, ◌++◌, length, Option, Some, None, refl, sym, subst, ◌∙◌, arith, ap, is_some, slice_get, ◌<◌, ◌≤◌}
 use Rattle.std.specs.Prelude.{flat_map}
 use Rattle.std.specs.Option.{IsSome, option_map, option_and_then}
 use Rattle.std.proofs.lemmas.Bool.Decides.{nat_tests}
@@ -18,17 +18,25 @@ use Rattle.ms_names_rules.specs.declared.fault.Fault.{Fault}
 use Rattle.ms_names_rules.specs.declared.meaning.Meaning.{Meaning}
 use Rattle.ms_names_rules.specs.declared.meaning.Meaning.TheVariants as meaning
 use Rattle.ms_names_rules.specs.declared.wanted.Wanted.{Wanted}
-use Rattle.ms_names_rules.specs.declared.wanted.Wanted.TheVariants.{Exactly, NumberOrSet, Anything}
-use Rattle.ms_names_rules.specs.Syntax.{Bytes, Expression, truth, falsity, whole, empty_set, name, number, pconst, brackets, literal, call, negation, conjunction, disjunction, implication, equivalence, relation, emptiness, union, intersection, difference, shift, minimum, maximum, quantified, where_let, restrict, imported, exported}
-use Rattle.ms_names_rules.specs.Syntax.{Expressions, no_expressions, more_expressions, Bounds, no_bounds, more_bounds, Domain, unrestricted, restricted, Parts, no_parts, more_parts}
-use Rattle.ms_names_rules.specs.Before.{Before, with_names, with_export, after, after_bounds, after_domain, after_parts}
+use Rattle.ms_names_rules.specs.declared.wanted.Wanted.TheVariants.{Exactly, NumberOrSet}
+use Rattle.ms_parse_grammar.specs.Tree.{truth, falsity, whole, empty_set, named, numeral, pconst, imported, Expression, atom, prefixed, binary, joined, shifted, enclosed, listed, quantified, let_in, Expressions, no_expressions, and_expression, Variables, no_variables, and_variable, Domain, unrestricted, restricted, Parts, no_parts, and_part, Atom}
+use Rattle.ms_parse_grammar.specs.declared.operator.Prefix.TheVariants.{Negation, Minimum, Maximum}
+use Rattle.ms_parse_grammar.specs.declared.operator.Binary.TheVariants.{Implication, Equivalence, Relation, Union, Intersection, Difference}
+use Rattle.ms_parse_grammar.specs.declared.operator.Bracket.TheVariants as bracket
+use Rattle.ms_parse_grammar.specs.declared.operator.Bracket.TheVariants.{Parentheses, Emptiness, Export}
+use Rattle.ms_parse_grammar.specs.declared.operator.Listing.TheVariants.{Literal, Call}
+use Rattle.ms_names_rules.specs.Scope.{Bytes, Scope, count_of_bounds, count_of_parts, meaning_of, under_bounds, under_parts, without_exports, count}
+use Rattle.ms_names_rules.specs.Before.{Before, with_names, after, after_bounds, after_parts, after_all, opened}
 use Rattle.ms_names_rules.specs.Constant.{value_of, value_of_int, value_of_meaning}
-use Rattle.ms_names_rules.specs.Occurrence.{Occurrence, standing, occurrences, inside, inside_operands, inside_arguments, inside_bounds, inside_domain, inside_parts, formula_wanted, number_wanted, set_wanted}
-use Rattle.ms_names_rules.specs.Order.{order_of, order_of_name, order_of_call, parameters_of, wanted_on_the_left, wanted_on_the_right, fits}
-use Rattle.ms_names_rules.specs.Rules.{count, faults_at, faults_of_call, faults_of_constant, faults_of_form, faults_of_int, faults_of_name, faults_of_offset, faults_of_order, faults_of_placed, in_case}
-use Rattle.ms_names_rules.specs.Scope.{Scope, bind, count_of_bounds, count_of_parts, meaning_of, under_bounds, under_parts, without_exports}
-use Rattle.ms_names_rules.specs.Typed.{both, formula_in, number_in, set_in, of_order, related_member, related_numbers, related_sets, typed, typed_arguments, typed_call, typed_domain, typed_formulas, typed_name, typed_numbers, typed_parts, typed_quantifiers, typed_relation, typed_shift, variable_argument}
+use Rattle.ms_names_rules.specs.Order.{formula_wanted, number_wanted, set_wanted, order_of, order_of_name, order_of_call, parameters_of, wanted_on_the_left, wanted_on_the_right, fits, content_wanted, left_wanted, operand_wanted, order_of_atom, order_of_binary, order_of_bracket, order_of_prefix, right_wanted, wanted_by}
+use Rattle.ms_names_rules.specs.Occurrence.{Occurrence, standing, occurrences, inside, inside_operands, inside_arguments, inside_bounds, inside_domain, inside_parts}
+use Rattle.ms_names_rules.specs.Rules.{faults_at, faults_of_call, faults_of_constant, faults_of_form, faults_of_int, faults_of_name, faults_of_offset, faults_of_order, faults_of_placed, in_case}
+use Rattle.ms_names_rules.specs.Typed.{both, formula_in, number_in, set_in, of_order, related_member, related_numbers, related_sets, typed, typed_arguments, typed_call, typed_domain, typed_formulas, typed_name, typed_numbers, typed_parts, typed_quantifiers, typed_relation, typed_shift, variable_argument, argument_for, as_many, joined_formula, quantifier, typed_atom, typed_binary, typed_bracket, typed_prefix}
 use Rattle.ms_names_rules.proofs.Exports.{typed-same, under_parts-same}
+use Rattle.ms_parse_grammar.specs.declared.operator.Binary.{Binary}
+use Rattle.ms_parse_grammar.specs.declared.operator.Bracket.{Bracket}
+use Rattle.ms_parse_grammar.specs.declared.operator.Prefix.{Prefix}
+use Rattle.std.proofs.lemmas.Option.{slice_get-get_or}
 
 -- what an expression became has its order
 pub data HasOrder : Option Order → Option Argument → Type 0 where
@@ -182,15 +190,20 @@ int-some : (s : Scope) (at : At) (i : Int) → faults_of_int s at i ≡ [] → I
 int-some s at (Number n) h = refl
 int-some s at (Constant n) h = constant-some at n (meaning_of s n) h
 
-call-order : (at : At) (n : Bytes) (given : ℕ) (m : Option Meaning) (arguments : List Order → Option Arguments) → faults_of_call at n given m ≡ [] →
-    (given ≡ length (parameters_of m) → IsSome (arguments (parameters_of m))) → HasOrder (order_of_call m) (typed_call m arguments)
+-- as many arguments as parameters
+as_many-some : (given : ℕ) (parameters : List Order) (arguments : Option Arguments) → (given == length parameters) ≡ true → IsSome arguments →
+    IsSome (as_many given parameters arguments)
+as_many-some given parameters arguments test some = subst (λ b. IsSome (if b then arguments else None)) (sym test) some
+
+call-order : (at : At) (n : Bytes) (given : ℕ) (m : Option Meaning) (arguments : Option Arguments) → faults_of_call at n given m ≡ [] →
+    (given ≡ length (parameters_of m) → IsSome arguments) → HasOrder (order_of_call m) (typed_call m (as_many given (parameters_of m) arguments))
 call-order at n given None arguments h all = absurd (cc)
 call-order at n given (Some (meaning.Variable x o)) arguments h all = absurd (cc)
 call-order at n given (Some (meaning.Constant value)) arguments h all = absurd (cc)
 call-order at n given (Some (meaning.Predicate p parameters)) arguments h all =
     let test = kept-test (given == length parameters) _ h in
     let counted : given ≡ length parameters = grind (arith, nat_tests) in
-    formula-one (tree.call p) (arguments parameters) (all counted)
+    formula-one (tree.call p) (as_many given parameters arguments) (as_many-some given parameters arguments test (all counted))
 
 numbers-related : (r : Rel) (t u : Term) → fits (wanted_on_the_right r (Some One)) (Some One) ≡ true → HasOrder (Some Zero) (related_numbers r t u)
 numbers-related Equal t u w = is_truth (tree.comparison Equal t u)
@@ -283,60 +296,81 @@ shift-order false (Some n) some (is_number t) w = is_number (tree.plus t n)
 shift-order true (Some n) some (is_set t) w = is_set (tree.shift_down t n)
 shift-order false (Some n) some (is_set t) w = is_set (tree.shift_up t n)
 
+-- operators
+
+prefix-order : (op : Prefix) {o : Option Order} (a : Option Argument) → HasOrder o a → fits (operand_wanted op) o ≡ true →
+    HasOrder (Some (order_of_prefix op)) (typed_prefix op a)
+prefix-order Negation a k w = formula-one (λ f. tree.negation f) (formula_in a) (formula-some k w)
+prefix-order Minimum a k w = number-one (λ t. tree.minimum t) (set_in a) (set-some k w)
+prefix-order Maximum a k w = number-one (λ t. tree.maximum t) (set_in a) (set-some k w)
+
+binary-order : (op : Binary) {o p : Option Order} (a c : Option Argument) → HasOrder o a → HasOrder p c →
+    fits (left_wanted op) o ≡ true → fits (right_wanted op o) p ≡ true → HasOrder (Some (order_of_binary op)) (typed_binary op a c)
+binary-order Implication a c h k v w = formula-two (λ f g. tree.implication f g) (formula_in a) (formula_in c) (formula-some h v) (formula-some k w)
+binary-order Equivalence a c h k v w = formula-two (λ f g. tree.equivalence f g) (formula_in a) (formula_in c) (formula-some h v) (formula-some k w)
+binary-order (Relation r) a c h k v w = relation-order r h k v w
+binary-order Union a c h k v w = set-two (λ t u. tree.union t u) (set_in a) (set_in c) (set-some h v) (set-some k w)
+binary-order Intersection a c h k v w = set-two (λ t u. tree.intersection t u) (set_in a) (set_in c) (set-some h v) (set-some k w)
+binary-order Difference a c h k v w = set-two (λ t u. tree.difference t u) (set_in a) (set_in c) (set-some h v) (set-some k w)
+
+bracket-order : (b : Before) (k : Bracket) {o : Option Order} (a : Option Argument) → HasOrder o a → fits (content_wanted k) o ≡ true →
+    HasOrder (order_of_bracket k o) (typed_bracket b k a)
+bracket-order b Parentheses a h w = h
+bracket-order b Emptiness a h w = formula-one (λ t. tree.emptiness t) (set_in a) (set-some h w)
+bracket-order b bracket.Restriction a h w = formula-one (λ f. tree.restrict f) (formula_in a) (formula-some h w)
+bracket-order b (Export text_at file) a h w = formula-one (λ f. tree.exported b.exports f) (formula_in a) (formula-some h w)
+
+atom-order : (s : Scope) (b : Before) (at : At) (a : Atom) → faults_of_form s (atom at a) ≡ [] → HasOrder (order_of_atom s a) (typed_atom s b a)
+atom-order s b at truth own = is_truth tree.truth
+atom-order s b at falsity own = is_truth tree.falsity
+atom-order s b at whole own = is_set tree.whole
+atom-order s b at empty_set own = is_set tree.empty_set
+atom-order s b at (named n) own = name-order at n (meaning_of s n) own
+atom-order s b at (numeral n) own = is_number (tree.numeral n)
+atom-order s b at (pconst i) own = set-one (λ n. tree.pconst n) (value_of s i) (int-some s i.at i.value own)
+atom-order s b at (imported file rs) own = is_truth (tree.imported b.imports)
+
+-- an argument of a parameter
+
+parameter-some : (ps : List Order) (i : ℕ) → i < length ps → IsSome (slice_get ps i)
+parameter-some ps i below = ap is_some (slice_get-get_or ps i Zero below)
+
+argument-some : (s : Scope) (b : Before) (o : Option Order) (e : Expression) → IsOrdered (without_exports s) b e → IsSome o →
+    AreRight (occurrences (without_exports s) b (wanted_by o) e) → IsSome (argument_for o (typed s b e))
+argument-some s b None e ordered some h = absurd (cc)
+argument-some s b (Some o) e ordered some h =
+    let outer = without_exports s in
+    subst (λ a. IsSome (option_and_then (of_order o) a)) (typed-same outer s b e refl) (order-here outer b o e ordered h)
+
 -- expressions
 
 mutual
   pub ordered : (s : Scope) (b : Before) (e : Expression) → IsOrdered s b e
-  ordered s b (truth at) own h = is_truth tree.truth
-  ordered s b (falsity at) own h = is_truth tree.falsity
-  ordered s b (whole at) own h = is_set tree.whole
-  ordered s b (empty_set at) own h = is_set tree.empty_set
-  ordered s b (name at n) own h = name-order at n (meaning_of s n) own
-  ordered s b (number at n) own h = is_number (tree.numeral n)
-  ordered s b (pconst at i) own h = set-one (λ n. tree.pconst n) (value_of s i) (int-some s i.at i.value own)
-  ordered s b (brackets at e) own h = here-ordered s b Anything e (ordered s b e) h
-  ordered s b (literal at es) own h = set-one (λ ts. tree.literal ts) (typed_numbers s b es) (numbers-all s b es h)
-  ordered s b (call at n es) own h =
-      call-order at n (count es) (meaning_of s n) (λ parameters. typed_arguments s b parameters es) own
-      (λ counted. arguments-all s b (parameters_of (meaning_of s n)) es counted h)
-  ordered s b (negation at e) own h = formula-one (λ f. tree.negation f) (formula_in (typed s b e)) (formula-here s b e (ordered s b e) h)
-  ordered s b (conjunction at es) own h = formula-one (λ fs. tree.conjunction fs) (typed_formulas s b es) (formulas-all s b es h)
-  ordered s b (disjunction at es) own h = formula-one (λ fs. tree.disjunction fs) (typed_formulas s b es) (formulas-all s b es h)
-  ordered s b (implication at e f) own h =
-      formula-two (λ g k. tree.implication g k) (formula_in (typed s b e)) (formula_in (typed s (after b e) f))
-      (formula-here s b e (ordered s b e) (right-front (occurrences s b formula_wanted e) (occurrences s (after b e) formula_wanted f) h))
-      (formula-here s (after b e) f (ordered s (after b e) f) (right-back (occurrences s b formula_wanted e) (occurrences s (after b e) formula_wanted f) h))
-  ordered s b (equivalence at e f) own h =
-      formula-two (λ g k. tree.equivalence g k) (formula_in (typed s b e)) (formula_in (typed s (after b e) f))
-      (formula-here s b e (ordered s b e) (right-front (occurrences s b formula_wanted e) (occurrences s (after b e) formula_wanted f) h))
-      (formula-here s (after b e) f (ordered s (after b e) f) (right-back (occurrences s b formula_wanted e) (occurrences s (after b e) formula_wanted f) h))
-  ordered s b (relation at r e f) own h =
-      let left = occurrences s b (wanted_on_the_left r) e in
-      let right = occurrences s (after b e) (wanted_on_the_right r (order_of s e)) f in
-      relation-order r (here-ordered s b (wanted_on_the_left r) e (ordered s b e) (right-front left right h))
-      (here-ordered s (after b e) (wanted_on_the_right r (order_of s e)) f (ordered s (after b e) f) (right-back left right h))
-      (here-fits s b (wanted_on_the_left r) e (right-front left right h))
-      (here-fits s (after b e) (wanted_on_the_right r (order_of s e)) f (right-back left right h))
-  ordered s b (emptiness at e) own h = formula-one (λ t. tree.emptiness t) (set_in (typed s b e)) (set-here s b e (ordered s b e) h)
-  ordered s b (union at e f) own h =
-      set-two (λ t u. tree.union t u) (set_in (typed s b e)) (set_in (typed s (after b e) f))
-      (set-here s b e (ordered s b e) (right-front (occurrences s b set_wanted e) (occurrences s (after b e) set_wanted f) h))
-      (set-here s (after b e) f (ordered s (after b e) f) (right-back (occurrences s b set_wanted e) (occurrences s (after b e) set_wanted f) h))
-  ordered s b (intersection at e f) own h =
-      set-two (λ t u. tree.intersection t u) (set_in (typed s b e)) (set_in (typed s (after b e) f))
-      (set-here s b e (ordered s b e) (right-front (occurrences s b set_wanted e) (occurrences s (after b e) set_wanted f) h))
-      (set-here s (after b e) f (ordered s (after b e) f) (right-back (occurrences s b set_wanted e) (occurrences s (after b e) set_wanted f) h))
-  ordered s b (difference at e f) own h =
-      set-two (λ t u. tree.difference t u) (set_in (typed s b e)) (set_in (typed s (after b e) f))
-      (set-here s b e (ordered s b e) (right-front (occurrences s b set_wanted e) (occurrences s (after b e) set_wanted f) h))
-      (set-here s (after b e) f (ordered s (after b e) f) (right-back (occurrences s b set_wanted e) (occurrences s (after b e) set_wanted f) h))
-  ordered s b (shift at e i) own h =
+  ordered s b (atom at a) own h = atom-order s b at a own
+  ordered s b (prefixed at op e) own h =
+      prefix-order op (typed s b e) (here-ordered s b (operand_wanted op) e (ordered s b e) h) (here-fits s b (operand_wanted op) e h)
+  ordered s b (binary at op e f) own h =
+      let v = left_wanted op in
+      let w = right_wanted op (order_of s e) in
+      let left = occurrences s b v e in
+      let right = occurrences s (after b e) w f in
+      binary-order op (typed s b e) (typed s (after b e) f)
+      (here-ordered s b v e (ordered s b e) (right-front left right h)) (here-ordered s (after b e) w f (ordered s (after b e) f) (right-back left right h))
+      (here-fits s b v e (right-front left right h)) (here-fits s (after b e) w f (right-back left right h))
+  ordered s b (joined at op es) own h = formula-one (joined_formula op) (typed_formulas s b es) (formulas-all s b es h)
+  ordered s b (shifted at e i) own h =
       shift-order i.minus (value_of s i)
       (int-some s i.at i.value (front-empty (faults_of_placed s i) (faults_of_offset i.at (value_of s i)) own))
       (here-ordered s b NumberOrSet e (ordered s b e) h) (here-fits s b NumberOrSet e h)
-  ordered s b (minimum at e) own h = number-one (λ t. tree.minimum t) (set_in (typed s b e)) (set-here s b e (ordered s b e) h)
-  ordered s b (maximum at e) own h = number-one (λ t. tree.maximum t) (set_in (typed s b e)) (set-here s b e (ordered s b e) h)
-  ordered s b (quantified at q vs e) own h =
+  ordered s b (enclosed at k e) own h =
+      let c = opened b k in
+      bracket-order b k (typed s c e) (here-ordered s c (content_wanted k) e (ordered s c e) h) (here-fits s c (content_wanted k) e h)
+  ordered s b (listed at Literal es) own h = set-one (λ ts. tree.literal ts) (typed_numbers s b es) (numbers-all s b es h)
+  ordered s b (listed at (Call n) es) own h =
+      let parameters = parameters_of (meaning_of s n) in
+      call-order at n (count es) (meaning_of s n) (typed_arguments s b parameters es) own
+      (λ counted. arguments-all s b parameters es (omega (arith, counted)) h)
+  ordered s b (quantified at q o vs e) own h =
       let here = with_names b (count_of_bounds vs) in
       let inner = under_bounds s b.next vs in
       let within = occurrences inner (after_bounds here vs) formula_wanted e in
@@ -344,7 +378,7 @@ mutual
       (quantifiers-all s b.next here q vs (formula_in (typed inner (after_bounds here vs) e))
       (right-front (inside_bounds s b.next here vs) within h)
       (formula-here inner (after_bounds here vs) e (ordered inner (after_bounds here vs) e) (right-back (inside_bounds s b.next here vs) within h)))
-  ordered s b (where_let at o ps e) own h =
+  ordered s b (let_in at o ps e) own h =
       let here = with_names b (count_of_parts ps) in
       let outer = without_exports s in
       let inner = under_parts outer b.next o ps in
@@ -355,49 +389,49 @@ mutual
       (subst (λ a. IsSome (formula_in a))
       (typed-same inner (under_parts s b.next o ps) (after_parts here ps) e (under_parts-same outer s b.next o ps refl))
       (formula-here inner (after_parts here ps) e (ordered inner (after_parts here ps) e) (right-back before within h)))
-  ordered s b (restrict at e) own h = formula-one (λ f. tree.restrict f) (formula_in (typed s b e)) (formula-here s b e (ordered s b e) h)
-  ordered s b (imported at file rs) own h = is_truth (tree.imported b.imports)
-  ordered s b (exported at text_at file e) own h =
-      formula-one (λ f. tree.exported b.exports f) (formula_in (typed s (with_export b) e)) (formula-here s (with_export b) e (ordered s (with_export b) e) h)
 
   numbers-all : (s : Scope) (b : Before) (es : Expressions) → AreRight (inside_operands s b number_wanted es) → IsSome (typed_numbers s b es)
   numbers-all s b no_expressions h = refl
-  numbers-all s b (more_expressions e es) h =
-      let here = occurrences s b number_wanted e in
-      let rest = inside_operands s (after b e) number_wanted es in
-      some-both _ (number_in (typed s b e)) (typed_numbers s (after b e) es)
-      (number-here s b e (ordered s b e) (right-front here rest h)) (numbers-all s (after b e) es (right-back here rest h))
+  numbers-all s b (and_expression es e) h =
+      let end = after_all b es in
+      let before = inside_operands s b number_wanted es in
+      let here = occurrences s end number_wanted e in
+      some-both _ (typed_numbers s b es) (number_in (typed s end e))
+      (numbers-all s b es (right-front before here h)) (number-here s end e (ordered s end e) (right-back before here h))
 
   formulas-all : (s : Scope) (b : Before) (es : Expressions) → AreRight (inside_operands s b formula_wanted es) → IsSome (typed_formulas s b es)
   formulas-all s b no_expressions h = refl
-  formulas-all s b (more_expressions e es) h =
-      let here = occurrences s b formula_wanted e in
-      let rest = inside_operands s (after b e) formula_wanted es in
-      some-both _ (formula_in (typed s b e)) (typed_formulas s (after b e) es)
-      (formula-here s b e (ordered s b e) (right-front here rest h)) (formulas-all s (after b e) es (right-back here rest h))
+  formulas-all s b (and_expression es e) h =
+      let end = after_all b es in
+      let before = inside_operands s b formula_wanted es in
+      let here = occurrences s end formula_wanted e in
+      some-both _ (typed_formulas s b es) (formula_in (typed s end e))
+      (formulas-all s b es (right-front before here h)) (formula-here s end e (ordered s end e) (right-back before here h))
 
-  arguments-all : (s : Scope) (b : Before) (parameters : List Order) (es : Expressions) → count es ≡ length parameters →
+  arguments-all : (s : Scope) (b : Before) (parameters : List Order) (es : Expressions) → count es ≤ length parameters →
       AreRight (inside_arguments (without_exports s) b parameters es) → IsSome (typed_arguments s b parameters es)
-  arguments-all s b [] no_expressions counted h = refl
-  arguments-all s b (o ∷ parameters) no_expressions counted h = absurd (omega arith)
-  arguments-all s b [] (more_expressions e es) counted h = absurd (omega arith)
-  arguments-all s b (o ∷ parameters) (more_expressions e es) counted h =
+  arguments-all s b parameters no_expressions counted h = refl
+  arguments-all s b parameters (and_expression es e) counted h =
+      let end = after_all b es in
       let outer = without_exports s in
-      let here = occurrences outer b (Exactly o) e in
-      let rest = inside_arguments outer (after b e) parameters es in
-      some-both _ (option_and_then (of_order o) (typed s b e)) (typed_arguments s (after b e) parameters es)
-      (subst (λ a. IsSome (option_and_then (of_order o) a)) (typed-same outer s b e refl) (order-here outer b o e (ordered outer b e) (right-front here rest h)))
-      (arguments-all s (after b e) parameters es (omega arith) (right-back here rest h))
+      let o = slice_get parameters (count es) in
+      let before = inside_arguments outer b parameters es in
+      let here = occurrences outer end (wanted_by o) e in
+      some-both _ (typed_arguments s b parameters es) (argument_for o (typed s end e))
+      (arguments-all s b parameters es (omega (arith, counted)) (right-front before here h))
+      (argument-some s end o e (ordered outer end e) (parameter-some parameters (count es) (omega (arith, counted))) (right-back before here h))
 
-  quantifiers-all : (s : Scope) (x : ℕ) (b : Before) (q : Quant) (vs : Bounds) (f : Option Form) → AreRight (inside_bounds s x b vs) → IsSome f →
+  quantifiers-all : (s : Scope) (x : ℕ) (b : Before) (q : Quant) (vs : Variables) (f : Option Form) → AreRight (inside_bounds s x b vs) → IsSome f →
       IsSome (typed_quantifiers s x b q vs f)
-  quantifiers-all s x b q no_bounds f h some = some
-  quantifiers-all s x b q (more_bounds at o n d vs) f h some =
-      let inner = bind n (meaning.Variable x o) s in
-      let here = inside_domain (without_exports inner) b d in
-      let rest = inside_bounds inner (x + 1) (after_domain b d) vs in
-      some-both _ (typed_domain inner b o x d) (typed_quantifiers inner (x + 1) (after_domain b d) q vs f)
-      (domain-all inner b o x d (right-front here rest h)) (quantifiers-all inner (x + 1) (after_domain b d) q vs f (right-back here rest h) some)
+  quantifiers-all s x b q no_variables f h some = some
+  quantifiers-all s x b q (and_variable vs at o n d) f h some =
+      let y = x + count_of_bounds vs in
+      let end = after_bounds b vs in
+      let inner = under_bounds s x (and_variable vs at o n d) in
+      let before = inside_bounds s x b vs in
+      let here = inside_domain (without_exports inner) end d in
+      quantifiers-all s x b q vs (quantifier q o y (typed_domain inner end o y d) f) (right-front before here h)
+      (some-both _ (typed_domain inner end o y d) f (domain-all inner end o y d (right-back before here h)) some)
 
   pub domain-all : (s : Scope) (b : Before) (o : Order) (x : ℕ) (d : Domain) → AreRight (inside_domain (without_exports s) b d) → IsSome (typed_domain s b o x d)
   domain-all s b o x unrestricted h = refl
@@ -408,10 +442,11 @@ mutual
 
   parts-all : (s : Scope) (b : Before) (o : Order) (ps : Parts) → AreRight (inside_parts (without_exports s) b o ps) → IsSome (typed_parts s b o ps)
   parts-all s b o no_parts h = refl
-  parts-all s b o (more_parts at n e ps) h =
+  parts-all s b o (and_part ps at n e) h =
+      let end = after_parts b ps in
       let outer = without_exports s in
-      let here = occurrences outer b (Exactly o) e in
-      let rest = inside_parts outer (after b e) o ps in
-      some-both _ (option_and_then (of_order o) (typed s b e)) (typed_parts s (after b e) o ps)
-      (subst (λ a. IsSome (option_and_then (of_order o) a)) (typed-same outer s b e refl) (order-here outer b o e (ordered outer b e) (right-front here rest h)))
-      (parts-all s (after b e) o ps (right-back here rest h))
+      let before = inside_parts outer b o ps in
+      let here = occurrences outer end (Exactly o) e in
+      some-both _ (typed_parts s b o ps) (option_and_then (of_order o) (typed s end e))
+      (parts-all s b o ps (right-front before here h))
+      (subst (λ a. IsSome (option_and_then (of_order o) a)) (typed-same outer s end e refl) (order-here outer end o e (ordered outer end e) (right-back before here h)))

@@ -7,9 +7,8 @@ use Rattle.ms_logic.specs.declared.source.Form.{the_lemmas}
 use Rattle.ms_logic.specs.declared.source.LetPart.{LetPart, out-LetPart}
 use Rattle.ms_names_rules.specs.declared.meaning.Meaning.{Meaning}
 use Rattle.ms_names_rules.specs.Rules.{first_name_twice, is_name_among}
-use Rattle.ms_names_rules.specs.Scope.{meaning_among}
-use Rattle.ms_names_rules.specs.Syntax.{Bytes}
-use Rattle.ms_names_rules.specs.View.{bound_of, part_of}
+use Rattle.ms_names_rules.specs.Scope.{meaning_among, Bytes}
+use Rattle.ms_parse_grammar.specs.View.{variable_of, part_of}
 
 choose : (b : Bool) (m : Meaning) (outer : Bool) (meaning : Option Meaning) → outer ≡ is_some meaning →
     (if b then true else outer) ≡ is_some (if b then Some m else meaning)
@@ -31,10 +30,10 @@ is_some-copied (Some m) = refl
 pub next : {A : Type 0} (xs : List A) (i : ℕ) (x : A) → i < length xs → x ≡ get_or xs i x → drop i xs ≡ x ∷ drop (i + 1) xs
 next xs i x below is = drop_more xs i x below ∙ ap (λ y. y ∷ drop (i + 1) xs) (sym is)
 
-pub bound_at-out : (v : Bound) → (bound_of v).at ≡ (out-Bound v).at
+pub bound_at-out : (v : Bound) → (variable_of v).at ≡ (out-Bound v).at
 bound_at-out v = search (rules, the_lemmas)
 
-pub bound_name-out : (v : Bound) → (bound_of v).name ≡ (out-Bound v).name
+pub bound_name-out : (v : Bound) → (variable_of v).name ≡ (out-Bound v).name
 bound_name-out v = search (rules, the_lemmas)
 
 pub part_at-out : (p : LetPart) → (part_of p).at ≡ (out-LetPart p).at

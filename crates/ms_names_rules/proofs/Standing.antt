@@ -6,7 +6,7 @@ use Rattle.ms_names_rules.specs.Numbers.{Tables}
 use Rattle.ms_logic.specs.Lists.{Each}
 use Rattle.ms_names_rules.specs.Occurrence.{Occurrence}
 use Rattle.ms_names_rules.specs.Uses.{export_at, import_at}
-use Rattle.ms_names_rules.proofs.Growth.{Counts, past}
+use Rattle.ms_names_rules.proofs.Growth.{Counts, past, counts}
 use Rattle.ms_names_rules.proofs.Numbering.{Stand, UsesStand}
 
 get-later : {A : Type 0} (x : A) (all : List A) (n : ℕ) → slice_get (x ∷ all) (n + 1) ≡ slice_get all n

@@ -4,15 +4,16 @@ use Rattle.ms_list.specs.declared.at.At.{At}
 use Rattle.ms_logic.specs.declared.checked.ExportUse.{ExportUse}
 use Rattle.ms_logic.specs.declared.mode.Mode.{Mode}
 use Rattle.ms_logic.specs.declared.mode.Order.{Order}
-use Rattle.ms_names_rules.specs.Syntax.{Bytes, Expression, Bounds, no_bounds, more_bounds, Declaration, globals, constant, predicate, include, default, formula, Placed, Title}
+use Rattle.ms_names_rules.specs.Scope.{Bytes, Scope, bind, without_exports, with_default, under_bounds, count_of_bounds}
+use Rattle.ms_parse_grammar.specs.Tree.{Expression, Variables, no_variables, and_variable, Declaration, variables, constant, predicate, included, default_restriction, formula, goal, Declared}
 use Rattle.ms_names_rules.specs.declared.fault.Fault.{Fault}
 use Rattle.ms_names_rules.specs.declared.fault.Fault.TheVariants.{OutOfRange}
 use Rattle.ms_names_rules.specs.declared.meaning.Meaning.TheVariants.{Variable, Constant, Predicate}
-use Rattle.ms_names_rules.specs.Scope.{Scope, bind, without_exports, with_default, under_bounds, count_of_bounds}
 use Rattle.ms_names_rules.specs.Before.{Before, with_names, after, after_bounds}
 use Rattle.ms_names_rules.specs.Constant.{Sum, sums_to, leaves_range, has_no_value, sum_from, value_of_sum}
 use Rattle.ms_names_rules.specs.Fault.{first_fault}
-use Rattle.ms_names_rules.specs.Occurrence.{Occurrence, occurrences, inside_bounds, formula_wanted}
+use Rattle.ms_names_rules.specs.Order.{formula_wanted}
+use Rattle.ms_names_rules.specs.Occurrence.{Occurrence, occurrences, inside_bounds}
 use Rattle.ms_names_rules.specs.Reads.{readings_at}
 use Rattle.ms_names_rules.specs.Uses.{export_at, with_files}
 use Rattle.ms_names_rules.specs.Rules.{faults_at, faults_of_repeat, faults_of_bounds, faults_of_placed, faults_of_exports}
@@ -27,19 +28,20 @@ pub record Known : Type 0 where
   pub titles : List Bytes
 
 abbrev pub globals_in : Declaration → ℕ
-globals_in (globals vs) = count_of_bounds vs
+globals_in (variables vs) = count_of_bounds vs
 globals_in (constant at n is) = 0
-globals_in (predicate at n vs e) = 0
-globals_in include = 0
-globals_in (default o n e) = 0
-globals_in (formula title e) = 0
+globals_in (predicate is_pred at n vs e) = 0
+globals_in (included at file) = 0
+globals_in (default_restriction o n e) = 0
+globals_in (formula e) = 0
+globals_in (goal at title e) = 0
 
-abbrev pub count_of_globals : List Placed → ℕ
+abbrev pub count_of_globals : List Declared → ℕ
 count_of_globals [] = 0
 count_of_globals (d ∷ ds) = globals_in d.declaration + count_of_globals ds
 
 -- before the first declaration; bound names are numbered after all globals of the source
-abbrev pub at_the_beginning : Mode → List Placed → Known
+abbrev pub at_the_beginning : Mode → List Declared → Known
 at_the_beginning mode ds = record {
   scope = record { mode = mode; names = []; readings = []; default_of_numbers = None; default_of_sets = None; exports_allowed = true };
   before = record { next = count_of_globals ds; imports = 0; exports = 0 };
@@ -49,7 +51,7 @@ at_the_beginning mode ds = record {
 }
 
 -- the expressions of a predicate: the restrictions of its parameters and its body; no export may stand in them
-abbrev pub occurrences_in_predicate : Scope → Before → Bounds → Expression → List Occurrence
+abbrev pub occurrences_in_predicate : Scope → Before → Variables → Expression → List Occurrence
 occurrences_in_predicate s b vs e =
     let here = with_names b (count_of_bounds vs) in
     inside_bounds (without_exports s) b.next here vs
@@ -62,16 +64,17 @@ occurrences_in_default s b o n e =
 
 -- all expressions of a declaration
 abbrev pub occurrences_in : Known → Declaration → List Occurrence
-occurrences_in k (globals vs) = inside_bounds k.scope k.globals k.before vs
+occurrences_in k (variables vs) = inside_bounds k.scope k.globals k.before vs
 occurrences_in k (constant at n is) = []
-occurrences_in k (predicate at n vs e) = occurrences_in_predicate k.scope k.before vs e
-occurrences_in k include = []
-occurrences_in k (default o n e) = occurrences_in_default k.scope k.before o n e
-occurrences_in k (formula title e) = occurrences k.scope k.before formula_wanted e
+occurrences_in k (predicate is_pred at n vs e) = occurrences_in_predicate k.scope k.before vs e
+occurrences_in k (included at file) = []
+occurrences_in k (default_restriction o n e) = occurrences_in_default k.scope k.before o n e
+occurrences_in k (formula e) = occurrences k.scope k.before formula_wanted e
+occurrences_in k (goal at title e) = occurrences k.scope k.before formula_wanted e
 
-abbrev pub orders_of_bounds : Bounds → List Order
-orders_of_bounds no_bounds = []
-orders_of_bounds (more_bounds at o n d vs) = o ∷ orders_of_bounds vs
+abbrev pub orders_of_bounds : Variables → List Order
+orders_of_bounds no_variables = []
+orders_of_bounds (and_variable vs at o n d) = orders_of_bounds vs ++ o ∷ []
 
 -- with one more predicate, macro or default restriction, by its expressions
 abbrev pub with_readings : List Occurrence → Scope → Scope
@@ -84,35 +87,38 @@ next_predicate s = length s.readings
 -- the names that are seen after a declaration, and the default restrictions that hold. A predicate's name is declared
 -- after its body.
 abbrev pub scope_after : Known → Declaration → Scope
-scope_after k (globals vs) = under_bounds k.scope k.globals vs
+scope_after k (variables vs) = under_bounds k.scope k.globals vs
 scope_after k (constant at n is) = bind n (Constant (value_of_sum (sum_from k.scope 0 is))) k.scope
-scope_after k (predicate at n vs e) =
-    bind n (Predicate (next_predicate k.scope) (orders_of_bounds vs)) (with_readings (occurrences_in k (predicate at n vs e)) k.scope)
-scope_after k include = k.scope
-scope_after k (default o n e) =
-    with_default o (next_predicate k.scope) (with_readings (occurrences_in k (default o n e)) k.scope)
-scope_after k (formula title e) = k.scope
+scope_after k (predicate is_pred at n vs e) =
+    bind n (Predicate (next_predicate k.scope) (orders_of_bounds vs)) (with_readings (occurrences_in k (predicate is_pred at n vs e)) k.scope)
+scope_after k (included at file) = k.scope
+scope_after k (default_restriction o n e) =
+    with_default o (next_predicate k.scope) (with_readings (occurrences_in k (default_restriction o n e)) k.scope)
+scope_after k (formula e) = k.scope
+scope_after k (goal at title e) = k.scope
 
 abbrev pub before_after : Before → Declaration → Before
-before_after b (globals vs) = after_bounds b vs
+before_after b (variables vs) = after_bounds b vs
 before_after b (constant at n is) = b
-before_after b (predicate at n vs e) = after (after_bounds (with_names b (count_of_bounds vs)) vs) e
-before_after b include = b
-before_after b (default o n e) = after (with_names b 1) e
-before_after b (formula title e) = after b e
+before_after b (predicate is_pred at n vs e) = after (after_bounds (with_names b (count_of_bounds vs)) vs) e
+before_after b (included at file) = b
+before_after b (default_restriction o n e) = after (with_names b 1) e
+before_after b (formula e) = after b e
+before_after b (goal at title e) = after b e
 
 -- the exports of a declaration
 abbrev pub exports_in : Known → Declaration → List ExportUse
 exports_in k d = flat_map export_at (occurrences_in k d)
 
+-- the title of a goal, with the place of its text
+pub record Title : Type 0 where
+  pub at : At
+  pub text : Bytes
+
 -- the title of a declaration that is a goal
 abbrev pub title_in : Declaration → Option Title
-title_in (globals vs) = None
-title_in (constant at n is) = None
-title_in (predicate at n vs e) = None
-title_in include = None
-title_in (default o n e) = None
-title_in (formula title e) = title
+title_in (goal at title e) = Some (record { at = at; text = title })
+title_in _ = None
 
 -- with one more title, the last first
 abbrev pub with_title : List Bytes → Option Title → List Bytes
@@ -147,15 +153,16 @@ faults_of_title earlier (Some title) = faults_of_repeat title.at title.text earl
 -- what is wrong with a declaration, beside what is wrong with its title and its expressions. Globals, constants, predicates and macros
 -- have all different names.
 abbrev pub faults_of_declaration : Known → Declaration → List Fault
-faults_of_declaration k (globals vs) = faults_of_bounds (declared_names k.scope) vs
+faults_of_declaration k (variables vs) = faults_of_bounds (declared_names k.scope) vs
 faults_of_declaration k (constant at n is) =
     faults_of_repeat at n (declared_names k.scope)
     ++ (faults_of_sum at (sum_from k.scope 0 is) ++ flat_map (faults_of_placed k.scope) is)
-faults_of_declaration k (predicate at n vs e) =
+faults_of_declaration k (predicate is_pred at n vs e) =
     faults_of_repeat at n (declared_names k.scope) ++ faults_of_bounds [] vs
-faults_of_declaration k include = []
-faults_of_declaration k (default o n e) = []
-faults_of_declaration k (formula title e) = []
+faults_of_declaration k (included at file) = []
+faults_of_declaration k (default_restriction o n e) = []
+faults_of_declaration k (formula e) = []
+faults_of_declaration k (goal at title e) = []
 
 -- all that is wrong with a declaration
 abbrev pub faults_in : Known → Declaration → List Fault
@@ -168,11 +175,11 @@ or_later None later = later
 or_later (Some f) later = Some f
 
 -- the first fault of the declarations: that of the first declaration that has one
-abbrev pub first_fault_from : Known → List Placed → Option Fault
+abbrev pub first_fault_from : Known → List Declared → Option Fault
 first_fault_from k [] = None
 first_fault_from k (d ∷ ds) =
     or_later (first_fault (faults_in k d.declaration)) (first_fault_from (after_declaration k d.declaration) ds)
 
 -- the first fault of a source
-abbrev pub first_fault_of : Mode → List Placed → Option Fault
+abbrev pub first_fault_of : Mode → List Declared → Option Fault
 first_fault_of mode ds = first_fault_from (at_the_beginning mode ds) ds

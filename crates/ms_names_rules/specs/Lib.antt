@@ -9,9 +9,7 @@ pub mod Order
 pub mod Reads
 pub mod Rules
 pub mod Scope
-pub mod Syntax
 pub mod Typed
 pub mod TypedSource
 pub mod Uses
-pub mod View
 pub mod inner

@@ -6,10 +6,12 @@ use Rattle.ms_names_rules.specs.declared.meaning.Meaning.{Meaning}
 use Rattle.ms_names_rules.specs.declared.meaning.Meaning.TheVariants as meaning
 use Rattle.ms_names_rules.specs.declared.meaning.Reading.{Reading}
 use Rattle.ms_names_rules.specs.declared.meaning.Reading.TheVariants.{Variable, Predicate}
-use Rattle.ms_names_rules.specs.Syntax.{Expression, name, call, quantified, imported, Bounds, no_bounds, more_bounds, unrestricted, restricted}
+use Rattle.ms_parse_grammar.specs.Tree.{named, imported, Expression, atom, listed, quantified, Variables, no_variables, and_variable, unrestricted, restricted}
+use Rattle.ms_parse_grammar.specs.declared.operator.Listing.TheVariants.{Call}
 use Rattle.ms_names_rules.specs.Scope.{Scope, meaning_of, default_of, Named, variables_among}
 use Rattle.ms_names_rules.specs.Before.{Before}
-use Rattle.ms_names_rules.specs.Occurrence.{Occurrence, occurrences, formula_wanted}
+use Rattle.ms_names_rules.specs.Order.{formula_wanted}
+use Rattle.ms_names_rules.specs.Occurrence.{Occurrence, occurrences}
 
 -- a name by itself: a variable, or a predicate that is called
 abbrev pub readings_of_name : Option Meaning → List Reading
@@ -30,10 +32,10 @@ readings_of_default None = []
 readings_of_default (Some p) = Predicate p ∷ []
 
 -- the default restrictions of the variables of a list that have none of their own
-abbrev pub readings_of_bounds : Scope → Bounds → List Reading
-readings_of_bounds s no_bounds = []
-readings_of_bounds s (more_bounds at o n unrestricted vs) = readings_of_default (default_of s o) ++ readings_of_bounds s vs
-readings_of_bounds s (more_bounds at o n (restricted e) vs) = readings_of_bounds s vs
+abbrev pub readings_of_bounds : Scope → Variables → List Reading
+readings_of_bounds s no_variables = []
+readings_of_bounds s (and_variable vs at o n unrestricted) = readings_of_bounds s vs ++ readings_of_default (default_of s o)
+readings_of_bounds s (and_variable vs at o n (restricted e)) = readings_of_bounds s vs
 
 -- a name on the right of an import
 abbrev pub readings_of_variable : Option Meaning → List Reading
@@ -48,10 +50,10 @@ readings_of_renames s (r ∷ rs) = readings_of_variable (meaning_of s r.right) +
 
 -- what an expression reads itself, beside those inside it
 abbrev pub readings_of_form : Scope → Expression → List Reading
-readings_of_form s (name at n) = readings_of_name (meaning_of s n)
-readings_of_form s (call at n es) = readings_of_call (meaning_of s n)
-readings_of_form s (quantified at q vs e) = readings_of_bounds s vs
-readings_of_form s (imported at file rs) = readings_of_renames s rs
+readings_of_form s (atom at (named n)) = readings_of_name (meaning_of s n)
+readings_of_form s (listed at (Call n) es) = readings_of_call (meaning_of s n)
+readings_of_form s (quantified at q o vs e) = readings_of_bounds s vs
+readings_of_form s (atom at (imported file rs)) = readings_of_renames s rs
 readings_of_form s _ = []
 
 abbrev pub readings_at : Occurrence → List Reading

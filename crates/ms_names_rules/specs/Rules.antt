@@ -1,6 +1,6 @@
 -- The rules of names, orders, constants and places: what is wrong with an expression that stands somewhere, beside what
 -- is wrong with those inside it.
-use Rattle.std.specs.Prelude.{ℕ, ◌+◌, ◌==◌, Bool, true, false, not, if◌then◌else◌, nat_lt, List, [], ◌∷◌, ◌++◌, length, bytes_eq, Option, Some, None}
+use Rattle.std.specs.Prelude.{ℕ, ◌==◌, Bool, true, false, not, if◌then◌else◌, nat_lt, List, [], ◌∷◌, ◌++◌, length, bytes_eq, Option, Some, None}
 use Rattle.ms_list.specs.declared.at.At.{At}
 use Rattle.ms_logic.specs.declared.checked.ExportUse.{ExportUse}
 use Rattle.ms_logic.specs.declared.mode.Mode.{Mode}
@@ -9,10 +9,12 @@ use Rattle.ms_logic.specs.declared.source.Int.{Int}
 use Rattle.ms_logic.specs.declared.source.Int.TheVariants.{Number, Constant}
 use Rattle.ms_logic.specs.declared.source.PlacedInt.{PlacedInt}
 use Rattle.ms_logic.specs.declared.source.Rename.{Rename}
-use Rattle.ms_names_rules.specs.Syntax.{Bytes, Expression, whole, name, number, pconst, call, shift, quantified, where_let, imported, exported, place, Expressions, no_expressions, more_expressions, Bounds, no_bounds, more_bounds, Parts, no_parts, more_parts}
+use Rattle.ms_parse_grammar.specs.Tree.{whole, named, numeral, pconst, imported, Expression, atom, prefixed, binary, joined, shifted, enclosed, listed, quantified, let_in, Variables, no_variables, and_variable, Parts, no_parts, and_part}
+use Rattle.ms_parse_grammar.specs.declared.operator.Bracket.TheVariants.{Export}
+use Rattle.ms_parse_grammar.specs.declared.operator.Listing.TheVariants.{Call}
+use Rattle.ms_names_rules.specs.Scope.{Bytes, Scope, count, meaning_of}
 use Rattle.ms_names_rules.specs.declared.meaning.Meaning.{Meaning}
 use Rattle.ms_names_rules.specs.declared.meaning.Meaning.TheVariants as meaning
-use Rattle.ms_names_rules.specs.Scope.{Scope, meaning_of}
 use Rattle.ms_names_rules.specs.declared.wanted.Wanted.{Wanted}
 use Rattle.ms_names_rules.specs.Order.{order_of, fits}
 use Rattle.ms_names_rules.specs.Constant.{value_of, greatest_in_terms}
@@ -29,9 +31,17 @@ abbrev pub is_name_among : Bytes → List Bytes → Bool
 is_name_among n [] = false
 is_name_among n (m ∷ more) = if bytes_eq m n then true else is_name_among n more
 
-abbrev pub count : Expressions → ℕ
-count no_expressions = 0
-count (more_expressions e es) = count es + 1
+-- the place of the first token
+abbrev pub place : Expression → At
+place (atom at a) = at
+place (prefixed at op e) = at
+place (binary at op l r) = at
+place (joined at op es) = at
+place (shifted at e i) = at
+place (enclosed at k e) = at
+place (listed at l es) = at
+place (quantified at q o vs e) = at
+place (let_in at o ps e) = at
 
 -- 22: the order is not the wanted one, at the first token
 abbrev pub faults_of_order : Scope → Wanted → Expression → List Fault
@@ -82,15 +92,26 @@ faults_of_whole M2lStr at = []
 abbrev pub faults_of_repeat : At → Bytes → List Bytes → List Fault
 faults_of_repeat at n earlier = in_case (is_name_among n earlier) (NamedTwice at n)
 
+-- the names of a list, the last first, before those that come earlier
+abbrev pub with_names_of_bounds : List Bytes → Variables → List Bytes
+with_names_of_bounds earlier no_variables = earlier
+with_names_of_bounds earlier (and_variable vs at o n d) = n ∷ with_names_of_bounds earlier vs
+
+abbrev pub with_names_of_parts : List Bytes → Parts → List Bytes
+with_names_of_parts earlier no_parts = earlier
+with_names_of_parts earlier (and_part ps at n e) = n ∷ with_names_of_parts earlier ps
+
 -- in one list of variables or parameters
-abbrev pub faults_of_bounds : List Bytes → Bounds → List Fault
-faults_of_bounds earlier no_bounds = []
-faults_of_bounds earlier (more_bounds at o n d vs) = faults_of_repeat at n earlier ++ faults_of_bounds (n ∷ earlier) vs
+abbrev pub faults_of_bounds : List Bytes → Variables → List Fault
+faults_of_bounds earlier no_variables = []
+faults_of_bounds earlier (and_variable vs at o n d) =
+    faults_of_bounds earlier vs ++ faults_of_repeat at n (with_names_of_bounds earlier vs)
 
 -- in one `let`
 abbrev pub faults_of_parts : List Bytes → Parts → List Fault
 faults_of_parts earlier no_parts = []
-faults_of_parts earlier (more_parts at n e ps) = faults_of_repeat at n earlier ++ faults_of_parts (n ∷ earlier) ps
+faults_of_parts earlier (and_part ps at n e) =
+    faults_of_parts earlier ps ++ faults_of_repeat at n (with_names_of_parts earlier ps)
 
 -- the right name of an import: 20 where it is unknown; 22 where it is no variable
 abbrev pub faults_of_variable : At → Bytes → Option Meaning → List Fault
@@ -109,18 +130,18 @@ faults_of_renames s lefts rights (r ∷ rs) =
 
 -- what is wrong with an expression by its own form
 abbrev pub faults_of_form : Scope → Expression → List Fault
-faults_of_form s (whole at) = faults_of_whole s.mode at
-faults_of_form s (name at n) = faults_of_name at n (meaning_of s n)
+faults_of_form s (atom at whole) = faults_of_whole s.mode at
+faults_of_form s (atom at (named n)) = faults_of_name at n (meaning_of s n)
 -- 24: a number that is too large for a term
-faults_of_form s (number at n) = in_case (nat_lt greatest_in_terms n) (OutOfRange at)
-faults_of_form s (pconst at i) = faults_of_placed s i
-faults_of_form s (call at n es) = faults_of_call at n (count es) (meaning_of s n)
-faults_of_form s (shift at e i) = faults_of_placed s i ++ faults_of_offset i.at (value_of s i)
-faults_of_form s (quantified at q vs e) = faults_of_bounds [] vs
-faults_of_form s (where_let at o ps e) = faults_of_parts [] ps
-faults_of_form s (imported at file rs) = faults_of_renames s [] [] rs
+faults_of_form s (atom at (numeral n)) = in_case (nat_lt greatest_in_terms n) (OutOfRange at)
+faults_of_form s (atom at (pconst i)) = faults_of_placed s i
+faults_of_form s (listed at (Call n) es) = faults_of_call at n (count es) (meaning_of s n)
+faults_of_form s (shifted at e i) = faults_of_placed s i ++ faults_of_offset i.at (value_of s i)
+faults_of_form s (quantified at q o vs e) = faults_of_bounds [] vs
+faults_of_form s (let_in at o ps e) = faults_of_parts [] ps
+faults_of_form s (atom at (imported file rs)) = faults_of_renames s [] [] rs
 -- 25: an export where none may stand
-faults_of_form s (exported at text_at file e) = in_case (not s.exports_allowed) (NotHere at)
+faults_of_form s (enclosed at (Export text_at file) e) = in_case (not s.exports_allowed) (NotHere at)
 faults_of_form s _ = []
 
 -- what is wrong with an expression where it stands

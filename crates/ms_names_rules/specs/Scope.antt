@@ -6,7 +6,10 @@ use Rattle.ms_logic.specs.declared.mode.Order.TheVariants.{Zero, One, Two}
 use Rattle.ms_names_rules.specs.declared.meaning.Meaning.{Meaning}
 use Rattle.ms_names_rules.specs.declared.meaning.Meaning.TheVariants.{Variable, Constant, Predicate}
 use Rattle.ms_names_rules.specs.declared.meaning.Reading.{Reading}
-use Rattle.ms_names_rules.specs.Syntax.{Bytes, Bounds, no_bounds, more_bounds, Parts, no_parts, more_parts}
+use Rattle.ms_parse_grammar.specs.Tree.{Expressions, no_expressions, and_expression, Variables, no_variables, and_variable, Parts, no_parts, and_part}
+
+abbrev pub Bytes : Type 0
+Bytes = List ℕ
 
 -- the names that are seen, the innermost first; what each predicate, macro and default restriction so far reads, the last
 -- first; the numbers of the default restrictions that hold; and whether an export may stand here
@@ -59,20 +62,24 @@ variables_among ((n, Variable x o) ∷ outer) = variables_among outer ++ record 
 variables_among ((n, Constant value) ∷ outer) = variables_among outer
 variables_among ((n, Predicate p parameters) ∷ outer) = variables_among outer
 
+abbrev pub count : Expressions → ℕ
+count no_expressions = 0
+count (and_expression es e) = count es + 1
+
+abbrev pub count_of_bounds : Variables → ℕ
+count_of_bounds no_variables = 0
+count_of_bounds (and_variable vs at o n d) = count_of_bounds vs + 1
+
+abbrev pub count_of_parts : Parts → ℕ
+count_of_parts no_parts = 0
+count_of_parts (and_part ps at n e) = count_of_parts ps + 1
+
 -- with the variables of a list, whose numbers go on from x
-abbrev pub under_bounds : Scope → ℕ → Bounds → Scope
-under_bounds s x no_bounds = s
-under_bounds s x (more_bounds at o n d vs) = under_bounds (bind n (Variable x o) s) (x + 1) vs
+abbrev pub under_bounds : Scope → ℕ → Variables → Scope
+under_bounds s x no_variables = s
+under_bounds s x (and_variable vs at o n d) = bind n (Variable (x + count_of_bounds vs) o) (under_bounds s x vs)
 
 -- with the names of a `let` of this order, whose numbers go on from x
 abbrev pub under_parts : Scope → ℕ → Order → Parts → Scope
 under_parts s x o no_parts = s
-under_parts s x o (more_parts at n e ps) = under_parts (bind n (Variable x o) s) (x + 1) o ps
-
-abbrev pub count_of_bounds : Bounds → ℕ
-count_of_bounds no_bounds = 0
-count_of_bounds (more_bounds at o n d vs) = count_of_bounds vs + 1
-
-abbrev pub count_of_parts : Parts → ℕ
-count_of_parts no_parts = 0
-count_of_parts (more_parts at n e ps) = count_of_parts ps + 1
+under_parts s x o (and_part ps at n e) = bind n (Variable (x + count_of_parts ps) o) (under_parts s x o ps)

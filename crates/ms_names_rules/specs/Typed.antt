@@ -1,5 +1,5 @@
 -- The typed tree that an expression becomes, where nothing is wrong with it: what each name became.
-use Rattle.std.specs.Prelude.{ℕ, ◌+◌, Bool, true, false, List, [], ◌∷◌, Option, Some, None}
+use Rattle.std.specs.Prelude.{ℕ, ◌+◌, ◌==◌, Bool, true, false, if◌then◌else◌, List, [], ◌∷◌, ◌++◌, length, slice_get, Option, Some, None}
 use Rattle.std.specs.Option.{option_map, option_and_then}
 use Rattle.ms_logic.specs.declared.mode.Order.{Order}
 use Rattle.ms_logic.specs.declared.mode.Order.TheVariants.{Zero, One, Two}
@@ -8,13 +8,24 @@ use Rattle.ms_logic.specs.declared.mode.Rel.{Rel}
 use Rattle.ms_logic.specs.declared.mode.Rel.TheVariants.{Equal, Differs, Member, NotMember, Sub}
 use Rattle.ms_logic.specs.Tree as tree
 use Rattle.ms_logic.specs.Tree.{Term, SetTerm, Terms, Form, Forms, Restriction, Argument, truth_argument, number_argument, set_argument, Arguments}
-use Rattle.ms_names_rules.specs.Syntax.{Expression, truth, falsity, whole, empty_set, name, number, pconst, brackets, literal, call, negation, conjunction, disjunction, implication, equivalence, relation, emptiness, union, intersection, difference, shift, minimum, maximum, quantified, where_let, restrict, imported, exported}
-use Rattle.ms_names_rules.specs.Syntax.{Expressions, no_expressions, more_expressions, Bounds, no_bounds, more_bounds, Domain, unrestricted, restricted, Parts, no_parts, more_parts}
+use Rattle.ms_parse_grammar.specs.Tree.{Atom, truth, falsity, whole, empty_set, named, numeral, pconst, imported, Expression, atom, prefixed, binary, joined, shifted, enclosed, listed, quantified, let_in, Expressions, no_expressions, and_expression, Variables, no_variables, and_variable, Domain, unrestricted, restricted, Parts, no_parts, and_part}
+use Rattle.ms_parse_grammar.specs.declared.operator.Prefix.{Prefix}
+use Rattle.ms_parse_grammar.specs.declared.operator.Prefix.TheVariants.{Negation, Minimum, Maximum}
+use Rattle.ms_parse_grammar.specs.declared.operator.Binary.{Binary}
+use Rattle.ms_parse_grammar.specs.declared.operator.Binary.TheVariants.{Implication, Equivalence, Relation, Union, Intersection, Difference}
+use Rattle.ms_parse_grammar.specs.declared.operator.Junction.{Junction}
+use Rattle.ms_parse_grammar.specs.declared.operator.Junction.TheVariants.{Conjunction, Disjunction}
+use Rattle.ms_parse_grammar.specs.declared.operator.Bracket.{Bracket}
+use Rattle.ms_parse_grammar.specs.declared.operator.Bracket.TheVariants.{Parentheses, Emptiness, Export}
+use Rattle.ms_parse_grammar.specs.declared.operator.Listing.TheVariants.{Literal, Call}
+use Rattle.ms_parse_grammar.specs.declared.operator.Bracket.TheVariants as bracket
 use Rattle.ms_names_rules.specs.declared.meaning.Meaning.{Meaning}
 use Rattle.ms_names_rules.specs.declared.meaning.Meaning.TheVariants.{Variable, Constant, Predicate}
-use Rattle.ms_names_rules.specs.Scope.{Scope, bind, meaning_of, default_of, under_bounds, under_parts, count_of_bounds, count_of_parts}
-use Rattle.ms_names_rules.specs.Before.{Before, with_names, with_export, after, after_bounds, after_domain, after_parts}
+use Rattle.ms_names_rules.specs.Scope.{Scope, meaning_of, default_of, under_bounds, under_parts, count, count_of_bounds, count_of_parts}
+use Rattle.ms_names_rules.specs.Before.{Before, opened, with_names, after, after_all, after_bounds, after_parts}
 use Rattle.ms_names_rules.specs.Constant.{value_of}
+use Rattle.ms_names_rules.specs.Order.{parameters_of}
+use Rattle.ms_logic.specs.View.{arguments}
 
 -- something made of what two options hold, where both hold something
 abbrev pub both : {A B C : Type 0} → (A → B → C) → Option A → Option B → Option C
@@ -113,22 +124,26 @@ typed_relation r (Some a) None = None
 typed_relation r (Some a) (Some b) = related r a b
 
 -- a number or a set, moved up or down
-abbrev pub shifted : Bool → ℕ → Argument → Option Argument
-shifted minus n (truth_argument f) = None
-shifted true n (number_argument t) = Some (number_argument (tree.minus t n))
-shifted false n (number_argument t) = Some (number_argument (tree.plus t n))
-shifted true n (set_argument s) = Some (set_argument (tree.shift_down s n))
-shifted false n (set_argument s) = Some (set_argument (tree.shift_up s n))
+abbrev pub moved : Bool → ℕ → Argument → Option Argument
+moved minus n (truth_argument f) = None
+moved true n (number_argument t) = Some (number_argument (tree.minus t n))
+moved false n (number_argument t) = Some (number_argument (tree.plus t n))
+moved true n (set_argument s) = Some (set_argument (tree.shift_down s n))
+moved false n (set_argument s) = Some (set_argument (tree.shift_up s n))
 
 abbrev pub typed_shift : Bool → Option ℕ → Option Argument → Option Argument
 typed_shift minus None a = None
-typed_shift minus (Some n) a = option_and_then (shifted minus n) a
+typed_shift minus (Some n) a = option_and_then (moved minus n) a
 
-abbrev pub typed_call : Option Meaning → (List Order → Option Arguments) → Option Argument
-typed_call None given = None
-typed_call (Some (Variable x o)) given = None
-typed_call (Some (Constant value)) given = None
-typed_call (Some (Predicate p parameters)) given = option_map (λ arguments. truth_argument (tree.call p arguments)) (given parameters)
+-- arguments, as many as parameters
+abbrev pub as_many : ℕ → List Order → Option Arguments → Option Arguments
+as_many given parameters arguments = if given == length parameters then arguments else None
+
+abbrev pub typed_call : Option Meaning → Option Arguments → Option Argument
+typed_call None arguments = None
+typed_call (Some (Variable x o)) arguments = None
+typed_call (Some (Constant value)) arguments = None
+typed_call (Some (Predicate p parameters)) arguments = option_map (λ all. truth_argument (tree.call p all)) arguments
 
 -- the restriction of a variable that has none of its own: the default of its order, at the variable
 abbrev pub default_restriction : Option ℕ → ℕ → Restriction
@@ -142,75 +157,108 @@ typed_restriction d = option_map (λ f. tree.restricted f) (formula_in d)
 abbrev pub quantifier : Quant → Order → ℕ → Option Restriction → Option Form → Option Form
 quantifier q o x d f = both (λ restriction body. tree.quantified q o x restriction body) d f
 
+-- with one more behind
+
+abbrev pub number_behind : Terms → Term → Terms
+number_behind tree.no_terms t = tree.more_terms t tree.no_terms
+number_behind (tree.more_terms first ts) t = tree.more_terms first (number_behind ts t)
+
+abbrev pub formula_behind : Forms → Form → Forms
+formula_behind tree.no_forms f = tree.more_forms f tree.no_forms
+formula_behind (tree.more_forms first fs) f = tree.more_forms first (formula_behind fs f)
+
+abbrev pub argument_behind : Arguments → Argument → Arguments
+argument_behind tree.no_arguments a = tree.more_arguments a tree.no_arguments
+argument_behind (tree.more_arguments first more) a = tree.more_arguments first (argument_behind more a)
+
 -- the numbers of the names of a `let`, which go on from x
 abbrev pub numbers_of_parts : ℕ → Parts → List ℕ
 numbers_of_parts x no_parts = []
-numbers_of_parts x (more_parts at n e ps) = x ∷ numbers_of_parts (x + 1) ps
+numbers_of_parts x (and_part ps at n e) = numbers_of_parts x ps ++ (x + count_of_parts ps) ∷ []
+
+-- what an argument became, if there is a parameter of its order
+abbrev pub argument_for : Option Order → Option Argument → Option Argument
+argument_for None a = None
+argument_for (Some o) a = option_and_then (of_order o) a
+
+-- imports and exports are numbered in the order of the text
+abbrev pub typed_atom : Scope → Before → Atom → Option Argument
+typed_atom s b truth = Some (truth_argument tree.truth)
+typed_atom s b falsity = Some (truth_argument tree.falsity)
+typed_atom s b whole = Some (set_argument tree.whole)
+typed_atom s b empty_set = Some (set_argument tree.empty_set)
+typed_atom s b (named n) = typed_name (meaning_of s n)
+typed_atom s b (numeral n) = Some (number_argument (tree.numeral n))
+typed_atom s b (pconst i) = option_map (λ n. set_argument (tree.pconst n)) (value_of s i)
+typed_atom s b (imported file rs) = Some (truth_argument (tree.imported b.imports))
+
+abbrev pub typed_prefix : Prefix → Option Argument → Option Argument
+typed_prefix Negation a = formula_of_one (λ f. tree.negation f) a
+typed_prefix Minimum a = number_of_set (λ t. tree.minimum t) a
+typed_prefix Maximum a = number_of_set (λ t. tree.maximum t) a
+
+abbrev pub typed_binary : Binary → Option Argument → Option Argument → Option Argument
+typed_binary Implication a c = formula_of_two (λ f g. tree.implication f g) a c
+typed_binary Equivalence a c = formula_of_two (λ f g. tree.equivalence f g) a c
+typed_binary (Relation r) a c = typed_relation r a c
+typed_binary Union a c = set_of_two (λ t u. tree.union t u) a c
+typed_binary Intersection a c = set_of_two (λ t u. tree.intersection t u) a c
+typed_binary Difference a c = set_of_two (λ t u. tree.difference t u) a c
+
+abbrev pub joined_formula : Junction → Forms → Form
+joined_formula Conjunction fs = tree.conjunction fs
+joined_formula Disjunction fs = tree.disjunction fs
+
+abbrev pub typed_bracket : Before → Bracket → Option Argument → Option Argument
+typed_bracket b Parentheses a = a
+typed_bracket b Emptiness a = option_map (λ t. truth_argument (tree.emptiness t)) (set_in a)
+typed_bracket b bracket.Restriction a = formula_of_one (λ f. tree.restrict f) a
+typed_bracket b (Export text_at file) a = formula_of_one (λ f. tree.exported b.exports f) a
 
 abbrev mutual
   pub typed : Scope → Before → Expression → Option Argument
-  typed s b (truth at) = Some (truth_argument tree.truth)
-  typed s b (falsity at) = Some (truth_argument tree.falsity)
-  typed s b (whole at) = Some (set_argument tree.whole)
-  typed s b (empty_set at) = Some (set_argument tree.empty_set)
-  typed s b (name at n) = typed_name (meaning_of s n)
-  typed s b (number at n) = Some (number_argument (tree.numeral n))
-  typed s b (pconst at i) = option_map (λ n. set_argument (tree.pconst n)) (value_of s i)
-  typed s b (brackets at e) = typed s b e
-  typed s b (literal at es) = option_map (λ ts. set_argument (tree.literal ts)) (typed_numbers s b es)
-  typed s b (call at n es) = typed_call (meaning_of s n) (λ parameters. typed_arguments s b parameters es)
-  typed s b (negation at e) = formula_of_one (λ f. tree.negation f) (typed s b e)
-  typed s b (conjunction at es) = option_map (λ fs. truth_argument (tree.conjunction fs)) (typed_formulas s b es)
-  typed s b (disjunction at es) = option_map (λ fs. truth_argument (tree.disjunction fs)) (typed_formulas s b es)
-  typed s b (implication at e f) = formula_of_two (λ g h. tree.implication g h) (typed s b e) (typed s (after b e) f)
-  typed s b (equivalence at e f) = formula_of_two (λ g h. tree.equivalence g h) (typed s b e) (typed s (after b e) f)
-  typed s b (relation at r e f) = typed_relation r (typed s b e) (typed s (after b e) f)
-  typed s b (emptiness at e) = option_map (λ t. truth_argument (tree.emptiness t)) (set_in (typed s b e))
-  typed s b (union at e f) = set_of_two (λ t u. tree.union t u) (typed s b e) (typed s (after b e) f)
-  typed s b (intersection at e f) = set_of_two (λ t u. tree.intersection t u) (typed s b e) (typed s (after b e) f)
-  typed s b (difference at e f) = set_of_two (λ t u. tree.difference t u) (typed s b e) (typed s (after b e) f)
-  typed s b (shift at e i) = typed_shift i.minus (value_of s i) (typed s b e)
-  typed s b (minimum at e) = number_of_set (λ t. tree.minimum t) (typed s b e)
-  typed s b (maximum at e) = number_of_set (λ t. tree.maximum t) (typed s b e)
+  typed s b (atom at a) = typed_atom s b a
+  typed s b (prefixed at op e) = typed_prefix op (typed s b e)
+  typed s b (binary at op e f) = typed_binary op (typed s b e) (typed s (after b e) f)
+  typed s b (joined at op es) = option_map (λ fs. truth_argument (joined_formula op fs)) (typed_formulas s b es)
+  typed s b (shifted at e i) = typed_shift i.minus (value_of s i) (typed s b e)
+  typed s b (enclosed at k e) = typed_bracket b k (typed s (opened b k) e)
+  typed s b (listed at Literal es) = option_map (λ ts. set_argument (tree.literal ts)) (typed_numbers s b es)
+  typed s b (listed at (Call n) es) =
+      let parameters = parameters_of (meaning_of s n) in
+      typed_call (meaning_of s n) (as_many (count es) parameters (typed_arguments s b parameters es))
   -- a list of variables stands for quantifiers in one another, the first outermost
-  typed s b (quantified at q vs e) =
+  typed s b (quantified at q o vs e) =
       let here = with_names b (count_of_bounds vs) in
       option_map (λ f. truth_argument f)
       (typed_quantifiers s b.next here q vs (formula_in (typed (under_bounds s b.next vs) (after_bounds here vs) e)))
-  typed s b (where_let at o ps e) =
+  typed s b (let_in at o ps e) =
       let here = with_names b (count_of_parts ps) in
       both (λ right_sides f. truth_argument (tree.where_let (numbers_of_parts b.next ps) right_sides f))
       (typed_parts s here o ps) (formula_in (typed (under_parts s b.next o ps) (after_parts here ps) e))
-  typed s b (restrict at e) = formula_of_one (λ f. tree.restrict f) (typed s b e)
-  -- imports and exports are numbered in the order of the text
-  typed s b (imported at file rs) = Some (truth_argument (tree.imported b.imports))
-  typed s b (exported at text_at file e) =
-      formula_of_one (λ f. tree.exported b.exports f) (typed s (with_export b) e)
 
   pub typed_numbers : Scope → Before → Expressions → Option Terms
   typed_numbers s b no_expressions = Some tree.no_terms
-  typed_numbers s b (more_expressions e es) =
-      both (λ t ts. tree.more_terms t ts) (number_in (typed s b e)) (typed_numbers s (after b e) es)
+  typed_numbers s b (and_expression es e) = both number_behind (typed_numbers s b es) (number_in (typed s (after_all b es) e))
 
   pub typed_formulas : Scope → Before → Expressions → Option Forms
   typed_formulas s b no_expressions = Some tree.no_forms
-  typed_formulas s b (more_expressions e es) =
-      both (λ f fs. tree.more_forms f fs) (formula_in (typed s b e)) (typed_formulas s (after b e) es)
+  typed_formulas s b (and_expression es e) = both formula_behind (typed_formulas s b es) (formula_in (typed s (after_all b es) e))
 
-  -- as many arguments as parameters, of their orders
+  -- the arguments, each of the order of its parameter
   pub typed_arguments : Scope → Before → List Order → Expressions → Option Arguments
-  typed_arguments s b [] no_expressions = Some tree.no_arguments
-  typed_arguments s b (o ∷ parameters) no_expressions = None
-  typed_arguments s b [] (more_expressions e es) = None
-  typed_arguments s b (o ∷ parameters) (more_expressions e es) =
-      both (λ a more. tree.more_arguments a more) (option_and_then (of_order o) (typed s b e)) (typed_arguments s (after b e) parameters es)
+  typed_arguments s b parameters no_expressions = Some tree.no_arguments
+  typed_arguments s b parameters (and_expression es e) =
+      both argument_behind (typed_arguments s b parameters es)
+      (argument_for (slice_get parameters (count es)) (typed s (after_all b es) e))
 
   -- the quantifiers of a list of variables, whose numbers go on from x, round a body
-  pub typed_quantifiers : Scope → ℕ → Before → Quant → Bounds → Option Form → Option Form
-  typed_quantifiers s x b q no_bounds f = f
-  typed_quantifiers s x b q (more_bounds at o n d vs) f =
-      quantifier q o x (typed_domain (bind n (Variable x o) s) b o x d)
-      (typed_quantifiers (bind n (Variable x o) s) (x + 1) (after_domain b d) q vs f)
+  pub typed_quantifiers : Scope → ℕ → Before → Quant → Variables → Option Form → Option Form
+  typed_quantifiers s x b q no_variables f = f
+  typed_quantifiers s x b q (and_variable vs at o n d) f =
+      typed_quantifiers s x b q vs
+      (quantifier q o (x + count_of_bounds vs)
+      (typed_domain (under_bounds s x (and_variable vs at o n d)) (after_bounds b vs) o (x + count_of_bounds vs) d) f)
 
   -- the restriction of the variable x of an order
   pub typed_domain : Scope → Before → Order → ℕ → Domain → Option Restriction
@@ -220,5 +268,5 @@ abbrev mutual
   -- the right sides of a `let` of an order
   pub typed_parts : Scope → Before → Order → Parts → Option Arguments
   typed_parts s b o no_parts = Some tree.no_arguments
-  typed_parts s b o (more_parts at n e ps) =
-      both (λ a more. tree.more_arguments a more) (option_and_then (of_order o) (typed s b e)) (typed_parts s (after b e) o ps)
+  typed_parts s b o (and_part ps at n e) =
+      both argument_behind (typed_parts s b o ps) (option_and_then (of_order o) (typed s (after_parts b ps) e))

@@ -6,8 +6,9 @@ use Rattle.ms_logic.specs.declared.checked.MapPair.{MapPair}
 use Rattle.ms_logic.specs.declared.source.Rename.{Rename}
 use Rattle.ms_names_rules.specs.declared.meaning.Meaning.{Meaning}
 use Rattle.ms_names_rules.specs.declared.meaning.Meaning.TheVariants.{Variable, Constant, Predicate}
-use Rattle.ms_names_rules.specs.Syntax.{Bytes, Expression, imported, exported}
-use Rattle.ms_names_rules.specs.Scope.{Scope, meaning_of}
+use Rattle.ms_parse_grammar.specs.Tree.{imported, Expression, atom, enclosed}
+use Rattle.ms_parse_grammar.specs.declared.operator.Bracket.TheVariants.{Export}
+use Rattle.ms_names_rules.specs.Scope.{Bytes, Scope, meaning_of}
 use Rattle.ms_names_rules.specs.Before.{Before, with_export}
 use Rattle.ms_names_rules.specs.Occurrence.{Occurrence}
 use Rattle.ms_names_rules.specs.Reads.{free_variables}
@@ -25,12 +26,12 @@ pairs_of s (r ∷ rs) = pair_of r.left (meaning_of s r.right) ++ pairs_of s rs
 
 -- the import that an expression is, if it is one
 abbrev pub import_of_form : Scope → Expression → List ImportUse
-import_of_form s (imported at file rs) = record { at = at; name = file; pairs = pairs_of s rs } ∷ []
+import_of_form s (atom at (imported file rs)) = record { at = at; name = file; pairs = pairs_of s rs } ∷ []
 import_of_form s _ = []
 
 -- the export that an expression is, if it is one, with the free variables of its formula
 abbrev pub export_of_form : Scope → Before → Expression → List ExportUse
-export_of_form s b (exported at text_at file e) =
+export_of_form s b (enclosed at (Export text_at file) e) =
     let free = free_variables s (with_export b) e in
     record { at = text_at; name = file; variables = map (λ v. v.number) free; names = map (λ v. v.name) free } ∷ []
 export_of_form s b _ = []

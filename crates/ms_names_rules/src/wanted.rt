@@ -1,6 +1,5 @@
-ghost use Rattle.ms_names_rules.specs.inner.Binder.{with_front};
 ghost use Rattle.ms_names_rules.specs.Order.{fits, is_order, wanted_by, wanted_on_the_left, wanted_on_the_right};
-ghost use Rattle.std.specs.Prelude.{◌≡◌, []};
+ghost use Rattle.std.specs.Prelude.{◌≡◌};
 
 use ms_logic::{Order, Rel};
 
@@ -63,7 +62,7 @@ impl Wanted {
 
     /// In the place of an argument, by the order of its parameter.
     pub fn by_parameter(order: Option<Order>) -> Wanted
-        ensures { result ≡ wanted_by (with_front order []) }
+        ensures { result ≡ wanted_by order }
     {
         match order {
             None => Wanted::Anything,

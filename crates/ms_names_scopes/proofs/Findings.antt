@@ -5,7 +5,7 @@ use Rattle.std.proofs.lemmas.Grind.{flat_map-append}
 use Rattle.std.proofs.lemmas.List.{append-nil}
 use Rattle.ms_names_rules.specs.declared.fault.Fault.{Fault}
 use Rattle.ms_names_rules.specs.declared.wanted.Wanted.{Wanted}
-use Rattle.ms_names_rules.specs.Syntax.{Expression}
+use Rattle.ms_parse_grammar.specs.Tree.{Expression}
 use Rattle.ms_names_rules.specs.Before.{Before, after}
 use Rattle.ms_names_rules.specs.Fault.{first_of_two, first_with}
 use Rattle.ms_names_rules.specs.Occurrence.{Occurrence, occurrences}

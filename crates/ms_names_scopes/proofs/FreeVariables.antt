@@ -12,6 +12,8 @@ use Rattle.ms_names_rules.specs.Reads.{reads_predicate, with_predicates}
 use Rattle.ms_names_rules.proofs.FreeVariables.{flip, from-last, length-earlier, predicate-more, predicate-same, variable-more, variable-same}
 use Rattle.ms_names_scopes.specs.declared.free.Read.{Read}
 use Rattle.ms_names_scopes.specs.inner.Read.{IsLastRead, NoneIsRead, Tells}
+use Rattle.ms_names_rules.proofs.Growth.{past}
+use Rattle.ms_names_scopes.specs.inner.Found.{noted}
 
 pub Tells-variable : (old new : Read) (x : ℕ) (rs : Readings) →
     ((k : ℕ) → contains nat_eq new.variables k ≡ (if x == k then true else contains nat_eq old.variables k)) →

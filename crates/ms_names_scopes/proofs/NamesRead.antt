@@ -9,14 +9,16 @@ use Rattle.ms_names_rules.specs.declared.meaning.Meaning.{Meaning}
 use Rattle.ms_names_rules.specs.declared.meaning.Meaning.TheVariants as meaning
 use Rattle.ms_names_rules.specs.inner.Free.{Readings, read_among}
 use Rattle.ms_names_rules.specs.Reads.{reads_variable}
-use Rattle.ms_names_rules.specs.Scope.{Named, variables_among}
-use Rattle.ms_names_rules.specs.Syntax.{Bytes}
+use Rattle.ms_names_rules.specs.Scope.{Named, variables_among, Bytes}
 use Rattle.ms_names_rules.proofs.FreeVariables.{variables-behind}
 use Rattle.ms_names_scopes.specs.declared.free.Read.{Read}
 use Rattle.ms_names_scopes.specs.declared.names.Entry.{Entry}
 use Rattle.ms_names_scopes.specs.inner.Read.{Tells}
 use Rattle.ms_names_scopes.specs.inner.Numbers.{Numbered, is_one_of, number_at}
 use Rattle.ms_names_scopes.specs.inner.Table.{entry_numbers, named_meaning, names_of, number_of}
+use Rattle.ms_names_rules.proofs.Growth.{past}
+use Rattle.ms_names_rules.specs.inner.Examples.{least}
+use Rattle.ms_names_scopes.specs.inner.Found.{noted}
 
 names-behind : (entries : List Entry) (e : Entry) → names_of (entries ++ e ∷ []) ≡ named_meaning e ∷ names_of entries
 names-behind entries e = ap (map named_meaning) (reverse-append entries (e ∷ []))

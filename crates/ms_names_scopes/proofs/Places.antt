@@ -7,6 +7,7 @@ use Rattle.std.proofs.lemmas.Bool.Decides.{nat_tests}
 use Rattle.std.proofs.lemmas.List.{get_or_append_left, get_or_past, get_or_push, length-map, length_push, map-append}
 use Rattle.ms_names_scopes.specs.declared.numbers.Place.{Place}
 use Rattle.ms_names_scopes.specs.inner.Numbers.{IsLinked, Numbered, is_number, last_before, number_at, numbers_of}
+use Rattle.ms_names_rules.proofs.Growth.{past}
 
 numbers-more : (places : List Place) (place : Place) → numbers_of (places ++ place ∷ []) ≡ numbers_of places ++ place.number ∷ []
 numbers-more places place = map-append (λ p. p.number) places (place ∷ [])

@@ -1,7 +1,6 @@
 -- Names that stand twice in a list.
-use Rattle.std.proofs.Common.{◌≡◌, ℕ, ◌+◌, ◌<◌, length, get_or, drop, List, [], ◌∷◌, ◌++◌, append_assoc, sym, subst, ap, ◌∙◌}
+use Rattle.std.proofs.Common.{◌≡◌, ℕ, ◌+◌, ◌<◌, length, get_or, drop, List, [], ◌∷◌, ◌++◌, append_assoc, sym, subst, ap, ◌∙◌, take}
 use Rattle.std.proofs.lemmas.List.{append-nil}
-use Rattle.ms_list.specs.declared.at.At.{At}
 use Rattle.ms_logic.specs.declared.checked.MapPair.{MapPair}
 use Rattle.ms_logic.specs.declared.source.Bound.{Bound, out-Bound}
 use Rattle.ms_logic.specs.declared.source.LetPart.{LetPart, out-LetPart}
@@ -9,52 +8,68 @@ use Rattle.ms_logic.specs.declared.source.Rename.{Rename}
 use Rattle.ms_names_rules.specs.declared.fault.Fault.{Fault}
 use Rattle.ms_names_rules.specs.declared.meaning.Reading.{Reading}
 use Rattle.ms_names_rules.specs.Reads.{readings_of_renames, readings_of_variable}
-use Rattle.ms_names_rules.specs.Rules.{faults_of_bounds, faults_of_parts, faults_of_renames, faults_of_repeat, faults_of_variable}
-use Rattle.ms_names_rules.specs.Scope.{Scope, meaning_of}
-use Rattle.ms_names_rules.specs.Syntax.{Bytes, Bounds, more_bounds, Parts, more_parts}
+use Rattle.ms_names_rules.specs.Rules.{faults_of_bounds, faults_of_parts, faults_of_renames, faults_of_repeat, faults_of_variable, with_names_of_bounds, with_names_of_parts}
+use Rattle.ms_names_rules.specs.Scope.{Scope, meaning_of, Bytes}
 use Rattle.ms_names_rules.specs.Uses.{pair_of, pairs_of}
-use Rattle.ms_names_rules.specs.View.{OneBound, OnePart, bound_of, bounds_of, part_of, parts_of}
+use Rattle.ms_parse_grammar.specs.View.{variable_of, variables_of, part_of, parts_of}
 use Rattle.ms_names_rules.proofs.Repeats.{bound_at-out, bound_name-out, next, part_at-out, part_name-out}
 use Rattle.ms_names_scopes.specs.inner.Found.{Found, with_faults, noted}
 use Rattle.ms_names_scopes.proofs.Findings.{first_with-append}
+use Rattle.ms_names_rules.proofs.Operands.{parts-more, variables-more}
 
 -- some faults and then some more
 pub faults-faults : (s : Found) (fs gs : List Fault) → with_faults (with_faults s fs) gs ≡ with_faults s (fs ++ gs)
 faults-faults s fs gs = ap (λ known. record s { first = known }) (sym (first_with-append s.first fs gs))
 
--- after a variable of a list, the faults of the others are left
-after-bound : (s t : Found) (at : At) (n : Bytes) (earlier : List Bytes) (v : OneBound) (vs : Bounds) → v.at ≡ at → v.name ≡ n →
-    t ≡ with_faults s (faults_of_repeat at n earlier) →
-    with_faults t (faults_of_bounds (n ∷ earlier) vs) ≡ with_faults s (faults_of_bounds earlier (more_bounds v.at v.order v.name v.domain vs))
-after-bound s t at n earlier v vs there named checked =
-    ap (λ found. with_faults found (faults_of_bounds (n ∷ earlier) vs)) checked
-    ∙ (faults-faults s (faults_of_repeat at n earlier) (faults_of_bounds (n ∷ earlier) vs)
-    ∙ (ap (λ m. with_faults s (faults_of_repeat at m earlier ++ faults_of_bounds (m ∷ earlier) vs)) (sym named)
-    ∙ ap (λ a. with_faults s (faults_of_repeat a v.name earlier ++ faults_of_bounds (v.name ∷ earlier) vs)) (sym there)))
+-- after the variables of a list and one more
+pub bounds-next : (s t u : Found) (earlier seen : List Bytes) (vs : List Bound) (i : ℕ) (v : Bound) → i < length vs → v ≡ get_or vs i v →
+    t ≡ with_faults s (faults_of_bounds earlier (variables_of (take i vs))) →
+    seen ≡ with_names_of_bounds earlier (variables_of (take i vs)) →
+    u ≡ with_faults t (faults_of_repeat (out-Bound v).at (out-Bound v).name seen) →
+    u ≡ with_faults s (faults_of_bounds earlier (variables_of (take (i + 1) vs)))
+bounds-next s t u earlier seen vs i v below is before names checked =
+    let fs = faults_of_bounds earlier (variables_of (take i vs)) in
+    checked
+    ∙ (ap (λ there. with_faults there (faults_of_repeat (out-Bound v).at (out-Bound v).name seen)) before
+    ∙ (faults-faults s fs (faults_of_repeat (out-Bound v).at (out-Bound v).name seen)
+    ∙ (ap (λ ns. with_faults s (fs ++ faults_of_repeat (out-Bound v).at (out-Bound v).name ns)) names
+    ∙ (ap (λ n. with_faults s (fs ++ faults_of_repeat (out-Bound v).at n (with_names_of_bounds earlier (variables_of (take i vs))))) (sym (bound_name-out v))
+    ∙ (ap (λ a. with_faults s (fs ++ faults_of_repeat a (variable_of v).name (with_names_of_bounds earlier (variables_of (take i vs))))) (sym (bound_at-out v))
+    ∙ ap (λ all. with_faults s (faults_of_bounds earlier all)) (variables-more vs i v below is))))))
 
-pub bounds-next : (s t : Found) (earlier : List Bytes) (vs : List Bound) (i : ℕ) (v : Bound) → i < length vs → v ≡ get_or vs i v →
-    t ≡ with_faults s (faults_of_repeat (out-Bound v).at (out-Bound v).name earlier) →
-    with_faults t (faults_of_bounds ((out-Bound v).name ∷ earlier) (bounds_of (drop (i + 1) vs))) ≡ with_faults s (faults_of_bounds earlier (bounds_of (drop i vs)))
-bounds-next s t earlier vs i v below is checked =
-    after-bound s t (out-Bound v).at (out-Bound v).name earlier (bound_of v) (bounds_of (drop (i + 1) vs)) (bound_at-out v) (bound_name-out v) checked
-    ∙ ap (λ rest. with_faults s (faults_of_bounds earlier (bounds_of rest))) (sym (next vs i v below is))
+pub bounds-names : (earlier seen more : List Bytes) (vs : List Bound) (i : ℕ) (v : Bound) → i < length vs → v ≡ get_or vs i v →
+    seen ≡ with_names_of_bounds earlier (variables_of (take i vs)) → more ≡ (out-Bound v).name ∷ seen →
+    more ≡ with_names_of_bounds earlier (variables_of (take (i + 1) vs))
+bounds-names earlier seen more vs i v below is names added =
+    added
+    ∙ (ap (λ ns. (out-Bound v).name ∷ ns) names
+    ∙ (ap (λ n. n ∷ with_names_of_bounds earlier (variables_of (take i vs))) (sym (bound_name-out v))
+    ∙ ap (with_names_of_bounds earlier) (variables-more vs i v below is)))
 
 -- the same in a `let`
-after-part : (s t : Found) (at : At) (n : Bytes) (earlier : List Bytes) (p : OnePart) (ps : Parts) → p.at ≡ at → p.name ≡ n →
-    t ≡ with_faults s (faults_of_repeat at n earlier) →
-    with_faults t (faults_of_parts (n ∷ earlier) ps) ≡ with_faults s (faults_of_parts earlier (more_parts p.at p.name p.value ps))
-after-part s t at n earlier p ps there named checked =
-    ap (λ found. with_faults found (faults_of_parts (n ∷ earlier) ps)) checked
-    ∙ (faults-faults s (faults_of_repeat at n earlier) (faults_of_parts (n ∷ earlier) ps)
-    ∙ (ap (λ m. with_faults s (faults_of_repeat at m earlier ++ faults_of_parts (m ∷ earlier) ps)) (sym named)
-    ∙ ap (λ a. with_faults s (faults_of_repeat a p.name earlier ++ faults_of_parts (p.name ∷ earlier) ps)) (sym there)))
+pub parts-next : (s t u : Found) (seen : List Bytes) (ps : List LetPart) (i : ℕ) (p : LetPart) → i < length ps → p ≡ get_or ps i p →
+    t ≡ with_faults s (faults_of_parts [] (parts_of (take i ps))) →
+    seen ≡ with_names_of_parts [] (parts_of (take i ps)) →
+    u ≡ with_faults t (faults_of_repeat (out-LetPart p).at (out-LetPart p).name seen) →
+    u ≡ with_faults s (faults_of_parts [] (parts_of (take (i + 1) ps)))
+parts-next s t u seen ps i p below is before names checked =
+    let fs = faults_of_parts [] (parts_of (take i ps)) in
+    checked
+    ∙ (ap (λ there. with_faults there (faults_of_repeat (out-LetPart p).at (out-LetPart p).name seen)) before
+    ∙ (faults-faults s fs (faults_of_repeat (out-LetPart p).at (out-LetPart p).name seen)
+    ∙ (ap (λ ns. with_faults s (fs ++ faults_of_repeat (out-LetPart p).at (out-LetPart p).name ns)) names
+    ∙ (ap (λ n. with_faults s (fs ++ faults_of_repeat (out-LetPart p).at n (with_names_of_parts [] (parts_of (take i ps))))) (sym (part_name-out p))
+    ∙ (ap (λ a. with_faults s (fs ++ faults_of_repeat a (part_of p).name (with_names_of_parts [] (parts_of (take i ps))))) (sym (part_at-out p))
+    ∙ ap (λ all. with_faults s (faults_of_parts [] all)) (parts-more ps i p below is))))))
 
-pub parts-next : (s t : Found) (earlier : List Bytes) (ps : List LetPart) (i : ℕ) (p : LetPart) → i < length ps → p ≡ get_or ps i p →
-    t ≡ with_faults s (faults_of_repeat (out-LetPart p).at (out-LetPart p).name earlier) →
-    with_faults t (faults_of_parts ((out-LetPart p).name ∷ earlier) (parts_of (drop (i + 1) ps))) ≡ with_faults s (faults_of_parts earlier (parts_of (drop i ps)))
-parts-next s t earlier ps i p below is checked =
-    after-part s t (out-LetPart p).at (out-LetPart p).name earlier (part_of p) (parts_of (drop (i + 1) ps)) (part_at-out p) (part_name-out p) checked
-    ∙ ap (λ rest. with_faults s (faults_of_parts earlier (parts_of rest))) (sym (next ps i p below is))
+pub parts-names : (seen more : List Bytes) (ps : List LetPart) (i : ℕ) (p : LetPart) → i < length ps → p ≡ get_or ps i p →
+    seen ≡ with_names_of_parts [] (parts_of (take i ps)) → more ≡ (out-LetPart p).name ∷ seen →
+    more ≡ with_names_of_parts [] (parts_of (take (i + 1) ps))
+parts-names seen more ps i p below is names added =
+    added
+    ∙ (ap (λ ns. (out-LetPart p).name ∷ ns) names
+    ∙ (ap (λ n. n ∷ with_names_of_parts [] (parts_of (take i ps))) (sym (part_name-out p))
+    ∙ ap (with_names_of_parts []) (parts-more ps i p below is)))
 
 -- some faults and readings, and then some more
 pub noted-noted : (s : Found) (fs gs : List Fault) (rs more : List Reading) → noted (noted s fs rs) gs more ≡ noted s (fs ++ gs) (rs ++ more)

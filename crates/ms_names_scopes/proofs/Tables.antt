@@ -4,8 +4,7 @@ use Rattle.std.specs.Prelude.{bytes_eq, string_bytes, Bool, true, false, if◌th
 use Rattle.std.proofs.lemmas.List.{length-reverse, length_push, map-append, reverse-append, take_at}
 use Rattle.std.proofs.lemmas.Grind.{common_steps}
 use Rattle.std.proofs.lemmas.Slice.Eq.{bytes_eq-Decides}
-use Rattle.ms_names_rules.specs.Scope.{meaning_among}
-use Rattle.ms_names_rules.specs.Syntax.{Bytes}
+use Rattle.ms_names_rules.specs.Scope.{meaning_among, Bytes}
 use Rattle.ms_names_scopes.specs.declared.names.Entry.{Entry}
 use Rattle.ms_names_scopes.specs.inner.Numbers.{Numbered}
 use Rattle.ms_names_scopes.specs.inner.Table.{entry_numbers, flat, innermost, number_of, KnowHidden, IsTable, IsNoted, named_meaning}

@@ -4,8 +4,8 @@ ghost use Rattle.ms_names_rules.specs.inner.Binder.{default_for, restricted_vari
 ghost use Rattle.ms_names_rules.specs.Reads.{readings_of_bounds, readings_of_default};
 ghost use Rattle.ms_names_rules.specs.Rules.{faults_of_bounds};
 ghost use Rattle.ms_names_rules.specs.Scope.{count_of_bounds, default_of};
-ghost use Rattle.ms_names_rules.specs.Syntax.{unrestricted};
-ghost use Rattle.ms_names_rules.specs.View.{bound_of, bounds_of};
+ghost use Rattle.ms_parse_grammar.specs.Tree.{unrestricted};
+ghost use Rattle.ms_parse_grammar.specs.View.{variable_of, variables_of};
 ghost use Rattle.ms_names_scopes.specs.inner.Found.{noted};
 ghost use Rattle.std.specs.Option.{option_map};
 ghost use Rattle.std.specs.Prelude.{◌≡◌, [], Some, IfOk, OnOk};
@@ -50,7 +50,7 @@ impl Checker {
 
     // The default restriction that a variable takes, if it has none of its own.
     fn default_for(&self, bound: &Bound) -> Option<u32>
-        ensures { result ≡ default_for self.now.scope (bound_of bound.now).order (bound_of bound.now).domain }
+        ensures { result ≡ default_for self.now.scope (variable_of bound.now).order (variable_of bound.now).domain }
     {
         match &bound.domain {
             None => self.default_of(bound.order),
@@ -70,7 +70,7 @@ impl Checker {
 
     // Notes the default restrictions that a list of variables reads.
     fn read_defaults(&mut self, bounds: &[Bound]) -> Result<(), NoMemory>
-        ensures { OnOk result (self.new ≡ noted self.old [] (readings_of_bounds self.old.scope (bounds_of bounds.now))) }
+        ensures { OnOk result (self.new ≡ noted self.old [] (readings_of_bounds self.old.scope (variables_of bounds.now))) }
     {
         for bound in bounds {
             let default = self.default_for(bound);
@@ -84,8 +84,8 @@ impl Checker {
     #[inline(never)]
     pub fn begin_bounds(&mut self, bounds: &[Bound]) -> Result<u32, NoMemory>
         ensures state { OnOk result (self.new ≡ record
-            (noted self.old (faults_of_bounds [] (bounds_of bounds.now)) (readings_of_bounds self.old.scope (bounds_of bounds.now)))
-            { before = with_names self.old.before (count_of_bounds (bounds_of bounds.now)) }) }
+            (noted self.old (faults_of_bounds [] (variables_of bounds.now)) (readings_of_bounds self.old.scope (variables_of bounds.now)))
+            { before = with_names self.old.before (count_of_bounds (variables_of bounds.now)) }) }
         ensures first { IfOk result (λ first. first ≡ self.old.before.next) }
     {
         self.check_bounds(bounds)?;

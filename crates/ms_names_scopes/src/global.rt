@@ -1,6 +1,6 @@
 ghost use Rattle.ms_names_rules.specs.Declarations.{declared_names};
 ghost use Rattle.ms_names_rules.specs.Rules.{faults_of_bounds, faults_of_repeat, is_name_among};
-ghost use Rattle.ms_names_rules.specs.View.{bounds_of};
+ghost use Rattle.ms_parse_grammar.specs.View.{variables_of};
 ghost use Rattle.ms_names_scopes.specs.inner.Found.{with_faults};
 ghost use Rattle.std.specs.Prelude.{◌≡◌, ◌∷◌, ◌++◌, OnOk};
 
@@ -33,7 +33,7 @@ impl Checker {
 
     /// Reports the globals' names that are declared before, or that stand twice in their list.
     pub fn check_globals(&mut self, bounds: &[Bound]) -> Result<(), NoMemory>
-        ensures { OnOk result (self.new ≡ with_faults self.old (faults_of_bounds (declared_names self.old.scope) (bounds_of bounds.now))) }
+        ensures { OnOk result (self.new ≡ with_faults self.old (faults_of_bounds (declared_names self.old.scope) (variables_of bounds.now))) }
     {
         let mut seen = Seen::new(self.alloc);
         for bound in bounds {

@@ -2,7 +2,7 @@ ghost use Rattle.ms_logic.specs.View.{argument_of};
 ghost use Rattle.ms_names_rules.specs.Reads.{readings_of_renames, readings_of_variable};
 ghost use Rattle.ms_names_rules.specs.Rules.{faults_of_renames, faults_of_repeat, faults_of_variable};
 ghost use Rattle.ms_names_rules.specs.Scope.{meaning_of};
-ghost use Rattle.ms_names_rules.specs.Syntax.{imported};
+ghost use Rattle.ms_parse_grammar.specs.Tree.{imported, atom};
 ghost use Rattle.ms_names_rules.specs.Typed.{typed};
 ghost use Rattle.ms_names_rules.specs.Uses.{pair_of, pairs_of};
 ghost use Rattle.ms_names_scopes.specs.inner.Found.{formed, noted, with_faults};
@@ -25,8 +25,8 @@ impl Checker {
         file: &Text,
         renames: &[Rename],
     ) -> Result<Option<Arg>, NoMemory>
-        ensures state { OnOk result (self.new ≡ formed self.old (imported at file.now renames.now)) }
-        ensures value { IfOk result (λ value. option_map argument_of value ≡ typed self.old.scope self.old.before (imported at file.now renames.now)) }
+        ensures state { OnOk result (self.new ≡ formed self.old (atom at (imported file.now renames.now))) }
+        ensures value { IfOk result (λ value. option_map argument_of value ≡ typed self.old.scope self.old.before (atom at (imported file.now renames.now))) }
     {
         let pairs = self.pairs(renames)?;
         let name = Text::new(self.alloc, file.text())?;

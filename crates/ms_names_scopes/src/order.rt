@@ -1,6 +1,6 @@
 ghost use Rattle.ms_names_rules.specs.Order.{order_of};
 ghost use Rattle.ms_names_rules.specs.Rules.{faults_of_order};
-ghost use Rattle.ms_names_rules.specs.View.{expression_of};
+ghost use Rattle.ms_parse_grammar.specs.View.{expression_of};
 ghost use Rattle.ms_names_scopes.specs.inner.Found.{with_faults};
 ghost use Rattle.std.specs.Prelude.{◌≡◌};
 

@@ -1,6 +1,6 @@
 ghost use Rattle.ms_names_rules.specs.Declarations.{next_predicate, orders_of_bounds};
 ghost use Rattle.ms_names_rules.specs.Scope.{with_default};
-ghost use Rattle.ms_names_rules.specs.View.{bounds_of};
+ghost use Rattle.ms_parse_grammar.specs.View.{variables_of};
 ghost use Rattle.ms_names_scopes.specs.inner.Declaration.{named, read_through};
 ghost use Rattle.std.specs.Prelude.{◌≡◌, IfOk, OnOk};
 
@@ -14,7 +14,7 @@ use std::mem;
 
 // The orders of the parameters of a list.
 fn orders_of(alloc: Global, bounds: &[Bound]) -> Result<List<Order>, NoMemory>
-    ensures { IfOk result (λ orders. orders ≡ orders_of_bounds (bounds_of bounds.now)) }
+    ensures { IfOk result (λ orders. orders ≡ orders_of_bounds (variables_of bounds.now)) }
 {
     let mut orders = List::new(alloc);
     for bound in bounds {
@@ -39,7 +39,7 @@ impl Checker {
 
     /// Notes what a predicate or a macro with these parameters reads, and declares its name.
     pub fn name_predicate(&mut self, name: &Name, bounds: &[Bound]) -> Result<(), NoMemory>
-        ensures { OnOk result (self.new ≡ named self.old name.now (orders_of_bounds (bounds_of bounds.now))) }
+        ensures { OnOk result (self.new ≡ named self.old name.now (orders_of_bounds (variables_of bounds.now))) }
     {
         let number = self.note_predicate()?;
         let orders = orders_of(self.alloc, bounds)?;

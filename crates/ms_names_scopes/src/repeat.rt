@@ -1,6 +1,6 @@
 ghost use Rattle.ms_names_rules.specs.Declarations.{declared_names, faults_of_title};
 ghost use Rattle.ms_names_rules.specs.Rules.{faults_of_bounds, faults_of_parts, faults_of_repeat};
-ghost use Rattle.ms_names_rules.specs.View.{bounds_of, parts_of};
+ghost use Rattle.ms_parse_grammar.specs.View.{variables_of, parts_of};
 ghost use Rattle.ms_names_rules.specs.declared.fault.Fault.TheVariants.{NamedTwice};
 ghost use Rattle.ms_names_scopes.specs.inner.Found.{with_faults};
 ghost use Rattle.std.specs.Prelude.{◌≡◌, ◌∷◌, [], OnOk, Some};
@@ -59,7 +59,7 @@ impl Checker {
 
     /// Reports the names that stand twice in a list of variables or parameters.
     pub fn check_bounds(&mut self, bounds: &[Bound]) -> Result<(), NoMemory>
-        ensures { OnOk result (self.new ≡ with_faults self.old (faults_of_bounds [] (bounds_of bounds.now))) }
+        ensures { OnOk result (self.new ≡ with_faults self.old (faults_of_bounds [] (variables_of bounds.now))) }
     {
         let mut seen = Seen::new(self.alloc);
         for bound in bounds {

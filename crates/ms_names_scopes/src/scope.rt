@@ -1,6 +1,6 @@
 ghost use Rattle.ms_names_rules.specs.Before.{with_names};
 ghost use Rattle.ms_names_rules.specs.Scope.{bind, without_exports, under_parts};
-ghost use Rattle.ms_names_rules.specs.View.{parts_of};
+ghost use Rattle.ms_parse_grammar.specs.View.{parts_of};
 ghost use Rattle.ms_names_scopes.specs.inner.Found.{unbound};
 ghost use Rattle.std.specs.Prelude.{◌≡◌, IfOk, OnOk};
 

@@ -2,8 +2,8 @@
 
 ghost use Rattle.ms_logic.specs.Tree as tree;
 ghost use Rattle.ms_logic.specs.View.{argument_of, formula_of};
-ghost use Rattle.ms_names_rules.specs.inner.Lists.{formula_behind, forms_of};
-ghost use Rattle.ms_names_rules.specs.Typed.{both, formula_in, formula_of_one};
+ghost use Rattle.ms_names_rules.specs.inner.Lists.{forms_of};
+ghost use Rattle.ms_names_rules.specs.Typed.{both, formula_in, formula_of_one, formula_behind};
 ghost use Rattle.std.specs.Option.{option_map};
 ghost use Rattle.std.specs.Prelude.{◌≡◌, IfOk};
 

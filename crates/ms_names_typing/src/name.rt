@@ -2,11 +2,10 @@
 
 ghost use Rattle.ms_logic.specs.Tree as tree;
 ghost use Rattle.ms_logic.specs.View.{argument_of};
-ghost use Rattle.ms_names_rules.specs.inner.Binder.{argument_for, with_front};
 ghost use Rattle.ms_names_rules.specs.inner.Lists.{arguments_of};
-ghost use Rattle.ms_names_rules.specs.Typed.{both, variable_argument};
+ghost use Rattle.ms_names_rules.specs.Typed.{both, variable_argument, argument_for};
 ghost use Rattle.std.specs.Option.{option_map};
-ghost use Rattle.std.specs.Prelude.{◌≡◌, ◌∷◌, ◌++◌, ◌+◌, [], drop, map, IfOk};
+ghost use Rattle.std.specs.Prelude.{◌≡◌, ◌∷◌, ◌++◌, [], map, slice_get, IfOk};
 
 use crate::order::in_order;
 use ms_list::{List, NoMemory, push};
@@ -27,7 +26,7 @@ pub fn variable(x: u32, order: Order) -> Arg
 /// The order of the parameter with this index, if there is one.
 #[inline(never)]
 pub fn parameter_at(parameters: &[Order], i: usize) -> Option<Order>
-    ensures { drop i parameters.now ≡ with_front result (drop (i + 1) parameters.now) }
+    ensures { result ≡ slice_get parameters.now i }
 {
     if i < parameters.len() {
         Some(parameters[i])

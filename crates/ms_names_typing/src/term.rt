@@ -2,8 +2,8 @@
 
 ghost use Rattle.ms_logic.specs.Tree as tree;
 ghost use Rattle.ms_logic.specs.View.{argument_of, set_term_of};
-ghost use Rattle.ms_names_rules.specs.inner.Lists.{number_behind, terms_of};
-ghost use Rattle.ms_names_rules.specs.Typed.{both, number_in, number_of_set, set_in, shifted, typed_shift};
+ghost use Rattle.ms_names_rules.specs.inner.Lists.{terms_of};
+ghost use Rattle.ms_names_rules.specs.Typed.{both, number_in, number_of_set, set_in, moved, typed_shift, number_behind};
 ghost use Rattle.std.specs.Option.{option_map};
 ghost use Rattle.std.specs.Prelude.{◌≡◌, IfOk};
 
@@ -137,8 +137,8 @@ pub fn pconst(value: Option<u64>) -> Option<Arg>
 }
 
 // A number or a set, moved up or down.
-fn shifted(alloc: Global, minus: bool, by: u64, body: Arg) -> Result<Option<Arg>, NoMemory>
-    ensures { IfOk result (λ made. option_map argument_of made ≡ shifted minus by (argument_of body)) }
+fn moved(alloc: Global, minus: bool, by: u64, body: Arg) -> Result<Option<Arg>, NoMemory>
+    ensures { IfOk result (λ made. option_map argument_of made ≡ moved minus by (argument_of body)) }
 {
     match body {
         Arg::Zero(_) => Ok(None),
@@ -176,5 +176,5 @@ pub fn shift(
     let Some(body) = body else {
         return Ok(None);
     };
-    shifted(alloc, minus, by, body)
+    moved(alloc, minus, by, body)
 }

@@ -22,9 +22,7 @@ use Rattle.ms_parse_grammar.specs.declared.operator.Bracket.{Bracket}
 use Rattle.ms_parse_grammar.specs.declared.operator.Bracket.TheVariants.{Parentheses, Emptiness, Restriction, Export}
 use Rattle.ms_parse_grammar.specs.declared.operator.Listing.{Listing}
 use Rattle.ms_parse_grammar.specs.declared.operator.Listing.TheVariants.{Literal, Call}
-use Rattle.ms_parse_grammar.specs.Tree.{Atom, truth, falsity, whole, empty_set, named, numeral, pconst, imported}
-use Rattle.ms_parse_grammar.specs.Tree.{Expression, atom, prefixed, binary, joined, shifted, enclosed, listed, quantified, let_in, Expressions, no_expressions, and_expression, Variables, no_variables, and_variable, Domain, unrestricted, restricted, Parts, no_parts, and_part}
-use Rattle.ms_parse_grammar.specs.Tree.{Declaration, variables, constant, predicate, included, default_restriction, formula, goal, Declared, Document}
+use Rattle.ms_parse_grammar.specs.Tree.{Atom, truth, falsity, whole, empty_set, named, numeral, pconst, imported, Expression, atom, prefixed, binary, joined, shifted, enclosed, listed, quantified, let_in, Expressions, no_expressions, and_expression, Variables, no_variables, and_variable, Domain, unrestricted, restricted, Parts, no_parts, and_part, Declaration, variables, constant, predicate, included, default_restriction, formula, goal, Declared, Document}
 use Rattle.ms_parse_grammar.specs.View.{Variable, Part, form_at, variable_at, expression_at, part_at, expression_of, variable_of, part_of, form_of, expressions_of, variables_of, parts_of, declaration_of, declared_of, document_of, expressions_behind, variables_behind, parts_behind}
 
 -- one level of a tree of the code, over what stands below it

@@ -9,12 +9,12 @@ use Rattle.ms_lower.specs.Measure.{IsDepthRefusal, IsSizeRefusal}
 use Rattle.ms_names_rules.specs.declared.fault.Fault.{Fault}
 use Rattle.ms_names_rules.specs.Checking.{IsFirstFault}
 use Rattle.ms_names_rules.specs.Declarations.{first_fault_of}
-use Rattle.ms_names_rules.specs.View.{placed_of}
+use Rattle.ms_parse_grammar.specs.View.{declared_of}
 
 none_is_some : (fault : Fault) → None ≡ Some fault → ⊥
 none_is_some fault same = cc
 
-pub no_first_fault : (loaded : Loaded) (refusal : Refusal) → first_fault_of loaded.mode (map placed_of loaded.items) ≡ None → IsFirstFault loaded refusal → ⊥
+pub no_first_fault : (loaded : Loaded) (refusal : Refusal) → first_fault_of loaded.mode (map declared_of loaded.items) ≡ None → IsFirstFault loaded refusal → ⊥
 no_first_fault loaded refusal right is = none_is_some is.0 (sym right ∙ is.1)
 
 pub not_too_deep : (checked : Checked) (answers : Answers) (refusal : Refusal) → depth_of_source (problem_of checked answers) ≤ 300 → IsDepthRefusal checked answers refusal → ⊥

@@ -15,21 +15,23 @@ use Rattle.ms_names_rules.specs.declared.fault.Fault.TheVariants.{UnknownName, N
 use Rattle.ms_names_rules.specs.declared.meaning.Meaning.{Meaning}
 use Rattle.ms_names_rules.specs.declared.meaning.Meaning.TheVariants as meaning
 use Rattle.ms_names_rules.specs.declared.wanted.Wanted.{Wanted}
-use Rattle.ms_names_rules.specs.Syntax.{Bytes, Expression, truth, falsity, whole, empty_set, name, number, pconst, brackets, literal, call, negation, conjunction, disjunction, implication, equivalence, relation, emptiness, union, intersection, difference, shift, minimum, maximum, quantified, where_let, restrict, imported, exported, place}
-use Rattle.ms_names_rules.specs.Syntax.{Bounds, no_bounds, more_bounds, Parts, no_parts, more_parts}
+use Rattle.ms_parse_grammar.specs.Tree.{truth, falsity, whole, empty_set, named, numeral, pconst, imported, Expression, atom, prefixed, binary, joined, shifted, enclosed, listed, quantified, let_in, Variables, no_variables, and_variable, Parts, no_parts, and_part, Atom}
+use Rattle.ms_parse_grammar.specs.declared.operator.Bracket.TheVariants.{Parentheses, Emptiness, Restriction, Export}
+use Rattle.ms_parse_grammar.specs.declared.operator.Listing.TheVariants.{Literal, Call}
+use Rattle.ms_names_rules.specs.Scope.{Bytes, Scope, meaning_of, count}
+use Rattle.ms_names_rules.specs.Rules.{place, faults_at, faults_of_bounds, faults_of_call, faults_of_constant, faults_of_export, faults_of_exports, faults_of_form, faults_of_int, faults_of_name, faults_of_names, faults_of_offset, faults_of_order, faults_of_parts, faults_of_placed, faults_of_renames, faults_of_repeat, faults_of_variable, faults_of_whole, first_name_twice, in_case, is_name_among, with_names_of_bounds, with_names_of_parts}
 use Rattle.ms_names_rules.specs.Before.{Before}
 use Rattle.ms_names_rules.specs.Constant.{greatest_in_terms, value_of}
 use Rattle.ms_names_rules.specs.Fault.{comes_before, first_fault, first_of_two, first_with, refusal_of}
 use Rattle.ms_logic.specs.Lists.{Each}
 use Rattle.ms_names_rules.specs.Occurrence.{Occurrence}
 use Rattle.ms_names_rules.specs.Order.{fits, order_of}
-use Rattle.ms_names_rules.specs.Rules.{count, faults_at, faults_of_bounds, faults_of_call, faults_of_constant, faults_of_export, faults_of_exports, faults_of_form, faults_of_int, faults_of_name, faults_of_names, faults_of_offset, faults_of_order, faults_of_parts, faults_of_placed, faults_of_renames, faults_of_repeat, faults_of_variable, faults_of_whole, first_name_twice, in_case, is_name_among}
-use Rattle.ms_names_rules.specs.Scope.{Scope, meaning_of}
 use Rattle.ms_names_rules.specs.Uses.{export_at, export_of_form, import_at, import_of_form}
 use Rattle.ms_names_rules.proofs.Fitting.{If, each-append}
 use Rattle.ms_include_laws.specs.inner.places.Places.{EachPlaceIn, EachPlaceInBounds, EachPlaceInParts, EachPlaceInRenames}
 use Rattle.ms_include_laws.proofs.of_places.Occurrences.{StandsAt, place-at}
 use Rattle.ms_include_laws.proofs.of_places.Refused.{IsToldAt}
+use Rattle.ms_parse_grammar.specs.declared.operator.Bracket.{Bracket}
 
 module _ (P : At → Type 0) where
   -- P holds of the place of a fault
@@ -102,15 +104,17 @@ module _ (P : At → Type 0) where
   pub repeat-at : (at : At) (n : Bytes) (earlier : List Bytes) → P at → FaultsAt (faults_of_repeat at n earlier)
   repeat-at at n earlier h = case-at (is_name_among n earlier) (NamedTwice at n) h
 
-  pub bounds-at : (earlier : List Bytes) (vs : Bounds) → EachPlaceInBounds P vs → FaultsAt (faults_of_bounds earlier vs)
-  bounds-at earlier no_bounds h = tt
-  bounds-at earlier (more_bounds at o n d vs) h =
-      both-at (faults_of_repeat at n earlier) (faults_of_bounds (n ∷ earlier) vs) (repeat-at at n earlier h.0) (bounds-at (n ∷ earlier) vs h.2)
+  pub bounds-at : (earlier : List Bytes) (vs : Variables) → EachPlaceInBounds P vs → FaultsAt (faults_of_bounds earlier vs)
+  bounds-at earlier no_variables h = tt
+  bounds-at earlier (and_variable vs at o n d) h =
+      let names = with_names_of_bounds earlier vs in
+      both-at (faults_of_bounds earlier vs) (faults_of_repeat at n names) (bounds-at earlier vs h.0) (repeat-at at n names h.1)
 
   parts-at : (earlier : List Bytes) (ps : Parts) → EachPlaceInParts P ps → FaultsAt (faults_of_parts earlier ps)
   parts-at earlier no_parts h = tt
-  parts-at earlier (more_parts at n e ps) h =
-      both-at (faults_of_repeat at n earlier) (faults_of_parts (n ∷ earlier) ps) (repeat-at at n earlier h.0) (parts-at (n ∷ earlier) ps h.2)
+  parts-at earlier (and_part ps at n e) h =
+      let names = with_names_of_parts earlier ps in
+      both-at (faults_of_parts earlier ps) (faults_of_repeat at n names) (parts-at earlier ps h.0) (repeat-at at n names h.1)
 
   variable-at : (at : At) (n : Bytes) (m : Option Meaning) → P at → FaultsAt (faults_of_variable at n m)
   variable-at at n None h = (h, tt)
@@ -128,35 +132,33 @@ module _ (P : At → Type 0) where
       (both-at variable (repeats ++ more) (variable-at r.at_right r.right (meaning_of s r.right) h.0.1)
       (both-at repeats more (repeat-at r.at_right r.right rights h.0.1) (renames-at s (r.left ∷ lefts) (r.right ∷ rights) rs h.1)))
 
+  atom-at : (s : Scope) (at : At) (a : Atom) → EachPlaceIn P (atom at a) → FaultsAt (faults_of_form s (atom at a))
+  atom-at s at truth h = tt
+  atom-at s at falsity h = tt
+  atom-at s at whole h = whole-at s.mode at h.0
+  atom-at s at empty_set h = tt
+  atom-at s at (named n) h = name-at at n (meaning_of s n) h.0
+  atom-at s at (numeral n) h = case-at (nat_lt greatest_in_terms n) (OutOfRange at) h.0
+  atom-at s at (pconst i) h = number-at s i h.1
+  atom-at s at (imported file rs) h = renames-at s [] [] rs h.1
+
+  bracket-at : (s : Scope) (at : At) (k : Bracket) (e : Expression) → P at → FaultsAt (faults_of_form s (enclosed at k e))
+  bracket-at s at Parentheses e h = tt
+  bracket-at s at Emptiness e h = tt
+  bracket-at s at Restriction e h = tt
+  bracket-at s at (Export text_at file) e h = case-at (not s.exports_allowed) (NotHere at) h
+
   form-at : (s : Scope) (e : Expression) → EachPlaceIn P e → FaultsAt (faults_of_form s e)
-  form-at s (truth at) h = tt
-  form-at s (falsity at) h = tt
-  form-at s (whole at) h = whole-at s.mode at h
-  form-at s (empty_set at) h = tt
-  form-at s (name at n) h = name-at at n (meaning_of s n) h
-  form-at s (number at n) h = case-at (nat_lt greatest_in_terms n) (OutOfRange at) h
-  form-at s (pconst at i) h = number-at s i h.1
-  form-at s (brackets at e) h = tt
-  form-at s (literal at es) h = tt
-  form-at s (call at n es) h = call-at at n (count es) (meaning_of s n) h.0
-  form-at s (negation at e) h = tt
-  form-at s (conjunction at es) h = tt
-  form-at s (disjunction at es) h = tt
-  form-at s (implication at e f) h = tt
-  form-at s (equivalence at e f) h = tt
-  form-at s (relation at r e f) h = tt
-  form-at s (emptiness at e) h = tt
-  form-at s (union at e f) h = tt
-  form-at s (intersection at e f) h = tt
-  form-at s (difference at e f) h = tt
-  form-at s (shift at e i) h = both-at (faults_of_placed s i) (faults_of_offset i.at (value_of s i)) (number-at s i h.2) (offset-at i.at (value_of s i) h.2)
-  form-at s (minimum at e) h = tt
-  form-at s (maximum at e) h = tt
-  form-at s (quantified at q vs e) h = bounds-at [] vs h.1
-  form-at s (where_let at o ps e) h = parts-at [] ps h.1
-  form-at s (restrict at e) h = tt
-  form-at s (imported at file rs) h = renames-at s [] [] rs h.1
-  form-at s (exported at text_at file e) h = case-at (not s.exports_allowed) (NotHere at) h.0
+  form-at s (atom at a) h = atom-at s at a h
+  form-at s (prefixed at op e) h = tt
+  form-at s (binary at op e f) h = tt
+  form-at s (joined at op es) h = tt
+  form-at s (shifted at e i) h = both-at (faults_of_placed s i) (faults_of_offset i.at (value_of s i)) (number-at s i h.2) (offset-at i.at (value_of s i) h.2)
+  form-at s (enclosed at k e) h = bracket-at s at k e h.0
+  form-at s (listed at Literal es) h = tt
+  form-at s (listed at (Call n) es) h = call-at at n (count es) (meaning_of s n) h.0
+  form-at s (quantified at q o vs e) h = bounds-at [] vs h.1
+  form-at s (let_in at o ps e) h = parts-at [] ps h.1
 
   order-at : (s : Scope) (w : Wanted) (e : Expression) → EachPlaceIn P e → FaultsAt (faults_of_order s w e)
   order-at s w e h = unless-at (fits w (order_of s e)) (WrongOrder (place e)) (place-at P e h)
@@ -178,64 +180,36 @@ module _ (P : At → Type 0) where
   ExportAt used = P used.at
 
   import-at : (s : Scope) (e : Expression) → EachPlaceIn P e → Each ImportAt (import_of_form s e)
-  import-at s (truth at) h = tt
-  import-at s (falsity at) h = tt
-  import-at s (whole at) h = tt
-  import-at s (empty_set at) h = tt
-  import-at s (name at n) h = tt
-  import-at s (number at n) h = tt
-  import-at s (pconst at i) h = tt
-  import-at s (brackets at e) h = tt
-  import-at s (literal at es) h = tt
-  import-at s (call at n es) h = tt
-  import-at s (negation at e) h = tt
-  import-at s (conjunction at es) h = tt
-  import-at s (disjunction at es) h = tt
-  import-at s (implication at e f) h = tt
-  import-at s (equivalence at e f) h = tt
-  import-at s (relation at r e f) h = tt
-  import-at s (emptiness at e) h = tt
-  import-at s (union at e f) h = tt
-  import-at s (intersection at e f) h = tt
-  import-at s (difference at e f) h = tt
-  import-at s (shift at e i) h = tt
-  import-at s (minimum at e) h = tt
-  import-at s (maximum at e) h = tt
-  import-at s (quantified at q vs e) h = tt
-  import-at s (where_let at o ps e) h = tt
-  import-at s (restrict at e) h = tt
-  import-at s (imported at file rs) h = (h.0, tt)
-  import-at s (exported at text_at file e) h = tt
+  import-at s (atom at truth) h = tt
+  import-at s (atom at falsity) h = tt
+  import-at s (atom at whole) h = tt
+  import-at s (atom at empty_set) h = tt
+  import-at s (atom at (named n)) h = tt
+  import-at s (atom at (numeral n)) h = tt
+  import-at s (atom at (pconst i)) h = tt
+  import-at s (atom at (imported file rs)) h = (h.0, tt)
+  import-at s (prefixed at op e) h = tt
+  import-at s (binary at op e f) h = tt
+  import-at s (joined at op es) h = tt
+  import-at s (shifted at e i) h = tt
+  import-at s (enclosed at k e) h = tt
+  import-at s (listed at l es) h = tt
+  import-at s (quantified at q o vs e) h = tt
+  import-at s (let_in at o ps e) h = tt
 
   export-at : (s : Scope) (b : Before) (e : Expression) → EachPlaceIn P e → Each ExportAt (export_of_form s b e)
-  export-at s b (truth at) h = tt
-  export-at s b (falsity at) h = tt
-  export-at s b (whole at) h = tt
-  export-at s b (empty_set at) h = tt
-  export-at s b (name at n) h = tt
-  export-at s b (number at n) h = tt
-  export-at s b (pconst at i) h = tt
-  export-at s b (brackets at e) h = tt
-  export-at s b (literal at es) h = tt
-  export-at s b (call at n es) h = tt
-  export-at s b (negation at e) h = tt
-  export-at s b (conjunction at es) h = tt
-  export-at s b (disjunction at es) h = tt
-  export-at s b (implication at e f) h = tt
-  export-at s b (equivalence at e f) h = tt
-  export-at s b (relation at r e f) h = tt
-  export-at s b (emptiness at e) h = tt
-  export-at s b (union at e f) h = tt
-  export-at s b (intersection at e f) h = tt
-  export-at s b (difference at e f) h = tt
-  export-at s b (shift at e i) h = tt
-  export-at s b (minimum at e) h = tt
-  export-at s b (maximum at e) h = tt
-  export-at s b (quantified at q vs e) h = tt
-  export-at s b (where_let at o ps e) h = tt
-  export-at s b (restrict at e) h = tt
-  export-at s b (imported at file rs) h = tt
-  export-at s b (exported at text_at file e) h = (h.1, tt)
+  export-at s b (atom at a) h = tt
+  export-at s b (prefixed at op e) h = tt
+  export-at s b (binary at op e f) h = tt
+  export-at s b (joined at op es) h = tt
+  export-at s b (shifted at e i) h = tt
+  export-at s b (enclosed at Parentheses e) h = tt
+  export-at s b (enclosed at Emptiness e) h = tt
+  export-at s b (enclosed at Restriction e) h = tt
+  export-at s b (enclosed at (Export text_at file) e) h = (h.1, tt)
+  export-at s b (listed at l es) h = tt
+  export-at s b (quantified at q o vs e) h = tt
+  export-at s b (let_in at o ps e) h = tt
 
   pub imports-at : (os : List Occurrence) → Each (StandsAt P) os → Each ImportAt (flat_map import_at os)
   imports-at [] h = tt

@@ -16,7 +16,7 @@ use Rattle.ms_names_rules.proofs.Fitting.{each-back}
 use Rattle.ms_include_laws.specs.inner.places.Places.{EachPlaceInItem}
 use Rattle.ms_include_laws.proofs.of_places.Reading.{HeaderAt, SymbolAt, SymbolsAt, document-at}
 use Rattle.ms_include_laws.proofs.of_places.Refused.{IsToldAt}
-use Rattle.ms_include_laws.proofs.of_places.Views.{items-placed}
+use Rattle.ms_include_laws.proofs.of_places.Declarations.{items-placed}
 
 -- P holds of each place in the file with this number
 module _ (P : At → Type 0) (number : ℕ) (here : (place : ℕ) → P (record { file = number; place = place })) where

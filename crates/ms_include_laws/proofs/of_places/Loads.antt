@@ -16,6 +16,7 @@ use Rattle.ms_include.specs.Include.{AllBecome, Becomes, Files, IsHeaderFault, I
 use Rattle.ms_include.specs.Load.{IsLoaded, IsRefusedLoad, IsRefusedText, files_of, first_include, place_or}
 use Rattle.ms_logic.specs.Lists.{Each}
 use Rattle.ms_names_rules.proofs.Fitting.{If, each-append}
+use Rattle.ms_parse_grammar.specs.View.{declaration_of}
 use Rattle.ms_include_laws.specs.inner.places.Laws.{LoadedSourcesHavePlaces, LoadedTextsHavePlaces, RefusedLoadsAreTold, RefusedTextsAreTold}
 use Rattle.ms_include_laws.specs.inner.places.Places.{EachPlaceInDeclaration, EachPlaceInItem, IsAmongFiles}
 use Rattle.ms_include_laws.proofs.of_places.Files.{header-placed, none-told, source-placed}
@@ -49,7 +50,7 @@ loading-grows files (suc deeper) chain read name after items (source, few, is, n
     omega (arith, longer read name after inside)
 
 -- the place of the name in an include is one of its places
-include-at : (P : At → Type 0) (d : Decl) → EachPlaceInDeclaration P d → If (λ (include : At × List ℕ). P include.0) (include_of d)
+include-at : (P : At → Type 0) (d : Decl) → EachPlaceInDeclaration P (declaration_of d) → If (λ (include : At × List ℕ). P include.0) (include_of d)
 include-at P (Vars bounds) h = tt
 include-at P (Const at n sum) h = tt
 include-at P (Pred is_pred at n bounds body) h = tt

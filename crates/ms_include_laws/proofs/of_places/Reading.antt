@@ -11,14 +11,12 @@ use Rattle.ms_parse_grammar.specs.declared.operator.Bracket.TheVariants.{Parenth
 use Rattle.ms_parse_grammar.specs.declared.operator.Listing.{Listing}
 use Rattle.ms_parse_grammar.specs.declared.operator.Listing.TheVariants.{Literal, Call}
 use Rattle.ms_parse_grammar.specs.Symbol.{Symbol, Placed, placed}
-use Rattle.ms_parse_grammar.specs.Tree.{Atom, truth, falsity, whole, empty_set, named, numeral, pconst, imported}
-use Rattle.ms_parse_grammar.specs.Tree.{Expression, atom, prefixed, binary, joined, shifted, enclosed, listed, quantified, let_in, Expressions, no_expressions, and_expression, Variables, no_variables, and_variable, Domain, unrestricted, restricted, Parts, no_parts, and_part}
-use Rattle.ms_parse_grammar.specs.Tree.{Declaration, variables, constant, predicate, included, default_restriction, formula, goal, Declared, Document}
+use Rattle.ms_parse_grammar.specs.Tree.{Atom, truth, falsity, whole, empty_set, named, numeral, pconst, imported, Expression, atom, prefixed, binary, joined, shifted, enclosed, listed, quantified, let_in, Expressions, no_expressions, and_expression, Variables, no_variables, and_variable, Domain, unrestricted, restricted, Parts, no_parts, and_part, Declaration, variables, constant, predicate, included, default_restriction, formula, goal, Declared, Document}
 use Rattle.ms_parse_grammar.specs.Reads.{Starts, Follows, FirstIsAt, place, ReadsPairs, ReadsAtom, ReadsOpening, ReadsListOpening, ReadsExpression, ReadsSeparated, ReadsList, ReadsDomain, ReadsVariables, ReadsParts}
 use Rattle.ms_parse_grammar.specs.Declarations.{BeginsAt, ReadsKind, ReadsParameters, ReadsParameterList, ReadsFurther, ReadsSum, ReadsDeclaration, ReadsDeclarations, ReadsString, ReadsHeader, ReadsDocument}
 use Rattle.ms_logic.specs.Lists.{Each}
 use Rattle.ms_include_laws.specs.inner.places.Places.{EachPlaceInRenames, EachPlaceInSum}
-use Rattle.ms_include_laws.proofs.of_places.Grammar.{ReadAtomAt, ReadBracketAt, ReadAt, ReadAllAt, ReadVariablesAt, ReadDomainAt, ReadPartsAt, ReadDeclarationAt, ReadDeclaredAt}
+use Rattle.ms_include_laws.specs.inner.places.Places.{EachPlaceInAtom, EachPlaceInBracket, EachPlaceIn, EachPlaceInAll, EachPlaceInBounds, EachPlaceInDomain, EachPlaceInParts, EachPlaceInDeclaration, EachPlaceInDeclared}
 
 module _ (P : At → Type 0) where
   abbrev pub SymbolAt : Placed → Type 0
@@ -41,7 +39,7 @@ module _ (P : At → Type 0) where
       let rest = pairs-at pairs f4 behind more second.1 in
       (((first.0, second.0), rest.0), rest.1)
 
-  atom-at : (a : Atom) (at : At) (from behind : List Placed) → ReadsAtom true a at from behind → SymbolsAt from → P at × ReadAtomAt P a × SymbolsAt behind
+  atom-at : (a : Atom) (at : At) (from behind : List Placed) → ReadsAtom true a at from behind → SymbolsAt from → P at × EachPlaceInAtom P a × SymbolsAt behind
   atom-at truth at from behind reads h = let all = starts _ at from behind reads h in (all.0, tt, all.1)
   atom-at falsity at from behind reads h = let all = starts _ at from behind reads h in (all.0, tt, all.1)
   atom-at whole at from behind reads h = let all = starts _ at from behind reads h in (all.0, tt, all.1)
@@ -57,7 +55,7 @@ module _ (P : At → Type 0) where
       let rest = pairs-at pairs f3 f4 more (follows _ f2 f3 texts (follows _ f1 f2 opens first.1)) in
       (first.0, rest.0, follows _ f4 behind closes rest.1)
 
-  opening-at : (b : Bracket) (at : At) (from behind : List Placed) → ReadsOpening true b at from behind → SymbolsAt from → P at × ReadBracketAt P b × SymbolsAt behind
+  opening-at : (b : Bracket) (at : At) (from behind : List Placed) → ReadsOpening true b at from behind → SymbolsAt from → P at × EachPlaceInBracket P b × SymbolsAt behind
   opening-at Parentheses at from behind reads h = let all = starts _ at from behind reads h in (all.0, tt, all.1)
   opening-at Emptiness at from behind (f1, word, opens) h = let first = starts _ at from f1 word h in (first.0, tt, follows _ f1 behind opens first.1)
   opening-at Restriction at from behind (f1, word, opens) h = let first = starts _ at from f1 word h in (first.0, tt, follows _ f1 behind opens first.1)
@@ -71,7 +69,7 @@ module _ (P : At → Type 0) where
   list-opening-at (Call p) at from behind (f1, names, opens) h = let first = starts _ at from f1 names h in (first.0, follows _ f1 behind opens first.1)
 
   -- the place of an expression is one of its places
-  place-at : (e : Expression) → ReadAt P e → P (place e)
+  place-at : (e : Expression) → EachPlaceIn P e → P (place e)
   place-at (atom at a) h = h.0
   place-at (prefixed at op e) h = h.0
   place-at (binary at op l r) h = h.0
@@ -82,13 +80,13 @@ module _ (P : At → Type 0) where
   place-at (quantified at q o vs body) h = h.0
   place-at (let_in at o parts body) h = h.0
 
-  first-at : (at : At) (es : Expressions) → FirstIsAt true at es → ReadAllAt P es → P at
+  first-at : (at : At) (es : Expressions) → FirstIsAt true at es → EachPlaceInAll P es → P at
   first-at at no_expressions is h = absurd is
   first-at at (and_expression no_expressions e) is h = subst P (sym is) (place-at e h.1)
   first-at at (and_expression (and_expression before d) e) is h = first-at at (and_expression before d) is h.0
 
   mutual
-    pub expression-at : (e : Expression) (from behind : List Placed) → ReadsExpression true e from behind → SymbolsAt from → ReadAt P e × SymbolsAt behind
+    pub expression-at : (e : Expression) (from behind : List Placed) → ReadsExpression true e from behind → SymbolsAt from → EachPlaceIn P e × SymbolsAt behind
     expression-at (atom at a) from behind reads h = let all = atom-at a at from behind reads h in ((all.0, all.1), all.2)
     expression-at (prefixed at op e) from behind (f1, op_is, reads) h =
         let first = starts _ at from f1 op_is h in
@@ -124,7 +122,7 @@ module _ (P : At → Type 0) where
         let rest = expression-at body f3 behind reads_body (follows _ f2 f3 in_is second.1) in
         ((first.0, second.0, rest.0), rest.1)
 
-    separated-at : (es : Expressions) (s : Symbol) (from behind : List Placed) → ReadsSeparated true s es from behind → SymbolsAt from → ReadAllAt P es × SymbolsAt behind
+    separated-at : (es : Expressions) (s : Symbol) (from behind : List Placed) → ReadsSeparated true s es from behind → SymbolsAt from → EachPlaceInAll P es × SymbolsAt behind
     separated-at no_expressions s from behind reads h = absurd reads
     separated-at (and_expression no_expressions e) s from behind reads h =
         let all = expression-at e from behind reads h in
@@ -134,7 +132,7 @@ module _ (P : At → Type 0) where
         let rest = expression-at e f2 behind last (follows _ f1 f2 s_is first.1) in
         ((first.0, rest.0), rest.1)
 
-    list-at : (es : Expressions) (from behind : List Placed) → ReadsList true es from behind → SymbolsAt from → ReadAllAt P es × SymbolsAt behind
+    list-at : (es : Expressions) (from behind : List Placed) → ReadsList true es from behind → SymbolsAt from → EachPlaceInAll P es × SymbolsAt behind
     list-at no_expressions from behind none h = (tt, subst SymbolsAt none h)
     list-at (and_expression no_expressions e) from behind reads h =
         let all = expression-at e from behind reads h in
@@ -144,11 +142,11 @@ module _ (P : At → Type 0) where
         let rest = expression-at e f2 behind last (follows _ f1 f2 comma first.1) in
         ((first.0, rest.0), rest.1)
 
-    domain-at : (d : Domain) (from behind : List Placed) → ReadsDomain true d from behind → SymbolsAt from → ReadDomainAt P d × SymbolsAt behind
+    domain-at : (d : Domain) (from behind : List Placed) → ReadsDomain true d from behind → SymbolsAt from → EachPlaceInDomain P d × SymbolsAt behind
     domain-at unrestricted from behind none h = (tt, subst SymbolsAt none h)
     domain-at (restricted d) from behind (f1, where_is, reads) h = expression-at d f1 behind reads (follows _ from f1 where_is h)
 
-    variables-at : (vs : Variables) (from behind : List Placed) → ReadsVariables true vs from behind → SymbolsAt from → ReadVariablesAt P vs × SymbolsAt behind
+    variables-at : (vs : Variables) (from behind : List Placed) → ReadsVariables true vs from behind → SymbolsAt from → EachPlaceInBounds P vs × SymbolsAt behind
     variables-at no_variables from behind reads h = absurd reads
     variables-at (and_variable no_variables at o n d) from behind (f1, names, domain) h =
         let first = starts _ at from f1 names h in
@@ -160,7 +158,7 @@ module _ (P : At → Type 0) where
         let rest = domain-at d f3 behind domain second.1 in
         ((first.0, second.0, rest.0), rest.1)
 
-    parts-at : (parts : Parts) (from behind : List Placed) → ReadsParts true parts from behind → SymbolsAt from → ReadPartsAt P parts × SymbolsAt behind
+    parts-at : (parts : Parts) (from behind : List Placed) → ReadsParts true parts from behind → SymbolsAt from → EachPlaceInParts P parts × SymbolsAt behind
     parts-at no_parts from behind reads h = absurd reads
     parts-at (and_part no_parts at n value) from behind (f1, f2, names, equals, reads) h =
         let first = starts _ at from f1 names h in
@@ -178,7 +176,7 @@ module _ (P : At → Type 0) where
   kind-at before o from behind (inl word) h = follows _ from behind word h
   kind-at before o from behind (inr (same, none)) h = subst SymbolsAt none h
 
-  parameters-at : (vs : Variables) (from behind : List Placed) → ReadsParameters true vs from behind → SymbolsAt from → ReadVariablesAt P vs × SymbolsAt behind
+  parameters-at : (vs : Variables) (from behind : List Placed) → ReadsParameters true vs from behind → SymbolsAt from → EachPlaceInBounds P vs × SymbolsAt behind
   parameters-at no_variables from behind reads h = absurd reads
   parameters-at (and_variable no_variables at o n d) from behind (f1, f2, word, names, domain) h =
       let first = starts _ at f1 f2 names (follows _ from f1 word h) in
@@ -190,7 +188,7 @@ module _ (P : At → Type 0) where
       let rest = domain-at d f4 behind domain second.1 in
       ((first.0, second.0, rest.0), rest.1)
 
-  parameter-list-at : (vs : Variables) (from behind : List Placed) → ReadsParameterList true vs from behind → SymbolsAt from → ReadVariablesAt P vs × SymbolsAt behind
+  parameter-list-at : (vs : Variables) (from behind : List Placed) → ReadsParameterList true vs from behind → SymbolsAt from → EachPlaceInBounds P vs × SymbolsAt behind
   parameter-list-at no_variables from behind (inl none) h = (tt, subst SymbolsAt none h)
   parameter-list-at no_variables from behind (inr (f1, opens, closes)) h = (tt, follows _ f1 behind closes (follows _ from f1 opens h))
   parameter-list-at (and_variable before at o n d) from behind (f1, f2, opens, reads, closes) h =
@@ -211,7 +209,7 @@ module _ (P : At → Type 0) where
       let rest = further-at ns f1 behind more first.1 in
       ((first.0, rest.0), rest.1)
 
-  declaration-at : (d : Declaration) (from behind : List Placed) → ReadsDeclaration true d from behind → SymbolsAt from → ReadDeclarationAt P d × SymbolsAt behind
+  declaration-at : (d : Declaration) (from behind : List Placed) → ReadsDeclaration true d from behind → SymbolsAt from → EachPlaceInDeclaration P d × SymbolsAt behind
   declaration-at (variables vs) from behind (o, f1, word, ordered, reads) h = variables-at vs f1 behind reads (follows _ from f1 word h)
   declaration-at (constant at n sum) from behind (f1, f2, f3, word, names, equals, reads) h =
       let first = starts _ at f1 f2 names (follows _ from f1 word h) in
@@ -235,7 +233,7 @@ module _ (P : At → Type 0) where
   begins-at at [] begins h = absurd begins
   begins-at at (placed s there ∷ more) begins h = subst P (sym begins) h.0
 
-  declarations-at : (ds : List Declared) (from behind : List Placed) → ReadsDeclarations true ds from behind → SymbolsAt from → Each (ReadDeclaredAt P) ds
+  declarations-at : (ds : List Declared) (from behind : List Placed) → ReadsDeclarations true ds from behind → SymbolsAt from → Each (EachPlaceInDeclared P) ds
   declarations-at [] from behind none h = tt
   declarations-at (d ∷ ds) from behind (f1, f2, begins, reads, ends, more) h =
       let first = declaration-at d.declaration from f1 reads h in
@@ -258,7 +256,7 @@ module _ (P : At → Type 0) where
       (first.0, follows _ f1 behind ends first.1)
   header-at (Some (at, M2lStr)) from behind reads h = string-at at from behind reads h
 
-  pub document-at : (d : Document) (all : List Placed) → ReadsDocument true d all → SymbolsAt all → HeaderAt d.header × Each (ReadDeclaredAt P) d.declarations
+  pub document-at : (d : Document) (all : List Placed) → ReadsDocument true d all → SymbolsAt all → HeaderAt d.header × Each (EachPlaceInDeclared P) d.declarations
   document-at d all (f, header, declarations) h =
       let first = header-at d.header all f header h in
       (first.0, declarations-at d.declarations f [] declarations first.1)

@@ -16,7 +16,7 @@ use Rattle.ms_include.specs.File.{ReadAs}
 use Rattle.ms_logic.specs.declared.source.Source.{Source}
 use Rattle.ms_logic.specs.Lists.{Each}
 use Rattle.ms_include_laws.proofs.of_spellings.Reading.{Names, SymbolNames, document-named}
-use Rattle.ms_include_laws.proofs.of_spellings.Views.{ItemNames, items-named}
+use Rattle.ms_include_laws.proofs.of_spellings.Items.{ItemNames, items-named}
 
 -- each token of a list spells its kind
 abbrev SpellsItself : List ℕ → Token → Type 0

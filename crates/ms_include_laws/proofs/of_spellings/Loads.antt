@@ -10,7 +10,7 @@ use Rattle.ms_logic.specs.Lists.{Each}
 use Rattle.ms_names_rules.proofs.Fitting.{each-append}
 use Rattle.ms_include_laws.specs.inner.spellings.Laws.{LoadedSourcesDeclareNames, LoadedTextsDeclareNames}
 use Rattle.ms_include_laws.proofs.of_spellings.Files.{source-named}
-use Rattle.ms_include_laws.proofs.of_spellings.Views.{ItemNames, declared-named}
+use Rattle.ms_include_laws.proofs.of_spellings.Items.{ItemNames, declared-named}
 
 abbrev AreNamed : List Item → Type 0
 AreNamed items = Each ItemNames items

@@ -1,7 +1,7 @@
 -- Where each symbol of a name has a name of the language, so has the tree that is read from the symbols.
 use Rattle.std.proofs.Common.{true, inl, inr, List, [], ◌∷◌, Option, Some, None, subst}
 use Rattle.ms_list.specs.declared.at.At.{At}
-use Rattle.ms_names_checked.specs.Spellings.{IsName}
+use Rattle.ms_names_checked.specs.Spellings.{IsName, ImportsNames, BindsNames, EachBindsNames, BoundsHaveNames, DomainBindsNames, PartsHaveNames, DeclaresNames}
 use Rattle.ms_logic.specs.declared.mode.Mode.{Mode}
 use Rattle.ms_logic.specs.declared.mode.Mode.TheVariants.{Ws1s, M2lStr}
 use Rattle.ms_logic.specs.declared.mode.Order.{Order}
@@ -12,13 +12,11 @@ use Rattle.ms_parse_grammar.specs.declared.operator.Bracket.TheVariants.{Parenth
 use Rattle.ms_parse_grammar.specs.declared.operator.Listing.{Listing}
 use Rattle.ms_parse_grammar.specs.declared.operator.Listing.TheVariants.{Literal, Call}
 use Rattle.ms_parse_grammar.specs.Symbol.{Symbol, name, Placed, placed}
-use Rattle.ms_parse_grammar.specs.Tree.{Atom, truth, falsity, whole, empty_set, named, numeral, pconst, imported}
-use Rattle.ms_parse_grammar.specs.Tree.{Expression, atom, prefixed, binary, joined, shifted, enclosed, listed, quantified, let_in, Expressions, no_expressions, and_expression, Variables, no_variables, and_variable, Domain, unrestricted, restricted, Parts, no_parts, and_part}
-use Rattle.ms_parse_grammar.specs.Tree.{Declaration, variables, constant, predicate, included, default_restriction, formula, goal, Declared, Document}
+use Rattle.ms_parse_grammar.specs.Tree.{Atom, truth, falsity, whole, empty_set, named, numeral, pconst, imported, Expression, atom, prefixed, binary, joined, shifted, enclosed, listed, quantified, let_in, Expressions, no_expressions, and_expression, Variables, no_variables, and_variable, Domain, unrestricted, restricted, Parts, no_parts, and_part, Declaration, variables, constant, predicate, included, default_restriction, formula, goal, Declared, Document}
 use Rattle.ms_parse_grammar.specs.Reads.{Starts, Follows, ReadsPairs, ReadsAtom, ReadsOpening, ReadsListOpening, ReadsExpression, ReadsSeparated, ReadsList, ReadsDomain, ReadsVariables, ReadsParts}
 use Rattle.ms_parse_grammar.specs.Declarations.{ReadsKind, ReadsParameters, ReadsParameterList, ReadsFurther, ReadsSum, ReadsDeclaration, ReadsDeclarations, ReadsString, ReadsHeader, ReadsDocument}
 use Rattle.ms_logic.specs.Lists.{Each}
-use Rattle.ms_include_laws.proofs.of_spellings.Grammar.{AtomNames, ExpressionNames, ExpressionsNames, VariablesNames, DomainNames, PartsNames, DeclarationNames, DeclaredNames}
+use Rattle.ms_include_laws.proofs.of_spellings.Items.{DeclaredNames}
 
 -- a symbol of a name has a name of the language
 abbrev pub SymbolNames : Symbol → Type 0
@@ -48,7 +46,7 @@ pairs-named (pair ∷ pairs) from behind (f1, f2, f3, f4, comma, left, arrow, ri
     let rest = pairs-named pairs f4 behind more second.1 in
     ((first.0, rest.0), rest.1)
 
-atom-named : (a : Atom) (at : At) (from behind : List Placed) → ReadsAtom true a at from behind → Names from → AtomNames a × Names behind
+atom-named : (a : Atom) (at : At) (from behind : List Placed) → ReadsAtom true a at from behind → Names from → ImportsNames a × Names behind
 atom-named truth at from behind reads h = (tt, (starts _ at from behind reads h).1)
 atom-named falsity at from behind reads h = (tt, (starts _ at from behind reads h).1)
 atom-named whole at from behind reads h = (tt, (starts _ at from behind reads h).1)
@@ -77,7 +75,7 @@ list-opening-named Literal at from behind reads h = (starts _ at from behind rea
 list-opening-named (Call p) at from behind (f1, names, opens) h = past _ f1 behind opens (starts _ at from f1 names h).1
 
 mutual
-  expression-named : (e : Expression) (from behind : List Placed) → ReadsExpression true e from behind → Names from → ExpressionNames e × Names behind
+  expression-named : (e : Expression) (from behind : List Placed) → ReadsExpression true e from behind → Names from → BindsNames e × Names behind
   expression-named (atom at a) from behind reads h = atom-named a at from behind reads h
   expression-named (prefixed at op e) from behind (f1, op_is, reads) h = expression-named e f1 behind reads (starts _ at from f1 op_is h).1
   expression-named (binary at op l r) from behind (f1, f2, here, left, op_is, right) h =
@@ -103,7 +101,7 @@ mutual
       let rest = expression-named body f3 behind reads_body (past _ f2 f3 in_is second.1) in
       ((second.0, rest.0), rest.1)
 
-  separated-named : (es : Expressions) (s : Symbol) (from behind : List Placed) → ReadsSeparated true s es from behind → Names from → ExpressionsNames es × Names behind
+  separated-named : (es : Expressions) (s : Symbol) (from behind : List Placed) → ReadsSeparated true s es from behind → Names from → EachBindsNames es × Names behind
   separated-named no_expressions s from behind reads h = absurd reads
   separated-named (and_expression no_expressions e) s from behind reads h =
       let all = expression-named e from behind reads h in
@@ -113,7 +111,7 @@ mutual
       let rest = expression-named e f2 behind last (past _ f1 f2 s_is first.1) in
       ((first.0, rest.0), rest.1)
 
-  list-named : (es : Expressions) (from behind : List Placed) → ReadsList true es from behind → Names from → ExpressionsNames es × Names behind
+  list-named : (es : Expressions) (from behind : List Placed) → ReadsList true es from behind → Names from → EachBindsNames es × Names behind
   list-named no_expressions from behind none h = (tt, subst Names none h)
   list-named (and_expression no_expressions e) from behind reads h =
       let all = expression-named e from behind reads h in
@@ -123,11 +121,11 @@ mutual
       let rest = expression-named e f2 behind last (past _ f1 f2 comma first.1) in
       ((first.0, rest.0), rest.1)
 
-  domain-named : (d : Domain) (from behind : List Placed) → ReadsDomain true d from behind → Names from → DomainNames d × Names behind
+  domain-named : (d : Domain) (from behind : List Placed) → ReadsDomain true d from behind → Names from → DomainBindsNames d × Names behind
   domain-named unrestricted from behind none h = (tt, subst Names none h)
   domain-named (restricted d) from behind (f1, where_is, reads) h = expression-named d f1 behind reads (past _ from f1 where_is h)
 
-  variables-named : (vs : Variables) (from behind : List Placed) → ReadsVariables true vs from behind → Names from → VariablesNames vs × Names behind
+  variables-named : (vs : Variables) (from behind : List Placed) → ReadsVariables true vs from behind → Names from → BoundsHaveNames vs × Names behind
   variables-named no_variables from behind reads h = absurd reads
   variables-named (and_variable no_variables at o n d) from behind (f1, names, domain) h =
       let first = starts _ at from f1 names h in
@@ -139,7 +137,7 @@ mutual
       let rest = domain-named d f3 behind domain second.1 in
       ((first.0, second.0, rest.0), rest.1)
 
-  parts-named : (parts : Parts) (from behind : List Placed) → ReadsParts true parts from behind → Names from → PartsNames parts × Names behind
+  parts-named : (parts : Parts) (from behind : List Placed) → ReadsParts true parts from behind → Names from → PartsHaveNames parts × Names behind
   parts-named no_parts from behind reads h = absurd reads
   parts-named (and_part no_parts at n value) from behind (f1, f2, names, equals, reads) h =
       let first = starts _ at from f1 names h in
@@ -157,7 +155,7 @@ kind-named : (before o : Order) (from behind : List Placed) → ReadsKind before
 kind-named before o from behind (inl word) h = past _ from behind word h
 kind-named before o from behind (inr (same, none)) h = subst Names none h
 
-parameters-named : (vs : Variables) (from behind : List Placed) → ReadsParameters true vs from behind → Names from → VariablesNames vs × Names behind
+parameters-named : (vs : Variables) (from behind : List Placed) → ReadsParameters true vs from behind → Names from → BoundsHaveNames vs × Names behind
 parameters-named no_variables from behind reads h = absurd reads
 parameters-named (and_variable no_variables at o n d) from behind (f1, f2, word, names, domain) h =
     let first = starts _ at f1 f2 names (past _ from f1 word h) in
@@ -169,7 +167,7 @@ parameters-named (and_variable (and_variable before at' o' n' d') at o n d) from
     let rest = domain-named d f4 behind domain second.1 in
     ((first.0, second.0, rest.0), rest.1)
 
-parameter-list-named : (vs : Variables) (from behind : List Placed) → ReadsParameterList true vs from behind → Names from → VariablesNames vs × Names behind
+parameter-list-named : (vs : Variables) (from behind : List Placed) → ReadsParameterList true vs from behind → Names from → BoundsHaveNames vs × Names behind
 parameter-list-named no_variables from behind (inl none) h = (tt, subst Names none h)
 parameter-list-named no_variables from behind (inr (f1, opens, closes)) h = (tt, past _ f1 behind closes (past _ from f1 opens h))
 parameter-list-named (and_variable before at o n d) from behind (f1, f2, opens, reads, closes) h =
@@ -184,7 +182,7 @@ sum-named : (ns : List PlacedInt) (from behind : List Placed) → ReadsSum true 
 sum-named [] from behind reads h = absurd reads
 sum-named (n ∷ ns) from behind (f1, plus, int, more) h = further-named ns f1 behind more (starts _ n.at from f1 int h).1
 
-declaration-named : (d : Declaration) (from behind : List Placed) → ReadsDeclaration true d from behind → Names from → DeclarationNames d × Names behind
+declaration-named : (d : Declaration) (from behind : List Placed) → ReadsDeclaration true d from behind → Names from → DeclaresNames d × Names behind
 declaration-named (variables vs) from behind (o, f1, word, ordered, reads) h = variables-named vs f1 behind reads (past _ from f1 word h)
 declaration-named (constant at n sum) from behind (f1, f2, f3, word, names, equals, reads) h =
     let first = starts _ at f1 f2 names (past _ from f1 word h) in

@@ -10,13 +10,13 @@ x-is-name : IsName (codes "X")
 x-is-name = spelled.globals.0
 
 pub name : DeclaresNames (declares (codes "X"))
-name = (x-is-name, tt, tt)
+name = (tt, x-is-name, tt)
 
 pub word-refused : DeclaresNames (declares (codes "where")) → ⊥
-word-refused h = h.0.1 (words.Where, refl)
+word-refused h = h.1.1 (words.Where, refl)
 
 pub nothing-refused : DeclaresNames (declares (codes "")) → ⊥
-nothing-refused h = let start : false ≡ true = h.0.0 in false≢true start
+nothing-refused h = let start : false ≡ true = h.1.0 in false≢true start
 
 pub import : DeclaresNames (imports (codes "X"))
 import = (x-is-name, tt)

@@ -5,8 +5,12 @@ use Rattle.ms_list.specs.declared.at.At.{At}
 use Rattle.ms_logic.specs.Tree as tree
 use Rattle.ms_logic.specs.Tree.{Argument, Forms, truth_argument}
 use Rattle.ms_names_rules.specs.declared.wanted.Wanted.{Wanted}
-use Rattle.ms_names_rules.specs.Occurrence.{formula_wanted, set_wanted}
-use Rattle.ms_names_rules.specs.Syntax.{Expression, Expressions, conjunction, difference, disjunction, emptiness, equivalence, implication, intersection, maximum, minimum, negation, restrict, union}
+use Rattle.ms_names_rules.specs.Order.{formula_wanted, set_wanted}
+use Rattle.ms_parse_grammar.specs.declared.operator.Prefix.TheVariants.{Negation, Minimum, Maximum}
+use Rattle.ms_parse_grammar.specs.declared.operator.Binary.TheVariants.{Implication, Equivalence, Union, Intersection, Difference}
+use Rattle.ms_parse_grammar.specs.declared.operator.Junction.TheVariants.{Conjunction, Disjunction}
+use Rattle.ms_parse_grammar.specs.declared.operator.Bracket.TheVariants.{Emptiness, Restriction}
+use Rattle.ms_parse_grammar.specs.Tree.{Expression, prefixed, binary, joined, enclosed, Expressions}
 use Rattle.ms_names_rules.specs.Typed.{formula_of_one, formula_of_two, number_of_set, set_in, set_of_two}
 use Rattle.ms_names.specs.declared.operation.Binary.{Binary}
 use Rattle.ms_names.specs.declared.operation.Binary.TheVariants.{Implies, Iff, Union, Inter, Minus}
@@ -18,11 +22,11 @@ use Rattle.ms_names.specs.declared.operation.Unary.TheVariants.{Not, Restrict, I
 -- on one expression
 
 abbrev pub of_one : Unary → At → Expression → Expression
-of_one Not at e = negation at e
-of_one Restrict at e = restrict at e
-of_one IsEmpty at e = emptiness at e
-of_one Min at e = minimum at e
-of_one Max at e = maximum at e
+of_one Not at e = prefixed at Negation e
+of_one Restrict at e = enclosed at Restriction e
+of_one IsEmpty at e = enclosed at Emptiness e
+of_one Min at e = prefixed at Minimum e
+of_one Max at e = prefixed at Maximum e
 
 abbrev pub wanted_of_one : Unary → Wanted
 wanted_of_one Not = formula_wanted
@@ -41,11 +45,11 @@ made_of_one Max a = number_of_set (λ t. tree.maximum t) a
 -- on two expressions of one order
 
 abbrev pub of_two : Binary → At → Expression → Expression → Expression
-of_two Implies at e f = implication at e f
-of_two Iff at e f = equivalence at e f
-of_two Union at e f = union at e f
-of_two Inter at e f = intersection at e f
-of_two Minus at e f = difference at e f
+of_two Implies at e f = binary at Implication e f
+of_two Iff at e f = binary at Equivalence e f
+of_two Union at e f = binary at Union e f
+of_two Inter at e f = binary at Intersection e f
+of_two Minus at e f = binary at Difference e f
 
 abbrev pub wanted_of_two : Binary → Wanted
 wanted_of_two Implies = formula_wanted
@@ -64,8 +68,8 @@ made_of_two Minus a b = set_of_two (λ s t. tree.difference s t) a b
 -- on a list of formulas
 
 abbrev pub of_all : Connective → At → Expressions → Expression
-of_all And at es = conjunction at es
-of_all Or at es = disjunction at es
+of_all And at es = joined at Conjunction es
+of_all Or at es = joined at Disjunction es
 
 abbrev pub made_of_all : Connective → Option Forms → Option Argument
 made_of_all And fs = option_map (λ all. truth_argument (tree.conjunction all)) fs

@@ -10,7 +10,7 @@ use Rattle.ms_names_rules.specs.inner.Binder.{restricted_variables}
 use Rattle.ms_names_rules.specs.Declarations.{Known, after_declaration, exports_in, faults_in, occurrences_in}
 use Rattle.ms_names_rules.specs.Fault.{first_fault}
 use Rattle.ms_names_rules.specs.Scope.{Scope}
-use Rattle.ms_names_rules.specs.Syntax.{Declaration, globals, constant, predicate, include, default, formula}
+use Rattle.ms_parse_grammar.specs.Tree.{Declaration, variables, constant, predicate, included, default_restriction, formula, goal}
 use Rattle.ms_names_rules.specs.Typed.{formula_in, typed}
 use Rattle.ms_names_rules.specs.TypedSource.{typed_default, typed_predicate}
 use Rattle.ms_names_rules.specs.Uses.{import_at}
@@ -26,12 +26,13 @@ pub data Made : Type 0 where
 
 -- what a declaration gives, where the numbers of globals go on from x
 abbrev pub made_in : Scope → ℕ → Before → Declaration → Made
-made_in s x b (globals vs) = made_globals (restricted_variables true s x b vs)
+made_in s x b (variables vs) = made_globals (restricted_variables true s x b vs)
 made_in s x b (constant at n is) = made_nothing
-made_in s x b (predicate at n vs e) = made_predicate (typed_predicate s b vs e)
-made_in s x b include = made_nothing
-made_in s x b (default o n e) = made_predicate (typed_default s b o n e)
-made_in s x b (formula title e) = made_formula (formula_in (typed s b e))
+made_in s x b (predicate is_pred at n vs e) = made_predicate (typed_predicate s b vs e)
+made_in s x b (included text_at file) = made_nothing
+made_in s x b (default_restriction o n e) = made_predicate (typed_default s b o n e)
+made_in s x b (formula e) = made_formula (formula_in (typed s b e))
+made_in s x b (goal name_at title e) = made_formula (formula_in (typed s b e))
 
 abbrev pub outcome_of : Outcome → Made
 outcome_of (Globals vs) = made_globals (option_map (λ ps. map code.declaration_of ps.items) vs)

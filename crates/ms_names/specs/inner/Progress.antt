@@ -8,16 +8,18 @@ use Rattle.ms_logic.specs.declared.checked.Global.{Global}
 use Rattle.ms_logic.specs.declared.checked.Placed as code
 use Rattle.ms_logic.specs.declared.checked.Predicate.{Predicate}
 use Rattle.ms_logic.specs.declared.mode.Mode.{Mode}
+use Rattle.ms_logic.specs.declared.mode.Order.{Order}
 use Rattle.ms_logic.specs.declared.source.Loaded.{Loaded}
 use Rattle.ms_logic.specs.Tree as tree
 use Rattle.ms_logic.specs.View.{predicate_of}
 use Rattle.ms_names_rules.specs.declared.fault.Fault.{Fault}
 use Rattle.ms_names_rules.specs.Declarations.{Known, after_declaration, at_the_beginning, exports_in, faults_in, first_fault_from, occurrences_in}
 use Rattle.ms_names_rules.specs.Fault.{first_fault, refusal_of}
-use Rattle.ms_names_rules.specs.Syntax.{Bytes, Bounds, no_bounds, more_bounds, Declaration, globals, constant, predicate, include, default, formula, Placed}
+use Rattle.ms_names_rules.specs.Scope.{Bytes}
+use Rattle.ms_parse_grammar.specs.Tree.{Variables, no_variables, and_variable, Declaration, variables, constant, predicate, included, default_restriction, formula, goal, Declared}
 use Rattle.ms_names_rules.specs.TypedSource.{TypedFormula, TypedGlobal, collected, formulas_of, global_of, globals_of, placed_formula_of, predicates_of}
 use Rattle.ms_names_rules.specs.Uses.{export_at, import_at}
-use Rattle.ms_names_rules.specs.View.{placed_of}
+use Rattle.ms_parse_grammar.specs.View.{declared_of}
 use Rattle.ms_names.specs.declared.progress.Progress.{Progress}
 use Rattle.ms_names_scopes.specs.inner.Declaration.{known_at}
 use Rattle.ms_names.specs.inner.Outcome.{Made, made_globals, made_predicate, made_formula, made_nothing, made_in}
@@ -45,23 +47,29 @@ IsMade (made_formula f) = IsSome f
 IsMade made_nothing = Unit {0}
 
 -- the variables of a declaration of globals
-abbrev pub bounds_in : Declaration → Bounds
-bounds_in (globals vs) = vs
-bounds_in (constant at n is) = no_bounds
-bounds_in (predicate at n vs e) = no_bounds
-bounds_in include = no_bounds
-bounds_in (default o n e) = no_bounds
-bounds_in (formula title e) = no_bounds
+abbrev pub bounds_in : Declaration → Variables
+bounds_in (variables vs) = vs
+bounds_in (constant at n is) = no_variables
+bounds_in (predicate is_pred at n vs e) = no_variables
+bounds_in (included text_at file) = no_variables
+bounds_in (default_restriction o n e) = no_variables
+bounds_in (formula e) = no_variables
+bounds_in (goal name_at title e) = no_variables
+
+-- the variables of a list by their orders and names
+abbrev pub listed_bounds : Variables → List (Order × Bytes)
+listed_bounds no_variables = []
+listed_bounds (and_variable vs at o n d) = listed_bounds vs ++ (o, n) ∷ []
 
 -- globals with their restrictions, of the declaration with a place and a number
-abbrev pub globals_with : At → ℕ → List tree.Declaration → Bounds → List (Option TypedGlobal)
-globals_with at item [] vs = []
-globals_with at item (v ∷ more) no_bounds = []
-globals_with at item (v ∷ more) (more_bounds name_at o n d vs) =
-    Some (record { at = at; item = item; order = o; name = n; restriction = v.restriction }) ∷ globals_with at item more vs
+abbrev pub globals_with : At → ℕ → List tree.Declaration → List (Order × Bytes) → List (Option TypedGlobal)
+globals_with at item [] names = []
+globals_with at item (v ∷ more) [] = []
+globals_with at item (v ∷ more) ((o, n) ∷ names) =
+    Some (record { at = at; item = item; order = o; name = n; restriction = v.restriction }) ∷ globals_with at item more names
 
 -- before the first declaration of a source
-pub record IsBeginning (p : Progress) (mode : Mode) (ds : List Placed) : Type 0 where
+pub record IsBeginning (p : Progress) (mode : Mode) (ds : List Declared) : Type 0 where
   pub knows : known p ≡ at_the_beginning mode ds
   pub item : p.item ≡ 0
   pub globals_are : p.globals ≡ []
@@ -71,7 +79,7 @@ pub record IsBeginning (p : Progress) (mode : Mode) (ds : List Placed) : Type 0 
   pub exports_are : p.checker.exports ≡ []
 
 -- with what a declaration gives, wherever that is what was made of it
-pub record Keeps (earlier later : Progress) (d : Placed) (made : Made) : Type 0 where
+pub record Keeps (earlier later : Progress) (d : Declared) (made : Made) : Type 0 where
   pub globals_are : (k : Known) → made ≡ made_in k.scope k.globals k.before d.declaration →
       kept_globals later.globals ≡ kept_globals earlier.globals ++ globals_of k d.at earlier.item d.declaration
   pub predicates_are : (k : Known) → made ≡ made_in k.scope k.globals k.before d.declaration →
@@ -80,11 +88,11 @@ pub record Keeps (earlier later : Progress) (d : Placed) (made : Made) : Type 0 
       kept_formulas later.formulas ≡ kept_formulas earlier.formulas ++ formulas_of k d.at earlier.item d.declaration
 
 -- the first fault of the next declarations
-abbrev pub IsFirstOf : Known → List Placed → Refusal → Type 0
+abbrev pub IsFirstOf : Known → List Declared → Refusal → Type 0
 IsFirstOf k ds refusal = (f : Fault) × (first_fault_from k ds ≡ Some f) × (refusal ≡ refusal_of f)
 
 -- after one more declaration, in which nothing is wrong
-pub record IsNext (earlier later : Progress) (d : Placed) : Type 0 where
+pub record IsNext (earlier later : Progress) (d : Declared) : Type 0 where
   pub fault : first_fault (faults_in (known earlier) d.declaration) ≡ None
   pub knows : known later ≡ after_declaration (known earlier) d.declaration
   pub item : later.item ≡ earlier.item + 1
@@ -95,7 +103,7 @@ pub record IsNext (earlier later : Progress) (d : Placed) : Type 0 where
   pub exports_are : later.checker.exports ≡ earlier.checker.exports ++ exports_in (known earlier) d.declaration
 
 -- after more declarations, in which nothing is wrong
-pub record IsAfter (earlier later : Progress) (ds : List Placed) : Type 0 where
+pub record IsAfter (earlier later : Progress) (ds : List Declared) : Type 0 where
   pub fault : first_fault_from (known earlier) ds ≡ None
   pub globals_are : kept_globals later.globals
       ≡ kept_globals earlier.globals ++ collected (λ k item d. globals_of k d.at item d.declaration) (known earlier) earlier.item ds
@@ -110,7 +118,7 @@ pub record IsAfter (earlier later : Progress) (ds : List Placed) : Type 0 where
 
 -- at the end of a source in which nothing is wrong
 abbrev pub IsEnd : Loaded → Progress → Type 0
-IsEnd loaded p = (start : Progress) × (IsBeginning start loaded.mode (map placed_of loaded.items)) × (IsAfter start p (map placed_of loaded.items))
+IsEnd loaded p = (start : Progress) × (IsBeginning start loaded.mode (map declared_of loaded.items)) × (IsAfter start p (map declared_of loaded.items))
 
 -- what is kept there, with the names of the files
 abbrev pub checked_with : Mode → List Bytes → Progress → Checked

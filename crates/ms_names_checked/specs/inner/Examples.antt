@@ -16,7 +16,7 @@ use Rattle.ms_logic.specs.declared.mode.Quant.TheVariants.{Ex}
 use Rattle.ms_logic.specs.declared.mode.Rel.TheVariants.{Equal, Less}
 use Rattle.ms_logic.specs.declared.term.Term1.TheVariants as term
 use Rattle.ms_logic.specs.declared.term.Term2.TheVariants as set
-use Rattle.ms_names_rules.specs.Syntax.{Bytes}
+use Rattle.ms_names_rules.specs.Scope.{Bytes}
 
 abbrev pub nowhere : At
 nowhere = record { file = 0; place = 0 }

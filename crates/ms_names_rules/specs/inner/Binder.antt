@@ -1,17 +1,16 @@
 -- What binds names: lists of variables with their restrictions, and the names of a `let` with their right sides.
-use Rattle.std.specs.Prelude.{ℕ, ◌+◌, Bool, true, false, List, [], ◌∷◌, map, Option, Some, None}
-use Rattle.std.specs.Option.{option_map, option_and_then}
+use Rattle.std.specs.Prelude.{ℕ, ◌+◌, Bool, true, false, List, [], ◌∷◌, ◌++◌, map, Option, Some, None}
+use Rattle.std.specs.Option.{option_map}
 use Rattle.ms_logic.specs.declared.formula.Binding.{Binding}
 use Rattle.ms_logic.specs.declared.mode.Order.{Order}
 use Rattle.ms_logic.specs.declared.mode.Quant.{Quant}
 use Rattle.ms_logic.specs.Tree as tree
-use Rattle.ms_logic.specs.Tree.{Form, Restriction, Argument, Arguments}
+use Rattle.ms_logic.specs.Tree.{Form, Restriction, Arguments}
 use Rattle.ms_logic.specs.View.{arguments, binding_of}
-use Rattle.ms_names_rules.specs.Syntax.{Bounds, no_bounds, more_bounds, Domain, unrestricted, restricted, Parts}
-use Rattle.ms_names_rules.specs.declared.meaning.Meaning.TheVariants.{Variable}
-use Rattle.ms_names_rules.specs.Scope.{Scope, bind, default_of}
-use Rattle.ms_names_rules.specs.Before.{Before, after_domain}
-use Rattle.ms_names_rules.specs.Typed.{both, of_order, typed_domain, typed_parts, numbers_of_parts}
+use Rattle.ms_parse_grammar.specs.Tree.{Variables, no_variables, and_variable, Domain, unrestricted, restricted, Parts}
+use Rattle.ms_names_rules.specs.Scope.{Scope, default_of, count_of_bounds, under_bounds}
+use Rattle.ms_names_rules.specs.Before.{Before, after_bounds}
+use Rattle.ms_names_rules.specs.Typed.{both, typed_domain, typed_parts, numbers_of_parts}
 use Rattle.ms_names_rules.specs.TypedSource.{restriction_of_parameter}
 
 -- the restriction of the variable x of an order: its own, or the default where the list takes defaults
@@ -24,12 +23,12 @@ abbrev pub restricted_variable : ℕ → Order → Restriction → tree.Declarat
 restricted_variable x o r = record { variable = record { name = x; order = o }; restriction = r }
 
 -- the variables of a list with their restrictions; their numbers go on from x
-abbrev pub restricted_variables : (takes_defaults : Bool) → Scope → ℕ → Before → Bounds → Option (List tree.Declaration)
-restricted_variables takes_defaults s x b no_bounds = Some []
-restricted_variables takes_defaults s x b (more_bounds at o n d vs) =
-    both (λ r more. restricted_variable x o r ∷ more)
-    (restriction_in takes_defaults (bind n (Variable x o) s) b o x d)
-    (restricted_variables takes_defaults (bind n (Variable x o) s) (x + 1) (after_domain b d) vs)
+abbrev pub restricted_variables : (takes_defaults : Bool) → Scope → ℕ → Before → Variables → Option (List tree.Declaration)
+restricted_variables takes_defaults s x b no_variables = Some []
+restricted_variables takes_defaults s x b (and_variable vs at o n d) =
+    both (λ earlier r. earlier ++ restricted_variable (x + count_of_bounds vs) o r ∷ [])
+    (restricted_variables takes_defaults s x b vs)
+    (restriction_in takes_defaults (under_bounds s x (and_variable vs at o n d)) (after_bounds b vs) o (x + count_of_bounds vs) d)
 
 -- the default restriction that a variable of an order takes, if it has none of its own
 abbrev pub default_for : Scope → Order → Domain → Option ℕ
@@ -47,16 +46,6 @@ sides_of bs = (map (λ b. b.0) (map binding_of bs), arguments (map (λ b. b.1) (
 
 abbrev pub typed_sides : Scope → ℕ → Before → Order → Parts → Option (List ℕ × Arguments)
 typed_sides s x b o ps = option_map (λ sides. (numbers_of_parts x ps, sides)) (typed_parts s b o ps)
-
--- an order in front of the others, if there is one
-abbrev pub with_front : Option Order → List Order → List Order
-with_front None later = []
-with_front (Some o) later = o ∷ later
-
--- what an argument became, if there is a parameter of its order
-abbrev pub argument_for : Option Order → Option Argument → Option Argument
-argument_for None a = None
-argument_for (Some o) a = option_and_then (of_order o) a
 
 -- a predicate by its parameters and its body
 abbrev pub predicate_with : List tree.Declaration → Form → tree.Predicate

@@ -1,9 +1,10 @@
 -- Sources for worked examples. A number in front is the place of a token, in bytes from 0.
-use Rattle.std.specs.Prelude.{ℕ, Bool, List, [], ◌∷◌, map, codes, Option, Some, None}
+use Rattle.std.specs.Prelude.{ℕ, Bool, true, List, [], ◌∷◌, map, codes, Option}
 use Rattle.std.specs.Option.{option_map}
 use Rattle.ms_list.specs.declared.at.At.{At}
 use Rattle.ms_logic.specs.declared.mode.Mode.TheVariants.{Ws1s, M2lStr}
 use Rattle.ms_logic.specs.declared.mode.Order.{Order}
+use Rattle.ms_logic.specs.declared.mode.Order.TheVariants.{Zero}
 use Rattle.ms_logic.specs.declared.mode.Quant.TheVariants.{Ex, All}
 use Rattle.ms_logic.specs.declared.mode.Rel.{Rel}
 use Rattle.ms_logic.specs.declared.mode.Rel.TheVariants.{Equal, Less}
@@ -15,9 +16,16 @@ use Rattle.ms_logic.specs.declared.checked.ImportUse.{ImportUse}
 use Rattle.ms_logic.specs.declared.checked.MapPair.{MapPair}
 use Rattle.ms_logic.specs.Tree as tree
 use Rattle.ms_logic.specs.Tree.{Term, SetTerm, Form, Forms, Restriction, Arguments, Predicate}
-use Rattle.ms_names_rules.specs.Syntax as syntax
-use Rattle.ms_names_rules.specs.Syntax.{Bytes, Expression, Declaration, Placed, place}
-use Rattle.ms_names_rules.specs.View.{OneBound, OnePart, expressions, bounds, parts}
+use Rattle.ms_parse_grammar.specs.Tree as syntax
+use Rattle.ms_parse_grammar.specs.declared.operator.Binary.TheVariants as binary
+use Rattle.ms_parse_grammar.specs.declared.operator.Bracket.TheVariants as bracket
+use Rattle.ms_parse_grammar.specs.declared.operator.Junction.TheVariants as junction
+use Rattle.ms_parse_grammar.specs.declared.operator.Listing.TheVariants as listing
+use Rattle.ms_parse_grammar.specs.declared.operator.Prefix.TheVariants as prefix
+use Rattle.ms_names_rules.specs.Scope.{Bytes}
+use Rattle.ms_parse_grammar.specs.Tree.{Expression, Declaration, Declared}
+use Rattle.ms_names_rules.specs.Rules.{place}
+use Rattle.ms_parse_grammar.specs.View.{Variable, Part, expressions_behind, variables_behind, parts_behind}
 use Rattle.ms_names_rules.specs.declared.fault.Fault.{Fault}
 use Rattle.ms_names_rules.specs.Declarations.{first_fault_of}
 use Rattle.ms_names_rules.specs.TypedSource.{globals_of_source, predicates_of_source, imports_of_source, exports_of_source, formulas_of_source}
@@ -26,50 +34,50 @@ abbrev pub byte : ℕ → At
 byte p = record { file = 0; place = p }
 
 -- the first fault of a source of natural numbers
-abbrev pub fault_in : List Placed → Option Fault
+abbrev pub fault_in : List Declared → Option Fault
 fault_in ds = first_fault_of Ws1s ds
 
 -- the first fault of a source of strings
-abbrev pub fault_on_strings : List Placed → Option Fault
+abbrev pub fault_on_strings : List Declared → Option Fault
 fault_on_strings ds = first_fault_of M2lStr ds
 
 -- declarations
 
-abbrev pub declared : ℕ → Declaration → Placed
+abbrev pub declared : ℕ → Declaration → Declared
 declared p d = record { at = byte p; declaration = d }
 
 -- var0, var1 or var2
-abbrev pub vars : ℕ → List OneBound → Placed
-vars p vs = declared p (syntax.globals (bounds vs))
+abbrev pub vars : ℕ → List Variable → Declared
+vars p vs = declared p (syntax.variables (variables_behind syntax.no_variables vs))
 
-abbrev pub const_is : ℕ → ℕ → Bytes → List PlacedInt → Placed
+abbrev pub const_is : ℕ → ℕ → Bytes → List PlacedInt → Declared
 const_is p q n is = declared p (syntax.constant (byte q) n is)
 
-abbrev pub pred_is : ℕ → ℕ → Bytes → List OneBound → Expression → Placed
-pred_is p q n vs e = declared p (syntax.predicate (byte q) n (bounds vs) e)
+abbrev pub pred_is : ℕ → ℕ → Bytes → List Variable → Expression → Declared
+pred_is p q n vs e = declared p (syntax.predicate true (byte q) n (variables_behind syntax.no_variables vs) e)
 
-abbrev pub no_vars : List OneBound
+abbrev pub no_vars : List Variable
 no_vars = []
 
 -- defaultwhere1 or defaultwhere2
-abbrev pub default_is : ℕ → Order → Bytes → Expression → Placed
-default_is p o n e = declared p (syntax.default o n e)
+abbrev pub default_is : ℕ → Order → Bytes → Expression → Declared
+default_is p o n e = declared p (syntax.default_restriction o n e)
 
-abbrev pub holds : ℕ → Expression → Placed
-holds p e = declared p (syntax.formula None e)
+abbrev pub holds : ℕ → Expression → Declared
+holds p e = declared p (syntax.formula e)
 
-abbrev pub goal_is : ℕ → ℕ → Bytes → Expression → Placed
-goal_is p q title e = declared p (syntax.formula (Some (record { at = byte q; text = title })) e)
+abbrev pub goal_is : ℕ → ℕ → Bytes → Expression → Declared
+goal_is p q title e = declared p (syntax.goal (byte q) title e)
 
 -- variables, names of a `let`, numbers and names of constants, pairs of imports
 
-abbrev pub var : ℕ → Order → Bytes → OneBound
+abbrev pub var : ℕ → Order → Bytes → Variable
 var p o n = record { at = byte p; order = o; name = n; domain = syntax.unrestricted }
 
-abbrev pub var_where : ℕ → Order → Bytes → Expression → OneBound
+abbrev pub var_where : ℕ → Order → Bytes → Expression → Variable
 var_where p o n e = record { at = byte p; order = o; name = n; domain = syntax.restricted e }
 
-abbrev pub part : ℕ → Bytes → Expression → OnePart
+abbrev pub part : ℕ → Bytes → Expression → Part
 part p n e = record { at = byte p; name = n; value = e }
 
 -- true where `-` stands before it
@@ -85,105 +93,110 @@ rename p left q right = record { at = byte p; left = left; at_right = byte q; ri
 -- expressions
 
 abbrev pub yes : ℕ → Expression
-yes p = syntax.truth (byte p)
+yes p = syntax.atom (byte p) syntax.truth
 
 abbrev pub everything : ℕ → Expression
-everything p = syntax.whole (byte p)
+everything p = syntax.atom (byte p) syntax.whole
 
 abbrev pub nothing : ℕ → Expression
-nothing p = syntax.empty_set (byte p)
+nothing p = syntax.atom (byte p) syntax.empty_set
 
 abbrev pub named : ℕ → Bytes → Expression
-named p n = syntax.name (byte p) n
+named p n = syntax.atom (byte p) (syntax.named n)
 
 abbrev pub num : ℕ → ℕ → Expression
-num p n = syntax.number (byte p) n
+num p n = syntax.atom (byte p) (syntax.numeral n)
 
 abbrev pub bits : ℕ → PlacedInt → Expression
-bits p i = syntax.pconst (byte p) i
+bits p i = syntax.atom (byte p) (syntax.pconst i)
 
 abbrev pub paren : ℕ → Expression → Expression
-paren p e = syntax.brackets (byte p) e
+paren p e = syntax.enclosed (byte p) bracket.Parentheses e
 
 abbrev pub set_of : ℕ → List Expression → Expression
-set_of p es = syntax.literal (byte p) (expressions es)
+set_of p es = syntax.listed (byte p) listing.Literal (expressions_behind syntax.no_expressions es)
 
 abbrev pub called : ℕ → Bytes → List Expression → Expression
-called p n es = syntax.call (byte p) n (expressions es)
+called p n es = syntax.listed (byte p) (listing.Call n) (expressions_behind syntax.no_expressions es)
 
 abbrev pub negated : ℕ → Expression → Expression
-negated p e = syntax.negation (byte p) e
+negated p e = syntax.prefixed (byte p) prefix.Negation e
 
 abbrev pub all_of : Expression → List Expression → Expression
-all_of e es = syntax.conjunction (place e) (expressions (e ∷ es))
+all_of e es = syntax.joined (place e) junction.Conjunction (expressions_behind syntax.no_expressions (e ∷ es))
 
 abbrev pub any_of : Expression → List Expression → Expression
-any_of e es = syntax.disjunction (place e) (expressions (e ∷ es))
+any_of e es = syntax.joined (place e) junction.Disjunction (expressions_behind syntax.no_expressions (e ∷ es))
 
 abbrev pub implies : Expression → Expression → Expression
-implies e f = syntax.implication (place e) e f
+implies e f = syntax.binary (place e) binary.Implication e f
 
 abbrev pub iff : Expression → Expression → Expression
-iff e f = syntax.equivalence (place e) e f
+iff e f = syntax.binary (place e) binary.Equivalence e f
 
 abbrev pub related : Rel → Expression → Expression → Expression
-related r e f = syntax.relation (place e) r e f
+related r e f = syntax.binary (place e) (binary.Relation r) e f
 
 abbrev pub is_empty : ℕ → Expression → Expression
-is_empty p e = syntax.emptiness (byte p) e
+is_empty p e = syntax.enclosed (byte p) bracket.Emptiness e
 
 abbrev pub united : Expression → Expression → Expression
-united e f = syntax.union (place e) e f
+united e f = syntax.binary (place e) binary.Union e f
 
 abbrev pub met : Expression → Expression → Expression
-met e f = syntax.intersection (place e) e f
+met e f = syntax.binary (place e) binary.Intersection e f
 
 abbrev pub without : Expression → Expression → Expression
-without e f = syntax.difference (place e) e f
+without e f = syntax.binary (place e) binary.Difference e f
 
 abbrev pub moved : Expression → PlacedInt → Expression
-moved e i = syntax.shift (place e) e i
+moved e i = syntax.shifted (place e) e i
 
 abbrev pub least : ℕ → Expression → Expression
-least p e = syntax.minimum (byte p) e
+least p e = syntax.prefixed (byte p) prefix.Minimum e
 
 abbrev pub greatest : ℕ → Expression → Expression
-greatest p e = syntax.maximum (byte p) e
+greatest p e = syntax.prefixed (byte p) prefix.Maximum e
 
-abbrev pub exists : ℕ → List OneBound → Expression → Expression
-exists p vs e = syntax.quantified (byte p) Ex (bounds vs) e
+-- the order of the variables of a quantifier
+abbrev pub order_of_variables : List Variable → Order
+order_of_variables [] = Zero
+order_of_variables (v ∷ vs) = v.order
 
-abbrev pub for_all : ℕ → List OneBound → Expression → Expression
-for_all p vs e = syntax.quantified (byte p) All (bounds vs) e
+abbrev pub exists : ℕ → List Variable → Expression → Expression
+exists p vs e = syntax.quantified (byte p) Ex (order_of_variables vs) (variables_behind syntax.no_variables vs) e
 
-abbrev pub let_in : ℕ → Order → List OnePart → Expression → Expression
-let_in p o ps e = syntax.where_let (byte p) o (parts ps) e
+abbrev pub for_all : ℕ → List Variable → Expression → Expression
+for_all p vs e = syntax.quantified (byte p) All (order_of_variables vs) (variables_behind syntax.no_variables vs) e
+
+abbrev pub let_in : ℕ → Order → List Part → Expression → Expression
+let_in p o ps e = syntax.let_in (byte p) o (parts_behind syntax.no_parts ps) e
 
 abbrev pub restricted_to : ℕ → Expression → Expression
-restricted_to p e = syntax.restrict (byte p) e
+restricted_to p e = syntax.enclosed (byte p) bracket.Restriction e
 
 abbrev pub import_of : ℕ → Bytes → List Rename → Expression
-import_of p file rs = syntax.imported (byte p) file rs
+import_of p file rs = syntax.atom (byte p) (syntax.imported file rs)
 
 abbrev pub export_to : ℕ → ℕ → Bytes → Expression → Expression
-export_to p q file e = syntax.exported (byte p) (byte q) file e
+export_to p q file e = syntax.enclosed (byte p) (bracket.Export (byte q) file) e
 
 -- what a source of natural numbers becomes: its formulas, the restrictions of its globals, its predicates, its imports and
 -- its exports
 
-abbrev pub formulas_in : List Placed → List (Option Form)
+abbrev pub formulas_in : List Declared → List (Option Form)
 formulas_in ds = map (λ f. option_map (λ typed. typed.formula) f) (formulas_of_source Ws1s ds)
 
-abbrev pub restrictions_in : List Placed → List (Option Restriction)
+abbrev pub restrictions_in : List Declared → List (Option Restriction)
 restrictions_in ds = map (λ g. option_map (λ typed. typed.restriction) g) (globals_of_source Ws1s ds)
 
-abbrev pub predicates_in : List Placed → List (Option Predicate)
+abbrev pub predicates_in : List Declared → List (Option Predicate)
 predicates_in ds = predicates_of_source Ws1s ds
 
-abbrev pub imports_in : List Placed → List ImportUse
+abbrev pub imports_in : List Declared → List ImportUse
 imports_in ds = imports_of_source Ws1s ds
 
-abbrev pub exports_in : List Placed → List ExportUse
+abbrev pub exports_in : List Declared → List ExportUse
 exports_in ds = exports_of_source Ws1s ds
 
 -- an export of the name "a"
@@ -229,4 +242,4 @@ abbrev pub two_formulas : Form → Form → Forms
 two_formulas f g = tree.more_forms f (tree.more_forms g tree.no_forms)
 
 abbrev pub no : ℕ → Expression
-no p = syntax.falsity (byte p)
+no p = syntax.atom (byte p) syntax.falsity

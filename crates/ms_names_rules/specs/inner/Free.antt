@@ -4,8 +4,7 @@ use Rattle.ms_list.specs.declared.at.At.{At}
 use Rattle.ms_logic.specs.declared.checked.ExportUse.{ExportUse}
 use Rattle.ms_names_rules.specs.declared.meaning.Reading.{Reading}
 use Rattle.ms_names_rules.specs.Reads.{reads_variable}
-use Rattle.ms_names_rules.specs.Scope.{Named}
-use Rattle.ms_names_rules.specs.Syntax.{Bytes}
+use Rattle.ms_names_rules.specs.Scope.{Named, Bytes}
 
 abbrev pub Readings : Type 0
 Readings = List Reading

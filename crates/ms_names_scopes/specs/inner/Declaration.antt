@@ -7,8 +7,8 @@ use Rattle.ms_names_rules.specs.Constant.{Sum, sums_to, leaves_range, has_no_val
 use Rattle.ms_names_rules.specs.Declarations.{Known, before_after, exports_in, faults_of_declaration, next_predicate, occurrences_in, scope_after}
 use Rattle.ms_names_rules.specs.Fault.{first_with}
 use Rattle.ms_names_rules.specs.Rules.{faults_at}
-use Rattle.ms_names_rules.specs.Scope.{bind}
-use Rattle.ms_names_rules.specs.Syntax.{Bytes, Declaration}
+use Rattle.ms_names_rules.specs.Scope.{bind, Bytes}
+use Rattle.ms_parse_grammar.specs.Tree.{Declaration}
 use Rattle.ms_names_rules.specs.Uses.{import_at}
 use Rattle.ms_names_scopes.specs.declared.taken.Taken.{Taken}
 use Rattle.ms_names_scopes.specs.declared.sum.Total.{Total}

@@ -7,8 +7,8 @@ use Rattle.ms_logic.specs.declared.mode.Order.{Order}
 use Rattle.ms_names_rules.specs.declared.fault.Fault.{Fault}
 use Rattle.ms_names_rules.specs.declared.meaning.Meaning.TheVariants.{Variable}
 use Rattle.ms_names_rules.specs.declared.meaning.Reading.{Reading}
-use Rattle.ms_names_rules.specs.Scope.{Scope, bind, without_exports, under_bounds}
-use Rattle.ms_names_rules.specs.Syntax.{Expression, Bytes, Bounds, Domain}
+use Rattle.ms_names_rules.specs.Scope.{Scope, bind, without_exports, under_bounds, Bytes, count}
+use Rattle.ms_parse_grammar.specs.Tree.{Expression, Variables, Domain}
 use Rattle.ms_names_rules.specs.Before.{Before, after, after_bounds, after_domain}
 use Rattle.ms_names_rules.specs.Fault.{first_with}
 use Rattle.ms_names_rules.specs.Occurrence.{Occurrence, inside, inside_bounds, inside_domain}
@@ -78,7 +78,7 @@ after_restriction s x o n d =
     record (passed s (inside_domain (without_exports here) s.before d) (after_domain s.before d)) { scope = here }
 
 -- after all variables of a list are bound and their restrictions read
-abbrev pub after_restrictions : Found → ℕ → Bounds → Found
+abbrev pub after_restrictions : Found → ℕ → Variables → Found
 after_restrictions s x vs =
     record (passed s (inside_bounds s.scope x s.before vs) (after_bounds s.before vs)) { scope = under_bounds s.scope x vs }
 

@@ -11,11 +11,11 @@ use Rattle.ms_lower.specs.Measure.{IsDepthRefusal, IsSizeRefusal}
 use Rattle.ms_names_rules.specs.Checking.{IsFirstFault}
 use Rattle.ms_names_rules.specs.Declarations.{first_fault_of}
 use Rattle.ms_names_rules.specs.TypedSource.{IsTyped}
-use Rattle.ms_names_rules.specs.View.{placed_of}
+use Rattle.ms_parse_grammar.specs.View.{declared_of}
 
 -- a source without a fault passes the check
 abbrev pub FaultlessSourcesPass : Type 0
-FaultlessSourcesPass = (loaded : Loaded) (refusal : Refusal) → first_fault_of loaded.mode (map placed_of loaded.items) ≡ None → ¬ IsFirstFault loaded refusal
+FaultlessSourcesPass = (loaded : Loaded) (refusal : Refusal) → first_fault_of loaded.mode (map declared_of loaded.items) ≡ None → ¬ IsFirstFault loaded refusal
 
 -- a source that is within the limit of depth is not too deep, and one within that of size not too large
 abbrev pub ShallowSourcesPass : Type 0

@@ -13,7 +13,12 @@ use Rattle.ms_logic.specs.declared.source.Int.TheVariants.{Number}
 use Rattle.ms_logic.specs.declared.source.Item.{Item}
 use Rattle.ms_logic.specs.declared.source.Loaded.{Loaded}
 use Rattle.ms_logic.specs.declared.source.PlacedInt.{PlacedInt}
-use Rattle.ms_names_rules.specs.Syntax.{Expression, name, pconst, negation, conjunction, implication, call, shift, quantified, where_let, imported, exported, no_expressions, more_expressions, no_bounds, more_bounds, restricted, no_parts, more_parts}
+use Rattle.ms_parse_grammar.specs.Tree.{named, pconst, imported, Expression, atom, prefixed, binary, joined, shifted, enclosed, listed, quantified, let_in, no_expressions, and_expression, no_variables, and_variable, restricted, no_parts, and_part}
+use Rattle.ms_parse_grammar.specs.declared.operator.Prefix.TheVariants.{Negation}
+use Rattle.ms_parse_grammar.specs.declared.operator.Binary.TheVariants.{Implication}
+use Rattle.ms_parse_grammar.specs.declared.operator.Junction.TheVariants.{Conjunction}
+use Rattle.ms_parse_grammar.specs.declared.operator.Bracket.TheVariants.{Export}
+use Rattle.ms_parse_grammar.specs.declared.operator.Listing.TheVariants.{Call}
 use Rattle.ms_include_laws.specs.inner.places.Places.{EachPlaceIn, IsAmongFiles}
 
 -- a place in the file with this number
@@ -74,37 +79,37 @@ IsInside e = EachPlaceIn (IsAmongFiles 0 1) e
 
 -- p & ~q
 abbrev pub joined_at : At → At → At → Expression
-joined_at first second third = conjunction first (more_expressions (name first (codes "p")) (more_expressions (negation second (name third (codes "q"))) no_expressions))
+joined_at first second third = joined first Conjunction (and_expression (and_expression no_expressions (atom first (named (codes "p")))) (prefixed second Negation (atom third (named (codes "q")))))
 
 -- p => q
 abbrev pub implied_at : At → At → At → Expression
-implied_at first left_at right_at = implication first (name left_at (codes "p")) (name right_at (codes "q"))
+implied_at first left_at right_at = binary first Implication (atom left_at (named (codes "p"))) (atom right_at (named (codes "q")))
 
 -- t + 1
 abbrev pub shift_at : At → At → Expression
-shift_at first number_at = shift first (name first (codes "t")) (one_at number_at)
+shift_at first number_at = shifted first (atom first (named (codes "t"))) (one_at number_at)
 
 -- pconst(1)
 abbrev pub pconst_at : At → At → Expression
-pconst_at first number_at = pconst first (one_at number_at)
+pconst_at first number_at = atom first (pconst (one_at number_at))
 
 -- f(t)
 abbrev pub call_at : At → At → Expression
-call_at first argument_at = call first (codes "f") (more_expressions (name argument_at (codes "t")) no_expressions)
+call_at first argument_at = listed first (Call (codes "f")) (and_expression no_expressions (atom argument_at (named (codes "t"))))
 
 -- ex1 x where p: q
 abbrev pub quantified_at : At → At → At → At → Expression
 quantified_at first name_at restriction_at body_at =
-    quantified first Ex (more_bounds name_at One (codes "x") (restricted (name restriction_at (codes "p"))) no_bounds) (name body_at (codes "q"))
+    quantified first Ex One (and_variable no_variables name_at One (codes "x") (restricted (atom restriction_at (named (codes "p"))))) (atom body_at (named (codes "q")))
 
 -- let2 X = Y in q
 abbrev pub let_at : At → At → At → At → Expression
-let_at first name_at side_at body_at = where_let first Two (more_parts name_at (codes "X") (name side_at (codes "Y")) no_parts) (name body_at (codes "q"))
+let_at first name_at side_at body_at = let_in first Two (and_part no_parts name_at (codes "X") (atom side_at (named (codes "Y")))) (atom body_at (named (codes "q")))
 
 -- import("a", X -> Y)
 abbrev pub import_at : At → At → At → Expression
-import_at first left_at right_at = imported first (codes "a") (record { at = left_at; left = codes "X"; at_right = right_at; right = codes "Y" } ∷ [])
+import_at first left_at right_at = atom first (imported (codes "a") (record { at = left_at; left = codes "X"; at_right = right_at; right = codes "Y" } ∷ []))
 
 -- export("a", q)
 abbrev pub export_at : At → At → At → Expression
-export_at first text_at body_at = exported first text_at (codes "a") (name body_at (codes "q"))
+export_at first text_at body_at = enclosed first (Export text_at (codes "a")) (atom body_at (named (codes "q")))

@@ -11,7 +11,8 @@ use Rattle.ms_names_rules.specs.Checking.{IsFirstFault}
 use Rattle.ms_logic.specs.Lists.{Each}
 use Rattle.ms_names_rules.specs.Occurrence.{Occurrence, occurrences}
 use Rattle.ms_names_rules.specs.Scope.{Scope}
-use Rattle.ms_names_rules.specs.Syntax.{Expression, place}
+use Rattle.ms_parse_grammar.specs.Tree.{Expression}
+use Rattle.ms_names_rules.specs.Rules.{place}
 use Rattle.ms_names_rules.specs.TypedSource.{IsTyped}
 use Rattle.ms_include_laws.specs.inner.places.Places.{EachPlaceIn, HasPlacesInFiles, IsAmongFiles, IsToldOver, KeepsPlacesInFiles}
 

@@ -8,61 +8,52 @@ use Rattle.ms_logic.specs.declared.checked.ExportUse.{ExportUse}
 use Rattle.ms_logic.specs.declared.checked.Global.{Global}
 use Rattle.ms_logic.specs.declared.checked.ImportUse.{ImportUse}
 use Rattle.ms_logic.specs.declared.checked.Placed as code
-use Rattle.ms_logic.specs.declared.source.Decl.{Decl}
-use Rattle.ms_logic.specs.declared.source.Decl.TheVariants as declared
 use Rattle.ms_logic.specs.declared.source.Item.{Item}
 use Rattle.ms_logic.specs.declared.source.Loaded.{Loaded}
 use Rattle.ms_logic.specs.declared.source.PlacedInt.{PlacedInt}
 use Rattle.ms_logic.specs.declared.source.Rename.{Rename}
 use Rattle.ms_report.specs.Line.{HasLine}
 use Rattle.ms_logic.specs.Lists.{Each}
-use Rattle.ms_names_rules.specs.Syntax.{Expression, truth, falsity, whole, empty_set, name, number, pconst, brackets, literal, call, negation, conjunction, disjunction, implication, equivalence, relation, emptiness, union, intersection, difference, shift, minimum, maximum, quantified, where_let, restrict, imported, exported}
-use Rattle.ms_names_rules.specs.Syntax.{Expressions, no_expressions, more_expressions, Bounds, no_bounds, more_bounds, Domain, unrestricted, restricted, Parts, no_parts, more_parts}
-use Rattle.ms_names_rules.specs.View.{bounds_of, expression_of}
+use Rattle.ms_parse_grammar.specs.Tree.{pconst, imported, Expression, atom, prefixed, binary, joined, shifted, enclosed, listed, quantified, let_in, Expressions, no_expressions, and_expression, Variables, no_variables, and_variable, Domain, unrestricted, restricted, Parts, no_parts, and_part, Atom, Declaration, variables, constant, predicate, included, default_restriction, formula, goal, Declared}
+use Rattle.ms_parse_grammar.specs.declared.operator.Bracket.TheVariants.{Export}
+use Rattle.ms_parse_grammar.specs.View.{declared_of}
+use Rattle.ms_parse_grammar.specs.declared.operator.Bracket.{Bracket}
 
 -- P holds of each place of an import's pairs
 abbrev pub EachPlaceInRenames : (At → Type 0) → List Rename → Type 0
 EachPlaceInRenames P rs = Each (λ (r : Rename). P r.at × P r.at_right) rs
 
+-- P holds of each place in an atom, beside its own
+abbrev pub EachPlaceInAtom : (At → Type 0) → Atom → Type 0
+EachPlaceInAtom P (pconst i) = P i.at
+EachPlaceInAtom P (imported file rs) = EachPlaceInRenames P rs
+EachPlaceInAtom P _ = Unit {0}
+
+-- P holds of each place in what opens a bracket, beside its own
+abbrev pub EachPlaceInBracket : (At → Type 0) → Bracket → Type 0
+EachPlaceInBracket P (Export text_at file) = P text_at
+EachPlaceInBracket P _ = Unit {0}
+
 -- P holds of each place in an expression
 abbrev mutual
   pub EachPlaceIn : (At → Type 0) → Expression → Type 0
-  EachPlaceIn P (truth at) = P at
-  EachPlaceIn P (falsity at) = P at
-  EachPlaceIn P (whole at) = P at
-  EachPlaceIn P (empty_set at) = P at
-  EachPlaceIn P (name at n) = P at
-  EachPlaceIn P (number at n) = P at
-  EachPlaceIn P (pconst at i) = P at × P i.at
-  EachPlaceIn P (brackets at e) = P at × EachPlaceIn P e
-  EachPlaceIn P (literal at es) = P at × EachPlaceInAll P es
-  EachPlaceIn P (call at n es) = P at × EachPlaceInAll P es
-  EachPlaceIn P (negation at e) = P at × EachPlaceIn P e
-  EachPlaceIn P (conjunction at es) = P at × EachPlaceInAll P es
-  EachPlaceIn P (disjunction at es) = P at × EachPlaceInAll P es
-  EachPlaceIn P (implication at e f) = P at × EachPlaceIn P e × EachPlaceIn P f
-  EachPlaceIn P (equivalence at e f) = P at × EachPlaceIn P e × EachPlaceIn P f
-  EachPlaceIn P (relation at r e f) = P at × EachPlaceIn P e × EachPlaceIn P f
-  EachPlaceIn P (emptiness at e) = P at × EachPlaceIn P e
-  EachPlaceIn P (union at e f) = P at × EachPlaceIn P e × EachPlaceIn P f
-  EachPlaceIn P (intersection at e f) = P at × EachPlaceIn P e × EachPlaceIn P f
-  EachPlaceIn P (difference at e f) = P at × EachPlaceIn P e × EachPlaceIn P f
-  EachPlaceIn P (shift at e i) = P at × EachPlaceIn P e × P i.at
-  EachPlaceIn P (minimum at e) = P at × EachPlaceIn P e
-  EachPlaceIn P (maximum at e) = P at × EachPlaceIn P e
-  EachPlaceIn P (quantified at q vs e) = P at × EachPlaceInBounds P vs × EachPlaceIn P e
-  EachPlaceIn P (where_let at o ps e) = P at × EachPlaceInParts P ps × EachPlaceIn P e
-  EachPlaceIn P (restrict at e) = P at × EachPlaceIn P e
-  EachPlaceIn P (imported at file rs) = P at × EachPlaceInRenames P rs
-  EachPlaceIn P (exported at text_at file e) = P at × P text_at × EachPlaceIn P e
+  EachPlaceIn P (atom at a) = P at × EachPlaceInAtom P a
+  EachPlaceIn P (prefixed at op e) = P at × EachPlaceIn P e
+  EachPlaceIn P (binary at op e f) = P at × EachPlaceIn P e × EachPlaceIn P f
+  EachPlaceIn P (joined at op es) = P at × EachPlaceInAll P es
+  EachPlaceIn P (shifted at e i) = P at × EachPlaceIn P e × P i.at
+  EachPlaceIn P (enclosed at k e) = P at × EachPlaceInBracket P k × EachPlaceIn P e
+  EachPlaceIn P (listed at l es) = P at × EachPlaceInAll P es
+  EachPlaceIn P (quantified at q o vs e) = P at × EachPlaceInBounds P vs × EachPlaceIn P e
+  EachPlaceIn P (let_in at o ps e) = P at × EachPlaceInParts P ps × EachPlaceIn P e
 
   pub EachPlaceInAll : (At → Type 0) → Expressions → Type 0
   EachPlaceInAll P no_expressions = Unit {0}
-  EachPlaceInAll P (more_expressions e es) = EachPlaceIn P e × EachPlaceInAll P es
+  EachPlaceInAll P (and_expression es e) = EachPlaceInAll P es × EachPlaceIn P e
 
-  pub EachPlaceInBounds : (At → Type 0) → Bounds → Type 0
-  EachPlaceInBounds P no_bounds = Unit {0}
-  EachPlaceInBounds P (more_bounds at o n d vs) = P at × EachPlaceInDomain P d × EachPlaceInBounds P vs
+  pub EachPlaceInBounds : (At → Type 0) → Variables → Type 0
+  EachPlaceInBounds P no_variables = Unit {0}
+  EachPlaceInBounds P (and_variable vs at o n d) = EachPlaceInBounds P vs × P at × EachPlaceInDomain P d
 
   pub EachPlaceInDomain : (At → Type 0) → Domain → Type 0
   EachPlaceInDomain P unrestricted = Unit {0}
@@ -70,25 +61,28 @@ abbrev mutual
 
   pub EachPlaceInParts : (At → Type 0) → Parts → Type 0
   EachPlaceInParts P no_parts = Unit {0}
-  EachPlaceInParts P (more_parts at n e ps) = P at × EachPlaceIn P e × EachPlaceInParts P ps
+  EachPlaceInParts P (and_part ps at n e) = EachPlaceInParts P ps × P at × EachPlaceIn P e
 
 -- P holds of each place of numbers and constants
 abbrev pub EachPlaceInSum : (At → Type 0) → List PlacedInt → Type 0
 EachPlaceInSum P is = Each (λ (i : PlacedInt). P i.at) is
 
 -- P holds of each place in a declaration
-abbrev pub EachPlaceInDeclaration : (At → Type 0) → Decl → Type 0
-EachPlaceInDeclaration P (declared.Vars vs) = EachPlaceInBounds P (bounds_of vs)
-EachPlaceInDeclaration P (declared.Const at n is) = P at × EachPlaceInSum P is
-EachPlaceInDeclaration P (declared.Pred is_pred at n vs e) = P at × EachPlaceInBounds P (bounds_of vs) × EachPlaceIn P (expression_of e)
-EachPlaceInDeclaration P (declared.Include at file) = P at
-EachPlaceInDeclaration P (declared.Default o n e) = EachPlaceIn P (expression_of e)
-EachPlaceInDeclaration P (declared.Formula e) = EachPlaceIn P (expression_of e)
-EachPlaceInDeclaration P (declared.Goal at title e) = P at × EachPlaceIn P (expression_of e)
+abbrev pub EachPlaceInDeclaration : (At → Type 0) → Declaration → Type 0
+EachPlaceInDeclaration P (variables vs) = EachPlaceInBounds P vs
+EachPlaceInDeclaration P (constant at n is) = P at × EachPlaceInSum P is
+EachPlaceInDeclaration P (predicate is_pred at n vs e) = P at × EachPlaceInBounds P vs × EachPlaceIn P e
+EachPlaceInDeclaration P (included at file) = P at
+EachPlaceInDeclaration P (default_restriction o n e) = EachPlaceIn P e
+EachPlaceInDeclaration P (formula e) = EachPlaceIn P e
+EachPlaceInDeclaration P (goal at title e) = P at × EachPlaceIn P e
 
 -- P holds of the place of a declaration and of each place in it
+abbrev pub EachPlaceInDeclared : (At → Type 0) → Declared → Type 0
+EachPlaceInDeclared P d = P d.at × EachPlaceInDeclaration P d.declaration
+
 abbrev pub EachPlaceInItem : (At → Type 0) → Item → Type 0
-EachPlaceInItem P item = P item.at × EachPlaceInDeclaration P item.decl
+EachPlaceInItem P item = EachPlaceInDeclared P (declared_of item)
 
 -- the place is in one of so many files, which are numbered from `base` on
 abbrev pub IsAmongFiles : ℕ → ℕ → At → Type 0

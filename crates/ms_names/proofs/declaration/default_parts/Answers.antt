@@ -2,7 +2,7 @@ use Rattle.std.proofs.Common.{◌≡◌, IfOk, Option, subst}
 use Rattle.std.specs.Option.{option_map}
 use Rattle.ms_logic.specs.Tree as tree
 use Rattle.ms_logic.specs.View.{argument_of, predicate_of}
-use Rattle.ms_names_rules.specs.View.{expression_of}
+use Rattle.ms_parse_grammar.specs.View.{expression_of}
 use Rattle.ms_names.proofs.Declaring.{default-passed, default-typed}
 use Rattle.ms_names.proofs.Walk.{on_ok}
 use Rattle.ms_names.proofs.declaration.default_parts.Goals as goal

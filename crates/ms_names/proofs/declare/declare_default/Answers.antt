@@ -1,4 +1,4 @@
-use Rattle.ms_names_rules.specs.View.{expression_of}
+use Rattle.ms_parse_grammar.specs.View.{expression_of}
 use Rattle.ms_names.proofs.Told.{default-told}
 use Rattle.ms_names.proofs.declare.declare_default.Goals as goal
 

@@ -1,14 +1,14 @@
-use Rattle.std.proofs.Common.{◌≡◌, ◌+◌, ◌*◌, ◌++◌, drop, map, max, take}
+use Rattle.std.proofs.Common.{◌≡◌, ◌+◌, ◌*◌, map, max, take}
 use Rattle.std.specs.Option.{option_map}
 use Rattle.ms_logic.proofs.source.Expr.TheLaws.{the_size}
-use Rattle.ms_logic.specs.View.{argument_of, binding_of, declaration_of}
+use Rattle.ms_logic.specs.View.{declaration_of}
 use Rattle.ms_names_rules.specs.Before.{after_all, after_parts}
-use Rattle.ms_names_rules.specs.inner.Binder.{restricted_variables, typed_sides}
-use Rattle.ms_names_rules.specs.inner.Lists.{expressions_of, forms_of, terms_of}
-use Rattle.ms_names_rules.specs.Occurrence.{formula_wanted, inside_arguments, inside_operands, inside_parts, number_wanted}
-use Rattle.ms_names_rules.specs.Typed.{both, typed_arguments, typed_formulas, typed_numbers}
-use Rattle.ms_names_rules.specs.View.{bounds_of, parts_of}
-use Rattle.ms_names_rules.proofs.Lists.{in_front, sides_behind}
+use Rattle.ms_names_rules.specs.inner.Binder.{restricted_variables, typed_sides, sides_of}
+use Rattle.ms_names_rules.specs.inner.Lists.{forms_of, terms_of, arguments_of}
+use Rattle.ms_names_rules.specs.Order.{formula_wanted, number_wanted}
+use Rattle.ms_names_rules.specs.Occurrence.{inside_arguments, inside_operands, inside_parts}
+use Rattle.ms_names_rules.specs.Typed.{typed_arguments, typed_formulas, typed_numbers}
+use Rattle.ms_parse_grammar.specs.View.{variables_of, parts_of, expressions_of}
 use Rattle.ms_names_scopes.specs.inner.Found.{after_restrictions, passed}
 use Rattle.ms_names.proofs.expression.+expression.Given as goal
 
@@ -68,27 +68,26 @@ decreases-right_sides l = 4 * (goal.size-right_sides l) + 2
 abbrev pub decreases-export : goal.decreases-export
 decreases-export l = 4 * (goal.size-export l) + 2
 
--- what is found so far and what the rest gives is what all give
+-- what is found so far
 
 abbrev pub invariant-arguments_for-loop-i : goal.invariant-arguments_for-loop-i
 invariant-arguments_for-loop-i l = record {
   state :
-      passed l.checker (inside_arguments l.checker.scope l.checker.before (drop l.i l.parameters) (expressions_of (drop l.i l.arguments))) (after_all l.checker.before (expressions_of (drop l.i l.arguments)))
-      ≡ passed l.initial.checker (inside_arguments l.initial.checker.scope l.initial.checker.before l.parameters (expressions_of l.arguments)) (after_all l.initial.checker.before (expressions_of l.arguments));
+      l.checker
+      ≡ passed l.initial.checker (inside_arguments l.initial.checker.scope l.initial.checker.before l.parameters (expressions_of (take l.i l.arguments)))
+      (after_all l.initial.checker.before (expressions_of (take l.i l.arguments)));
   value :
-      both in_front (option_map (map argument_of) l.made) (typed_arguments l.checker.scope l.checker.before (drop l.i l.parameters) (expressions_of (drop l.i l.arguments)))
-      ≡ typed_arguments l.initial.checker.scope l.initial.checker.before l.parameters (expressions_of l.arguments);
+      option_map arguments_of l.made
+      ≡ typed_arguments l.initial.checker.scope l.initial.checker.before l.parameters (expressions_of (take l.i l.arguments));
 }
 
 abbrev pub invariant-variables-loop-bound : goal.invariant-variables-loop-bound
 invariant-variables-loop-bound l = record {
-  state :
-      after_restrictions l.checker l.x (bounds_of (drop l.bound-index l.bounds))
-      ≡ after_restrictions l.initial.checker l.first (bounds_of l.bounds);
+  state : l.checker ≡ after_restrictions l.initial.checker l.first (variables_of (take l.bound-index l.bounds));
   value :
-      both (λ front later. front ++ later) (option_map (λ ps. map declaration_of ps.items) l.made)
-      (restricted_variables l.takes_defaults l.checker.scope l.x l.checker.before (bounds_of (drop l.bound-index l.bounds)))
-      ≡ restricted_variables l.takes_defaults l.initial.checker.scope l.first l.initial.checker.before (bounds_of l.bounds);
+      option_map (λ ps. map declaration_of ps.items) l.made
+      ≡ restricted_variables l.takes_defaults l.initial.checker.scope l.first l.initial.checker.before (variables_of (take l.bound-index l.bounds));
+  number : l.x ≡ l.first + l.bound-index;
 }
 
 abbrev pub invariant-of_all-loop-operand : goal.invariant-of_all-loop-operand
@@ -116,9 +115,11 @@ invariant-literal_of-loop-element l = record {
 abbrev pub invariant-right_sides-loop-part : goal.invariant-right_sides-loop-part
 invariant-right_sides-loop-part l = record {
   state :
-      passed l.checker (inside_parts l.checker.scope l.checker.before l.order (parts_of (drop l.part-index l.parts))) (after_parts l.checker.before (parts_of (drop l.part-index l.parts)))
-      ≡ passed l.initial.checker (inside_parts l.initial.checker.scope l.initial.checker.before l.order (parts_of l.parts)) (after_parts l.initial.checker.before (parts_of l.parts));
+      l.checker
+      ≡ passed l.initial.checker (inside_parts l.initial.checker.scope l.initial.checker.before l.order (parts_of (take l.part-index l.parts)))
+      (after_parts l.initial.checker.before (parts_of (take l.part-index l.parts)));
   value :
-      both sides_behind (option_map (map binding_of) l.made) (typed_sides l.checker.scope l.x l.checker.before l.order (parts_of (drop l.part-index l.parts)))
-      ≡ typed_sides l.initial.checker.scope l.first l.initial.checker.before l.order (parts_of l.parts);
+      option_map sides_of l.made
+      ≡ typed_sides l.initial.checker.scope l.first l.initial.checker.before l.order (parts_of (take l.part-index l.parts));
+  number : l.x ≡ l.first + l.part-index;
 }

@@ -1,4 +1,4 @@
-use Rattle.ms_names_rules.specs.View.{declaration_of}
+use Rattle.ms_parse_grammar.specs.View.{declaration_of}
 use Rattle.ms_names_scopes.specs.inner.Declaration.{known_at}
 use Rattle.ms_names.proofs.Told.{declared-all, declared-files, from-within}
 use Rattle.ms_names.proofs.outcome.declare.Goals as goal

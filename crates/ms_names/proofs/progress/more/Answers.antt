@@ -1,6 +1,6 @@
 use Rattle.std.proofs.Common.{ap, arith}
 use Rattle.ms_names_rules.specs.Scope.{count_of_bounds}
-use Rattle.ms_names_rules.specs.View.{declaration_of}
+use Rattle.ms_parse_grammar.specs.View.{declaration_of}
 use Rattle.ms_names_rules.proofs.Lists.{count_of_bounds-length}
 use Rattle.ms_names.proofs.Sources.{globals-counted}
 use Rattle.ms_names.proofs.progress.more.Goals as goal

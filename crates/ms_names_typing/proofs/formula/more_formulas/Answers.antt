@@ -1,8 +1,8 @@
 use Rattle.std.proofs.Common.{◌≡◌, Some, sym, ap, ◌∙◌}
 use Rattle.std.specs.Option.{option_map}
 use Rattle.ms_logic.specs.View.{argument_of, formula_of}
-use Rattle.ms_names_rules.specs.inner.Lists.{forms_of, formula_behind}
-use Rattle.ms_names_rules.specs.Typed.{both, formula_in}
+use Rattle.ms_names_rules.specs.inner.Lists.{forms_of}
+use Rattle.ms_names_rules.specs.Typed.{both, formula_in, formula_behind}
 use Rattle.ms_names_rules.proofs.Operands.{forms_of-more}
 use Rattle.ms_names_typing.proofs.formula.more_formulas.Goals as goal
 

@@ -1,8 +1,8 @@
 use Rattle.std.proofs.Common.{◌≡◌, Some, sym, ap, ◌∙◌}
 use Rattle.std.specs.Option.{option_map}
 use Rattle.ms_logic.specs.View.{argument_of, term_of}
-use Rattle.ms_names_rules.specs.inner.Lists.{terms_of, number_behind}
-use Rattle.ms_names_rules.specs.Typed.{both, number_in}
+use Rattle.ms_names_rules.specs.inner.Lists.{terms_of}
+use Rattle.ms_names_rules.specs.Typed.{both, number_in, number_behind}
 use Rattle.ms_names_rules.proofs.Operands.{terms_of-more}
 use Rattle.ms_names_typing.proofs.term.more_numbers.Goals as goal
 

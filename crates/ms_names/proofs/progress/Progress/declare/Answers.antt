@@ -1,5 +1,5 @@
 use Rattle.std.proofs.Common.{sym, subst, ap, ◌∙◌}
-use Rattle.ms_names_rules.specs.View.{declaration_of}
+use Rattle.ms_parse_grammar.specs.View.{declaration_of}
 use Rattle.ms_names.specs.inner.Progress.{IsMade, known}
 use Rattle.ms_names_scopes.specs.inner.Found.{Found}
 use Rattle.ms_names.proofs.Makes.{made-there}
