@@ -21,6 +21,7 @@ use Rattle.ms_project.specs.Quantified.{quantified}
 use Rattle.ms_project.specs.Quantified.{IsMetBy as IsMetByOwn}
 use Rattle.ms_dfa.specs.Values.{HasValues, own_meaning}
 use Rattle.ms_build.specs.Built.{IsOver, IsPart, child_meaning}
+use Rattle.ms_build.specs.inner.Ranges.{IsLast}
 use Rattle.ms_build.proofs.MeaningLemmas.{own_means}
 use Rattle.ms_build.proofs.NodeLemmas.{IsMeaning-child}
 use Rattle.ms_build.proofs.PlaceLemmas.{IsAssignment-among, among-own}
@@ -37,6 +38,10 @@ without-last base (first ∷ orders) o name is =
     differs : nat_eq base name ≡ false
     differs = ⊎_elim (λ same. let equal = eqb-true base name same in absurd (omega (arith, is, equal))) (λ other. other) (cases_Bool (nat_eq base name))
 
+with-last : (base : ℕ) (orders : List Order) (o : Order) (name : ℕ) → name ≡ base + length orders → variables_from base orders ++ record { name = name; order = o } ∷ [] ≡ variables_from base (orders ++ o ∷ [])
+with-last base [] o name is = let same : name ≡ base = omega (arith, is) in ap (λ (n : ℕ). record { name = n; order = o } ∷ []) same
+with-last base (first ∷ orders) o name is = ap (λ vs. record { name = base; order = first } ∷ vs) (with-last (base + 1) orders o name (omega (arith, is)))
+
 module _ (imports : List Import) (entries : List Entry) (mode : Mode) (orders : List Order) (own : Variable) (bound : own.name ≡ length orders) (body : Child) (whole : Content Sign) (automaton : IsAutomaton whole)
     (is : IsOver mode (variables_by_place (orders ++ own.order ∷ [])) (child_meaning imports entries body) whole) where
   -- the bound variable is one of the body's
@@ -44,6 +49,12 @@ module _ (imports : List Import) (entries : List Entry) (mode : Mode) (orders : 
   bound_among =
       subst (λ vs. IsAmong vs own) (sym is.variables_are)
       (among-own (orders ++ own.order ∷ []) own (ap (slice_get (orders ++ own.order ∷ [])) bound ∙ slice_get-push orders own.order))
+
+  -- and the last of them
+  pub bound_last : IsLast whole.variables own
+  bound_last =
+      subst (λ vs. IsLast vs own) (sym is.variables_are)
+      (ap (λ vs. vs ++ own ∷ []) (without-last 0 orders own.order own.name (omega (arith, bound))) ∙ with-last 0 orders own.order own.name (omega (arith, bound)))
 
   module _ (quant : Quant) (made : Content Sign) (mode_is : made.mode ≡ whole.mode) (variables_are : made.variables ≡ without own.name whole.variables) where
     over_node : made.variables ≡ variables_by_place orders

@@ -14,6 +14,7 @@ pub mod NodeLemmas
 pub mod PartLemmas
 pub mod PlaceLemmas
 pub mod QuantifiedLemmas
+pub mod RangeLemmas
 pub mod RefusalLemmas
 pub mod RootLemmas
 pub mod UsesLemmas

@@ -28,16 +28,21 @@ means_own meaning content automaton values is_meaning e assigned sign right =
     let found = values.right (shortest_word content.variables e) e assigned (shortest content automaton e assigned) in
     found.1 ∙ ap Some (is_meaning.one e found.0 sign assigned found.2 right)
 
+-- a value of the bound variable gives the body an assignment
+pub assigned_bound : (body : Content Sign) → IsAutomaton body → (own : Variable) → IsAmong body.variables own → (word : Word) (e : Env) → IsAssignment body.mode (without own.name body.variables) e
+    → Encodes (without own.name body.variables) word e → (v : Value) → IsValueOf own.order e.universe v → IsAssignment body.mode body.variables (assign own.name v e)
+assigned_bound body body_is own own_among word e assigned encodes v is =
+    there_assigned body.mode body.variables (without own.name body.variables) body_is.rising (without-rising own.name body.variables body_is.rising) (bound body.variables body_is.rising own own_among)
+    (places_among (without own.name body.variables) body.variables) (places_left own.name 0 body.variables) (IsLeftOut-rest body.variables body_is.rising own own_among) own
+    (own_there body.variables body_is.rising own own_among) (without-names own.name body.variables) e assigned word encodes v is
+
 module _ (meaning : Meaning) (MetAt : Env → Type 0) (body made : Content Sign) (body_is : IsAutomaton body) (body_values : HasValues meaning body)
     (is_meaning : IsMeaning body.mode body.variables meaning) (own : Variable) (own_among : IsAmong body.variables own) (made_mode : made.mode ≡ body.mode)
     (made_variables : made.variables ≡ without own.name body.variables) (IsMet : Env → Type 0)
     (met_to : (g : Env) → IsAssignment body.mode body.variables g → IsMet g → MetAt g) (met_from : (g : Env) → IsAssignment body.mode body.variables g → MetAt g → IsMet g) where
   module _ (word : Word) (e : Env) (assigned : IsAssignment body.mode (without own.name body.variables) e) (encodes : Encodes (without own.name body.variables) word e) where
     assigned_at : (v : Value) → IsValueOf own.order e.universe v → IsAssignment body.mode body.variables (assign own.name v e)
-    assigned_at v is =
-        there_assigned body.mode body.variables (without own.name body.variables) body_is.rising (without-rising own.name body.variables body_is.rising) (bound body.variables body_is.rising own own_among)
-        (places_among (without own.name body.variables) body.variables) (places_left own.name 0 body.variables) (IsLeftOut-rest body.variables body_is.rising own own_among) own
-        (own_there body.variables body_is.rising own own_among) (without-names own.name body.variables) e assigned word encodes v is
+    assigned_at = assigned_bound body body_is own own_among word e assigned encodes
 
     abbrev Here : Value → Type 0
     Here = RangeOf own IsMet e

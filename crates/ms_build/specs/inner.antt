@@ -1,4 +1,5 @@
 pub mod AtLeast
 pub mod Examples
 pub mod Lacked
+pub mod Ranges
 pub mod Uses

@@ -13,6 +13,7 @@ mod leaves;
 mod nodes;
 mod plan;
 mod quantified;
+mod range;
 mod roots;
 mod uses;
 mod wider;

@@ -8,6 +8,7 @@ ghost use Rattle.ms_build.specs.Short.{QuantifierLacks};
 use crate::bodies::whole_body;
 use crate::children::brought;
 use crate::plan::Plan;
+use crate::range::project_within;
 use ms_dag::Child;
 use ms_dfa::Automaton;
 use ms_list::StepFault;
@@ -73,5 +74,5 @@ pub(crate) fn within(
     // The states tell that these are automata.
     let _ = whole.states();
     let _ = domain.states();
-    project(plan.alloc, &whole, Some(&domain), quantifier, plan.limit)
+    project_within(plan, &whole, &domain, quantifier)
 }

@@ -18,7 +18,7 @@ use Rattle.ms_logic.specs.Assignment.{Variable}
 use Rattle.ms_logic.specs.Truth.{Answer, Import}
 use Rattle.ms_logic.specs.declared.checked.MapPair.{MapPair}
 use Rattle.ms_logic.specs.declared.mode.Mode.{Mode}
-use Rattle.ms_logic_contents.specs.Scoped.{AreDistinct}
+use Rattle.ms_logic_readers.specs.Scoped.{AreDistinct}
 use Rattle.ms_logic_contents.proofs.FullContents.{full_contents_exist}
 use Rattle.ms_logic_core.specs.CoreForm.{truth}
 use Rattle.ms_logic_core.specs.Spread.{variables_of_import}
@@ -31,7 +31,7 @@ use Rattle.ms_logic_words.specs.declared.sign.Sign.{Sign}
 use Rattle.ms_logic_words.specs.declared.sign.Sign.TheVariants.{Yes, No, Undefined, Outside}
 use Rattle.ms_list.specs.declared.word.Word.{Word}
 use Rattle.ms_dfafile_adopt_parts.specs.Laws.{EnoughIsNotBelowImport}
-use Rattle.ms_logic_contents.proofs.Places.{by_place_distinct}
+use Rattle.ms_logic_readers.proofs.Places.{by_place_distinct}
 
 abbrev as_filed : FileState → StateOf FileSign
 as_filed state = record { sign = state.sign; next = state.next }

@@ -25,11 +25,11 @@ use Rattle.ms_logic.specs.declared.assignment.Value.{Value}
 use Rattle.ms_logic.specs.declared.assignment.Value.TheVariants.{Truth}
 use Rattle.ms_logic.specs.declared.checked.MapPair.{MapPair}
 use Rattle.ms_logic.specs.declared.mode.Order.{Order}
-use Rattle.ms_logic_contents.specs.Scoped.{AreDistinct}
+use Rattle.ms_logic_readers.specs.Scoped.{AreDistinct}
 use Rattle.ms_logic_measures.specs.Budgets.{answer_by_places}
 use Rattle.ms_logic_starts.specs.ContentStarts.{HaveDistinctNumbers}
 use Rattle.ms_logic_words.specs.Content.{Content, StateOf, answer_by, env_of, last_state, shortest_word, sign_at, sign_of}
-use Rattle.ms_logic_contents.proofs.Places.{by_place_distinct}
+use Rattle.ms_logic_readers.proofs.Places.{by_place_distinct}
 use Rattle.ms_dfafile_imports.proofs.Words.{word_by, word_given}
 
 -- variables whose numbers differ place by place

@@ -12,7 +12,7 @@ use Rattle.ms_logic.specs.declared.mode.Order.{Order}
 use Rattle.ms_logic.specs.declared.mode.Order.TheVariants.{Zero, One, Two}
 use Rattle.ms_logic.proofs.Agreement.{universe-assign_all}
 use Rattle.ms_logic.proofs.AssignedValues.{value_at-assign, value_at-assign_other}
-use Rattle.ms_logic_contents.specs.Scoped.{AreDistinct}
+use Rattle.ms_logic_readers.specs.Scoped.{AreDistinct}
 use Rattle.ms_logic_words.specs.Content.{env_of, shortest_word}
 
 abbrev pub values_in : List Variable → Env → List Value

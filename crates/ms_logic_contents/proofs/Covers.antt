@@ -8,8 +8,8 @@ use Rattle.ms_logic_core.specs.CoreForm.{CoreForm, CoreForms, CoreRestriction, b
 use Rattle.ms_logic_core.specs.Operands.{variable, variables_at, variables_of_basic}
 use Rattle.ms_logic_core.specs.Spread.{variables_of_import}
 use Rattle.ms_logic_measures.specs.Steps.{free_variables, free_variables_among, free_variables_in, joined, with_variable}
-use Rattle.ms_logic_contents.specs.Scoped.{AreOver, IsOver, IsRestrictionOver, with_bound}
-use Rattle.ms_logic_contents.proofs.Others.{among-append, among-without}
+use Rattle.ms_logic_readers.specs.Scoped.{AreOver, IsOver, IsRestrictionOver, with_bound}
+use Rattle.ms_logic_readers.proofs.Others.{among-append, among-without}
 
 pub among-contains : (vs : List Variable) (v : Variable) → IsAmong vs v → Contains vs v
 among-contains [] v among = absurd among

@@ -1,15 +1,3 @@
-pub mod Bits
 pub mod Covers
-pub mod Encodings
-pub mod Formulas
 pub mod FullContents
-pub mod Imports
-pub mod Others
-pub mod Places
-pub mod Quantifiers
-pub mod Readers
-pub mod Relations
-pub mod Sets
 pub mod Signed
-pub mod Values
-pub mod WorkedScopes

@@ -15,10 +15,10 @@ use Rattle.ms_logic_words.specs.declared.sign.Sign.{Sign}
 use Rattle.ms_logic_words.specs.declared.sign.Sign.TheVariants.{Yes, No, Undefined, Outside}
 use Rattle.ms_logic_machines.specs.Machine.{IsTested, Machine, machine_after, machine_sign}
 use Rattle.ms_logic_machines.proofs.Choices.{Among, among-pairs, pairs, pairs-among, pairs-tested}
-use Rattle.ms_logic_contents.specs.Scoped.{AreDistinct, IsOver}
-use Rattle.ms_logic_contents.proofs.Encodings.{TellsEncoding, encoding-reader}
-use Rattle.ms_logic_contents.proofs.Formulas.{no, yes}
-use Rattle.ms_logic_contents.proofs.Readers.{Reader, TellsAt, read}
+use Rattle.ms_logic_readers.specs.Scoped.{AreDistinct, IsOver}
+use Rattle.ms_logic_readers.proofs.Encodings.{TellsEncoding, encoding-reader}
+use Rattle.ms_logic_readers.proofs.Formulas.{no, yes}
+use Rattle.ms_logic_readers.proofs.Readers.{Reader, TellsAt, read}
 
 -- a reader as a machine whose states are numbers
 

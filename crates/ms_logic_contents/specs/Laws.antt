@@ -9,7 +9,7 @@ use Rattle.ms_logic_measures.specs.Budgets.{AreContentsOfImports}
 use Rattle.ms_logic_measures.specs.FullContent.{IsFullContent}
 use Rattle.ms_logic_words.specs.Content.{Content}
 use Rattle.ms_logic_words.specs.declared.sign.Sign.{Sign}
-use Rattle.ms_logic_contents.specs.Scoped.{AreDistinct, IsOver}
+use Rattle.ms_logic_readers.specs.Scoped.{AreDistinct, IsOver}
 
 -- there is one, where the imports are those of files with contents
 abbrev pub FullContentsExist : Type 0

@@ -1,19 +1,9 @@
 -- Lists whose variables have different numbers: rising ones, and lists in another order.
 use Rattle.std.proofs.Common.{◌≡◌, ℕ, ◌+◌, ◌<◌, ◌≤◌, nat_le, Bool, true, false, if◌then◌else◌, ◌⊎◌, inl, inr, ⊎_elim, List, [], ◌∷◌, map, refl, sym, ap, subst, ◌∙◌, arith}
 use Rattle.ms_logic.specs.Assignment.{Variable}
-use Rattle.ms_logic.specs.Lists.{AreRising, IsAmong, IsBelowFirst}
-use Rattle.ms_logic_contents.specs.Scoped.{AreDistinct}
+use Rattle.ms_logic.specs.Lists.{IsAmong}
+use Rattle.ms_logic_readers.specs.Scoped.{AreDistinct}
 use Rattle.ms_logic_measures.specs.CallMeasures.{inserted, sorted}
-
--- rising variables
-above_first : (x : ℕ) (vs : List Variable) → IsBelowFirst x vs → AreRising vs → (v : Variable) → IsAmong vs v → x < v.name
-above_first x [] below rising v among = absurd among
-above_first x (w ∷ vs) below rising v (inl same) = subst (λ (u : Variable). x < u.name) same below
-above_first x (w ∷ vs) below rising v (inr there) = let later = above_first w.name vs rising.0 rising.1 v there in omega (arith, below, later)
-
-pub rising_distinct : (vs : List Variable) → AreRising vs → AreDistinct vs
-rising_distinct [] rising = tt
-rising_distinct (v ∷ vs) rising = (λ w among same. (let above = above_first v.name vs rising.0 rising.1 w among in omega (arith, above, same)), rising_distinct vs rising.1)
 
 -- the variables of numbered ones
 abbrev pub variables_in : List (ℕ × Variable) → List Variable

@@ -11,7 +11,7 @@ use Rattle.ms_logic_measures.specs.Budgets.{AreContentsOfImports, variables_insi
 use Rattle.ms_logic_measures.specs.Steps.{Step, constant, of_one, relation, connective, binding, import_at, import_of_source, root, steps_of}
 use Rattle.ms_logic_words.specs.Content.{Content}
 use Rattle.ms_source_steps.specs.Measured.{KnownStepsAreMeasured}
-use Rattle.ms_source_steps.proofs.Distinct.{rising_distinct}
+use Rattle.ms_logic_readers.proofs.Others.{rising_distinct}
 use Rattle.ms_source_steps.proofs.Measured.{binding_measured, connective_measured, constant_measured, import_measured, of_one_measured, relation_measured, widening_measured}
 use Rattle.ms_source_steps.proofs.Parts.{IsNoRoot, no_roots}
 use Rattle.ms_source_steps.proofs.ScopedParts.{distinct_apart, inside_distinct, inside_scoped, own_scoped, restriction_scoped}

@@ -7,7 +7,7 @@ use Rattle.ms_logic.specs.declared.mode.Mode.{Mode}
 use Rattle.ms_logic_core.specs.CoreForm.{CoreForm, truth, basic, imported, CoreRestriction, unrestricted, restricted}
 use Rattle.ms_logic_core.specs.Operands.{at_places}
 use Rattle.ms_logic_core.specs.declared.core_formula.Basic.{Basic}
-use Rattle.ms_logic_contents.specs.Scoped.{AreDistinct, IsOver}
+use Rattle.ms_logic_readers.specs.Scoped.{AreDistinct, IsOver}
 use Rattle.ms_logic_contents.proofs.FullContents.{full_contents_exist}
 use Rattle.ms_logic_counts.proofs.CallLemmas.{combines_are_measured, free_projects_are_measured, projects_are_measured, renames_are_measured, widenings_are_paired}
 use Rattle.ms_logic_counts.proofs.Doubts.{and-then, not-refuted}

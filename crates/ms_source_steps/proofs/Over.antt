@@ -8,8 +8,8 @@ use Rattle.ms_logic_core.specs.CoreForm.{CoreForm, truth, falsity, basic, negati
 use Rattle.ms_logic_core.specs.Operands.{variable, variables_at, variables_of_basic}
 use Rattle.ms_logic_core.specs.Spread.{variables_of_import}
 use Rattle.ms_logic_core.specs.Stands.{EachStands, RestrictionStands, Stands}
-use Rattle.ms_logic_contents.specs.Scoped.{AreOver, IsOver, IsRestrictionOver, with_bound}
-use Rattle.ms_logic_contents.proofs.Others.{among-left, among-right, without-among}
+use Rattle.ms_logic_readers.specs.Scoped.{AreOver, IsOver, IsRestrictionOver, with_bound}
+use Rattle.ms_logic_readers.proofs.Others.{among-left, among-right, without-among}
 
 each_among : (P : Variable → Type 0) (vs : List Variable) → Each P vs → (v : Variable) → IsAmong vs v → P v
 each_among P [] each v among = absurd among

@@ -12,11 +12,11 @@ use Rattle.ms_logic_core.specs.Operands.{at_places, variables_at, variables_of_b
 use Rattle.ms_logic_core.specs.Spread.{variables_of_import}
 use Rattle.ms_logic_core.specs.declared.core_formula.Basic.{Basic}
 use Rattle.ms_logic_core.specs.declared.core_formula.Basic.TheVariants.{Truth, Number, Plus, Less, Member, Sub, Union, Inter, Diff, Up, Down, Min, Max, Bits}
-use Rattle.ms_logic_contents.specs.Scoped.{AreDistinct, IsOver}
+use Rattle.ms_logic_readers.specs.Scoped.{AreDistinct, IsOver}
 use Rattle.ms_logic_measures.specs.Budgets.{pair_variables}
 use Rattle.ms_logic_measures.specs.CallMeasures.{place_variables}
 use Rattle.ms_logic_words.specs.Content.{variables_by_place, variables_from}
-use Rattle.ms_logic_contents.proofs.Places.{by_place_distinct}
+use Rattle.ms_logic_readers.proofs.Places.{by_place_distinct}
 use Rattle.ms_source_steps.proofs.Distinct.{in_sorted, sorted_distinct, variables_in}
 
 abbrev orders_of : List Variable → List Order

@@ -8,7 +8,7 @@ use Rattle.ms_logic.specs.Truth.{Import}
 use Rattle.ms_logic.specs.declared.mode.Mode.{Mode}
 use Rattle.ms_logic_core.specs.CoreForm.{CoreForm, CoreRestriction, unrestricted, restricted}
 use Rattle.ms_logic_core.specs.Stands.{RestrictionStands, Stands}
-use Rattle.ms_logic_contents.specs.Scoped.{AreDistinct}
+use Rattle.ms_logic_readers.specs.Scoped.{AreDistinct}
 use Rattle.ms_logic_contents.proofs.Covers.{among-contains, contains-among}
 use Rattle.ms_logic_measures.specs.Budgets.{variables_inside}
 use Rattle.ms_logic_measures.specs.Steps.{free_variables, free_variables_in, joined}

@@ -1,29 +1,32 @@
 use Rattle.ms_dfa.specs.Automaton.{variable_of}
-use Rattle.std.proofs.Common.{◌≡◌, inl, inr, Some, [], ◌∷◌, ◌++◌, subst, rules}
+use Rattle.std.proofs.Common.{◌≡◌, inl, inr, Some, [], ◌∷◌, ◌++◌, rules}
 use Rattle.ms_logic_words.specs.Content.{variables_by_place, Content}
 use Rattle.ms_project.specs.Always.{domain_or_always}
 use Rattle.ms_project.specs.Projection as projections
 use Rattle.ms_build.specs.Short.{ChildLacks, QuantifierLacks}
 use Rattle.ms_build.proofs.RefusalLemmas.{fault_more, refused_more}
-use Rattle.std.proofs.lemmas.Option.{same_Some}
-use Rattle.ms_project.specs.Paired.{IsDomainFor}
 use Rattle.ms_build.specs.Built.{entries_of, imports_for}
-use Rattle.ms_build.proofs.BinderLemmas.{IsDomainFor-part, bound_among, within_by}
+use Rattle.ms_build.proofs.BinderLemmas.{IsDomainFor-part, bound_among, bound_last, within_by}
 use Rattle.ms_build.proofs.quantified.within.Goals as goal
 use Rattle.ms_logic_words.specs.declared.sign.Sign.{Sign}
 
-pub project-requires-clause-domain : goal.project-requires-clause-domain
-project-requires-clause-domain c x same =
+pub project_within-requires-clause-domain : goal.project_within-requires-clause-domain
+project_within-requires-clause-domain c =
     let plan = c.args.plan.now in
     let inside = c.args.orders.now ++ c.args.quantifier.track.order ∷ [] in
-    subst (IsDomainFor c.in_ok-whole.whole) (same_Some c.in-Ok.domain x same)
-    (IsDomainFor-part (imports_for plan) (entries_of plan) plan.mode c.args.orders.now (variable_of c.args.quantifier.track) c.requires.bound c.args.scope.body.now c.in_ok-whole.whole c.states.ensures.automaton
-    c.in_ok-whole.ensures.body c.args.scope.domain.now c.in-Ok.domain (c.in-Ok.ensures.part inside c.requires.domain_read))
+    IsDomainFor-part (imports_for plan) (entries_of plan) plan.mode c.args.orders.now (variable_of c.args.quantifier.track) c.requires.bound c.args.scope.body.now c.in_ok-whole.whole c.states.ensures.automaton
+    c.in_ok-whole.ensures.body c.args.scope.domain.now c.in-Ok.domain (c.in-Ok.ensures.part inside c.requires.domain_read)
 
-pub project-requires-clause-bound : goal.project-requires-clause-bound
-project-requires-clause-bound c =
+pub project_within-requires-clause-bound : goal.project_within-requires-clause-bound
+project_within-requires-clause-bound c =
     let plan = c.args.plan.now in
     bound_among (imports_for plan) (entries_of plan) plan.mode c.args.orders.now (variable_of c.args.quantifier.track) c.requires.bound c.args.scope.body.now c.in_ok-whole.whole c.states.ensures.automaton
+    c.in_ok-whole.ensures.body
+
+pub project_within-requires-clause-last : goal.project_within-requires-clause-last
+project_within-requires-clause-last c =
+    let plan = c.args.plan.now in
+    bound_last (imports_for plan) (entries_of plan) plan.mode c.args.orders.now (variable_of c.args.quantifier.track) c.requires.bound c.args.scope.body.now c.in_ok-whole.whole c.states.ensures.automaton
     c.in_ok-whole.ensures.body
 
 pub returns-clause-quantified : goal.returns-clause-quantified
@@ -31,8 +34,8 @@ returns-clause-quantified c =
     let plan = c.args.plan.now in
     let inside = c.args.orders.now ++ c.args.quantifier.track.order ∷ [] in
     within_by (imports_for plan) (entries_of plan) plan.mode c.args.orders.now (variable_of c.args.quantifier.track) c.requires.bound c.args.scope.body.now c.in_ok-whole.whole c.states.ensures.automaton
-    c.in_ok-whole.ensures.body c.args.quantifier.quant c.args.scope.domain.now c.in-Ok.domain c.states-2.ensures.automaton (c.in-Ok.ensures.part inside c.requires.domain_read) c.project.result
-    c.project.ensures.mode c.project.ensures.variables c.project.ensures.values
+    c.in_ok-whole.ensures.body c.args.quantifier.quant c.args.scope.domain.now c.in-Ok.domain c.states-2.ensures.automaton (c.in-Ok.ensures.part inside c.requires.domain_read) c.project_within.result
+    c.project_within.ensures.mode c.project_within.ensures.variables c.project_within.ensures.values
 
 pub returns-in_err-whole-clause-nodes : goal.returns-in_err-whole-clause-nodes
 returns-in_err-whole-clause-nodes c =
@@ -45,7 +48,7 @@ returns-clause-nodes c =
     let plan = c.args.plan.now in
     let whole = c.in_ok-whole.whole in
     refused_more (λ refused. (refused ≡ plan.limit) × projections.NeedsAtLeast plan.limit whole (domain_or_always whole.mode (Some c.in-Ok.domain)) c.args.quantifier.track.variable)
-    (λ refused. QuantifierLacks plan c.args.orders.now (variable_of c.args.quantifier.track) (Some c.args.scope.domain.now) c.args.scope.body.now) c.project.result
+    (λ refused. QuantifierLacks plan c.args.orders.now (variable_of c.args.quantifier.track) (Some c.args.scope.domain.now) c.args.scope.body.now) c.project_within.result
     (λ refused why.
     inr (record {
       whole = whole;
@@ -56,4 +59,4 @@ returns-clause-nodes c =
       is_range = c.in-Ok.ensures.operand;
       short = why.1;
     }))
-    c.project.ensures.nodes
+    c.project_within.ensures.nodes

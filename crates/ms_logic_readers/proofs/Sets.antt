@@ -8,7 +8,7 @@ use Rattle.ms_logic.specs.declared.mode.Mode.TheVariants.{Ws1s, M2lStr}
 use Rattle.ms_logic_words.specs.Content.{head_bit, tail_bits}
 use Rattle.ms_logic_machines.proofs.Choices.{Among, Decided, among-or, among-picked, lists-tested, picked, picked-among, picked-sublist, some-or, sublists}
 use Rattle.ms_logic_machines.proofs.Reached.{Path, Reaches, reached-or}
-use Rattle.ms_logic_contents.proofs.Readers.{Reader, read}
+use Rattle.ms_logic_readers.proofs.Readers.{Reader, read}
 
 -- how many letters may follow
 abbrev pub MayFollow : Mode → ℕ → Type 0

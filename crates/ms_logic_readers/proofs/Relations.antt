@@ -33,10 +33,10 @@ use Rattle.ms_basic.proofs.PlusLemmas.{decides_plus}
 use Rattle.ms_basic.proofs.SetsLemmas.{decides_diff, decides_inter, decides_sub, decides_union}
 use Rattle.ms_basic.proofs.TruthLemmas.{decides_truth}
 use Rattle.ms_basic.proofs.UpLemmas.{decides_up}
-use Rattle.ms_logic_contents.proofs.Bits.{letter-by, own_bit, own-of-bits, truths-by}
-use Rattle.ms_logic_contents.specs.Scoped.{AreDistinct}
+use Rattle.ms_logic_readers.proofs.Bits.{letter-by, own_bit, own-of-bits, truths-by}
+use Rattle.ms_logic_readers.specs.Scoped.{AreDistinct}
 use Rattle.ms_logic_machines.proofs.Choices.{Among}
-use Rattle.ms_logic_contents.proofs.Readers.{Reader, TellsAt, read}
+use Rattle.ms_logic_readers.proofs.Readers.{Reader, TellsAt, read}
 
 -- numbers below a count are choices
 pub among-range : (start count k : ℕ) → start ≤ k → k < start + count → Among k (range_with_len start count)

@@ -1,8 +1,8 @@
 use Rattle.std.proofs.Common.{inl, inr, refl}
 use Rattle.ms_logic.specs.declared.mode.Order.TheVariants.{Two}
 use Rattle.ms_logic_core.specs.Operands.{variable}
-use Rattle.ms_logic_contents.proofs.WorkedScopes.{as_they_are, no_number, not_twice, one_lacks, set_0_and_1, turned_round}
-use Rattle.ms_logic_contents.proofs.examples.worked_scopes.Goals as goal
+use Rattle.ms_logic_readers.proofs.WorkedScopes.{as_they_are, no_number, not_twice, one_lacks, set_0_and_1, turned_round}
+use Rattle.ms_logic_readers.proofs.examples.worked_scopes.Goals as goal
 
 pub returns-clause-distinct : goal.returns-clause-distinct
 returns-clause-distinct c = set_0_and_1

@@ -28,11 +28,11 @@ use Rattle.ms_logic_measures.specs.Budgets.{IsContentOfImport}
 use Rattle.ms_logic_words.specs.Content.{Content, StateOf, answer_by, env_of, first_state, is_in_letters, is_truth_value, next_from, next_state, sign_at, state_after, variables_from}
 use Rattle.ms_logic_words.specs.Word.{Encodes, HasLength}
 use Rattle.ms_basic.specs.inner.Reading.{bit_of, truth_of}
-use Rattle.ms_logic_contents.proofs.Bits.{bits_by, letter-by, own_bit, same-bits, truths-by}
-use Rattle.ms_logic_contents.specs.Scoped.{AreDistinct}
-use Rattle.ms_logic_contents.proofs.Readers.{Reader, TellsAt, read}
-use Rattle.ms_logic_contents.proofs.Relations.{among-range, bit-read, bound-one, gives-one, range-among, truth-read}
-use Rattle.ms_logic_contents.proofs.Values.{same-bit, same-bound, same-truth}
+use Rattle.ms_logic_readers.proofs.Bits.{bits_by, letter-by, own_bit, same-bits, truths-by}
+use Rattle.ms_logic_readers.specs.Scoped.{AreDistinct}
+use Rattle.ms_logic_readers.proofs.Readers.{Reader, TellsAt, read}
+use Rattle.ms_logic_readers.proofs.Relations.{among-range, bit-read, bound-one, gives-one, range-among, truth-read}
+use Rattle.ms_logic_readers.proofs.Values.{same-bit, same-bound, same-truth}
 use Rattle.ms_logic_machines.proofs.Choices.{Among, among-pairs, pairs, pairs-among, pairs-tested}
 
 -- whether some bit is 1

@@ -8,7 +8,7 @@ use Rattle.ms_logic.specs.Letters.{letter_at, truth_values_of, with_bit, with_tr
 use Rattle.ms_logic.specs.Lists.{IsAmong}
 use Rattle.ms_logic_words.specs.Content.{count_of, head_bit, is_in_letters, is_truth_value, tail_bits}
 use Rattle.ms_basic.specs.inner.Reading.{bit_of, truth_of}
-use Rattle.ms_logic_contents.specs.Scoped.{AreDistinct}
+use Rattle.ms_logic_readers.specs.Scoped.{AreDistinct}
 
 -- the bit of a variable, by its number
 abbrev pub own_bit : (Order → Bool) → List Variable → List Bool → ℕ → Bool

@@ -6,7 +6,7 @@ ghost use Rattle.ms_logic.specs.declared.mode.Quant.TheVariants.{Ex};
 ghost use Rattle.ms_logic_core.specs.CoreForm.{basic, negation, quantified, unrestricted};
 ghost use Rattle.ms_logic_core.specs.Operands.{variable};
 ghost use Rattle.ms_logic_core.specs.declared.core_formula.Basic.TheVariants.{Sub};
-ghost use Rattle.ms_logic_contents.specs.Scoped.{AreDistinct, IsOver, with_bound};
+ghost use Rattle.ms_logic_readers.specs.Scoped.{AreDistinct, IsOver, with_bound};
 
 /// The inclusion of set 0 in set 1, over sets and numbers with these numbers.
 pub fn worked_scopes()

@@ -1,10 +1,10 @@
 -- The variables of a list without those of one number, and that number's variable behind them.
-use Rattle.std.proofs.Common.{◌≡◌, ℕ, ◌==◌, not, true, false, cond, ◌⊎◌, inl, inr, ⊎_elim, List, [], ◌∷◌, ◌++◌, refl, sym, ◌∙◌, ap}
+use Rattle.std.proofs.Common.{◌≡◌, ℕ, ◌<◌, ◌==◌, not, true, false, cond, ◌⊎◌, inl, inr, ⊎_elim, List, [], ◌∷◌, ◌++◌, refl, sym, ◌∙◌, ap, subst, arith}
 use Rattle.std.proofs.lemmas.Bool.{eq-eqb, eqb-true, false≢true}
 use Rattle.ms_logic.specs.Assignment.{Variable}
-use Rattle.ms_logic.specs.Lists.{IsAmong, without}
-use Rattle.ms_logic_contents.proofs.Bits.{IsNew}
-use Rattle.ms_logic_contents.specs.Scoped.{AreDistinct}
+use Rattle.ms_logic.specs.Lists.{AreRising, IsAmong, IsBelowFirst, without}
+use Rattle.ms_logic_readers.proofs.Bits.{IsNew}
+use Rattle.ms_logic_readers.specs.Scoped.{AreDistinct}
 
 pub among-without : (x : ℕ) (vs : List Variable) (v : Variable) → IsAmong (without x vs) v → IsAmong vs v × (v.name ≡ x → ⊥)
 among-without x [] v among = absurd among
@@ -48,3 +48,13 @@ distinct-with (w ∷ vs) own distinct new = (
   λ v among same. ⊎_elim (λ one. distinct.0 v one same) (λ other. ⊎_elim (λ is. new w (inl refl) (sym same ∙ ap (λ (u : Variable). u.name) (sym is))) (λ never. never) other) (among-append vs (own ∷ []) v among),
   distinct-with vs own distinct.1 (λ v among. new v (inr among)),
 )
+
+-- variables whose numbers rise have different ones
+above_first : (x : ℕ) (vs : List Variable) → IsBelowFirst x vs → AreRising vs → (v : Variable) → IsAmong vs v → x < v.name
+above_first x [] below rising v among = absurd among
+above_first x (w ∷ vs) below rising v (inl same) = subst (λ (u : Variable). x < u.name) same below
+above_first x (w ∷ vs) below rising v (inr there) = let later = above_first w.name vs rising.0 rising.1 v there in omega (arith, below, later)
+
+pub rising_distinct : (vs : List Variable) → AreRising vs → AreDistinct vs
+rising_distinct [] rising = tt
+rising_distinct (v ∷ vs) rising = (λ w among same. (let above = above_first v.name vs rising.0 rising.1 w among in omega (arith, above, same)), rising_distinct vs rising.1)

@@ -20,14 +20,14 @@ use Rattle.ms_logic_words.specs.Word.{Encodes, HasLength}
 use Rattle.ms_logic_words.specs.WordSign.{EncodesSome, word_of}
 use Rattle.ms_logic_words.proofs.WordLaws.{encoding_exists, encoding_is_over, zero_letter_keeps}
 use Rattle.ms_basic.specs.inner.Reading.{bit_of, truth_of}
-use Rattle.ms_logic_contents.proofs.Bits.{bits-append, bits_by, length-bits, letter-by, own_bit, same-bits, truths-by}
-use Rattle.ms_logic_contents.specs.Scoped.{AreDistinct}
-use Rattle.ms_logic_contents.proofs.Encodings.{TellsEncoding, encoding-reader}
-use Rattle.ms_logic_contents.proofs.Others.{among-append, among-right, among-without, distinct-with, distinct-without}
-use Rattle.ms_logic_contents.proofs.Readers.{Reader, TellsAt, read, reader-of, reader-of-two}
-use Rattle.ms_logic_contents.proofs.Relations.{bit-read, bound-one, gives-one, truth-read}
-use Rattle.ms_logic_contents.proofs.Sets.{IsWidened, MayFollow, set-reader, wide_letters}
-use Rattle.ms_logic_contents.proofs.Values.{same-bit, same-bound, same-truth}
+use Rattle.ms_logic_readers.proofs.Bits.{bits-append, bits_by, length-bits, letter-by, own_bit, same-bits, truths-by}
+use Rattle.ms_logic_readers.specs.Scoped.{AreDistinct}
+use Rattle.ms_logic_readers.proofs.Encodings.{TellsEncoding, encoding-reader}
+use Rattle.ms_logic_readers.proofs.Others.{among-append, among-right, among-without, distinct-with, distinct-without}
+use Rattle.ms_logic_readers.proofs.Readers.{Reader, TellsAt, read, reader-of, reader-of-two}
+use Rattle.ms_logic_readers.proofs.Relations.{bit-read, bound-one, gives-one, truth-read}
+use Rattle.ms_logic_readers.proofs.Sets.{IsWidened, MayFollow, set-reader, wide_letters}
+use Rattle.ms_logic_readers.proofs.Values.{same-bit, same-bound, same-truth}
 
 -- universes of one mode that have one length
 same-universe : (mode : Mode) (u w : Universe) (n k : ℕ) → IsUniverseOf mode u → IsUniverseOf mode w → HasLength u n → HasLength w k → (mode ≡ M2lStr → n ≡ k) → u ≡ w

@@ -14,11 +14,11 @@ use Rattle.ms_logic_core.specs.Operands.{variable, variables_at}
 use Rattle.ms_logic_core.specs.Spread.{variables_of_import}
 use Rattle.ms_logic_measures.specs.Budgets.{AreContentsOfImports, IsContentOfImport}
 use Rattle.ms_logic_words.specs.Content.{Content}
-use Rattle.ms_logic_contents.specs.Scoped.{AreDistinct, AreOver, IsOver, IsRestrictionOver, with_bound}
-use Rattle.ms_logic_contents.proofs.Imports.{import-reader}
-use Rattle.ms_logic_contents.proofs.Quantifiers.{some-value-reader, wide-distinct}
-use Rattle.ms_logic_contents.proofs.Readers.{Reader, TellsAt, both-readers, certain-reader, either-reader, never-reader, opposite-reader, reader-along}
-use Rattle.ms_logic_contents.proofs.Relations.{relation-reader}
+use Rattle.ms_logic_readers.specs.Scoped.{AreDistinct, AreOver, IsOver, IsRestrictionOver, with_bound}
+use Rattle.ms_logic_readers.proofs.Imports.{import-reader}
+use Rattle.ms_logic_readers.proofs.Quantifiers.{some-value-reader, wide-distinct}
+use Rattle.ms_logic_readers.proofs.Readers.{Reader, TellsAt, both-readers, certain-reader, either-reader, never-reader, opposite-reader, reader-along}
+use Rattle.ms_logic_readers.proofs.Relations.{relation-reader}
 
 -- the content of an import
 file-of : (mode : Mode) (imports : List Import) (files : List (Content Answer)) → AreContentsOfImports mode imports files → (i : ℕ) (found : Import) → slice_get imports i ≡ Some found

@@ -19,11 +19,11 @@ use Rattle.ms_logic_words.specs.inner.Decoding.{decoded_universe, positions_of}
 use Rattle.ms_logic_words.proofs.DecodingLemmas.{bound-positions_of, is_member-positions_of, rising-positions_of}
 use Rattle.ms_logic_words.proofs.WordLaws.{length-letters_below}
 use Rattle.ms_basic.specs.inner.Reading.{bit_of, truth_of}
-use Rattle.ms_logic_contents.proofs.Bits.{bits-of-own, letter-by, own_bit, same-bits, truths-by}
-use Rattle.ms_logic_contents.specs.Scoped.{AreDistinct}
+use Rattle.ms_logic_readers.proofs.Bits.{bits-of-own, letter-by, own_bit, same-bits, truths-by}
+use Rattle.ms_logic_readers.specs.Scoped.{AreDistinct}
 use Rattle.ms_logic_machines.proofs.Choices.{Among}
-use Rattle.ms_logic_contents.proofs.Readers.{Reader, always, read, reader-of-two}
-use Rattle.ms_logic_contents.proofs.Relations.{bit-read, bound-one}
+use Rattle.ms_logic_readers.proofs.Readers.{Reader, always, read, reader-of-two}
+use Rattle.ms_logic_readers.proofs.Relations.{bit-read, bound-one}
 
 -- tracks
 

@@ -1,0 +1,13 @@
+pub mod Automata
+pub mod Bits
+pub mod Encodings
+pub mod Formulas
+pub mod Imports
+pub mod Others
+pub mod Places
+pub mod Quantifiers
+pub mod Readers
+pub mod Relations
+pub mod Sets
+pub mod Values
+pub mod WorkedScopes
