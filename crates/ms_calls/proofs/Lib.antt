@@ -7,4 +7,5 @@ pub mod Own
 pub mod Pairs
 pub mod Parts
 pub mod Positions
+pub mod ProjectionLemmas
 pub mod RisingNames

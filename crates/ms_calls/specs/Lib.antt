@@ -1,3 +1,4 @@
 pub mod Fewest
 pub mod Products
+pub mod Projections
 pub mod Renamings

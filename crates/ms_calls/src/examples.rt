@@ -2,10 +2,16 @@
 
 ghost use Rattle.std.specs.Prelude.{◌-◌};
 ghost use Rattle.ms_calls.specs.Products.{StandsAmong};
-ghost use Rattle.ms_logic.specs.inner.Examples.{set_P_and_Q};
+ghost use Rattle.ms_calls.specs.Projections.{IsBody, IsRange};
+ghost use Rattle.ms_logic.specs.declared.mode.Mode.TheVariants.{Ws1s};
+ghost use Rattle.ms_logic.specs.declared.mode.Order.TheVariants.{Two};
+ghost use Rattle.ms_logic.specs.inner.Examples.{set_P_and_Q, variable};
+ghost use Rattle.ms_logic_words.specs.declared.sign.Sign.TheVariants.{Yes};
 ghost use Rattle.ms_logic_words.specs.inner.ContentExamples.{encodings_content, full_subset_content};
 ghost use Rattle.ms_minim.specs.Needed.{NeedsAtLeast};
 ghost use Rattle.ms_product.specs.Pairing.{IsReachedPair, operands_of};
+ghost use Rattle.ms_project.specs.Always.{always};
+ghost use Rattle.ms_project.specs.inner.Examples.{everywhere};
 
 /// The full contents of P sub Q and of `true`.
 pub fn worked_calls()
@@ -21,4 +27,9 @@ pub fn worked_calls()
     // `true` needs its one state; P sub Q has two states and two nodes, and needs no more
     ensures one { NeedsAtLeast 1 encodings_content }
     ensures no_five { ¬ NeedsAtLeast 5 full_subset_content }
+
+    // truth restricts any body, since it has no variables; a set that the body lacks is in no range of it, and is not bound there
+    ensures range { IsRange (everywhere Yes) (always Ws1s) }
+    ensures no_range { ¬ IsRange (always Ws1s) (everywhere Yes) }
+    ensures no_body { ¬ IsBody (always Ws1s) (variable 7 Two) }
 {}

@@ -4,9 +4,11 @@
 mod connectives;
 mod examples;
 mod fewest;
+mod projections;
 mod renamings;
 
 pub use connectives::laws_of_connectives;
 pub use examples::worked_calls;
 pub use fewest::laws_of_fewest_states;
+pub use projections::laws_of_projections;
 pub use renamings::law_of_rising_renamings;

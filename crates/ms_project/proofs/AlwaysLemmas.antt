@@ -1,10 +1,8 @@
 -- The automaton of truth is one, and a quantifier over its Yes is one over all values.
-use Rattle.std.proofs.Common.{◌≡◌, ℕ, zero, suc, ◌<◌, ◌⊎◌, Bool, get_or, List, [], ◌∷◌, slice_get, Option, Some, None, refl, sym, ap, subst, ◌∙◌, arith}
+use Rattle.std.proofs.Common.{◌≡◌, ℕ, zero, suc, ◌<◌, ◌⊎◌, Bool, get_or, List, [], ◌∷◌, Some, None, refl, sym, ap, ◌∙◌, arith}
 use Rattle.std.proofs.lemmas.Option.{none-some, same_Some}
 use Rattle.ms_list.specs.declared.word.Word.{Word}
 use Rattle.ms_arena.specs.declared.node.Ref.TheVariants.{Leaf}
-use Rattle.ms_arena.specs.declared.node.Node.{Node}
-use Rattle.ms_arena.specs.Diagram.{IsOrdered, IsReduced}
 use Rattle.ms_arena.proofs.Paths.{leaf_of-leaf}
 use Rattle.ms_dfa.specs.Automaton.{IsAutomaton}
 use Rattle.ms_logic.specs.declared.mode.Mode.{Mode}
@@ -15,7 +13,7 @@ use Rattle.ms_logic_words.specs.declared.sign.Sign.{Sign}
 use Rattle.ms_logic_words.specs.declared.sign.Sign.TheVariants.{Yes, No, Undefined, Outside}
 use Rattle.ms_logic.specs.declared.assignment.Value.{Value}
 use Rattle.ms_logic.specs.Assignment.{Env, Variable, assign}
-use Rattle.ms_logic_words.specs.Content.{Content, StateOf, is_truth_value, is_in_letters, with_zero_letter, HasValueAt, IsFollowed, letter_bits, truth_bits, next_state, state_after, first_state, last_state, shortest_word, sign_at, sign_of}
+use Rattle.ms_logic_words.specs.Content.{Content, StateOf, is_truth_value, is_in_letters, with_zero_letter, HasValueAt, IsFollowed, letter_bits, truth_bits, state_after, shortest_word, sign_at, sign_of}
 use Rattle.ms_logic.specs.Truth.{SomeInRange, NoneInRange, IsEmptyRange}
 use Rattle.ms_logic_words.proofs.DecodedWords.{encodings_are}
 use Rattle.ms_logic.proofs.FreeVariables.{some_moves, none_moves, some_or_empty_moves}

@@ -30,7 +30,7 @@ use Rattle.ms_project.specs.Projection.{IsProjection, AreSignedSets}
 use Rattle.ms_project.specs.Quantified.{quantified}
 use Rattle.ms_project.specs.Signed.{AreSigned, TestBelow, zero_step}
 use Rattle.ms_project.specs.Subsetting.{Subsetting, subset_findings, IsReadyForSets, AreSetsFound}
-use Rattle.ms_project.proofs.FinalLemmas.{construction, others, into, projected, HasValues-projected, IsAutomaton-projected}
+use Rattle.ms_project.proofs.FinalLemmas.{construction, into, projected, HasValues-projected, IsAutomaton-projected}
 use Rattle.ms_project.proofs.LeaveLemmas.{IsLeftOut-rest}
 use Rattle.ms_project.proofs.SetRunLemmas.{IsOver-sets}
 

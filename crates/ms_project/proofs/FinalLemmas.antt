@@ -1,5 +1,5 @@
 -- The automaton of all sets, with the signs that their marks make, has the values of the quantified body.
-use Rattle.std.proofs.Common.{◌≡◌, ◌≢◌, ◌↔◌, ℕ, zero, suc, ◌<◌, ◌≤◌, ⊎_elim, Bool, true, false, IsTrue, if◌then◌else◌, List, [], ◌∷◌, length, get_or, replicate, slice_get, slice_index, Some, refl, sym, ap, subst, ◌∙◌, arith}
+use Rattle.std.proofs.Common.{◌≡◌, ◌↔◌, ℕ, zero, suc, ◌<◌, ⊎_elim, Bool, true, false, IsTrue, if◌then◌else◌, List, [], ◌∷◌, length, get_or, replicate, slice_get, slice_index, Some, refl, sym, ap, subst, ◌∙◌, arith}
 use Rattle.std.specs.Prelude.{map as map_list}
 use Rattle.std.specs.Option.{option_map}
 use Rattle.std.proofs.lemmas.Bool.{cases_lt, false≢true}
@@ -7,11 +7,9 @@ use Rattle.std.proofs.lemmas.List.{length-map, length-replicate, get_or-replicat
 use Rattle.std.proofs.lemmas.Option.{same_Some, slice_get-map, slice_get_within, get_or_from_slice_get}
 use Rattle.ms_list.specs.declared.word.Word.{Word}
 use Rattle.ms_arena.specs.declared.node.Ref.{Ref}
-use Rattle.ms_arena.specs.declared.node.Node.{Node}
-use Rattle.ms_arena.specs.Diagram.{Bits, leaf_of}
+use Rattle.ms_arena.specs.Diagram.{leaf_of}
 use Rattle.ms_arena.proofs.BitsLemmas.{same_bits}
 use Rattle.ms_arena.proofs.Lists.{slice_get-held}
-use Rattle.ms_diagram.specs.Collect.{IsSetNumbering}
 use Rattle.ms_diagram.specs.Store.{Contents, IsStore, bits_of}
 use Rattle.ms_dfa.specs.Automaton.{IsAutomaton, states_of}
 use Rattle.ms_dfa.specs.declared.state.State.{State}
@@ -21,10 +19,10 @@ use Rattle.ms_logic.specs.declared.mode.Order.{Order}
 use Rattle.ms_logic.specs.declared.mode.Quant.{Quant}
 use Rattle.ms_logic.specs.declared.mode.Quant.TheVariants.{Ex, All}
 use Rattle.ms_logic_words.specs.declared.sign.Sign.{Sign}
-use Rattle.ms_logic_words.specs.declared.sign.Sign.TheVariants.{Yes, No}
-use Rattle.ms_logic.specs.Assignment.{Env, Variable, IsAssignment}
-use Rattle.ms_logic_words.specs.Content.{Content, StateOf, IsClosed, IsWordOver, bits_at, padded, head_bit, tail_bits, count_of, is_in_letters, letter_bits, last_state, next_from, next_state, sign_of, zero_letter}
-use Rattle.ms_logic.specs.Lists.{AreRising, IsAmong, without}
+use Rattle.ms_logic_words.specs.declared.sign.Sign.TheVariants.{Yes}
+use Rattle.ms_logic.specs.Assignment.{Variable}
+use Rattle.ms_logic_words.specs.Content.{Content, StateOf, IsClosed, IsWordOver, padded, head_bit, tail_bits, count_of, is_in_letters, letter_bits, last_state, next_from, next_state, sign_of, zero_letter}
+use Rattle.ms_logic.specs.Lists.{IsAmong}
 use Rattle.ms_dfa.specs.Narrow.{narrowed}
 use Rattle.ms_dfa.specs.Values.{HasValues, IsMeaning, own_meaning}
 use Rattle.ms_dfa.proofs.MachineLemmas.{related_at_end}
@@ -32,9 +30,9 @@ use Rattle.ms_dfa.proofs.ValuesLemmas.{IsMeaning-by, IsAutomaton-by_values}
 use Rattle.ms_dfa_explore.specs.Explored.{Leads, Follows}
 use Rattle.ms_dfa_explore.specs.Tracks.{places_among}
 use Rattle.ms_dfa_explore.proofs.AmongLemmas.{leads_to}
-use Rattle.ms_dfa_explore.proofs.RunLemmas.{explored, length-states_of, IsClosed-explored, IsSimulation-explored}
+use Rattle.ms_dfa_explore.proofs.RunLemmas.{length-states_of, IsClosed-explored, IsSimulation-explored}
 use Rattle.ms_product.specs.declared.op.Op.TheVariants.{And}
-use Rattle.ms_product.specs.Pairing.{Operands, product_findings, pair_sign}
+use Rattle.ms_product.specs.Pairing.{product_findings, pair_sign}
 use Rattle.ms_product.specs.Widened.{sign_in}
 use Rattle.ms_product.proofs.ProductLemmas.{end_of-side_by_side, side_by_side, IsOver-product, AreNames-product}
 use Rattle.ms_quotient.specs.declared.marks.Marks.{Marks}
@@ -45,11 +43,11 @@ use Rattle.ms_project.specs.Marks.{marks_of, sign_by, can_be_empty, AreClosedMar
 use Rattle.ms_product.specs.Pairing.{IsPairedIn}
 use Rattle.ms_project.specs.Paired.{IsDomainFor, operands_for, marks_of_pair, places_left}
 use Rattle.ms_project.specs.Quantified.{QuantifiedYes, QuantifiedNo, quantified}
-use Rattle.ms_project.specs.Signed.{AreSigned, TestBelow, zero_step}
+use Rattle.ms_project.specs.Signed.{AreSigned, zero_step}
 use Rattle.ms_project.specs.Subsets.{IsLeftOut, IsReachedSet}
 use Rattle.ms_project.specs.Subsetting.{Subsetting, paired, subset_findings, IsReadyForSets, AreSetsFound}
 use Rattle.ms_project.proofs.LeaveLemmas.{rest, bound, own_there, IsLeftOut-rest, without-rising, without-names}
-use Rattle.ms_project.proofs.MarkLemmas.{mark_stands, StandsWithin}
+use Rattle.ms_project.proofs.MarkLemmas.{mark_stands}
 use Rattle.ms_project.proofs.QuantifiedLemmas.{StandsFor, HasValues-quantified}
 use Rattle.ms_project.proofs.SetRunLemmas.{signed, IsOver-sets, made, names_at_end}
 use Rattle.ms_project.proofs.ValueLemmas.{narrowed-own}

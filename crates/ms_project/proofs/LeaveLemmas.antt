@@ -1,12 +1,12 @@
 -- The variables but one: they rise, and stand at the places that were counted.
-use Rattle.std.proofs.Common.{◌≡◌, ◌≢◌, ℕ, zero, suc, ◌+◌, ◌<◌, ◌≤◌, ◌==◌, ◌⊎◌, inl, inr, ⊎_elim, Bool, true, false, not, if◌then◌else◌, List, [], ◌∷◌, length, slice_get, slice_index, Some, refl, sym, ap, subst, ◌∙◌, arith}
-use Rattle.std.proofs.lemmas.Bool.{cases_lt, cases_eq, eqb-true, eqb-false, eq-eqb, ne_eqb}
+use Rattle.std.proofs.Common.{◌≡◌, ◌≢◌, ℕ, zero, suc, ◌+◌, ◌<◌, ◌==◌, inl, inr, ⊎_elim, Bool, true, false, not, if◌then◌else◌, List, [], ◌∷◌, length, slice_get, slice_index, Some, refl, sym, ap, subst, ◌∙◌, arith}
+use Rattle.std.proofs.lemmas.Bool.{cases_lt, eqb-false, ne_eqb}
 use Rattle.std.proofs.lemmas.Option.{same_Some, none-some}
 use Rattle.ms_arena.proofs.Lists.{slice_get-held}
 use Rattle.ms_logic.specs.Assignment.{Variable}
 use Rattle.ms_logic.specs.Lists.{AreRising, IsBelowFirst, IsAmong, without}
 use Rattle.ms_dfa_explore.specs.Tracks.{place_of, places_among}
-use Rattle.ms_dfa_explore.proofs.AmongLemmas.{among_at, leads_to, names_rise, one_place}
+use Rattle.ms_dfa_explore.proofs.AmongLemmas.{leads_to, names_rise, one_place}
 use Rattle.ms_dfa_explore.proofs.TracksLemmas.{AreAbove, above-first, place_of-among}
 use Rattle.ms_project.specs.Paired.{places_left}
 use Rattle.ms_project.specs.Subsets.{IsLeftOut}

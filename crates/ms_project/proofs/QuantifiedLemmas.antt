@@ -1,5 +1,5 @@
 -- The sign by the marks of all that words reach is right for the quantified body.
-use Rattle.std.proofs.Common.{◌≡◌, ◌≢◌, ◌↔◌, ℕ, zero, suc, ◌<◌, ◌⊎◌, inl, inr, ⊎_elim, Bool, true, false, if◌then◌else◌, IsTrue, List, [], ◌∷◌, length, slice_get, Option, Some, None, refl, sym, ap, subst, ◌∙◌, arith}
+use Rattle.std.proofs.Common.{◌≡◌, ◌≢◌, ◌↔◌, ℕ, ◌⊎◌, inl, inr, ⊎_elim, Bool, true, false, if◌then◌else◌, IsTrue, List, [], ◌∷◌, slice_get, Some, None, refl, sym, ap, subst, ◌∙◌, arith}
 use Rattle.std.proofs.lemmas.Bool.{false≢true}
 use Rattle.std.proofs.lemmas.Option.{same_Some}
 use Rattle.ms_list.specs.declared.word.Word.{Word}
@@ -17,7 +17,7 @@ use Rattle.ms_logic.specs.Assignment.{Universe, Env, Variable, IsAssignment, IsU
 use Rattle.ms_logic_words.specs.Content.{Content, StateOf, IsWordOver, last_state, sign_of}
 use Rattle.ms_logic_words.specs.inner.Decoding.{HaveOneBit, column_after}
 use Rattle.ms_logic.specs.Lists.{AreRising, IsAmong}
-use Rattle.ms_logic.specs.Truth.{SomeInRange, NoneInRange, IsEmptyRange}
+use Rattle.ms_logic.specs.Truth.{SomeInRange, IsEmptyRange}
 use Rattle.ms_logic_words.specs.Word.{Encodes, IsEncoding}
 use Rattle.ms_logic_words.specs.WordSign.{IsOutside}
 use Rattle.ms_logic_words.proofs.DecodedWords.{encodings_are}
@@ -26,7 +26,7 @@ use Rattle.ms_dfa.specs.Automaton.{IsAutomaton}
 use Rattle.ms_arena.specs.declared.node.Ref.{Ref}
 use Rattle.ms_arena.specs.declared.node.Node.{Node}
 use Rattle.ms_dfa.specs.Narrow.{narrowed, ReadsThrough}
-use Rattle.ms_dfa.specs.Values.{Meaning, HasValues, own_meaning, sign_at_values}
+use Rattle.ms_dfa.specs.Values.{HasValues, own_meaning, sign_at_values}
 use Rattle.ms_dfa.proofs.EncodingLemmas.{sign_of_encoding}
 use Rattle.ms_dfa.proofs.NarrowLemmas.{narrowed_encodes, narrowed_assigned}
 use Rattle.ms_dfa.proofs.OwnMeaningLemmas.{word_has_sign}
@@ -38,7 +38,7 @@ use Rattle.ms_quotient.specs.declared.marks.Marks.{Marks}
 use Rattle.ms_project.specs.Marks.{is_yes, is_number, marks_of, range_sign, empty_sign, sign_by, has_no_number, can_be_empty}
 use Rattle.ms_project.specs.Quantified.{RangeOf, BodyAt, quantified}
 use Rattle.ms_project.specs.Subsets.{IsLeftOut}
-use Rattle.ms_project.proofs.ValueLemmas.{with_zeros, Allows, value, is_value, value_assigned, value_encoded, there, there_assigned, given_by, encoding-zeros}
+use Rattle.ms_project.proofs.ValueLemmas.{with_zeros, Allows, value, is_value, value_assigned, value_encoded, there_assigned, given_by, encoding-zeros}
 
 -- which sign a mark tells of
 record Tells (mark : Marks → Bool) (sign : Sign) : Type 0 where

@@ -1,11 +1,10 @@
 -- The sets of a subset construction are the sets of states that words reach.
-use Rattle.std.proofs.Common.{◌≡◌, ℕ, ◌<◌, Bool, List, [], ◌∷◌, ◌++◌, Contains, length, slice_get, Some, refl, sym, ap, subst, ◌∙◌, arith}
+use Rattle.std.proofs.Common.{◌≡◌, ℕ, ◌<◌, Bool, List, [], ◌∷◌, ◌++◌, length, slice_get, Some, refl, sym, ap, subst, ◌∙◌}
 use Rattle.std.specs.Prelude.{map as map_list}
 use Rattle.std.proofs.lemmas.List.{map-append}
 use Rattle.std.proofs.lemmas.Option.{slice_get_within, get_or_from_slice_get}
 use Rattle.ms_list.specs.declared.word.Word.{Word}
-use Rattle.ms_arena.specs.declared.node.Ref.{Ref}
-use Rattle.ms_arena.specs.Diagram.{Bits, leaf_of, IsOrdered}
+use Rattle.ms_arena.specs.Diagram.{leaf_of, IsOrdered}
 use Rattle.ms_arena.proofs.Lists.{slice_get-held}
 use Rattle.ms_diagram.specs.Collect.{IsRisingSet}
 use Rattle.ms_diagram.specs.inner.Collecting.{IsRisingSet-same}

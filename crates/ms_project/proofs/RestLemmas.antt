@@ -1,10 +1,8 @@
 -- Letters over all variables and letters over the rest.
-use Rattle.std.proofs.Common.{◌≡◌, ◌≢◌, ℕ, zero, suc, ◌+◌, ◌<◌, ⊎_elim, Bool, true, false, IsTrue, if◌then◌else◌, List, [], ◌∷◌, length, slice_get, slice_index, slice_index_or, Some, refl, sym, ap, subst, ◌∙◌, arith}
+use Rattle.std.proofs.Common.{◌≡◌, ℕ, suc, ◌+◌, ⊎_elim, Bool, true, false, IsTrue, if◌then◌else◌, List, [], ◌∷◌, length, slice_get, slice_index, Some, refl, sym, ap, ◌∙◌, arith}
 use Rattle.std.proofs.lemmas.Bool.{cases_eq}
-use Rattle.std.proofs.lemmas.Option.{same_Some, none-some}
 use Rattle.ms_arena.specs.declared.node.Ref.{Ref}
 use Rattle.ms_arena.specs.declared.node.Node.{Node}
-use Rattle.ms_arena.specs.Bits.{with_bit}
 use Rattle.ms_arena.specs.Diagram.{Bits, leaf_of, IsValid, IsOrdered}
 use Rattle.ms_arena.specs.Reach.{TestsOnly}
 use Rattle.ms_arena.proofs.BitsLemmas.{with_bit-same, with_bit-other}

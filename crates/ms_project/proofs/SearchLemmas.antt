@@ -1,37 +1,33 @@
 -- A product is ready for the search for sets, and stays one while sets are found.
-use Rattle.std.proofs.Common.{◌≡◌, ◌≢◌, ℕ, ◌+◌, ◌<◌, ◌≤◌, ⊎_elim, inl, inr, All, List, [], length, get_or, slice_get, slice_index, Some, Contains, Result, Err, refl, sym, ap, subst, ◌∙◌, arith}
+use Rattle.std.proofs.Common.{◌≡◌, ℕ, ⊎_elim, inl, inr, List, Result, Ok, Err, sym, ap, subst, ◌∙◌}
 use Rattle.std.specs.Prelude.{map as map_list}
-use Rattle.std.proofs.lemmas.List.{length-map}
-use Rattle.std.proofs.lemmas.Option.{none-some, slice_get_within, get_or_from_slice_get}
+use Rattle.std.proofs.lemmas.Option.{none-some}
 use Rattle.ms_list.specs.declared.fault.StepFault.{StepFault}
 use Rattle.ms_list.specs.declared.fault.StepFault.TheVariants.{Nodes, Memory}
 use Rattle.ms_arena.specs.declared.node.Ref.{Ref}
 use Rattle.ms_arena.specs.declared.node.Node.{Node}
-use Rattle.ms_arena.specs.Diagram.{leaf_of, IsOrdered}
+use Rattle.ms_arena.specs.Diagram.{IsOrdered}
 use Rattle.ms_arena.specs.Target.{Extends}
-use Rattle.ms_arena.proofs.Lists.{slice_get-held}
 use Rattle.ms_diagram.specs.Store.{Contents, IsStore}
-use Rattle.ms_dfa.specs.Automaton.{IsAutomaton, states_of}
+use Rattle.ms_dfa.specs.Automaton.{IsAutomaton}
 use Rattle.ms_dfa.specs.declared.state.State.{State}
-use Rattle.ms_dfa.proofs.States.{state_in}
 use Rattle.ms_logic_words.specs.declared.sign.Sign.{Sign}
 use Rattle.ms_logic.specs.Assignment.{Variable}
-use Rattle.ms_logic_words.specs.Content.{Content, StateOf, IsClosed, IsFollowed, is_in_letters}
-use Rattle.ms_dfa_explore.specs.Explored.{Leads, Follows, OnRefused}
-use Rattle.ms_dfa_explore.specs.Tracks.{place_of, places_among}
+use Rattle.ms_logic_words.specs.Content.{Content}
+use Rattle.ms_dfa_explore.specs.Explored.{OnRefused}
+use Rattle.ms_dfa_explore.specs.Tracks.{place_of}
 use Rattle.ms_logic.specs.Lists.{IsAmong}
 use Rattle.ms_dfa_explore.proofs.AmongLemmas.{leads_to}
 use Rattle.ms_dfa_explore.proofs.ExploredLemmas.{Leads-later}
-use Rattle.ms_dfa_explore.proofs.RunLemmas.{IsClosed-explored, length-states_of}
+use Rattle.ms_dfa_explore.proofs.RunLemmas.{IsClosed-explored}
 use Rattle.ms_product.specs.declared.op.Op.TheVariants.{And}
-use Rattle.ms_product.specs.Pairing.{AreAtLeast, product_findings}
+use Rattle.ms_product.specs.Pairing.{AreReachedPairs, product_findings}
 use Rattle.ms_product.proofs.ProductLemmas.{IsOver-product}
 use Rattle.ms_quotient.specs.declared.marks.Marks.{Marks}
 use Rattle.ms_product.specs.Pairing.{IsPairedIn, IsPairedStore}
 use Rattle.ms_project.specs.Paired.{IsDomainFor, operands_for, marks_of_pair, places_left}
-use Rattle.ms_project.specs.Projection.{IsProjection, SetsOfProductAreAtLeast, NeedsAtLeast}
-use Rattle.ms_project.specs.Signed.{TestBelow, zero_step}
-use Rattle.ms_project.specs.Subsetting.{Subsetting, paired, subset_findings, IsReadyForSets, IsLaterSubsetting, AreSetsFound, SetsAreAtLeast, begun}
+use Rattle.ms_project.specs.Projection.{IsProjection, NeedsAtLeast, ReachedNeedsAtLeast, begun_behind}
+use Rattle.ms_project.specs.Subsetting.{Subsetting, IsReadyForSets, IsLaterSubsetting, AreSetsFound, SetsAreAtLeast, begun}
 use Rattle.ms_project.proofs.LeaveLemmas.{length-places_left, places_left-rise}
 
 -- what was paired stays so in a longer list
@@ -84,18 +80,37 @@ module _ (body domain : Content Sign) (body_is : IsAutomaton body) (domain_is : 
         found = found;
       }
 
-  -- and a refusal names the limit
-  pub sets_refused : (A B : Type 0) (limit : ℕ) → IsPairedStore store limit And (operands_for body domain) pairs → (fault : StepFault)
-      → OnRefused {A = B} (Err fault) (λ refused. (refused ≡ store.limit) × SetsAreAtLeast refused at_first)
-      → OnRefused {A = A} (Err fault) (λ refused. (refused ≡ limit) × NeedsAtLeast limit body domain own.name)
-  sets_refused A B limit needed Memory cause = tt
-  sets_refused A B limit needed (Nodes refused) cause =
-      let same : refused ≡ limit = cause.0 ∙ needed.limited in (
-        same,
-        inr (record { inner = store; start = start; states = states; pairs = pairs; paired = is; needed = needed; sets = subst (λ n. SetsAreAtLeast n at_first) same cause.1 }),
-      )
+-- what is refused behind a product of pairs that are reached
+pub sets_refused : (A : Type 0) (body domain : Content Sign) (name : ℕ) (store : Contents) (pairs : List (ℕ × ℕ)) (start : Ref) (states : List State) → IsPairedIn store.nodes And (operands_for body domain) pairs start states
+    → (limit : ℕ) → IsPairedStore store limit And (operands_for body domain) pairs → AreReachedPairs (operands_for body domain) pairs → (result : Result A StepFault)
+    → OnRefused result (λ refused. (refused ≡ store.limit) × SetsAreAtLeast refused (begun_behind body name store start states)) → OnRefused result (λ refused. (refused ≡ limit) × ReachedNeedsAtLeast limit body domain name)
+sets_refused A body domain name store pairs start states is limit needed reached (Ok made) cause = tt
+sets_refused A body domain name store pairs start states is limit needed reached (Err Memory) cause = tt
+sets_refused A body domain name store pairs start states is limit needed reached (Err (Nodes refused)) cause =
+    let same : refused ≡ limit = cause.0 ∙ needed.limited in (
+      same,
+      inr (record {
+        sets = record { inner = store; start = start; states = states; pairs = pairs; paired = is; needed = needed; sets = subst (λ n. SetsAreAtLeast n (begun_behind body name store start states)) same cause.1 };
+        reached = reached;
+      }),
+    )
 
-pub pairs_refused : (A B : Type 0) (limit : ℕ) (body domain : Content Sign) (name : ℕ) (fault : StepFault)
-    → OnRefused {A = B} (Err fault) (λ refused. (refused ≡ limit) × AreAtLeast limit And (operands_for body domain)) → OnRefused {A = A} (Err fault) (λ refused. (refused ≡ limit) × NeedsAtLeast limit body domain name)
-pairs_refused A B limit body domain name Memory cause = tt
-pairs_refused A B limit body domain name (Nodes refused) cause = (cause.0, inl cause.1)
+-- the cause of a refusal, said otherwise
+pub behind_refused : (A B : Type 0) (limit : ℕ) (Cause Other : ℕ → Type 0) → ((refused : ℕ) → Cause refused → Other refused) → (fault : StepFault)
+    → OnRefused {A = A} (Err fault) (λ refused. (refused ≡ limit) × Cause refused) → OnRefused {A = B} (Err fault) (λ refused. (refused ≡ limit) × Other refused)
+behind_refused A B limit Cause Other otherwise Memory cause = tt
+behind_refused A B limit Cause Other otherwise (Nodes refused) cause = (cause.0, otherwise refused cause.1)
+
+-- two causes of one refusal
+pub both_refused : (A : Type 0) (Cause : ℕ → Type 0) (limit : ℕ) (Other : Type 0) (result : Result A StepFault) → ((refused : ℕ) → Cause refused → refused ≡ limit)
+    → OnRefused result Cause → OnRefused result (λ refused. Other) → OnRefused result (λ refused. (refused ≡ limit) × Other)
+both_refused A Cause limit Other (Ok made) is cause other = tt
+both_refused A Cause limit Other (Err Memory) is cause other = tt
+both_refused A Cause limit Other (Err (Nodes refused)) is cause other = (is refused cause, other)
+
+-- what is needed of pairs that are reached is needed
+pub needs_refused : (A : Type 0) (limit : ℕ) (body domain : Content Sign) (name : ℕ) (result : Result A StepFault) → OnRefused result (λ refused. (refused ≡ limit) × ReachedNeedsAtLeast limit body domain name)
+    → OnRefused result (λ refused. (refused ≡ limit) × NeedsAtLeast limit body domain name)
+needs_refused A limit body domain name (Ok made) cause = tt
+needs_refused A limit body domain name (Err Memory) cause = tt
+needs_refused A limit body domain name (Err (Nodes refused)) cause = (cause.0, ⊎_elim (λ pairs. inl pairs.least) (λ sets. inr sets.sets) cause.1)

@@ -1,5 +1,5 @@
 -- The automaton of the sets ends, on each word over the rest, in the number of the set that the word reaches.
-use Rattle.std.proofs.Common.{◌≡◌, ◌≢◌, ℕ, zero, suc, ◌<◌, ⊎_elim, Bool, false, true, List, [], ◌∷◌, ◌++◌, Contains, length, slice_get, Some, refl, sym, ap, subst, ◌∙◌, arith}
+use Rattle.std.proofs.Common.{◌≡◌, ◌≢◌, ℕ, ◌<◌, ⊎_elim, Bool, false, true, List, [], ◌∷◌, ◌++◌, length, slice_get, Some, sym, ap, subst, ◌∙◌, arith}
 use Rattle.std.proofs.lemmas.Bool.{cases_eq}
 use Rattle.std.proofs.lemmas.List.{append_assoc, append-nil}
 use Rattle.std.proofs.lemmas.Option.{slice_get_within, get_or_from_slice_get}
@@ -7,7 +7,7 @@ use Rattle.ms_list.specs.declared.word.Word.{Word}
 use Rattle.ms_arena.specs.declared.node.Ref.{Ref}
 use Rattle.ms_arena.specs.declared.node.Node.{Node}
 use Rattle.ms_arena.specs.Bits.{with_bit}
-use Rattle.ms_arena.specs.Diagram.{Bits, leaf_of, IsOrdered, IsReduced}
+use Rattle.ms_arena.specs.Diagram.{Bits, leaf_of, IsOrdered}
 use Rattle.ms_arena.proofs.BitsLemmas.{with_bit-same, with_bit-other}
 use Rattle.ms_arena.proofs.Lists.{slice_get-held}
 use Rattle.ms_arena.proofs.ReachLemmas.{leaf_of-tested}
@@ -15,19 +15,19 @@ use Rattle.ms_diagram.specs.Bring.{read_through}
 use Rattle.ms_diagram.specs.Collect.{IsRisingSet, IsSetNumbering}
 use Rattle.ms_diagram.specs.inner.Collecting.{IsRisingSet-same}
 use Rattle.ms_diagram.proofs.CollectLemmas.{same_number}
-use Rattle.ms_dfa.specs.Automaton.{state_of, states_of}
+use Rattle.ms_dfa.specs.Automaton.{states_of}
 use Rattle.ms_dfa.specs.declared.state.State.{State}
 use Rattle.ms_dfa.proofs.States.{state_in}
 use Rattle.ms_logic.specs.declared.mode.Order.{Order}
 use Rattle.ms_logic_words.specs.declared.sign.Sign.{Sign}
 use Rattle.ms_logic.specs.Assignment.{Variable}
-use Rattle.ms_logic_words.specs.Content.{Content, StateOf, HasValueAt, IsClosed, IsFollowed, IsWordOver, is_truth_value, is_in_letters, truth_bits, letter_bits, next_from, next_state, first_state, last_state, with_zero_letter, zero_letter}
+use Rattle.ms_logic_words.specs.Content.{Content, StateOf, HasValueAt, IsFollowed, IsWordOver, is_truth_value, is_in_letters, truth_bits, letter_bits, next_from, last_state}
 use Rattle.ms_dfa.specs.Machine.{Machine, after, end_of, IsSimulation}
 use Rattle.ms_dfa.proofs.MachineLemmas.{related_at_end}
 use Rattle.ms_dfa_explore.specs.Explored.{Findings, Leads, Follows}
 use Rattle.ms_dfa_explore.specs.inner.Run.{IsOver}
 use Rattle.ms_dfa_explore.proofs.RunLemmas.{explored, length-states_of}
-use Rattle.ms_project.specs.Subsets.{IsLeftOut, opened, next_of, next_ref, IsFirst, IsBehind, start_sets, sets_behind, IsReachedSet}
+use Rattle.ms_project.specs.Subsets.{IsLeftOut, opened, next_of, next_ref, IsFirst, IsBehind, sets_behind, IsReachedSet}
 use Rattle.ms_project.specs.Subsetting.{Subsetting, paired, subset_findings, IsReadyForSets}
 use Rattle.ms_project.proofs.ReachLemmas.{with_letter, reached_start, reached_next}
 

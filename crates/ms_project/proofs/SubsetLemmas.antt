@@ -1,5 +1,5 @@
 -- One collection of a subset construction: what is found stays, and what is handed on leads where it should.
-use Rattle.std.proofs.Common.{◌≡◌, ◌≢◌, ℕ, ◌+◌, ◌<◌, ◌≤◌, ◌⊎◌, inl, inr, ⊎_elim, Bool, true, false, All, List, [], ◌∷◌, Contains, length, get_or, slice_get, slice_index, Option, Some, None, Result, Ok, Err, refl, sym, ap, subst, ◌∙◌, arith}
+use Rattle.std.proofs.Common.{◌≡◌, ◌≢◌, ℕ, ◌<◌, ◌≤◌, inl, inr, ⊎_elim, Bool, true, false, All, List, [], ◌∷◌, Contains, length, get_or, slice_get, Option, Some, None, Result, Ok, Err, refl, sym, ap, subst, ◌∙◌, arith}
 use Rattle.std.specs.Prelude.{map as map_list}
 use Rattle.std.proofs.Math.Nat.{lt_of_lt_of_le}
 use Rattle.std.proofs.lemmas.Bool.{cases_lt, cases_eq}
@@ -15,13 +15,13 @@ use Rattle.ms_arena.specs.Diagram.{Bits, leaf_of, IsValid, IsOrdered}
 use Rattle.ms_arena.specs.Reach.{IsTested, TestsOnly}
 use Rattle.ms_arena.specs.Target.{Extends, Meets, Target}
 use Rattle.ms_arena.proofs.Appending.{IsValid-extends, leaf_of-extends, slice_get-extends}
-use Rattle.ms_arena.proofs.BitsLemmas.{with_bit-twice, with_bit-swap, with_bit-other, with_bit-same}
+use Rattle.ms_arena.proofs.BitsLemmas.{with_bit-twice, with_bit-other, with_bit-same}
 use Rattle.ms_arena.proofs.Lists.{slice_get-held}
 use Rattle.ms_arena.proofs.Needs.{Implies}
 use Rattle.ms_arena.proofs.ReachLemmas.{leaf_of-tested}
-use Rattle.ms_diagram.specs.Bring.{read_through, RenamedLeaf, Renames}
-use Rattle.ms_diagram.specs.Collect.{IsRisingSet, SetNumber, LacksSet, HasLeafSet, IsLeafThere, IsSetNumbering, IsCollected}
-use Rattle.ms_diagram.specs.Growth.{Builds, Grows}
+use Rattle.ms_diagram.specs.Bring.{read_through, RenamedLeaf}
+use Rattle.ms_diagram.specs.Collect.{SetNumber, LacksSet, HasLeafSet, IsLeafThere, IsSetNumbering, IsCollected}
+use Rattle.ms_diagram.specs.Growth.{Builds}
 use Rattle.ms_diagram.specs.Numbering.{AddsOnly}
 use Rattle.ms_diagram.specs.Store.{Contents, IsStore}
 use Rattle.ms_diagram.proofs.Building.{Builds-implies, Grows-same}
@@ -32,15 +32,14 @@ use Rattle.ms_dfa.specs.Automaton.{states_of}
 use Rattle.ms_dfa.proofs.States.{state_in}
 use Rattle.ms_logic.specs.declared.mode.Order.{Order}
 use Rattle.ms_logic_words.specs.declared.sign.Sign.{Sign}
-use Rattle.ms_logic.specs.Assignment.{Variable}
 use Rattle.ms_logic_words.specs.Content.{Content, StateOf, HasValueAt, IsClosed, IsFollowed, is_truth_value, is_in_letters}
 use Rattle.ms_dfa.specs.inner.Function.{Ignores}
 use Rattle.ms_dfa.proofs.FunctionLemmas.{TestsOnly-by_function, TestsOnly-extends}
 use Rattle.ms_dfa.proofs.HasValueAtLemmas.{HasValueAt-or_not}
-use Rattle.ms_dfa_explore.specs.Explored.{Findings, AreMore, Origin, IsFound, target_of, GrowsForSome}
+use Rattle.ms_dfa_explore.specs.Explored.{AreMore, Origin, IsFound, target_of, GrowsForSome}
 use Rattle.ms_dfa_explore.proofs.ExploredLemmas.{GrowsForSome-one}
 use Rattle.ms_dfa_explore.proofs.RunLemmas.{length-states_of}
-use Rattle.ms_project.specs.Subsets.{next_of, next_in, next_ref, opened, start_sets, sets_behind}
+use Rattle.ms_project.specs.Subsets.{next_of, next_in, next_ref, start_sets, sets_behind}
 use Rattle.ms_quotient.specs.Closure.{LeadsWithin}
 use Rattle.ms_project.specs.Signed.{TestBelow, zero_step}
 use Rattle.ms_project.specs.Subsetting.{Subsetting, paired, sets_at_start, sets_at, collected_findings, subset_findings, IsFullWithin, MembersAreStates, IsReachedNumber, from_start, from_set, AreReachedNumbers, IsReadyForSets, IsLaterSubsetting, IsHanded, IsHandable}

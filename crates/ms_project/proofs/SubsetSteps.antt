@@ -1,5 +1,5 @@
 -- The steps of a subset construction: from the start, and from a set.
-use Rattle.std.proofs.Common.{◌≡◌, ℕ, ◌<◌, All, List, [], ◌∷◌, Contains, length, get_or, slice_get, Some, None, Result, Err, refl, sym, ap, subst, ◌∙◌, arith}
+use Rattle.std.proofs.Common.{◌≡◌, ℕ, ◌<◌, All, List, [], ◌∷◌, Contains, length, get_or, slice_get, Some, None, Result, Err, sym, subst}
 use Rattle.std.specs.Prelude.{map as map_list}
 use Rattle.std.proofs.lemmas.List.{get_or_default}
 use Rattle.std.proofs.lemmas.Option.{slice_get_within}
@@ -19,10 +19,9 @@ use Rattle.ms_diagram.specs.Table.{AreBrought}
 use Rattle.ms_diagram.proofs.TableGrowth.{AreBrought-origin_grows}
 use Rattle.ms_diagram.proofs.Building.{Grows-same}
 use Rattle.ms_dfa.specs.Automaton.{states_of}
-use Rattle.ms_dfa.specs.declared.state.State.{State}
 use Rattle.ms_logic_words.specs.Content.{IsFollowed, is_truth_value, is_in_letters}
 use Rattle.ms_project.specs.Subsets.{next_in, start_sets, sets_behind}
-use Rattle.ms_project.specs.Subsetting.{Subsetting, paired, sets_at, subset_findings, IsFullWithin, IsReadyForSets, IsLaterSubsetting, IsHanded, IsHandable}
+use Rattle.ms_project.specs.Subsetting.{Subsetting, paired, sets_at, IsFullWithin, IsReadyForSets, IsLaterSubsetting, IsHanded, IsHandable}
 use Rattle.ms_project.proofs.SubsetLemmas.{handable, later, handed, followed_start, implies_start, followed_next, implies_next, at_behind}
 
 -- what the nodes of the own store have become is right while that grows

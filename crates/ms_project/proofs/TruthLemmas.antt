@@ -1,8 +1,6 @@
 -- The product of a body and truth is the body itself.
-use Rattle.std.proofs.Common.{◌≡◌, ℕ, ◌<◌, ◌≤◌, ◌+◌, List, [], length, slice_get, None, Some, IfSome, Err, refl, sym, ap, subst, ◌∙◌, arith}
+use Rattle.std.proofs.Common.{◌≡◌, ℕ, ◌<◌, List, [], length, slice_get, None, Some, IfSome, refl, sym, ap, subst, ◌∙◌, arith}
 use Rattle.std.proofs.lemmas.Option.{slice_get_within}
-use Rattle.ms_list.specs.declared.fault.StepFault.{StepFault}
-use Rattle.ms_list.specs.declared.fault.StepFault.TheVariants.{Nodes, Memory}
 use Rattle.ms_arena.specs.declared.node.Ref.{Ref}
 use Rattle.ms_arena.specs.declared.node.Node.{Node}
 use Rattle.ms_arena.specs.Bits.{below_from}
@@ -14,13 +12,12 @@ use Rattle.ms_diagram.specs.Store.{Contents}
 use Rattle.ms_logic_words.specs.declared.sign.Sign.{Sign}
 use Rattle.ms_logic_words.specs.declared.sign.Sign.TheVariants.{Yes, No, Undefined, Outside}
 use Rattle.ms_logic_words.specs.Content.{Content, IsClosed}
-use Rattle.ms_dfa_explore.specs.Explored.{GrowsForSome, Leads, OnRefused, Origin, IsFound, target_of}
+use Rattle.ms_dfa_explore.specs.Explored.{GrowsForSome, Leads, Origin, IsFound, target_of}
 use Rattle.ms_dfa_explore.specs.Tracks.{places_among}
 use Rattle.ms_product.specs.declared.op.Op.TheVariants.{And}
-use Rattle.ms_product.specs.Pairing.{behind_pair, sign_of_number, product_findings, AreStates, AreAtLeast, IsNeededForSome, IsPairedIn, IsPairedStore}
+use Rattle.ms_product.specs.Pairing.{behind_pair, sign_of_number, product_findings, AreStates, IsNeededForSome, IsPairedIn, IsPairedStore}
 use Rattle.ms_product.specs.Signs.{strict}
 use Rattle.ms_product.specs.Widened.{first_through, next_through, sign_in, widened_findings, IsBroughtIn}
-use Rattle.ms_product.proofs.SizeLemmas.{AreAtLeast-held}
 use Rattle.ms_product.proofs.WidenedLemmas.{first_below, next_below}
 use Rattle.ms_project.specs.Paired.{IsTruth, operands_for}
 
@@ -126,13 +123,3 @@ module _ (body domain : Content Sign) (closed : IsClosed domain) (truth : IsTrut
             let needed = grows.needed place node (omega (arith, none)) there in
             needed_from one.nodes node needed.0 needed.1 needed.2;
       }
-
-      -- where the body does not fit, the product is as large
-      pub alone_refused : (A B : Type 0) (fault : StepFault) → OnRefused {A = B} (Err fault) (λ refused. (refused ≡ zero.limit) × (refused ≤ length one.nodes + length body.states))
-          → OnRefused {A = A} (Err fault) (λ refused. (refused ≡ limit) × AreAtLeast limit And (operands_for body domain))
-      alone_refused A B Memory cause = tt
-      alone_refused A B (Nodes refused) cause =
-          let same : refused ≡ limit = cause.0 ∙ limit_is in
-          let most = cause.1 in
-          let long = own.long in
-          (same, AreAtLeast-held And (operands_for body domain) limit pairs one alone_store numbering are_states limit (omega (arith, same, most, long)))

@@ -1,5 +1,5 @@
 -- The values of a bound variable, and the words that encode them.
-use Rattle.std.proofs.Common.{◌≡◌, ◌≢◌, ℕ, zero, suc, ◌+◌, ◌-◌, ◌<◌, ◌≤◌, ◌==◌, ⊎_elim, Bool, true, false, if◌then◌else◌, List, [], ◌∷◌, ◌++◌, length, get_or, slice_get, slice_index, Option, Some, None, refl, sym, ap, subst, ◌∙◌, arith, length-append}
+use Rattle.std.proofs.Common.{◌≡◌, ◌≢◌, ℕ, zero, suc, ◌+◌, ◌<◌, ⊎_elim, Bool, false, if◌then◌else◌, List, [], ◌∷◌, ◌++◌, length, get_or, slice_get, slice_index, Some, None, refl, sym, ap, subst, ◌∙◌, arith, length-append}
 use Rattle.std.specs.Prelude.{map as map_list}
 use Rattle.std.proofs.lemmas.Bool.{cases_eq, cases_lt, eq-eqb, ne_eqb, false≢true}
 use Rattle.std.proofs.lemmas.List.{length-map, length-replicate, get_or_append_left, get_or_push, get_or-replicate, get_or_past}
@@ -14,11 +14,11 @@ use Rattle.ms_logic.specs.declared.assignment.Value.{Value}
 use Rattle.ms_logic.specs.declared.assignment.Value.TheVariants.{Truth, Number, Set}
 use Rattle.ms_logic.specs.Assignment.{Universe, Env, Variable, IsAssignment, IsUniverseOf, IsValueOf, GivesEach, assign, value_at}
 use Rattle.ms_logic_words.specs.Content.{IsWordOver, AreLetters, count_of, is_truth_value, is_in_letters, bits_at, padded, zero_letter, with_zero_letter, shortest_word}
-use Rattle.ms_logic_words.specs.inner.Decoding.{HasOneBit, HaveOneBit, bit_in, column_after, positions_of}
+use Rattle.ms_logic_words.specs.inner.Decoding.{HasOneBit, HaveOneBit, column_after, positions_of}
 use Rattle.ms_logic.specs.OrderLaws.{GiveSameValues}
-use Rattle.ms_logic.specs.Lists.{AreRising, IsAmong}
+use Rattle.ms_logic.specs.Lists.{AreRising}
 use Rattle.ms_logic_words.specs.Word.{Encodes, HasLength, IsEncoding}
-use Rattle.ms_logic.specs.Letters.{bound_of, bound_of_set}
+use Rattle.ms_logic.specs.Letters.{bound_of}
 use Rattle.ms_logic_words.specs.WordSign.{word_of}
 use Rattle.ms_logic.proofs.Agreement.{universe-assign}
 use Rattle.ms_logic_words.proofs.DecodedWords.{encodings_are}

@@ -1,6 +1,6 @@
 -- What a quantifier over an automaton means: the clauses of truth, with the signs of a body and of a domain in place of the
 -- values of formulas.
-use Rattle.std.specs.Prelude.{◌⊎◌, List, Option, Some, None, filter, not, ◌==◌, ℕ}
+use Rattle.std.specs.Prelude.{◌⊎◌, Option, Some, None}
 use Rattle.ms_logic.specs.declared.mode.Quant.{Quant}
 use Rattle.ms_logic.specs.declared.mode.Quant.TheVariants.{Ex, All}
 use Rattle.ms_logic_words.specs.declared.sign.Sign.{Sign}

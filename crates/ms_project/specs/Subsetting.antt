@@ -134,16 +134,27 @@ pub record AreSetsFound (v : Subsetting) (held : Contents) (start : Ref) (states
   pub all : length states ≡ length v.sets
   pub follows : Follows held.nodes (subset_findings v) states
 
--- the nodes of both stores and the sets are together at least so many; words reach each of the sets, and the nodes behind those
--- that one began with are needed for sets that have been found
-pub record SetsAreAtLeast (count : ℕ) (begun_with : Subsetting) : Type 0 where
-  pub found : Subsetting
+-- sets that words reach have been found, and each of these nodes over the places of the rest is needed for some of them
+pub record AreSetsBehind (begun_with found : Subsetting) (outer : List Node) : Type 0 where
   pub later : IsLaterSubsetting begun_with found
   pub numbering : IsSetNumbering found.sets
   pub members : MembersAreStates found.states found.sets
   pub reached : AreReachedNumbers found
-  pub outer : List Node
   pub ordered : IsOrdered outer
   pub reduced : IsReduced outer
   pub needed : (place : ℕ) (node : Node) → slice_get outer place ≡ Some node → IsNeededForSome outer (subset_findings found) node
+
+-- the nodes of both stores and the sets that have been found are together at least so many; the nodes behind those that one began
+-- with are needed for sets that have been found
+pub record SetsAreAtLeast (count : ℕ) (begun_with : Subsetting) : Type 0 where
+  pub found : Subsetting
+  pub outer : List Node
+  pub behind : AreSetsBehind begun_with found outer
   pub many : count ≤ length found.inner.nodes + length outer + length found.sets
+
+-- the nodes over the places of the rest and the sets are
+pub record OuterSetsAreAtLeast (count : ℕ) (begun_with : Subsetting) : Type 0 where
+  pub found : Subsetting
+  pub outer : List Node
+  pub behind : AreSetsBehind begun_with found outer
+  pub many : count ≤ length outer + length found.sets

@@ -6,7 +6,7 @@ ghost use Rattle.ms_logic_words.specs.declared.sign.Sign.TheVariants.{No, Outsid
 ghost use Rattle.ms_project.specs.inner.Examples.{everywhere, number_and_set, of_one_state, only_set};
 ghost use Rattle.ms_project.specs.Marks.{can_be_empty, marks_of, sign_by};
 ghost use Rattle.ms_project.specs.Paired.{IsTruth};
-ghost use Rattle.ms_project.specs.Subsetting.{IsReachedNumber};
+ghost use Rattle.ms_project.specs.Subsetting.{IsReachedNumber, OuterSetsAreAtLeast};
 ghost use Rattle.ms_logic.specs.Lists.{without};
 ghost use Rattle.ms_quotient.specs.Closure.{no_marks};
 
@@ -44,9 +44,10 @@ pub fn worked_truth()
     ensures turned_round { ¬ AreOwnPairs 2 ((1, 0) ∷ (0, 0) ∷ []) }
 {}
 
-/// Where one state is all that is reached, words lead to the set of it alone.
+/// Where one state is all that is reached, words lead to the set of it alone; a search that has only begun has found nothing.
 pub fn worked_sets()
     ensures alone { IsReachedNumber (of_one_state ((0 ∷ []) ∷ [])) 0 }
     ensures no_set { ¬ IsReachedNumber (of_one_state ((0 ∷ []) ∷ [])) 1 }
+    ensures begun { OuterSetsAreAtLeast 0 (of_one_state []) }
     ensures no_state { ¬ IsReachedNumber (of_one_state ((0 ∷ []) ∷ (0 ∷ 1 ∷ []) ∷ [])) 1 }
 {}

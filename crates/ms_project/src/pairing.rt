@@ -1,6 +1,6 @@
 ghost use Rattle.std.specs.Prelude.{◌≡◌, ◌≤◌, IsTrue, IfOk};
 ghost use Rattle.ms_dfa_explore.specs.Explored.{OnRefused};
-ghost use Rattle.ms_product.specs.Pairing.{AreAtLeast, IsPairedIn, IsPairedStore};
+ghost use Rattle.ms_product.specs.Pairing.{AreReachedPairs, IsPairedIn, IsPairedStore, ReachedAreAtLeast};
 ghost use Rattle.ms_product.specs.declared.op.Op.TheVariants.{And};
 ghost use Rattle.ms_project.specs.Paired.{IsDomainFor, IsTruth, operands_for};
 
@@ -12,14 +12,14 @@ use ms_product::{Brought, Op, Paired, bring, over_tracks};
 use std::alloc::Global;
 
 /// Whether a domain is truth, which leaves its body as it is.
-fn is_truth(domain: &Automaton) -> bool
+pub(crate) fn is_truth(domain: &Automaton) -> bool
     ensures { IsTrue result → IsTruth domain.now }
 {
     domain.states() == 1 && domain.sign(0) == Sign::Yes
 }
 
-/// The product of a body and truth: the body's own states and diagrams.
-fn pair_with_truth(
+/// The product of a body and truth: all of the body's own states and diagrams, whether they are reached or not.
+pub(crate) fn pair_with_truth(
     alloc: Global,
     body: &Automaton,
     domain: &Automaton,
@@ -30,7 +30,6 @@ fn pair_with_truth(
     requires small { limit ≤ 4000000000 }
     ensures paired { IfOk result (λ p. IsPairedIn p.store.nodes And (operands_for body.now domain.now) p.pairs p.start p.states) }
     ensures store { IfOk result (λ p. IsPairedStore p.store limit And (operands_for body.now domain.now) p.pairs) }
-    ensures nodes { OnRefused result (λ refused. (refused ≡ limit) × AreAtLeast limit And (operands_for body.now domain.now)) }
 {
     // The states tell that these are automata, and the length that the pairs are a numbering.
     let _ = domain.states();
@@ -52,7 +51,7 @@ fn pair_with_truth(
     })
 }
 
-/// The product of a body and a domain over the tracks of the body.
+/// The product of a body and a domain over the tracks of the body: pairs of states that are reached.
 pub(crate) fn pair_up(
     alloc: Global,
     body: &Automaton,
@@ -63,12 +62,10 @@ pub(crate) fn pair_up(
     requires some { 1 ≤ limit }
     requires small { limit ≤ 4000000000 }
     ensures paired { IfOk result (λ p. IsPairedIn p.store.nodes And (operands_for body.now domain.now) p.pairs p.start p.states) }
+    ensures reached { IfOk result (λ p. AreReachedPairs (operands_for body.now domain.now) p.pairs) }
     ensures store { IfOk result (λ p. IsPairedStore p.store limit And (operands_for body.now domain.now) p.pairs) }
-    ensures nodes { OnRefused result (λ refused. (refused ≡ limit) × AreAtLeast limit And (operands_for body.now domain.now)) }
+    ensures nodes { OnRefused result (λ refused. (refused ≡ limit) × ReachedAreAtLeast limit And (operands_for body.now domain.now)) }
 {
-    if is_truth(domain) {
-        return pair_with_truth(alloc, body, domain, limit);
-    }
     let Ok(left) = over_tracks(alloc, body, body.tracks()) else {
         return Err(StepFault::Memory);
     };

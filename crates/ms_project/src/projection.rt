@@ -2,19 +2,23 @@ ghost use Rattle.std.specs.Prelude.{◌≡◌, ◌<◌, ◌≤◌, ◌+◌, All,
 ghost use Rattle.ms_dfa.specs.Automaton.{variable_of, variables_of};
 ghost use Rattle.ms_dfa_explore.specs.Explored.{OnRefused};
 ghost use Rattle.ms_logic.specs.Lists.{IsAmong, without};
-ghost use Rattle.ms_project.specs.Paired.{IsDomainFor};
-ghost use Rattle.ms_project.specs.Projection.{AreSignedSets, IsProjection, NeedsAtLeast};
+ghost use Rattle.ms_product.specs.Pairing.{IsPairedIn, IsPairedStore};
+ghost use Rattle.ms_product.specs.declared.op.Op.TheVariants.{And};
+ghost use Rattle.ms_project.specs.Paired.{IsDomainFor, IsTruth, operands_for};
+ghost use Rattle.ms_project.specs.Projection.{SetsOfAnswerAreAtLeast, AreSignedSets, IsProjection, ReachedNeedsAtLeast, begun_behind};
 ghost use Rattle.ms_project.specs.Signed.{TestBelow, zero_step};
+ghost use Rattle.ms_project.specs.Subsetting.{OuterSetsAreAtLeast, SetsAreAtLeast};
 
 use crate::leave_out::leave_out;
 use crate::marks::{can_be_empty, marks_of_pairs, marks_of_sets};
-use crate::pairing::pair_up;
+use crate::pairing::{is_truth, pair_up, pair_with_truth};
 use crate::search::{SetsFound, find_sets};
 use crate::signs::{Stage, closed_marks, sign_states};
 use ms_dfa::{Automaton, State, Track};
 use ms_dfa_explore::place_of;
 use ms_list::{List, NoMemory, StepFault};
 use ms_logic::{Mode, Quant};
+use ms_product::Paired;
 use ms_quotient::Marks;
 use std::alloc::Global;
 
@@ -24,6 +28,100 @@ pub(crate) struct Projection<'a> {
     pub(crate) tracks: List<Track>,
     pub(crate) marks: List<Marks>,
     pub(crate) found: SetsFound<'a>,
+}
+
+/// Finds the sets of states of the product of a body and a domain, where the track is left out.
+fn search_behind<'a>(
+    alloc: Global,
+    body: &'a Automaton,
+    domain: &Automaton,
+    track: Track,
+    paired: Paired,
+) -> Result<Projection<'a>, StepFault>
+    requires domain { IsDomainFor body.now domain.now }
+    requires bound { IsAmong body.now.variables (variable_of track) }
+    requires some { 1 ≤ paired.store.limit }
+    requires paired { IsPairedIn paired.store.nodes And (operands_for body.now domain.now) paired.pairs paired.start paired.states }
+    requires store { IsPairedStore paired.store paired.store.limit And (operands_for body.now domain.now) paired.pairs }
+    ensures tracks { IfOk result (λ p. variables_of p.tracks ≡ without track.variable body.now.variables) }
+    ensures projection { IfOk result (λ p. IsProjection body.now domain.now track.variable p.marks p.found.subsets p.found.store p.found.start p.found.states) }
+    ensures within { IfOk result (λ p. length p.found.store.nodes + length p.found.states ≤ paired.store.limit) }
+    ensures size { IfOk result (λ p. OuterSetsAreAtLeast (length p.found.store.nodes + length p.found.states) (begun_behind body.now track.variable paired.store paired.start paired.states)) }
+    ensures nodes { OnRefused result (λ refused. (refused ≡ paired.store.limit) × SetsAreAtLeast refused (begun_behind body.now track.variable paired.store paired.start paired.states)) }
+{
+    let rest = match leave_out(alloc, body.tracks(), track.variable) {
+        Ok(rest) => rest,
+        Err(_) => return Err(StepFault::Memory),
+    };
+    // The tracks tell that the domain is an automaton.
+    let _ = domain.tracks();
+    let place = place_of(body.tracks(), track.variable);
+    let Ok(bound) = u32::try_from(place) else {
+        return Err(StepFault::Memory);
+    };
+    let marks = match marks_of_pairs(alloc, body, domain, &paired.pairs) {
+        Ok(marks) => marks,
+        Err(_) => return Err(StepFault::Memory),
+    };
+    let found = match find_sets(alloc, body, paired, bound, rest.back) {
+        Ok(found) => found,
+        Err(fault) => return Err(fault),
+    };
+    Ok(Projection {
+        tracks: rest.tracks,
+        marks,
+        found,
+    })
+}
+
+/// The same behind truth, whose product with a body is the body itself.
+fn search_own<'a>(
+    alloc: Global,
+    body: &'a Automaton,
+    domain: &Automaton,
+    track: Track,
+    limit: u64,
+) -> Result<Projection<'a>, StepFault>
+    requires domain { IsDomainFor body.now domain.now }
+    requires bound { IsAmong body.now.variables (variable_of track) }
+    requires truth { IsTruth domain.now }
+    requires some { 1 ≤ limit }
+    requires small { limit ≤ 4000000000 }
+    ensures tracks { IfOk result (λ p. variables_of p.tracks ≡ without track.variable body.now.variables) }
+    ensures projection { IfOk result (λ p. IsProjection body.now domain.now track.variable p.marks p.found.subsets p.found.store p.found.start p.found.states) }
+    ensures within { IfOk result (λ p. length p.found.store.nodes + length p.found.states ≤ limit) }
+    ensures size { IfOk result (λ p. SetsOfAnswerAreAtLeast (length p.found.store.nodes + length p.found.states) limit body.now domain.now track.variable) }
+{
+    let paired = match pair_with_truth(alloc, body, domain, limit) {
+        Ok(paired) => paired,
+        Err(fault) => return Err(fault),
+    };
+    search_behind(alloc, body, domain, track, paired)
+}
+
+/// The same behind the pairs of states that are reached.
+fn search_reached<'a>(
+    alloc: Global,
+    body: &'a Automaton,
+    domain: &Automaton,
+    track: Track,
+    limit: u64,
+) -> Result<Projection<'a>, StepFault>
+    requires domain { IsDomainFor body.now domain.now }
+    requires bound { IsAmong body.now.variables (variable_of track) }
+    requires some { 1 ≤ limit }
+    requires small { limit ≤ 4000000000 }
+    ensures tracks { IfOk result (λ p. variables_of p.tracks ≡ without track.variable body.now.variables) }
+    ensures projection { IfOk result (λ p. IsProjection body.now domain.now track.variable p.marks p.found.subsets p.found.store p.found.start p.found.states) }
+    ensures within { IfOk result (λ p. length p.found.store.nodes + length p.found.states ≤ limit) }
+    ensures size { IfOk result (λ p. SetsOfAnswerAreAtLeast (length p.found.store.nodes + length p.found.states) limit body.now domain.now track.variable) }
+    ensures nodes { OnRefused result (λ refused. (refused ≡ limit) × ReachedNeedsAtLeast limit body.now domain.now track.variable) }
+{
+    let paired = match pair_up(alloc, body, domain, limit) {
+        Ok(paired) => paired,
+        Err(fault) => return Err(fault),
+    };
+    search_behind(alloc, body, domain, track, paired)
 }
 
 /// Finds the sets of pairs of states of a body and a domain, where the track is left out.
@@ -41,35 +139,18 @@ pub(crate) fn search<'a>(
     ensures tracks { IfOk result (λ p. variables_of p.tracks ≡ without track.variable body.now.variables) }
     ensures projection { IfOk result (λ p. IsProjection body.now domain.now track.variable p.marks p.found.subsets p.found.store p.found.start p.found.states) }
     ensures within { IfOk result (λ p. length p.found.store.nodes + length p.found.states ≤ limit) }
-    ensures nodes { OnRefused result (λ refused. (refused ≡ limit) × NeedsAtLeast limit body.now domain.now track.variable) }
+    ensures size { IfOk result (λ p. SetsOfAnswerAreAtLeast (length p.found.store.nodes + length p.found.states) limit body.now domain.now track.variable) }
+    ensures nodes { OnRefused result (λ refused. (refused ≡ limit) × ReachedNeedsAtLeast limit body.now domain.now track.variable) }
 {
-    let rest = match leave_out(alloc, body.tracks(), track.variable) {
-        Ok(rest) => rest,
-        Err(_) => return Err(StepFault::Memory),
-    };
-    // The tracks tell that the domain is an automaton.
-    let _ = domain.tracks();
-    let place = place_of(body.tracks(), track.variable);
-    let Ok(bound) = u32::try_from(place) else {
-        return Err(StepFault::Memory);
-    };
-    let paired = match pair_up(alloc, body, domain, limit) {
-        Ok(paired) => paired,
-        Err(fault) => return Err(fault),
-    };
-    let marks = match marks_of_pairs(alloc, body, domain, &paired.pairs) {
-        Ok(marks) => marks,
-        Err(_) => return Err(StepFault::Memory),
-    };
-    let found = match find_sets(alloc, body, paired, bound, rest.back) {
-        Ok(found) => found,
-        Err(fault) => return Err(fault),
-    };
-    Ok(Projection {
-        tracks: rest.tracks,
-        marks,
-        found,
-    })
+    if is_truth(domain) {
+        match search_own(alloc, body, domain, track, limit) {
+            Ok(projection) => return Ok(projection),
+            Err(StepFault::Memory) => return Err(StepFault::Memory),
+            // States that nothing reaches may have taken the nodes.
+            Err(StepFault::Nodes { .. }) => {}
+        }
+    }
+    search_reached(alloc, body, domain, track, limit)
 }
 
 /// The states of all sets, with the signs that the marks of their members make.

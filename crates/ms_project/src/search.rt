@@ -1,6 +1,6 @@
 ghost use Rattle.std.specs.Prelude.{◌≡◌, ◌≤◌, ◌+◌, length, IfOk};
 ghost use Rattle.ms_dfa_explore.specs.Explored.{OnRefused};
-ghost use Rattle.ms_project.specs.Subsetting.{AreSetsFound, IsLaterSubsetting, IsReadyForSets, SetsAreAtLeast, begun};
+ghost use Rattle.ms_project.specs.Subsetting.{AreSetsFound, IsLaterSubsetting, IsReadyForSets, OuterSetsAreAtLeast, SetsAreAtLeast, begun};
 
 use crate::subsets::{SubsetTables, Subsets, SubsetsMachine};
 use ms_arena::Ref;
@@ -33,6 +33,7 @@ pub(crate) fn find_sets<'a>(
     ensures later { IfOk result (λ found. IsLaterSubsetting (begun body.now paired.store paired.start paired.states bound back) found.subsets) }
     ensures found { IfOk result (λ found. AreSetsFound found.subsets found.store found.start found.states) }
     ensures within { IfOk result (λ found. length found.store.nodes + length found.states ≤ paired.store.limit) }
+    ensures size { IfOk result (λ found. OuterSetsAreAtLeast (length found.store.nodes + length found.states) (begun body.now paired.store paired.start paired.states bound back)) }
     ensures nodes { OnRefused result (λ refused. (refused ≡ paired.store.limit) × SetsAreAtLeast refused (begun body.now paired.store paired.start paired.states bound back)) }
 {
     // The lengths tell that the nodes are those of stores, and the sets a numbering.

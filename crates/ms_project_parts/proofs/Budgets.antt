@@ -1,16 +1,14 @@
 -- What a projection needs is below the budget of its operands.
-use Rattle.std.proofs.Common.{◌≡◌, ℕ, ◌+◌, ◌*◌, ◌<◌, ◌≤◌, ⊎_elim, length, map, slice_get, slice_index, Some, ap, subst, ◌∙◌, arith}
+use Rattle.std.proofs.Common.{◌≡◌, ℕ, ◌+◌, ◌*◌, ◌<◌, ◌≤◌, ⊎_elim, length, map, slice_get, slice_index, Some, ap, ◌∙◌, arith}
 use Rattle.std.proofs.Math.Nat.{mul-le-mul_left, mul-le-mul_right}
 use Rattle.std.proofs.lemmas.List.{length-map}
 use Rattle.std.proofs.lemmas.Option.{none-some, slice_get_within}
-use Rattle.ms_arena.specs.declared.node.Node.{Node}
 use Rattle.ms_arena.proofs.Lists.{slice_get-held}
 use Rattle.ms_build_parts.proofs.Budgets.{one_count}
 use Rattle.ms_build_parts.proofs.Labels.{closed_contents, measured_contents}
 use Rattle.ms_build_parts.proofs.ProductParts.{products_need_few_labels}
 use Rattle.ms_build_parts.specs.Labels.{IsLabelledBelow}
-use Rattle.ms_dfa_explore.specs.Explored.{GrowsForSome}
-use Rattle.ms_dfa_explore.specs.Tracks.{place_of, places_among}
+use Rattle.ms_dfa_explore.specs.Tracks.{places_among}
 use Rattle.ms_dfa_explore.proofs.AmongLemmas.{place_at}
 use Rattle.ms_logic.specs.Assignment.{Variable}
 use Rattle.ms_logic.specs.Lists.{AreRising, IsAmong, without}
@@ -22,19 +20,16 @@ use Rattle.ms_logic_measures.specs.Starts.{IsStartOver}
 use Rattle.ms_logic_starts.specs.ContentStarts.{HaveDistinctNumbers}
 use Rattle.ms_logic_words.specs.Content.{Content}
 use Rattle.ms_logic_words.specs.declared.sign.Sign.{Sign}
-use Rattle.ms_product.specs.Pairing.{AreAtLeast, IsNeededForSome, IsPairedIn}
+use Rattle.ms_product.specs.Pairing.{AreAtLeast}
 use Rattle.ms_product.specs.declared.op.Op.TheVariants.{And}
 use Rattle.ms_product.proofs.WidenedLemmas.{IsRisingMap-among}
 use Rattle.ms_project.specs.Always.{always}
-use Rattle.ms_project.specs.Paired.{operands_for, places_left}
+use Rattle.ms_project.specs.Paired.{operands_for}
 use Rattle.ms_project.specs.Projection.{NeedsAtLeast, SetsOfProductAreAtLeast}
-use Rattle.ms_project.specs.Subsetting.{AreReachedNumbers, Subsetting, begun, collected_findings, subset_findings}
 use Rattle.ms_project.proofs.AlwaysLemmas.{IsAutomaton-always}
-use Rattle.ms_project.proofs.SearchLemmas.{IsPairedIn-extends}
-use Rattle.ms_project_parts.proofs.Few.{few_own, few_rest}
-use Rattle.ms_project_parts.specs.inner.Matched.{AreMatched, IsProjected}
-use Rattle.ms_project_parts.proofs.Matches.{measured_matches, pairs_match, truth_matches}
-use Rattle.ms_project_parts.proofs.Places.{are_others}
+use Rattle.ms_project_parts.proofs.Found.{few_inner, few_outer}
+use Rattle.ms_project_parts.specs.inner.Matched.{AreMatched}
+use Rattle.ms_project_parts.proofs.Matches.{measured_matches, truth_matches}
 use Rattle.ms_project_parts.specs.Laws.{IsBoundAs, IsOverSome, ProjectionsAreWithinBudget, ProjectionsNeedFewSets, UnrestrictedAreWithinBudget}
 
 -- variables of the same orders are as many
@@ -58,35 +53,6 @@ module _ {Domain : Type 0} (body domain canonical : Content Sign) (restriction :
       }) left_labels right_labels count least
 
   module _ (m : ℕ) (counted : IsNumberOf (LeadToSameSet canonical restriction x) (IsStartOver (without x.name canonical.variables)) m) (count : ℕ) (needs : SetsOfProductAreAtLeast count body domain bound.name) where
-    abbrev at_first : Subsetting
-    at_first = begun body needs.inner needs.start needs.states (place_of bound.name body.variables) (places_left bound.name 0 body.variables)
-
-    -- the sets that were found, behind that beginning
-    abbrev v : Subsetting
-    v = record at_first { inner = needs.sets.found.inner; sets = needs.sets.found.sets }
-
-    grows : GrowsForSome needs.inner v.inner (collected_findings v)
-    grows = subst (λ (u : Subsetting). GrowsForSome needs.inner v.inner (collected_findings u)) needs.sets.later.same (needs.sets.later.grows needs.needed.store)
-
-    reached : AreReachedNumbers v
-    reached = subst AreReachedNumbers needs.sets.later.same needs.sets.reached
-
-    needed : (place : ℕ) (node : Node) → slice_get needs.sets.outer place ≡ Some node → IsNeededForSome needs.sets.outer (subset_findings v) node
-    needed = subst (λ (u : Subsetting). (place : ℕ) (node : Node) → slice_get needs.sets.outer place ≡ Some node → IsNeededForSome needs.sets.outer (subset_findings u) node) needs.sets.later.same needs.sets.needed
-
-    is_paired : IsPairedIn v.inner.nodes And (operands_for body domain) needs.pairs needs.start needs.states
-    is_paired = IsPairedIn-extends needs.inner.nodes v.inner.nodes needs.needed.store.ordered grows.extends body domain needs.pairs needs.start needs.states needs.paired
-
-    abbrev at : ℕ → ℕ
-    at place = slice_index (places_among domain.variables body.variables) place
-
-    setting : IsProjected v canonical restriction x at
-    setting = record {
-      are = are_others body.variables canonical.variables long is_bound.rising bound x is_bound.among own is_bound.stands;
-      stands = stands;
-      matched = pairs_match body domain canonical restriction left right is_bound.rising long v needs.pairs is_paired;
-    }
-
     few_begun : length needs.inner.nodes ≤ 2 * (a * b)
     few_begun = few_pairs (length needs.inner.nodes) (record {
       nodes = needs.inner.nodes;
@@ -101,8 +67,11 @@ module _ {Domain : Type 0} (body domain canonical : Content Sign) (restriction :
 
     few_sets : count ≤ 2 * (a * b) + 2 * m
     few_sets =
-        let first = few_own v canonical restriction x at setting needs.sets.numbering reached m counted needs.inner grows in
-        let second = few_rest v canonical restriction x at setting needs.sets.numbering reached m counted needs.sets.outer needs.sets.ordered needs.sets.reduced needed in
+        let store = needs.needed.store in
+        let found = needs.sets.found in
+        let outer = needs.sets.outer in
+        let first = few_inner body domain canonical restriction bound x is_bound own long domain_rising among stands left right m counted needs.inner needs.start needs.states needs.pairs needs.paired store found outer needs.sets.behind in
+        let second = few_outer body domain canonical restriction bound x is_bound own long domain_rising among stands left right m counted needs.inner needs.start needs.states needs.pairs needs.paired store found outer needs.sets.behind in
         let begun_few = few_begun in
         let many = needs.sets.many in
         omega (arith, first, second, begun_few, many)

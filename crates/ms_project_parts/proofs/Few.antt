@@ -162,15 +162,14 @@ module _ {Domain : Type 0} (v : Subsetting) (body : Content Sign) (domain : Cont
         }) in
         omega (arith, few, long)
 
-    -- the nodes of the store of the answer
-    pub few_rest : (outer : List Node) → IsOrdered outer → IsReduced outer → ((place : ℕ) (node : Node) → slice_get outer place ≡ Some node → IsNeededForSome outer (subset_findings v) node) → length outer ≤ m
+    -- the nodes of the store of the answer, and the sets
+    pub few_rest : (outer : List Node) → IsOrdered outer → IsReduced outer → ((place : ℕ) (node : Node) → slice_get outer place ≡ Some node → IsNeededForSome outer (subset_findings v) node) → length outer + length v.sets ≤ m
     few_rest outer ordered reduced needed =
-        let few = few_by outer (λ bits. read_through v.back bits) 0 (length outer) 0 ordered reduced (record {
+        few_by outer (λ bits. read_through v.back bits) 0 (length outer) (length v.sets) ordered reduced (record {
           within = omega arith;
           places = λ i from below.
               let held = slice_get-held outer i (omega (arith, below)) in
               let is = needed i held.0 held.1 in
               rest_led outer ordered reduced i held.0 held.1 is.0 is.1 is.2;
-          numbers = λ number within. absurd (omega (arith, within));
-        }) in
-        omega (arith, few)
+          numbers = λ number within. led_number v body domain x at setting numbering outer (λ bits. read_through v.back bits) number (reached number within);
+        })

@@ -1,5 +1,6 @@
 pub mod Budgets
 pub mod Few
+pub mod Found
 pub mod Given
 pub mod Matches
 pub mod Needed

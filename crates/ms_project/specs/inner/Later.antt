@@ -1,17 +1,14 @@
 -- What stays true of a subset construction when more sets get numbers: the laws that an exploration asks of it.
-use Rattle.std.proofs.Common.{◌≡◌, ℕ, ◌<◌, ◌⊎◌, ⊎_elim, List, length, slice_get, Some, None, refl, sym, ap, subst, ◌∙◌}
+use Rattle.std.proofs.Common.{◌≡◌, ⊎_elim, length, slice_get, Some, None, refl, sym, ap, ◌∙◌}
 use Rattle.std.proofs.Math.Nat.{le_refl, le_trans, lt_of_lt_of_le}
 use Rattle.std.proofs.lemmas.Bool.{cases_lt}
-use Rattle.ms_arena.specs.declared.node.Node.{Node}
-use Rattle.ms_arena.specs.Diagram.{IsOrdered}
-use Rattle.ms_arena.specs.Target.{Extends}
 use Rattle.ms_arena.proofs.Appending.{Extends-same, Extends-further, IsValid-extends}
 use Rattle.ms_arena.proofs.Lists.{slice_get-append_left}
 use Rattle.ms_arena.proofs.Needs.{Implies, IsFormed-held, IsNeeded-extends}
-use Rattle.ms_diagram.specs.Store.{Contents, IsStore}
+use Rattle.ms_diagram.specs.Store.{Contents}
 use Rattle.ms_dfa_explore.specs.Explored.{Findings, AreMore, Origin, IsFound, target_of, GrowsForSome}
 use Rattle.ms_product.proofs.WidenedLemmas.{GrowsForSome-none}
-use Rattle.ms_project.specs.Subsetting.{Subsetting, collected_findings, subset_findings, IsReadyForSets, IsLaterSubsetting}
+use Rattle.ms_project.specs.Subsetting.{Subsetting, collected_findings, subset_findings, IsLaterSubsetting}
 
 AreMore-same : (findings : Findings) → AreMore findings findings
 AreMore-same findings = record { count = le_refl findings.count; starts = λ bits number right. right; steps = λ state found bits number right. right; signs = λ state found. refl; most_nodes = refl }

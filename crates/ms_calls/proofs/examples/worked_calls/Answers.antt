@@ -1,3 +1,9 @@
+use Rattle.std.proofs.Common.{inl, refl}
+use Rattle.ms_logic.specs.declared.mode.Order.TheVariants.{Two}
+use Rattle.ms_logic.specs.inner.Examples.{variable}
+use Rattle.ms_logic_words.specs.declared.sign.Sign.TheVariants.{Yes}
+use Rattle.ms_project.specs.inner.Examples.{everywhere}
+use Rattle.ms_calls.proofs.ProjectionLemmas.{always_range}
 use Rattle.ms_calls.proofs.ExampleCalls.{apart, first, needs_one, no_five, second, stands, swapped}
 use Rattle.ms_calls.proofs.examples.worked_calls.Goals as goal
 
@@ -21,3 +27,12 @@ returns-clause-one c = needs_one
 
 pub returns-clause-no_five : goal.returns-clause-no_five
 returns-clause-no_five c = no_five
+
+pub returns-clause-range : goal.returns-clause-range
+returns-clause-range c = always_range (everywhere Yes)
+
+pub returns-clause-no_range : goal.returns-clause-no_range
+returns-clause-no_range c = λ is. is.for_body.among (variable 7 Two) (inl refl)
+
+pub returns-clause-no_body : goal.returns-clause-no_body
+returns-clause-no_body c = λ is. is.among

@@ -1,12 +1,13 @@
-use Rattle.std.proofs.Common.{◌≡◌, ℕ, zero, suc, ◌<◌, ⊎_elim, Bool, true, false, List, [], ◌∷◌, Contains, slice_get, Some, refl, sym, ap, subst, ◌∙◌, arith}
+use Rattle.std.proofs.Common.{◌≡◌, ℕ, zero, suc, ⊎_elim, false, List, [], ◌∷◌, Contains, slice_get, Some, refl, sym, subst, ◌∙◌, arith}
 use Rattle.std.proofs.lemmas.Option.{none-some, same_Some}
 use Rattle.ms_arena.specs.Bits.{with_bit}
 use Rattle.ms_arena.specs.Diagram.{Bits, leaf_of}
 use Rattle.ms_arena.proofs.Paths.{leaf_of-leaf}
 use Rattle.ms_diagram.proofs.ListLemmas.{Contains-cases, Contains-first, Contains-none, Contains-rest}
 use Rattle.ms_project.specs.Subsets.{next_of}
-use Rattle.ms_project.specs.Subsetting.{IsReachedNumber, from_start, from_set, paired, sets_at, sets_at_start}
+use Rattle.ms_project.specs.Subsetting.{IsReachedNumber, Subsetting, from_start, from_set, paired, sets_at}
 use Rattle.ms_project.specs.inner.Examples.{of_one_state}
+use Rattle.ms_project.specs.inner.Later.{subsetting_later_itself}
 use Rattle.ms_project.proofs.examples.worked_sets.Goals as goal
 
 -- each state leads to the one state
@@ -47,3 +48,32 @@ returns-clause-no_state c = λ reached.
     let found = only_state ((0 ∷ []) ∷ (0 ∷ 1 ∷ []) ∷ []) 1 reached in
     let one = found.2 1 (subst (λ (set : List ℕ). Contains set 1) (same_Some (0 ∷ 1 ∷ []) found.0 found.1) (Contains-rest 0 (1 ∷ []) 1 (Contains-first 1 []))) in
     omega (arith, one)
+
+pub returns-clause-begun : goal.returns-clause-begun
+returns-clause-begun c =
+    let none : Subsetting = of_one_state [] in
+    record {
+      found = none;
+      outer = [];
+      behind = record {
+        later = subsetting_later_itself none;
+        numbering = record {
+          numbering = record { no_repeats = λ one two item here there. absurd (none-some item here); small = omega arith };
+          rising = λ number set held. absurd (none-some set held);
+        };
+        members = λ number set held. absurd (none-some set held);
+        reached = λ number within. absurd (omega (arith, within));
+        ordered = record {
+          earlier_low = λ place node held. absurd (none-some node held);
+          earlier_high = λ place node held. absurd (none-some node held);
+          rising_low = λ place node held. absurd (none-some node held);
+          rising_high = λ place node held. absurd (none-some node held);
+        };
+        reduced = record {
+          ends_differ = λ place node held. absurd (none-some node held);
+          distinct = λ one two node first second. absurd (none-some node first);
+        };
+        needed = λ place node held. absurd (none-some node held);
+      };
+      many = omega arith;
+    }

@@ -1,4 +1,4 @@
-use Rattle.std.proofs.Common.{◌≡◌, ℕ, List, ◌∷◌, ◌++◌, [], sym, ap, ◌∙◌}
+use Rattle.std.proofs.Common.{ℕ, List, ◌∷◌, ◌++◌, [], sym, ap, ◌∙◌}
 use Rattle.ms_quotient.specs.declared.marks.Marks.{Marks}
 use Rattle.ms_quotient.specs.Closure.{no_marks}
 use Rattle.ms_quotient.specs.Way.{union_along}

@@ -1,6 +1,4 @@
-use Rattle.std.proofs.Common.{◌≡◌, ℕ, ◌<◌, List, length, slice_get, Some, sym, ap, subst, ◌∙◌}
-use Rattle.ms_arena.specs.Diagram.{IsValid}
-use Rattle.ms_arena.specs.Reach.{IsTested}
+use Rattle.std.proofs.Common.{ℕ, List, length, sym, ap, subst, ◌∙◌}
 use Rattle.ms_dfa.specs.declared.state.State.{State}
 use Rattle.ms_dfa.specs.declared.track.Track.{Track}
 use Rattle.ms_quotient.specs.declared.marks.Marks.{Marks}

@@ -1,9 +1,9 @@
-use Rattle.std.proofs.Common.{◌+◌, ◌≤◌, length, subst, sym, arith}
-use Rattle.ms_dfa.specs.Automaton.{variable_of, variables_of}
+use Rattle.std.proofs.Common.{◌≡◌, ℕ, ◌+◌, ◌≤◌, length, subst, sym, arith}
+use Rattle.ms_dfa.specs.Automaton.{states_of, variable_of, variables_of}
 use Rattle.ms_logic_words.specs.Content.{Content}
 use Rattle.ms_logic_words.specs.declared.sign.Sign.{Sign}
 use Rattle.ms_dfa_explore.proofs.RunLemmas.{length-states_of}
-use Rattle.ms_project.specs.Projection.{AreSignedSets}
+use Rattle.ms_project.specs.Projection.{AreSignedSets, SetsOfAnswerAreAtLeast}
 use Rattle.ms_project.proofs.AssemblyLemmas.{members_marked, states_test_below, zeros_within, automaton_made, values_made}
 use Rattle.ms_project.proofs.quantify.project_within.Goals as goal
 
@@ -49,3 +49,11 @@ returns-clause-within c =
     let long = c.in-Ok-sign_sets.ensures.signs.long in
     let within = c.in-Ok.ensures.within in
     subst (λ (content : Content Sign). length content.nodes + length content.states ≤ c.args.limit) (sym c.make.ensures) (omega (arith, counted, long, within))
+
+pub returns-clause-size : goal.returns-clause-size
+returns-clause-size c =
+    let counted = length-states_of c.in-Ok-sign_sets.states in
+    let long = c.in-Ok-sign_sets.ensures.signs.long in
+    let same : length c.in-Ok.projection.found.store.nodes + length c.in-Ok.projection.found.states ≡ length c.in-Ok.projection.found.store.nodes + length (states_of c.in-Ok-sign_sets.states) = omega (arith, counted, long) in
+    subst (λ (content : Content Sign). SetsOfAnswerAreAtLeast (length content.nodes + length content.states) c.args.limit c.args.body.now c.args.domain.now c.args.quantifier.track.variable) (sym c.make.ensures)
+    (subst (λ (n : ℕ). SetsOfAnswerAreAtLeast n c.args.limit c.args.body.now c.args.domain.now c.args.quantifier.track.variable) same c.in-Ok.ensures.size)

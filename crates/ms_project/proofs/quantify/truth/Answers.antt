@@ -2,9 +2,7 @@ use Rattle.std.proofs.Common.{◌≡◌, List, [], ◌∷◌, ◌++◌, sym, ap,
 use Rattle.ms_arena.specs.declared.node.Ref.TheVariants.{Leaf}
 use Rattle.ms_dfa.specs.Automaton.{IsAutomaton, content_of}
 use Rattle.ms_dfa.specs.declared.state.State.{State}
-use Rattle.ms_logic_words.specs.declared.sign.Sign.{Sign}
 use Rattle.ms_logic_words.specs.declared.sign.Sign.TheVariants.{Yes}
-use Rattle.ms_logic_words.specs.Content.{Content}
 use Rattle.ms_project.specs.Always.{always}
 use Rattle.ms_project.proofs.AlwaysLemmas.{IsAutomaton-always}
 use Rattle.ms_project.proofs.quantify.truth.Goals as goal

@@ -1,4 +1,4 @@
-use Rattle.std.proofs.Common.{◌≡◌, ◌≤◌, length, take}
+use Rattle.std.proofs.Common.{take}
 use Rattle.ms_project.specs.Signed.{AreSigned}
 use Rattle.ms_project.proofs.signs.sign_states.Given as goal
 
