@@ -35,12 +35,13 @@ use Rattle.ms_product.specs.declared.op.Op.TheVariants.{And, Implies}
 use Rattle.ms_project.specs.Paired.{IsDomainFor}
 use Rattle.ms_project.proofs.AssemblyLemmas.{IfOk-implies}
 use Rattle.ms_project.specs.Quantified.{BodyAt, IsMetBy, RangeOf, quantified}
+use Rattle.ms_rename.proofs.OrderLemmas.{HaveOneOrder-rising}
 use Rattle.ms_rename.proofs.RenamedLemmas.{HasValues-same}
 use Rattle.ms_build.specs.inner.Ranges.{IsDefined, IsLast, op_within}
 use Rattle.ms_build.proofs.MeaningLemmas.{HasValues-to, own_means}
 use Rattle.ms_build.proofs.PlaceLemmas.{IsAssignment-among}
 use Rattle.ms_build.proofs.QuantifiedLemmas.{assigned_bound}
-use Rattle.ms_build.proofs.WholeLemmas.{HaveOneOrder-rising, rising_equal}
+use Rattle.ms_build.proofs.WholeLemmas.{rising_equal}
 
 -- where no state is undefined, an assignment has Yes or No
 pub yes_or_no : (content : Content Sign) → IsAutomaton content → IsDefined content → (e : Env) → IsAssignment content.mode content.variables e → own_meaning content e Yes ⊎ own_meaning content e No

@@ -2,7 +2,6 @@
 use Rattle.std.proofs.Common.{◌≡◌, ℕ, ◌+◌, ◌<◌, inl, inr, ⊎_elim, List, [], ◌∷◌, Contains, length, refl, sym, ap, subst, ◌∙◌, arith}
 use Rattle.std.proofs.lemmas.Option.{slice_get_within}
 use Rattle.ms_dfa.specs.Automaton.{IsAutomaton}
-use Rattle.ms_basic.specs.Operands.{HaveOneOrder}
 use Rattle.ms_logic.specs.declared.mode.Mode.{Mode}
 use Rattle.ms_logic.specs.declared.mode.Order.{Order}
 use Rattle.ms_logic_words.specs.declared.sign.Sign.{Sign}
@@ -39,17 +38,6 @@ rising_equal (v ∷ vs) (w ∷ ws) rising_v rising_w to from =
     (to x (inr among)))
     (λ x among. ⊎_elim (λ here. let above = rising_above w ws rising_w x among in let name = ap (λ (y : Variable). y.name) (sym same ∙ here) in absurd (omega (arith, above, name))) (λ there. there)
     (from x (inr among))))
-
--- and variables of one that have one number are one
-pub HaveOneOrder-rising : (vs : List Variable) → AreRising vs → HaveOneOrder vs
-HaveOneOrder-rising [] rising v w is also same = absurd is
-HaveOneOrder-rising (u ∷ vs) rising v w is also same = ⊎_elim
-    (λ here. ⊎_elim (λ also_here. sym here ∙ also_here)
-    (λ there. let above = rising_above u vs rising w there in let name = ap (λ (x : Variable). x.name) here in absurd (omega (arith, above, name, same))) also)
-    (λ there. ⊎_elim
-    (λ also_here. let above = rising_above u vs rising v there in let name = ap (λ (x : Variable). x.name) also_here in absurd (omega (arith, above, name, same)))
-    (λ also_there. HaveOneOrder-rising vs rising.1 v w there also_there same) also)
-    is
 
 below_first : (base : ℕ) (orders : List Order) (name : ℕ) → name < base → IsBelowFirst name (variables_from base orders)
 below_first base [] name less = tt

@@ -7,6 +7,7 @@ use Rattle.ms_dfa_explore.proofs.AmongLemmas.{among_at, merged-either, among_eit
 use Rattle.ms_dfa_explore.proofs.TracksLemmas.{among-left, among-right, merged-left, merged-right}
 use Rattle.ms_basic.specs.Operands.{HaveOneOrder}
 use Rattle.ms_product.specs.Combined.{HaveEqualOrders}
+use Rattle.ms_rename.proofs.OrderLemmas.{HaveOneOrder-rising}
 use Rattle.ms_rename.proofs.RenamedLemmas.{HasValues-same}
 use Rattle.ms_minim.specs.Residual.{HaveEqualSigns, IsLeast}
 use Rattle.ms_logic.specs.declared.mode.Mode.{Mode}
@@ -21,7 +22,7 @@ use Rattle.ms_build.specs.declared.lacked.Lacked.{Lacked}
 use Rattle.ms_build.specs.inner.Lacked.{IsLacked}
 use Rattle.ms_build.specs.Wider.{IsWider}
 use Rattle.ms_build.proofs.VariableLemmas.{taken-among}
-use Rattle.ms_build.proofs.WholeLemmas.{HasValues-more, HaveOneOrder-rising, rising_equal}
+use Rattle.ms_build.proofs.WholeLemmas.{HasValues-more, rising_equal}
 use Rattle.ms_build.specs.Short.{WideningLacks}
 
 -- over no more variables

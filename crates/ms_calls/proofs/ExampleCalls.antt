@@ -19,6 +19,7 @@ use Rattle.ms_minim.specs.inner.Quotient.{IsNumberOf}
 use Rattle.ms_minim_canonical.proofs.ContentLemmas.{IsClosed-content}
 use Rattle.ms_product.specs.Pairing.{IsReachedPair, Operands, from_pair, from_starts, operands_of}
 use Rattle.ms_product.specs.Widened.{next_through}
+use Rattle.ms_rename.specs.Renamed.{beside_itself}
 use Rattle.ms_calls.specs.Products.{StandsAmong}
 use Rattle.ms_calls.proofs.FewestLemmas.{few}
 
@@ -32,6 +33,11 @@ first = from_starts (λ place. false) refl
 pub second : IsReachedPair both (1, 1)
 unfolding leaf_of
 second = from_pair (0, 0) (bits_at (true ∷ false ∷ [])) first refl
+
+-- with P and Q in each other's place
+pub turned : IsReachedPair (beside_itself full_subset_content (1 ∷ 0 ∷ [])) (1, 1)
+unfolding leaf_of
+turned = from_pair (0, 0) (bits_at (false ∷ true ∷ [])) (from_starts (λ place. false) refl) refl
 
 -- both are always in one state
 in_one_state : (pair : ℕ × ℕ) → IsReachedPair both pair → pair.0 ≡ pair.1

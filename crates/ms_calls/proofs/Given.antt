@@ -93,7 +93,7 @@ module _ (content : Content Sign) (at : ℕ → ℕ) (wide : List Variable) (dis
 
     -- a reference leads by what is given where the bits lead from which it comes
     module _ (root : Ref) (is : IsFollowed content has_bit root) where
-      agree : (one two : Bits) → ((place : ℕ) (v : Variable) → slice_get vs place ≡ Some v → IsTrue (has_bit v.order) → one place ≡ two place)
+      pub agree : (one two : Bits) → ((place : ℕ) (v : Variable) → slice_get vs place ≡ Some v → IsTrue (has_bit v.order) → one place ≡ two place)
           → leaf_of content.nodes root one ≡ leaf_of content.nodes root two
       agree one two same = leaf_of-tested content.nodes stands.ordered root one two is.valid (λ place tested. let found = is.tests place tested in same place found.0 found.1 found.2)
 

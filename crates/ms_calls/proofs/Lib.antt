@@ -8,4 +8,6 @@ pub mod Pairs
 pub mod Parts
 pub mod Positions
 pub mod ProjectionLemmas
+pub mod RenamingLemmas
 pub mod RisingNames
+pub mod Sides

@@ -1,6 +1,6 @@
 //! The definitions at small cases, worked out by hand. The function has an empty body, and its contract is the table of its examples.
 
-ghost use Rattle.std.specs.Prelude.{◌-◌};
+ghost use Rattle.std.specs.Prelude.{◌-◌, ◌∷◌, []};
 ghost use Rattle.ms_calls.specs.Products.{StandsAmong};
 ghost use Rattle.ms_calls.specs.Projections.{IsBody, IsRange};
 ghost use Rattle.ms_logic.specs.declared.mode.Mode.TheVariants.{Ws1s};
@@ -12,6 +12,7 @@ ghost use Rattle.ms_minim.specs.Needed.{NeedsAtLeast};
 ghost use Rattle.ms_product.specs.Pairing.{IsReachedPair, operands_of};
 ghost use Rattle.ms_project.specs.Always.{always};
 ghost use Rattle.ms_project.specs.inner.Examples.{everywhere};
+ghost use Rattle.ms_rename.specs.Renamed.{beside_itself};
 
 /// The full contents of P sub Q and of `true`.
 pub fn worked_calls()
@@ -19,6 +20,9 @@ pub fn worked_calls()
     ensures first { IsReachedPair (operands_of full_subset_content full_subset_content) (0, 0) }
     ensures second { IsReachedPair (operands_of full_subset_content full_subset_content) (1, 1) }
     ensures apart { ¬ IsReachedPair (operands_of full_subset_content full_subset_content) (0, 1) }
+
+    // beside itself, each read at the place of the other, it is in state 1 where the letter has Q alone
+    ensures turned { IsReachedPair (beside_itself full_subset_content (1 ∷ 0 ∷ [])) (1, 1) }
 
     // P and Q stand where they are, and not each in the place of the other
     ensures stands { StandsAmong full_subset_content (λ place. place) set_P_and_Q }

@@ -11,4 +11,4 @@ pub use connectives::laws_of_connectives;
 pub use examples::worked_calls;
 pub use fewest::laws_of_fewest_states;
 pub use projections::laws_of_projections;
-pub use renamings::law_of_rising_renamings;
+pub use renamings::laws_of_renamings;

@@ -1,3 +1,4 @@
+pub mod BesideLemmas
 pub mod CompactLemmas
 pub mod ImageLemmas
 pub mod OrderLemmas

@@ -1,5 +1,5 @@
 -- A map whose numbers rise leaves each variable in its place.
-use Rattle.std.proofs.Common.{◌≡◌, ℕ, suc, ◌+◌, ◌<◌, nat_lt, nat_eq, inl, Bool, false, if◌then◌else◌, List, [], ◌∷◌, ◌++◌, length, slice_get, slice_index, Some, refl, sym, ap, subst, ◌∙◌, arith, append_assoc}
+use Rattle.std.proofs.Common.{◌≡◌, ℕ, suc, ◌+◌, ◌<◌, nat_lt, nat_eq, inl, ⊎_elim, Bool, false, if◌then◌else◌, List, [], ◌∷◌, ◌++◌, length, slice_get, slice_index, Some, refl, sym, ap, subst, ◌∙◌, arith, append_assoc}
 use Rattle.std.proofs.lemmas.Bool.Decides.{nat_tests}
 use Rattle.std.proofs.lemmas.List.{append-nil}
 use Rattle.std.proofs.lemmas.Option.{same_Some}
@@ -126,3 +126,14 @@ module _ (names : List ℕ) (content : Content Sign) (automaton : IsAutomaton co
   pub IsAutomaton-in_order : IsAutomaton (record content { variables = wide })
   IsAutomaton-in_order =
       IsAutomaton-renamed names content automaton long one_order (record content { variables = wide }) refl variables_are IsRenamedBy-in_order automaton.ordered automaton.reduced
+
+-- of variables whose numbers rise those of one number are one
+pub HaveOneOrder-rising : (vs : List Variable) → AreRising vs → HaveOneOrder vs
+HaveOneOrder-rising [] rising v w is also same = absurd is
+HaveOneOrder-rising (u ∷ vs) rising v w is also same = ⊎_elim
+    (λ here. ⊎_elim (λ also_here. sym here ∙ also_here)
+    (λ there. let above = among-above u vs w (above-first u vs rising) there in let name = ap (λ (x : Variable). x.name) here in absurd (omega (arith, above, name, same))) also)
+    (λ there. ⊎_elim
+    (λ also_here. let above = among-above u vs v (above-first u vs rising) there in let name = ap (λ (x : Variable). x.name) also_here in absurd (omega (arith, above, name, same)))
+    (λ also_there. HaveOneOrder-rising vs rising.1 v w there also_there same) also)
+    is

@@ -4,7 +4,6 @@ use Rattle.std.specs.Prelude.{map as map_list}
 use Rattle.std.specs.Option.{option_map}
 use Rattle.std.proofs.lemmas.Option.{none-some, same_Some, slice_get-map, slice_get_within, get_or_from_slice_get}
 use Rattle.ms_list.specs.declared.fault.StepFault.{StepFault}
-use Rattle.ms_list.specs.declared.fault.StepFault.TheVariants.{Nodes, Memory}
 use Rattle.ms_list.specs.declared.word.Word.{Word}
 use Rattle.ms_arena.specs.declared.node.Ref.{Ref}
 use Rattle.ms_arena.specs.Bits.{with_bit, below_from}
@@ -33,7 +32,7 @@ use Rattle.ms_dfa.proofs.HasValueAtLemmas.{HasValueAt-or_not}
 use Rattle.ms_dfa.proofs.NarrowLemmas.{leaf_of-gathered, narrowed_encodes, narrowed_assigned, narrowed_over}
 use Rattle.ms_dfa.proofs.OwnMeaningLemmas.{next_within, sign_outside, HasValues-own, IsMeaning-own}
 use Rattle.ms_dfa.proofs.ValuesLemmas.{IsAutomaton-by_values}
-use Rattle.ms_dfa_explore.specs.Explored.{Origin, IsFound, OnRefused, target_of}
+use Rattle.ms_dfa_explore.specs.Explored.{Origin, IsFound, target_of}
 use Rattle.ms_dfa_explore.specs.Tracks.{distinct, place_of, places_among}
 use Rattle.ms_dfa_explore.proofs.AmongLemmas.{among_at, held_among, one_place}
 use Rattle.ms_dfa_explore.proofs.TracksLemmas.{distinct-rising, place_of-among}
@@ -263,10 +262,10 @@ module _ (content made : Content Sign) (places : List ℕ) (made_is : IsAutomato
   abbrev own : List ℕ
   own = places_among made.variables made.variables
 
-  start_as : Implies (widened_findings made own).starts (widened_findings content places).starts
+  pub start_as : Implies (widened_findings made own).starts (widened_findings content places).starts
   start_as bits number right = right ∙ read_same made made_is is_truth_value made.start made_is.closed.start bits ∙ is.start.leaves bits
 
-  step_as : (state : ℕ) → state < length made.states → Implies ((widened_findings made own).steps state) ((widened_findings content places).steps state)
+  pub step_as : (state : ℕ) → state < length made.states → Implies ((widened_findings made own).steps state) ((widened_findings content places).steps state)
   step_as state within bits number right =
       let counted = is.long in
       let held = slice_get-held made.states state within in
@@ -294,14 +293,6 @@ module _ (content made : Content Sign) (places : List ℕ) (made_is : IsAutomato
         (was.0, there.0, (was.2.0, λ bits. there.1 (below_from node.var was.2.0 bits) (leaf_of needs.nodes (end_at node bits) bits) (was.2.1 bits)));
     many = (let counted = is.long in let most = needs.many in omega (arith, most, counted));
   }
-
--- so a refusal of what was renamed is one of the renaming
-pub refused_renamed : (content made : Content Sign) (places : List ℕ) (limit : ℕ) (result : Result (Content Sign) StepFault) → IsAutomaton made → IsRenamedBy places content made
-    → OnRefused result (λ refused. (refused ≡ limit) × NeedsAtLeast limit made (places_among made.variables made.variables))
-    → OnRefused result (λ refused. (refused ≡ limit) × NeedsAtLeast limit content places)
-refused_renamed content made places limit (Ok done) made_is is cause = tt
-refused_renamed content made places limit (Err Memory) made_is is cause = tt
-refused_renamed content made places limit (Err (Nodes refused)) made_is is cause = (cause.0, NeedsAtLeast-renamed content made places made_is is limit cause.1)
 
 -- what has the signs of a content has its values, where there is an answer
 pub values_same : (meaning : Meaning) (content : Content Sign) (result : Result (Content Sign) StepFault) → IfOk result (λ made. made.mode ≡ content.mode)

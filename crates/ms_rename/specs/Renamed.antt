@@ -9,6 +9,7 @@ use Rattle.ms_dfa.specs.Values.{Meaning}
 use Rattle.ms_dfa_explore.specs.Explored.{Origin, IsFound, target_of}
 use Rattle.ms_arena.specs.Target.{IsNeeded}
 use Rattle.ms_dfa_explore.specs.Tracks.{distinct, place_of, places_among}
+use Rattle.ms_product.specs.Pairing.{Operands}
 use Rattle.ms_product.specs.Widened.{widened_findings}
 
 -- the variables, each with the number that the map has for it
@@ -54,3 +55,7 @@ pub record NeedsAtLeast (count : ℕ) (content : Content Sign) (places : List �
       (place : ℕ) (node : Node) → slice_get nodes place ≡ Some node
       → (origin : Origin) × IsFound (widened_findings content places) origin × IsNeeded nodes (target_of (widened_findings content places) origin) node
   pub many : count ≤ length nodes + length content.states
+
+-- an automaton beside itself, with its variables read at other places
+abbrev pub beside_itself : Content Sign → List ℕ → Operands
+beside_itself content places = record { left = content; left_map = places; right = content; right_map = places }

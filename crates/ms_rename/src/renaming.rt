@@ -5,10 +5,12 @@ ghost use Rattle.ms_dfa_explore.specs.Explored.{OnRefused};
 ghost use Rattle.ms_dfa_explore.specs.Tracks.{distinct};
 ghost use Rattle.ms_basic.specs.Operands.{HaveOneOrder};
 ghost use Rattle.ms_rename.specs.inner.Image.{IsRenamedBy, with_image};
-ghost use Rattle.ms_rename.specs.Renamed.{HasPartsOf, NeedsAtLeast, Rises, renamed, renamed_meaning, renamed_places};
+ghost use Rattle.ms_product.specs.Pairing.{ReachedAreAtLeast};
+ghost use Rattle.ms_product.specs.declared.op.Op.TheVariants.{And};
+ghost use Rattle.ms_rename.specs.Renamed.{HasPartsOf, NeedsAtLeast, Rises, beside_itself, renamed, renamed_meaning, renamed_places};
 
 use crate::images::{image, images};
-use crate::needed::compact;
+use crate::needed::{compact, reached};
 use crate::tracks;
 use ms_arena::Ref;
 use ms_dfa::{Automaton, State};
@@ -112,6 +114,7 @@ pub fn rename(alloc: Global, a: &Automaton, map: &[u32], limit: u64) -> Result<A
     ensures only_memory { Rises map.now → OnRefused result (λ refused. ⊥) }
     ensures within { (Rises map.now → length a.now.nodes + length a.now.states ≤ limit) → IfOk result (λ made. length made.nodes + length made.states ≤ limit) }
     ensures nodes { OnRefused result (λ refused. (refused ≡ limit) × NeedsAtLeast limit a.now (renamed_places map.now a.now.variables)) }
+    ensures reached_nodes { OnRefused result (λ refused. ReachedAreAtLeast limit And (beside_itself a.now (renamed_places map.now a.now.variables))) }
 {
     if rises(map) {
         return match renamed_in_order(alloc, a, map) {
@@ -125,5 +128,10 @@ pub fn rename(alloc: Global, a: &Automaton, map: &[u32], limit: u64) -> Result<A
         return Err(StepFault::Memory);
     };
     let _ = scattered.states();
-    compact(alloc, &scattered, limit)
+    match compact(alloc, &scattered, limit) {
+        Ok(made) => Ok(made),
+        Err(StepFault::Memory) => Err(StepFault::Memory),
+        // States that nothing reaches may have taken the nodes.
+        Err(StepFault::Nodes { .. }) => reached(alloc, &scattered, limit),
+    }
 }

@@ -17,6 +17,7 @@ use Rattle.ms_logic_starts.specs.inner.Ranks.{bits_before, rank}
 use Rattle.ms_logic_starts.proofs.RankLemmas.{bit_before, given_at, length-bits_before, own_bits, rank_below_all, rank_grows}
 use Rattle.ms_logic_words.specs.Content.{AreLetters, IsWordOver, count_of, is_in_letters, is_truth_value}
 use Rattle.ms_rename_parts.proofs.Arranged.{IsArranged, IsCut}
+use Rattle.ms_rename_parts.proofs.Cuts.{cut_at}
 
 module _ (has_bit : Order → Bool) (all : List Variable) where
   -- the bits for some variables are as many as these have
@@ -81,39 +82,9 @@ module _ (ws order : List Variable) (places : List ℕ) (own : HaveDistinctNumbe
   pub word_over : (word : Word) → IsWordOver order (narrowed ws word order)
   word_over word = record { truth = length-bits_for is_truth_value ws word.truth order; letters = letters_over word.letters }
 
-  -- one place more
-  next_low : (var bound level : ℕ) → bound < length order → IsCut arranged.read_at var bound level → arranged.read_at bound < var → IsCut arranged.read_at var (suc bound) (suc bound)
-  next_low var bound level less is low = record {
-    within = omega arith;
-    below = λ at few under. ⊎_elim
-        (λ before. let up = arranged.rises at bound before less in omega (arith, up, low))
-        (λ last. let same : at ≡ bound = omega (arith, few, last) in rw same low)
-        (cases_lt at bound);
-    above = λ at few over. absurd (omega (arith, few, over));
-  }
-
-  next_high : (var bound level : ℕ) → IsCut arranged.read_at var bound level → var ≤ arranged.read_at bound → IsCut arranged.read_at var (suc bound) level
-  next_high var bound level is high = record {
-    within = (let few = is.within in omega (arith, few));
-    below = λ at few under. (let within = is.within in is.below at (omega (arith, under, within)) under);
-    above = λ at few over. ⊎_elim
-        (λ before. is.above at before over)
-        (λ last. let same : at ≡ bound = omega (arith, few, last) in rw same high)
-        (cases_lt at bound);
-  }
-
-  cut_at : (var bound : ℕ) → bound ≤ length order → (level : ℕ) × IsCut arranged.read_at var bound level
-  cut_at var zero few = (0, record { within = omega arith; below = λ at less under. absurd (omega (arith, less)); above = λ at less over. absurd (omega (arith, less)) })
-  cut_at var (suc bound) few =
-      let before = cut_at var bound (omega (arith, few)) in
-      ⊎_elim
-      (λ low. (suc bound, next_low var bound before.0 (omega (arith, few)) before.1 low))
-      (λ high. (before.0, next_high var bound before.0 before.1 high))
-      (cases_lt (arranged.read_at bound) var)
-
   module _ (has_bit : Order → Bool) (var : ℕ) (first : Bits) where
     cut : (level : ℕ) × IsCut arranged.read_at var (length order) level
-    cut = cut_at var (length order) (omega arith)
+    cut = cut_at arranged.read_at (length order) arranged.rises var (length order) (omega arith)
 
     -- the first bits of the variables that are read below a variable, in the order
     pub values : List Bool

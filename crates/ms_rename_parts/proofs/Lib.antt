@@ -1,5 +1,6 @@
 pub mod Arranged
 pub mod Arrangement
+pub mod Cuts
 pub mod Firsts
 pub mod Names
 pub mod RenameParts

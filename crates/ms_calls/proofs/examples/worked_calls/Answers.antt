@@ -4,7 +4,7 @@ use Rattle.ms_logic.specs.inner.Examples.{variable}
 use Rattle.ms_logic_words.specs.declared.sign.Sign.TheVariants.{Yes}
 use Rattle.ms_project.specs.inner.Examples.{everywhere}
 use Rattle.ms_calls.proofs.ProjectionLemmas.{always_range}
-use Rattle.ms_calls.proofs.ExampleCalls.{apart, first, needs_one, no_five, second, stands, swapped}
+use Rattle.ms_calls.proofs.ExampleCalls.{apart, first, needs_one, no_five, second, stands, swapped, turned}
 use Rattle.ms_calls.proofs.examples.worked_calls.Goals as goal
 
 pub returns-clause-first : goal.returns-clause-first
@@ -36,3 +36,6 @@ returns-clause-no_range c = λ is. is.for_body.among (variable 7 Two) (inl refl)
 
 pub returns-clause-no_body : goal.returns-clause-no_body
 returns-clause-no_body c = λ is. is.among
+
+pub returns-clause-turned : goal.returns-clause-turned
+returns-clause-turned c = turned
