@@ -5,42 +5,39 @@ use Rattle.indexmap.specs.IndexMap.{get_by_text}
 use Rattle.ms_text.specs.TokenList.{Lexed}
 use Rattle.ms_ltlf.specs.Tree.{depth}
 use Rattle.ms_ltlf_parse.specs.Grammar.{Names}
-use Rattle.ms_ltlf_parse.specs.Reading.{place, with_name, with_sight, first_sights}
-use Rattle.ms_ltlf_parse.specs.Symbol.{Symbol}
+use Rattle.ms_ltlf_parse.specs.Reading.{CanFollow, place, with_name, with_sight, first_sights}
+use Rattle.ms_ltlf_parse.specs.Symbol.{Symbol, symbol_of}
 use Rattle.ms_ltlf_parse.specs.declared.read.Reader.{Reader}
 use Rattle.ms_ltlf_parse.specs.declared.sights.Sights.{Sights}
 use Rattle.ms_ltlf_parse.specs.declared.state.Begun.{Begun}
 use Rattle.ms_ltlf_parse.specs.declared.state.Outcome.{Outcome}
 use Rattle.ms_ltlf_parse.specs.declared.state.Outcome.TheVariants.{Wanted, Holding, Done}
-use Rattle.ms_ltlf_parse.specs.declared.stop.Stop.{Stop}
-use Rattle.ms_ltlf_parse.specs.declared.stop.Stop.TheVariants.{Memory, Misplaced, TooDeep}
+use Rattle.ms_parse_stack.specs.declared.stop.Stop.{Stop}
+use Rattle.ms_parse_stack.specs.declared.stop.Stop.TheVariants.{Memory, Misplaced, TooDeep}
 use Rattle.ms_ltlf_parse.specs.inner.Machine.{GoesOn, step, shortest}
-use Rattle.ms_ltlf_parse.specs.inner.Reached.{reached, front, HasCome, HasBegun, StopsAt}
+use Rattle.ms_ltlf_parse.specs.inner.Reached.{reached, front, HasCome, StopsAt}
 use Rattle.ms_ltlf_parse.specs.inner.Sights.{IsTable}
 use Rattle.ms_ltlf_parse.specs.inner.States.{ComesTo, state_of}
 use Rattle.ms_ltlf_parse.proofs.Names.{few_first_sights, place-with_name, with_sights-append}
-use Rattle.ms_ltlf_parse.proofs.Readings.{reached-append}
-use Rattle.ms_ltlf_parse.proofs.Tokens.{length-symbols_of}
+use Rattle.ms_ltlf_parse.proofs.Readings.{follows, follows_deeper, goes_on, is_shallow, reached-append}
+use Rattle.ms_parse_stack.proofs.Tokens.{length-symbols_of}
 
 goes_on_here : (begun : Begun) (outcome : Outcome) → GoesOn (state_of begun outcome)
 goes_on_here begun Wanted = tt
 goes_on_here begun (Holding operand) = tt
 goes_on_here begun (Done operand) = tt
 
-pub has_begun : (lexed : Lexed) (i : ℕ) (reader : Reader) (outcome : Outcome) → HasCome lexed i reader outcome → HasBegun lexed i
-has_begun lexed i reader outcome h =
+pub can_follow : (lexed : Lexed) (i : ℕ) (reader : Reader) (outcome : Outcome) → HasCome lexed i reader outcome → CanFollow (front lexed i)
+can_follow lexed i reader outcome h =
     let deep = ap (λ s. depth (shortest s)) h.state in
-    record {
-      goes_on = subst GoesOn (sym h.state) (goes_on_here reader.begun outcome);
-      shallow = omega (arith, deep, h.measured.measured, h.measured.shallow);
-    }
+    follows (front lexed i) (subst GoesOn (sym h.state) (goes_on_here reader.begun outcome)) (omega (arith, deep, h.measured.measured, h.measured.shallow))
 
 -- no more names than tokens
 pub few_names : (lexed : Lexed) (i : ℕ) (reader : Reader) (outcome : Outcome) → HasCome lexed i reader outcome → length reader.sights.names ≤ i
 few_names lexed i reader outcome h =
     let few = few_first_sights (front lexed i) in
     let long = ap length h.names in
-    omega (arith, few, long, length-symbols_of lexed (take i lexed.tokens), length-take i lexed.tokens)
+    omega (arith, few, long, length-symbols_of symbol_of lexed (take i lexed.tokens), length-take i lexed.tokens)
 
 pub names_next : (before : List Symbol) (x : Symbol) → first_sights (before ++ x ∷ []) ≡ with_sight (first_sights before) x
 names_next before x = with_sights-append [] before (x ∷ [])
@@ -63,13 +60,13 @@ pub come_ok : (lexed : Lexed) (i : ℕ) (sights : Sights) (begun : Begun) (r : R
 come_ok lexed i sights begun (Ok next) names table comes = record { names = names; table = table; state = comes.0; measured = comes.1 }
 come_ok lexed i sights begun (Err stop) names table comes = tt
 
-pub come_err : (lexed : Lexed) (i : ℕ) (begun : Begun) (r : Result Outcome Stop) → HasBegun lexed i → ComesTo (reached (front lexed (i + 1))) begun r → IfErr r (StopsAt lexed i)
+pub come_err : (lexed : Lexed) (i : ℕ) (begun : Begun) (r : Result Outcome Stop) → CanFollow (front lexed i) → ComesTo (reached (front lexed (i + 1))) begun r → IfErr r (StopsAt lexed i)
 come_err lexed i begun (Ok next) h comes = tt
 come_err lexed i begun (Err Memory) h comes = tt
-come_err lexed i begun (Err Misplaced) h comes = (h, comes)
-come_err lexed i begun (Err TooDeep) h comes = (h, comes.0, comes.1)
+come_err lexed i begun (Err Misplaced) h comes = (h, λ any. subst GoesOn comes (goes_on (front lexed (i + 1)) any))
+come_err lexed i begun (Err TooDeep) h comes = (h, λ any. omega (arith, is_shallow (front lexed (i + 1)) any, comes.1), follows_deeper (front lexed (i + 1)) comes.0)
 
 -- the number of a name is its place
-pub number_is_place : (r : Result ℕ Stop) (old new : Names) (n slice : List ℕ) (T : Type 0) → IfOk r (λ number. number ≡ place old n) → OnOk r (new ≡ with_name old n) → n ≡ slice → IfOk r (λ number. T → place new slice ≡ number)
+pub number_is_place : {E : Type 0} (r : Result ℕ E) (old new : Names) (n slice : List ℕ) (T : Type 0) → IfOk r (λ number. number ≡ place old n) → OnOk r (new ≡ with_name old n) → n ≡ slice → IfOk r (λ number. T → place new slice ≡ number)
 number_is_place (Ok number) old new n slice T is names same = λ t. ap (place new) (sym same) ∙ ap (λ y. place y n) names ∙ place-with_name old n ∙ sym is
 number_is_place (Err stop) old new n slice T is names same = tt

@@ -12,7 +12,7 @@ use Rattle.ms_ltlf_parse.specs.declared.operator.Prefix.{Prefix}
 use Rattle.ms_ltlf_parse.specs.declared.operator.Prefix.TheVariants.{Negation, Next, WeakNext, Eventually, Always}
 use Rattle.ms_ltlf_parse.specs.inner.Machine.{Frame, in_brackets, behind_prefix, behind_infix, behind_joining, filled, settled, yields, with_last, one, prefixed, binary, joined, State, wanted, holding, done, infixed, linked, closed, ended, behind, step, run, start}
 use Rattle.ms_ltlf_parse.proofs.Fitting.{hole_of, level-prefixed, level-binary, level-joined, infix_rests, joining_rests, link_begins, link_further, level_right, level_left}
-use Rattle.ms_ltlf_parse.proofs.Settling.{settled-pop, settled-stay, settled-rests}
+use Rattle.ms_parse_stack.proofs.Settling.{settled-pop, settled-stay, settled-rests}
 
 pub run-append : (number : List ℕ → ℕ) (s : State) (xs ys : List Symbol) → run number s (xs ++ ys) ≡ run number (run number s xs) ys
 run-append number s [] ys = refl
@@ -39,7 +39,7 @@ holds_filled frame frames f whole s same ends h = record {
   operand = h.operand;
   is = h.is;
   settles = λ least enough.
-      h.settles least (ends least enough).1 ∙ settled-pop least frame frames f (ends least enough).0 ∙ ap (settled least frames) same;
+      h.settles least (ends least enough).1 ∙ settled-pop filled (yields least) frame frames f (ends least enough).0 ∙ ap (settled least frames) same;
 }
 
 holds_prefixed : (number : List ℕ → ℕ) (op : Prefix) (frames : List Frame) (f : Temporal) (s : State) → prefix_level ≤ level f → Holds (behind_prefix op ∷ frames) f s → Holds frames (prefixed op f) s
@@ -53,7 +53,7 @@ holds_prefixed number op frames f s enough h =
 left_read : (number : List ℕ → ℕ) (op : Binary) (frames : List Frame) (f : Temporal) (s : State) → left_level op ≤ level f → hole_of frames ≤ binary_level op → Holds frames f s
     → step number s (infix_operator op) ≡ wanted (behind_infix op f ∷ frames)
 left_read number op frames f s enough fits h =
-    found frames f s (left_level op) (infixed op) h enough ∙ ap (infixed op) (settled-rests (left_level op) frames f (infix_rests op frames fits))
+    found frames f s (left_level op) (infixed op) h enough ∙ ap (infixed op) (settled-rests filled (yields (left_level op)) frames f (infix_rests op frames fits))
 
 holds_binary : (op : Binary) (frames : List Frame) (f g : Temporal) (s : State) → right_level op ≤ level g → Holds (behind_infix op f ∷ frames) g s → Holds frames (binary op f g) s
 holds_binary op frames f g s enough h =
@@ -70,7 +70,7 @@ record IsList (number : List ℕ → ℕ) (op : Junction) (frames : List Frame) 
 list_begun : (number : List ℕ → ℕ) (op : Junction) (frames : List Frame) (f : Temporal) (s : State) → suc (junction_level op) ≤ level f → hole_of frames ≤ junction_level op → Holds frames f s → IsList number op frames (one f) s
 list_begun number op frames f s enough fits h = record {
   goes =
-      found frames f s (suc (junction_level op)) (linked op) h enough ∙ ap (linked op) (settled-rests (suc (junction_level op)) frames f (joining_rests op frames fits))
+      found frames f s (suc (junction_level op)) (linked op) h enough ∙ ap (linked op) (settled-rests filled (yields (suc (junction_level op))) frames f (joining_rests op frames fits))
       ∙ ap wanted (link_begins op f frames fits);
   ends = λ two. absurd two;
 }
@@ -80,7 +80,7 @@ list_further : (number : List ℕ → ℕ) (op : Junction) (frames : List Frame)
 list_further number op frames fs f s enough h = record {
   goes =
       found (behind_joining op fs ∷ frames) f s (suc (junction_level op)) (linked op) h enough
-      ∙ ap (linked op) (settled-stay (suc (junction_level op)) (behind_joining op fs) frames f (lt-leb (suc (junction_level op)) (junction_level op) (omega arith)))
+      ∙ ap (linked op) (settled-stay filled (yields (suc (junction_level op))) (behind_joining op fs) frames f (lt-leb (suc (junction_level op)) (junction_level op) (omega arith)))
       ∙ ap wanted (link_further op f fs frames);
   ends = λ two. holds_filled (behind_joining op fs) frames f (joined op (with_last fs f)) s refl (λ least wide.
       let small : least ≤ junction_level op = omega (arith, wide, level-joined op (with_last fs f)) in

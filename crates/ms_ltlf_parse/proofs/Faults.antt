@@ -1,6 +1,8 @@
 -- What is refused, and that it reads as no formula.
-use Rattle.std.proofs.Common.{◌≡◌, ℕ, suc, ◌+◌, ◌<◌, ◌≤◌, length, take, drop, slice_get, Some, refl, sym, ap, ◌∙◌, subst, inl, inr, arith}
-use Rattle.ms_edge.specs.declared.refusal.Refusal.TheVariants.{Grammar, Depth}
+use Rattle.std.proofs.Common.{◌≡◌, ◌⊎◌, ℕ, suc, ◌+◌, ◌<◌, ◌≤◌, length, drop, slice_get, Some, refl, sym, ap, ◌∙◌, subst, inl, inr, arith}
+use Rattle.std.specs.Prelude.{IfSome}
+use Rattle.ms_edge.specs.declared.refusal.Refusal.{Refusal}
+use Rattle.ms_edge.specs.declared.refusal.Refusal.TheVariants as refusals
 use Rattle.ms_text.specs.TokenList.{Lexed}
 use Rattle.ms_text.specs.declared.token.Token.{Token}
 use Rattle.ms_ltlf.specs.Tree.{Temporal, depth}
@@ -9,51 +11,50 @@ use Rattle.ms_ltlf.specs.declared.trace.Trace.{Trace}
 use Rattle.ms_ltlf_parse.specs.Grammar.{Names}
 use Rattle.ms_ltlf_parse.specs.Reading.{Reads, ReadsAsTrace, CanFollow, CanFollowAtAnyDepth, first_sights, greatest_depth}
 use Rattle.ms_ltlf_parse.specs.Refused.{IsTraceFault}
-use Rattle.ms_ltlf_parse.specs.Symbol.{symbols, symbols_of}
+use Rattle.ms_ltlf_parse.specs.Symbol.{symbol_of, symbols}
 use Rattle.ms_ltlf_parse.specs.inner.Machine.{State, wanted, holding, done, stopped, GoesOn, shortest}
-use Rattle.ms_ltlf_parse.specs.inner.Reached.{reached, front, HasBegun}
+use Rattle.ms_ltlf_parse.specs.inner.Reached.{reached, front, StopsAt}
 use Rattle.ms_ltlf_parse.proofs.Names.{AreDifferent, different_first_sights, few_first_sights}
-use Rattle.ms_ltlf_parse.proofs.Readings.{follows, follows_deeper, goes_on, is_shallow, reached-whole, reads_done}
-use Rattle.ms_ltlf_parse.proofs.Tokens.{length-symbols_of, taken_next, split_at, symbols-split}
+use Rattle.ms_ltlf_parse.proofs.Readings.{follows, reached-whole, reads_done}
+use Rattle.ms_parse_stack.proofs.Faults.{misplaced, token_there, too_deep}
+use Rattle.ms_parse_stack.proofs.Tokens.{length-symbols_of, of_token, symbols-split}
+use Rattle.ms_parse_stack.specs.Refused.{refusal_of}
+use Rattle.ms_parse_stack.specs.Symbols as texts
+use Rattle.ms_parse_stack.specs.declared.stop.Stop.{Stop}
+use Rattle.ms_parse_stack.specs.declared.stop.Stop.TheVariants.{Memory, Misplaced, TooDeep}
 
 -- what the text reads as goes on behind its first tokens
 front_follows : (lexed : Lexed) (i : ℕ) (token : Token) → slice_get lexed.tokens i ≡ Some token → (names : Names) (f : Temporal) → Reads (symbols lexed) names f → CanFollow (front lexed (i + 1))
-front_follows lexed i token found names f reads =
-    (symbols_of lexed (drop (suc i) lexed.tokens), names, f, subst (λ x. Reads x names f) (symbols-split lexed i token found) reads)
+front_follows lexed i token found names f reads = (texts.symbols_of symbol_of lexed (drop (suc i) lexed.tokens), names, f, subst (λ x. Reads x names f) (symbols-split symbol_of lexed i token found) reads)
 
-pub is_misplaced : (file : ℕ) (lexed : Lexed) (i : ℕ) (token : Token) → slice_get lexed.tokens i ≡ Some token → HasBegun lexed i → reached (front lexed (i + 1)) ≡ stopped
-    → IsTraceFault file lexed (Grammar (record { file = file; place = token.place }))
-is_misplaced file lexed i token found h stuck =
-    let none : CanFollowAtAnyDepth (front lexed (i + 1)) → ⊥ = λ any. subst GoesOn stuck (goes_on (front lexed (i + 1)) any) in
-    record {
-      reads_none = λ names f reads.
-          let follow = front_follows lexed i token found names f reads in
-          none (follow.0, follow.1, follow.2, follow.3.read);
-      names = inr (record {
-        before = take i lexed.tokens;
-        token = token;
-        stands = record { after = drop (suc i) lexed.tokens; stands = split_at lexed.tokens i token found; is_place = refl };
-        can_follow = follows (front lexed i) h.goes_on h.shallow;
-        cannot_follow = subst (λ x. CanFollowAtAnyDepth (symbols_of lexed x) → ⊥) (taken_next lexed.tokens i token found) none;
-      });
-    }
+pub is_misplaced : (file : ℕ) (lexed : Lexed) (i : ℕ) (token : Token) → slice_get lexed.tokens i ≡ Some token → StopsAt lexed i Misplaced
+    → IsTraceFault file lexed (refusals.Grammar (record { file = file; place = token.place }))
+is_misplaced file lexed i token found stops = record {
+  reads_none = λ names f reads.
+      let on = front_follows lexed i token found names f reads in
+      stops.1 (on.0, on.1, on.2, on.3.read);
+  names = inr (misplaced symbol_of CanFollow CanFollowAtAnyDepth file lexed i token found stops);
+}
 
-pub is_too_deep : (file : ℕ) (lexed : Lexed) (i : ℕ) (token : Token) → slice_get lexed.tokens i ≡ Some token → HasBegun lexed i → GoesOn (reached (front lexed (i + 1)))
-    → greatest_depth < depth (shortest (reached (front lexed (i + 1)))) → IsTraceFault file lexed (Depth (record { file = file; place = token.place }))
-is_too_deep file lexed i token found h on deep =
-    let none : CanFollow (front lexed (i + 1)) → ⊥ = λ any. omega (arith, is_shallow (front lexed (i + 1)) any, deep) in
-    let next = taken_next lexed.tokens i token found in
-    record {
-      reads_none = λ names f reads. none (front_follows lexed i token found names f reads);
-      names = record {
-        before = take i lexed.tokens;
-        token = token;
-        stands = record { after = drop (suc i) lexed.tokens; stands = split_at lexed.tokens i token found; is_place = refl };
-        can_follow = follows (front lexed i) h.goes_on h.shallow;
-        cannot_follow = subst (λ x. CanFollow (symbols_of lexed x) → ⊥) next none;
-        can_follow_deeper = subst (λ x. CanFollowAtAnyDepth (symbols_of lexed x)) next (follows_deeper (front lexed (i + 1)) on);
-      };
-    }
+pub is_too_deep : (file : ℕ) (lexed : Lexed) (i : ℕ) (token : Token) → slice_get lexed.tokens i ≡ Some token → StopsAt lexed i TooDeep
+    → IsTraceFault file lexed (refusals.Depth (record { file = file; place = token.place }))
+is_too_deep file lexed i token found stops = record {
+  reads_none = λ names f reads. stops.1 (front_follows lexed i token found names f reads);
+  names = too_deep symbol_of CanFollow CanFollowAtAnyDepth file lexed i token found stops;
+}
+
+fault_at : (file : ℕ) (lexed : Lexed) (i : ℕ) (token : Token) (stop : Stop) → slice_get lexed.tokens i ≡ Some token → StopsAt lexed i stop
+    → (refusal_of stop (record { file = file; place = token.place }) ≡ refusals.Memory) ⊎ IsTraceFault file lexed (refusal_of stop (record { file = file; place = token.place }))
+fault_at file lexed i token Memory found stops = inl refl
+fault_at file lexed i token Misplaced found stops = inr (is_misplaced file lexed i token found stops)
+fault_at file lexed i token TooDeep found stops = inr (is_too_deep file lexed i token found stops)
+
+-- what is refused where the reading stops at the token with this number
+pub refused : (file : ℕ) (lexed : Lexed) (i : ℕ) (stop : Stop) (refusal : Refusal) → i < length lexed.tokens → StopsAt lexed i stop
+    → IfSome (slice_get lexed.tokens i) (λ token. refusal ≡ refusal_of stop (record { file = file; place = token.place })) → (refusal ≡ refusals.Memory) ⊎ IsTraceFault file lexed refusal
+refused file lexed i stop refusal inside stops is =
+    let (token, found) = token_there lexed i inside in
+    subst (λ r. (r ≡ refusals.Memory) ⊎ IsTraceFault file lexed r) (sym (of_token lexed.tokens i token _ found is)) (fault_at file lexed i token stop found stops)
 
 -- the formula has no end yet
 abbrev pub IsOpen : State → Type 0
@@ -69,7 +70,7 @@ on_open (done f) h = tt
 on_open stopped h = h
 
 pub ends_early : (file : ℕ) (lexed : Lexed) (s : State) → reached (symbols lexed) ≡ s → IsOpen s → depth (shortest s) ≤ greatest_depth
-    → IsTraceFault file lexed (Grammar (record { file = file; place = length lexed.bytes }))
+    → IsTraceFault file lexed (refusals.Grammar (record { file = file; place = length lexed.bytes }))
 ends_early file lexed s is open_yet shallow = record {
   reads_none = λ names f reads. subst IsOpen (sym is ∙ reached-whole (symbols lexed) names f reads.read) open_yet;
   names = inl (record {
@@ -87,7 +88,7 @@ trace_read lexed trace is names shallow =
 pub trace_well_formed : (lexed : Lexed) (trace : Trace) → ReadsAsTrace lexed trace → length lexed.tokens ≤ 67108864 → IsWellFormed trace
 trace_well_formed lexed trace reads few = record {
   different = subst AreDifferent (sym reads.read.numbered) (different_first_sights (symbols lexed));
-  few = omega (arith, few_first_sights (symbols lexed), ap length reads.read.numbered, length-symbols_of lexed lexed.tokens);
+  few = omega (arith, few_first_sights (symbols lexed), ap length reads.read.numbered, length-symbols_of symbol_of lexed lexed.tokens);
   named = reads.read.named;
   shallow = reads.shallow;
 }

@@ -1,5 +1,6 @@
 -- How the levels of frames and of symbols fit together.
-use Rattle.std.proofs.Common.{◌≡◌, ℕ, suc, ◌≤◌, ◌⊎◌, false, List, [], ◌∷◌, refl, inl, inr, arith}
+use Rattle.std.proofs.Common.{◌≡◌, ℕ, suc, ◌≤◌, ◌⊎◌, List, [], ◌∷◌, refl, inl, inr, arith}
+use Rattle.ms_parse_stack.specs.inner.Settled as stacks
 use Rattle.ms_ltlf.specs.Tree.{Temporal, Temporals}
 use Rattle.ms_ltlf_parse.specs.Grammar.{binary_level, left_level, right_level, junction_level, prefix_level, level}
 use Rattle.ms_ltlf_parse.specs.declared.operator.Binary.{Binary}
@@ -17,8 +18,7 @@ hole_of (frame ∷ frames) = hole frame
 
 -- the frame on top does not end before a symbol that wants this level on its left
 abbrev pub rests : ℕ → List Frame → Type 0
-rests least [] = Unit {0}
-rests least (frame ∷ frames) = yields least frame ≡ false
+rests least frames = stacks.rests (yields least) frames
 
 pub level-prefixed : (op : Prefix) (f : Temporal) → level (prefixed op f) ≡ prefix_level
 level-prefixed Negation f = refl

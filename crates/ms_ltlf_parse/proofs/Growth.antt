@@ -5,10 +5,11 @@ use Rattle.ms_ltlf_parse.specs.Grammar.{left_level, junction_level}
 use Rattle.ms_ltlf_parse.specs.Symbol.{Symbol, name, word_true, word_false, prefix_operator, infix_operator, joining, open_bracket, close_bracket, semicolon, other}
 use Rattle.ms_ltlf_parse.specs.declared.operator.Binary.{Binary}
 use Rattle.ms_ltlf_parse.specs.declared.operator.Junction.{Junction}
-use Rattle.ms_ltlf_parse.specs.inner.Machine.{Frame, in_brackets, behind_prefix, behind_infix, behind_joining, filled, plugged, settled, inside, link, with_last, one, State, wanted, holding, done, stopped, leaf, opened, infixed, linked, closed, ended, behind, step, run, shortest, GoesOn}
-use Rattle.ms_ltlf_parse.proofs.Depths.{depth-filled, depth-plugged-le, depth-with_last}
+use Rattle.ms_ltlf_parse.specs.inner.Machine.{Frame, in_brackets, behind_prefix, behind_infix, behind_joining, filled, plugged, settled, inside, link, with_last, one, State, wanted, holding, done, stopped, leaf, opened, infixed, linked, closed, ended, behind, step, run, shortest, GoesOn, yields}
+use Rattle.ms_parse_stack.proofs.Depths.{depth-plugged-le}
+use Rattle.ms_ltlf_parse.proofs.Depths.{depths, depth-filled, depth-with_last}
 use Rattle.ms_ltlf_parse.proofs.Fitting.{rests, link_cases}
-use Rattle.ms_ltlf_parse.proofs.Settling.{settled_by, plugged-settled}
+use Rattle.ms_parse_stack.proofs.Settling.{settled_by, plugged-settled}
 use Rattle.ms_ltlf_parse.proofs.Spellings.{run_on}
 
 -- the whole, with the operand in its place
@@ -16,7 +17,7 @@ abbrev pub whole : List Frame × Temporal → Temporal
 whole held = plugged held.0 held.1
 
 leaf_grows : (f : Temporal) (s : State) → 1 ≤ depth f → GoesOn (leaf f s) → depth (shortest s) ≤ depth (shortest (leaf f s))
-leaf_grows f (wanted frames) least on = depth-plugged-le frames truth f least
+leaf_grows f (wanted frames) least on = depth-plugged-le depths frames truth f least
 leaf_grows f (holding frames g) least on = absurd on
 leaf_grows f (done g) least on = absurd on
 leaf_grows f stopped least on = absurd on
@@ -25,7 +26,7 @@ leaf_grows f stopped least on = absurd on
 pub frame_grows : (frame : Frame) (frames : List Frame) (f : Temporal) → depth f ≤ suc (max (inside frame) 1) → depth (plugged frames f) ≤ depth (plugged (frame ∷ frames) truth)
 frame_grows frame frames f h =
     let more : depth f ≤ depth (filled frame truth) = omega (arith, depth-filled frame truth) in
-    depth-plugged-le frames f (filled frame truth) more
+    depth-plugged-le depths frames f (filled frame truth) more
 
 opened_grows : (frame : Frame) (s : State) → GoesOn (opened frame s) → depth (shortest s) ≤ depth (shortest (opened frame s))
 opened_grows frame (wanted frames) on =
@@ -40,8 +41,8 @@ behind_grows : (least : ℕ) (act : List Frame × Temporal → State) (s : State
 behind_grows least act (wanted frames) further on = absurd on
 behind_grows least act (holding frames f) further on =
     let P : List Frame × Temporal → Type 0 = λ held. Unit {0} in
-    let rest = (settled_by P least (λ frame below g e h. tt) frames f tt).1 in
-    subst (λ x. depth x ≤ depth (shortest (act (settled least frames f)))) (plugged-settled least frames f) (further (settled least frames f) rest on)
+    let rest = (settled_by filled (yields least) P (λ frame below g e h. tt) frames f tt).1 in
+    subst (λ x. depth x ≤ depth (shortest (act (settled least frames f)))) (plugged-settled filled (yields least) frames f) (further (settled least frames f) rest on)
 behind_grows least act (done g) further on = absurd on
 behind_grows least act stopped further on = absurd on
 
@@ -62,7 +63,7 @@ link_grows op f frames rest =
           let deeper : depth (filled frame f) ≤ depth (filled more truth) =
           omega (arith, depth-filled frame f, depth-filled more truth, depth-with_last further.operands f) in
           subst (λ x. depth (plugged frames f) ≤ depth (plugged x truth)) (sym further.is)
-          (subst (λ x. depth (plugged x f) ≤ depth (plugged (more ∷ further.below) truth)) (sym further.top) (depth-plugged-le further.below (filled frame f) (filled more truth) deeper))
+          (subst (λ x. depth (plugged x f) ≤ depth (plugged (more ∷ further.below) truth)) (sym further.top) (depth-plugged-le depths further.below (filled frame f) (filled more truth) deeper))
     ]
 
 linked_grows : (op : Junction) (held : List Frame × Temporal) → rests (suc (junction_level op)) held.0 → GoesOn (linked op held) → depth (whole held) ≤ depth (shortest (linked op held))

@@ -11,7 +11,7 @@ use Rattle.ms_ltlf_parse.specs.declared.operator.Prefix.{Prefix}
 use Rattle.ms_ltlf_parse.specs.declared.operator.Prefix.TheVariants.{Negation, Next, WeakNext, Eventually, Always}
 use Rattle.ms_ltlf_parse.specs.inner.Machine.{Frame, in_brackets, behind_prefix, behind_infix, behind_joining, hole, frame_level, filled, plugged, settled, yields, link, with_last, prefixed, binary, joined, State, wanted, holding, done, stopped, leaf, opened, infixed, linked, closed, ended, behind, step, shortest}
 use Rattle.ms_ltlf_parse.proofs.Fitting.{hole_of, rests, hole_small, infix_fits, link_cases, left_small, junction_small, prefix_fits}
-use Rattle.ms_ltlf_parse.proofs.Settling.{settled_by}
+use Rattle.ms_parse_stack.proofs.Settling.{settled_by}
 
 -- a grammatical formula over so many names, of at least this level
 pub record IsPart (count least : ℕ) (f : Temporal) : Type 0 where
@@ -125,7 +125,7 @@ ready_filled count least frame frames f e ready =
     }
 
 pub ready_settled : (count least : ℕ) (frames : List Frame) (f : Temporal) → IsReady count least (frames, f) → IsReady count least (settled least frames f) × rests least (settled least frames f).0
-ready_settled count least frames f ready = settled_by (IsReady count least) least (ready_filled count least) frames f ready
+ready_settled count least frames f ready = settled_by filled (yields least) (IsReady count least) (ready_filled count least) frames f ready
 
 -- the state's formulas are as the grammar asks
 abbrev pub IsSoundState : ℕ → State → Type 0

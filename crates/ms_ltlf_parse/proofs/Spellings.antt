@@ -11,7 +11,7 @@ use Rattle.ms_ltlf_parse.specs.declared.operator.Prefix.{Prefix}
 use Rattle.ms_ltlf_parse.specs.declared.operator.Prefix.TheVariants.{Negation, Next, WeakNext, Eventually, Always}
 use Rattle.ms_ltlf_parse.specs.inner.Machine.{Frame, in_brackets, behind_prefix, behind_infix, behind_joining, filled, plugged, settled, yields, link, with_last, prefixed, binary, joined, State, wanted, holding, done, stopped, leaf, opened, infixed, linked, closed, ended, behind, step, run, GoesOn}
 use Rattle.ms_ltlf_parse.proofs.Fitting.{rests, link_cases}
-use Rattle.ms_ltlf_parse.proofs.Settling.{settled_by}
+use Rattle.ms_parse_stack.proofs.Settling.{settled_by}
 use Rattle.ms_ltlf_parse.proofs.Soundness.{HasOne, IsSound, AreSound, IsSoundState, IsNamed, step_sound}
 
 -- the symbols of a frame before its hole, and behind it
@@ -131,7 +131,7 @@ behind_said : (count least : ℕ) (names : Names) (act : List Frame × Temporal 
 behind_said count least names act x (wanted frames) sound further on = absurd on
 behind_said count least names act x (holding frames f) sound further on =
     let whole = said_stack names frames ++ spelled names f in
-    let kept = settled_by (IsSaid count names whole) least (said_filled count least names whole) frames f (record { sound = sound.0; is = refl }) in
+    let kept = settled_by filled (yields least) (IsSaid count names whole) (said_filled count least names whole) frames f (record { sound = sound.0; is = refl }) in
     further (settled least frames f) kept.0.sound kept.1 on ∙ ap (λ y. y ++ x ∷ []) kept.0.is
 behind_said count least names act x (done g) sound further on = absurd on
 behind_said count least names act x stopped sound further on = absurd on

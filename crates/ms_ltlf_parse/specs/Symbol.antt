@@ -1,14 +1,14 @@
 -- The symbols of the grammar: what each token says, apart from blanks, comments and places. Words and marks that stand in the
 -- same places are grouped by what they stand for.
-use Rattle.std.specs.Prelude.{ℕ, List, map, codes, bytes_eq, if◌then◌else◌}
+use Rattle.std.specs.Prelude.{ℕ, List, codes, bytes_eq, if◌then◌else◌}
 use Rattle.ms_text.specs.declared.keyword.Keyword.{Keyword}
 use Rattle.ms_text.specs.declared.keyword.Keyword.TheVariants as words
 use Rattle.ms_text.specs.declared.mark.Mark.{Mark}
 use Rattle.ms_text.specs.declared.mark.Mark.TheVariants as marks
 use Rattle.ms_text.specs.declared.token.Kind.{Kind}
 use Rattle.ms_text.specs.declared.token.Kind.TheVariants as kinds
-use Rattle.ms_text.specs.declared.token.Token.{Token}
-use Rattle.ms_text.specs.TokenList.{Lexed, slice_of}
+use Rattle.ms_text.specs.TokenList.{Lexed}
+use Rattle.ms_parse_stack.specs.Symbols as texts
 use Rattle.ms_ltlf_parse.specs.declared.operator.Binary.{Binary}
 use Rattle.ms_ltlf_parse.specs.declared.operator.Binary.TheVariants.{Equivalence, Implication, Until, Release}
 use Rattle.ms_ltlf_parse.specs.declared.operator.Junction.{Junction}
@@ -69,10 +69,6 @@ symbol_of (kinds.Number n) slice = other
 symbol_of kinds.Text slice = other
 symbol_of (kinds.Mark m) slice = mark_symbol m
 
--- the symbols of some tokens of a text
-abbrev pub symbols_of : Lexed → List Token → List Symbol
-symbols_of lexed tokens = map (λ (token : Token). symbol_of token.kind (slice_of lexed token)) tokens
-
 -- the symbols of a text
 abbrev pub symbols : Lexed → List Symbol
-symbols lexed = symbols_of lexed lexed.tokens
+symbols lexed = texts.symbols symbol_of lexed

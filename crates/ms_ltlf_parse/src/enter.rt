@@ -11,24 +11,23 @@ use crate::link::{Link, link_of};
 use crate::operand::{Operand, Operands};
 use crate::operands::{first_operand, with_operand};
 use crate::operator::Junction;
-use crate::stack::{pop_frame, push_frame};
 use crate::state::{Begun, Outcome};
-use crate::stop::Stop;
 use ms_ltlf::Ltl;
+use ms_parse_stack::Stop;
 use std::alloc::Global;
 
 /// Puts a frame on the stack, unless the formula becomes too deep.
 pub fn enter(begun: &mut Begun, frame: Frame) -> Result<Outcome, Stop>
-    requires low { length (stack_of begun.old.frames.items) ≤ 300 }
+    requires low { length begun.old.frames ≤ 300 }
     requires shallow { begun.old.deepest ≤ 300 }
-    ensures { (f : Temporal) → begun.old.deepest ≡ depth (plugged (stack_of begun.old.frames.items) f) → depth f ≤ suc (max (inside (frame_of frame)) 1) →
-        ComesTo (wanted (frame_of frame ∷ stack_of begun.old.frames.items)) begun.new result }
+    ensures { (f : Temporal) → begun.old.deepest ≡ depth (plugged (stack_of begun.old.frames) f) → depth f ≤ suc (max (inside (frame_of frame)) 1) →
+        ComesTo (wanted (frame_of frame ∷ stack_of begun.old.frames)) begun.new result }
 {
     let depth = begun.frames.len() as u32 + 1 + inside(&frame).max(1);
     if depth > 300 {
         return Err(Stop::TooDeep);
     }
-    push_frame(&mut begun.frames, frame)?;
+    begun.frames.push(frame)?;
     begun.deepest = begun.deepest.max(depth);
     Ok(Outcome::Wanted)
 }
@@ -64,9 +63,9 @@ fn begin_list(
     op: Junction,
     operand: Operand,
 ) -> Result<Outcome, Stop>
-    requires measured { begun.old.deepest ≡ depth (plugged (stack_of begun.old.frames.items) (temporal_of operand.formula)) }
+    requires measured { begun.old.deepest ≡ depth (plugged (stack_of begun.old.frames) (temporal_of operand.formula)) }
     requires shallow { begun.old.deepest ≤ 300 }
-    ensures { ComesTo (wanted (behind_joining op (one (temporal_of operand.formula)) ∷ stack_of begun.old.frames.items)) begun.new result }
+    ensures { ComesTo (wanted (behind_joining op (one (temporal_of operand.formula)) ∷ stack_of begun.old.frames)) begun.new result }
 {
     let operands = first_operand(alloc, operand)?;
     enter(begun, Frame::Joining(op, operands))
@@ -78,9 +77,9 @@ fn go_further(
     operands: Operands,
     operand: Operand,
 ) -> Result<Outcome, Stop>
-    requires measured { begun.old.deepest ≡ depth (plugged (behind_joining op (temporals_of operands.list) ∷ stack_of begun.old.frames.items) (temporal_of operand.formula)) }
+    requires measured { begun.old.deepest ≡ depth (plugged (behind_joining op (temporals_of operands.list) ∷ stack_of begun.old.frames) (temporal_of operand.formula)) }
     requires shallow { begun.old.deepest ≤ 300 }
-    ensures { ComesTo (wanted (behind_joining op (with_last (temporals_of operands.list) (temporal_of operand.formula)) ∷ stack_of begun.old.frames.items)) begun.new result }
+    ensures { ComesTo (wanted (behind_joining op (with_last (temporals_of operands.list) (temporal_of operand.formula)) ∷ stack_of begun.old.frames)) begun.new result }
 {
     let operands = with_operand(operands, operand)?;
     enter(begun, Frame::Joining(op, operands))
@@ -93,17 +92,17 @@ pub fn join(
     op: Junction,
     operand: Operand,
 ) -> Result<Outcome, Stop>
-    requires measured { begun.old.deepest ≡ depth (plugged (stack_of begun.old.frames.items) (temporal_of operand.formula)) }
+    requires measured { begun.old.deepest ≡ depth (plugged (stack_of begun.old.frames) (temporal_of operand.formula)) }
     requires shallow { begun.old.deepest ≤ 300 }
-    ensures { ComesTo (linked op (stack_of begun.old.frames.items, temporal_of operand.formula)) begun.new result }
+    ensures { ComesTo (linked op (stack_of begun.old.frames, temporal_of operand.formula)) begun.new result }
 {
-    let Some(frame) = pop_frame(&mut begun.frames) else {
+    let Some(frame) = begun.frames.pop() else {
         return begin_list(alloc, begun, op, operand);
     };
     match link_of(op, frame) {
         Link::Further(operands) => go_further(begun, op, operands, operand),
         Link::Other(frame) => {
-            push_frame(&mut begun.frames, frame)?;
+            begun.frames.push(frame)?;
             begin_list(alloc, begun, op, operand)
         }
     }

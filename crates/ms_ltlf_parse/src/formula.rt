@@ -1,22 +1,18 @@
-ghost use Rattle.std.specs.Prelude.{◌≡◌, IfOk, IfErr};
+ghost use Rattle.std.specs.Prelude.{◌≡◌, IfOk};
 ghost use Rattle.ms_ltlf.specs.View.{temporal_of};
 ghost use Rattle.ms_ltlf_parse.specs.inner.Lists.{temporals_of};
 ghost use Rattle.ms_ltlf_parse.specs.inner.Machine.{binary, joined, prefixed};
-ghost use Rattle.ms_ltlf_parse.specs.declared.stop.Stop.TheVariants.{Memory};
 
-use crate::memory::boxed;
 use crate::operator::{Binary, Junction, Prefix};
-use crate::stop::Stop;
-use ms_list::List;
+use ms_list::{List, NoMemory, on_heap};
 use ms_ltlf::Ltl;
 use std::alloc::Global;
 
 /// An operator before its operand.
-pub fn prefixed(alloc: Global, op: Prefix, operand: Ltl) -> Result<Ltl, Stop>
-    ensures ok { IfOk result (λ made. temporal_of made ≡ prefixed op (temporal_of operand)) }
-    ensures err { IfErr result (λ stop. stop ≡ Memory) }
+pub fn prefixed(alloc: Global, op: Prefix, operand: Ltl) -> Result<Ltl, NoMemory>
+    ensures { IfOk result (λ made. temporal_of made ≡ prefixed op (temporal_of operand)) }
 {
-    let body = boxed(alloc, operand)?;
+    let body = on_heap(alloc, operand)?;
     match op {
         Prefix::Negation => Ok(Ltl::Not(body)),
         Prefix::Next => Ok(Ltl::Next(body)),
@@ -27,12 +23,11 @@ pub fn prefixed(alloc: Global, op: Prefix, operand: Ltl) -> Result<Ltl, Stop>
 }
 
 /// An operator between its operands.
-pub fn infixed(alloc: Global, op: Binary, left: Ltl, right: Ltl) -> Result<Ltl, Stop>
-    ensures ok { IfOk result (λ made. temporal_of made ≡ binary op (temporal_of left) (temporal_of right)) }
-    ensures err { IfErr result (λ stop. stop ≡ Memory) }
+pub fn infixed(alloc: Global, op: Binary, left: Ltl, right: Ltl) -> Result<Ltl, NoMemory>
+    ensures { IfOk result (λ made. temporal_of made ≡ binary op (temporal_of left) (temporal_of right)) }
 {
-    let left = boxed(alloc, left)?;
-    let right = boxed(alloc, right)?;
+    let left = on_heap(alloc, left)?;
+    let right = on_heap(alloc, right)?;
     match op {
         Binary::Equivalence => Ok(Ltl::Iff(left, right)),
         Binary::Implication => Ok(Ltl::Implies(left, right)),

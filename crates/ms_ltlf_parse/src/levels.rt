@@ -1,4 +1,4 @@
-ghost use Rattle.std.specs.Prelude.{◌≡◌, ◌≤◌};
+ghost use Rattle.std.specs.Prelude.{◌≡◌, ◌≤◌, suc};
 ghost use Rattle.ms_ltlf_parse.specs.Grammar.{binary_level, junction_level, left_level};
 ghost use Rattle.ms_ltlf_parse.specs.inner.Machine.{inside, yields};
 ghost use Rattle.ms_ltlf_parse.specs.inner.States.{frame_of};
@@ -29,7 +29,7 @@ pub fn left_level(op: Binary) -> u32
     }
 }
 
-pub fn junction_level(op: Junction) -> u32
+fn junction_level(op: Junction) -> u32
     ensures level { result ≡ junction_level op }
     ensures bound { result ≤ 3 }
 {
@@ -37,6 +37,13 @@ pub fn junction_level(op: Junction) -> u32
         Junction::Conjunction => 3,
         Junction::Disjunction => 2,
     }
+}
+
+/// The least level of an operand.
+pub fn operand_level(op: Junction) -> u32
+    ensures { result ≡ suc (junction_level op) }
+{
+    junction_level(op) + 1
 }
 
 /// Whether what has been begun ends before a symbol that wants a left operand of this level.

@@ -9,16 +9,14 @@ mod frame;
 mod laws;
 mod levels;
 mod link;
-mod memory;
 mod operand;
 mod operands;
 mod operator;
 mod read;
+mod settle;
 mod sights;
-mod stack;
 mod state;
 mod step;
-mod stop;
 mod terminal;
 
 pub use examples::{

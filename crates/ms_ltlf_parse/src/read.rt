@@ -6,16 +6,15 @@ ghost use Rattle.ms_ltlf_parse.specs.Refused.{IsTraceFault};
 ghost use Rattle.ms_ltlf_parse.specs.inner.Reached.{HasCome, StopsAt};
 ghost use Rattle.ms_ltlf_parse.specs.inner.Sights.{IsTable};
 ghost use Rattle.ms_ltlf_parse.specs.inner.Terminals.{symbol_with};
-ghost use Rattle.ms_ltlf_parse.specs.declared.stop.Stop.TheVariants.{Memory};
 
 use crate::sights::{Sights, no_sights, number};
 use crate::state::{Begun, Outcome};
 use crate::step::step;
-use crate::stop::Stop;
 use crate::terminal::{Terminal, terminal_of};
 use ms_edge::Refusal;
-use ms_list::{At, let_go};
+use ms_list::{NoMemory, let_go};
 use ms_ltlf::Trace;
+use ms_parse_stack::{Stack, Stop, refusal_at, refusal_at_end};
 use ms_text::Tokens;
 use std::alloc::Global;
 use std::str;
@@ -33,14 +32,13 @@ fn number_of(
     sights: &mut Sights,
     terminal: Terminal,
     slice: &[u8],
-) -> Result<u32, Stop>
+) -> Result<u32, NoMemory>
     requires table { IsTable (λ n. get_by_text sights.old.places n) sights.old.names }
     requires room { length sights.old.names ≤ 67108864 }
     requires text { terminal ≡ Terminal.Name → IsUtf8 slice.now }
     ensures table { OnOk result (IsTable (λ n. get_by_text sights.new.places n) sights.new.names) }
     ensures names { OnOk result (sights.new.names ≡ with_sight sights.old.names (symbol_with terminal slice.now)) }
     ensures number { IfOk result (λ number. terminal ≡ Terminal.Name → place sights.new.names slice.now ≡ number) }
-    ensures err { IfErr result (λ stop. stop ≡ Memory) }
 {
     match terminal {
         Terminal::Name => match str::from_utf8(slice) {
@@ -72,29 +70,6 @@ fn step_at(
     step(alloc, &mut reader.begun, outcome, terminal, number)
 }
 
-/// The refusal where the reading stops at the token with a number.
-fn refusal_at(tokens: &Tokens, file: u32, i: u32, stop: Stop) -> Refusal
-    requires { i < length tokens.now.tokens }
-    ensures { StopsAt tokens.now i stop → (result ≡ Refusal.Memory) ⊎ IsTraceFault file tokens.now result }
-{
-    let place = tokens.get(i).place;
-    let at = At { file, place };
-    match stop {
-        Stop::Memory => Refusal::Memory,
-        Stop::Misplaced => Refusal::Grammar { at },
-        Stop::TooDeep => Refusal::Depth { at },
-    }
-}
-
-/// The refusal where the text ends too early.
-fn refusal_at_end(tokens: &Tokens, file: u32) -> Refusal
-    ensures { result ≡ Refusal.Grammar (record { file = file; place = length tokens.now.bytes }) }
-{
-    let place = tokens.end();
-    let at = At { file, place };
-    Refusal::Grammar { at }
-}
-
 /// What has been read behind the last token.
 fn finish(tokens: &Tokens, file: u32, reader: Reader, outcome: Outcome) -> Result<Trace, Refusal>
     requires here { HasCome tokens.now (length tokens.now.tokens) reader outcome }
@@ -121,7 +96,7 @@ fn new_reader(alloc: Global, tokens: &Tokens) -> Reader
     ensures { HasCome tokens.now 0 result Outcome.Wanted }
 {
     let sights = no_sights(alloc);
-    let frames = Vec::new(alloc);
+    let frames = Stack::new(alloc);
     let begun = Begun { frames, deepest: 1 };
     Reader { sights, begun }
 }

@@ -1,13 +1,10 @@
-ghost use Rattle.std.specs.Prelude.{◌≡◌, ◌≤◌, ◌∷◌, ◌++◌, [], ℕ, List as Sequence, bytes_eq, if◌then◌else◌, length, IfOk, IfErr, OnOk};
+ghost use Rattle.std.specs.Prelude.{◌≡◌, ◌≤◌, ◌∷◌, ◌++◌, [], ℕ, List as Sequence, bytes_eq, if◌then◌else◌, length, IfOk, OnOk};
 ghost use Rattle.indexmap.specs.IndexMap.{get_by_text};
 ghost use Rattle.ms_ltlf_parse.specs.Reading.{place, with_name};
 ghost use Rattle.ms_ltlf_parse.specs.inner.Sights.{IsTable};
-ghost use Rattle.ms_ltlf_parse.specs.declared.stop.Stop.TheVariants.{Memory};
 
-use crate::memory::push;
-use crate::stop::Stop;
 use indexmap::IndexMap;
-use ms_list::{List, Name};
+use ms_list::{List, Name, NoMemory, push};
 use std::alloc::Global;
 
 /// The names in the order of first sight, and the place of each.
@@ -42,37 +39,34 @@ fn note(
     places: &mut IndexMap<String, u32>,
     name: &str,
     place: u32,
-) -> Result<(), Stop>
-    ensures ok { OnOk result ((n : Sequence ℕ) → get_by_text places.new n ≡ (if bytes_eq name.now n then Some place else get_by_text places.old n)) }
-    ensures err { IfErr result (λ stop. stop ≡ Memory) }
+) -> Result<(), NoMemory>
+    ensures { OnOk result ((n : Sequence ℕ) → get_by_text places.new n ≡ (if bytes_eq name.now n then Some place else get_by_text places.old n)) }
 {
     let Ok(key) = String::from_str(alloc, name) else {
-        return Err(Stop::Memory);
+        return Err(NoMemory);
     };
     let Ok(_) = places.insert(key, place) else {
-        return Err(Stop::Memory);
+        return Err(NoMemory);
     };
     Ok(())
 }
 
-fn keep(alloc: Global, names: &mut List<Name>, name: &str) -> Result<(), Stop>
-    ensures ok { OnOk result (names.new ≡ names.old ++ name.now ∷ []) }
-    ensures err { IfErr result (λ stop. stop ≡ Memory) }
+fn keep(alloc: Global, names: &mut List<Name>, name: &str) -> Result<(), NoMemory>
+    ensures { OnOk result (names.new ≡ names.old ++ name.now ∷ []) }
 {
     let Ok(own) = Name::new(alloc, name) else {
-        return Err(Stop::Memory);
+        return Err(NoMemory);
     };
     push(names, own)
 }
 
 /// The place of a name, which is put behind the others if it is not there.
-pub fn number(alloc: Global, sights: &mut Sights, name: &str) -> Result<u32, Stop>
+pub fn number(alloc: Global, sights: &mut Sights, name: &str) -> Result<u32, NoMemory>
     requires table { IsTable (λ n. get_by_text sights.old.places n) sights.old.names }
     requires room { length sights.old.names ≤ 67108864 }
     ensures table { OnOk result (IsTable (λ n. get_by_text sights.new.places n) sights.new.names) }
     ensures names { OnOk result (sights.new.names ≡ with_name sights.old.names name.now) }
     ensures number { IfOk result (λ number. number ≡ place sights.old.names name.now) }
-    ensures err { IfErr result (λ stop. stop ≡ Memory) }
 {
     if let Some(place) = place_of(&sights.places, name) {
         return Ok(place);

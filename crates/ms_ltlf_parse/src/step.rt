@@ -9,15 +9,15 @@ ghost use Rattle.ms_ltlf_parse.specs.inner.Terminals.{symbol_with};
 use crate::complete::complete_brackets;
 use crate::enter::{enter, join, open, read_leaf};
 use crate::frame::Frame;
-use crate::levels::{junction_level, left_level};
+use crate::levels::{left_level, operand_level};
 use crate::operand::Operand;
 use crate::operator::{Binary, Junction};
-use crate::stack::{pop_frame, settle};
+use crate::settle::settle;
 use crate::state::{Begun, Outcome};
-use crate::stop::Stop;
 use crate::terminal::Terminal;
 use ms_list::let_go;
 use ms_ltlf::Ltl;
+use ms_parse_stack::Stop;
 use std::alloc::Global;
 
 /// The left operand of a symbol that wants one of a level.
@@ -31,7 +31,7 @@ fn left_operand(
     ensures { Settles least (state_of begun.old outcome) begun.new result }
 {
     match outcome {
-        Outcome::Holding(operand) => settle(alloc, &mut begun.frames, operand, least),
+        Outcome::Holding(operand) => Ok(settle(alloc, &mut begun.frames, operand, least)?),
         Outcome::Wanted => Err(Stop::Misplaced),
         Outcome::Done(_) => Err(Stop::Misplaced),
     }
@@ -59,7 +59,7 @@ fn read_joining(
     requires { IsMeasured begun.old outcome }
     ensures { ComesTo (behind (suc (junction_level op)) (linked op) (state_of begun.old outcome)) begun.new result }
 {
-    let operand = left_operand(alloc, begun, outcome, junction_level(op) + 1)?;
+    let operand = left_operand(alloc, begun, outcome, operand_level(op))?;
     join(alloc, begun, op, operand)
 }
 
@@ -76,11 +76,11 @@ fn is_brackets(frame: &Frame) -> bool
 
 /// `)` behind an operand.
 fn close(alloc: Global, begun: &mut Begun, operand: Operand) -> Result<Outcome, Stop>
-    requires measured { begun.old.deepest ≡ depth (plugged (stack_of begun.old.frames.items) (temporal_of operand.formula)) }
+    requires measured { begun.old.deepest ≡ depth (plugged (stack_of begun.old.frames) (temporal_of operand.formula)) }
     requires shallow { begun.old.deepest ≤ 300 }
-    ensures { ComesTo (closed (stack_of begun.old.frames.items, temporal_of operand.formula)) begun.new result }
+    ensures { ComesTo (closed (stack_of begun.old.frames, temporal_of operand.formula)) begun.new result }
 {
-    let Some(frame) = pop_frame(&mut begun.frames) else {
+    let Some(frame) = begun.frames.pop() else {
         return Err(Stop::Misplaced);
     };
     if !is_brackets(&frame) {
@@ -93,9 +93,9 @@ fn close(alloc: Global, begun: &mut Begun, operand: Operand) -> Result<Outcome, 
 
 /// `;` behind an operand.
 fn end(begun: &Begun, operand: Operand) -> Result<Outcome, Stop>
-    requires measured { begun.now.deepest ≡ depth (plugged (stack_of begun.now.frames.items) (temporal_of operand.formula)) }
+    requires measured { begun.now.deepest ≡ depth (plugged (stack_of begun.now.frames) (temporal_of operand.formula)) }
     requires shallow { begun.now.deepest ≤ 300 }
-    ensures { ComesTo (ended (stack_of begun.now.frames.items, temporal_of operand.formula)) begun.now result }
+    ensures { ComesTo (ended (stack_of begun.now.frames, temporal_of operand.formula)) begun.now result }
 {
     if begun.frames.is_empty() {
         Ok(Outcome::Done(operand))

@@ -3,28 +3,26 @@ use Rattle.std.proofs.Common.{◌≡◌, ℕ, ◌+◌, [], ◌∷◌, ◌++◌, 
 use Rattle.std.specs.Prelude.{Result, Ok, Err, IfOk, IfErr}
 use Rattle.ms_text.specs.TokenList.{Lexed}
 use Rattle.ms_presburger.specs.Tree.{depth}
+use Rattle.ms_presburger_parse.specs.Reading.{CanFollow}
 use Rattle.ms_presburger_parse.specs.Symbol.{Symbol}
 use Rattle.ms_presburger_parse.specs.declared.state.Begun.{Begun}
 use Rattle.ms_presburger_parse.specs.declared.state.Outcome.{Outcome}
 use Rattle.ms_presburger_parse.specs.declared.state.Outcome.TheVariants.{Within, Done}
-use Rattle.ms_presburger_parse.specs.declared.stop.Stop.{Stop}
-use Rattle.ms_presburger_parse.specs.declared.stop.Stop.TheVariants.{Memory, Misplaced, TooDeep}
+use Rattle.ms_parse_stack.specs.declared.stop.Stop.{Stop}
+use Rattle.ms_parse_stack.specs.declared.stop.Stop.TheVariants.{Memory, Misplaced, TooDeep}
 use Rattle.ms_presburger_parse.specs.inner.Machine.{GoesOn, step, shortest}
-use Rattle.ms_presburger_parse.specs.inner.Reached.{reached, front, HasCome, HasBegun, StopsAt}
+use Rattle.ms_presburger_parse.specs.inner.Reached.{reached, front, HasCome, StopsAt}
 use Rattle.ms_presburger_parse.specs.inner.States.{ComesTo, state_of}
-use Rattle.ms_presburger_parse.proofs.Readings.{reached-append}
+use Rattle.ms_presburger_parse.proofs.Readings.{follows, follows_deeper, goes_on, is_shallow, reached-append}
 
 goes_on_here : (begun : Begun) (outcome : Outcome) → GoesOn (state_of begun outcome)
 goes_on_here begun (Within place) = tt
 goes_on_here begun (Done operand) = tt
 
-pub has_begun : (lexed : Lexed) (i : ℕ) (begun : Begun) (outcome : Outcome) → HasCome lexed i begun outcome → HasBegun lexed i
-has_begun lexed i begun outcome h =
+pub can_follow : (lexed : Lexed) (i : ℕ) (begun : Begun) (outcome : Outcome) → HasCome lexed i begun outcome → CanFollow (front lexed i)
+can_follow lexed i begun outcome h =
     let deep = ap (λ s. depth (shortest s)) h.state in
-    record {
-      goes_on = subst GoesOn (sym h.state) (goes_on_here begun outcome);
-      shallow = omega (arith, deep, h.measured.measured, h.measured.shallow);
-    }
+    follows (front lexed i) (subst GoesOn (sym h.state) (goes_on_here begun outcome)) (omega (arith, deep, h.measured.measured, h.measured.shallow))
 
 -- the step of the code is that of the machine
 pub comes_next : (lexed : Lexed) (i : ℕ) (before begun : Begun) (outcome : Outcome) (x : Symbol) (r : Result Outcome Stop) → HasCome lexed i before outcome → front lexed (i + 1) ≡ front lexed i ++ x ∷ []
@@ -38,8 +36,8 @@ pub come_ok : (lexed : Lexed) (i : ℕ) (begun : Begun) (r : Result Outcome Stop
 come_ok lexed i begun (Ok next) comes = record { state = comes.0; measured = comes.1 }
 come_ok lexed i begun (Err stop) comes = tt
 
-pub come_err : (lexed : Lexed) (i : ℕ) (begun : Begun) (r : Result Outcome Stop) → HasBegun lexed i → ComesTo (reached (front lexed (i + 1))) begun r → IfErr r (StopsAt lexed i)
+pub come_err : (lexed : Lexed) (i : ℕ) (begun : Begun) (r : Result Outcome Stop) → CanFollow (front lexed i) → ComesTo (reached (front lexed (i + 1))) begun r → IfErr r (StopsAt lexed i)
 come_err lexed i begun (Ok next) h comes = tt
 come_err lexed i begun (Err Memory) h comes = tt
-come_err lexed i begun (Err Misplaced) h comes = (h, comes)
-come_err lexed i begun (Err TooDeep) h comes = (h, comes.0, comes.1)
+come_err lexed i begun (Err Misplaced) h comes = (h, λ any. subst GoesOn comes (goes_on (front lexed (i + 1)) any))
+come_err lexed i begun (Err TooDeep) h comes = (h, λ any. omega (arith, is_shallow (front lexed (i + 1)) any, comes.1), follows_deeper (front lexed (i + 1)) comes.0)

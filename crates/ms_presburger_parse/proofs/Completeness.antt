@@ -13,7 +13,7 @@ use Rattle.ms_presburger_parse.specs.declared.operator.Junction.{Junction}
 use Rattle.ms_presburger_parse.specs.declared.operator.Junction.TheVariants.{Conjunction, Disjunction}
 use Rattle.ms_presburger_parse.specs.inner.Machine.{Frame, in_brackets, behind_negation, behind_colon, behind_infix, behind_joining, filled, settled, yields, with_last, one, binary, joined, Place, on_right, wanted, holding, added, operand, State, within, done, infixed, linked, closed, ended, acts, behind, step, run, start}
 use Rattle.ms_presburger_parse.proofs.Fitting.{hole_of, infix_rests, joining_rests, link_begins, link_further, level_left}
-use Rattle.ms_presburger_parse.proofs.Settling.{settled-pop, settled-stay, settled-rests}
+use Rattle.ms_parse_stack.proofs.Settling.{settled-pop, settled-stay, settled-rests}
 use Rattle.ms_presburger_parse.proofs.Strength.{strength, strength_of_last, closed_strength, strength-binary, strength-joined, strength-with_last}
 use Rattle.ms_presburger_parse.proofs.Sums.{IsSummed, run-append, comparison_read, names_read}
 
@@ -52,7 +52,7 @@ holds_filled frame frames f whole s same ends h = record {
   is = h.is;
   has = h.has;
   settles = λ least enough.
-      h.settles least (ends least enough).1 ∙ settled-pop least frame frames f (ends least enough).0 ∙ ap (settled least frames) same;
+      h.settles least (ends least enough).1 ∙ settled-pop filled (yields least) frame frames f (ends least enough).0 ∙ ap (settled least frames) same;
 }
 
 holds_negation : (frames : List Frame) (f : Arithmetic) (s : State) → Holds (behind_negation ∷ frames) f s → Holds frames (negation f) s
@@ -72,7 +72,7 @@ holds_quantified q xs frames f s h =
 operator_read : (op : Binary) (frames : List Frame) (f : Arithmetic) (s : State) → left_level op ≤ strength f → hole_of frames ≤ binary_level op → Holds frames f s
     → step s (infix_operator op) ≡ within (behind_infix op f ∷ frames) wanted
 operator_read op frames f s enough fits h =
-    found frames f s (left_level op) (infixed op) h enough ∙ ap (infixed op) (settled-rests (left_level op) frames f (infix_rests op frames fits))
+    found frames f s (left_level op) (infixed op) h enough ∙ ap (infixed op) (settled-rests filled (yields (left_level op)) frames f (infix_rests op frames fits))
 
 holds_binary : (op : Binary) (frames : List Frame) (f g : Arithmetic) (s : State) → Holds (behind_infix op f ∷ frames) g s → Holds frames (binary op f g) s
 holds_binary op frames f g s h =
@@ -90,7 +90,7 @@ record IsList (op : Junction) (frames : List Frame) (fs : Arithmetics) (s : Stat
 list_begun : (op : Junction) (frames : List Frame) (f : Arithmetic) (s : State) → hole_of frames ≤ junction_level op → Holds frames f s → IsList op frames (one f) s
 list_begun op frames f s fits h = record {
   goes = λ enough.
-      found frames f s (suc (junction_level op)) (linked op) h enough ∙ ap (linked op) (settled-rests (suc (junction_level op)) frames f (joining_rests op frames fits))
+      found frames f s (suc (junction_level op)) (linked op) h enough ∙ ap (linked op) (settled-rests filled (yields (suc (junction_level op))) frames f (joining_rests op frames fits))
       ∙ ap (λ x. within x wanted) (link_begins op f frames fits);
   ends = λ two. absurd two;
 }
@@ -100,7 +100,7 @@ list_further op frames fs f s h = record {
   goes = λ enough.
       let low : suc (junction_level op) ≤ strength f = omega (arith, enough, strength-with_last fs f) in
       found (behind_joining op fs ∷ frames) f s (suc (junction_level op)) (linked op) h low
-      ∙ ap (linked op) (settled-stay (suc (junction_level op)) (behind_joining op fs) frames f (lt-leb (suc (junction_level op)) (junction_level op) (omega arith)))
+      ∙ ap (linked op) (settled-stay filled (yields (suc (junction_level op))) (behind_joining op fs) frames f (lt-leb (suc (junction_level op)) (junction_level op) (omega arith)))
       ∙ ap (λ x. within x wanted) (link_further op f fs frames);
   ends = λ two. holds_filled (behind_joining op fs) frames f (joined op (with_last fs f)) s refl (λ least wide.
       let small : least ≤ junction_level op = omega (arith, wide, strength-joined op (with_last fs f)) in

@@ -1,5 +1,6 @@
 -- How the levels of frames and of symbols fit together.
-use Rattle.std.proofs.Common.{◌≡◌, ℕ, suc, ◌≤◌, ◌⊎◌, false, List, [], ◌∷◌, refl, inl, inr, arith}
+use Rattle.std.proofs.Common.{◌≡◌, ℕ, suc, ◌≤◌, ◌⊎◌, List, [], ◌∷◌, refl, inl, inr, arith}
+use Rattle.ms_parse_stack.specs.inner.Settled as stacks
 use Rattle.ms_presburger.specs.Tree.{Arithmetic, Arithmetics}
 use Rattle.ms_presburger_parse.specs.Grammar.{binary_level, left_level, junction_level}
 use Rattle.ms_presburger_parse.specs.declared.operator.Binary.{Binary}
@@ -15,8 +16,7 @@ hole_of (frame ∷ frames) = hole frame
 
 -- the frame on top does not end before a symbol that wants this level on its left
 abbrev pub rests : ℕ → List Frame → Type 0
-rests least [] = Unit {0}
-rests least (frame ∷ frames) = yields least frame ≡ false
+rests least frames = stacks.rests (yields least) frames
 
 pub junction_small : (op : Junction) → suc (junction_level op) ≤ 5
 junction_small Conjunction = omega arith

@@ -11,11 +11,12 @@ use Rattle.ms_presburger_parse.specs.Grammar.{left_level, junction_level, compar
 use Rattle.ms_presburger_parse.specs.Symbol.{Symbol, name, number, word_true, word_false, quantifier, negation_sign, infix_operator, joining, relation, plus, comma, colon, open_bracket, close_bracket, semicolon, other}
 use Rattle.ms_presburger_parse.specs.declared.operator.Binary.{Binary}
 use Rattle.ms_presburger_parse.specs.declared.operator.Junction.{Junction}
-use Rattle.ms_presburger_parse.specs.inner.Machine.{Frame, in_brackets, behind_negation, behind_colon, behind_infix, behind_joining, filled, plugged, settled, inside, link, with_last, one, Side, on_left, on_right, Place, wanted, naming, named, adding, added, holding, operand, with_number, times, with_name, with_plus, with_relation, with_quantifier, with_comma, with_leaf, opening, body, State, within, done, stopped, stay, moves, begin, enters, infixed, linked, closed, ended, acts, behind, step, run, compared, completed, shortest, GoesOn}
+use Rattle.ms_presburger_parse.specs.inner.Machine.{Frame, in_brackets, behind_negation, behind_colon, behind_infix, behind_joining, filled, plugged, settled, inside, link, with_last, one, Side, on_left, on_right, Place, wanted, naming, named, adding, added, holding, operand, with_number, times, with_name, with_plus, with_relation, with_quantifier, with_comma, with_leaf, opening, body, State, within, done, stopped, stay, moves, begin, enters, infixed, linked, closed, ended, acts, behind, step, run, compared, completed, shortest, GoesOn, yields}
 use Rattle.ms_presburger_parse.specs.inner.States.{BecomesTwo, KeepsDepth}
-use Rattle.ms_presburger_parse.proofs.Depths.{depth-filled, depth-plugged-le, depth-with_last}
+use Rattle.ms_parse_stack.proofs.Depths.{depth-plugged-le}
+use Rattle.ms_presburger_parse.proofs.Depths.{depths, depth-filled, depth-with_last}
 use Rattle.ms_presburger_parse.proofs.Fitting.{rests, link_cases}
-use Rattle.ms_presburger_parse.proofs.Settling.{settled_by, plugged-settled}
+use Rattle.ms_parse_stack.proofs.Settling.{settled_by, plugged-settled}
 use Rattle.ms_presburger_parse.proofs.Runs.{run_on}
 
 -- the whole, with the operand in its place
@@ -117,7 +118,7 @@ two_grows : (move : Place → Option Place) → BecomesTwo move → Grows move
 two_grows move two p = grows_two p (move p) (two p)
 
 stay_grows : (frames : List Frame) (p : Place) (next : Option Place) → IfSome next (λ q. depth (completed p) ≤ depth (completed q)) → GoesOn (stay frames next) → depth (plugged frames (completed p)) ≤ depth (shortest (stay frames next))
-stay_grows frames p (Some q) more on = depth-plugged-le frames (completed p) (completed q) more
+stay_grows frames p (Some q) more on = depth-plugged-le depths frames (completed p) (completed q) more
 stay_grows frames p None more on = absurd on
 
 moves_grows : (move : Place → Option Place) (s : State) → Grows move → GoesOn (moves move s) → depth (shortest s) ≤ depth (shortest (moves move s))
@@ -129,7 +130,7 @@ moves_grows move stopped grows on = absurd on
 pub frame_grows : (frame : Frame) (frames : List Frame) (f : Arithmetic) → depth f ≤ suc (max (inside frame) 1) → depth (plugged frames f) ≤ depth (plugged (frame ∷ frames) truth)
 frame_grows frame frames f h =
     let more : depth f ≤ depth (filled frame truth) = omega (arith, depth-filled frame truth) in
-    depth-plugged-le frames f (filled frame truth) more
+    depth-plugged-le depths frames f (filled frame truth) more
 
 abbrev Deeper : Place → Option Frame → Type 0
 Deeper p next = IfSome next (λ frame. depth (completed p) ≤ suc (max (inside frame) 1))
@@ -176,9 +177,9 @@ acts_grows : (least : ℕ) (act : List Frame × Arithmetic → State) (frames : 
     → depth (plugged frames (completed p)) ≤ depth (shortest (acts least act frames held))
 acts_grows least act frames p (Some f) further is on =
     let P : List Frame × Arithmetic → Type 0 = λ held. Unit {0} in
-    let rest = (settled_by P least (λ frame below g e h. tt) frames f tt).1 in
+    let rest = (settled_by filled (yields least) P (λ frame below g e h. tt) frames f tt).1 in
     let Q : Arithmetic → Type 0 = λ x. depth x ≤ depth (shortest (act (settled least frames f))) in
-    subst Q (ap (plugged frames) (sym is)) (subst Q (plugged-settled least frames f) (further (settled least frames f) rest on))
+    subst Q (ap (plugged frames) (sym is)) (subst Q (plugged-settled filled (yields least) frames f) (further (settled least frames f) rest on))
 acts_grows least act frames p None further is on = absurd on
 
 behind_grows : (least : ℕ) (act : List Frame × Arithmetic → State) (s : State) → ActGrows least act → GoesOn (behind least act s) → depth (shortest s) ≤ depth (shortest (behind least act s))
@@ -203,7 +204,7 @@ link_grows op f frames rest =
           let deeper : depth (filled frame f) ≤ depth (filled more truth) =
           omega (arith, depth-filled frame f, depth-filled more truth, depth-with_last further.operands f) in
           subst (λ x. depth (plugged frames f) ≤ depth (plugged x truth)) (sym further.is)
-          (subst (λ x. depth (plugged x f) ≤ depth (plugged (more ∷ further.below) truth)) (sym further.top) (depth-plugged-le further.below (filled frame f) (filled more truth) deeper))
+          (subst (λ x. depth (plugged x f) ≤ depth (plugged (more ∷ further.below) truth)) (sym further.top) (depth-plugged-le depths further.below (filled frame f) (filled more truth) deeper))
     ]
 
 linked_grows : (op : Junction) → ActGrows (suc (junction_level op)) (linked op)

@@ -1,7 +1,6 @@
 pub mod Comings
 pub mod Completeness
 pub mod Depths
-pub mod Entering
 pub mod Extents
 pub mod Faults
 pub mod Fitting
@@ -12,13 +11,10 @@ pub mod Pushes
 pub mod Readings
 pub mod Runs
 pub mod Separated
-pub mod Settling
 pub mod Soundness
 pub mod Spellings
-pub mod Stacks
 pub mod Steps
 pub mod Strength
 pub mod Sums
-pub mod Tokens
 pub mod Trees
 pub mod Trials

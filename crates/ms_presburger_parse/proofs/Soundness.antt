@@ -15,7 +15,7 @@ use Rattle.ms_presburger_parse.specs.declared.operator.Junction.{Junction}
 use Rattle.ms_presburger_parse.specs.declared.operator.Junction.TheVariants.{Conjunction, Disjunction}
 use Rattle.ms_presburger_parse.specs.inner.Machine.{Frame, in_brackets, behind_negation, behind_colon, behind_infix, behind_joining, hole, frame_level, filled, plugged, settled, yields, link, with_last, binary, joined, Side, on_left, on_right, Place, wanted, naming, named, adding, added, holding, operand, with_number, times, with_name, with_plus, with_relation, with_quantifier, with_comma, with_leaf, opening, body, State, within, done, stopped, stay, moves, begin, enters, infixed, linked, closed, ended, acts, behind, step, compared, completed, shortest}
 use Rattle.ms_presburger_parse.proofs.Fitting.{hole_of, rests, hole_small, infix_fits, link_cases, left_small, left_some, junction_small}
-use Rattle.ms_presburger_parse.proofs.Settling.{settled_by}
+use Rattle.ms_parse_stack.proofs.Settling.{settled_by}
 use Rattle.ms_presburger_parse.proofs.Strength.{strength, strength_level, strength_closed, strength_filled}
 
 -- a grammatical formula of at least this level
@@ -135,7 +135,7 @@ ready_filled least frame frames f e ready =
     }
 
 pub ready_settled : (least : ℕ) (frames : List Frame) (f : Arithmetic) → IsReady least (frames, f) → IsReady least (settled least frames f) × rests least (settled least frames f).0
-ready_settled least frames f ready = settled_by (IsReady least) least (ready_filled least) frames f ready
+ready_settled least frames f ready = settled_by filled (yields least) (IsReady least) (ready_filled least) frames f ready
 
 -- where the machine stands in the innermost formula, the parts so far are as the grammar asks
 

@@ -18,7 +18,7 @@ use Rattle.ms_presburger_parse.specs.inner.Machine.{Frame, in_brackets, behind_n
 use Rattle.ms_presburger_parse.proofs.Fitting.{rests, link_cases}
 use Rattle.ms_presburger_parse.proofs.Runs.{step_on}
 use Rattle.ms_presburger_parse.proofs.Separated.{terminated, separated-sign, separated-last, terminated-last}
-use Rattle.ms_presburger_parse.proofs.Settling.{settled_by}
+use Rattle.ms_parse_stack.proofs.Settling.{settled_by}
 use Rattle.ms_presburger_parse.proofs.Soundness.{HasSome, IsSound, AreSound, IsSoundPlace, IsSoundState, step_sound}
 
 -- the symbols of a frame before its hole, and behind it
@@ -302,7 +302,7 @@ acts_said : (least : ℕ) (act : List Frame × Arithmetic → State) (x : Symbol
     → GoesOn (acts least act frames held) → said (acts least act frames held) ≡ (said_stack frames ++ said_place p) ++ x ∷ []
 acts_said least act x frames p (Some f) further sound is on =
     let whole = said_stack frames ++ spelled f in
-    let all = settled_by (IsSaid whole) least (said_filled least whole) frames f (record { sound = sound; is = refl }) in
+    let all = settled_by filled (yields least) (IsSaid whole) (said_filled least whole) frames f (record { sound = sound; is = refl }) in
     further (settled least frames f) all.0.sound all.1 on ∙ ap (λ y. y ++ x ∷ []) (all.0.is ∙ ap (λ y. said_stack frames ++ y) (sym is))
 acts_said least act x frames p None further sound is on = absurd on
 

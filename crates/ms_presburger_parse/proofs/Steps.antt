@@ -1,44 +1,31 @@
 -- Where the code's steps lead.
-use Rattle.std.proofs.Common.{◌≡◌, ℕ, suc, ◌+◌, ◌<◌, ◌≤◌, max, List, [], ◌∷◌, Option, Some, length, refl, sym, ap, ◌∙◌, subst, arith}
-use Rattle.std.specs.Prelude.{Result, Ok, Err, IfOk, IfErr, IfSome}
+use Rattle.std.proofs.Common.{◌≡◌, ℕ, Bool, true, false, suc, ◌+◌, ◌<◌, ◌≤◌, max, List, [], ◌∷◌, Option, Some, length, refl, sym, ap, ◌∙◌, subst, arith}
+use Rattle.std.specs.Prelude.{◌↔◌, IsTrue, Result, Ok, Err, IfOk, IfErr, IfSome}
 use Rattle.ms_presburger.specs.Tree.{Arithmetic, depth}
 use Rattle.ms_presburger.specs.View.{arithmetic_of}
+use Rattle.ms_presburger_parse.specs.declared.frame.Frame as frames
 use Rattle.ms_presburger_parse.specs.declared.operand.Operand.{Operand}
 use Rattle.ms_presburger_parse.specs.declared.state.Begun.{Begun}
 use Rattle.ms_presburger_parse.specs.declared.state.Outcome.{Outcome}
 use Rattle.ms_presburger_parse.specs.declared.state.Outcome.TheVariants.{Within}
-use Rattle.ms_presburger_parse.specs.declared.stop.Stop.{Stop}
-use Rattle.ms_presburger_parse.specs.declared.stop.Stop.TheVariants.{Memory, Misplaced, TooDeep}
-use Rattle.ms_presburger_parse.specs.inner.Machine.{Frame, in_brackets, behind_negation, behind_colon, behind_infix, behind_joining, Place, operand, State, within, stopped, acts, behind, closed, ended, completed, plugged, settled, shortest, stay, moves, GoesOn}
-use Rattle.ms_presburger_parse.specs.inner.States.{BecomesTwo, ComesTo, HasOperand, IsMeasured, KeepsDepth, MovesTo, Settles, place_of, stack_of}
+use Rattle.ms_parse_stack.specs.declared.stop.Stop.{Stop}
+use Rattle.ms_parse_stack.specs.declared.stop.Stop.TheVariants.{Memory, Misplaced, TooDeep}
+use Rattle.ms_presburger_parse.specs.inner.Machine.{Frame, in_brackets, behind_negation, behind_colon, behind_infix, behind_joining, Place, operand, State, within, stopped, acts, closed, ended, completed, filled, plugged, settled, yields, shortest, stay, moves, GoesOn}
+use Rattle.ms_presburger_parse.specs.inner.States.{BecomesTwo, ComesTo, IsMeasured, KeepsDepth, MovesTo, Settles, place_of, stack_of}
 use Rattle.ms_presburger_parse.specs.declared.place.Place as code
-use Rattle.ms_presburger_parse.proofs.Entering.{deepened, same_depth}
+use Rattle.ms_parse_stack.proofs.Depths.{same_depth}
+use Rattle.ms_presburger_parse.proofs.Depths.{depths, deepened}
 use Rattle.ms_presburger_parse.proofs.Growth.{operand_completed}
-use Rattle.ms_presburger_parse.proofs.Settling.{plugged-settled}
+use Rattle.ms_parse_stack.proofs.Settling.{plugged-settled}
 
-pub settles : (least : ℕ) (frames : List Frame) (p : Place) (f : Arithmetic) (begun : Begun) (r : Result Operand Stop) → operand p ≡ Some f → begun.deepest ≡ depth (plugged frames (completed p)) → begun.deepest ≤ 300
-    → IfOk r (λ made. settled least frames f ≡ (stack_of begun.frames.items, arithmetic_of made.formula)) → IfErr r (λ stop. stop ≡ Memory) → Settles least (within frames p) begun r
-settles least frames p f begun (Ok made) is deep shallow ok err =
+pub settles : (least : ℕ) (frames : List Frame) (p : Place) (f : Arithmetic) (begun : Begun) (made : Operand) → operand p ≡ Some f → begun.deepest ≡ depth (plugged frames (completed p)) → begun.deepest ≤ 300
+    → settled least frames f ≡ (stack_of begun.frames, arithmetic_of made.formula) → Settles least (within frames p) begun (Ok made)
+settles least frames p f begun made is deep shallow ok =
     let same : completed p ≡ f = subst (λ o. IfSome o (λ g. completed p ≡ g)) is (operand_completed p) in (
       λ act. ap (acts least act frames) is ∙ ap act ok,
-      deep ∙ ap (λ x. depth (plugged frames x)) same ∙ ap depth (sym (plugged-settled least frames f)) ∙ ap (λ (q : List Frame × Arithmetic). depth (plugged q.0 q.1)) ok,
+      deep ∙ ap (λ x. depth (plugged frames x)) same ∙ ap depth (sym (plugged-settled filled (yields least) frames f)) ∙ ap (λ (q : List Frame × Arithmetic). depth (plugged q.0 q.1)) ok,
       shallow,
     )
-settles least frames p f begun (Err Memory) is deep shallow ok err = tt
-settles least frames p f begun (Err Misplaced) is deep shallow ok err = let never : ⊥ = cc in absurd never
-settles least frames p f begun (Err TooDeep) is deep shallow ok err = let never : ⊥ = cc in absurd never
-
--- what is no operand stops the step
-pub settles_none : (least : ℕ) (frames : List Frame) (p : Place) (begun : Begun) (stop : Stop) → HasOperand (operand p) (Err stop) → Settles least (within frames p) begun (Err stop)
-settles_none least frames p begun Memory h = tt
-settles_none least frames p begun Misplaced h = λ act. ap (acts least act frames) h
-settles_none least frames p begun TooDeep h = absurd h
-
--- what stops before the operand stops the step
-pub stops_settled : (least : ℕ) (act : List Frame × Arithmetic → State) (s : State) (begun begun' : Begun) (stop : Stop) → Settles least s begun (Err stop) → ComesTo (behind least act s) begun' (Err stop)
-stops_settled least act s begun begun' Memory h = tt
-stops_settled least act s begun begun' Misplaced h = h act
-stops_settled least act s begun begun' TooDeep h = absurd h
 
 -- the same state, and what the code comes to
 pub comes_same : (s t : State) (begun : Begun) (r : Result Outcome Stop) → s ≡ t → ComesTo t begun r → ComesTo s begun r
@@ -51,9 +38,9 @@ closed_other (behind_colon q xs) frames f other = refl
 closed_other (behind_infix op left) frames f other = refl
 closed_other (behind_joining op operands) frames f other = refl
 
-pub ended_more : (frames : List Frame) (f : Arithmetic) → 0 < length frames → ended (frames, f) ≡ stopped
-ended_more [] f h = absurd (omega arith)
-ended_more (frame ∷ frames) f h = refl
+pub ended_more : (empty : Bool) (fs : List frames.Frame) (f : Arithmetic) → (IsTrue empty ↔ (fs ≡ [])) → empty ≡ false → ended (stack_of fs, f) ≡ stopped
+ended_more empty [] f tells some = let never : true ≡ false = sym (tells.1 refl) ∙ some in cc
+ended_more empty (frame ∷ fs) f tells some = refl
 
 -- what stops within the innermost formula stops the step
 stops_moved : (move : Place → Option Place) (frames : List Frame) (p : Place) (begun : Begun) (stop : Stop) → MovesTo (move p) (Err stop) → ComesTo (moves move (within frames p)) begun (Err stop)
@@ -63,18 +50,18 @@ stops_moved move frames p begun TooDeep moved = absurd moved
 
 -- where a symbol that keeps the depth leads within the innermost formula
 pub comes_moved : (move : Place → Option Place) (begun : Begun) (before : code.Place) (next : Result code.Place Stop) (r : Result Outcome Stop) → KeepsDepth move → MovesTo (move (place_of before)) next
-    → IsMeasured begun (Within before) → IfOk next (λ place. r ≡ Ok (Within place)) → IfErr next (λ stop. r ≡ Err stop) → ComesTo (moves move (within (stack_of begun.frames.items) (place_of before))) begun r
+    → IsMeasured begun (Within before) → IfOk next (λ place. r ≡ Ok (Within place)) → IfErr next (λ stop. r ≡ Err stop) → ComesTo (moves move (within (stack_of begun.frames) (place_of before))) begun r
 comes_moved move begun before (Ok place) r keeps moved h ok err =
-    let frames = stack_of begun.frames.items in
+    let frames = stack_of begun.frames in
     let is : stay frames (move (place_of before)) ≡ within frames (place_of place) = ap (stay frames) moved in
     let same : depth (completed (place_of place)) ≡ depth (completed (place_of before)) = subst (λ o. IfSome o (λ q. depth (completed q) ≡ depth (completed (place_of before)))) moved (keeps (place_of before)) in
     let measured : IsMeasured begun (Within place) = record {
-      measured = h.measured ∙ same_depth frames (completed (place_of before)) (completed (place_of place)) (sym same);
+      measured = h.measured ∙ same_depth depths frames (completed (place_of before)) (completed (place_of place)) (sym same);
       shallow = h.shallow;
     } in
     subst (ComesTo (stay frames (move (place_of before))) begun) (sym ok) (is, measured)
 comes_moved move begun before (Err stop) r keeps moved h ok err =
-    let frames = stack_of begun.frames.items in
+    let frames = stack_of begun.frames in
     subst (ComesTo (stay frames (move (place_of before))) begun) (sym err) (stops_moved move frames (place_of before) begun stop moved)
 
 -- where a symbol leads that makes the innermost formula two deep
@@ -95,7 +82,7 @@ stops_begun move frames p q d begun two is same deep =
     subst (λ o. GoesOn (stay frames o) × (300 < depth (shortest (stay frames o)))) (sym is) (tt, omega (arith, whole, deep))
 
 pub comes_begun : (move : Place → Option Place) (frames : List Frame) (p : Place) (place : code.Place) (d : ℕ) (begun : Begun) → BecomesTwo move → move p ≡ Some (place_of place) → d ≡ depth (plugged frames (completed p))
-    → stack_of begun.frames.items ≡ frames → begun.deepest ≡ depth_behind d frames → depth_behind d frames ≤ 300 → ComesTo (moves move (within frames p)) begun (Ok (Within place))
+    → stack_of begun.frames ≡ frames → begun.deepest ≡ depth_behind d frames → depth_behind d frames ≤ 300 → ComesTo (moves move (within frames p)) begun (Ok (Within place))
 comes_begun move frames p place d begun two is same stack kept shallow =
     let whole = measured_two move frames p (place_of place) d two is same in (
       ap (stay frames) is ∙ ap (λ x. within x (place_of place)) (sym stack),

@@ -1,19 +1,16 @@
-ghost use Rattle.std.specs.Prelude.{◌≡◌, ◌+◌, ◌≤◌, IfOk, IfErr};
+ghost use Rattle.std.specs.Prelude.{◌≡◌, ◌+◌, ◌≤◌, IfOk};
 ghost use Rattle.ms_presburger.specs.Tree.{brackets, depth, negation, quantified};
 ghost use Rattle.ms_presburger.specs.View.{arithmetic_of};
 ghost use Rattle.ms_presburger_parse.specs.inner.Lists.{arithmetics_of};
 ghost use Rattle.ms_presburger_parse.specs.inner.Machine.{binary, filled, joined, with_last};
 ghost use Rattle.ms_presburger_parse.specs.inner.States.{frame_of};
-ghost use Rattle.ms_presburger_parse.specs.declared.stop.Stop.TheVariants.{Memory};
 
 use crate::formula::{infixed, joined, negated, quantified};
 use crate::frame::Frame;
-use crate::memory::boxed;
 use crate::operand::{Operand, Operands};
 use crate::operands::with_operand;
 use crate::operator::{Binary, Junction};
-use crate::stop::Stop;
-use ms_list::{List, Name};
+use ms_list::{List, Name, NoMemory, on_heap};
 use ms_logic::Quant;
 use ms_presburger::Linear;
 use std::alloc::Global;
@@ -31,21 +28,19 @@ fn measured(formula: Linear, inside: u32) -> Operand
 }
 
 /// The operand in brackets.
-pub fn complete_brackets(alloc: Global, operand: Operand) -> Result<Operand, Stop>
+pub fn complete_brackets(alloc: Global, operand: Operand) -> Result<Operand, NoMemory>
     requires { depth (brackets (arithmetic_of operand.formula)) ≤ 300 }
-    ensures ok { IfOk result (λ made. arithmetic_of made.formula ≡ brackets (arithmetic_of operand.formula)) }
-    ensures err { IfErr result (λ stop. stop ≡ Memory) }
+    ensures { IfOk result (λ made. arithmetic_of made.formula ≡ brackets (arithmetic_of operand.formula)) }
 {
     let inside = operand.height;
     let Operand { formula, .. } = operand;
-    let body = boxed(alloc, formula)?;
+    let body = on_heap(alloc, formula)?;
     Ok(measured(Linear::Paren(body), inside))
 }
 
-fn complete_negation(alloc: Global, operand: Operand) -> Result<Operand, Stop>
+fn complete_negation(alloc: Global, operand: Operand) -> Result<Operand, NoMemory>
     requires { depth (negation (arithmetic_of operand.formula)) ≤ 300 }
-    ensures ok { IfOk result (λ made. arithmetic_of made.formula ≡ negation (arithmetic_of operand.formula)) }
-    ensures err { IfErr result (λ stop. stop ≡ Memory) }
+    ensures { IfOk result (λ made. arithmetic_of made.formula ≡ negation (arithmetic_of operand.formula)) }
 {
     let inside = operand.height;
     let Operand { formula, .. } = operand;
@@ -57,20 +52,23 @@ fn complete_quantified(
     quant: Quant,
     names: List<Name>,
     operand: Operand,
-) -> Result<Operand, Stop>
+) -> Result<Operand, NoMemory>
     requires { depth (quantified quant names (arithmetic_of operand.formula)) ≤ 300 }
-    ensures ok { IfOk result (λ made. arithmetic_of made.formula ≡ quantified quant names (arithmetic_of operand.formula)) }
-    ensures err { IfErr result (λ stop. stop ≡ Memory) }
+    ensures { IfOk result (λ made. arithmetic_of made.formula ≡ quantified quant names (arithmetic_of operand.formula)) }
 {
     let inside = operand.height;
     let Operand { formula, .. } = operand;
     Ok(measured(quantified(alloc, quant, names, formula)?, inside))
 }
 
-fn complete_infix(alloc: Global, op: Binary, left: Operand, right: Operand) -> Result<Operand, Stop>
+fn complete_infix(
+    alloc: Global,
+    op: Binary,
+    left: Operand,
+    right: Operand,
+) -> Result<Operand, NoMemory>
     requires { depth (binary op (arithmetic_of left.formula) (arithmetic_of right.formula)) ≤ 300 }
-    ensures ok { IfOk result (λ made. arithmetic_of made.formula ≡ binary op (arithmetic_of left.formula) (arithmetic_of right.formula)) }
-    ensures err { IfErr result (λ stop. stop ≡ Memory) }
+    ensures { IfOk result (λ made. arithmetic_of made.formula ≡ binary op (arithmetic_of left.formula) (arithmetic_of right.formula)) }
 {
     let inside = left.height.max(right.height);
     let Operand { formula: left, .. } = left;
@@ -78,20 +76,18 @@ fn complete_infix(alloc: Global, op: Binary, left: Operand, right: Operand) -> R
     Ok(measured(infixed(alloc, op, left, right)?, inside))
 }
 
-fn complete_joining(op: Junction, operands: Operands, operand: Operand) -> Result<Operand, Stop>
+fn complete_joining(op: Junction, operands: Operands, operand: Operand) -> Result<Operand, NoMemory>
     requires { depth (joined op (with_last (arithmetics_of operands.list) (arithmetic_of operand.formula))) ≤ 300 }
-    ensures ok { IfOk result (λ made. arithmetic_of made.formula ≡ joined op (with_last (arithmetics_of operands.list) (arithmetic_of operand.formula))) }
-    ensures err { IfErr result (λ stop. stop ≡ Memory) }
+    ensures { IfOk result (λ made. arithmetic_of made.formula ≡ joined op (with_last (arithmetics_of operands.list) (arithmetic_of operand.formula))) }
 {
     let Operands { list, height } = with_operand(operands, operand)?;
     Ok(measured(joined(op, list), height))
 }
 
 /// The formula that a frame becomes with its last part.
-pub fn complete(alloc: Global, frame: Frame, operand: Operand) -> Result<Operand, Stop>
+pub fn complete(alloc: Global, frame: Frame, operand: Operand) -> Result<Operand, NoMemory>
     requires { depth (filled (frame_of frame) (arithmetic_of operand.formula)) ≤ 300 }
-    ensures ok { IfOk result (λ made. arithmetic_of made.formula ≡ filled (frame_of frame) (arithmetic_of operand.formula)) }
-    ensures err { IfErr result (λ stop. stop ≡ Memory) }
+    ensures { IfOk result (λ made. arithmetic_of made.formula ≡ filled (frame_of frame) (arithmetic_of operand.formula)) }
 {
     match frame {
         Frame::Brackets => complete_brackets(alloc, operand),

@@ -13,20 +13,19 @@ use crate::operand::{Operand, Operands};
 use crate::operands::{first_operand, with_operand};
 use crate::operator::Junction;
 use crate::place::Place;
-use crate::stack::{pop_frame, push_frame};
 use crate::state::{Begun, Outcome};
-use crate::stop::Stop;
+use ms_parse_stack::Stop;
 use std::alloc::Global;
 
 /// Whether a formula may be begun on the stack that has parts of this depth before what follows. Its depth is noted then.
 fn deepen(begun: &mut Begun, inside: u32) -> bool
-    requires low { length (stack_of begun.old.frames.items) ≤ 300 }
+    requires low { length begun.old.frames ≤ 300 }
     requires shallow { begun.old.deepest ≤ 300 }
     requires bounded { inside ≤ 300 }
     ensures frames { begun.new.frames ≡ begun.old.frames }
-    ensures fits { let depth = max begun.old.deepest (length (stack_of begun.old.frames.items) + suc (max inside 1)) in
+    ensures fits { let depth = max begun.old.deepest (length (stack_of begun.old.frames) + suc (max inside 1)) in
         IsTrue result → (begun.new.deepest ≡ depth) × (depth ≤ 300) }
-    ensures deep { IsFalse result → 300 < length (stack_of begun.old.frames.items) + suc (max inside 1) }
+    ensures deep { IsFalse result → 300 < length (stack_of begun.old.frames) + suc (max inside 1) }
 {
     let depth = begun.frames.len() as u32 + 1 + inside.max(1);
     if depth > 300 {
@@ -38,22 +37,22 @@ fn deepen(begun: &mut Begun, inside: u32) -> bool
 
 /// Puts a frame on the stack, unless the formula becomes too deep.
 pub fn enter(begun: &mut Begun, frame: Frame) -> Result<Outcome, Stop>
-    requires low { length (stack_of begun.old.frames.items) ≤ 300 }
+    requires low { length begun.old.frames ≤ 300 }
     requires shallow { begun.old.deepest ≤ 300 }
-    ensures { (f : Arithmetic) → begun.old.deepest ≡ depth (plugged (stack_of begun.old.frames.items) f) → depth f ≤ suc (max (inside (frame_of frame)) 1) →
-        ComesTo (within (frame_of frame ∷ stack_of begun.old.frames.items) wanted) begun.new result }
+    ensures { (f : Arithmetic) → begun.old.deepest ≡ depth (plugged (stack_of begun.old.frames) f) → depth f ≤ suc (max (inside (frame_of frame)) 1) →
+        ComesTo (within (frame_of frame ∷ stack_of begun.old.frames) wanted) begun.new result }
 {
     if !deepen(begun, inside(&frame)) {
         return Err(Stop::TooDeep);
     }
-    push_frame(&mut begun.frames, frame)?;
+    begun.frames.push(frame)?;
     Ok(Outcome::Within(Place::Wanted))
 }
 
 /// A frame where a formula is wanted.
 pub fn open(begun: &mut Begun, place: Place, frame: Frame) -> Result<Outcome, Stop>
     requires { IsMeasured begun.old (Outcome.Within place) }
-    ensures { ComesTo (enters (opening (frame_of frame)) (within (stack_of begun.old.frames.items) (place_of place))) begun.new result }
+    ensures { ComesTo (enters (opening (frame_of frame)) (within (stack_of begun.old.frames) (place_of place))) begun.new result }
 {
     match place {
         Place::Wanted => enter(begun, frame),
@@ -68,7 +67,7 @@ pub fn open(begun: &mut Begun, place: Place, frame: Frame) -> Result<Outcome, St
 /// The colon behind the names of a quantifier.
 pub fn open_body(begun: &mut Begun, place: Place) -> Result<Outcome, Stop>
     requires { IsMeasured begun.old (Outcome.Within place) }
-    ensures { ComesTo (enters body (within (stack_of begun.old.frames.items) (place_of place))) begun.new result }
+    ensures { ComesTo (enters body (within (stack_of begun.old.frames) (place_of place))) begun.new result }
 {
     match place {
         Place::Named(quant, names) => enter(begun, Frame::Colon(quant, names)),
@@ -82,11 +81,11 @@ pub fn open_body(begun: &mut Begun, place: Place) -> Result<Outcome, Stop>
 
 /// Where a number, a name or a quantifier leads. The innermost formula is two deep then, by which the whole may be too deep.
 pub fn begin(begun: &mut Begun, next: Result<Place, Stop>) -> Result<Outcome, Stop>
-    requires low { length (stack_of begun.old.frames.items) ≤ 300 }
+    requires low { length begun.old.frames ≤ 300 }
     requires shallow { begun.old.deepest ≤ 300 }
     ensures { (move : machine.Place → Option machine.Place) (p : machine.Place) → BecomesTwo move → MovesTo (move p) next →
-        begun.old.deepest ≡ depth (plugged (stack_of begun.old.frames.items) (completed p)) →
-        ComesTo (moves move (within (stack_of begun.old.frames.items) p)) begun.new result }
+        begun.old.deepest ≡ depth (plugged (stack_of begun.old.frames) (completed p)) →
+        ComesTo (moves move (within (stack_of begun.old.frames) p)) begun.new result }
 {
     let place = next?;
     if !deepen(begun, 0) {
@@ -101,9 +100,9 @@ fn begin_list(
     op: Junction,
     operand: Operand,
 ) -> Result<Outcome, Stop>
-    requires measured { begun.old.deepest ≡ depth (plugged (stack_of begun.old.frames.items) (arithmetic_of operand.formula)) }
+    requires measured { begun.old.deepest ≡ depth (plugged (stack_of begun.old.frames) (arithmetic_of operand.formula)) }
     requires shallow { begun.old.deepest ≤ 300 }
-    ensures { ComesTo (within (behind_joining op (one (arithmetic_of operand.formula)) ∷ stack_of begun.old.frames.items) wanted) begun.new result }
+    ensures { ComesTo (within (behind_joining op (one (arithmetic_of operand.formula)) ∷ stack_of begun.old.frames) wanted) begun.new result }
 {
     let operands = first_operand(alloc, operand)?;
     enter(begun, Frame::Joining(op, operands))
@@ -115,9 +114,9 @@ fn go_further(
     operands: Operands,
     operand: Operand,
 ) -> Result<Outcome, Stop>
-    requires measured { begun.old.deepest ≡ depth (plugged (behind_joining op (arithmetics_of operands.list) ∷ stack_of begun.old.frames.items) (arithmetic_of operand.formula)) }
+    requires measured { begun.old.deepest ≡ depth (plugged (behind_joining op (arithmetics_of operands.list) ∷ stack_of begun.old.frames) (arithmetic_of operand.formula)) }
     requires shallow { begun.old.deepest ≤ 300 }
-    ensures { ComesTo (within (behind_joining op (with_last (arithmetics_of operands.list) (arithmetic_of operand.formula)) ∷ stack_of begun.old.frames.items) wanted) begun.new result }
+    ensures { ComesTo (within (behind_joining op (with_last (arithmetics_of operands.list) (arithmetic_of operand.formula)) ∷ stack_of begun.old.frames) wanted) begun.new result }
 {
     let operands = with_operand(operands, operand)?;
     enter(begun, Frame::Joining(op, operands))
@@ -130,17 +129,17 @@ pub fn join(
     op: Junction,
     operand: Operand,
 ) -> Result<Outcome, Stop>
-    requires measured { begun.old.deepest ≡ depth (plugged (stack_of begun.old.frames.items) (arithmetic_of operand.formula)) }
+    requires measured { begun.old.deepest ≡ depth (plugged (stack_of begun.old.frames) (arithmetic_of operand.formula)) }
     requires shallow { begun.old.deepest ≤ 300 }
-    ensures { ComesTo (linked op (stack_of begun.old.frames.items, arithmetic_of operand.formula)) begun.new result }
+    ensures { ComesTo (linked op (stack_of begun.old.frames, arithmetic_of operand.formula)) begun.new result }
 {
-    let Some(frame) = pop_frame(&mut begun.frames) else {
+    let Some(frame) = begun.frames.pop() else {
         return begin_list(alloc, begun, op, operand);
     };
     match link_of(op, frame) {
         Link::Further(operands) => go_further(begun, op, operands, operand),
         Link::Other(frame) => {
-            push_frame(&mut begun.frames, frame)?;
+            begun.frames.push(frame)?;
             begin_list(alloc, begun, op, operand)
         }
     }

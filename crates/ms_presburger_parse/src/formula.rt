@@ -1,24 +1,20 @@
-ghost use Rattle.std.specs.Prelude.{◌≡◌, IfOk, IfErr};
+ghost use Rattle.std.specs.Prelude.{◌≡◌, IfOk};
 ghost use Rattle.ms_presburger.specs.Tree.{negation, quantified};
 ghost use Rattle.ms_presburger.specs.View.{arithmetic_of};
 ghost use Rattle.ms_presburger_parse.specs.inner.Lists.{arithmetics_of};
 ghost use Rattle.ms_presburger_parse.specs.inner.Machine.{binary, joined};
-ghost use Rattle.ms_presburger_parse.specs.declared.stop.Stop.TheVariants.{Memory};
 
-use crate::memory::boxed;
 use crate::operator::{Binary, Junction};
-use crate::stop::Stop;
-use ms_list::{List, Name};
+use ms_list::{List, Name, NoMemory, on_heap};
 use ms_logic::Quant;
 use ms_presburger::Linear;
 use std::alloc::Global;
 
 /// `~` before its operand.
-pub fn negated(alloc: Global, operand: Linear) -> Result<Linear, Stop>
-    ensures ok { IfOk result (λ made. arithmetic_of made ≡ negation (arithmetic_of operand)) }
-    ensures err { IfErr result (λ stop. stop ≡ Memory) }
+pub fn negated(alloc: Global, operand: Linear) -> Result<Linear, NoMemory>
+    ensures { IfOk result (λ made. arithmetic_of made ≡ negation (arithmetic_of operand)) }
 {
-    let body = boxed(alloc, operand)?;
+    let body = on_heap(alloc, operand)?;
     Ok(Linear::Not(body))
 }
 
@@ -28,21 +24,19 @@ pub fn quantified(
     quant: Quant,
     names: List<Name>,
     body: Linear,
-) -> Result<Linear, Stop>
-    ensures ok { IfOk result (λ made. arithmetic_of made ≡ quantified quant names (arithmetic_of body)) }
-    ensures err { IfErr result (λ stop. stop ≡ Memory) }
+) -> Result<Linear, NoMemory>
+    ensures { IfOk result (λ made. arithmetic_of made ≡ quantified quant names (arithmetic_of body)) }
 {
-    let body = boxed(alloc, body)?;
+    let body = on_heap(alloc, body)?;
     Ok(Linear::Bind(quant, names, body))
 }
 
 /// An operator between its operands.
-pub fn infixed(alloc: Global, op: Binary, left: Linear, right: Linear) -> Result<Linear, Stop>
-    ensures ok { IfOk result (λ made. arithmetic_of made ≡ binary op (arithmetic_of left) (arithmetic_of right)) }
-    ensures err { IfErr result (λ stop. stop ≡ Memory) }
+pub fn infixed(alloc: Global, op: Binary, left: Linear, right: Linear) -> Result<Linear, NoMemory>
+    ensures { IfOk result (λ made. arithmetic_of made ≡ binary op (arithmetic_of left) (arithmetic_of right)) }
 {
-    let left = boxed(alloc, left)?;
-    let right = boxed(alloc, right)?;
+    let left = on_heap(alloc, left)?;
+    let right = on_heap(alloc, right)?;
     match op {
         Binary::Equivalence => Ok(Linear::Iff(left, right)),
         Binary::Implication => Ok(Linear::Implies(left, right)),

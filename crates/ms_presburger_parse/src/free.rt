@@ -1,17 +1,14 @@
 //! The free names of a formula, each once, by their first free places. A place costs a look-up: for each name it is kept how many
 //! quantifiers around bind it, and whether it has been noted.
 
-ghost use Rattle.std.specs.Prelude.{◌≡◌, ◌∷◌, ◌++◌, [], ◌+◌, ◌-◌, ◌≤◌, List as Sequence, ℕ, if◌then◌else◌, length, map, IfOk, IfErr, OnOk};
+ghost use Rattle.std.specs.Prelude.{◌≡◌, ◌∷◌, ◌++◌, [], ◌+◌, ◌-◌, ◌≤◌, List as Sequence, ℕ, if◌then◌else◌, length, map, IfOk, OnOk};
 ghost use Rattle.std.specs.Str.{bytes_eq};
 ghost use Rattle.ms_presburger.specs.Tree.{extent, extent_of_all, free_names, free_places, free_places_in_all, names_in_part, names_in_sum};
 ghost use Rattle.ms_presburger.specs.View.{arithmetic_of, arithmetics};
 ghost use Rattle.ms_presburger_parse.specs.inner.Gathering.{Binds, Gathers, IsMarked, bound_in, count_of, is_among, standing_in};
-ghost use Rattle.ms_presburger_parse.specs.declared.stop.Stop.TheVariants.{Memory};
 
-use crate::memory::push;
-use crate::stop::Stop;
 use indexmap::IndexMap;
-use ms_list::{List, Name};
+use ms_list::{List, Name, NoMemory, push};
 use ms_presburger::{Linear, Part};
 use std::alloc::Global;
 
@@ -48,35 +45,32 @@ fn set_standing(
     gathered: &mut Gathered,
     name: &str,
     standing: Standing,
-) -> Result<(), Stop>
+) -> Result<(), NoMemory>
     ensures ok { OnOk result ((x : Sequence ℕ) → standing_in gathered.new x ≡ (if bytes_eq name.now x then standing else standing_in gathered.old x)) }
     ensures names { gathered.new.names ≡ gathered.old.names }
-    ensures err { IfErr result (λ stop. stop ≡ Memory) }
 {
     let Ok(key) = String::from_str(alloc, name) else {
-        return Err(Stop::Memory);
+        return Err(NoMemory);
     };
     let Ok(_) = gathered.standings.insert(key, standing) else {
-        return Err(Stop::Memory);
+        return Err(NoMemory);
     };
     Ok(())
 }
 
-fn keep(alloc: Global, names: &mut List<Name>, name: &str) -> Result<(), Stop>
-    ensures ok { OnOk result (names.new ≡ names.old ++ name.now ∷ []) }
-    ensures err { IfErr result (λ stop. stop ≡ Memory) }
+fn keep(alloc: Global, names: &mut List<Name>, name: &str) -> Result<(), NoMemory>
+    ensures { OnOk result (names.new ≡ names.old ++ name.now ∷ []) }
 {
     let Ok(own) = Name::new(alloc, name) else {
-        return Err(Stop::Memory);
+        return Err(NoMemory);
     };
     push(names, own)
 }
 
 /// A place of a name.
-fn mention(alloc: Global, gathered: &mut Gathered, name: &Name) -> Result<(), Stop>
+fn mention(alloc: Global, gathered: &mut Gathered, name: &Name) -> Result<(), NoMemory>
     requires { IsMarked gathered.old }
-    ensures ok { OnOk result (Gathers gathered.old gathered.new (name.now ∷ [])) }
-    ensures err { IfErr result (λ stop. stop ≡ Memory) }
+    ensures { OnOk result (Gathers gathered.old gathered.new (name.now ∷ [])) }
 {
     let standing = standing_of(gathered, name.text());
     if standing.bound > 0 || standing.noted {
@@ -90,10 +84,9 @@ fn mention(alloc: Global, gathered: &mut Gathered, name: &Name) -> Result<(), St
     keep(alloc, &mut gathered.names, name.text())
 }
 
-fn mention_part(alloc: Global, gathered: &mut Gathered, part: &Part) -> Result<(), Stop>
+fn mention_part(alloc: Global, gathered: &mut Gathered, part: &Part) -> Result<(), NoMemory>
     requires { IsMarked gathered.old }
-    ensures ok { OnOk result (Gathers gathered.old gathered.new (names_in_part part.now)) }
-    ensures err { IfErr result (λ stop. stop ≡ Memory) }
+    ensures { OnOk result (Gathers gathered.old gathered.new (names_in_part part.now)) }
 {
     match part {
         Part::Number(_) => Ok(()),
@@ -102,10 +95,9 @@ fn mention_part(alloc: Global, gathered: &mut Gathered, part: &Part) -> Result<(
     }
 }
 
-fn mention_sum(alloc: Global, gathered: &mut Gathered, parts: &[Part]) -> Result<(), Stop>
+fn mention_sum(alloc: Global, gathered: &mut Gathered, parts: &[Part]) -> Result<(), NoMemory>
     requires { IsMarked gathered.old }
-    ensures ok { OnOk result (Gathers gathered.old gathered.new (names_in_sum parts.now)) }
-    ensures err { IfErr result (λ stop. stop ≡ Memory) }
+    ensures { OnOk result (Gathers gathered.old gathered.new (names_in_sum parts.now)) }
 {
     for part in parts {
         mention_part(alloc, gathered, part)?;
@@ -114,11 +106,10 @@ fn mention_sum(alloc: Global, gathered: &mut Gathered, parts: &[Part]) -> Result
 }
 
 /// The names are bound once more each.
-fn bind(alloc: Global, gathered: &mut Gathered, names: &[Name]) -> Result<(), Stop>
+fn bind(alloc: Global, gathered: &mut Gathered, names: &[Name]) -> Result<(), NoMemory>
     requires marked { IsMarked gathered.old }
     requires room { (x : Sequence ℕ) → bound_in gathered.old x + length names.now ≤ 67108864 }
-    ensures ok { OnOk result (Binds gathered.old gathered.new (λ x. bound_in gathered.old x + count_of names.now x)) }
-    ensures err { IfErr result (λ stop. stop ≡ Memory) }
+    ensures { OnOk result (Binds gathered.old gathered.new (λ x. bound_in gathered.old x + count_of names.now x)) }
 {
     for name in names {
         let Standing { bound, noted } = standing_of(gathered, name.text());
@@ -132,11 +123,10 @@ fn bind(alloc: Global, gathered: &mut Gathered, names: &[Name]) -> Result<(), St
 }
 
 /// The names are bound once less each.
-fn unbind(alloc: Global, gathered: &mut Gathered, names: &[Name]) -> Result<(), Stop>
+fn unbind(alloc: Global, gathered: &mut Gathered, names: &[Name]) -> Result<(), NoMemory>
     requires marked { IsMarked gathered.old }
     requires bound { (x : Sequence ℕ) → count_of names.now x ≤ bound_in gathered.old x }
-    ensures ok { OnOk result (Binds gathered.old gathered.new (λ x. bound_in gathered.old x - count_of names.now x)) }
-    ensures err { IfErr result (λ stop. stop ≡ Memory) }
+    ensures { OnOk result (Binds gathered.old gathered.new (λ x. bound_in gathered.old x - count_of names.now x)) }
 {
     for name in names {
         let Standing { bound, noted } = standing_of(gathered, name.text());
@@ -151,11 +141,10 @@ fn unbind(alloc: Global, gathered: &mut Gathered, names: &[Name]) -> Result<(), 
 
 /// The free names of a formula, where names are bound around it.
 #[cycle(gathering)]
-fn gather(alloc: Global, gathered: &mut Gathered, formula: &Linear) -> Result<(), Stop>
+fn gather(alloc: Global, gathered: &mut Gathered, formula: &Linear) -> Result<(), NoMemory>
     requires marked { IsMarked gathered.old }
     requires room { (x : Sequence ℕ) → bound_in gathered.old x + extent (arithmetic_of formula.now) ≤ 67108864 }
-    ensures ok { OnOk result (Gathers gathered.old gathered.new (free_places (arithmetic_of formula.now))) }
-    ensures err { IfErr result (λ stop. stop ≡ Memory) }
+    ensures { OnOk result (Gathers gathered.old gathered.new (free_places (arithmetic_of formula.now))) }
 {
     match formula {
         Linear::True => Ok(()),
@@ -186,11 +175,10 @@ fn gather(alloc: Global, gathered: &mut Gathered, formula: &Linear) -> Result<()
 
 /// The same for each formula of a list.
 #[cycle(gathering)]
-fn gather_all(alloc: Global, gathered: &mut Gathered, operands: &[Linear]) -> Result<(), Stop>
+fn gather_all(alloc: Global, gathered: &mut Gathered, operands: &[Linear]) -> Result<(), NoMemory>
     requires marked { IsMarked gathered.old }
     requires room { (x : Sequence ℕ) → bound_in gathered.old x + extent_of_all (arithmetics (map arithmetic_of operands.now)) ≤ 67108864 }
-    ensures ok { OnOk result (Gathers gathered.old gathered.new (free_places_in_all (arithmetics (map arithmetic_of operands.now)))) }
-    ensures err { IfErr result (λ stop. stop ≡ Memory) }
+    ensures { OnOk result (Gathers gathered.old gathered.new (free_places_in_all (arithmetics (map arithmetic_of operands.now)))) }
 {
     for operand in operands {
         gather(alloc, gathered, operand)?;
@@ -210,10 +198,9 @@ fn nothing_gathered(alloc: Global) -> Gathered
 }
 
 /// The free names of a formula, each once, by their first free places.
-pub fn free_names(alloc: Global, formula: &Linear) -> Result<List<Name>, Stop>
+pub fn free_names(alloc: Global, formula: &Linear) -> Result<List<Name>, NoMemory>
     requires { extent (arithmetic_of formula.now) ≤ 67108864 }
-    ensures ok { IfOk result (λ names. names ≡ free_names (arithmetic_of formula.now)) }
-    ensures err { IfErr result (λ stop. stop ≡ Memory) }
+    ensures { IfOk result (λ names. names ≡ free_names (arithmetic_of formula.now)) }
 {
     let mut gathered = nothing_gathered(alloc);
     gather(alloc, &mut gathered, formula)?;

@@ -10,17 +10,15 @@ mod free;
 mod laws;
 mod levels;
 mod link;
-mod memory;
 mod moves;
 mod operand;
 mod operands;
 mod operator;
 mod place;
 mod read;
-mod stack;
+mod settle;
 mod state;
 mod step;
-mod stop;
 mod terminal;
 
 pub use examples::{

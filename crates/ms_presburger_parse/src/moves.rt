@@ -1,19 +1,17 @@
 //! What single symbols do within the innermost formula.
 
-ghost use Rattle.std.specs.Prelude.{◌≡◌, IsUtf8, IfOk, IfErr};
+ghost use Rattle.std.specs.Prelude.{◌≡◌, IsUtf8, IfOk};
 ghost use Rattle.ms_presburger.specs.Tree.{depth};
 ghost use Rattle.ms_presburger.specs.View.{arithmetic_of};
 ghost use Rattle.ms_presburger_parse.specs.inner.Machine.{operand, times, with_comma, with_leaf, with_name, with_number, with_plus, with_quantifier, with_relation};
 ghost use Rattle.ms_presburger_parse.specs.inner.States.{HasOperand, MovesTo, place_of, side_of};
-ghost use Rattle.ms_presburger_parse.specs.declared.stop.Stop.TheVariants.{Memory};
 
 use crate::levels::compares;
-use crate::memory::push;
 use crate::operand::Operand;
 use crate::place::{Place, Side};
-use crate::stop::Stop;
-use ms_list::{List, Name};
+use ms_list::{List, Name, NoMemory, push};
 use ms_logic::{Quant, Rel};
+use ms_parse_stack::Stop;
 use ms_presburger::{Linear, Part};
 use std::alloc::Global;
 use std::str;
@@ -70,17 +68,16 @@ fn with_name(alloc: Global, place: Place, name: Name) -> Result<Place, Stop>
     }
 }
 
-fn name_of(alloc: Global, slice: &[u8]) -> Result<Name, Stop>
+fn name_of(alloc: Global, slice: &[u8]) -> Result<Name, NoMemory>
     requires { IsUtf8 slice.now }
-    ensures ok { IfOk result (λ made. made ≡ slice.now) }
-    ensures err { IfErr result (λ stop. stop ≡ Memory) }
+    ensures { IfOk result (λ made. made ≡ slice.now) }
 {
     let Ok(text) = str::from_utf8(slice) else {
         unreachable!()
     };
     match Name::new(alloc, text) {
         Ok(name) => Ok(name),
-        Err(_) => Err(Stop::Memory),
+        Err(_) => Err(NoMemory),
     }
 }
 

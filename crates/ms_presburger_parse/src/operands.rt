@@ -1,19 +1,15 @@
-ghost use Rattle.std.specs.Prelude.{◌≡◌, IfOk, IfErr};
+ghost use Rattle.std.specs.Prelude.{◌≡◌, IfOk};
 ghost use Rattle.ms_presburger.specs.View.{arithmetic_of};
 ghost use Rattle.ms_presburger_parse.specs.inner.Lists.{arithmetics_of};
 ghost use Rattle.ms_presburger_parse.specs.inner.Machine.{one, with_last};
-ghost use Rattle.ms_presburger_parse.specs.declared.stop.Stop.TheVariants.{Memory};
 
-use crate::memory::push;
 use crate::operand::{Operand, Operands};
-use crate::stop::Stop;
-use ms_list::List;
+use ms_list::{List, NoMemory, push};
 use std::alloc::Global;
 
 /// The first operand of a list.
-pub fn first_operand(alloc: Global, operand: Operand) -> Result<Operands, Stop>
-    ensures ok { IfOk result (λ made. arithmetics_of made.list ≡ one (arithmetic_of operand.formula)) }
-    ensures err { IfErr result (λ stop. stop ≡ Memory) }
+pub fn first_operand(alloc: Global, operand: Operand) -> Result<Operands, NoMemory>
+    ensures { IfOk result (λ made. arithmetics_of made.list ≡ one (arithmetic_of operand.formula)) }
 {
     let height = operand.height;
     let Operand { formula, .. } = operand;
@@ -23,9 +19,8 @@ pub fn first_operand(alloc: Global, operand: Operand) -> Result<Operands, Stop>
 }
 
 /// The operands and one more.
-pub fn with_operand(operands: Operands, operand: Operand) -> Result<Operands, Stop>
-    ensures ok { IfOk result (λ made. arithmetics_of made.list ≡ with_last (arithmetics_of operands.list) (arithmetic_of operand.formula)) }
-    ensures err { IfErr result (λ stop. stop ≡ Memory) }
+pub fn with_operand(operands: Operands, operand: Operand) -> Result<Operands, NoMemory>
+    ensures { IfOk result (λ made. arithmetics_of made.list ≡ with_last (arithmetics_of operands.list) (arithmetic_of operand.formula)) }
 {
     let height = operands.height.max(operand.height);
     let Operands { mut list, .. } = operands;

@@ -11,10 +11,10 @@ use crate::operand::Operand;
 use crate::place::Place;
 use crate::state::{Begun, Outcome};
 use crate::step::step;
-use crate::stop::Stop;
 use crate::terminal::terminal_of;
 use ms_edge::Refusal;
-use ms_list::{At, let_go};
+use ms_list::let_go;
+use ms_parse_stack::{Stack, Stop, refusal_at, refusal_at_end};
 use ms_presburger::{Linear, Problem};
 use ms_text::Tokens;
 use std::alloc::Global;
@@ -37,29 +37,6 @@ fn step_at(
     let slice = tokens.slice(i);
     let terminal = terminal_of(token.kind, slice);
     step(alloc, begun, outcome, terminal, slice)
-}
-
-/// The refusal where the reading stops at the token with a number.
-fn refusal_at(tokens: &Tokens, file: u32, i: u32, stop: Stop) -> Refusal
-    requires { i < length tokens.now.tokens }
-    ensures { StopsAt tokens.now i stop → (result ≡ Refusal.Memory) ⊎ IsProblemFault file tokens.now result }
-{
-    let place = tokens.get(i).place;
-    let at = At { file, place };
-    match stop {
-        Stop::Memory => Refusal::Memory,
-        Stop::Misplaced => Refusal::Grammar { at },
-        Stop::TooDeep => Refusal::Depth { at },
-    }
-}
-
-/// The refusal where the text ends too early.
-fn refusal_at_end(tokens: &Tokens, file: u32) -> Refusal
-    ensures { result ≡ Refusal.Grammar (record { file = file; place = length tokens.now.bytes }) }
-{
-    let place = tokens.end();
-    let at = At { file, place };
-    Refusal::Grammar { at }
 }
 
 /// The formula with its free names.
@@ -106,7 +83,7 @@ fn finish(
 fn nothing_begun(alloc: Global) -> Begun
     ensures { (tokens : Lexed) → HasCome tokens 0 result (Outcome.Within Place.Wanted) }
 {
-    let frames = Vec::new(alloc);
+    let frames = Stack::new(alloc);
     Begun { frames, deepest: 1 }
 }
 

@@ -1,11 +1,12 @@
 use crate::frame::Frame;
 use crate::operand::Operand;
 use crate::place::Place;
+use ms_parse_stack::Stack;
 
 /// What has been begun, and the depth of the shortest formula that begins so.
 #[derive(Drop)]
 pub struct Begun {
-    pub frames: Vec<Frame>,
+    pub frames: Stack<Frame>,
     pub deepest: u32,
 }
 

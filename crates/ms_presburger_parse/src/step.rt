@@ -9,7 +9,7 @@ ghost use Rattle.ms_presburger_parse.specs.inner.Terminals.{symbol_with};
 use crate::complete::complete_brackets;
 use crate::enter::{begin, enter, join, open, open_body};
 use crate::frame::Frame;
-use crate::levels::{junction_level, left_level};
+use crate::levels::{left_level, operand_level};
 use crate::moves::{
     operand_of, read_name, with_comma, with_leaf, with_number, with_plus, with_quantifier,
     with_relation,
@@ -17,26 +17,26 @@ use crate::moves::{
 use crate::operand::Operand;
 use crate::operator::{Binary, Junction};
 use crate::place::Place;
-use crate::stack::{pop_frame, settle};
+use crate::settle::settle;
 use crate::state::{Begun, Outcome};
-use crate::stop::Stop;
 use crate::terminal::Terminal;
 use ms_list::let_go;
+use ms_parse_stack::Stop;
 use ms_presburger::Linear;
 use std::alloc::Global;
 
 /// The left operand of a symbol that wants one of a level.
 fn left_operand(alloc: Global, begun: &mut Begun, place: Place, least: u32) -> Result<Operand, Stop>
     requires { IsMeasured begun.old (Outcome.Within place) }
-    ensures { Settles least (within (stack_of begun.old.frames.items) (place_of place)) begun.new result }
+    ensures { Settles least (within (stack_of begun.old.frames) (place_of place)) begun.new result }
 {
     let operand = operand_of(place)?;
-    settle(alloc, &mut begun.frames, operand, least)
+    Ok(settle(alloc, &mut begun.frames, operand, least)?)
 }
 
 fn read_infix(alloc: Global, begun: &mut Begun, place: Place, op: Binary) -> Result<Outcome, Stop>
     requires { IsMeasured begun.old (Outcome.Within place) }
-    ensures { ComesTo (behind (left_level op) (infixed op) (within (stack_of begun.old.frames.items) (place_of place))) begun.new result }
+    ensures { ComesTo (behind (left_level op) (infixed op) (within (stack_of begun.old.frames) (place_of place))) begun.new result }
 {
     let left = left_operand(alloc, begun, place, left_level(op))?;
     enter(begun, Frame::Infix(op, left))
@@ -49,9 +49,9 @@ fn read_joining(
     op: Junction,
 ) -> Result<Outcome, Stop>
     requires { IsMeasured begun.old (Outcome.Within place) }
-    ensures { ComesTo (behind (suc (junction_level op)) (linked op) (within (stack_of begun.old.frames.items) (place_of place))) begun.new result }
+    ensures { ComesTo (behind (suc (junction_level op)) (linked op) (within (stack_of begun.old.frames) (place_of place))) begun.new result }
 {
-    let operand = left_operand(alloc, begun, place, junction_level(op) + 1)?;
+    let operand = left_operand(alloc, begun, place, operand_level(op))?;
     join(alloc, begun, op, operand)
 }
 
@@ -69,11 +69,11 @@ fn is_brackets(frame: &Frame) -> bool
 
 /// `)` behind an operand.
 fn close(alloc: Global, begun: &mut Begun, operand: Operand) -> Result<Outcome, Stop>
-    requires measured { begun.old.deepest ≡ depth (plugged (stack_of begun.old.frames.items) (arithmetic_of operand.formula)) }
+    requires measured { begun.old.deepest ≡ depth (plugged (stack_of begun.old.frames) (arithmetic_of operand.formula)) }
     requires shallow { begun.old.deepest ≤ 300 }
-    ensures { ComesTo (closed (stack_of begun.old.frames.items, arithmetic_of operand.formula)) begun.new result }
+    ensures { ComesTo (closed (stack_of begun.old.frames, arithmetic_of operand.formula)) begun.new result }
 {
-    let Some(frame) = pop_frame(&mut begun.frames) else {
+    let Some(frame) = begun.frames.pop() else {
         return Err(Stop::Misplaced);
     };
     if !is_brackets(&frame) {
@@ -86,9 +86,9 @@ fn close(alloc: Global, begun: &mut Begun, operand: Operand) -> Result<Outcome, 
 
 /// `;` behind an operand.
 fn end(begun: &Begun, operand: Operand) -> Result<Outcome, Stop>
-    requires measured { begun.now.deepest ≡ depth (plugged (stack_of begun.now.frames.items) (arithmetic_of operand.formula)) }
+    requires measured { begun.now.deepest ≡ depth (plugged (stack_of begun.now.frames) (arithmetic_of operand.formula)) }
     requires shallow { begun.now.deepest ≤ 300 }
-    ensures { ComesTo (ended (stack_of begun.now.frames.items, arithmetic_of operand.formula)) begun.now result }
+    ensures { ComesTo (ended (stack_of begun.now.frames, arithmetic_of operand.formula)) begun.now result }
 {
     if begun.frames.is_empty() {
         Ok(Outcome::Done(operand))
@@ -99,7 +99,7 @@ fn end(begun: &Begun, operand: Operand) -> Result<Outcome, Stop>
 
 fn read_close(alloc: Global, begun: &mut Begun, place: Place) -> Result<Outcome, Stop>
     requires { IsMeasured begun.old (Outcome.Within place) }
-    ensures { ComesTo (behind 0 closed (within (stack_of begun.old.frames.items) (place_of place))) begun.new result }
+    ensures { ComesTo (behind 0 closed (within (stack_of begun.old.frames) (place_of place))) begun.new result }
 {
     let operand = left_operand(alloc, begun, place, 0)?;
     close(alloc, begun, operand)
@@ -107,7 +107,7 @@ fn read_close(alloc: Global, begun: &mut Begun, place: Place) -> Result<Outcome,
 
 fn read_end(alloc: Global, begun: &mut Begun, place: Place) -> Result<Outcome, Stop>
     requires { IsMeasured begun.old (Outcome.Within place) }
-    ensures { ComesTo (behind 0 ended (within (stack_of begun.old.frames.items) (place_of place))) begun.new result }
+    ensures { ComesTo (behind 0 ended (within (stack_of begun.old.frames) (place_of place))) begun.new result }
 {
     let operand = left_operand(alloc, begun, place, 0)?;
     end(begun, operand)
@@ -131,7 +131,7 @@ fn step_within(
 ) -> Result<Outcome, Stop>
     requires measured { IsMeasured begun.old (Outcome.Within place) }
     requires text { terminal ≡ Terminal.Name → IsUtf8 slice.now }
-    ensures { ComesTo (step (within (stack_of begun.old.frames.items) (place_of place)) (symbol_with terminal slice.now)) begun.new result }
+    ensures { ComesTo (step (within (stack_of begun.old.frames) (place_of place)) (symbol_with terminal slice.now)) begun.new result }
 {
     match terminal {
         Terminal::Name => begin(begun, read_name(alloc, place, slice)),

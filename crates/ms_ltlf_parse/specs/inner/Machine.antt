@@ -1,6 +1,7 @@
 -- A machine that reads symbols from left to right. What has been begun stands on a stack of frames, the innermost first.
-use Rattle.std.specs.Prelude.{ℕ, suc, Bool, false, nat_le, if◌then◌else◌, List, [], ◌∷◌}
+use Rattle.std.specs.Prelude.{ℕ, suc, Bool, false, nat_le, List, [], ◌∷◌}
 use Rattle.ms_ltlf.specs.Tree.{Temporal, truth, falsity, proposition, brackets, negation, conjunction, disjunction, implication, equivalence, next, weak_next, eventually, always, until, release, Temporals, no_temporals, more_temporals, depth, depth_of_all}
+use Rattle.ms_parse_stack.specs.inner.Settled as stacks
 use Rattle.ms_ltlf_parse.specs.Grammar.{binary_level, left_level, right_level, junction_level, prefix_level}
 use Rattle.ms_ltlf_parse.specs.Symbol.{Symbol, name, word_true, word_false, prefix_operator, infix_operator, joining, open_bracket, close_bracket, semicolon, other}
 use Rattle.ms_ltlf_parse.specs.declared.operator.Binary.{Binary}
@@ -67,8 +68,7 @@ filled (behind_joining op operands) f = joined op (with_last operands f)
 
 -- the formula that the whole stack becomes
 abbrev pub plugged : List Frame → Temporal → Temporal
-plugged [] f = f
-plugged (frame ∷ frames) f = plugged frames (filled frame f)
+plugged frames f = stacks.plugged filled frames f
 
 -- how deep the parts are that a frame has before its hole
 abbrev pub inside : Frame → ℕ
@@ -86,8 +86,7 @@ yields least (behind_joining op operands) = nat_le least (junction_level op)
 
 -- the stack and the operand, after all frames that end there are filled
 abbrev pub settled : ℕ → List Frame → Temporal → List Frame × Temporal
-settled least [] f = ([], f)
-settled least (frame ∷ frames) f = if yields least frame then settled least frames (filled frame f) else (frame ∷ frames, f)
+settled least frames f = stacks.settled filled (yields least) frames f
 
 pub data State : Type 0 where
   -- an operand is wanted

@@ -1,15 +1,15 @@
 -- Where the code stands in a text.
-use Rattle.std.specs.Prelude.{◌≡◌, ℕ, ◌+◌, ◌<◌, ◌≤◌, List, take}
+use Rattle.std.specs.Prelude.{◌≡◌, ℕ, List}
 use Rattle.indexmap.specs.IndexMap.{get_by_text}
 use Rattle.ms_text.specs.TokenList.{Lexed}
-use Rattle.ms_ltlf.specs.Tree.{depth}
-use Rattle.ms_ltlf_parse.specs.Reading.{place, first_sights, greatest_depth}
-use Rattle.ms_ltlf_parse.specs.Symbol.{Symbol, symbols_of}
+use Rattle.ms_ltlf_parse.specs.Reading.{place, first_sights, CanFollow, CanFollowAtAnyDepth}
+use Rattle.ms_ltlf_parse.specs.Symbol.{Symbol, symbol_of}
 use Rattle.ms_ltlf_parse.specs.declared.read.Reader.{Reader}
 use Rattle.ms_ltlf_parse.specs.declared.state.Outcome.{Outcome}
-use Rattle.ms_ltlf_parse.specs.declared.stop.Stop.{Stop}
-use Rattle.ms_ltlf_parse.specs.declared.stop.Stop.TheVariants.{Memory, Misplaced, TooDeep}
-use Rattle.ms_ltlf_parse.specs.inner.Machine.{State, GoesOn, run, shortest, start, stopped}
+use Rattle.ms_parse_stack.specs.Symbols as texts
+use Rattle.ms_parse_stack.specs.declared.stop.Stop.{Stop}
+use Rattle.ms_parse_stack.specs.inner.Stopped as stops
+use Rattle.ms_ltlf_parse.specs.inner.Machine.{State, run, start}
 use Rattle.ms_ltlf_parse.specs.inner.Sights.{IsTable}
 use Rattle.ms_ltlf_parse.specs.inner.States.{IsMeasured, state_of}
 
@@ -19,7 +19,7 @@ reached front = run (place (first_sights front)) start front
 
 -- the symbols of the first tokens, so many
 abbrev pub front : Lexed → ℕ → List Symbol
-front lexed i = symbols_of lexed (take i lexed.tokens)
+front lexed i = texts.front symbol_of lexed i
 
 -- the code has read so many tokens
 pub record HasCome (lexed : Lexed) (i : ℕ) (reader : Reader) (outcome : Outcome) : Type 0 where
@@ -28,13 +28,6 @@ pub record HasCome (lexed : Lexed) (i : ℕ) (reader : Reader) (outcome : Outcom
   pub state : reached (front lexed i) ≡ state_of reader.begun outcome
   pub measured : IsMeasured reader.begun outcome
 
--- so many tokens begin a formula
-pub record HasBegun (lexed : Lexed) (i : ℕ) : Type 0 where
-  pub goes_on : GoesOn (reached (front lexed i))
-  pub shallow : depth (shortest (reached (front lexed i))) ≤ greatest_depth
-
 -- the code stops at the token with this number
 abbrev pub StopsAt : Lexed → ℕ → Stop → Type 0
-StopsAt lexed i Memory = Unit {0}
-StopsAt lexed i Misplaced = HasBegun lexed i × (reached (front lexed (i + 1)) ≡ stopped)
-StopsAt lexed i TooDeep = HasBegun lexed i × GoesOn (reached (front lexed (i + 1))) × (greatest_depth < depth (shortest (reached (front lexed (i + 1)))))
+StopsAt lexed i stop = stops.StopsAt symbol_of CanFollow CanFollowAtAnyDepth lexed i stop

@@ -7,6 +7,7 @@ use Rattle.ms_logic.specs.declared.mode.Rel.TheVariants.{Equal}
 use Rattle.ms_presburger.specs.declared.linear.Part.{Part}
 use Rattle.ms_presburger.specs.declared.linear.Part.TheVariants.{Number, Var, Times}
 use Rattle.ms_presburger.specs.Tree.{Arithmetic, truth, falsity, comparison, brackets, negation, conjunction, disjunction, implication, equivalence, quantified, Arithmetics, no_arithmetics, more_arithmetics, depth, depth_of_all}
+use Rattle.ms_parse_stack.specs.inner.Settled as stacks
 use Rattle.ms_presburger_parse.specs.Grammar.{binary_level, left_level, right_level, junction_level, prefix_level, compares}
 use Rattle.ms_presburger_parse.specs.Symbol.{Symbol, name, number, word_true, word_false, quantifier, negation_sign, infix_operator, joining, relation, plus, comma, colon, open_bracket, close_bracket, semicolon, other}
 use Rattle.ms_presburger_parse.specs.declared.operator.Binary.{Binary}
@@ -67,8 +68,7 @@ filled (behind_joining op operands) f = joined op (with_last operands f)
 
 -- the formula that the whole stack becomes
 abbrev pub plugged : List Frame → Arithmetic → Arithmetic
-plugged [] f = f
-plugged (frame ∷ frames) f = plugged frames (filled frame f)
+plugged frames f = stacks.plugged filled frames f
 
 -- how deep the parts are that a frame has before its hole
 abbrev pub inside : Frame → ℕ
@@ -89,8 +89,7 @@ yields least (behind_joining op operands) = nat_le least (junction_level op)
 
 -- the stack and the operand, after all frames that end there are filled
 abbrev pub settled : ℕ → List Frame → Arithmetic → List Frame × Arithmetic
-settled least [] f = ([], f)
-settled least (frame ∷ frames) f = if yields least frame then settled least frames (filled frame f) else (frame ∷ frames, f)
+settled least frames f = stacks.settled filled (yields least) frames f
 
 -- which sum of a comparison is read
 pub data Side : Type 0 where

@@ -1,5 +1,5 @@
 -- The states of the machine that the code's states stand for, and when the code takes the machine's steps.
-use Rattle.std.specs.Prelude.{◌≡◌, ℕ, ◌<◌, ◌≤◌, List, [], ◌∷◌, Option, Some, None, Result, Ok, Err, IfSome}
+use Rattle.std.specs.Prelude.{◌≡◌, ℕ, ◌<◌, ◌≤◌, List, ◌∷◌, map, Option, Some, None, Result, Ok, Err, IfSome}
 use Rattle.ms_presburger.specs.Tree.{Arithmetic, depth}
 use Rattle.ms_presburger.specs.View.{arithmetic_of}
 use Rattle.ms_presburger_parse.specs.declared.frame.Frame.{Frame}
@@ -15,8 +15,8 @@ use Rattle.ms_presburger_parse.specs.declared.place.Side.TheVariants as sides
 use Rattle.ms_presburger_parse.specs.declared.state.Begun.{Begun}
 use Rattle.ms_presburger_parse.specs.declared.state.Outcome.{Outcome}
 use Rattle.ms_presburger_parse.specs.declared.state.Outcome.TheVariants as outcomes
-use Rattle.ms_presburger_parse.specs.declared.stop.Stop.{Stop}
-use Rattle.ms_presburger_parse.specs.declared.stop.Stop.TheVariants.{Memory, Misplaced, TooDeep}
+use Rattle.ms_parse_stack.specs.declared.stop.Stop.{Stop}
+use Rattle.ms_parse_stack.specs.declared.stop.Stop.TheVariants.{Memory, Misplaced, TooDeep}
 use Rattle.ms_presburger_parse.specs.inner.Machine as machine
 use Rattle.ms_presburger_parse.specs.inner.Machine.{GoesOn, behind, link, one, plugged, shortest}
 use Rattle.ms_presburger_parse.specs.inner.Lists.{arithmetics_of}
@@ -28,14 +28,8 @@ frame_of (frames.Colon q xs) = machine.behind_colon q xs
 frame_of (frames.Infix op left) = machine.behind_infix op (arithmetic_of left.formula)
 frame_of (frames.Joining op operands) = machine.behind_joining op (arithmetics_of operands.list)
 
--- the stack that the code keeps has its top at the end
-
-abbrev pub stack_on : List machine.Frame → List Frame → List machine.Frame
-stack_on below [] = below
-stack_on below (f ∷ fs) = stack_on (frame_of f ∷ below) fs
-
 abbrev pub stack_of : List Frame → List machine.Frame
-stack_of fs = stack_on [] fs
+stack_of fs = map frame_of fs
 
 abbrev pub side_of : Side → machine.Side
 side_of sides.Left = machine.on_left
@@ -54,7 +48,7 @@ state_with fs (outcomes.Within place) = machine.within fs (place_of place)
 state_with fs (outcomes.Done operand) = machine.done (arithmetic_of operand.formula)
 
 abbrev pub state_of : Begun → Outcome → machine.State
-state_of begun outcome = state_with (stack_of begun.frames.items) outcome
+state_of begun outcome = state_with (stack_of begun.frames) outcome
 
 -- what is kept as the depth is that of the shortest formula that begins so, which is not too deep
 pub record IsMeasured (begun : Begun) (outcome : Outcome) : Type 0 where
@@ -85,8 +79,8 @@ ComesTo s begun (Err TooDeep) = GoesOn s × (300 < depth (shortest s))
 -- an operand, where the stack is settled for a symbol that wants this level on its left, or the symbol cannot stand there
 abbrev pub Settles : ℕ → machine.State → Begun → Result Operand Stop → Type 0
 Settles least s begun (Ok made) =
-    ((act : List machine.Frame × Arithmetic → machine.State) → behind least act s ≡ act (stack_of begun.frames.items, arithmetic_of made.formula))
-    × (begun.deepest ≡ depth (plugged (stack_of begun.frames.items) (arithmetic_of made.formula))) × (begun.deepest ≤ 300)
+    ((act : List machine.Frame × Arithmetic → machine.State) → behind least act s ≡ act (stack_of begun.frames, arithmetic_of made.formula))
+    × (begun.deepest ≡ depth (plugged (stack_of begun.frames) (arithmetic_of made.formula))) × (begun.deepest ≤ 300)
 Settles least s begun (Err Memory) = Unit {0}
 Settles least s begun (Err Misplaced) = (act : List machine.Frame × Arithmetic → machine.State) → behind least act s ≡ machine.stopped
 Settles least s begun (Err TooDeep) = ⊥

@@ -11,5 +11,5 @@ invariant_of-result-clause-measured c =
     let whole = ap depth_of_all (ap temporals_of c.in_ok-push.ensures.ok ∙ temporals_of-push c.args.operands.list c.args.operand.formula) in
     omega (arith, whole, depth-with_last (temporals_of c.args.operands.list) (temporal_of c.args.operand.formula))
 
-pub returns-clause-ok : goal.returns-clause-ok
-returns-clause-ok c = ap temporals_of c.in_ok-push.ensures.ok ∙ temporals_of-push c.args.operands.list c.args.operand.formula
+pub returns : goal.returns
+returns c = ap temporals_of c.in_ok-push.ensures.ok ∙ temporals_of-push c.args.operands.list c.args.operand.formula

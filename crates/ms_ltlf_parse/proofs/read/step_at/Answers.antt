@@ -1,8 +1,9 @@
 use Rattle.std.proofs.Common.{arith}
+use Rattle.ms_ltlf_parse.specs.Symbol.{symbol_of}
 use Rattle.ms_ltlf_parse.specs.inner.Terminals.{symbol_with}
 use Rattle.ms_ltlf_parse.specs.Reading.{place}
-use Rattle.ms_ltlf_parse.proofs.Comings.{come_err, come_ok, comes_next, few_names, has_begun}
-use Rattle.ms_ltlf_parse.proofs.Tokens.{front-next, token_is_utf8}
+use Rattle.ms_ltlf_parse.proofs.Comings.{come_err, come_ok, comes_next, few_names, can_follow}
+use Rattle.ms_parse_stack.proofs.Tokens.{front-next, token_is_utf8}
 use Rattle.ms_ltlf_parse.proofs.read.step_at.Goals as goal
 
 pub number_of-requires-clause-room : goal.number_of-requires-clause-room
@@ -18,7 +19,7 @@ returns-clause-ok c =
     let slice = c.slice-slice.result.now in
     let x = symbol_with c.terminal_of-terminal.result slice in
     let names = c.number_of.new.sights.names in
-    let next = front-next lexed c.args.i c.get-token.result slice x c.get-token.ensures.token c.slice-slice.ensures.slice c.terminal_of-terminal.ensures.symbol in
+    let next = front-next symbol_of lexed c.args.i c.get-token.result slice x c.get-token.ensures.token c.slice-slice.ensures.slice c.terminal_of-terminal.ensures.symbol in
     let all = comes_next lexed c.args.i c.args.reader.now c.args.outcome x names c.step.new.begun c.step.result c.requires.here next c.in_ok-number.ensures.names (c.step.ensures (place names) slice c.in_ok-number.ensures.number) in
     come_ok lexed c.args.i c.number_of.new.sights c.step.new.begun c.step.result all.0 c.in_ok-number.ensures.table all.1
 
@@ -28,6 +29,6 @@ returns-clause-err c =
     let slice = c.slice-slice.result.now in
     let x = symbol_with c.terminal_of-terminal.result slice in
     let names = c.number_of.new.sights.names in
-    let next = front-next lexed c.args.i c.get-token.result slice x c.get-token.ensures.token c.slice-slice.ensures.slice c.terminal_of-terminal.ensures.symbol in
+    let next = front-next symbol_of lexed c.args.i c.get-token.result slice x c.get-token.ensures.token c.slice-slice.ensures.slice c.terminal_of-terminal.ensures.symbol in
     let all = comes_next lexed c.args.i c.args.reader.now c.args.outcome x names c.step.new.begun c.step.result c.requires.here next c.in_ok-number.ensures.names (c.step.ensures (place names) slice c.in_ok-number.ensures.number) in
-    come_err lexed c.args.i c.step.new.begun c.step.result (has_begun lexed c.args.i c.args.reader.now c.args.outcome c.requires.here) all.1
+    come_err lexed c.args.i c.step.new.begun c.step.result (can_follow lexed c.args.i c.args.reader.now c.args.outcome c.requires.here) all.1

@@ -2,5 +2,5 @@ use Rattle.std.proofs.Common.{arith}
 use Rattle.std.proofs.lemmas.Map.Text.{text_keys}
 use Rattle.ms_ltlf_parse.proofs.sights.note.Goals as goal
 
-pub returns-clause-ok : goal.returns-clause-ok
-returns-clause-ok c = λ n. grind (arith, text_keys)
+pub returns : goal.returns
+returns c = λ n. grind (arith, text_keys)

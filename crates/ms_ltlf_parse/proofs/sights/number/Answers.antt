@@ -9,8 +9,8 @@ returns-clause-table c =
     let held = get_by_text c.args.sights.now.places in
     let held' = get_by_text c.note.new.places in
     let none = sym c.place_of.ensures ∙ c.in_default.is in
-    subst (IsTable held') (sym c.in_ok-keep.ensures.ok)
-    (table_more held held' c.args.sights.now.names c.args.name.now c.len-place.result c.requires.table none c.len-place.ensures c.in_ok-note.ensures.ok)
+    subst (IsTable held') (sym c.in_ok-keep.ensures)
+    (table_more held held' c.args.sights.now.names c.args.name.now c.len-place.result c.requires.table none c.len-place.ensures c.in_ok-note.ensures)
 
 pub returns-clause-number : goal.returns-clause-number
 returns-clause-number c =

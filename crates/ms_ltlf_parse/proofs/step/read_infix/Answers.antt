@@ -1,8 +1,9 @@
 use Rattle.ms_ltlf.specs.View.{temporal_of}
-use Rattle.ms_ltlf_parse.specs.inner.States.{stack_of}
-use Rattle.ms_ltlf_parse.proofs.Entering.{low}
+use Rattle.ms_ltlf_parse.specs.inner.States.{frame_of}
+use Rattle.ms_parse_stack.proofs.Depths.{low}
+use Rattle.ms_ltlf_parse.proofs.Depths.{depths}
 use Rattle.ms_ltlf_parse.proofs.step.read_infix.Goals as goal
 
 pub enter-requires-clause-low : goal.enter-requires-clause-low
 enter-requires-clause-low c =
-    low (stack_of c.left_operand.new.begun.frames.items) (temporal_of c.in_ok-left.left.formula) c.left_operand.new.begun.deepest c.in_ok-left.ensures.1 c.in_ok-left.ensures.2
+    low depths frame_of c.left_operand.new.begun.frames (temporal_of c.in_ok-left.left.formula) c.left_operand.new.begun.deepest c.in_ok-left.ensures.1 c.in_ok-left.ensures.2

@@ -12,8 +12,8 @@ use Rattle.ms_presburger_parse.proofs.Pushes.{on_ok}
 use Rattle.ms_presburger_parse.proofs.Trees.{arithmetic_of-Compare}
 use Rattle.ms_presburger_parse.proofs.free.+gathering.Goals as goal
 
-pub gather-returns-in_ok-mention_sum-in-Compare-clause-ok : goal.gather-returns-in_ok-mention_sum-in-Compare-clause-ok
-gather-returns-in_ok-mention_sum-in-Compare-clause-ok t c =
+pub gather-returns-in_ok-mention_sum-in-Compare : goal.gather-returns-in_ok-mention_sum-in-Compare
+gather-returns-in_ok-mention_sum-in-Compare t c =
     let before = c.args.gathered.now in
     let middle = c.mention_sum.new.gathered in
     let after = c.mention_sum-in-Compare.new.gathered in
@@ -24,10 +24,10 @@ gather-returns-in_ok-mention_sum-in-Compare-clause-ok t c =
     let is = ap arithmetic_of (c.in-Compare.is ∙ parts) ∙ arithmetic_of-Compare r left right in
     let P : Arithmetic → Type 0 = λ f. Gathers before after (free_places f) in
     on_ok c.mention_sum-in-Compare.result (Gathers middle after (names_in_sum right)) (P (arithmetic_of c.args.formula.now))
-    (λ second. subst P (sym is) (gathers_append before middle after (names_in_sum left) (names_in_sum right) c.in_ok-mention_sum-in-Compare.ensures.ok second)) c.mention_sum-in-Compare.ensures.ok
+    (λ second. subst P (sym is) (gathers_append before middle after (names_in_sum left) (names_in_sum right) c.in_ok-mention_sum-in-Compare.ensures second)) c.mention_sum-in-Compare.ensures
 
-pub gather-returns-in_ok-gather-in-Implies-clause-ok : goal.gather-returns-in_ok-gather-in-Implies-clause-ok
-gather-returns-in_ok-gather-in-Implies-clause-ok t c =
+pub gather-returns-in_ok-gather-in-Implies : goal.gather-returns-in_ok-gather-in-Implies
+gather-returns-in_ok-gather-in-Implies t c =
     let before = c.args.gathered.now in
     let middle = c.gather-in-Implies.new.gathered in
     let after = c.gather-in-Implies-2.new.gathered in
@@ -37,10 +37,10 @@ gather-returns-in_ok-gather-in-Implies-clause-ok t c =
     let is = ap arithmetic_of (c.in-Implies.is ∙ parts) ∙ arithmetic_of-Implies left right in
     let P : Arithmetic → Type 0 = λ f. Gathers before after (free_places f) in
     on_ok c.gather-in-Implies-2.result (Gathers middle after (free_places (arithmetic_of right))) (P (arithmetic_of c.args.formula.now))
-    (λ second. subst P (sym is) (gathers_append before middle after (free_places (arithmetic_of left)) (free_places (arithmetic_of right)) c.in_ok-gather-in-Implies.ensures.ok second)) c.gather-in-Implies-2.ensures.ok
+    (λ second. subst P (sym is) (gathers_append before middle after (free_places (arithmetic_of left)) (free_places (arithmetic_of right)) c.in_ok-gather-in-Implies.ensures second)) c.gather-in-Implies-2.ensures
 
-pub gather-returns-in_ok-gather-in-Iff-clause-ok : goal.gather-returns-in_ok-gather-in-Iff-clause-ok
-gather-returns-in_ok-gather-in-Iff-clause-ok t c =
+pub gather-returns-in_ok-gather-in-Iff : goal.gather-returns-in_ok-gather-in-Iff
+gather-returns-in_ok-gather-in-Iff t c =
     let before = c.args.gathered.now in
     let middle = c.gather-in-Iff.new.gathered in
     let after = c.gather-in-Iff-2.new.gathered in
@@ -50,19 +50,19 @@ gather-returns-in_ok-gather-in-Iff-clause-ok t c =
     let is = ap arithmetic_of (c.in-Iff.is ∙ parts) ∙ arithmetic_of-Iff left right in
     let P : Arithmetic → Type 0 = λ f. Gathers before after (free_places f) in
     on_ok c.gather-in-Iff-2.result (Gathers middle after (free_places (arithmetic_of right))) (P (arithmetic_of c.args.formula.now))
-    (λ second. subst P (sym is) (gathers_append before middle after (free_places (arithmetic_of left)) (free_places (arithmetic_of right)) c.in_ok-gather-in-Iff.ensures.ok second)) c.gather-in-Iff-2.ensures.ok
+    (λ second. subst P (sym is) (gathers_append before middle after (free_places (arithmetic_of left)) (free_places (arithmetic_of right)) c.in_ok-gather-in-Iff.ensures second)) c.gather-in-Iff-2.ensures
 
 pub gather-gather-requires-in-Bind : goal.gather-gather-requires-in-Bind
 gather-gather-requires-in-Bind t c =
     let names = c.slice-in-Bind.result.now in
     let body = c.get-in-Bind.result.now in
-    let binds = c.in_ok-bind-in-Bind.ensures.ok in
+    let binds = c.in_ok-bind-in-Bind.ensures in
     let is : c.args.formula.now ≡ Bind c.in-Bind.field-0 names body =
     c.in-Bind.is ∙ ap (λ (l : List (List ℕ)). Bind c.in-Bind.field-0 l c.in-Bind.body) (sym c.slice-in-Bind.ensures) ∙ ap (λ (b : Linear). Bind c.in-Bind.field-0 names b) (sym c.get-in-Bind.ensures) in
     (search (rules, the_lemmas), (binds.marked, λ x. omega (arith, binds.bound x, count_of-most names x, c.requires.room x, extent-Bind c.in-Bind.field-0 names body c.args.formula.now is)))
 
-pub gather-returns-in_ok-gather-in-Bind-clause-ok : goal.gather-returns-in_ok-gather-in-Bind-clause-ok
-gather-returns-in_ok-gather-in-Bind-clause-ok t c =
+pub gather-returns-in_ok-gather-in-Bind : goal.gather-returns-in_ok-gather-in-Bind
+gather-returns-in_ok-gather-in-Bind t c =
     let before = c.args.gathered.now in
     let bound = c.bind.new.gathered in
     let middle = c.gather-in-Bind.new.gathered in
@@ -76,7 +76,7 @@ gather-returns-in_ok-gather-in-Bind-clause-ok t c =
     let P : Arithmetic → Type 0 = λ f. Gathers before after (free_places f) in
     let Unbinds : List (List ℕ) → Type 0 = λ xs. Binds middle after (λ x. bound_in middle x - count_of xs x) in
     on_ok c.unbind.result (Unbinds c.slice-in-Bind-2.result.now) (P (arithmetic_of c.args.formula.now))
-    (λ unbinds. subst P (sym is) (gathers_bound before bound middle after names (free_places (arithmetic_of body)) c.in_ok-bind-in-Bind.ensures.ok c.in_ok-gather-in-Bind.ensures.ok (subst Unbinds again unbinds))) c.unbind.ensures.ok
+    (λ unbinds. subst P (sym is) (gathers_bound before bound middle after names (free_places (arithmetic_of body)) c.in_ok-bind-in-Bind.ensures c.in_ok-gather-in-Bind.ensures (subst Unbinds again unbinds))) c.unbind.ensures
 
 pub gather_all-gather-requires : goal.gather_all-gather-requires
 gather_all-gather-requires t c =
@@ -90,4 +90,4 @@ gather_all-loop-operand-preserved t c =
     let f = c.operand-item.result in
     let next = places-next operands i f c.loop-operand-test.true c.operand-item.is in
     subst (Gathers c.args.gathered.now c.gather.new.gathered) (sym next)
-    (gathers_append c.args.gathered.now c.loop-operand.gathered c.gather.new.gathered (places_of (take i operands)) (free_places (arithmetic_of f)) c.loop-operand.invariant c.in_ok-gather.ensures.ok)
+    (gathers_append c.args.gathered.now c.loop-operand.gathered c.gather.new.gathered (places_of (take i operands)) (free_places (arithmetic_of f)) c.loop-operand.invariant c.in_ok-gather.ensures)

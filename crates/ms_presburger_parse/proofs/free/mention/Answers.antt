@@ -8,8 +8,8 @@ use Rattle.ms_presburger_parse.proofs.Gatherings.{mentions_new}
 use Rattle.ms_presburger_parse.proofs.Pushes.{on_ok}
 use Rattle.ms_presburger_parse.proofs.free.mention.Goals as goal
 
-pub returns-clause-ok : goal.returns-clause-ok
-returns-clause-ok c =
+pub returns : goal.returns
+returns c =
     let g = c.args.gathered.now in
     let x = c.args.name.now in
     let middle = c.set_standing.new.gathered in
@@ -21,4 +21,4 @@ returns-clause-ok c =
     let Known : List ℕ → Type 0 = λ n. (y : List ℕ) → standing_in middle y ≡ (if bytes_eq n y then record { bound = 0; noted = true } else standing_in g y) in
     let known = subst Known c.text-2.ensures c.in_ok-set_standing.ensures.ok in
     on_ok c.keep.result (c.keep.new.names ≡ middle.names ++ c.text-3.result.now ∷ []) (Gathers g after (x ∷ []))
-    (λ kept. mentions_new g after x c.requires unbound unnoted known (kept ∙ ap (λ ns. ns ++ c.text-3.result.now ∷ []) c.in_ok-set_standing.ensures.names ∙ ap (λ n. g.names ++ n ∷ []) c.text-3.ensures)) c.keep.ensures.ok
+    (λ kept. mentions_new g after x c.requires unbound unnoted known (kept ∙ ap (λ ns. ns ++ c.text-3.result.now ∷ []) c.in_ok-set_standing.ensures.names ∙ ap (λ n. g.names ++ n ∷ []) c.text-3.ensures)) c.keep.ensures

@@ -10,4 +10,4 @@ loop-part-preserved c =
     let i = c.loop-part.part-index in
     let next = sum-next parts i c.part-item.result c.loop-part-test.true c.part-item.is in
     subst (Gathers c.args.gathered.now c.mention_part.new.gathered) (sym next)
-    (gathers_append c.args.gathered.now c.loop-part.gathered c.mention_part.new.gathered (names_in_sum (take i parts)) (names_in_part c.part-item.result) c.loop-part.invariant c.in_ok-mention_part.ensures.ok)
+    (gathers_append c.args.gathered.now c.loop-part.gathered c.mention_part.new.gathered (names_in_sum (take i parts)) (names_in_part c.part-item.result) c.loop-part.invariant c.in_ok-mention_part.ensures)

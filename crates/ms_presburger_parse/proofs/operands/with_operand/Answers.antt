@@ -11,5 +11,5 @@ invariant_of-result-clause-measured c =
     let whole = ap depth_of_all (ap arithmetics_of c.in_ok-push.ensures.ok ∙ arithmetics_of-push c.args.operands.list c.args.operand.formula) in
     omega (arith, whole, depth-with_last (arithmetics_of c.args.operands.list) (arithmetic_of c.args.operand.formula))
 
-pub returns-clause-ok : goal.returns-clause-ok
-returns-clause-ok c = ap arithmetics_of c.in_ok-push.ensures.ok ∙ arithmetics_of-push c.args.operands.list c.args.operand.formula
+pub returns : goal.returns
+returns c = ap arithmetics_of c.in_ok-push.ensures.ok ∙ arithmetics_of-push c.args.operands.list c.args.operand.formula

@@ -7,4 +7,4 @@ free_names-requires c = few_parts c.args.tokens.now (arithmetic_of c.args.formul
 
 pub returns-in-Ok-clause-well_formed : goal.returns-in-Ok-clause-well_formed
 returns-in-Ok-clause-well_formed c =
-    problem_well_formed c.args.tokens.now (record { names = c.in-Ok.names; formula = c.args.formula }) (record { reads = c.requires.read; names = c.in-Ok.ensures.ok }) c.requires.few
+    problem_well_formed c.args.tokens.now (record { names = c.in-Ok.names; formula = c.args.formula }) (record { reads = c.requires.read; names = c.in-Ok.ensures }) c.requires.few

@@ -1,4 +1,10 @@
+use Rattle.std.proofs.Common.{arith}
+use Rattle.ms_presburger_parse.proofs.Faults.{refused}
 use Rattle.ms_presburger_parse.proofs.read.read_problem.Goals as goal
 
 pub loop-i-init : goal.loop-i-init
 loop-i-init c = c.nothing_begun-begun.ensures c.args.tokens.now
+
+pub returns-in-Err-clause-refused : goal.returns-in-Err-clause-refused
+returns-in-Err-clause-refused c =
+    refused c.args.file c.args.tokens.now c.loop-i.i c.in-Err.stop c.refusal_at.result (omega (arith, c.loop-i-test.true, c.loop-i.auto.i-end, c.len-i-end.ensures.tokens)) c.in-Err.ensures.err c.refusal_at.ensures

@@ -1,0 +1,7 @@
+use Rattle.std.proofs.Common.{arith}
+use Rattle.ms_ltlf_parse.proofs.Faults.{refused}
+use Rattle.ms_ltlf_parse.proofs.read.read_trace.Goals as goal
+
+pub returns-in-Err-clause-refused : goal.returns-in-Err-clause-refused
+returns-in-Err-clause-refused c =
+    refused c.args.file c.args.tokens.now c.loop-i.i c.in-Err.stop c.refusal_at.result (omega (arith, c.loop-i-test.true, c.loop-i.auto.i-end, c.len-i-end.ensures.tokens)) c.in-Err.ensures.err c.refusal_at.ensures

@@ -1,0 +1,40 @@
+-- How deep formulas are that are made of a stack.
+use Rattle.std.proofs.Common.{◌≡◌, ℕ, suc, ◌+◌, ◌≤◌, max, List, [], ◌∷◌, length, map, arith}
+use Rattle.std.proofs.lemmas.List.{length-map}
+use Rattle.ms_parse_stack.specs.inner.Settled.{plugged}
+
+-- Formulas have a depth. `inside` is how deep the parts are that a frame has before its hole.
+pub record Depths {Frame Formula : Type 0} (filled : Frame → Formula → Formula) : Type 0 where
+  pub depth : Formula → ℕ
+  pub inside : Frame → ℕ
+  pub depth-filled : (frame : Frame) (f : Formula) → depth (filled frame f) ≡ suc (max (inside frame) (depth f))
+
+module _ {Frame Formula : Type 0} {filled : Frame → Formula → Formula} (d : Depths filled) where
+  -- the greatest depth that the parts before the holes reach in the whole
+  abbrev outside : List Frame → ℕ
+  outside [] = 0
+  outside (frame ∷ frames) = max (outside frames) (length frames + suc (d.inside frame))
+
+  pub depth-plugged : (frames : List Frame) (f : Formula) → d.depth (plugged filled frames f) ≡ max (outside frames) (length frames + d.depth f)
+  depth-plugged [] f = omega arith
+  depth-plugged (frame ∷ frames) f = omega (arith, depth-plugged frames (filled frame f), d.depth-filled frame f)
+
+  pub depth-plugged-le : (frames : List Frame) (f g : Formula) → d.depth f ≤ d.depth g → d.depth (plugged filled frames f) ≤ d.depth (plugged filled frames g)
+  depth-plugged-le frames f g h = omega (arith, depth-plugged frames f, depth-plugged frames g)
+
+  -- a formula in the place of another that is as deep
+  pub same_depth : (frames : List Frame) (f g : Formula) → d.depth f ≡ d.depth g → d.depth (plugged filled frames f) ≡ d.depth (plugged filled frames g)
+  same_depth frames f g same = omega (arith, depth-plugged frames f, depth-plugged frames g)
+
+  -- the part in the hole is no deeper than the whole, by all frames around it
+  pub depth-part : (frames : List Frame) (f : Formula) → length frames + d.depth f ≤ d.depth (plugged filled frames f)
+  depth-part frames f = omega (arith, depth-plugged frames f)
+
+  -- the code's stack is no higher than the whole is deep
+  pub low : {Code : Type 0} (frame_of : Code → Frame) (frames : List Code) (f : Formula) (n : ℕ) → n ≡ d.depth (plugged filled (map frame_of frames) f) → n ≤ 300 → length frames ≤ 300
+  low frame_of frames f n same shallow = omega (arith, length-map frames frame_of, depth-part (map frame_of frames) f)
+
+  -- The depth of the whole where a frame has been begun in the hole, in which a formula stood before that was no deeper.
+  pub entered : (frame : Frame) (frames : List Frame) (f g : Formula) (n : ℕ) → d.depth g ≡ 1 → n ≡ d.depth (plugged filled frames f) → d.depth f ≤ suc (max (d.inside frame) 1)
+      → d.depth (plugged filled (frame ∷ frames) g) ≡ max n (length frames + suc (max (d.inside frame) 1))
+  entered frame frames f g n least same small = omega (arith, depth-plugged frames (filled frame g), d.depth-filled frame g, depth-plugged frames f)

@@ -1,0 +1,4 @@
+pub mod Depths
+pub mod Faults
+pub mod Settling
+pub mod Tokens
