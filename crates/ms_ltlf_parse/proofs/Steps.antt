@@ -5,9 +5,8 @@ use Rattle.ms_ltlf.specs.Tree.{Temporal, depth}
 use Rattle.ms_ltlf.specs.View.{temporal_of}
 use Rattle.ms_ltlf_parse.specs.declared.frame.Frame as code
 use Rattle.ms_ltlf_parse.specs.declared.operand.Operand.{Operand}
-use Rattle.ms_ltlf_parse.specs.declared.state.Begun.{Begun}
 use Rattle.ms_ltlf_parse.specs.inner.Machine.{Frame, in_brackets, behind_prefix, behind_infix, behind_joining, State, holding, stopped, behind, closed, ended, filled, plugged, settled, yields}
-use Rattle.ms_ltlf_parse.specs.inner.States.{Settles, stack_of}
+use Rattle.ms_ltlf_parse.specs.inner.States.{Begun, Settles, stack_of}
 use Rattle.ms_parse_stack.proofs.Settling.{plugged-settled}
 
 pub settles : (least : ℕ) (s : State) (frames : List Frame) (f : Temporal) (begun : Begun) (made : Operand) → s ≡ holding frames f → begun.deepest ≡ depth (plugged frames f) → begun.deepest ≤ 300

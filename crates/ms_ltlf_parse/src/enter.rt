@@ -18,17 +18,14 @@ use std::alloc::Global;
 
 /// Puts a frame on the stack, unless the formula becomes too deep.
 pub fn enter(begun: &mut Begun, frame: Frame) -> Result<Outcome, Stop>
-    requires low { length begun.old.frames ≤ 300 }
-    requires shallow { begun.old.deepest ≤ 300 }
+    requires { begun.old.deepest ≤ 300 }
     ensures { (f : Temporal) → begun.old.deepest ≡ depth (plugged (stack_of begun.old.frames) f) → depth f ≤ suc (max (inside (frame_of frame)) 1) →
         ComesTo (wanted (frame_of frame ∷ stack_of begun.old.frames)) begun.new result }
 {
-    let depth = begun.frames.len() as u32 + 1 + inside(&frame).max(1);
-    if depth > 300 {
+    if !begun.deepen(inside(&frame)) {
         return Err(Stop::TooDeep);
     }
     begun.frames.push(frame)?;
-    begun.deepest = begun.deepest.max(depth);
     Ok(Outcome::Wanted)
 }
 

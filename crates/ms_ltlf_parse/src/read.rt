@@ -14,7 +14,7 @@ use crate::terminal::{Terminal, terminal_of};
 use ms_edge::Refusal;
 use ms_list::{NoMemory, let_go};
 use ms_ltlf::Trace;
-use ms_parse_stack::{Stack, Stop, refusal_at, refusal_at_end};
+use ms_parse_stack::{Stop, refusal_at, refusal_at_end};
 use ms_text::Tokens;
 use std::alloc::Global;
 use std::str;
@@ -96,8 +96,7 @@ fn new_reader(alloc: Global, tokens: &Tokens) -> Reader
     ensures { HasCome tokens.now 0 result Outcome.Wanted }
 {
     let sights = no_sights(alloc);
-    let frames = Stack::new(alloc);
-    let begun = Begun { frames, deepest: 1 };
+    let begun = Begun::nothing(alloc);
     Reader { sights, begun }
 }
 

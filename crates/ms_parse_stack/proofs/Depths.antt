@@ -30,11 +30,14 @@ module _ {Frame Formula : Type 0} {filled : Frame → Formula → Formula} (d : 
   pub depth-part : (frames : List Frame) (f : Formula) → length frames + d.depth f ≤ d.depth (plugged filled frames f)
   depth-part frames f = omega (arith, depth-plugged frames f)
 
-  -- the code's stack is no higher than the whole is deep
-  pub low : {Code : Type 0} (frame_of : Code → Frame) (frames : List Code) (f : Formula) (n : ℕ) → n ≡ d.depth (plugged filled (map frame_of frames) f) → n ≤ 300 → length frames ≤ 300
-  low frame_of frames f n same shallow = omega (arith, length-map frames frame_of, depth-part (map frame_of frames) f)
+  -- The depth of the whole where a formula on the code's stack gives way to one that is no less deep.
+  pub replaced : {Code : Type 0} (frame_of : Code → Frame) (frames : List Code) (f g : Formula) (n : ℕ) → n ≡ d.depth (plugged filled (map frame_of frames) f) → d.depth f ≤ d.depth g
+      → d.depth (plugged filled (map frame_of frames) g) ≡ max n (length frames + d.depth g)
+  replaced frame_of frames f g n same less = omega (arith, length-map frames frame_of, depth-plugged (map frame_of frames) f, depth-plugged (map frame_of frames) g)
 
-  -- The depth of the whole where a frame has been begun in the hole, in which a formula stood before that was no deeper.
-  pub entered : (frame : Frame) (frames : List Frame) (f g : Formula) (n : ℕ) → d.depth g ≡ 1 → n ≡ d.depth (plugged filled frames f) → d.depth f ≤ suc (max (d.inside frame) 1)
-      → d.depth (plugged filled (frame ∷ frames) g) ≡ max n (length frames + suc (max (d.inside frame) 1))
-  entered frame frames f g n least same small = omega (arith, depth-plugged frames (filled frame g), d.depth-filled frame g, depth-plugged frames f)
+  -- The depth of the whole where a frame has been begun upon the code's stack, in the place of a formula that was no deeper.
+  pub entered : {Code : Type 0} (frame_of : Code → Frame) (frame : Frame) (frames : List Code) (f g : Formula) (n : ℕ) → d.depth g ≡ 1 → n ≡ d.depth (plugged filled (map frame_of frames) f) → d.depth f ≤ suc (max (d.inside frame) 1)
+      → d.depth (plugged filled (frame ∷ map frame_of frames) g) ≡ max n (length frames + suc (max (d.inside frame) 1))
+  entered frame_of frame frames f g n least same small =
+      let deep = d.depth-filled frame g in
+      omega (arith, replaced frame_of frames f (filled frame g) n same (omega (arith, small, deep, least)), deep, least)

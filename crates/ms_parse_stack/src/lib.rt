@@ -1,10 +1,12 @@
 //! What machines share that read tokens with a stack: the stack, why they stop at a token, and what is refused then.
 #![tactic(auto)]
 
+mod begun;
 mod refusal;
 mod stack;
 mod stop;
 
+pub use begun::Begun;
 pub use refusal::{refusal_at, refusal_at_end};
 pub use stack::Stack;
 pub use stop::Stop;

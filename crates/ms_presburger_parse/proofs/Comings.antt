@@ -5,14 +5,13 @@ use Rattle.ms_text.specs.TokenList.{Lexed}
 use Rattle.ms_presburger.specs.Tree.{depth}
 use Rattle.ms_presburger_parse.specs.Reading.{CanFollow}
 use Rattle.ms_presburger_parse.specs.Symbol.{Symbol}
-use Rattle.ms_presburger_parse.specs.declared.state.Begun.{Begun}
 use Rattle.ms_presburger_parse.specs.declared.state.Outcome.{Outcome}
 use Rattle.ms_presburger_parse.specs.declared.state.Outcome.TheVariants.{Within, Done}
 use Rattle.ms_parse_stack.specs.declared.stop.Stop.{Stop}
 use Rattle.ms_parse_stack.specs.declared.stop.Stop.TheVariants.{Memory, Misplaced, TooDeep}
 use Rattle.ms_presburger_parse.specs.inner.Machine.{GoesOn, step, shortest}
 use Rattle.ms_presburger_parse.specs.inner.Reached.{reached, front, HasCome, StopsAt}
-use Rattle.ms_presburger_parse.specs.inner.States.{ComesTo, state_of}
+use Rattle.ms_presburger_parse.specs.inner.States.{Begun, ComesTo, state_of}
 use Rattle.ms_presburger_parse.proofs.Readings.{follows, follows_deeper, goes_on, is_shallow, reached-append}
 
 goes_on_here : (begun : Begun) (outcome : Outcome) → GoesOn (state_of begun outcome)

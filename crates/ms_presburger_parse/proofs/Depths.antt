@@ -1,6 +1,6 @@
 -- How deep formulas are that are made of a stack.
 use Rattle.std.proofs.Common.{◌≡◌, ℕ, suc, ◌+◌, ◌≤◌, max, List, length, refl, arith}
-use Rattle.ms_parse_stack.proofs.Depths.{Depths, depth-plugged}
+use Rattle.ms_parse_stack.proofs.Depths.{Depths}
 use Rattle.ms_presburger.specs.Tree.{Arithmetic, Arithmetics, no_arithmetics, more_arithmetics, depth, depth_of_all}
 use Rattle.ms_presburger_parse.specs.declared.operator.Binary.{Binary}
 use Rattle.ms_presburger_parse.specs.declared.operator.Binary.TheVariants.{Equivalence, Implication}
@@ -30,7 +30,3 @@ depth-filled (behind_joining op operands) f = omega (arith, depth-joined op (wit
 -- the depths of this machine's formulas
 abbrev pub depths : Depths filled
 depths = record { depth = depth; inside = inside; depth-filled = depth-filled }
-
--- a formula of depth 2 in the place of one that is no deeper
-pub deepened : (frames : List Frame) (f g : Arithmetic) (d : ℕ) → d ≡ depth (plugged frames f) → depth f ≤ 2 → depth g ≡ 2 → depth (plugged frames g) ≡ max d (length frames + suc (max 0 1))
-deepened frames f g d same small two = omega (arith, depth-plugged depths frames f, depth-plugged depths frames g)

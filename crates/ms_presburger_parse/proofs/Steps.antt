@@ -5,16 +5,15 @@ use Rattle.ms_presburger.specs.Tree.{Arithmetic, depth}
 use Rattle.ms_presburger.specs.View.{arithmetic_of}
 use Rattle.ms_presburger_parse.specs.declared.frame.Frame as frames
 use Rattle.ms_presburger_parse.specs.declared.operand.Operand.{Operand}
-use Rattle.ms_presburger_parse.specs.declared.state.Begun.{Begun}
 use Rattle.ms_presburger_parse.specs.declared.state.Outcome.{Outcome}
 use Rattle.ms_presburger_parse.specs.declared.state.Outcome.TheVariants.{Within}
 use Rattle.ms_parse_stack.specs.declared.stop.Stop.{Stop}
 use Rattle.ms_parse_stack.specs.declared.stop.Stop.TheVariants.{Memory, Misplaced, TooDeep}
 use Rattle.ms_presburger_parse.specs.inner.Machine.{Frame, in_brackets, behind_negation, behind_colon, behind_infix, behind_joining, Place, operand, State, within, stopped, acts, closed, ended, completed, filled, plugged, settled, yields, shortest, stay, moves, GoesOn}
-use Rattle.ms_presburger_parse.specs.inner.States.{BecomesTwo, ComesTo, IsMeasured, KeepsDepth, MovesTo, Settles, place_of, stack_of}
+use Rattle.ms_presburger_parse.specs.inner.States.{Begun, BecomesTwo, ComesTo, IsMeasured, KeepsDepth, MovesTo, Settles, frame_of, place_of, stack_of}
 use Rattle.ms_presburger_parse.specs.declared.place.Place as code
-use Rattle.ms_parse_stack.proofs.Depths.{same_depth}
-use Rattle.ms_presburger_parse.proofs.Depths.{depths, deepened}
+use Rattle.ms_parse_stack.proofs.Depths.{replaced, same_depth}
+use Rattle.ms_presburger_parse.proofs.Depths.{depths}
 use Rattle.ms_presburger_parse.proofs.Growth.{operand_completed}
 use Rattle.ms_parse_stack.proofs.Settling.{plugged-settled}
 
@@ -66,28 +65,21 @@ comes_moved move begun before (Err stop) r keeps moved h ok err =
 
 -- where a symbol leads that makes the innermost formula two deep
 
--- the depth of the whole then, where it was d
-abbrev pub depth_behind : ℕ → List Frame → ℕ
-depth_behind d frames = max d (length frames + suc (max 0 1))
-
-measured_two : (move : Place → Option Place) (frames : List Frame) (p q : Place) (d : ℕ) → BecomesTwo move → move p ≡ Some q → d ≡ depth (plugged frames (completed p)) → depth (plugged frames (completed q)) ≡ depth_behind d frames
-measured_two move frames p q d two is same =
+measured_two : (move : Place → Option Place) (fs : List frames.Frame) (p q : Place) (d : ℕ) → BecomesTwo move → move p ≡ Some q → d ≡ depth (plugged (stack_of fs) (completed p)) → depth (plugged (stack_of fs) (completed q)) ≡ max d (length fs + suc (max 0 1))
+measured_two move fs p q d two is same =
     let both = subst (λ o. IfSome o (λ x. (depth (completed p) ≤ 2) × (depth (completed x) ≡ 2))) is (two p) in
-    deepened frames (completed p) (completed q) d same both.0 both.1
+    omega (arith, replaced depths frame_of fs (completed p) (completed q) d same (omega (arith, both.0, both.1)), both.1)
 
-pub stops_begun : (move : Place → Option Place) (frames : List Frame) (p q : Place) (d : ℕ) (begun : Begun) → BecomesTwo move → move p ≡ Some q → d ≡ depth (plugged frames (completed p)) → 300 < length frames + suc (max 0 1)
-    → ComesTo (moves move (within frames p)) begun (Err TooDeep)
-stops_begun move frames p q d begun two is same deep =
-    let whole = measured_two move frames p q d two is same in
-    subst (λ o. GoesOn (stay frames o) × (300 < depth (shortest (stay frames o)))) (sym is) (tt, omega (arith, whole, deep))
+pub stops_begun : (move : Place → Option Place) (fs : List frames.Frame) (p q : Place) (d : ℕ) (begun : Begun) → BecomesTwo move → move p ≡ Some q → d ≡ depth (plugged (stack_of fs) (completed p)) → 300 < length fs + suc (max 0 1)
+    → ComesTo (moves move (within (stack_of fs) p)) begun (Err TooDeep)
+stops_begun move fs p q d begun two is same deep =
+    let whole = measured_two move fs p q d two is same in
+    subst (λ o. GoesOn (stay (stack_of fs) o) × (300 < depth (shortest (stay (stack_of fs) o)))) (sym is) (tt, omega (arith, whole, deep))
 
-pub comes_begun : (move : Place → Option Place) (frames : List Frame) (p : Place) (place : code.Place) (d : ℕ) (begun : Begun) → BecomesTwo move → move p ≡ Some (place_of place) → d ≡ depth (plugged frames (completed p))
-    → stack_of begun.frames ≡ frames → begun.deepest ≡ depth_behind d frames → depth_behind d frames ≤ 300 → ComesTo (moves move (within frames p)) begun (Ok (Within place))
-comes_begun move frames p place d begun two is same stack kept shallow =
-    let whole = measured_two move frames p (place_of place) d two is same in (
-      ap (stay frames) is ∙ ap (λ x. within x (place_of place)) (sym stack),
-      record {
-        measured = kept ∙ sym whole ∙ ap (λ x. depth (plugged x (completed (place_of place)))) (sym stack);
-        shallow = omega (arith, kept, shallow);
-      },
+pub comes_begun : (move : Place → Option Place) (fs : List frames.Frame) (p : Place) (place : code.Place) (d : ℕ) (begun : Begun) → BecomesTwo move → move p ≡ Some (place_of place) → d ≡ depth (plugged (stack_of fs) (completed p))
+    → begun.frames ≡ fs → begun.deepest ≡ max d (length fs + suc (max 0 1)) → begun.deepest ≤ 300 → ComesTo (moves move (within (stack_of fs) p)) begun (Ok (Within place))
+comes_begun move fs p place d begun two is same stack kept shallow =
+    let whole = measured_two move fs p (place_of place) d two is same in (
+      ap (stay (stack_of fs)) is ∙ ap (λ x. within (stack_of x) (place_of place)) (sym stack),
+      record { measured = kept ∙ sym whole ∙ ap (λ x. depth (plugged (stack_of x) (completed (place_of place)))) (sym stack); shallow = shallow },
     )

@@ -17,32 +17,13 @@ use crate::state::{Begun, Outcome};
 use ms_parse_stack::Stop;
 use std::alloc::Global;
 
-/// Whether a formula may be begun on the stack that has parts of this depth before what follows. Its depth is noted then.
-fn deepen(begun: &mut Begun, inside: u32) -> bool
-    requires low { length begun.old.frames ≤ 300 }
-    requires shallow { begun.old.deepest ≤ 300 }
-    requires bounded { inside ≤ 300 }
-    ensures frames { begun.new.frames ≡ begun.old.frames }
-    ensures fits { let depth = max begun.old.deepest (length (stack_of begun.old.frames) + suc (max inside 1)) in
-        IsTrue result → (begun.new.deepest ≡ depth) × (depth ≤ 300) }
-    ensures deep { IsFalse result → 300 < length (stack_of begun.old.frames) + suc (max inside 1) }
-{
-    let depth = begun.frames.len() as u32 + 1 + inside.max(1);
-    if depth > 300 {
-        return false;
-    }
-    begun.deepest = begun.deepest.max(depth);
-    true
-}
-
 /// Puts a frame on the stack, unless the formula becomes too deep.
 pub fn enter(begun: &mut Begun, frame: Frame) -> Result<Outcome, Stop>
-    requires low { length begun.old.frames ≤ 300 }
-    requires shallow { begun.old.deepest ≤ 300 }
+    requires { begun.old.deepest ≤ 300 }
     ensures { (f : Arithmetic) → begun.old.deepest ≡ depth (plugged (stack_of begun.old.frames) f) → depth f ≤ suc (max (inside (frame_of frame)) 1) →
         ComesTo (within (frame_of frame ∷ stack_of begun.old.frames) wanted) begun.new result }
 {
-    if !deepen(begun, inside(&frame)) {
+    if !begun.deepen(inside(&frame)) {
         return Err(Stop::TooDeep);
     }
     begun.frames.push(frame)?;
@@ -81,14 +62,13 @@ pub fn open_body(begun: &mut Begun, place: Place) -> Result<Outcome, Stop>
 
 /// Where a number, a name or a quantifier leads. The innermost formula is two deep then, by which the whole may be too deep.
 pub fn begin(begun: &mut Begun, next: Result<Place, Stop>) -> Result<Outcome, Stop>
-    requires low { length begun.old.frames ≤ 300 }
-    requires shallow { begun.old.deepest ≤ 300 }
+    requires { begun.old.deepest ≤ 300 }
     ensures { (move : machine.Place → Option machine.Place) (p : machine.Place) → BecomesTwo move → MovesTo (move p) next →
         begun.old.deepest ≡ depth (plugged (stack_of begun.old.frames) (completed p)) →
         ComesTo (moves move (within (stack_of begun.old.frames) p)) begun.new result }
 {
     let place = next?;
-    if !deepen(begun, 0) {
+    if !begun.deepen(0) {
         return Err(Stop::TooDeep);
     }
     Ok(Outcome::Within(place))

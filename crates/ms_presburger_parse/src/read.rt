@@ -14,7 +14,7 @@ use crate::step::step;
 use crate::terminal::terminal_of;
 use ms_edge::Refusal;
 use ms_list::let_go;
-use ms_parse_stack::{Stack, Stop, refusal_at, refusal_at_end};
+use ms_parse_stack::{Stop, refusal_at, refusal_at_end};
 use ms_presburger::{Linear, Problem};
 use ms_text::Tokens;
 use std::alloc::Global;
@@ -83,8 +83,7 @@ fn finish(
 fn nothing_begun(alloc: Global) -> Begun
     ensures { (tokens : Lexed) → HasCome tokens 0 result (Outcome.Within Place.Wanted) }
 {
-    let frames = Stack::new(alloc);
-    Begun { frames, deepest: 1 }
+    Begun::nothing(alloc)
 }
 
 /// The formula that the tokens read as, with its free names. `file` is the number of their file, which a refusal names.

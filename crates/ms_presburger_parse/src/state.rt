@@ -1,14 +1,10 @@
 use crate::frame::Frame;
 use crate::operand::Operand;
 use crate::place::Place;
-use ms_parse_stack::Stack;
+use ms_parse_stack as begun;
 
 /// What has been begun, and the depth of the shortest formula that begins so.
-#[derive(Drop)]
-pub struct Begun {
-    pub frames: Stack<Frame>,
-    pub deepest: u32,
-}
+pub type Begun = begun::Begun<Frame>;
 
 /// What has been read last.
 #[derive(Drop)]

@@ -8,9 +8,9 @@ use Rattle.ms_ltlf_parse.specs.declared.link.Link.{Link}
 use Rattle.ms_ltlf_parse.specs.declared.link.Link.TheVariants as links
 use Rattle.ms_ltlf_parse.specs.declared.operand.Operand.{Operand}
 use Rattle.ms_ltlf_parse.specs.declared.operator.Junction.{Junction}
-use Rattle.ms_ltlf_parse.specs.declared.state.Begun.{Begun}
 use Rattle.ms_ltlf_parse.specs.declared.state.Outcome.{Outcome}
 use Rattle.ms_ltlf_parse.specs.declared.state.Outcome.TheVariants as outcomes
+use Rattle.ms_parse_stack.specs.declared.begun.Begun as stacks
 use Rattle.ms_parse_stack.specs.declared.stop.Stop.{Stop}
 use Rattle.ms_parse_stack.specs.declared.stop.Stop.TheVariants.{Memory, Misplaced, TooDeep}
 use Rattle.ms_ltlf_parse.specs.inner.Machine as machine
@@ -25,6 +25,9 @@ frame_of (frames.Joining op operands) = machine.behind_joining op (temporals_of 
 
 abbrev pub stack_of : List Frame → List machine.Frame
 stack_of fs = map frame_of fs
+
+abbrev pub Begun : Type 0
+Begun = stacks.Begun Frame
 
 abbrev pub state_with : List machine.Frame → Outcome → machine.State
 state_with fs outcomes.Wanted = machine.wanted fs

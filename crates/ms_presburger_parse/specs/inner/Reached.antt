@@ -3,13 +3,12 @@ use Rattle.std.specs.Prelude.{◌≡◌, ℕ, List}
 use Rattle.ms_text.specs.TokenList.{Lexed}
 use Rattle.ms_presburger_parse.specs.Reading.{CanFollow, CanFollowAtAnyDepth}
 use Rattle.ms_presburger_parse.specs.Symbol.{Symbol, symbol_of}
-use Rattle.ms_presburger_parse.specs.declared.state.Begun.{Begun}
 use Rattle.ms_presburger_parse.specs.declared.state.Outcome.{Outcome}
 use Rattle.ms_parse_stack.specs.Symbols as texts
 use Rattle.ms_parse_stack.specs.declared.stop.Stop.{Stop}
 use Rattle.ms_parse_stack.specs.inner.Stopped as stops
 use Rattle.ms_presburger_parse.specs.inner.Machine.{State, run, start}
-use Rattle.ms_presburger_parse.specs.inner.States.{IsMeasured, state_of}
+use Rattle.ms_presburger_parse.specs.inner.States.{Begun, IsMeasured, state_of}
 
 -- the state behind some symbols
 abbrev pub reached : List Symbol → State

@@ -12,9 +12,9 @@ use Rattle.ms_presburger_parse.specs.declared.place.Place.{Place}
 use Rattle.ms_presburger_parse.specs.declared.place.Place.TheVariants as places
 use Rattle.ms_presburger_parse.specs.declared.place.Side.{Side}
 use Rattle.ms_presburger_parse.specs.declared.place.Side.TheVariants as sides
-use Rattle.ms_presburger_parse.specs.declared.state.Begun.{Begun}
 use Rattle.ms_presburger_parse.specs.declared.state.Outcome.{Outcome}
 use Rattle.ms_presburger_parse.specs.declared.state.Outcome.TheVariants as outcomes
+use Rattle.ms_parse_stack.specs.declared.begun.Begun as stacks
 use Rattle.ms_parse_stack.specs.declared.stop.Stop.{Stop}
 use Rattle.ms_parse_stack.specs.declared.stop.Stop.TheVariants.{Memory, Misplaced, TooDeep}
 use Rattle.ms_presburger_parse.specs.inner.Machine as machine
@@ -27,6 +27,9 @@ frame_of frames.Negation = machine.behind_negation
 frame_of (frames.Colon q xs) = machine.behind_colon q xs
 frame_of (frames.Infix op left) = machine.behind_infix op (arithmetic_of left.formula)
 frame_of (frames.Joining op operands) = machine.behind_joining op (arithmetics_of operands.list)
+
+abbrev pub Begun : Type 0
+Begun = stacks.Begun Frame
 
 abbrev pub stack_of : List Frame → List machine.Frame
 stack_of fs = map frame_of fs

@@ -8,19 +8,15 @@ use Rattle.ms_presburger_parse.proofs.enter.enter.Goals as goal
 
 pub returns-then-not-deepen : goal.returns-then-not-deepen
 returns-then-not-deepen c f same small =
-    let is = entered depths (frame_of c.args.frame) (stack_of c.args.begun.now.frames) f truth c.args.begun.now.deepest refl same small in
+    let is = entered depths frame_of (frame_of c.args.frame) c.args.begun.now.frames f truth c.args.begun.now.deepest refl same small in
     (tt, omega (arith, is, c.inside.ensures.measured, c.deepen.ensures.deep c.if-not-deepen.true))
 
 pub returns : goal.returns
 returns c f same small =
-    let frames = c.args.begun.now.frames in
-    let is = entered depths (frame_of c.args.frame) (stack_of frames) f truth c.args.begun.now.deepest refl same small in
+    let is = entered depths frame_of (frame_of c.args.frame) c.args.begun.now.frames f truth c.args.begun.now.deepest refl same small in
     let here = ap stack_of (c.in_ok-push.ensures ∙ ap (λ x. c.args.frame ∷ x) c.deepen.ensures.frames) in
     let made = ap (λ x. depth (plugged x truth)) here in
     let kept = c.deepen.ensures.fits c.if-not-deepen.false in (
       ap (λ x. within x wanted) (sym here),
-      record {
-        measured = omega (arith, is, made, c.inside.ensures.measured, kept.0);
-        shallow = omega (arith, kept.0, kept.1);
-      },
+      record { measured = omega (arith, is, made, c.inside.ensures.measured, kept.0); shallow = kept.1 },
     )

@@ -1,23 +1,12 @@
 use Rattle.std.proofs.Common.{ap, subst, refl}
 use Rattle.ms_presburger.specs.Tree.{truth, falsity}
 use Rattle.ms_presburger_parse.specs.inner.Machine.{completed, step, with_comma, with_leaf, with_name, with_number, with_plus, with_quantifier, with_relation, within}
-use Rattle.ms_presburger_parse.specs.inner.States.{MovesTo, frame_of, place_of, stack_of}
+use Rattle.ms_presburger_parse.specs.inner.States.{MovesTo, place_of, stack_of}
 use Rattle.ms_presburger_parse.specs.inner.Terminals.{symbol_with}
-use Rattle.ms_parse_stack.proofs.Depths.{low}
-use Rattle.ms_presburger_parse.proofs.Depths.{depths}
 use Rattle.ms_presburger_parse.proofs.Growth.{comma_keeps, leaf_keeps, name_two, number_two, plus_keeps, quantifier_two, relation_keeps}
 use Rattle.ms_presburger_parse.proofs.Steps.{comes_moved, comes_same}
 use Rattle.ms_presburger_parse.proofs.Trees.{arithmetic_of-True, arithmetic_of-False}
 use Rattle.ms_presburger_parse.proofs.step.step_within.Goals as goal
-
-pub begin-requires-clause-low : goal.begin-requires-clause-low
-begin-requires-clause-low c = low depths frame_of c.args.begun.now.frames (completed (place_of c.args.place)) c.args.begun.now.deepest c.requires.measured.measured c.requires.measured.shallow
-
-pub begin-requires-in-Number-clause-low : goal.begin-requires-in-Number-clause-low
-begin-requires-in-Number-clause-low c = low depths frame_of c.args.begun.now.frames (completed (place_of c.args.place)) c.args.begun.now.deepest c.requires.measured.measured c.requires.measured.shallow
-
-pub begin-requires-in-Quantifier-clause-low : goal.begin-requires-in-Quantifier-clause-low
-begin-requires-in-Quantifier-clause-low c = low depths frame_of c.args.begun.now.frames (completed (place_of c.args.place)) c.args.begun.now.deepest c.requires.measured.measured c.requires.measured.shallow
 
 pub returns-in-Name : goal.returns-in-Name
 returns-in-Name c =

@@ -1,8 +1,0 @@
-use Rattle.ms_ltlf.specs.View.{temporal_of}
-use Rattle.ms_ltlf_parse.specs.inner.States.{frame_of}
-use Rattle.ms_parse_stack.proofs.Depths.{low}
-use Rattle.ms_ltlf_parse.proofs.Depths.{depths}
-use Rattle.ms_ltlf_parse.proofs.enter.begin_list.Goals as goal
-
-pub enter-requires-clause-low : goal.enter-requires-clause-low
-enter-requires-clause-low c = low depths frame_of c.args.begun.now.frames (temporal_of c.args.operand.formula) c.args.begun.now.deepest c.requires.measured c.requires.shallow
