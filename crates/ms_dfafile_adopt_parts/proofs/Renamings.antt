@@ -1,4 +1,4 @@
--- The automaton of a file lacks nodes, once its variables are those of the pairs, only below each budget of the import: starts that lead
+-- The automaton of a file lacks nodes, once its variables are those of the pairs, only below the measure of the call: starts that lead
 -- both the file and the full content of `true` to one reference lead it to one.
 use Rattle.std.proofs.Common.{◌≡◌, ◌≢◌, ℕ, zero, suc, ◌+◌, ◌<◌, ◌≤◌, ◌↔◌, nat_eq, ⊎_elim, AllPairs, Bool, true, false, if◌then◌else◌, List, [], ◌∷◌, ◌++◌, length, map, get_or, slice_get, Some, refl, sym, ap, subst, ◌∙◌, arith}
 use Rattle.std.specs.Option.{option_map}
@@ -28,8 +28,7 @@ use Rattle.ms_logic.specs.declared.checked.MapPair.{MapPair}
 use Rattle.ms_logic.specs.declared.mode.Mode.{Mode}
 use Rattle.ms_logic.specs.declared.mode.Mode.TheVariants.{M2lStr}
 use Rattle.ms_logic_core.specs.CoreForm.{truth}
-use Rattle.ms_logic_measures.specs.Budgets.{budget}
-use Rattle.ms_logic_measures.specs.CallMeasures.{IsAdoptMeasure, LeadToPairs, LeaveSame, LeaveSameOfBoth}
+use Rattle.ms_logic_measures.specs.CallMeasures.{IsAdoptMeasure, LeadToPairs, LeaveSame, LeaveSameOfBoth, call_measure}
 use Rattle.ms_logic_measures.specs.FullContent.{IsFullContent}
 use Rattle.ms_logic_measures.specs.Starts.{IsStartOver, Start, bits_for, left_by, narrowed}
 use Rattle.ms_logic_starts.specs.AtLeast.{IsAtLeastNumber, IsEquivalence}
@@ -46,7 +45,8 @@ use Rattle.ms_minim.proofs.LettersLemmas.{over-with_letters, sign_of-with_letter
 use Rattle.ms_minim_canonical.proofs.ContentLemmas.{IsClosed-content}
 use Rattle.ms_rename.specs.Renamed.{NeedsAtLeast, renamed_places}
 use Rattle.ms_rename_parts.proofs.Firsts.{length-bits_for, letters_back, letters_over}
-use Rattle.ms_rename_parts.proofs.RenameParts.{below_square}
+use Rattle.ms_calls.proofs.ConnectiveLemmas.{below_measure}
+use Rattle.ms_calls.proofs.Pairs.{leave_same_of_both}
 use Rattle.ms_rename_parts.proofs.RenameParts.{apart as starts_lead_apart}
 use Rattle.ms_dfafile_adopt_parts.specs.Files.{content_for, paired, variables_of_pairs}
 use Rattle.ms_dfafile_adopt_parts.proofs.Completed.{led, whole_of, whole_over}
@@ -62,13 +62,6 @@ place_is (w ∷ us) distinct zero v held =
 place_is (w ∷ us) distinct (suc i) v held =
     ap (λ test. if test then 0 else suc (place_of v.name us)) (ne_eqb w.name v.name (λ same. let never = distinct 0 (suc i) w v refl held same in omega (arith, never)))
     ∙ ap suc (place_is us (λ one two x y first second same. let equal = distinct (suc one) (suc two) x y first second same in omega (arith, equal)) i v held)
-
--- to leave the same of two contents is an equivalence
-both_alike : {Left Right : Type 0} (left : Content Left) (right : Content Right) (variables : List Variable) → IsEquivalence (LeaveSameOfBoth left right variables)
-both_alike left right variables = record {
-  symmetric = λ one other same. (λ rest. sym (same.0 rest), λ rest. sym (same.1 rest));
-  transitive = λ one two three first second. (λ rest. first.0 rest ∙ second.0 rest, λ rest. first.1 rest ∙ second.1 rest);
-}
 
 -- a word over variables is that word over themselves
 own_letters : (vs : List Variable) → HaveDistinctNumbers vs → (letters : List (List Bool)) → AreLetters vs letters → map (λ letter. bits_for is_in_letters vs letter vs) letters ≡ letters
@@ -296,15 +289,15 @@ module _ (imports : List Import) (mode : Mode) (plain : Plain) (pairs : List Map
               lead.different i j d before within (leave_one (get_or lead.chosen i d) (get_or lead.chosen j d) (lead.items i d (omega (arith, before, within))) (lead.items j d within) same);
           count = lead.count;
         } in
-        let less = at_most_count (LeaveSameOfBoth measured tells order) (IsStartOver order) (both_alike measured tells order) (length short.nodes + length own.states) m both counted in
+        let less = at_most_count (LeaveSameOfBoth measured tells order) (IsStartOver order) (leave_same_of_both measured tells order) (length short.nodes + length own.states) m both counted in
         let many = short.many in
         omega (arith, less, many)
 
     is_over : encodings ≡ tells
     is_over = λ i. record { mode = encodings.mode; variables = full.same_variables i; start = encodings.start; states = encodings.states; nodes = encodings.nodes }
 
-    pub renaming_is_below : (m r : ℕ) → IsAdoptMeasure measured encodings m r → limit < budget m r
+    pub renaming_is_below : (m r : ℕ) → IsAdoptMeasure measured encodings m r → limit < call_measure m r
     renaming_is_below m r measure =
         let counted : LeadToPairs measured tells order m = subst (λ (c : Content Sign). LeadToPairs measured c c.variables m) is_over measure.made in
         let least = few m counted in
-        below_square limit (m + r + 2) (omega (arith, least))
+        below_measure limit m r (omega (arith, least))

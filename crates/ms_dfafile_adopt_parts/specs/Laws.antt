@@ -7,9 +7,13 @@ use Rattle.ms_dfafile_adopt.specs.Short.{AdoptionLacks}
 use Rattle.ms_logic.specs.Truth.{Answer, Import}
 use Rattle.ms_logic.specs.declared.checked.MapPair.{MapPair}
 use Rattle.ms_logic.specs.declared.mode.Mode.{Mode}
+use Rattle.ms_logic_core.specs.CoreForm.{truth}
 use Rattle.ms_logic_measures.specs.Budgets.{IsMeasureOf, budget, pair_variables}
+use Rattle.ms_logic_measures.specs.CallMeasures.{IsAdoptMeasure, call_measure}
+use Rattle.ms_logic_measures.specs.FullContent.{IsFullContent}
 use Rattle.ms_logic_measures.specs.Steps.{import_of_source}
 use Rattle.ms_logic_words.specs.Content.{Content}
+use Rattle.ms_logic_words.specs.declared.sign.Sign.{Sign}
 use Rattle.ms_dfafile_adopt_parts.specs.Files.{content_for, variables_of_pairs}
 
 -- a limit is below each budget of the import of a file with these pairs, in whatever source it is the import with number i
@@ -33,3 +37,11 @@ EnoughIsNotBelowImport =
     (imports : List Import) (mode : Mode) (files : List (Content Answer)) (i : ℕ) (plain : Plain) (pairs : List MapPair) (limit : ℕ)
     → IsFile plain → pair_variables imports i ≡ variables_of_pairs pairs → slice_get files i ≡ Some (content_for pairs plain)
     → ((m r : ℕ) → IsMeasureOf imports mode files (import_of_source i) m r → budget m r ≤ limit) → ¬ IsBelowImport mode plain pairs limit
+
+-- it does so only under a limit below the measure of the call that adopts it
+abbrev pub AdoptionsAreWithinMeasure : Type 0
+AdoptionsAreWithinMeasure =
+    (imports : List Import) (mode : Mode) (plain : Plain) (pairs : List MapPair) (limit : ℕ)
+    → IsFile plain → HasVariables plain pairs → AllPairs (λ one other. one ≢ other) (map (λ pair. pair.name) pairs)
+    → AdoptionLacks limit plain pairs mode → (encodings : Content Sign) → IsFullContent imports mode (variables_of_pairs pairs) truth encodings
+    → (m r : ℕ) → IsAdoptMeasure (content_for pairs plain) encodings m r → limit < call_measure m r

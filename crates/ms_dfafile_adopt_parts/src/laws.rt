@@ -1,10 +1,11 @@
 //! What an import lacks. The function has an empty body, and its contract states the laws.
 
-ghost use Rattle.ms_dfafile_adopt_parts.specs.Laws.{EnoughIsNotBelowImport, LackingAdoptionsAreBelowTheirImport};
+ghost use Rattle.ms_dfafile_adopt_parts.specs.Laws.{AdoptionsAreWithinMeasure, EnoughIsNotBelowImport, LackingAdoptionsAreBelowTheirImport};
 
-/// A file that lacks nodes as an import lacks them only under a limit below each budget of the import, and no limit that is enough is below
-/// the import.
+/// A file that lacks nodes as an import lacks them only under a limit below the measure of the call that adopts it, and so below each
+/// budget of the import; and no limit that is enough is below the import.
 pub fn laws_of_adoptions()
+    ensures measure { AdoptionsAreWithinMeasure }
     ensures below { LackingAdoptionsAreBelowTheirImport }
     ensures enough { EnoughIsNotBelowImport }
 {}

@@ -1,6 +1,6 @@
-use Rattle.ms_dfafile_adopt_parts.proofs.Adoptions.{lacking_adoptions}
+use Rattle.ms_dfafile_adopt_parts.proofs.Adoptions.{adoptions_are_within_measure, lacking_adoptions}
 use Rattle.ms_dfafile_adopt_parts.proofs.ImportMeasures.{enough_is_not_below_import}
 use Rattle.ms_dfafile_adopt_parts.proofs.laws.laws_of_adoptions.Goals as goal
 
 pub returns : goal.returns
-returns c = record { below = lacking_adoptions; enough = enough_is_not_below_import }
+returns c = record { measure = adoptions_are_within_measure; below = lacking_adoptions; enough = enough_is_not_below_import }
