@@ -6,8 +6,8 @@ use Rattle.ms_ltlf_parse.specs.Grammar.{Names, spelled, spelled_between, spelled
 use Rattle.ms_ltlf_parse.specs.Symbol.{Symbol, prefix_operator, infix_operator, joining, close_bracket, semicolon}
 use Rattle.ms_ltlf_parse.specs.declared.operator.Binary.{Binary}
 use Rattle.ms_ltlf_parse.specs.declared.operator.Binary.TheVariants.{Equivalence, Implication, Until, Release}
-use Rattle.ms_ltlf_parse.specs.declared.operator.Junction.{Junction}
-use Rattle.ms_ltlf_parse.specs.declared.operator.Junction.TheVariants.{Conjunction, Disjunction}
+use Rattle.ms_parse_stack.specs.declared.junction.Junction.{Junction}
+use Rattle.ms_parse_stack.specs.declared.junction.Junction.TheVariants.{Conjunction, Disjunction}
 use Rattle.ms_ltlf_parse.specs.declared.operator.Prefix.{Prefix}
 use Rattle.ms_ltlf_parse.specs.declared.operator.Prefix.TheVariants.{Negation, Next, WeakNext, Eventually, Always}
 use Rattle.ms_ltlf_parse.specs.inner.Machine.{Frame, in_brackets, behind_prefix, behind_infix, behind_joining, filled, settled, yields, with_last, one, prefixed, binary, joined, State, wanted, holding, done, infixed, linked, closed, ended, behind, step, run, start}

@@ -4,7 +4,7 @@ use Rattle.ms_ltlf.specs.Tree.{Temporal, truth, falsity, proposition, depth}
 use Rattle.ms_ltlf_parse.specs.Grammar.{left_level, junction_level}
 use Rattle.ms_ltlf_parse.specs.Symbol.{Symbol, name, word_true, word_false, prefix_operator, infix_operator, joining, open_bracket, close_bracket, semicolon, other}
 use Rattle.ms_ltlf_parse.specs.declared.operator.Binary.{Binary}
-use Rattle.ms_ltlf_parse.specs.declared.operator.Junction.{Junction}
+use Rattle.ms_parse_stack.specs.declared.junction.Junction.{Junction}
 use Rattle.ms_ltlf_parse.specs.inner.Machine.{Frame, in_brackets, behind_prefix, behind_infix, behind_joining, filled, plugged, settled, inside, link, with_last, one, State, wanted, holding, done, stopped, leaf, opened, infixed, linked, closed, ended, behind, step, run, shortest, GoesOn, yields}
 use Rattle.ms_parse_stack.proofs.Depths.{depth-plugged-le}
 use Rattle.ms_ltlf_parse.proofs.Depths.{depths, depth-filled, depth-with_last}

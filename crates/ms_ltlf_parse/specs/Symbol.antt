@@ -11,8 +11,8 @@ use Rattle.ms_text.specs.TokenList.{Lexed}
 use Rattle.ms_parse_stack.specs.Symbols as texts
 use Rattle.ms_ltlf_parse.specs.declared.operator.Binary.{Binary}
 use Rattle.ms_ltlf_parse.specs.declared.operator.Binary.TheVariants.{Equivalence, Implication, Until, Release}
-use Rattle.ms_ltlf_parse.specs.declared.operator.Junction.{Junction}
-use Rattle.ms_ltlf_parse.specs.declared.operator.Junction.TheVariants.{Conjunction, Disjunction}
+use Rattle.ms_parse_stack.specs.declared.junction.Junction.{Junction}
+use Rattle.ms_parse_stack.specs.declared.junction.Junction.TheVariants.{Conjunction, Disjunction}
 use Rattle.ms_ltlf_parse.specs.declared.operator.Prefix.{Prefix}
 use Rattle.ms_ltlf_parse.specs.declared.operator.Prefix.TheVariants.{Negation, Next, WeakNext, Eventually, Always}
 

@@ -1,3 +1,5 @@
+pub use ms_parse_stack::Junction;
+
 /// An operator before its operand: `~`, `X`, `WX`, `F`, `G`.
 #[derive(Clone, Copy, PartialEq, Eq)]
 pub enum Prefix {
@@ -15,11 +17,4 @@ pub enum Binary {
     Implication,
     Until,
     Release,
-}
-
-/// An operator between two operands or more: `&`, `|`.
-#[derive(Clone, Copy, PartialEq, Eq)]
-pub enum Junction {
-    Conjunction,
-    Disjunction,
 }

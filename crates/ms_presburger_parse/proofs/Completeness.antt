@@ -9,8 +9,8 @@ use Rattle.ms_presburger_parse.specs.Grammar.{spelled, spelled_between, spelled_
 use Rattle.ms_presburger_parse.specs.Symbol.{infix_operator, joining, close_bracket, semicolon}
 use Rattle.ms_presburger_parse.specs.declared.operator.Binary.{Binary}
 use Rattle.ms_presburger_parse.specs.declared.operator.Binary.TheVariants.{Equivalence, Implication}
-use Rattle.ms_presburger_parse.specs.declared.operator.Junction.{Junction}
-use Rattle.ms_presburger_parse.specs.declared.operator.Junction.TheVariants.{Conjunction, Disjunction}
+use Rattle.ms_parse_stack.specs.declared.junction.Junction.{Junction}
+use Rattle.ms_parse_stack.specs.declared.junction.Junction.TheVariants.{Conjunction, Disjunction}
 use Rattle.ms_presburger_parse.specs.inner.Machine.{Frame, in_brackets, behind_negation, behind_colon, behind_infix, behind_joining, filled, settled, yields, with_last, one, binary, joined, Place, on_right, wanted, holding, added, operand, State, within, done, infixed, linked, closed, ended, acts, behind, step, run, start}
 use Rattle.ms_presburger_parse.proofs.Fitting.{hole_of, infix_rests, joining_rests, link_begins, link_further, level_left}
 use Rattle.ms_parse_stack.proofs.Settling.{settled-pop, settled-stay, settled-rests}

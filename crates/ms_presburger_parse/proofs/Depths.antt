@@ -1,12 +1,12 @@
 -- How deep formulas are that are made of a stack.
-use Rattle.std.proofs.Common.{◌≡◌, ℕ, suc, ◌+◌, ◌≤◌, max, List, length, refl, arith}
+use Rattle.std.proofs.Common.{◌≡◌, suc, max, refl, arith}
 use Rattle.ms_parse_stack.proofs.Depths.{Depths}
 use Rattle.ms_presburger.specs.Tree.{Arithmetic, Arithmetics, no_arithmetics, more_arithmetics, depth, depth_of_all}
 use Rattle.ms_presburger_parse.specs.declared.operator.Binary.{Binary}
 use Rattle.ms_presburger_parse.specs.declared.operator.Binary.TheVariants.{Equivalence, Implication}
-use Rattle.ms_presburger_parse.specs.declared.operator.Junction.{Junction}
-use Rattle.ms_presburger_parse.specs.declared.operator.Junction.TheVariants.{Conjunction, Disjunction}
-use Rattle.ms_presburger_parse.specs.inner.Machine.{Frame, in_brackets, behind_negation, behind_colon, behind_infix, behind_joining, filled, plugged, inside, with_last, binary, joined}
+use Rattle.ms_parse_stack.specs.declared.junction.Junction.{Junction}
+use Rattle.ms_parse_stack.specs.declared.junction.Junction.TheVariants.{Conjunction, Disjunction}
+use Rattle.ms_presburger_parse.specs.inner.Machine.{Frame, in_brackets, behind_negation, behind_colon, behind_infix, behind_joining, filled, inside, with_last, binary, joined}
 
 pub depth-with_last : (fs : Arithmetics) (g : Arithmetic) → depth_of_all (with_last fs g) ≡ max (depth_of_all fs) (depth g)
 depth-with_last no_arithmetics g = omega arith

@@ -7,8 +7,8 @@ use Rattle.ms_presburger.specs.Tree.{Arithmetic, truth, falsity, comparison, bra
 use Rattle.ms_presburger_parse.specs.Grammar.{separated, spelled, spelled_between, spelled_behind, spelled_part, spelled_sum, spelled_names}
 use Rattle.ms_presburger_parse.specs.Symbol.{Symbol, name, infix_operator, relation, plus, comma, colon, close_bracket}
 use Rattle.ms_presburger_parse.specs.declared.operator.Binary.TheVariants.{Equivalence, Implication}
-use Rattle.ms_presburger_parse.specs.declared.operator.Junction.{Junction}
-use Rattle.ms_presburger_parse.specs.declared.operator.Junction.TheVariants.{Conjunction, Disjunction}
+use Rattle.ms_parse_stack.specs.declared.junction.Junction.{Junction}
+use Rattle.ms_parse_stack.specs.declared.junction.Junction.TheVariants.{Conjunction, Disjunction}
 
 module _ {A : Type 0} (sign : Symbol) (said : A → List Symbol) (some : (x : A) → 1 ≤ length (said x)) where
   long_behind : (xs : List A) → length xs ≤ length (flat_map (λ y. sign ∷ said y) xs)

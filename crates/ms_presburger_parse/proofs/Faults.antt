@@ -1,7 +1,5 @@
 -- What is refused, and that it reads as no formula.
-use Rattle.std.proofs.Common.{◌≡◌, ◌⊎◌, ℕ, suc, ◌+◌, ◌<◌, ◌≤◌, [], ◌∷◌, length, length-append, drop, slice_get, Some, refl, sym, ap, ◌∙◌, subst, inl, inr, arith}
-use Rattle.std.specs.Prelude.{IfSome}
-use Rattle.ms_edge.specs.declared.refusal.Refusal.{Refusal}
+use Rattle.std.proofs.Common.{◌≡◌, ℕ, suc, ◌+◌, ◌≤◌, [], ◌∷◌, length, length-append, drop, slice_get, Some, refl, sym, ap, ◌∙◌, subst, inl, inr, arith}
 use Rattle.ms_edge.specs.declared.refusal.Refusal.TheVariants as refusals
 use Rattle.ms_text.specs.TokenList.{Lexed}
 use Rattle.ms_text.specs.declared.token.Token.{Token}
@@ -16,12 +14,10 @@ use Rattle.ms_presburger_parse.specs.inner.Machine.{State, within, done, stopped
 use Rattle.ms_presburger_parse.specs.inner.Reached.{reached, front, StopsAt}
 use Rattle.ms_presburger_parse.proofs.Readings.{follows, reached-whole}
 use Rattle.ms_presburger_parse.proofs.Extents.{extent_spelled}
-use Rattle.ms_parse_stack.proofs.Faults.{misplaced, token_there, too_deep}
-use Rattle.ms_parse_stack.proofs.Tokens.{length-symbols_of, of_token, symbols-split}
-use Rattle.ms_parse_stack.specs.Refused.{refusal_of}
+use Rattle.ms_parse_stack.proofs.Faults.{misplaced, too_deep}
+use Rattle.ms_parse_stack.proofs.Tokens.{length-symbols_of, symbols-split}
 use Rattle.ms_parse_stack.specs.Symbols as texts
-use Rattle.ms_parse_stack.specs.declared.stop.Stop.{Stop}
-use Rattle.ms_parse_stack.specs.declared.stop.Stop.TheVariants.{Memory, Misplaced, TooDeep}
+use Rattle.ms_parse_stack.specs.declared.stop.Stop.TheVariants.{Misplaced, TooDeep}
 
 -- what the text reads as goes on behind its first tokens
 front_follows : (lexed : Lexed) (i : ℕ) (token : Token) → slice_get lexed.tokens i ≡ Some token → (f : Arithmetic) → Reads (symbols lexed) f → CanFollow (front lexed (i + 1))
@@ -42,19 +38,6 @@ is_too_deep file lexed i token found stops = record {
   reads_none = λ f reads. stops.1 (front_follows lexed i token found f reads);
   names = too_deep symbol_of CanFollow CanFollowAtAnyDepth file lexed i token found stops;
 }
-
-fault_at : (file : ℕ) (lexed : Lexed) (i : ℕ) (token : Token) (stop : Stop) → slice_get lexed.tokens i ≡ Some token → StopsAt lexed i stop
-    → (refusal_of stop (record { file = file; place = token.place }) ≡ refusals.Memory) ⊎ IsProblemFault file lexed (refusal_of stop (record { file = file; place = token.place }))
-fault_at file lexed i token Memory found stops = inl refl
-fault_at file lexed i token Misplaced found stops = inr (is_misplaced file lexed i token found stops)
-fault_at file lexed i token TooDeep found stops = inr (is_too_deep file lexed i token found stops)
-
--- what is refused where the reading stops at the token with this number
-pub refused : (file : ℕ) (lexed : Lexed) (i : ℕ) (stop : Stop) (refusal : Refusal) → i < length lexed.tokens → StopsAt lexed i stop
-    → IfSome (slice_get lexed.tokens i) (λ token. refusal ≡ refusal_of stop (record { file = file; place = token.place })) → (refusal ≡ refusals.Memory) ⊎ IsProblemFault file lexed refusal
-refused file lexed i stop refusal inside stops is =
-    let (token, found) = token_there lexed i inside in
-    subst (λ r. (r ≡ refusals.Memory) ⊎ IsProblemFault file lexed r) (sym (of_token lexed.tokens i token _ found is)) (fault_at file lexed i token stop found stops)
 
 -- the formula has no end yet
 abbrev pub IsOpen : State → Type 0

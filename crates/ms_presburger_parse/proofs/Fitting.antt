@@ -5,8 +5,8 @@ use Rattle.ms_presburger.specs.Tree.{Arithmetic, Arithmetics}
 use Rattle.ms_presburger_parse.specs.Grammar.{binary_level, left_level, junction_level}
 use Rattle.ms_presburger_parse.specs.declared.operator.Binary.{Binary}
 use Rattle.ms_presburger_parse.specs.declared.operator.Binary.TheVariants.{Equivalence, Implication}
-use Rattle.ms_presburger_parse.specs.declared.operator.Junction.{Junction}
-use Rattle.ms_presburger_parse.specs.declared.operator.Junction.TheVariants.{Conjunction, Disjunction}
+use Rattle.ms_parse_stack.specs.declared.junction.Junction.{Junction}
+use Rattle.ms_parse_stack.specs.declared.junction.Junction.TheVariants.{Conjunction, Disjunction}
 use Rattle.ms_presburger_parse.specs.inner.Machine.{Frame, in_brackets, behind_negation, behind_colon, behind_infix, behind_joining, hole, yields, link, with_last, one}
 
 -- the least level of what follows the whole stack

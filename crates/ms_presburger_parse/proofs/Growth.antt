@@ -10,7 +10,7 @@ use Rattle.ms_presburger.specs.Tree.{Arithmetic, truth, falsity, depth}
 use Rattle.ms_presburger_parse.specs.Grammar.{left_level, junction_level, compares}
 use Rattle.ms_presburger_parse.specs.Symbol.{Symbol, name, number, word_true, word_false, quantifier, negation_sign, infix_operator, joining, relation, plus, comma, colon, open_bracket, close_bracket, semicolon, other}
 use Rattle.ms_presburger_parse.specs.declared.operator.Binary.{Binary}
-use Rattle.ms_presburger_parse.specs.declared.operator.Junction.{Junction}
+use Rattle.ms_parse_stack.specs.declared.junction.Junction.{Junction}
 use Rattle.ms_presburger_parse.specs.inner.Machine.{Frame, in_brackets, behind_negation, behind_colon, behind_infix, behind_joining, filled, plugged, settled, inside, link, with_last, one, Side, on_left, on_right, Place, wanted, naming, named, adding, added, holding, operand, with_number, times, with_name, with_plus, with_relation, with_quantifier, with_comma, with_leaf, opening, body, State, within, done, stopped, stay, moves, begin, enters, infixed, linked, closed, ended, acts, behind, step, run, compared, completed, shortest, GoesOn, yields}
 use Rattle.ms_presburger_parse.specs.inner.States.{BecomesTwo, KeepsDepth}
 use Rattle.ms_parse_stack.proofs.Depths.{depth-plugged-le}

@@ -7,7 +7,6 @@ pub mod Fitting
 pub mod Gatherings
 pub mod Growth
 pub mod Onces
-pub mod Pushes
 pub mod Readings
 pub mod Runs
 pub mod Separated

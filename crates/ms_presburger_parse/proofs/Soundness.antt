@@ -11,8 +11,8 @@ use Rattle.ms_presburger_parse.specs.Grammar.{binary_level, left_level, right_le
 use Rattle.ms_presburger_parse.specs.Symbol.{Symbol, name, number, word_true, word_false, quantifier, negation_sign, infix_operator, joining, relation, plus, comma, colon, open_bracket, close_bracket, semicolon, other}
 use Rattle.ms_presburger_parse.specs.declared.operator.Binary.{Binary}
 use Rattle.ms_presburger_parse.specs.declared.operator.Binary.TheVariants.{Equivalence, Implication}
-use Rattle.ms_presburger_parse.specs.declared.operator.Junction.{Junction}
-use Rattle.ms_presburger_parse.specs.declared.operator.Junction.TheVariants.{Conjunction, Disjunction}
+use Rattle.ms_parse_stack.specs.declared.junction.Junction.{Junction}
+use Rattle.ms_parse_stack.specs.declared.junction.Junction.TheVariants.{Conjunction, Disjunction}
 use Rattle.ms_presburger_parse.specs.inner.Machine.{Frame, in_brackets, behind_negation, behind_colon, behind_infix, behind_joining, hole, frame_level, filled, plugged, settled, yields, link, with_last, binary, joined, Side, on_left, on_right, Place, wanted, naming, named, adding, added, holding, operand, with_number, times, with_name, with_plus, with_relation, with_quantifier, with_comma, with_leaf, opening, body, State, within, done, stopped, stay, moves, begin, enters, infixed, linked, closed, ended, acts, behind, step, compared, completed, shortest}
 use Rattle.ms_presburger_parse.proofs.Fitting.{hole_of, rests, hole_small, infix_fits, link_cases, left_small, left_some, junction_small}
 use Rattle.ms_parse_stack.proofs.Settling.{settled_by}

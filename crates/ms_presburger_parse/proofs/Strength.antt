@@ -4,8 +4,8 @@ use Rattle.ms_presburger.specs.Tree.{Arithmetic, truth, falsity, comparison, bra
 use Rattle.ms_presburger_parse.specs.Grammar.{binary_level, junction_level, prefix_level, level, ends_open, last_ends_open, IsGrammatical, AreOperands}
 use Rattle.ms_presburger_parse.specs.declared.operator.Binary.{Binary}
 use Rattle.ms_presburger_parse.specs.declared.operator.Binary.TheVariants.{Equivalence, Implication}
-use Rattle.ms_presburger_parse.specs.declared.operator.Junction.{Junction}
-use Rattle.ms_presburger_parse.specs.declared.operator.Junction.TheVariants.{Conjunction, Disjunction}
+use Rattle.ms_parse_stack.specs.declared.junction.Junction.{Junction}
+use Rattle.ms_parse_stack.specs.declared.junction.Junction.TheVariants.{Conjunction, Disjunction}
 use Rattle.ms_presburger_parse.specs.inner.Machine.{Frame, in_brackets, behind_negation, behind_colon, behind_infix, behind_joining, binary, joined, filled, with_last, yields}
 
 -- a symbol that wants a left operand of a level takes the whole formula where its strength is that level

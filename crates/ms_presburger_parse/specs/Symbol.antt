@@ -15,8 +15,8 @@ use Rattle.ms_text.specs.TokenList.{Lexed}
 use Rattle.ms_parse_stack.specs.Symbols as texts
 use Rattle.ms_presburger_parse.specs.declared.operator.Binary.{Binary}
 use Rattle.ms_presburger_parse.specs.declared.operator.Binary.TheVariants.{Equivalence, Implication}
-use Rattle.ms_presburger_parse.specs.declared.operator.Junction.{Junction}
-use Rattle.ms_presburger_parse.specs.declared.operator.Junction.TheVariants.{Conjunction, Disjunction}
+use Rattle.ms_parse_stack.specs.declared.junction.Junction.{Junction}
+use Rattle.ms_parse_stack.specs.declared.junction.Junction.TheVariants.{Conjunction, Disjunction}
 
 pub data Symbol : Type 0 where
   -- a variable

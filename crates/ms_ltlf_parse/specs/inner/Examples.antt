@@ -9,7 +9,7 @@ use Rattle.ms_ltlf.specs.Tree.{Temporal, proposition, brackets, Temporals, no_te
 use Rattle.ms_ltlf_parse.specs.Grammar.{Names}
 use Rattle.ms_ltlf_parse.specs.Symbol.{Symbol, name, prefix_operator, infix_operator, joining, open_bracket, close_bracket, semicolon}
 use Rattle.ms_ltlf_parse.specs.declared.operator.Binary.TheVariants.{Equivalence, Implication, Until, Release}
-use Rattle.ms_ltlf_parse.specs.declared.operator.Junction.TheVariants.{Conjunction, Disjunction}
+use Rattle.ms_parse_stack.specs.declared.junction.Junction.TheVariants.{Conjunction, Disjunction}
 use Rattle.ms_ltlf_parse.specs.declared.operator.Prefix.TheVariants.{Negation, Next, WeakNext, Eventually, Always}
 
 -- symbols, as they are written

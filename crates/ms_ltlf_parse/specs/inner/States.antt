@@ -1,5 +1,5 @@
 -- The states of the machine that the code's states stand for, and when the code takes the machine's steps.
-use Rattle.std.specs.Prelude.{◌≡◌, ℕ, ◌<◌, ◌≤◌, List, ◌∷◌, map, Result, Ok, Err}
+use Rattle.std.specs.Prelude.{◌≡◌, ℕ, ◌<◌, ◌≤◌, List, ◌∷◌, map, Result}
 use Rattle.ms_ltlf.specs.Tree.{Temporal, depth}
 use Rattle.ms_ltlf.specs.View.{temporal_of}
 use Rattle.ms_ltlf_parse.specs.declared.frame.Frame.{Frame}
@@ -7,12 +7,12 @@ use Rattle.ms_ltlf_parse.specs.declared.frame.Frame.TheVariants as frames
 use Rattle.ms_ltlf_parse.specs.declared.link.Link.{Link}
 use Rattle.ms_ltlf_parse.specs.declared.link.Link.TheVariants as links
 use Rattle.ms_ltlf_parse.specs.declared.operand.Operand.{Operand}
-use Rattle.ms_ltlf_parse.specs.declared.operator.Junction.{Junction}
+use Rattle.ms_parse_stack.specs.declared.junction.Junction.{Junction}
 use Rattle.ms_ltlf_parse.specs.declared.state.Outcome.{Outcome}
 use Rattle.ms_ltlf_parse.specs.declared.state.Outcome.TheVariants as outcomes
 use Rattle.ms_parse_stack.specs.declared.begun.Begun as stacks
 use Rattle.ms_parse_stack.specs.declared.stop.Stop.{Stop}
-use Rattle.ms_parse_stack.specs.declared.stop.Stop.TheVariants.{Memory, Misplaced, TooDeep}
+use Rattle.ms_parse_stack.specs.inner.Stopped.{Gives}
 use Rattle.ms_ltlf_parse.specs.inner.Machine as machine
 use Rattle.ms_ltlf_parse.specs.inner.Machine.{GoesOn, behind, link, one, plugged, shortest}
 use Rattle.ms_ltlf_parse.specs.inner.Lists.{temporals_of}
@@ -44,19 +44,15 @@ pub record IsMeasured (begun : Begun) (outcome : Outcome) : Type 0 where
 
 -- the code is in this state, or has stopped before it
 abbrev pub ComesTo : machine.State → Begun → Result Outcome Stop → Type 0
-ComesTo s begun (Ok outcome) = (s ≡ state_of begun outcome) × IsMeasured begun outcome
-ComesTo s begun (Err Memory) = Unit {0}
-ComesTo s begun (Err Misplaced) = s ≡ machine.stopped
-ComesTo s begun (Err TooDeep) = GoesOn s × (300 < depth (shortest s))
+ComesTo s begun result = Gives (λ (outcome : Outcome). (s ≡ state_of begun outcome) × IsMeasured begun outcome) (s ≡ machine.stopped) (GoesOn s × (300 < depth (shortest s))) result
 
 -- an operand, where the stack is settled for a symbol that wants this level on its left, or the symbol cannot stand there
 abbrev pub Settles : ℕ → machine.State → Begun → Result Operand Stop → Type 0
-Settles least s begun (Ok made) =
-    ((act : List machine.Frame × Temporal → machine.State) → behind least act s ≡ act (stack_of begun.frames, temporal_of made.formula))
-    × (begun.deepest ≡ depth (plugged (stack_of begun.frames) (temporal_of made.formula))) × (begun.deepest ≤ 300)
-Settles least s begun (Err Memory) = Unit {0}
-Settles least s begun (Err Misplaced) = (act : List machine.Frame × Temporal → machine.State) → behind least act s ≡ machine.stopped
-Settles least s begun (Err TooDeep) = ⊥
+Settles least s begun result =
+    Gives
+    (λ (made : Operand). ((act : List machine.Frame × Temporal → machine.State) → behind least act s ≡ act (stack_of begun.frames, temporal_of made.formula))
+    × (begun.deepest ≡ depth (plugged (stack_of begun.frames) (temporal_of made.formula))) × (begun.deepest ≤ 300))
+    ((act : List machine.Frame × Temporal → machine.State) → behind least act s ≡ machine.stopped) ⊥ result
 
 -- a frame as one of a list of the same operator, or another
 abbrev pub IsLink : Junction → Link → machine.Frame → Type 0

@@ -11,7 +11,7 @@ use Rattle.ms_presburger.specs.declared.linear.Part.TheVariants.{Number, Var}
 use Rattle.ms_presburger.specs.Tree.{Arithmetic, comparison, brackets, Arithmetics, no_arithmetics, more_arithmetics}
 use Rattle.ms_presburger_parse.specs.Symbol.{Symbol, name, number, quantifier, infix_operator, joining, relation, open_bracket, close_bracket, semicolon}
 use Rattle.ms_presburger_parse.specs.declared.operator.Binary.TheVariants.{Equivalence, Implication}
-use Rattle.ms_presburger_parse.specs.declared.operator.Junction.TheVariants.{Conjunction, Disjunction}
+use Rattle.ms_parse_stack.specs.declared.junction.Junction.TheVariants.{Conjunction, Disjunction}
 
 -- names
 

@@ -12,8 +12,8 @@ use Rattle.ms_presburger_parse.specs.Grammar.{binary_level, left_level, right_le
 use Rattle.ms_presburger_parse.specs.Symbol.{Symbol, name, number, word_true, word_false, quantifier, negation_sign, infix_operator, joining, relation, plus, comma, colon, open_bracket, close_bracket, semicolon, other}
 use Rattle.ms_presburger_parse.specs.declared.operator.Binary.{Binary}
 use Rattle.ms_presburger_parse.specs.declared.operator.Binary.TheVariants.{Equivalence, Implication}
-use Rattle.ms_presburger_parse.specs.declared.operator.Junction.{Junction}
-use Rattle.ms_presburger_parse.specs.declared.operator.Junction.TheVariants.{Conjunction, Disjunction}
+use Rattle.ms_parse_stack.specs.declared.junction.Junction.{Junction}
+use Rattle.ms_parse_stack.specs.declared.junction.Junction.TheVariants.{Conjunction, Disjunction}
 
 abbrev pub binary : Binary → Arithmetic → Arithmetic → Arithmetic
 binary Equivalence f g = equivalence f g

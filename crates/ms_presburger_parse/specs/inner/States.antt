@@ -1,5 +1,5 @@
 -- The states of the machine that the code's states stand for, and when the code takes the machine's steps.
-use Rattle.std.specs.Prelude.{◌≡◌, ℕ, ◌<◌, ◌≤◌, List, ◌∷◌, map, Option, Some, None, Result, Ok, Err, IfSome}
+use Rattle.std.specs.Prelude.{◌≡◌, ℕ, ◌<◌, ◌≤◌, List, ◌∷◌, map, Option, Some, None, Result, IfSome}
 use Rattle.ms_presburger.specs.Tree.{Arithmetic, depth}
 use Rattle.ms_presburger.specs.View.{arithmetic_of}
 use Rattle.ms_presburger_parse.specs.declared.frame.Frame.{Frame}
@@ -7,7 +7,7 @@ use Rattle.ms_presburger_parse.specs.declared.frame.Frame.TheVariants as frames
 use Rattle.ms_presburger_parse.specs.declared.link.Link.{Link}
 use Rattle.ms_presburger_parse.specs.declared.link.Link.TheVariants as links
 use Rattle.ms_presburger_parse.specs.declared.operand.Operand.{Operand}
-use Rattle.ms_presburger_parse.specs.declared.operator.Junction.{Junction}
+use Rattle.ms_parse_stack.specs.declared.junction.Junction.{Junction}
 use Rattle.ms_presburger_parse.specs.declared.place.Place.{Place}
 use Rattle.ms_presburger_parse.specs.declared.place.Place.TheVariants as places
 use Rattle.ms_presburger_parse.specs.declared.place.Side.{Side}
@@ -16,7 +16,7 @@ use Rattle.ms_presburger_parse.specs.declared.state.Outcome.{Outcome}
 use Rattle.ms_presburger_parse.specs.declared.state.Outcome.TheVariants as outcomes
 use Rattle.ms_parse_stack.specs.declared.begun.Begun as stacks
 use Rattle.ms_parse_stack.specs.declared.stop.Stop.{Stop}
-use Rattle.ms_parse_stack.specs.declared.stop.Stop.TheVariants.{Memory, Misplaced, TooDeep}
+use Rattle.ms_parse_stack.specs.inner.Stopped.{Gives}
 use Rattle.ms_presburger_parse.specs.inner.Machine as machine
 use Rattle.ms_presburger_parse.specs.inner.Machine.{GoesOn, behind, link, one, plugged, shortest}
 use Rattle.ms_presburger_parse.specs.inner.Lists.{arithmetics_of}
@@ -58,35 +58,25 @@ pub record IsMeasured (begun : Begun) (outcome : Outcome) : Type 0 where
   pub measured : begun.deepest ≡ depth (shortest (state_of begun outcome))
   pub shallow : begun.deepest ≤ 300
 
+-- the code is in this state, or has stopped before it
+abbrev pub ComesTo : machine.State → Begun → Result Outcome Stop → Type 0
+ComesTo s begun result = Gives (λ (outcome : Outcome). (s ≡ state_of begun outcome) × IsMeasured begun outcome) (s ≡ machine.stopped) (GoesOn s × (300 < depth (shortest s))) result
+
 -- the place that a symbol leads to within the innermost formula
 abbrev pub MovesTo : Option machine.Place → Result Place Stop → Type 0
-MovesTo next (Ok place) = next ≡ Some (place_of place)
-MovesTo next (Err Memory) = Unit {0}
-MovesTo next (Err Misplaced) = next ≡ None
-MovesTo next (Err TooDeep) = ⊥
+MovesTo next result = Gives (λ (place : Place). next ≡ Some (place_of place)) (next ≡ None) ⊥ result
 
 -- the formula that has been read, if it may end here
 abbrev pub HasOperand : Option Arithmetic → Result Operand Stop → Type 0
-HasOperand held (Ok made) = held ≡ Some (arithmetic_of made.formula)
-HasOperand held (Err Memory) = Unit {0}
-HasOperand held (Err Misplaced) = held ≡ None
-HasOperand held (Err TooDeep) = ⊥
-
--- the code is in this state, or has stopped before it
-abbrev pub ComesTo : machine.State → Begun → Result Outcome Stop → Type 0
-ComesTo s begun (Ok outcome) = (s ≡ state_of begun outcome) × IsMeasured begun outcome
-ComesTo s begun (Err Memory) = Unit {0}
-ComesTo s begun (Err Misplaced) = s ≡ machine.stopped
-ComesTo s begun (Err TooDeep) = GoesOn s × (300 < depth (shortest s))
+HasOperand held result = Gives (λ (made : Operand). held ≡ Some (arithmetic_of made.formula)) (held ≡ None) ⊥ result
 
 -- an operand, where the stack is settled for a symbol that wants this level on its left, or the symbol cannot stand there
 abbrev pub Settles : ℕ → machine.State → Begun → Result Operand Stop → Type 0
-Settles least s begun (Ok made) =
-    ((act : List machine.Frame × Arithmetic → machine.State) → behind least act s ≡ act (stack_of begun.frames, arithmetic_of made.formula))
-    × (begun.deepest ≡ depth (plugged (stack_of begun.frames) (arithmetic_of made.formula))) × (begun.deepest ≤ 300)
-Settles least s begun (Err Memory) = Unit {0}
-Settles least s begun (Err Misplaced) = (act : List machine.Frame × Arithmetic → machine.State) → behind least act s ≡ machine.stopped
-Settles least s begun (Err TooDeep) = ⊥
+Settles least s begun result =
+    Gives
+    (λ (made : Operand). ((act : List machine.Frame × Arithmetic → machine.State) → behind least act s ≡ act (stack_of begun.frames, arithmetic_of made.formula))
+    × (begun.deepest ≡ depth (plugged (stack_of begun.frames) (arithmetic_of made.formula))) × (begun.deepest ≤ 300))
+    ((act : List machine.Frame × Arithmetic → machine.State) → behind least act s ≡ machine.stopped) ⊥ result
 
 -- a frame as one of a list of the same operator, or another
 abbrev pub IsLink : Junction → Link → machine.Frame → Type 0

@@ -1,4 +1,4 @@
-use Rattle.std.proofs.Common.{ap, subst}
+use Rattle.std.proofs.Common.{subst}
 use Rattle.ms_presburger_parse.specs.inner.States.{MovesTo, place_of}
 use Rattle.ms_presburger_parse.proofs.Steps.{comes_begun, stops_begun}
 use Rattle.ms_presburger_parse.proofs.enter.begin.Goals as goal

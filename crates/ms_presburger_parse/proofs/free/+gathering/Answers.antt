@@ -8,7 +8,7 @@ use Rattle.ms_presburger.proofs.Operands.{extent-operand, extent-Bind}
 use Rattle.ms_presburger.proofs.Views.{arithmetic_of-Implies, arithmetic_of-Iff, arithmetic_of-Bind}
 use Rattle.ms_presburger_parse.specs.inner.Gathering.{Binds, Gathers, bound_in, count_of}
 use Rattle.ms_presburger_parse.proofs.Gatherings.{count_of-most, gathers_append, gathers_bound, places-next, places_of}
-use Rattle.ms_presburger_parse.proofs.Pushes.{on_ok}
+use Rattle.std.proofs.lemmas.Result.{on_ok_weaker}
 use Rattle.ms_presburger_parse.proofs.Trees.{arithmetic_of-Compare}
 use Rattle.ms_presburger_parse.proofs.free.+gathering.Goals as goal
 
@@ -23,7 +23,7 @@ gather-returns-in_ok-mention_sum-in-Compare t c =
     let parts = ap (λ (l : List Part). Compare r l c.in-Compare.right) (sym c.slice.ensures) ∙ ap (λ (l : List Part). Compare r left l) (sym c.slice-in-Compare.ensures) in
     let is = ap arithmetic_of (c.in-Compare.is ∙ parts) ∙ arithmetic_of-Compare r left right in
     let P : Arithmetic → Type 0 = λ f. Gathers before after (free_places f) in
-    on_ok c.mention_sum-in-Compare.result (Gathers middle after (names_in_sum right)) (P (arithmetic_of c.args.formula.now))
+    on_ok_weaker {P = Gathers middle after (names_in_sum right)} {Q = P (arithmetic_of c.args.formula.now)} c.mention_sum-in-Compare.result
     (λ second. subst P (sym is) (gathers_append before middle after (names_in_sum left) (names_in_sum right) c.in_ok-mention_sum-in-Compare.ensures second)) c.mention_sum-in-Compare.ensures
 
 pub gather-returns-in_ok-gather-in-Implies : goal.gather-returns-in_ok-gather-in-Implies
@@ -36,7 +36,7 @@ gather-returns-in_ok-gather-in-Implies t c =
     let parts = ap (λ (l : Linear). Implies l c.in-Implies.right) (sym c.get-in-Implies.ensures) ∙ ap (λ (r : Linear). Implies left r) (sym c.get-in-Implies-2.ensures) in
     let is = ap arithmetic_of (c.in-Implies.is ∙ parts) ∙ arithmetic_of-Implies left right in
     let P : Arithmetic → Type 0 = λ f. Gathers before after (free_places f) in
-    on_ok c.gather-in-Implies-2.result (Gathers middle after (free_places (arithmetic_of right))) (P (arithmetic_of c.args.formula.now))
+    on_ok_weaker {P = Gathers middle after (free_places (arithmetic_of right))} {Q = P (arithmetic_of c.args.formula.now)} c.gather-in-Implies-2.result
     (λ second. subst P (sym is) (gathers_append before middle after (free_places (arithmetic_of left)) (free_places (arithmetic_of right)) c.in_ok-gather-in-Implies.ensures second)) c.gather-in-Implies-2.ensures
 
 pub gather-returns-in_ok-gather-in-Iff : goal.gather-returns-in_ok-gather-in-Iff
@@ -49,7 +49,7 @@ gather-returns-in_ok-gather-in-Iff t c =
     let parts = ap (λ (l : Linear). Iff l c.in-Iff.right) (sym c.get-in-Iff.ensures) ∙ ap (λ (r : Linear). Iff left r) (sym c.get-in-Iff-2.ensures) in
     let is = ap arithmetic_of (c.in-Iff.is ∙ parts) ∙ arithmetic_of-Iff left right in
     let P : Arithmetic → Type 0 = λ f. Gathers before after (free_places f) in
-    on_ok c.gather-in-Iff-2.result (Gathers middle after (free_places (arithmetic_of right))) (P (arithmetic_of c.args.formula.now))
+    on_ok_weaker {P = Gathers middle after (free_places (arithmetic_of right))} {Q = P (arithmetic_of c.args.formula.now)} c.gather-in-Iff-2.result
     (λ second. subst P (sym is) (gathers_append before middle after (free_places (arithmetic_of left)) (free_places (arithmetic_of right)) c.in_ok-gather-in-Iff.ensures second)) c.gather-in-Iff-2.ensures
 
 pub gather-gather-requires-in-Bind : goal.gather-gather-requires-in-Bind
@@ -75,7 +75,7 @@ gather-returns-in_ok-gather-in-Bind t c =
     let again : c.slice-in-Bind-2.result.now ≡ names = c.slice-in-Bind-2.ensures ∙ sym c.slice-in-Bind.ensures in
     let P : Arithmetic → Type 0 = λ f. Gathers before after (free_places f) in
     let Unbinds : List (List ℕ) → Type 0 = λ xs. Binds middle after (λ x. bound_in middle x - count_of xs x) in
-    on_ok c.unbind.result (Unbinds c.slice-in-Bind-2.result.now) (P (arithmetic_of c.args.formula.now))
+    on_ok_weaker {P = Unbinds c.slice-in-Bind-2.result.now} {Q = P (arithmetic_of c.args.formula.now)} c.unbind.result
     (λ unbinds. subst P (sym is) (gathers_bound before bound middle after names (free_places (arithmetic_of body)) c.in_ok-bind-in-Bind.ensures c.in_ok-gather-in-Bind.ensures (subst Unbinds again unbinds))) c.unbind.ensures
 
 pub gather_all-gather-requires : goal.gather_all-gather-requires

@@ -1,0 +1,6 @@
+/// An operator between two operands or more: `&`, `|`.
+#[derive(Clone, Copy, PartialEq, Eq)]
+pub enum Junction {
+    Conjunction,
+    Disjunction,
+}
