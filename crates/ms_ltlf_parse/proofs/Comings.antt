@@ -13,7 +13,8 @@ use Rattle.ms_ltlf_parse.specs.declared.state.Outcome.{Outcome}
 use Rattle.ms_ltlf_parse.specs.declared.state.Outcome.TheVariants.{Wanted, Holding, Done}
 use Rattle.ms_parse_stack.specs.declared.stop.Stop.{Stop}
 use Rattle.ms_parse_stack.specs.declared.stop.Stop.TheVariants.{Memory, Misplaced, TooDeep}
-use Rattle.ms_ltlf_parse.specs.inner.Machine.{GoesOn, step, shortest}
+use Rattle.ms_parse_stack.specs.inner.Machine.{GoesOn}
+use Rattle.ms_ltlf_parse.specs.inner.Machine.{step, shortest}
 use Rattle.ms_ltlf_parse.specs.inner.Reached.{reached, front, HasCome, StopsAt}
 use Rattle.ms_ltlf_parse.specs.inner.Sights.{IsTable}
 use Rattle.ms_ltlf_parse.specs.inner.States.{Begun, ComesTo, state_of}

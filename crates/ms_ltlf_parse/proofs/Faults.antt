@@ -10,7 +10,8 @@ use Rattle.ms_ltlf_parse.specs.Grammar.{Names}
 use Rattle.ms_ltlf_parse.specs.Reading.{Reads, ReadsAsTrace, CanFollow, CanFollowAtAnyDepth, first_sights, greatest_depth}
 use Rattle.ms_ltlf_parse.specs.Refused.{IsTraceFault}
 use Rattle.ms_ltlf_parse.specs.Symbol.{symbol_of, symbols}
-use Rattle.ms_ltlf_parse.specs.inner.Machine.{State, wanted, holding, done, stopped, GoesOn, shortest}
+use Rattle.ms_parse_stack.specs.inner.Machine.{within, done, stopped, GoesOn}
+use Rattle.ms_ltlf_parse.specs.inner.Machine.{State, shortest}
 use Rattle.ms_ltlf_parse.specs.inner.Reached.{reached, front, StopsAt}
 use Rattle.ms_ltlf_parse.proofs.Names.{AreDifferent, different_first_sights, few_first_sights}
 use Rattle.ms_ltlf_parse.proofs.Readings.{follows, reached-whole, reads_done}
@@ -41,14 +42,12 @@ is_too_deep file lexed i token found stops = record {
 
 -- the formula has no end yet
 abbrev pub IsOpen : State → Type 0
-IsOpen (wanted frames) = Unit {0}
-IsOpen (holding frames f) = Unit {0}
+IsOpen (within frames p) = Unit {0}
 IsOpen (done f) = ⊥
 IsOpen stopped = ⊥
 
 on_open : (s : State) → IsOpen s → GoesOn s
-on_open (wanted frames) h = tt
-on_open (holding frames f) h = tt
+on_open (within frames p) h = tt
 on_open (done f) h = tt
 on_open stopped h = h
 

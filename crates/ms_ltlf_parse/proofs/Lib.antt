@@ -1,14 +1,12 @@
 pub mod Comings
 pub mod Completeness
-pub mod Depths
 pub mod Faults
-pub mod Fitting
 pub mod Growth
+pub mod Groupings
 pub mod Names
 pub mod Readings
 pub mod Sightings
 pub mod Soundness
 pub mod Spellings
 pub mod Steps
-pub mod Trees
 pub mod Trials

@@ -8,10 +8,12 @@ use Rattle.std.proofs.lemmas.Slice.Eq.{bytes_eq-Decides}
 use Rattle.ms_ltlf_parse.specs.Grammar.{Names}
 use Rattle.ms_ltlf_parse.specs.Reading.{place, with_name, with_sight, with_sights, first_sights}
 use Rattle.ms_ltlf_parse.specs.Symbol.{Symbol, name}
-use Rattle.ms_ltlf_parse.specs.inner.Machine.{State, step, run, leaf}
+use Rattle.ms_parse_stack.specs.inner.Machine.{moved}
+use Rattle.ms_parse_stack.proofs.Spellings.{AreActing}
+use Rattle.ms_ltlf_parse.specs.inner.Machine.{State, machine, action, step, run, leaf}
 use Rattle.ms_ltlf.specs.Tree.{proposition}
-use Rattle.ms_ltlf_parse.proofs.Soundness.{IsNamed}
-use Rattle.ms_ltlf_parse.proofs.Spellings.{AreNamed}
+use Rattle.ms_ltlf_parse.proofs.Soundness.{IsNamed, grammar}
+use Rattle.ms_ltlf_parse.proofs.Spellings.{acting, spelling}
 
 pub place-here : (m : List ℕ) (ms : Names) (n : List ℕ) → bytes_eq n m ≡ true → place (m ∷ ms) n ≡ 0
 place-here m ms n e = ap (λ b. if b then 0 else suc (place ms n)) e
@@ -206,14 +208,14 @@ is_named : (names : Names) (x : Symbol) → IsAmong names x → IsNamed names (p
 is_named names (name n) h = (h, get-place names n h)
 is_named names _ h = tt
 
-pub are_named : (names : Names) (xs : List Symbol) → AreAmong names xs → AreNamed names (place names) xs
-are_named names [] h = tt
-are_named names (x ∷ xs) h = (is_named names x h.0, are_named names xs h.1)
+pub are_acting : (names : Names) (xs : List Symbol) → AreAmong names xs → AreActing machine (grammar (length names)) (spelling names) (action (place names)) xs
+are_acting names [] h = tt
+are_acting names (x ∷ xs) h = (acting names (place names) x (is_named names x h.0), are_acting names xs h.1)
 
 -- names behind make no difference to a run
 
 step-further : (most : ℕ) (ms all : Names) (s : State) (x : Symbol) → Goes most ms all → IsAmong ms x → step (place all) s x ≡ step (place ms) s x
-step-further most ms all s (name n) go h = ap (λ p. leaf (proposition p) s) (ap (λ y. place y n) go.is ∙ place-append ms go.more n h)
+step-further most ms all s (name n) go h = ap (λ p. moved machine (leaf (proposition p)) s) (ap (λ y. place y n) go.is ∙ place-append ms go.more n h)
 step-further most ms all s _ go h = refl
 
 pub run-further : (most : ℕ) (ms all : Names) (s : State) (xs : List Symbol) → Goes most ms all → AreAmong ms xs → run (place all) s xs ≡ run (place ms) s xs

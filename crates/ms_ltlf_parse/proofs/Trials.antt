@@ -4,13 +4,13 @@ use Rattle.ms_ltlf.specs.Tree.{Temporal, depth}
 use Rattle.ms_ltlf_parse.specs.Grammar.{Names}
 use Rattle.ms_ltlf_parse.specs.Reading.{Reads, CanFollow, greatest_depth}
 use Rattle.ms_ltlf_parse.specs.Symbol.{Symbol}
-use Rattle.ms_ltlf_parse.specs.inner.Machine.{State, wanted, holding, done, stopped, shortest}
+use Rattle.ms_parse_stack.specs.inner.Machine.{within, done, stopped}
+use Rattle.ms_ltlf_parse.specs.inner.Machine.{State, shortest}
 use Rattle.ms_ltlf_parse.specs.inner.Reached.{reached}
 use Rattle.ms_ltlf_parse.proofs.Readings.{is_shallow, reached-whole}
 
 abbrev pub IsNotDone : State → Type 0
-IsNotDone (wanted frames) = Unit {0}
-IsNotDone (holding frames f) = Unit {0}
+IsNotDone (within frames p) = Unit {0}
 IsNotDone (done f) = ⊥
 IsNotDone stopped = Unit {0}
 

@@ -1,5 +1,5 @@
+pub mod Deep
 pub mod Examples
-pub mod Lists
 pub mod Machine
 pub mod Reached
 pub mod Sights

@@ -1,26 +1,23 @@
-ghost use Rattle.std.specs.Prelude.{◌≡◌, ◌≤◌, ◌∷◌, suc, length, max};
+ghost use Rattle.std.specs.Prelude.{◌≡◌, ◌≤◌, ◌∷◌, ◌++◌, [], map, suc, max};
 ghost use Rattle.ms_ltlf.specs.Tree.{Temporal, depth};
 ghost use Rattle.ms_ltlf.specs.View.{temporal_of};
-ghost use Rattle.ms_ltlf_parse.specs.inner.Lists.{temporals_of};
-ghost use Rattle.ms_ltlf_parse.specs.inner.Machine.{behind_joining, inside, leaf, linked, one, opened, plugged, wanted, with_last};
+ghost use Rattle.ms_parse_stack.specs.inner.Frames.{behind_joining, inside};
+ghost use Rattle.ms_parse_stack.specs.inner.Machine.{entered, linked, moved, plugged, within};
+ghost use Rattle.ms_ltlf_parse.specs.inner.Machine.{leaf, machine, opened, wanted};
 ghost use Rattle.ms_ltlf_parse.specs.inner.States.{ComesTo, IsMeasured, frame_of, stack_of, state_of};
 
-use crate::frame::Frame;
-use crate::levels::inside;
-use crate::link::{Link, link_of};
-use crate::operand::{Operand, Operands};
-use crate::operands::{first_operand, with_operand};
+use crate::frame::{Frame, Operand, Operands};
 use crate::operator::Junction;
 use crate::state::{Begun, Outcome};
 use ms_ltlf::Ltl;
-use ms_parse_stack::Stop;
+use ms_parse_stack::{Link, Stop, first_operand, inside, link_of, with_operand};
 use std::alloc::Global;
 
 /// Puts a frame on the stack, unless the formula becomes too deep.
 pub fn enter(begun: &mut Begun, frame: Frame) -> Result<Outcome, Stop>
     requires { begun.old.deepest ≤ 300 }
-    ensures { (f : Temporal) → begun.old.deepest ≡ depth (plugged (stack_of begun.old.frames) f) → depth f ≤ suc (max (inside (frame_of frame)) 1) →
-        ComesTo (wanted (frame_of frame ∷ stack_of begun.old.frames)) begun.new result }
+    ensures { (f : Temporal) → begun.old.deepest ≡ depth (plugged machine (stack_of begun.old.frames) f) → depth f ≤ suc (max (inside depth (frame_of frame)) 1) →
+        ComesTo (within (frame_of frame ∷ stack_of begun.old.frames) wanted) begun.new result }
 {
     if !begun.deepen(inside(&frame)) {
         return Err(Stop::TooDeep);
@@ -32,7 +29,7 @@ pub fn enter(begun: &mut Begun, frame: Frame) -> Result<Outcome, Stop>
 /// A frame where an operand is wanted.
 pub fn open(begun: &mut Begun, outcome: Outcome, frame: Frame) -> Result<Outcome, Stop>
     requires { IsMeasured begun.old outcome }
-    ensures { ComesTo (opened (frame_of frame) (state_of begun.old outcome)) begun.new result }
+    ensures { ComesTo (entered machine (opened (frame_of frame)) (state_of begun.old outcome)) begun.new result }
 {
     match outcome {
         Outcome::Wanted => enter(begun, frame),
@@ -45,7 +42,7 @@ pub fn open(begun: &mut Begun, outcome: Outcome, frame: Frame) -> Result<Outcome
 pub fn read_leaf(begun: &Begun, outcome: Outcome, formula: Ltl) -> Result<Outcome, Stop>
     requires measured { IsMeasured begun.now outcome }
     requires leaf { depth (temporal_of formula) ≡ 1 }
-    ensures { ComesTo (leaf (temporal_of formula) (state_of begun.now outcome)) begun.now result }
+    ensures { ComesTo (moved machine (leaf (temporal_of formula)) (state_of begun.now outcome)) begun.now result }
 {
     match outcome {
         Outcome::Wanted => Ok(Outcome::Holding(Operand { formula, height: 1 })),
@@ -60,9 +57,9 @@ fn begin_list(
     op: Junction,
     operand: Operand,
 ) -> Result<Outcome, Stop>
-    requires measured { begun.old.deepest ≡ depth (plugged (stack_of begun.old.frames) (temporal_of operand.formula)) }
+    requires measured { begun.old.deepest ≡ depth (plugged machine (stack_of begun.old.frames) (temporal_of operand.formula)) }
     requires shallow { begun.old.deepest ≤ 300 }
-    ensures { ComesTo (wanted (behind_joining op (one (temporal_of operand.formula)) ∷ stack_of begun.old.frames)) begun.new result }
+    ensures { ComesTo (within (behind_joining op (temporal_of operand.formula ∷ []) ∷ stack_of begun.old.frames) wanted) begun.new result }
 {
     let operands = first_operand(alloc, operand)?;
     enter(begun, Frame::Joining(op, operands))
@@ -74,9 +71,9 @@ fn go_further(
     operands: Operands,
     operand: Operand,
 ) -> Result<Outcome, Stop>
-    requires measured { begun.old.deepest ≡ depth (plugged (behind_joining op (temporals_of operands.list) ∷ stack_of begun.old.frames) (temporal_of operand.formula)) }
+    requires measured { begun.old.deepest ≡ depth (plugged machine (behind_joining op (map temporal_of operands.list) ∷ stack_of begun.old.frames) (temporal_of operand.formula)) }
     requires shallow { begun.old.deepest ≤ 300 }
-    ensures { ComesTo (wanted (behind_joining op (with_last (temporals_of operands.list) (temporal_of operand.formula)) ∷ stack_of begun.old.frames)) begun.new result }
+    ensures { ComesTo (within (behind_joining op (map temporal_of operands.list ++ temporal_of operand.formula ∷ []) ∷ stack_of begun.old.frames) wanted) begun.new result }
 {
     let operands = with_operand(operands, operand)?;
     enter(begun, Frame::Joining(op, operands))
@@ -89,9 +86,9 @@ pub fn join(
     op: Junction,
     operand: Operand,
 ) -> Result<Outcome, Stop>
-    requires measured { begun.old.deepest ≡ depth (plugged (stack_of begun.old.frames) (temporal_of operand.formula)) }
+    requires measured { begun.old.deepest ≡ depth (plugged machine (stack_of begun.old.frames) (temporal_of operand.formula)) }
     requires shallow { begun.old.deepest ≤ 300 }
-    ensures { ComesTo (linked op (stack_of begun.old.frames, temporal_of operand.formula)) begun.new result }
+    ensures { ComesTo (linked machine op (stack_of begun.old.frames, temporal_of operand.formula)) begun.new result }
 {
     let Some(frame) = begun.frames.pop() else {
         return begin_list(alloc, begun, op, operand);

@@ -1,13 +1,88 @@
-use crate::operand::{Operand, Operands};
-use crate::operator::{Binary, Junction, Prefix};
+ghost use Rattle.std.specs.Prelude.{◌≡◌, map};
+ghost use Rattle.ms_ltlf.specs.Tree.{Temporal, depth};
+ghost use Rattle.ms_ltlf.specs.View.{temporal_of};
+ghost use Rattle.ms_ltlf_parse.specs.inner.Machine.{operators};
+ghost use Rattle.ms_ltlf_parse.specs.inner.Deep.{operators_deep};
 
-/// An entry of the stack: a formula that has been begun, up to the part that follows.
-#[derive(Drop)]
-pub enum Frame {
-    Brackets,
-    Prefix(Prefix),
-    /// The left operand, and the operator behind it.
-    Infix(Binary, Operand),
-    /// Operands, and the operator behind each.
-    Joining(Junction, Operands),
+use crate::levels;
+use crate::operator::{Binary, Junction, Prefix};
+use ms_list::{List, NoMemory, on_heap};
+use ms_ltlf::Ltl;
+use ms_parse_stack as stacks;
+use ms_parse_stack::Grammar;
+use std::alloc::Global;
+
+/// The grammar of temporal logic.
+pub struct TemporalLogic;
+
+impl Grammar for TemporalLogic {
+    type Formula = Ltl;
+
+    type Prefix = Prefix;
+
+    type Binary = Binary;
+
+    ghost Tree = { Temporal };
+
+    ghost tree_of = { temporal_of };
+
+    ghost depth = { depth };
+
+    ghost operators = { operators };
+
+    ghost deep = { operators_deep };
+
+    fn brackets(alloc: Global, operand: Ltl) -> Result<Ltl, NoMemory> {
+        Ok(Ltl::Paren(on_heap(alloc, operand)?))
+    }
+
+    fn prefixed(alloc: Global, op: Prefix, operand: Ltl) -> Result<Ltl, NoMemory> {
+        let body = on_heap(alloc, operand)?;
+        match op {
+            Prefix::Negation => Ok(Ltl::Not(body)),
+            Prefix::Next => Ok(Ltl::Next(body)),
+            Prefix::WeakNext => Ok(Ltl::WeakNext(body)),
+            Prefix::Eventually => Ok(Ltl::Eventually(body)),
+            Prefix::Always => Ok(Ltl::Always(body)),
+        }
+    }
+
+    fn infixed(alloc: Global, op: Binary, left: Ltl, right: Ltl) -> Result<Ltl, NoMemory> {
+        let left = on_heap(alloc, left)?;
+        let right = on_heap(alloc, right)?;
+        match op {
+            Binary::Equivalence => Ok(Ltl::Iff(left, right)),
+            Binary::Implication => Ok(Ltl::Implies(left, right)),
+            Binary::Until => Ok(Ltl::Until(left, right)),
+            Binary::Release => Ok(Ltl::Release(left, right)),
+        }
+    }
+
+    fn joined(op: Junction, operands: List<Ltl>) -> Ltl
+        ensures { temporal_of result ≡ operators.joined op (map temporal_of operands) }
+    {
+        match op {
+            Junction::Conjunction => Ltl::And(operands),
+            Junction::Disjunction => Ltl::Or(operands),
+        }
+    }
+
+    fn prefix_operand(op: &Prefix) -> u32 {
+        levels::prefix_operand(op)
+    }
+
+    fn binary_level(op: &Binary) -> u32 {
+        levels::binary_level(*op)
+    }
+
+    fn junction_level(op: Junction) -> u32 {
+        levels::junction_level(op)
+    }
 }
+
+pub type Operand = stacks::Operand<TemporalLogic>;
+
+pub type Operands = stacks::Operands<TemporalLogic>;
+
+/// An entry of the stack.
+pub type Frame = stacks::Frame<TemporalLogic>;

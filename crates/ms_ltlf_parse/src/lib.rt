@@ -1,19 +1,13 @@
 //! Reads the tokens of a text as a formula of linear temporal logic on finite traces, or refuses them.
 #![tactic(auto)]
 
-mod complete;
 mod enter;
 mod examples;
-mod formula;
 mod frame;
 mod laws;
 mod levels;
-mod link;
-mod operand;
-mod operands;
 mod operator;
 mod read;
-mod settle;
 mod sights;
 mod state;
 mod step;

@@ -1,5 +1,4 @@
-use crate::frame::Frame;
-use crate::operand::Operand;
+use crate::frame::{Frame, Operand};
 use ms_parse_stack as begun;
 
 /// What has been begun, and the depth of the shortest formula that begins so.

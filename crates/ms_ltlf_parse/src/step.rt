@@ -1,23 +1,21 @@
-ghost use Rattle.std.specs.Prelude.{◌≡◌, ◌↔◌, ◌≤◌, ℕ, suc, List, IsTrue};
+ghost use Rattle.std.specs.Prelude.{◌≡◌, ◌≤◌, ℕ, suc, List};
 ghost use Rattle.ms_ltlf.specs.Tree.{depth};
 ghost use Rattle.ms_ltlf.specs.View.{temporal_of};
 ghost use Rattle.ms_ltlf_parse.specs.Grammar.{junction_level, left_level};
-ghost use Rattle.ms_ltlf_parse.specs.inner.Machine.{behind, closed, ended, in_brackets, infixed, linked, plugged, step};
+ghost use Rattle.ms_parse_stack.specs.inner.Machine.{behind, closed, ended, infixed, linked, plugged};
+ghost use Rattle.ms_ltlf_parse.specs.inner.Machine.{machine, step};
 ghost use Rattle.ms_ltlf_parse.specs.inner.States.{ComesTo, IsMeasured, Settles, frame_of, stack_of, state_of};
 ghost use Rattle.ms_ltlf_parse.specs.inner.Terminals.{symbol_with};
 
-use crate::complete::complete_brackets;
 use crate::enter::{enter, join, open, read_leaf};
-use crate::frame::Frame;
+use crate::frame::{Frame, Operand};
 use crate::levels::{left_level, operand_level};
-use crate::operand::Operand;
 use crate::operator::{Binary, Junction};
-use crate::settle::settle;
 use crate::state::{Begun, Outcome};
 use crate::terminal::Terminal;
 use ms_list::let_go;
 use ms_ltlf::Ltl;
-use ms_parse_stack::Stop;
+use ms_parse_stack::{Stop, complete_brackets, is_brackets, settle};
 use std::alloc::Global;
 
 /// The left operand of a symbol that wants one of a level.
@@ -44,7 +42,7 @@ fn read_infix(
     op: Binary,
 ) -> Result<Outcome, Stop>
     requires { IsMeasured begun.old outcome }
-    ensures { ComesTo (behind (left_level op) (infixed op) (state_of begun.old outcome)) begun.new result }
+    ensures { ComesTo (behind machine (left_level op) (infixed machine op) (state_of begun.old outcome)) begun.new result }
 {
     let left = left_operand(alloc, begun, outcome, left_level(op))?;
     enter(begun, Frame::Infix(op, left))
@@ -57,28 +55,17 @@ fn read_joining(
     op: Junction,
 ) -> Result<Outcome, Stop>
     requires { IsMeasured begun.old outcome }
-    ensures { ComesTo (behind (suc (junction_level op)) (linked op) (state_of begun.old outcome)) begun.new result }
+    ensures { ComesTo (behind machine (suc (junction_level op)) (linked machine op) (state_of begun.old outcome)) begun.new result }
 {
     let operand = left_operand(alloc, begun, outcome, operand_level(op))?;
     join(alloc, begun, op, operand)
 }
 
-fn is_brackets(frame: &Frame) -> bool
-    ensures { IsTrue result ↔ (frame_of frame.now ≡ in_brackets) }
-{
-    match frame {
-        Frame::Brackets => true,
-        Frame::Prefix(_) => false,
-        Frame::Infix(..) => false,
-        Frame::Joining(..) => false,
-    }
-}
-
 /// `)` behind an operand.
 fn close(alloc: Global, begun: &mut Begun, operand: Operand) -> Result<Outcome, Stop>
-    requires measured { begun.old.deepest ≡ depth (plugged (stack_of begun.old.frames) (temporal_of operand.formula)) }
+    requires measured { begun.old.deepest ≡ depth (plugged machine (stack_of begun.old.frames) (temporal_of operand.formula)) }
     requires shallow { begun.old.deepest ≤ 300 }
-    ensures { ComesTo (closed (stack_of begun.old.frames, temporal_of operand.formula)) begun.new result }
+    ensures { ComesTo (closed machine (stack_of begun.old.frames, temporal_of operand.formula)) begun.new result }
 {
     let Some(frame) = begun.frames.pop() else {
         return Err(Stop::Misplaced);
@@ -93,9 +80,9 @@ fn close(alloc: Global, begun: &mut Begun, operand: Operand) -> Result<Outcome, 
 
 /// `;` behind an operand.
 fn end(begun: &Begun, operand: Operand) -> Result<Outcome, Stop>
-    requires measured { begun.now.deepest ≡ depth (plugged (stack_of begun.now.frames) (temporal_of operand.formula)) }
+    requires measured { begun.now.deepest ≡ depth (plugged machine (stack_of begun.now.frames) (temporal_of operand.formula)) }
     requires shallow { begun.now.deepest ≤ 300 }
-    ensures { ComesTo (ended (stack_of begun.now.frames, temporal_of operand.formula)) begun.now result }
+    ensures { ComesTo (ended machine (stack_of begun.now.frames, temporal_of operand.formula)) begun.now result }
 {
     if begun.frames.is_empty() {
         Ok(Outcome::Done(operand))
@@ -106,7 +93,7 @@ fn end(begun: &Begun, operand: Operand) -> Result<Outcome, Stop>
 
 fn read_close(alloc: Global, begun: &mut Begun, outcome: Outcome) -> Result<Outcome, Stop>
     requires { IsMeasured begun.old outcome }
-    ensures { ComesTo (behind 0 closed (state_of begun.old outcome)) begun.new result }
+    ensures { ComesTo (behind machine 0 (closed machine) (state_of begun.old outcome)) begun.new result }
 {
     let operand = left_operand(alloc, begun, outcome, 0)?;
     close(alloc, begun, operand)
@@ -114,7 +101,7 @@ fn read_close(alloc: Global, begun: &mut Begun, outcome: Outcome) -> Result<Outc
 
 fn read_end(alloc: Global, begun: &mut Begun, outcome: Outcome) -> Result<Outcome, Stop>
     requires { IsMeasured begun.old outcome }
-    ensures { ComesTo (behind 0 ended (state_of begun.old outcome)) begun.new result }
+    ensures { ComesTo (behind machine 0 (ended machine) (state_of begun.old outcome)) begun.new result }
 {
     let operand = left_operand(alloc, begun, outcome, 0)?;
     end(begun, operand)

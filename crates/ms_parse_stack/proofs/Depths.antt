@@ -1,6 +1,7 @@
 -- How deep formulas are that are made of a stack.
-use Rattle.std.proofs.Common.{◌≡◌, ℕ, suc, ◌+◌, ◌≤◌, max, List, [], ◌∷◌, length, map, arith}
+use Rattle.std.proofs.Common.{◌≡◌, ℕ, suc, ◌+◌, ◌≤◌, max, List, [], ◌∷◌, ◌++◌, length, map, arith}
 use Rattle.std.proofs.lemmas.List.{length-map}
+use Rattle.ms_parse_stack.specs.inner.Frames.{Operators, AreDeep, Frame, in_brackets, behind_prefix, behind_infix, behind_joining, depth_of_each, filled, inside}
 use Rattle.ms_parse_stack.specs.inner.Settled.{plugged}
 
 -- Formulas have a depth. `inside` is how deep the parts are that a frame has before its hole.
@@ -41,3 +42,18 @@ module _ {Frame Formula : Type 0} {filled : Frame → Formula → Formula} (d : 
   entered frame_of frame frames f g n least same small =
       let deep = d.depth-filled frame g in
       omega (arith, replaced frame_of frames f (filled frame g) n same (omega (arith, small, deep, least)), deep, least)
+
+pub depth-more : {Formula : Type 0} (depth : Formula → ℕ) (fs : List Formula) (f : Formula) → depth_of_each depth (fs ++ f ∷ []) ≡ max (depth_of_each depth fs) (depth f)
+depth-more depth [] f = omega arith
+depth-more depth (e ∷ fs) f = omega (arith, depth-more depth fs f)
+
+module _ {Prefix Binary Formula : Type 0} (o : Operators Prefix Binary Formula) (depth : Formula → ℕ) (d : AreDeep o depth) where
+  pub depth-filled : (frame : Frame Prefix Binary Formula) (f : Formula) → depth (filled o frame f) ≡ suc (max (inside depth frame) (depth f))
+  depth-filled in_brackets f = omega (arith, d.brackets_deep f)
+  depth-filled (behind_prefix op) f = omega (arith, d.prefixed_deep op f)
+  depth-filled (behind_infix op left) f = d.binary_deep op left f
+  depth-filled (behind_joining op operands) f = omega (arith, d.joined_deep op (operands ++ f ∷ []), depth-more depth operands f)
+
+  -- the depths of formulas that operators make
+  abbrev pub depths : Depths (filled o)
+  depths = record { depth = depth; inside = inside depth; depth-filled = depth-filled }

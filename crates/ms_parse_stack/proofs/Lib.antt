@@ -1,4 +1,10 @@
+pub mod Completeness
 pub mod Depths
 pub mod Faults
+pub mod Fitting
+pub mod Growth
+pub mod Runs
 pub mod Settling
+pub mod Soundness
+pub mod Spellings
 pub mod Tokens

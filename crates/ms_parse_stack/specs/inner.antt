@@ -1,2 +1,5 @@
+pub mod Frames
+pub mod Machine
+pub mod Opened
 pub mod Settled
 pub mod Stopped

@@ -9,7 +9,8 @@ use Rattle.ms_presburger_parse.specs.declared.state.Outcome.{Outcome}
 use Rattle.ms_presburger_parse.specs.declared.state.Outcome.TheVariants.{Within, Done}
 use Rattle.ms_parse_stack.specs.declared.stop.Stop.{Stop}
 use Rattle.ms_parse_stack.specs.declared.stop.Stop.TheVariants.{Memory, Misplaced, TooDeep}
-use Rattle.ms_presburger_parse.specs.inner.Machine.{GoesOn, step, shortest}
+use Rattle.ms_parse_stack.specs.inner.Machine.{GoesOn}
+use Rattle.ms_presburger_parse.specs.inner.Machine.{step, shortest}
 use Rattle.ms_presburger_parse.specs.inner.Reached.{reached, front, HasCome, StopsAt}
 use Rattle.ms_presburger_parse.specs.inner.States.{Begun, ComesTo, state_of}
 use Rattle.ms_presburger_parse.proofs.Readings.{follows, follows_deeper, goes_on, is_shallow, reached-append}

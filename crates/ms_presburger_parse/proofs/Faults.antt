@@ -10,7 +10,8 @@ use Rattle.ms_presburger_parse.specs.Reading.{Reads, ReadsAsProblem, CanFollow, 
 use Rattle.ms_presburger_parse.specs.Refused.{IsProblemFault}
 use Rattle.ms_presburger_parse.specs.Symbol.{semicolon, symbol_of, symbols}
 use Rattle.ms_presburger_parse.specs.Grammar.{spelled}
-use Rattle.ms_presburger_parse.specs.inner.Machine.{State, within, done, stopped, GoesOn, shortest}
+use Rattle.ms_parse_stack.specs.inner.Machine.{within, done, stopped, GoesOn}
+use Rattle.ms_presburger_parse.specs.inner.Machine.{State, shortest}
 use Rattle.ms_presburger_parse.specs.inner.Reached.{reached, front, StopsAt}
 use Rattle.ms_presburger_parse.proofs.Readings.{follows, reached-whole}
 use Rattle.ms_presburger_parse.proofs.Extents.{extent_spelled}

@@ -1,14 +1,12 @@
 pub mod Comings
 pub mod Completeness
-pub mod Depths
 pub mod Extents
 pub mod Faults
-pub mod Fitting
 pub mod Gatherings
+pub mod Groupings
 pub mod Growth
 pub mod Onces
 pub mod Readings
-pub mod Runs
 pub mod Separated
 pub mod Soundness
 pub mod Spellings

@@ -1,5 +1,5 @@
 -- The symbols that the machine has read, by what it has begun.
-use Rattle.std.proofs.Common.{◌≡◌, ℕ, suc, true, List, [], ◌∷◌, ◌++◌, Option, Some, None, Bool, refl, sym, ap, ◌∙◌, subst, inl, inr, append_assoc, append-nil}
+use Rattle.std.proofs.Common.{◌≡◌, ℕ, List, [], ◌∷◌, ◌++◌, Option, Some, None, Bool, refl, sym, ap, ◌∙◌, subst, inl, inr, append_assoc, append-nil}
 use Rattle.std.specs.Prelude.{IfSome, codes, if◌then◌else◌}
 use Rattle.std.proofs.lemmas.Bool.{cases_Bool}
 use Rattle.ms_logic.specs.declared.mode.Quant.{Quant}
@@ -7,45 +7,22 @@ use Rattle.ms_logic.specs.declared.mode.Rel.{Rel}
 use Rattle.ms_logic.specs.declared.mode.Rel.TheVariants.{Equal}
 use Rattle.ms_presburger.specs.declared.linear.Part.{Part}
 use Rattle.ms_presburger.specs.declared.linear.Part.TheVariants.{Number, Var, Times}
-use Rattle.ms_presburger.specs.Tree.{Arithmetic, truth, falsity, Arithmetics, no_arithmetics, more_arithmetics}
-use Rattle.ms_presburger_parse.specs.Grammar.{spelled, spelled_between, spelled_behind, spelled_part, spelled_sum, spelled_names, left_level, junction_level, compares}
+use Rattle.ms_presburger.specs.Tree.{Arithmetic, truth, falsity}
+use Rattle.ms_presburger.specs.View.{arithmetics}
+use Rattle.ms_parse_stack.specs.declared.junction.Junction.{Junction}
+use Rattle.ms_parse_stack.specs.declared.junction.Junction.TheVariants.{Conjunction, Disjunction}
+use Rattle.ms_parse_stack.specs.inner.Frames.{in_brackets, behind_prefix}
+use Rattle.ms_parse_stack.proofs.Spellings.{Spelling, IsSpelling, IsSaid, AreActing, spelled_behind, spelled_between, said_before}
+use Rattle.ms_presburger_parse.specs.Grammar.{spelled, spelled_part, spelled_sum, spelled_names, compares}
+use Rattle.ms_presburger_parse.specs.Grammar as grammars
 use Rattle.ms_presburger_parse.specs.Symbol.{Symbol, name, number, word_true, word_false, quantifier, negation_sign, infix_operator, joining, relation, plus, comma, colon, open_bracket, close_bracket, semicolon, other}
 use Rattle.ms_presburger_parse.specs.declared.operator.Binary.{Binary}
 use Rattle.ms_presburger_parse.specs.declared.operator.Binary.TheVariants.{Equivalence, Implication}
-use Rattle.ms_parse_stack.specs.declared.junction.Junction.{Junction}
-use Rattle.ms_parse_stack.specs.declared.junction.Junction.TheVariants.{Conjunction, Disjunction}
-use Rattle.ms_presburger_parse.specs.inner.Machine.{Frame, in_brackets, behind_negation, behind_colon, behind_infix, behind_joining, filled, plugged, settled, yields, link, with_last, binary, joined, Side, on_left, on_right, Place, wanted, naming, named, adding, added, holding, operand, with_number, times, with_name, with_plus, with_relation, with_quantifier, with_comma, with_leaf, opening, body, State, within, done, stopped, stay, moves, begin, enters, infixed, linked, closed, ended, acts, behind, step, run, compared, completed, GoesOn}
-use Rattle.ms_presburger_parse.proofs.Fitting.{rests, link_cases}
-use Rattle.ms_presburger_parse.proofs.Runs.{step_on}
+use Rattle.ms_presburger_parse.specs.declared.operator.Prefix.{Prefix}
+use Rattle.ms_presburger_parse.specs.declared.operator.Prefix.TheVariants.{Negation, Quantifier}
+use Rattle.ms_presburger_parse.specs.inner.Machine.{Frame, machine, action, prefixed, binary, joined, Side, on_left, on_right, Place, wanted, naming, named, adding, added, holding, operand, with_number, times, with_name, with_plus, with_relation, with_quantifier, with_comma, with_leaf, opening, body, compared, completed}
 use Rattle.ms_presburger_parse.proofs.Separated.{terminated, separated-sign, separated-last, terminated-last}
-use Rattle.ms_parse_stack.proofs.Settling.{settled_by}
-use Rattle.ms_presburger_parse.proofs.Soundness.{HasSome, IsSound, AreSound, IsSoundPlace, IsSoundState, step_sound}
-
--- the symbols of a frame before its hole, and behind it
-
-abbrev pub said_before : Frame → List Symbol
-said_before in_brackets = open_bracket ∷ []
-said_before behind_negation = negation_sign ∷ []
-said_before (behind_colon q xs) = quantifier q ∷ spelled_names xs ++ colon ∷ []
-said_before (behind_infix op left) = spelled left ++ infix_operator op ∷ []
-said_before (behind_joining op operands) = spelled_between op operands ++ joining op ∷ []
-
-abbrev pub left_open : Frame → List Symbol
-left_open in_brackets = close_bracket ∷ []
-left_open behind_negation = []
-left_open (behind_colon q xs) = []
-left_open (behind_infix op left) = []
-left_open (behind_joining op operands) = []
-
--- so for a whole stack
-
-abbrev pub said_stack : List Frame → List Symbol
-said_stack [] = []
-said_stack (frame ∷ frames) = said_stack frames ++ said_before frame
-
-abbrev pub closing : List Frame → List Symbol
-closing [] = []
-closing (frame ∷ frames) = left_open frame ++ closing frames
+use Rattle.ms_presburger_parse.proofs.Soundness.{IsSoundPlace, action_sound, grammar}
 
 -- the symbols that have been read of the innermost formula, and those that end it
 
@@ -76,52 +53,40 @@ ending (adding side parts) = number 0 ∷ side_ending side
 ending (added side before last) = side_ending side
 ending (holding f) = []
 
--- the symbols that a state has read
-abbrev pub said : State → List Symbol
-said (within frames p) = said_stack frames ++ said_place p
-said (done f) = spelled f ++ semicolon ∷ []
-said stopped = []
+abbrev pub before : Prefix → List Symbol
+before Negation = negation_sign ∷ []
+before (Quantifier q xs) = quantifier q ∷ spelled_names xs ++ colon ∷ []
 
-pub spelled-binary : (op : Binary) (f g : Arithmetic) → spelled (binary op f g) ≡ spelled f ++ infix_operator op ∷ spelled g
-spelled-binary Equivalence f g = refl
-spelled-binary Implication f g = refl
+abbrev pub spelling : Spelling Prefix Binary Place Arithmetic Symbol
+spelling = record {
+  spelled = spelled;
+  before = before;
+  infix_sign = infix_operator;
+  joining_sign = joining;
+  open_sign = open_bracket;
+  close_sign = close_bracket;
+  end_sign = semicolon;
+  said = said_place;
+  ending = ending;
+}
 
-pub spelled-joined : (op : Junction) (fs : Arithmetics) → spelled (joined op fs) ≡ spelled_between op fs
-spelled-joined Conjunction fs = refl
-spelled-joined Disjunction fs = refl
+prefixed_spelled : (op : Prefix) (f : Arithmetic) → spelled (prefixed op f) ≡ before op ++ spelled f
+prefixed_spelled Negation f = refl
+prefixed_spelled (Quantifier q xs) f = ap (λ x. quantifier q ∷ x) (sym (append_assoc (spelled_names xs) (colon ∷ []) (spelled f)))
 
-behind-with_last : (op : Junction) (fs : Arithmetics) (g : Arithmetic) → spelled_behind op (with_last fs g) ≡ spelled_behind op fs ++ joining op ∷ spelled g
-behind-with_last op no_arithmetics g = ap (λ x. joining op ∷ x) (append-nil (spelled g))
-behind-with_last op (more_arithmetics f fs) g =
-    ap (λ x. joining op ∷ (spelled f ++ x)) (behind-with_last op fs g) ∙ ap (λ x. joining op ∷ x) (sym (append_assoc (spelled f) (spelled_behind op fs) (joining op ∷ spelled g)))
+binary_spelled : (op : Binary) (f g : Arithmetic) → spelled (binary op f g) ≡ spelled f ++ infix_operator op ∷ spelled g
+binary_spelled Equivalence f g = refl
+binary_spelled Implication f g = refl
 
-between-with_last : (op : Junction) (fs : Arithmetics) (g : Arithmetic) → HasSome fs → spelled_between op (with_last fs g) ≡ spelled_between op fs ++ joining op ∷ spelled g
-between-with_last op no_arithmetics g h = absurd h
-between-with_last op (more_arithmetics f fs) g h =
-    ap (λ x. spelled f ++ x) (behind-with_last op fs g) ∙ sym (append_assoc (spelled f) (spelled_behind op fs) (joining op ∷ spelled g))
+behind_spelled : (op : Junction) (fs : List Arithmetic) → grammars.spelled_behind op (arithmetics fs) ≡ spelled_behind spelling op fs
+behind_spelled op [] = refl
+behind_spelled op (f ∷ fs) = ap (λ x. joining op ∷ spelled f ++ x) (behind_spelled op fs)
 
-spelled-filled : (frame : Frame) (f : Arithmetic) → IsSound frame → spelled (filled frame f) ≡ said_before frame ++ (spelled f ++ left_open frame)
-spelled-filled in_brackets f sound = refl
-spelled-filled behind_negation f sound = ap (λ x. negation_sign ∷ x) (sym (append-nil (spelled f)))
-spelled-filled (behind_colon q xs) f sound =
-    ap (λ x. quantifier q ∷ (spelled_names xs ++ (colon ∷ x))) (sym (append-nil (spelled f))) ∙ ap (λ x. quantifier q ∷ x) (sym (append_assoc (spelled_names xs) (colon ∷ []) (spelled f ++ [])))
-spelled-filled (behind_infix op left) f sound =
-    spelled-binary op left f ∙ ap (λ x. spelled left ++ (infix_operator op ∷ x)) (sym (append-nil (spelled f)))
-    ∙ sym (append_assoc (spelled left) (infix_operator op ∷ []) (spelled f ++ []))
-spelled-filled (behind_joining op operands) f sound =
-    spelled-joined op (with_last operands f) ∙ between-with_last op operands f sound.some ∙ ap (λ x. spelled_between op operands ++ (joining op ∷ x)) (sym (append-nil (spelled f)))
-    ∙ sym (append_assoc (spelled_between op operands) (joining op ∷ []) (spelled f ++ []))
-
-regroup : (a b c d e : List Symbol) → a ++ ((b ++ (c ++ d)) ++ e) ≡ (a ++ b) ++ (c ++ (d ++ e))
-regroup a b c d e = simp append_assoc
-
--- the symbols of the whole
-pub spelled-plugged : (frames : List Frame) (f : Arithmetic) → AreSound frames → spelled (plugged frames f) ≡ said_stack frames ++ (spelled f ++ closing frames)
-spelled-plugged [] f sound = sym (append-nil (spelled f))
-spelled-plugged (frame ∷ frames) f sound =
-    spelled-plugged frames (filled frame f) sound.2
-    ∙ ap (λ x. said_stack frames ++ (x ++ closing frames)) (spelled-filled frame f sound.0)
-    ∙ regroup (said_stack frames) (said_before frame) (spelled f) (left_open frame) (closing frames)
+joined_spelled : (op : Junction) (fs : List Arithmetic) → spelled (joined op fs) ≡ spelled_between spelling op fs
+joined_spelled Conjunction [] = refl
+joined_spelled Disjunction [] = refl
+joined_spelled Conjunction (f ∷ fs) = ap (λ x. spelled f ++ x) (behind_spelled Conjunction fs)
+joined_spelled Disjunction (f ∷ fs) = ap (λ x. spelled f ++ x) (behind_spelled Disjunction fs)
 
 -- the innermost formula with what ends it
 
@@ -234,19 +199,10 @@ leaf_said f x is (adding side parts) = tt
 leaf_said f x is (added side before last) = tt
 leaf_said f x is (holding g) = tt
 
-stay_said : (frames : List Frame) (p : Place) (x : Symbol) (next : Option Place) → Says x p next → GoesOn (stay frames next) → said (stay frames next) ≡ (said_stack frames ++ said_place p) ++ x ∷ []
-stay_said frames p x (Some q) is on = ap (λ y. said_stack frames ++ y) is ∙ sym (append_assoc (said_stack frames) (said_place p) (x ∷ []))
-stay_said frames p x None is on = absurd on
-
-moves_said : (move : Place → Option Place) (x : Symbol) (s : State) → ((p : Place) → IsSoundPlace p → Says x p (move p)) → IsSoundState s → GoesOn (moves move s) → said (moves move s) ≡ said s ++ x ∷ []
-moves_said move x (within frames p) is sound on = stay_said frames p x (move p) (is p sound.1) on
-moves_said move x (done f) is sound on = absurd on
-moves_said move x stopped is sound on = absurd on
-
 abbrev pub Opens : Symbol → Place → Option Frame → Type 0
-Opens x p next = IfSome next (λ frame. said_before frame ≡ said_place p ++ x ∷ [])
+Opens x p next = IfSome next (λ frame. said_before spelling frame ≡ said_place p ++ x ∷ [])
 
-opening_said : (frame : Frame) (x : Symbol) → said_before frame ≡ x ∷ [] → (p : Place) → Opens x p (opening frame p)
+opening_said : (frame : Frame) (x : Symbol) → said_before spelling frame ≡ x ∷ [] → (p : Place) → Opens x p (opening frame p)
 opening_said frame x is wanted = is
 opening_said frame x is (naming q xs) = tt
 opening_said frame x is (named q xs) = tt
@@ -262,121 +218,36 @@ body_said (adding side parts) = tt
 body_said (added side before last) = tt
 body_said (holding g) = tt
 
-begin_said : (frames : List Frame) (p : Place) (x : Symbol) (next : Option Frame) → Opens x p next → GoesOn (begin frames next) → said (begin frames next) ≡ (said_stack frames ++ said_place p) ++ x ∷ []
-begin_said frames p x (Some frame) is on =
-    append-nil (said_stack frames ++ said_before frame) ∙ ap (λ y. said_stack frames ++ y) is ∙ sym (append_assoc (said_stack frames) (said_place p) (x ∷ []))
-begin_said frames p x None is on = absurd on
-
-enters_said : (opens : Place → Option Frame) (x : Symbol) (s : State) → ((p : Place) → Opens x p (opens p)) → GoesOn (enters opens s) → said (enters opens s) ≡ said s ++ x ∷ []
-enters_said opens x (within frames p) is on = begin_said frames p x (opens p) (is p) on
-enters_said opens x (done f) is on = absurd on
-enters_said opens x stopped is on = absurd on
-
-yielding-closed : (least : ℕ) (frame : Frame) → yields least frame ≡ true → left_open frame ≡ []
-yielding-closed least in_brackets h = cc
-yielding-closed least behind_negation h = refl
-yielding-closed least (behind_colon q xs) h = refl
-yielding-closed least (behind_infix op left) h = refl
-yielding-closed least (behind_joining op operands) h = refl
-
--- filled frames have the same symbols
-record IsSaid (whole : List Symbol) (held : List Frame × Arithmetic) : Type 0 where
-  sound : AreSound held.0
-  is : said_stack held.0 ++ spelled held.1 ≡ whole
-
-said_filled : (least : ℕ) (whole : List Symbol) (frame : Frame) (frames : List Frame) (f : Arithmetic) → yields least frame ≡ true → IsSaid whole (frame ∷ frames, f) → IsSaid whole (frames, filled frame f)
-said_filled least whole frame frames f e h =
-    let same : spelled (filled frame f) ≡ said_before frame ++ spelled f =
-    spelled-filled frame f h.sound.0 ∙ ap (λ x. said_before frame ++ (spelled f ++ x)) (yielding-closed least frame e) ∙ ap (λ x. said_before frame ++ x) (append-nil (spelled f)) in
-    record {
-      sound = h.sound.2;
-      is = ap (λ x. said_stack frames ++ x) same ∙ sym (append_assoc (said_stack frames) (said_before frame) (spelled f)) ∙ h.is;
-    }
-
--- what an act does that finds a stack and an operand
-abbrev pub ActSays : ℕ → (List Frame × Arithmetic → State) → Symbol → Type 0
-ActSays least act x =
-    (held : List Frame × Arithmetic) → AreSound held.0 → rests least held.0 → GoesOn (act held) → said (act held) ≡ (said_stack held.0 ++ spelled held.1) ++ x ∷ []
-
-acts_said : (least : ℕ) (act : List Frame × Arithmetic → State) (x : Symbol) (frames : List Frame) (p : Place) (held : Option Arithmetic) → ActSays least act x → AreSound frames → IfSome held (λ f. said_place p ≡ spelled f)
-    → GoesOn (acts least act frames held) → said (acts least act frames held) ≡ (said_stack frames ++ said_place p) ++ x ∷ []
-acts_said least act x frames p (Some f) further sound is on =
-    let whole = said_stack frames ++ spelled f in
-    let all = settled_by filled (yields least) (IsSaid whole) (said_filled least whole) frames f (record { sound = sound; is = refl }) in
-    further (settled least frames f) all.0.sound all.1 on ∙ ap (λ y. y ++ x ∷ []) (all.0.is ∙ ap (λ y. said_stack frames ++ y) (sym is))
-acts_said least act x frames p None further sound is on = absurd on
-
-behind_said : (least : ℕ) (act : List Frame × Arithmetic → State) (x : Symbol) (s : State) → ActSays least act x → IsSoundState s → GoesOn (behind least act s) → said (behind least act s) ≡ said s ++ x ∷ []
-behind_said least act x (within frames p) further sound on = acts_said least act x frames p (operand p) further sound.0 (operand_said p) on
-behind_said least act x (done g) further sound on = absurd on
-behind_said least act x stopped further sound on = absurd on
-
-infixed_said : (op : Binary) → ActSays (left_level op) (infixed op) (infix_operator op)
-infixed_said op (frames, f) sound rest on = append-nil (said_stack frames ++ (spelled f ++ infix_operator op ∷ [])) ∙ sym (append_assoc (said_stack frames) (spelled f) (infix_operator op ∷ []))
-
-regroup-link : (a b c : List Symbol) (x : Symbol) → a ++ ((b ++ (x ∷ c)) ++ x ∷ []) ≡ ((a ++ (b ++ x ∷ [])) ++ c) ++ x ∷ []
-regroup-link a b c x = simp append_assoc
-
-link_said : (op : Junction) (f : Arithmetic) (frames : List Frame) → AreSound frames → rests (suc (junction_level op)) frames → said_stack (link op f frames) ≡ (said_stack frames ++ spelled f) ++ joining op ∷ []
-link_said op f frames sound rest =
-    elim (link_cases op f frames rest) [
-      | inl first ↦
-          ap said_stack first.is ∙ ap (λ x. said_stack frames ++ (x ++ joining op ∷ [])) (append-nil (spelled f))
-          ∙ sym (append_assoc (said_stack frames) (spelled f) (joining op ∷ []))
-      | inr further ↦
-          let some = (subst AreSound further.top sound).0.some in
-          ap said_stack further.is ∙ ap (λ x. said_stack further.below ++ (x ++ joining op ∷ [])) (between-with_last op further.operands f some)
-          ∙ regroup-link (said_stack further.below) (spelled_between op further.operands) (spelled f) (joining op)
-          ∙ ap (λ x. (said_stack x ++ spelled f) ++ joining op ∷ []) (sym further.top)
-    ]
-
-linked_said : (op : Junction) → ActSays (suc (junction_level op)) (linked op) (joining op)
-linked_said op (frames, f) sound rest on = append-nil (said_stack (link op f frames)) ∙ link_said op f frames sound rest
-
-regroup-close : (a b : List Symbol) (x y : Symbol) → a ++ (x ∷ (b ++ y ∷ [])) ≡ ((a ++ x ∷ []) ++ b) ++ y ∷ []
-regroup-close a b x y = simp append_assoc
-
-closed_said : ActSays 0 closed close_bracket
-closed_said ([], f) sound rest on = absurd on
-closed_said (in_brackets ∷ frames, f) sound rest on = regroup-close (said_stack frames) (spelled f) open_bracket close_bracket
-closed_said (behind_negation ∷ frames, f) sound rest on = absurd on
-closed_said (behind_colon q xs ∷ frames, f) sound rest on = absurd on
-closed_said (behind_infix op left ∷ frames, f) sound rest on = absurd on
-closed_said (behind_joining op operands ∷ frames, f) sound rest on = absurd on
-
-ended_said : ActSays 0 ended semicolon
-ended_said ([], f) sound rest on = refl
-ended_said (frame ∷ frames, f) sound rest on = absurd on
-
-step_said : (s : State) (x : Symbol) → IsSoundState s → GoesOn (step s x) → said (step s x) ≡ said s ++ x ∷ []
-step_said s (name x) sound on = moves_said (with_name x) (name x) s (λ p sound. name_said x p) sound on
-step_said s (number n) sound on = moves_said (with_number n) (number n) s (λ p sound. number_said n p) sound on
-step_said s word_true sound on = moves_said (with_leaf truth) word_true s (λ p sound. leaf_said truth word_true refl p) sound on
-step_said s word_false sound on = moves_said (with_leaf falsity) word_false s (λ p sound. leaf_said falsity word_false refl p) sound on
-step_said s (quantifier q) sound on = moves_said (with_quantifier q) (quantifier q) s (λ p sound. quantifier_said q p) sound on
-step_said s negation_sign sound on = enters_said (opening behind_negation) negation_sign s (opening_said behind_negation negation_sign refl) on
-step_said s (infix_operator op) sound on = behind_said (left_level op) (infixed op) (infix_operator op) s (infixed_said op) sound on
-step_said s (joining op) sound on = behind_said (suc (junction_level op)) (linked op) (joining op) s (linked_said op) sound on
-step_said s (relation r) sound on = moves_said (with_relation r) (relation r) s (λ p sound. relation_said r p) sound on
-step_said s plus sound on = moves_said with_plus plus s (λ p sound. plus_said p) sound on
-step_said s comma sound on = moves_said with_comma comma s comma_said sound on
-step_said s colon sound on = enters_said body colon s body_said on
-step_said s open_bracket sound on = enters_said (opening in_brackets) open_bracket s (opening_said in_brackets open_bracket refl) on
-step_said s close_bracket sound on = behind_said 0 closed close_bracket s closed_said sound on
-step_said s semicolon sound on = behind_said 0 ended semicolon s ended_said sound on
-step_said s other sound on = absurd on
-
--- The state has read these symbols, and what it has begun is as the grammar asks.
-pub record HasRead (front : List Symbol) (s : State) : Type 0 where
-  pub sound : IsSoundState s
-  pub is : GoesOn s → said s ≡ front
-
-pub read_step : (front : List Symbol) (s : State) (x : Symbol) → HasRead front s → HasRead (front ++ x ∷ []) (step s x)
-read_step front s x h = record {
-  sound = step_sound s x h.sound;
-  is = λ on. step_said s x h.sound on ∙ ap (λ y. y ++ x ∷ []) (h.is (step_on s x on));
+pub is_spelling : IsSpelling machine grammar spelling
+is_spelling = record {
+  brackets_spelled = λ f. refl;
+  prefixed_spelled = prefixed_spelled;
+  binary_spelled = binary_spelled;
+  joined_spelled = joined_spelled;
+  wanted_said = refl;
+  holding_said = λ f. refl;
+  operand_said = operand_said;
+  completed_said = spelled-completed;
 }
 
-pub read_run : (front : List Symbol) (s : State) (xs : List Symbol) → HasRead front s → HasRead (front ++ xs) (run s xs)
-read_run front s [] h = subst (λ y. HasRead y s) (sym (append-nil front)) h
-read_run front s (x ∷ xs) h = subst (λ y. HasRead y (run (step s x) xs)) (append_assoc front (x ∷ []) xs) (read_run (front ++ x ∷ []) (step s x) xs (read_step front s x h))
+action_said : (x : Symbol) → IsSaid machine grammar spelling x (action x)
+action_said (name x) = λ p sound. name_said x p
+action_said (number n) = λ p sound. number_said n p
+action_said word_true = λ p sound. leaf_said truth word_true refl p
+action_said word_false = λ p sound. leaf_said falsity word_false refl p
+action_said (quantifier q) = λ p sound. quantifier_said q p
+action_said negation_sign = opening_said (behind_prefix Negation) negation_sign refl
+action_said (infix_operator op) = refl
+action_said (joining op) = refl
+action_said (relation r) = λ p sound. relation_said r p
+action_said plus = λ p sound. plus_said p
+action_said comma = comma_said
+action_said colon = body_said
+action_said open_bracket = opening_said in_brackets open_bracket refl
+action_said close_bracket = refl
+action_said semicolon = refl
+action_said other = tt
+
+pub acting : (xs : List Symbol) → AreActing machine grammar spelling action xs
+acting [] = tt
+acting (x ∷ xs) = ((action_sound x, action_said x), acting xs)

@@ -1,12 +1,15 @@
 -- How tightly a formula binds for what stands behind it: not at all where it ends with the body of a quantifier.
-use Rattle.std.proofs.Common.{◌≡◌, ℕ, suc, ◌≤◌, min, true, false, refl, arith, leb-true}
+use Rattle.std.proofs.Common.{◌≡◌, ℕ, suc, ◌≤◌, min, false, List, [], ◌∷◌, ◌++◌, refl, arith}
 use Rattle.ms_presburger.specs.Tree.{Arithmetic, truth, falsity, comparison, brackets, negation, conjunction, disjunction, implication, equivalence, quantified, Arithmetics, no_arithmetics, more_arithmetics}
 use Rattle.ms_presburger_parse.specs.Grammar.{binary_level, junction_level, prefix_level, level, ends_open, last_ends_open, IsGrammatical, AreOperands}
 use Rattle.ms_presburger_parse.specs.declared.operator.Binary.{Binary}
 use Rattle.ms_presburger_parse.specs.declared.operator.Binary.TheVariants.{Equivalence, Implication}
 use Rattle.ms_parse_stack.specs.declared.junction.Junction.{Junction}
 use Rattle.ms_parse_stack.specs.declared.junction.Junction.TheVariants.{Conjunction, Disjunction}
-use Rattle.ms_presburger_parse.specs.inner.Machine.{Frame, in_brackets, behind_negation, behind_colon, behind_infix, behind_joining, binary, joined, filled, with_last, yields}
+use Rattle.ms_presburger.specs.View.{arithmetics}
+use Rattle.ms_presburger_parse.specs.declared.operator.Prefix.{Prefix}
+use Rattle.ms_presburger_parse.specs.declared.operator.Prefix.TheVariants.{Negation, Quantifier}
+use Rattle.ms_presburger_parse.specs.inner.Machine.{prefixed, prefix_operand, binary, joined}
 
 -- a symbol that wants a left operand of a level takes the whole formula where its strength is that level
 abbrev mutual
@@ -75,24 +78,19 @@ mutual
   closed_last least (more_arithmetics f no_arithmetics) small good h = omega (arith, good.0, closed_strength f good.2 h)
   closed_last least (more_arithmetics f (more_arithmetics g fs)) small good h = closed_last least (more_arithmetics g fs) small good.3 h
 
-pub strength-with_last : (fs : Arithmetics) (g : Arithmetic) → strength_of_last (with_last fs g) ≡ strength g
-strength-with_last no_arithmetics g = refl
-strength-with_last (more_arithmetics f no_arithmetics) g = refl
-strength-with_last (more_arithmetics f (more_arithmetics f' fs)) g = strength-with_last (more_arithmetics f' fs) g
+pub strength-prefixed : (op : Prefix) (f : Arithmetic) → strength (prefixed op f) ≡ min (prefix_operand op) (strength f)
+strength-prefixed Negation f = refl
+strength-prefixed (Quantifier q xs) f = omega arith
 
 pub strength-binary : (op : Binary) (f g : Arithmetic) → strength (binary op f g) ≡ min (binary_level op) (strength g)
 strength-binary Equivalence f g = refl
 strength-binary Implication f g = refl
 
-pub strength-joined : (op : Junction) (fs : Arithmetics) → strength (joined op fs) ≡ min (junction_level op) (strength_of_last fs)
-strength-joined Conjunction fs = refl
-strength-joined Disjunction fs = refl
+strength-last : (fs : List Arithmetic) (g : Arithmetic) → strength_of_last (arithmetics (fs ++ g ∷ [])) ≡ strength g
+strength-last [] g = refl
+strength-last (f ∷ []) g = refl
+strength-last (f ∷ f' ∷ fs) g = strength-last (f' ∷ fs) g
 
--- what ends before a symbol leaves a whole that the symbol takes
-pub strength_filled : (least : ℕ) (frame : Frame) (f : Arithmetic) → yields least frame ≡ true → least ≤ strength f → least ≤ strength (filled frame f)
-strength_filled least in_brackets f ends h = cc
-strength_filled least behind_negation f ends h = omega (arith, leb-true least prefix_level ends)
-strength_filled least (behind_colon q xs) f ends h = leb-true least 0 ends
-strength_filled least (behind_infix op left) f ends h = omega (arith, leb-true least (binary_level op) ends, strength-binary op left f)
-strength_filled least (behind_joining op operands) f ends h =
-    omega (arith, leb-true least (junction_level op) ends, strength-joined op (with_last operands f), strength-with_last operands f)
+pub strength-joined : (op : Junction) (fs : List Arithmetic) (g : Arithmetic) → strength (joined op (fs ++ g ∷ [])) ≡ min (junction_level op) (strength g)
+strength-joined Conjunction fs g = omega (arith, strength-last fs g)
+strength-joined Disjunction fs g = omega (arith, strength-last fs g)

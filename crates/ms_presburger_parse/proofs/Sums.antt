@@ -7,11 +7,11 @@ use Rattle.ms_presburger.specs.declared.linear.Part.{Part}
 use Rattle.ms_presburger.specs.declared.linear.Part.TheVariants.{Number, Var, Times}
 use Rattle.ms_presburger_parse.specs.Grammar.{spelled_part, spelled_sum, spelled_names, compares, HasOne}
 use Rattle.ms_presburger_parse.specs.Symbol.{Symbol, name, quantifier, relation, plus, comma, colon}
-use Rattle.ms_presburger_parse.specs.inner.Machine.{Frame, behind_colon, Side, on_left, on_right, wanted, named, adding, added, State, within, stay, step, run}
-
-pub run-append : (s : State) (xs ys : List Symbol) → run s (xs ++ ys) ≡ run (run s xs) ys
-run-append s [] ys = refl
-run-append s (x ∷ xs) ys = run-append (step s x) xs ys
+use Rattle.ms_parse_stack.specs.inner.Frames.{behind_prefix}
+use Rattle.ms_parse_stack.specs.inner.Machine.{within, stay}
+use Rattle.ms_parse_stack.proofs.Runs.{run-append}
+use Rattle.ms_presburger_parse.specs.declared.operator.Prefix.TheVariants.{Quantifier}
+use Rattle.ms_presburger_parse.specs.inner.Machine.{Frame, machine, action, Side, on_left, on_right, wanted, named, adding, added, State, step, run}
 
 part_read : (frames : List Frame) (side : Side) (before : List Part) (p : Part) (more : List Symbol) → run (within frames (adding side before)) (spelled_part p ++ more) ≡ run (within frames (added side before p)) more
 part_read frames side before (Number n) more = refl
@@ -59,7 +59,7 @@ left_read frames (p ∷ ps) some =
 relation_read : (frames : List Frame) (r : Rel) (left : List Part) (s : State) → compares r ≡ true → IsSummed frames on_left left s → step s (relation r) ≡ within frames (adding (on_right r left) [])
 relation_read frames r left s good h =
     ap (λ t. step t (relation r)) h.is
-    ∙ ap (λ b. stay frames (if b then Some (adding (on_right r (h.before ++ h.last ∷ [])) []) else None)) good
+    ∙ ap (λ b. stay machine frames (if b then Some (adding (on_right r (h.before ++ h.last ∷ [])) []) else None)) good
     ∙ ap (λ x. within frames (adding (on_right r x) [])) h.whole
 
 -- the symbols of a comparison, up to the last of its right sum
@@ -68,7 +68,7 @@ pub comparison_read : (frames : List Frame) (r : Rel) (left right : List Part) �
 comparison_read frames r left right good some some' =
     let s = run (within frames wanted) (spelled_sum left) in
     let same : run (within frames wanted) (spelled_sum left ++ relation r ∷ spelled_sum right) ≡ run (within frames (adding (on_right r left) [])) (spelled_sum right) =
-    run-append (within frames wanted) (spelled_sum left) (relation r ∷ spelled_sum right) ∙ ap (λ t. run t (spelled_sum right)) (relation_read frames r left s good (left_read frames left some)) in
+    run-append machine action (within frames wanted) (spelled_sum left) (relation r ∷ spelled_sum right) ∙ ap (λ t. run t (spelled_sum right)) (relation_read frames r left s good (left_read frames left some)) in
     subst (IsSummed frames (on_right r left) right) (sym same) (right_read frames (on_right r left) right some')
 
 names_further : (frames : List Frame) (q : Quant) (xs ys : List (List ℕ)) (more : List Symbol)
@@ -78,7 +78,6 @@ names_further frames q xs (y ∷ ys) more =
     names_further frames q (xs ++ y ∷ []) ys more ∙ ap (λ x. run (within frames (named q x)) more) (append_assoc xs (y ∷ []) ys)
 
 -- a quantifier with its names and the colon
-pub names_read : (frames : List Frame) (q : Quant) (xs : List (List ℕ)) (more : List Symbol) → HasOne xs
-    → run (within frames wanted) (quantifier q ∷ spelled_names xs ++ colon ∷ more) ≡ run (within (behind_colon q xs ∷ frames) wanted) more
-names_read frames q [] more some = absurd some
-names_read frames q (x ∷ xs) more some = names_further frames q (x ∷ []) xs (colon ∷ more)
+pub names_read : (frames : List Frame) (q : Quant) (xs : List (List ℕ)) → HasOne xs → run (within frames wanted) (quantifier q ∷ spelled_names xs ++ colon ∷ []) ≡ within (behind_prefix (Quantifier q xs) ∷ frames) wanted
+names_read frames q [] some = absurd some
+names_read frames q (x ∷ xs) some = names_further frames q (x ∷ []) xs (colon ∷ [])

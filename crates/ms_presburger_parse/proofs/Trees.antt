@@ -1,19 +1,12 @@
--- Trees of the code, and lists of them with one more.
-use Rattle.std.proofs.Common.{◌≡◌, List, [], ◌∷◌, ◌++◌, refl, sym, ap, ◌∙◌}
+-- Trees of the code.
+use Rattle.std.proofs.Common.{◌≡◌, List, sym, ap, ◌∙◌}
 use Rattle.ms_logic.specs.declared.mode.Rel.{Rel}
 use Rattle.ms_presburger.specs.declared.linear.Part.{Part}
-use Rattle.ms_presburger.specs.declared.linear.Linear.{Linear}
 use Rattle.ms_presburger.specs.declared.linear.Linear.TheOpen.{Linear-F}
 use Rattle.ms_presburger.specs.declared.linear.Linear.TheFolds.{fold-roll-Linear}
 use Rattle.ms_presburger.specs.declared.linear.Linear.TheVariants.{True, False, Compare, rolls-True, rolls-False, rolls-Compare}
-use Rattle.ms_presburger.specs.Tree.{Arithmetic, truth, falsity, comparison, more_arithmetics}
+use Rattle.ms_presburger.specs.Tree.{Arithmetic, truth, falsity, comparison}
 use Rattle.ms_presburger.specs.View.{arithmetic_at, arithmetic_of}
-use Rattle.ms_presburger_parse.specs.inner.Lists.{arithmetics_of}
-use Rattle.ms_presburger_parse.specs.inner.Machine.{with_last}
-
-pub arithmetics_of-push : (fs : List Linear) (f : Linear) → arithmetics_of (fs ++ f ∷ []) ≡ with_last (arithmetics_of fs) (arithmetic_of f)
-arithmetics_of-push [] f = refl
-arithmetics_of-push (g ∷ gs) f = ap (more_arithmetics (arithmetic_of g)) (arithmetics_of-push gs f)
 
 pub arithmetic_of-True : arithmetic_of True ≡ truth
 arithmetic_of-True = ap arithmetic_of (sym rolls-True) ∙ fold-roll-Linear Arithmetic arithmetic_at Linear-F.True

@@ -3,7 +3,8 @@ use Rattle.std.proofs.Common.{◌≡◌, List, true, ltb, ap, subst, arith, ltb-
 use Rattle.ms_presburger.specs.Tree.{Arithmetic, depth}
 use Rattle.ms_presburger_parse.specs.Reading.{Reads, CanFollow, greatest_depth}
 use Rattle.ms_presburger_parse.specs.Symbol.{Symbol}
-use Rattle.ms_presburger_parse.specs.inner.Machine.{State, within, done, stopped, shortest}
+use Rattle.ms_parse_stack.specs.inner.Machine.{within, done, stopped}
+use Rattle.ms_presburger_parse.specs.inner.Machine.{State, shortest}
 use Rattle.ms_presburger_parse.specs.inner.Reached.{reached}
 use Rattle.ms_presburger_parse.proofs.Readings.{is_shallow, reached-whole}
 

@@ -1,6 +1,6 @@
+pub mod Deep
 pub mod Examples
 pub mod Gathering
-pub mod Lists
 pub mod Machine
 pub mod Reached
 pub mod States

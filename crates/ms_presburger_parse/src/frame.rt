@@ -1,17 +1,83 @@
-use crate::operand::{Operand, Operands};
-use crate::operator::{Binary, Junction};
-use ms_list::{List, Name};
-use ms_logic::Quant;
+ghost use Rattle.std.specs.Prelude.{◌≡◌, map};
+ghost use Rattle.ms_presburger.specs.Tree.{Arithmetic, depth};
+ghost use Rattle.ms_presburger.specs.View.{arithmetic_of};
+ghost use Rattle.ms_presburger_parse.specs.inner.Machine.{operators};
+ghost use Rattle.ms_presburger_parse.specs.inner.Deep.{operators_deep};
 
-/// An entry of the stack: a formula that has been begun, up to the part that follows.
-#[derive(Drop)]
-pub enum Frame {
-    Brackets,
-    Negation,
-    /// A quantifier with its names, up to the colon.
-    Colon(Quant, List<Name>),
-    /// The left operand, and the operator behind it.
-    Infix(Binary, Operand),
-    /// Operands, and the operator behind each.
-    Joining(Junction, Operands),
+use crate::levels;
+use crate::operator::{Binary, Junction, Prefix};
+use ms_list::{List, NoMemory, on_heap};
+use ms_parse_stack as stacks;
+use ms_parse_stack::Grammar;
+use ms_presburger::Linear;
+use std::alloc::Global;
+
+/// The grammar of linear arithmetic.
+pub struct LinearArithmetic;
+
+impl Grammar for LinearArithmetic {
+    type Formula = Linear;
+
+    type Prefix = Prefix;
+
+    type Binary = Binary;
+
+    ghost Tree = { Arithmetic };
+
+    ghost tree_of = { arithmetic_of };
+
+    ghost depth = { depth };
+
+    ghost operators = { operators };
+
+    ghost deep = { operators_deep };
+
+    fn brackets(alloc: Global, operand: Linear) -> Result<Linear, NoMemory> {
+        Ok(Linear::Paren(on_heap(alloc, operand)?))
+    }
+
+    fn prefixed(alloc: Global, op: Prefix, operand: Linear) -> Result<Linear, NoMemory> {
+        let body = on_heap(alloc, operand)?;
+        match op {
+            Prefix::Negation => Ok(Linear::Not(body)),
+            Prefix::Quantifier(quant, names) => Ok(Linear::Bind(quant, names, body)),
+        }
+    }
+
+    fn infixed(alloc: Global, op: Binary, left: Linear, right: Linear) -> Result<Linear, NoMemory> {
+        let left = on_heap(alloc, left)?;
+        let right = on_heap(alloc, right)?;
+        match op {
+            Binary::Equivalence => Ok(Linear::Iff(left, right)),
+            Binary::Implication => Ok(Linear::Implies(left, right)),
+        }
+    }
+
+    fn joined(op: Junction, operands: List<Linear>) -> Linear
+        ensures { arithmetic_of result ≡ operators.joined op (map arithmetic_of operands) }
+    {
+        match op {
+            Junction::Conjunction => Linear::And(operands),
+            Junction::Disjunction => Linear::Or(operands),
+        }
+    }
+
+    fn prefix_operand(op: &Prefix) -> u32 {
+        levels::prefix_operand(op)
+    }
+
+    fn binary_level(op: &Binary) -> u32 {
+        levels::binary_level(*op)
+    }
+
+    fn junction_level(op: Junction) -> u32 {
+        levels::junction_level(op)
+    }
 }
+
+pub type Operand = stacks::Operand<LinearArithmetic>;
+
+pub type Operands = stacks::Operands<LinearArithmetic>;
+
+/// An entry of the stack.
+pub type Frame = stacks::Frame<LinearArithmetic>;

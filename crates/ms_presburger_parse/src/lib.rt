@@ -1,22 +1,16 @@
 //! Reads the tokens of a text as a formula of linear arithmetic, or refuses them.
 #![tactic(auto)]
 
-mod complete;
 mod enter;
 mod examples;
-mod formula;
 mod frame;
 mod free;
 mod laws;
 mod levels;
-mod link;
 mod moves;
-mod operand;
-mod operands;
 mod operator;
 mod place;
 mod read;
-mod settle;
 mod state;
 mod step;
 mod terminal;

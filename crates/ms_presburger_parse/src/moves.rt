@@ -6,8 +6,8 @@ ghost use Rattle.ms_presburger.specs.View.{arithmetic_of};
 ghost use Rattle.ms_presburger_parse.specs.inner.Machine.{operand, times, with_comma, with_leaf, with_name, with_number, with_plus, with_quantifier, with_relation};
 ghost use Rattle.ms_presburger_parse.specs.inner.States.{HasOperand, MovesTo, place_of, side_of};
 
+use crate::frame::Operand;
 use crate::levels::compares;
-use crate::operand::Operand;
 use crate::place::{Place, Side};
 use ms_list::{List, Name, NoMemory, push};
 use ms_logic::{Quant, Rel};

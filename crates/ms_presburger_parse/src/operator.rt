@@ -1,3 +1,5 @@
+use ms_list::{List, Name};
+use ms_logic::Quant;
 pub use ms_parse_stack::Junction;
 
 /// An operator between two operands: `<=>`, `=>`.
@@ -5,4 +7,12 @@ pub use ms_parse_stack::Junction;
 pub enum Binary {
     Equivalence,
     Implication,
+}
+
+/// What stands before one operand.
+#[derive(Drop)]
+pub enum Prefix {
+    Negation,
+    /// A quantifier with its names, up to the colon.
+    Quantifier(Quant, List<Name>),
 }

@@ -1,4 +1,4 @@
-use crate::operand::Operand;
+use crate::frame::Operand;
 use ms_list::{List, Name};
 use ms_logic::{Quant, Rel};
 use ms_presburger::Part;

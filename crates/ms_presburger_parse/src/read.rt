@@ -6,8 +6,8 @@ ghost use Rattle.ms_presburger_parse.specs.Refused.{IsProblemFault};
 ghost use Rattle.ms_presburger_parse.specs.Symbol.{symbols};
 ghost use Rattle.ms_presburger_parse.specs.inner.Reached.{HasCome, StopsAt};
 
+use crate::frame::Operand;
 use crate::free::free_names;
-use crate::operand::Operand;
 use crate::place::Place;
 use crate::state::{Begun, Outcome};
 use crate::step::step;

@@ -1,5 +1,4 @@
-use crate::frame::Frame;
-use crate::operand::Operand;
+use crate::frame::{Frame, Operand};
 use crate::place::Place;
 use ms_parse_stack as begun;
 

@@ -1,27 +1,25 @@
-ghost use Rattle.std.specs.Prelude.{◌≡◌, ◌↔◌, ◌≤◌, suc, IsTrue, IsUtf8, IfOk, IfErr, Ok, Err};
+ghost use Rattle.std.specs.Prelude.{◌≡◌, ◌≤◌, suc, IsUtf8, IfOk, IfErr, Ok, Err};
 ghost use Rattle.ms_presburger.specs.Tree.{depth};
 ghost use Rattle.ms_presburger.specs.View.{arithmetic_of};
 ghost use Rattle.ms_presburger_parse.specs.Grammar.{junction_level, left_level};
-ghost use Rattle.ms_presburger_parse.specs.inner.Machine.{behind, closed, ended, in_brackets, infixed, linked, plugged, step, within};
+ghost use Rattle.ms_parse_stack.specs.inner.Machine.{behind, closed, ended, infixed, linked, plugged, within};
+ghost use Rattle.ms_presburger_parse.specs.inner.Machine.{machine, step};
 ghost use Rattle.ms_presburger_parse.specs.inner.States.{ComesTo, IsMeasured, Settles, frame_of, place_of, stack_of, state_of};
 ghost use Rattle.ms_presburger_parse.specs.inner.Terminals.{symbol_with};
 
-use crate::complete::complete_brackets;
 use crate::enter::{begin, enter, join, open, open_body};
-use crate::frame::Frame;
+use crate::frame::{Frame, Operand};
 use crate::levels::{left_level, operand_level};
 use crate::moves::{
     operand_of, read_name, with_comma, with_leaf, with_number, with_plus, with_quantifier,
     with_relation,
 };
-use crate::operand::Operand;
-use crate::operator::{Binary, Junction};
+use crate::operator::{Binary, Junction, Prefix};
 use crate::place::Place;
-use crate::settle::settle;
 use crate::state::{Begun, Outcome};
 use crate::terminal::Terminal;
 use ms_list::let_go;
-use ms_parse_stack::Stop;
+use ms_parse_stack::{Stop, complete_brackets, is_brackets, settle};
 use ms_presburger::Linear;
 use std::alloc::Global;
 
@@ -36,7 +34,7 @@ fn left_operand(alloc: Global, begun: &mut Begun, place: Place, least: u32) -> R
 
 fn read_infix(alloc: Global, begun: &mut Begun, place: Place, op: Binary) -> Result<Outcome, Stop>
     requires { IsMeasured begun.old (Outcome.Within place) }
-    ensures { ComesTo (behind (left_level op) (infixed op) (within (stack_of begun.old.frames) (place_of place))) begun.new result }
+    ensures { ComesTo (behind machine (left_level op) (infixed machine op) (within (stack_of begun.old.frames) (place_of place))) begun.new result }
 {
     let left = left_operand(alloc, begun, place, left_level(op))?;
     enter(begun, Frame::Infix(op, left))
@@ -49,29 +47,17 @@ fn read_joining(
     op: Junction,
 ) -> Result<Outcome, Stop>
     requires { IsMeasured begun.old (Outcome.Within place) }
-    ensures { ComesTo (behind (suc (junction_level op)) (linked op) (within (stack_of begun.old.frames) (place_of place))) begun.new result }
+    ensures { ComesTo (behind machine (suc (junction_level op)) (linked machine op) (within (stack_of begun.old.frames) (place_of place))) begun.new result }
 {
     let operand = left_operand(alloc, begun, place, operand_level(op))?;
     join(alloc, begun, op, operand)
 }
 
-fn is_brackets(frame: &Frame) -> bool
-    ensures { IsTrue result ↔ (frame_of frame.now ≡ in_brackets) }
-{
-    match frame {
-        Frame::Brackets => true,
-        Frame::Negation => false,
-        Frame::Colon(..) => false,
-        Frame::Infix(..) => false,
-        Frame::Joining(..) => false,
-    }
-}
-
 /// `)` behind an operand.
 fn close(alloc: Global, begun: &mut Begun, operand: Operand) -> Result<Outcome, Stop>
-    requires measured { begun.old.deepest ≡ depth (plugged (stack_of begun.old.frames) (arithmetic_of operand.formula)) }
+    requires measured { begun.old.deepest ≡ depth (plugged machine (stack_of begun.old.frames) (arithmetic_of operand.formula)) }
     requires shallow { begun.old.deepest ≤ 300 }
-    ensures { ComesTo (closed (stack_of begun.old.frames, arithmetic_of operand.formula)) begun.new result }
+    ensures { ComesTo (closed machine (stack_of begun.old.frames, arithmetic_of operand.formula)) begun.new result }
 {
     let Some(frame) = begun.frames.pop() else {
         return Err(Stop::Misplaced);
@@ -86,9 +72,9 @@ fn close(alloc: Global, begun: &mut Begun, operand: Operand) -> Result<Outcome, 
 
 /// `;` behind an operand.
 fn end(begun: &Begun, operand: Operand) -> Result<Outcome, Stop>
-    requires measured { begun.now.deepest ≡ depth (plugged (stack_of begun.now.frames) (arithmetic_of operand.formula)) }
+    requires measured { begun.now.deepest ≡ depth (plugged machine (stack_of begun.now.frames) (arithmetic_of operand.formula)) }
     requires shallow { begun.now.deepest ≤ 300 }
-    ensures { ComesTo (ended (stack_of begun.now.frames, arithmetic_of operand.formula)) begun.now result }
+    ensures { ComesTo (ended machine (stack_of begun.now.frames, arithmetic_of operand.formula)) begun.now result }
 {
     if begun.frames.is_empty() {
         Ok(Outcome::Done(operand))
@@ -99,7 +85,7 @@ fn end(begun: &Begun, operand: Operand) -> Result<Outcome, Stop>
 
 fn read_close(alloc: Global, begun: &mut Begun, place: Place) -> Result<Outcome, Stop>
     requires { IsMeasured begun.old (Outcome.Within place) }
-    ensures { ComesTo (behind 0 closed (within (stack_of begun.old.frames) (place_of place))) begun.new result }
+    ensures { ComesTo (behind machine 0 (closed machine) (within (stack_of begun.old.frames) (place_of place))) begun.new result }
 {
     let operand = left_operand(alloc, begun, place, 0)?;
     close(alloc, begun, operand)
@@ -107,7 +93,7 @@ fn read_close(alloc: Global, begun: &mut Begun, place: Place) -> Result<Outcome,
 
 fn read_end(alloc: Global, begun: &mut Begun, place: Place) -> Result<Outcome, Stop>
     requires { IsMeasured begun.old (Outcome.Within place) }
-    ensures { ComesTo (behind 0 ended (within (stack_of begun.old.frames) (place_of place))) begun.new result }
+    ensures { ComesTo (behind machine 0 (ended machine) (within (stack_of begun.old.frames) (place_of place))) begun.new result }
 {
     let operand = left_operand(alloc, begun, place, 0)?;
     end(begun, operand)
@@ -139,7 +125,7 @@ fn step_within(
         Terminal::Quantifier(quant) => begin(begun, with_quantifier(alloc, place, quant)),
         Terminal::True => moved(with_leaf(place, Linear::True)),
         Terminal::False => moved(with_leaf(place, Linear::False)),
-        Terminal::Negation => open(begun, place, Frame::Negation),
+        Terminal::Negation => open(begun, place, Frame::Prefix(Prefix::Negation)),
         Terminal::Infix(op) => read_infix(alloc, begun, place, op),
         Terminal::Joining(op) => read_joining(alloc, begun, place, op),
         Terminal::Relation(rel) => moved(with_relation(alloc, place, rel)),

@@ -1,95 +1,60 @@
--- A machine that reads the symbols from left to right. It keeps a stack of frames, the formulas that have been begun, and where
--- it stands in the innermost of them.
-use Rattle.std.specs.Prelude.{ℕ, suc, nat_le, Bool, false, if◌then◌else◌, List, [], ◌∷◌, ◌++◌, Option, Some, None, codes}
+-- The machine that reads symbols from left to right: what operators make, where it stands in the innermost formula, and what each symbol
+-- does.
+use Rattle.std.specs.Prelude.{ℕ, if◌then◌else◌, List, [], ◌∷◌, ◌++◌, Option, Some, None, codes}
 use Rattle.ms_logic.specs.declared.mode.Quant.{Quant}
 use Rattle.ms_logic.specs.declared.mode.Rel.{Rel}
 use Rattle.ms_logic.specs.declared.mode.Rel.TheVariants.{Equal}
 use Rattle.ms_presburger.specs.declared.linear.Part.{Part}
 use Rattle.ms_presburger.specs.declared.linear.Part.TheVariants.{Number, Var, Times}
-use Rattle.ms_presburger.specs.Tree.{Arithmetic, truth, falsity, comparison, brackets, negation, conjunction, disjunction, implication, equivalence, quantified, Arithmetics, no_arithmetics, more_arithmetics, depth, depth_of_all}
-use Rattle.ms_parse_stack.specs.inner.Settled as stacks
+use Rattle.ms_presburger.specs.Tree.{Arithmetic, truth, falsity, comparison, brackets, negation, conjunction, disjunction, implication, equivalence, quantified}
+use Rattle.ms_presburger.specs.View.{arithmetics}
+use Rattle.ms_parse_stack.specs.inner.Frames as frames
+use Rattle.ms_parse_stack.specs.inner.Frames.{Operators, in_brackets, behind_prefix}
+use Rattle.ms_parse_stack.specs.inner.Machine as machines
+use Rattle.ms_parse_stack.specs.inner.Machine.{Machine, moves, enters, operates, joins, closes, ends, stops}
 use Rattle.ms_presburger_parse.specs.Grammar.{binary_level, left_level, right_level, junction_level, prefix_level, compares}
 use Rattle.ms_presburger_parse.specs.Symbol.{Symbol, name, number, word_true, word_false, quantifier, negation_sign, infix_operator, joining, relation, plus, comma, colon, open_bracket, close_bracket, semicolon, other}
 use Rattle.ms_presburger_parse.specs.declared.operator.Binary.{Binary}
 use Rattle.ms_presburger_parse.specs.declared.operator.Binary.TheVariants.{Equivalence, Implication}
+use Rattle.ms_presburger_parse.specs.declared.operator.Prefix.{Prefix}
+use Rattle.ms_presburger_parse.specs.declared.operator.Prefix.TheVariants.{Negation, Quantifier}
 use Rattle.ms_parse_stack.specs.declared.junction.Junction.{Junction}
 use Rattle.ms_parse_stack.specs.declared.junction.Junction.TheVariants.{Conjunction, Disjunction}
+
+abbrev pub prefixed : Prefix → Arithmetic → Arithmetic
+prefixed Negation f = negation f
+prefixed (Quantifier q xs) f = quantified q xs f
+
+-- the body of a quantifier is any formula
+abbrev pub prefix_operand : Prefix → ℕ
+prefix_operand Negation = prefix_level
+prefix_operand (Quantifier q xs) = 0
 
 abbrev pub binary : Binary → Arithmetic → Arithmetic → Arithmetic
 binary Equivalence f g = equivalence f g
 binary Implication f g = implication f g
 
-abbrev pub joined : Junction → Arithmetics → Arithmetic
-joined Conjunction fs = conjunction fs
-joined Disjunction fs = disjunction fs
+abbrev pub joined : Junction → List Arithmetic → Arithmetic
+joined Conjunction fs = conjunction (arithmetics fs)
+joined Disjunction fs = disjunction (arithmetics fs)
 
--- the formulas, and one behind them
-abbrev pub with_last : Arithmetics → Arithmetic → Arithmetics
-with_last no_arithmetics g = more_arithmetics g no_arithmetics
-with_last (more_arithmetics f fs) g = more_arithmetics f (with_last fs g)
+abbrev pub operators : Operators Prefix Binary Arithmetic
+operators = record {
+  brackets = brackets;
+  prefixed = prefixed;
+  binary = binary;
+  joined = joined;
+  highest_level = 6;
+  prefix_level = prefix_level;
+  prefix_operand = prefix_operand;
+  binary_level = binary_level;
+  left_level = left_level;
+  right_level = right_level;
+  junction_level = junction_level;
+}
 
-abbrev pub one : Arithmetic → Arithmetics
-one f = more_arithmetics f no_arithmetics
-
--- a formula that has been begun, up to the part that follows
-pub data Frame : Type 0 where
-  in_brackets : Frame
-  behind_negation : Frame
-  -- a quantifier with its names, up to the colon
-  behind_colon : (q : Quant) (xs : List (List ℕ)) → Frame
-  -- the left operand, and the operator behind it
-  behind_infix : (op : Binary) (left : Arithmetic) → Frame
-  -- operands, and the operator behind each
-  behind_joining : (op : Junction) (operands : Arithmetics) → Frame
-
--- the least level of what follows
-abbrev pub hole : Frame → ℕ
-hole in_brackets = 0
-hole behind_negation = prefix_level
-hole (behind_colon q xs) = 0
-hole (behind_infix op left) = right_level op
-hole (behind_joining op operands) = suc (junction_level op)
-
--- the level of the formula that has been begun
-abbrev pub frame_level : Frame → ℕ
-frame_level in_brackets = 6
-frame_level behind_negation = prefix_level
-frame_level (behind_colon q xs) = prefix_level
-frame_level (behind_infix op left) = binary_level op
-frame_level (behind_joining op operands) = junction_level op
-
--- the formula that a frame becomes with the part that follows
-abbrev pub filled : Frame → Arithmetic → Arithmetic
-filled in_brackets f = brackets f
-filled behind_negation f = negation f
-filled (behind_colon q xs) f = quantified q xs f
-filled (behind_infix op left) f = binary op left f
-filled (behind_joining op operands) f = joined op (with_last operands f)
-
--- the formula that the whole stack becomes
-abbrev pub plugged : List Frame → Arithmetic → Arithmetic
-plugged frames f = stacks.plugged filled frames f
-
--- how deep the parts are that a frame has before its hole
-abbrev pub inside : Frame → ℕ
-inside in_brackets = 0
-inside behind_negation = 0
-inside (behind_colon q xs) = 0
-inside (behind_infix op left) = depth left
-inside (behind_joining op operands) = depth_of_all operands
-
--- What has been begun ends before a symbol that wants a left operand of this level. The body of a quantifier ends only before
--- one that wants any formula: a closing bracket, or the semicolon.
-abbrev pub yields : ℕ → Frame → Bool
-yields least in_brackets = false
-yields least behind_negation = nat_le least prefix_level
-yields least (behind_colon q xs) = nat_le least 0
-yields least (behind_infix op left) = nat_le least (binary_level op)
-yields least (behind_joining op operands) = nat_le least (junction_level op)
-
--- the stack and the operand, after all frames that end there are filled
-abbrev pub settled : ℕ → List Frame → Arithmetic → List Frame × Arithmetic
-settled least frames f = stacks.settled filled (yields least) frames f
+abbrev pub Frame : Type 0
+Frame = frames.Frame Prefix Binary Arithmetic
 
 -- which sum of a comparison is read
 pub data Side : Type 0 where
@@ -199,98 +164,12 @@ opening frame (added side before last) = None
 opening frame (holding f) = None
 
 abbrev pub body : Place → Option Frame
-body (named q xs) = Some (behind_colon q xs)
+body (named q xs) = Some (behind_prefix (Quantifier q xs))
 body wanted = None
 body (naming q xs) = None
 body (adding side parts) = None
 body (added side before last) = None
 body (holding f) = None
-
-pub data State : Type 0 where
-  -- formulas have been begun
-  within : (frames : List Frame) (p : Place) → State
-  -- the semicolon has been read
-  done : (f : Arithmetic) → State
-  -- the last symbol could not stand there
-  stopped : State
-
-abbrev pub stay : List Frame → Option Place → State
-stay frames (Some p) = within frames p
-stay frames None = stopped
-
-abbrev pub moves : (Place → Option Place) → State → State
-moves move (within frames p) = stay frames (move p)
-moves move (done f) = stopped
-moves move stopped = stopped
-
-abbrev pub begin : List Frame → Option Frame → State
-begin frames (Some frame) = within (frame ∷ frames) wanted
-begin frames None = stopped
-
-abbrev pub enters : (Place → Option Frame) → State → State
-enters opens (within frames p) = begin frames (opens p)
-enters opens (done f) = stopped
-enters opens stopped = stopped
-
--- an operator behind an operand
-abbrev pub infixed : Binary → List Frame × Arithmetic → State
-infixed op (frames, f) = within (behind_infix op f ∷ frames) wanted
-
--- a further operand of the same list, or the first of a list
-abbrev pub link : Junction → Arithmetic → List Frame → List Frame
-link Conjunction f (behind_joining Conjunction operands ∷ frames) = behind_joining Conjunction (with_last operands f) ∷ frames
-link Disjunction f (behind_joining Disjunction operands ∷ frames) = behind_joining Disjunction (with_last operands f) ∷ frames
-link op f frames = behind_joining op (one f) ∷ frames
-
-abbrev pub linked : Junction → List Frame × Arithmetic → State
-linked op (frames, f) = within (link op f frames) wanted
-
-abbrev pub closed : List Frame × Arithmetic → State
-closed (in_brackets ∷ frames, f) = within frames (holding (brackets f))
-closed (frames, f) = stopped
-
-abbrev pub ended : List Frame × Arithmetic → State
-ended ([], f) = done f
-ended (frame ∷ frames, f) = stopped
-
--- what a symbol does that wants a left operand of a level
-
-abbrev pub acts : ℕ → (List Frame × Arithmetic → State) → List Frame → Option Arithmetic → State
-acts least act frames (Some f) = act (settled least frames f)
-acts least act frames None = stopped
-
-abbrev pub behind : ℕ → (List Frame × Arithmetic → State) → State → State
-behind least act (within frames p) = acts least act frames (operand p)
-behind least act (done f) = stopped
-behind least act stopped = stopped
-
--- a step over one symbol
-abbrev pub step : State → Symbol → State
-step s (name x) = moves (with_name x) s
-step s (number n) = moves (with_number n) s
-step s word_true = moves (with_leaf truth) s
-step s word_false = moves (with_leaf falsity) s
-step s (quantifier q) = moves (with_quantifier q) s
-step s negation_sign = enters (opening behind_negation) s
-step s (infix_operator op) = behind (left_level op) (infixed op) s
-step s (joining op) = behind (suc (junction_level op)) (linked op) s
-step s (relation r) = moves (with_relation r) s
-step s plus = moves with_plus s
-step s comma = moves with_comma s
-step s colon = enters body s
-step s open_bracket = enters (opening in_brackets) s
-step s close_bracket = behind 0 closed s
-step s semicolon = behind 0 ended s
-step s other = stopped
-
--- the steps over some symbols
-abbrev pub run : State → List Symbol → State
-run s [] = s
-run s (x ∷ more) = run (step s x) more
-
--- the beginning
-abbrev pub start : State
-start = within [] wanted
 
 -- What the shortest row of symbols makes of the innermost formula that goes on so: with `true` for a formula that is wanted, `x`
 -- for a name, 0 for a part of a sum, and `= 0` behind a left sum.
@@ -307,12 +186,42 @@ completed (adding side parts) = compared side (parts ++ Number 0 ∷ [])
 completed (added side before last) = compared side (before ++ last ∷ [])
 completed (holding f) = f
 
--- the formula that the shortest row of symbols gives that begins so
-abbrev pub shortest : State → Arithmetic
-shortest (within frames p) = plugged frames (completed p)
-shortest (done f) = f
-shortest stopped = truth
+abbrev pub State : Type 0
+State = machines.State Prefix Binary Place Arithmetic
 
-abbrev pub GoesOn : State → Type 0
-GoesOn stopped = ⊥
-GoesOn _ = Unit {0}
+abbrev pub Action : Type 0
+Action = machines.Action Prefix Binary Place Arithmetic
+
+abbrev pub machine : Machine Prefix Binary Place Arithmetic
+machine = record { operators = operators; wanted = wanted; holding = holding; operand = operand; completed = completed }
+
+-- what a symbol does
+abbrev pub action : Symbol → Action
+action (name x) = moves (with_name x)
+action (number n) = moves (with_number n)
+action word_true = moves (with_leaf truth)
+action word_false = moves (with_leaf falsity)
+action (quantifier q) = moves (with_quantifier q)
+action negation_sign = enters (opening (behind_prefix Negation))
+action (infix_operator op) = operates op
+action (joining op) = joins op
+action (relation r) = moves (with_relation r)
+action plus = moves with_plus
+action comma = moves with_comma
+action colon = enters body
+action open_bracket = enters (opening in_brackets)
+action close_bracket = closes
+action semicolon = ends
+action other = stops
+
+abbrev pub step : State → Symbol → State
+step s x = machines.performed machine (action x) s
+
+abbrev pub run : State → List Symbol → State
+run s xs = machines.run machine action s xs
+
+abbrev pub start : State
+start = machines.start machine
+
+abbrev pub shortest : State → Arithmetic
+shortest s = machines.shortest machine s

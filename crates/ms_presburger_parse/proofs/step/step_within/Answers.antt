@@ -1,6 +1,7 @@
 use Rattle.std.proofs.Common.{ap, subst, refl}
 use Rattle.ms_presburger.specs.Tree.{truth, falsity}
-use Rattle.ms_presburger_parse.specs.inner.Machine.{step, with_comma, with_leaf, with_name, with_number, with_plus, with_quantifier, with_relation, within}
+use Rattle.ms_parse_stack.specs.inner.Machine.{within}
+use Rattle.ms_presburger_parse.specs.inner.Machine.{step, with_comma, with_leaf, with_name, with_number, with_plus, with_quantifier, with_relation}
 use Rattle.ms_presburger_parse.specs.inner.States.{MovesTo, place_of, stack_of}
 use Rattle.ms_presburger_parse.specs.inner.Terminals.{symbol_with}
 use Rattle.ms_presburger_parse.proofs.Growth.{comma_keeps, leaf_keeps, name_two, number_two, plus_keeps, quantifier_two, relation_keeps}

@@ -1,0 +1,120 @@
+-- A machine that reads symbols from left to right. It keeps a stack of frames, the formulas that have been begun, and its place in the
+-- innermost of them.
+use Rattle.std.specs.Prelude.{ℕ, suc, List, [], ◌∷◌, Option, Some, None}
+use Rattle.ms_parse_stack.specs.declared.junction.Junction.{Junction}
+use Rattle.ms_parse_stack.specs.inner.Frames.{Operators, Frame, in_brackets, behind_infix, filled, link, yields}
+use Rattle.ms_parse_stack.specs.inner.Settled as stacks
+
+pub data State (Prefix Binary Place Formula : Type 0) : Type 0 where
+  -- formulas have been begun
+  within : (frames : List (Frame Prefix Binary Formula)) (p : Place) → State Prefix Binary Place Formula
+  -- the last symbol has been read
+  done : (f : Formula) → State Prefix Binary Place Formula
+  -- the last symbol could not stand there
+  stopped : State Prefix Binary Place Formula
+
+abbrev pub GoesOn : {Prefix Binary Place Formula : Type 0} → State Prefix Binary Place Formula → Type 0
+GoesOn (within frames p) = Unit {0}
+GoesOn (done f) = Unit {0}
+GoesOn stopped = ⊥
+
+-- The operators, and the places in the innermost formula: where a formula is wanted, and where one has been read.
+pub record Machine (Prefix Binary Place Formula : Type 0) : Type 0 where
+  pub operators : Operators Prefix Binary Formula
+  pub wanted : Place
+  pub holding : Formula → Place
+  -- the formula that has been read, if it may end here
+  pub operand : Place → Option Formula
+  -- the shortest formula that goes on so
+  pub completed : Place → Formula
+
+-- what a symbol does
+pub data Action (Prefix Binary Place Formula : Type 0) : Type 0 where
+  -- leads on within the innermost formula
+  moves : (move : Place → Option Place) → Action Prefix Binary Place Formula
+  -- begins a frame
+  enters : (opens : Place → Option (Frame Prefix Binary Formula)) → Action Prefix Binary Place Formula
+  operates : (op : Binary) → Action Prefix Binary Place Formula
+  joins : (op : Junction) → Action Prefix Binary Place Formula
+  closes : Action Prefix Binary Place Formula
+  ends : Action Prefix Binary Place Formula
+  -- stands in no formula
+  stops : Action Prefix Binary Place Formula
+
+module _ {Prefix Binary Place Formula : Type 0} (m : Machine Prefix Binary Place Formula) where
+  -- the formula that the whole stack becomes
+  abbrev pub plugged : List (Frame Prefix Binary Formula) → Formula → Formula
+  plugged frames f = stacks.plugged (filled m.operators) frames f
+
+  -- the stack and the operand, after all frames that end there are filled
+  abbrev pub settled : ℕ → List (Frame Prefix Binary Formula) → Formula → List (Frame Prefix Binary Formula) × Formula
+  settled least frames f = stacks.settled (filled m.operators) (yields m.operators least) frames f
+
+  abbrev pub stay : List (Frame Prefix Binary Formula) → Option Place → State Prefix Binary Place Formula
+  stay frames (Some p) = within frames p
+  stay frames None = stopped
+
+  abbrev pub moved : (Place → Option Place) → State Prefix Binary Place Formula → State Prefix Binary Place Formula
+  moved move (within frames p) = stay frames (move p)
+  moved move (done f) = stopped
+  moved move stopped = stopped
+
+  abbrev pub begin : List (Frame Prefix Binary Formula) → Option (Frame Prefix Binary Formula) → State Prefix Binary Place Formula
+  begin frames (Some frame) = within (frame ∷ frames) m.wanted
+  begin frames None = stopped
+
+  abbrev pub entered : (Place → Option (Frame Prefix Binary Formula)) → State Prefix Binary Place Formula → State Prefix Binary Place Formula
+  entered opens (within frames p) = begin frames (opens p)
+  entered opens (done f) = stopped
+  entered opens stopped = stopped
+
+  -- an operator behind an operand
+  abbrev pub infixed : Binary → List (Frame Prefix Binary Formula) × Formula → State Prefix Binary Place Formula
+  infixed op (frames, f) = within (behind_infix op f ∷ frames) m.wanted
+
+  abbrev pub linked : Junction → List (Frame Prefix Binary Formula) × Formula → State Prefix Binary Place Formula
+  linked op (frames, f) = within (link op f frames) m.wanted
+
+  abbrev pub closed : List (Frame Prefix Binary Formula) × Formula → State Prefix Binary Place Formula
+  closed (in_brackets ∷ frames, f) = within frames (m.holding (m.operators.brackets f))
+  closed (frames, f) = stopped
+
+  abbrev pub ended : List (Frame Prefix Binary Formula) × Formula → State Prefix Binary Place Formula
+  ended ([], f) = done f
+  ended (frame ∷ frames, f) = stopped
+
+  -- what a symbol does that wants a left operand of a level
+
+  abbrev pub acts : ℕ → (List (Frame Prefix Binary Formula) × Formula → State Prefix Binary Place Formula) → List (Frame Prefix Binary Formula) → Option Formula → State Prefix Binary Place Formula
+  acts least act frames (Some f) = act (settled least frames f)
+  acts least act frames None = stopped
+
+  abbrev pub behind : ℕ → (List (Frame Prefix Binary Formula) × Formula → State Prefix Binary Place Formula) → State Prefix Binary Place Formula → State Prefix Binary Place Formula
+  behind least act (within frames p) = acts least act frames (m.operand p)
+  behind least act (done f) = stopped
+  behind least act stopped = stopped
+
+  -- a step over a symbol
+  abbrev pub performed : Action Prefix Binary Place Formula → State Prefix Binary Place Formula → State Prefix Binary Place Formula
+  performed (moves move) s = moved move s
+  performed (enters opens) s = entered opens s
+  performed (operates op) s = behind (m.operators.left_level op) (infixed op) s
+  performed (joins op) s = behind (suc (m.operators.junction_level op)) (linked op) s
+  performed closes s = behind 0 closed s
+  performed ends s = behind 0 ended s
+  performed stops s = stopped
+
+  -- the steps over some symbols
+  abbrev pub run : {Symbol : Type 0} → (Symbol → Action Prefix Binary Place Formula) → State Prefix Binary Place Formula → List Symbol → State Prefix Binary Place Formula
+  run action s [] = s
+  run action s (x ∷ more) = run action (performed (action x) s) more
+
+  -- the beginning
+  abbrev pub start : State Prefix Binary Place Formula
+  start = within [] m.wanted
+
+  -- the formula that the shortest row of symbols gives that begins so
+  abbrev pub shortest : State Prefix Binary Place Formula → Formula
+  shortest (within frames p) = plugged frames (m.completed p)
+  shortest (done f) = f
+  shortest stopped = m.completed m.wanted

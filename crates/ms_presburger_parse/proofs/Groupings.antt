@@ -1,0 +1,90 @@
+-- The levels of the operators, and how deep the formulas are that they make.
+use Rattle.std.proofs.Common.{◌≡◌, ℕ, suc, ◌≤◌, ◌⊎◌, refl, inl, inr, arith, IfSome}
+use Rattle.std.specs.Prelude.{nat_eq, if◌then◌else◌}
+use Rattle.ms_presburger.specs.Tree.{depth}
+use Rattle.ms_parse_stack.specs.declared.junction.Junction.{Junction}
+use Rattle.ms_parse_stack.specs.declared.junction.Junction.TheVariants.{Conjunction, Disjunction}
+use Rattle.ms_parse_stack.specs.inner.Frames.{filled}
+use Rattle.ms_parse_stack.proofs.Depths as stacks
+use Rattle.ms_parse_stack.proofs.Depths.{Depths}
+use Rattle.ms_parse_stack.proofs.Fitting.{AreLevelled, Grouping, to_left, to_right, in_lists, left_of, right_of}
+use Rattle.ms_parse_stack.proofs.Growth.{IsDepth}
+use Rattle.ms_presburger_parse.specs.Grammar.{binary_level, left_level, right_level, junction_level, prefix_level}
+use Rattle.ms_presburger_parse.specs.declared.operator.Binary.{Binary}
+use Rattle.ms_presburger_parse.specs.declared.operator.Binary.TheVariants.{Equivalence, Implication}
+use Rattle.ms_presburger_parse.specs.declared.operator.Prefix.{Prefix}
+use Rattle.ms_presburger_parse.specs.declared.operator.Prefix.TheVariants.{Negation, Quantifier}
+use Rattle.ms_presburger_parse.specs.inner.Deep.{operators_deep}
+use Rattle.ms_presburger_parse.specs.inner.Machine.{operators, machine, prefix_operand, Place, on_left, on_right, wanted, naming, named, adding, added, holding}
+
+-- 1 `<=>`, 2 `=>`, 3 `|`, 4 `&`
+abbrev grouping : ℕ → Grouping
+grouping n = if nat_eq n 1 then to_left else if nat_eq n 2 then to_right else in_lists
+
+left_groups : (op : Binary) → left_level op ≡ left_of (grouping (binary_level op)) (binary_level op)
+left_groups Equivalence = refl
+left_groups Implication = refl
+
+right_groups : (op : Binary) → right_level op ≡ right_of (grouping (binary_level op)) (binary_level op)
+right_groups Equivalence = refl
+right_groups Implication = refl
+
+single : (op : Binary) → grouping (binary_level op) ≡ in_lists → ⊥
+single Equivalence same = cc
+single Implication same = cc
+
+lists : (op : Junction) → grouping (junction_level op) ≡ in_lists
+lists Conjunction = refl
+lists Disjunction = refl
+
+infix_small : (op : Binary) → suc (binary_level op) ≤ prefix_level
+infix_small Equivalence = omega arith
+infix_small Implication = omega arith
+
+junction_small : (op : Junction) → suc (junction_level op) ≤ prefix_level
+junction_small Conjunction = omega arith
+junction_small Disjunction = omega arith
+
+infix_some : (op : Binary) → 1 ≤ binary_level op
+infix_some Equivalence = omega arith
+infix_some Implication = omega arith
+
+prefix_operands : (p : Prefix) → (prefix_operand p ≡ prefix_level) ⊎ ((prefix_operand p ≡ 0) × ((op : Binary) → 1 ≤ binary_level op))
+prefix_operands Negation = inl refl
+prefix_operands (Quantifier q xs) = inr (refl, infix_some)
+
+pub levelled : AreLevelled operators
+levelled = record {
+  grouping = grouping;
+  left = left_groups;
+  right = right_groups;
+  single = single;
+  lists = lists;
+  differ = λ same. omega (arith, same);
+  prefix_operands = prefix_operands;
+  infix_small = infix_small;
+  junction_small = junction_small;
+  prefix_small = omega arith;
+}
+
+-- an operator wants a left operand that does not end in an open body
+pub left_some : (op : Binary) → 1 ≤ left_level op
+left_some Equivalence = omega arith
+left_some Implication = omega arith
+
+-- a formula that may end is the shortest one
+pub operand_completed : (p : Place) → IfSome (machine.operand p) (λ f. machine.completed p ≡ f)
+operand_completed wanted = tt
+operand_completed (naming q xs) = tt
+operand_completed (named q xs) = tt
+operand_completed (adding side parts) = tt
+operand_completed (added on_left before last) = tt
+operand_completed (added (on_right r left) before last) = refl
+operand_completed (holding f) = refl
+
+pub deep : IsDepth machine depth
+deep = record { levelled = levelled; operators_deep = operators_deep; wanted_deep = refl; holding_deep = λ f. refl; operand_deep = operand_completed }
+
+-- the depths of this machine's formulas
+abbrev pub depths : Depths (filled operators)
+depths = stacks.depths operators depth operators_deep
