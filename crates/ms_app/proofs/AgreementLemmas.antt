@@ -13,7 +13,7 @@ use Rattle.ms_logic.specs.Verdict.{Problem, Agree, MainYes, MainNo, variables_of
 use Rattle.ms_logic_words.specs.Word.{Encodes, IsEncoding}
 use Rattle.ms_logic_words.proofs.WordLaws.{length_is_least}
 use Rattle.ms_dfa.specs.Files.{file_sign}
-use Rattle.ms_minim.specs.Residual.{HaveEqualSigns}
+use Rattle.ms_logic_words.specs.Residual.{HaveEqualSigns}
 use Rattle.ms_minim_canonical.proofs.EqualityLemmas.{canonical_equal}
 use Rattle.ms_dfa.specs.Values.{main_meaning}
 use Rattle.ms_dfa.proofs.EncodingLemmas.{encoding_or_not}

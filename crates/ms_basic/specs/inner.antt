@@ -1,3 +1,4 @@
+pub mod Apart
 pub mod Examples
 pub mod Greatest
 pub mod Least
@@ -5,6 +6,7 @@ pub mod Less
 pub mod Member
 pub mod Number
 pub mod Plus
+pub mod Reached
 pub mod Reading
 pub mod Relation
 pub mod Repeated

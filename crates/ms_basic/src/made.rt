@@ -2,6 +2,8 @@ ghost use Rattle.std.specs.Prelude.{◌≡◌, ◌≤◌, length, take};
 ghost use Rattle.ms_dfa_explore.specs.Tracks.{distinct};
 ghost use Rattle.ms_basic.specs.Operands.{HaveOneOrder};
 ghost use Rattle.ms_logic_core.specs.Operands.{variables_of_basic};
+ghost use Rattle.ms_basic.specs.inner.Apart.{HasStatesApartOver};
+ghost use Rattle.ms_basic.specs.inner.Reached.{HasStatesReachedOver};
 ghost use Rattle.ms_basic.specs.inner.Relation.{DecidesRelation, IsMade};
 
 use crate::operands::operands;
@@ -25,6 +27,8 @@ pub(crate) fn made<M: SmallMachine + Drop>(
     requires orders { HaveOneOrder (variables_of_basic form) }
     requires variables { distinct (take count (variables_of_basic form)) ≡ distinct (variables_of_basic form) }
     requires decides { DecidesRelation setting.mode (take count (variables_of_basic form)) form (M.table machine) }
+    requires apart { HasStatesApartOver (take count (variables_of_basic form)) (M.table machine) }
+    requires reached { HasStatesReachedOver (take count (variables_of_basic form)) (M.table machine) }
     ensures { IsMade setting.mode form setting.limit (M.table machine).states result }
 {
     let Ok(all) = operands(alloc, form) else {

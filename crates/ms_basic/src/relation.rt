@@ -1,5 +1,6 @@
 ghost use Rattle.std.specs.Prelude.{◌≡◌, ◌≤◌, ◌<◌, ◌+◌, ◌*◌, [], length, IfOk};
 ghost use Rattle.ms_logic_core.specs.CoreForm.{basic as basic_relation};
+ghost use Rattle.ms_logic_words.specs.Residual.{AreReached, HaveDifferentResiduals};
 ghost use Rattle.ms_dfa.specs.Values.{HasValues, core_meaning};
 ghost use Rattle.ms_dfa_explore.specs.Explored.{OnRefused};
 ghost use Rattle.ms_dfa_explore.specs.Tracks.{distinct};
@@ -39,8 +40,9 @@ fn relation(alloc: Global, form: Basic, setting: Setting) -> Result<Automaton, S
     }
 }
 
-/// The automaton of a basic relation over its variables. Nodes and states are together at most `limit`, and the call is
-/// refused only where it is below eight for each state and for the start.
+/// The automaton of a basic relation over its variables. Some word leads to each of its states, and no two of them have equal
+/// residuals. Nodes and states are together at most `limit`, and the call is refused only where it is below eight for each
+/// state and for the start.
 pub fn basic(alloc: Global, form: &Basic, mode: Mode, limit: u64) -> Result<Automaton, StepFault>
     requires orders { HaveOneOrder (variables_of_basic form.now) }
     requires some { 1 ≤ limit }
@@ -48,6 +50,8 @@ pub fn basic(alloc: Global, form: &Basic, mode: Mode, limit: u64) -> Result<Auto
     ensures mode { IfOk result (λ made. made.mode ≡ mode) }
     ensures variables { IfOk result (λ made. made.variables ≡ distinct (variables_of_basic form.now)) }
     ensures values { IfOk result (λ made. HasValues (core_meaning [] (basic_relation form.now)) made) }
+    ensures differ { IfOk result HaveDifferentResiduals }
+    ensures reached { IfOk result AreReached }
     ensures within { IfOk result (λ made. length made.nodes + length made.states ≤ limit) }
     ensures nodes { OnRefused result (λ refused. (refused ≡ limit) × (limit < 8 * (states_of form.now + 1))) }
 {

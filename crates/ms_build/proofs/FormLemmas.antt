@@ -34,13 +34,13 @@ use Rattle.ms_product.specs.declared.op.Op.TheVariants as Op
 use Rattle.ms_project.specs.Quantified.{QuantifiedYes, QuantifiedNo}
 use Rattle.ms_build.specs.Connectives.{NoOf, YesOf}
 use Rattle.ms_build.specs.declared.plan.Many.TheVariants as Many
-use Rattle.ms_minim.specs.Residual.{AreReached, HaveDifferentResiduals, HasFewestStates, HaveEqualSigns}
+use Rattle.ms_logic_words.specs.Residual.{AreReached, HasFewestStates, HaveDifferentResiduals, HaveEqualSigns, IsLeast}
 use Rattle.ms_project.proofs.AlwaysLemmas.{sign_moves}
 use Rattle.ms_rename.proofs.RenamedLemmas.{HasValues-same}
 use Rattle.ms_dfa.specs.Values.{Meaning, meaning_by}
 use Rattle.ms_build.specs.declared.nodes.Binder.{Binder}
 use Rattle.ms_build.specs.declared.plan.Plan.{Plan}
-use Rattle.ms_build.specs.Built.{AreBuiltFor, AreReadable, IsThere, IsUsedFrom, ChildNo, ChildYes, IsBinderOf, IsBuiltAt, IsDomainRead, IsLeastOf, IsMadeOf, IsOver, IsReadAt, ManyNo, ManyYes, child_meaning, entries_of, import_meaning, imports_for, many_meaning, node_meaning, pair_meaning, roots_of, IsWithin}
+use Rattle.ms_build.specs.Built.{AreBuiltFor, AreReadable, IsThere, IsUsedFrom, ChildNo, ChildYes, IsBinderOf, IsBuiltAt, IsDomainRead, IsLeastOf, IsMadeOf, IsOver, IsReadAt, ManyNo, ManyYes, child_meaning, entries_of, import_meaning, imports_for, many_meaning, node_meaning, pair_meaning, roots_of, IsWithin, relation_meaning}
 use Rattle.ms_build.proofs.ChildLemmas.{same_variable}
 use Rattle.ms_build.proofs.MeaningLemmas.{HasValues-to}
 use Rattle.ms_build.proofs.NodeLemmas.{node_from_children}
@@ -302,6 +302,15 @@ pub node_by : (plan : Plan) (i : ℕ) (entry : Entry) → slice_get (entries_of 
 node_by plan i entry held part over (Ok made) mode_is variables_are signs fewest reached differ within =
     built_by plan i entry held part over made (record { mode_is = mode_is; variables_are = variables_are; signs = signs; fewest = fewest; reached = reached; differ = differ }) within
 node_by plan i entry held part over (Err fault) mode_is variables_are signs fewest reached differ within = tt
+
+-- a relation has fewest states as it is made
+pub relation_built : (plan : Plan) → AreNodes (entries_of plan) → (i : ℕ) (entry : Entry) → slice_get (entries_of plan) i ≡ Some entry → (form : Relation) → entry.node ≡ Basic form
+    → (result : Result (Content Sign) StepFault) → IfOk result (IsOver plan.mode (distinct (variables_of_basic form)) (relation_meaning form)) → IfOk result IsAutomaton
+    → IfOk result IsLeast → IfOk result (IsWithin plan.limit) → IfOk result (IsBuiltAt plan i)
+relation_built plan nodes i entry held form is (Ok made) over automaton least within =
+    built_by plan i entry held made (IsOver-node plan nodes i entry held made automaton (Basic form) is over) made
+    (record { mode_is = refl; variables_are = refl; signs = λ word _. refl; fewest = least.fewest; reached = least.reached; differ = least.differ }) within
+relation_built plan nodes i entry held form is (Err fault) over automaton least within = tt
 
 -- what is within the limit, or is small, and is more than the limit: so the limit is small
 pub too_small : (limit : ℕ) (part : Content Sign) → IsWithin limit part ⊎ IsWithin 16 part → limit < length part.nodes + length part.states → limit < 16

@@ -27,7 +27,7 @@ use Rattle.ms_logic.proofs.AssignedValues.{value_at-assign_other}
 use Rattle.ms_rename.specs.Renamed.{renamed, renamed_meaning}
 use Rattle.ms_dfa.specs.Values.{HasValues, own_meaning}
 use Rattle.ms_dfa.proofs.OwnMeaningLemmas.{HasValues-own, IsMeaning-own}
-use Rattle.ms_minim.specs.Residual.{HaveEqualSigns}
+use Rattle.ms_logic_words.specs.Residual.{HaveEqualSigns}
 use Rattle.ms_rename.proofs.RenamedLemmas.{HasValues-same}
 use Rattle.ms_build.specs.Built.{IsPart, import_meaning, imports_of, import_of}
 use Rattle.ms_build.proofs.AgreementLemmas.{Agree, own_meaning-agree}

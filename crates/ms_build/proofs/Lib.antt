@@ -8,6 +8,7 @@ pub mod FormLemmas
 pub mod ImportLemmas
 pub mod LackedLemmas
 pub mod LawLemmas
+pub mod LeastLemmas
 pub mod ManyLemmas
 pub mod MeaningLemmas
 pub mod NodeLemmas

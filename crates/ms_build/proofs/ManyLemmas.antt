@@ -11,7 +11,7 @@ use Rattle.ms_dfa_explore.proofs.AmongLemmas.{merged-either}
 use Rattle.ms_logic.specs.Lists.{IsAmong}
 use Rattle.ms_logic.specs.declared.mode.Order.{Order}
 use Rattle.ms_logic_words.specs.Content.{Content}
-use Rattle.ms_minim.specs.Residual.{HaveEqualSigns}
+use Rattle.ms_logic_words.specs.Residual.{HaveEqualSigns}
 use Rattle.ms_rename.proofs.RenamedLemmas.{HasValues-same}
 use Rattle.ms_product.specs.Combined.{HaveEqualOrders, combined}
 use Rattle.ms_build.specs.declared.plan.Plan.{Plan}

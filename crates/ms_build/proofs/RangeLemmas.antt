@@ -1,8 +1,7 @@
 -- A quantifier within a range where nothing is undefined has the value of one over all values, of the one automaton of range and body.
 -- It is decided whether the range has a value: a finite machine tells it.
-use Rattle.std.proofs.Common.{◌≡◌, ◌⊎◌, inl, inr, ⊎_elim, ◌↔◌, ℕ, ◌==◌, not, Bool, true, false, cond, IsTrue, List, [], ◌∷◌, ◌++◌, Option, Some, None, Result, Ok, Err, IfOk, refl, sym, ap, subst, ◌∙◌}
+use Rattle.std.proofs.Common.{◌≡◌, ◌⊎◌, inl, inr, ⊎_elim, ◌↔◌, ℕ, ◌==◌, not, Bool, true, false, cond, IsTrue, List, [], ◌∷◌, ◌++◌, Some, None, Result, Ok, Err, IfOk, refl, sym, ap, subst, ◌∙◌}
 use Rattle.std.proofs.lemmas.Bool.{false≢true}
-use Rattle.std.proofs.lemmas.Option.{same_Some}
 use Rattle.ms_list.specs.declared.fault.StepFault.{StepFault}
 use Rattle.ms_list.specs.declared.word.Word.{Word}
 use Rattle.ms_dfa.specs.Automaton.{IsAutomaton}
@@ -27,18 +26,18 @@ use Rattle.ms_logic_words.specs.Content.{Content, last_state, shortest_word, sig
 use Rattle.ms_logic_words.specs.Word.{Encodes}
 use Rattle.ms_logic_words.specs.declared.sign.Sign.{Sign}
 use Rattle.ms_logic_words.specs.declared.sign.Sign.TheVariants.{Yes, No, Undefined, Outside}
-use Rattle.ms_minim.specs.Residual.{HaveEqualSigns}
+use Rattle.ms_logic_words.specs.Residual.{HaveEqualSigns}
 use Rattle.ms_product.specs.Combined.{HaveEqualOrders, combined}
 use Rattle.ms_product.specs.Signs.{strict}
 use Rattle.ms_product.specs.declared.op.Op.{Op}
 use Rattle.ms_product.specs.declared.op.Op.TheVariants.{And, Implies}
 use Rattle.ms_project.specs.Paired.{IsDomainFor}
 use Rattle.ms_project.proofs.AssemblyLemmas.{IfOk-implies}
-use Rattle.ms_project.specs.Quantified.{BodyAt, IsMetBy, RangeOf, quantified}
+use Rattle.ms_project.specs.Quantified.{IsMetBy, quantified}
 use Rattle.ms_rename.proofs.OrderLemmas.{HaveOneOrder-rising}
 use Rattle.ms_rename.proofs.RenamedLemmas.{HasValues-same}
 use Rattle.ms_build.specs.inner.Ranges.{IsDefined, IsLast, op_within}
-use Rattle.ms_build.proofs.MeaningLemmas.{HasValues-to, own_means}
+use Rattle.ms_build.proofs.MeaningLemmas.{HasValues-to}
 use Rattle.ms_build.proofs.PlaceLemmas.{IsAssignment-among}
 use Rattle.ms_build.proofs.QuantifiedLemmas.{assigned_bound}
 use Rattle.ms_build.proofs.WholeLemmas.{rising_equal}

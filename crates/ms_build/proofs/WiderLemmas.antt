@@ -9,7 +9,7 @@ use Rattle.ms_basic.specs.Operands.{HaveOneOrder}
 use Rattle.ms_product.specs.Combined.{HaveEqualOrders}
 use Rattle.ms_rename.proofs.OrderLemmas.{HaveOneOrder-rising}
 use Rattle.ms_rename.proofs.RenamedLemmas.{HasValues-same}
-use Rattle.ms_minim.specs.Residual.{HaveEqualSigns, IsLeast}
+use Rattle.ms_logic_words.specs.Residual.{HaveEqualSigns, IsLeast}
 use Rattle.ms_logic.specs.declared.mode.Mode.{Mode}
 use Rattle.ms_logic_words.specs.declared.sign.Sign.{Sign}
 use Rattle.ms_logic.specs.Assignment.{Variable}

@@ -32,7 +32,7 @@ use Rattle.ms_product.specs.declared.op.Op.{Op}
 use Rattle.ms_dfa_explore.specs.Tracks.{distinct}
 use Rattle.ms_logic.specs.Lists.{IsAmong}
 use Rattle.ms_dfa.specs.Automaton.{variable_of}
-use Rattle.ms_minim.specs.Residual.{AreReached, HasFewestStates, HaveDifferentResiduals}
+use Rattle.ms_logic_words.specs.Residual.{AreReached, HasFewestStates, HaveDifferentResiduals}
 use Rattle.ms_project.specs.declared.quantifier.Quantifier.{Quantifier}
 use Rattle.ms_project.specs.Quantified.{quantified}
 use Rattle.ms_dfa.specs.Values.{Meaning, meaning_by, HasValues}

@@ -18,7 +18,7 @@ use Rattle.ms_logic.specs.declared.mode.Mode.{Mode}
 use Rattle.ms_logic.specs.declared.mode.Order.{Order}
 use Rattle.ms_logic_words.specs.Content.{Content, variables_by_place}
 use Rattle.ms_logic_words.specs.declared.sign.Sign.{Sign}
-use Rattle.ms_minim.specs.Residual.{HaveEqualSigns, IsLeast}
+use Rattle.ms_logic_words.specs.Residual.{HaveEqualSigns, IsLeast}
 use Rattle.ms_product.specs.Pairing.{AreAtLeast, operands_of}
 use Rattle.ms_product.specs.declared.op.Op.{Op}
 use Rattle.ms_project.specs.Always.{domain_or_always}

@@ -1,6 +1,6 @@
 ghost use Rattle.std.specs.Prelude.{◌≡◌, length, IfOk};
 ghost use Rattle.std.specs.List.Sorted.{IsStrictlyIncreasing};
-ghost use Rattle.ms_minim.specs.Residual.{HaveEqualSigns, IsLeast};
+ghost use Rattle.ms_logic_words.specs.Residual.{HaveEqualSigns, IsLeast};
 ghost use Rattle.ms_build.specs.Built.{AreBuiltFor, HasOnly, IsBrought, IsLimit, IsReadSomewhere, IsThere, IsWithin};
 ghost use Rattle.ms_build.specs.Short.{IsOperand};
 

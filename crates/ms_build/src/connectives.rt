@@ -1,7 +1,7 @@
 ghost use Rattle.std.specs.Prelude.{◌≡◌, ◌≤◌, ◌⊎◌, [], length, All as Each, IfOk};
 ghost use Rattle.std.specs.List.Sorted.{IsStrictlyIncreasing};
 ghost use Rattle.ms_dfa_explore.specs.Explored.{OnRefused};
-ghost use Rattle.ms_minim.specs.Residual.{HaveEqualSigns, IsLeast};
+ghost use Rattle.ms_logic_words.specs.Residual.{HaveEqualSigns, IsLeast};
 ghost use Rattle.ms_build.specs.Built.{AreBuiltFor, AreReadSomewhere, AreReadable, IsLimit, IsManyOf, IsNegationOf, IsPairOf, IsReadSomewhere, IsRestrictionOf, IsThere, IsWithin, op_of};
 ghost use Rattle.ms_build.specs.Short.{ManyLacks, PairLacks};
 

@@ -3,6 +3,8 @@ ghost use Rattle.ms_basic.specs.Operands.{HaveOneOrder};
 ghost use Rattle.ms_logic_core.specs.Operands.{variables_of_basic};
 ghost use Rattle.ms_dfa_explore.specs.Tracks.{distinct};
 ghost use Rattle.ms_dfa.specs.Values.{meaning_by};
+ghost use Rattle.ms_dfa.specs.Automaton.{IsAutomaton};
+ghost use Rattle.ms_logic_words.specs.Residual.{IsLeast};
 ghost use Rattle.ms_build.specs.Built.{IsImportOf, IsLimit, IsOver, IsPart, IsWithin, import_meaning, imports_for, relation_meaning};
 ghost use Rattle.ms_basic.specs.States.{states_of};
 ghost use Rattle.ms_dfa_explore.specs.Explored.{OnRefused};
@@ -41,15 +43,20 @@ pub(crate) fn falsity(plan: &Plan) -> Result<Automaton, StepFault>
     }
 }
 
-/// A basic relation.
+/// A basic relation. Its automaton has fewest states as it is made.
 pub(crate) fn relation(plan: &Plan, form: &Basic) -> Result<Automaton, StepFault>
     requires limit { IsLimit plan.now.limit }
     requires orders { HaveOneOrder (variables_of_basic form.now) }
     ensures relation { IfOk result (IsOver plan.now.mode (distinct (variables_of_basic form.now)) (relation_meaning form.now)) }
+    ensures automaton { IfOk result IsAutomaton }
+    ensures least { IfOk result IsLeast }
     ensures within { IfOk result (IsWithin plan.now.limit) }
     ensures nodes { OnRefused result (λ refused. plan.now.limit < 8 * (states_of form.now + 1)) }
 {
-    basic(plan.alloc, form, plan.mode, plan.limit)
+    let made = basic(plan.alloc, form, plan.mode, plan.limit)?;
+    // The states tell that it is an automaton.
+    let _ = made.states();
+    Ok(made)
 }
 
 /// An import, at these variables. Its automaton has fewest states before it is renamed, so that what a renaming makes of it is

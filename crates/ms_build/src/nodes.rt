@@ -93,7 +93,7 @@ fn of_form(plan: &Plan, built: &[Automaton], entry: &Entry) -> Result<Automaton,
     }
 }
 
-/// The automaton of the next node, with fewest states.
+/// The automaton of the next node, with fewest states. That of a relation has fewest as it is made.
 pub(crate) fn node(plan: &Plan, built: &[Automaton]) -> Result<Automaton, StepFault>
     requires limit { IsLimit plan.now.limit }
     requires nodes { AreNodes (entries_of plan.now) }
@@ -105,6 +105,9 @@ pub(crate) fn node(plan: &Plan, built: &[Automaton]) -> Result<Automaton, StepFa
     ensures nodes { OnRefused result (λ refused. NodeLacks plan.now (length built.now)) }
 {
     let entry = plan.dag.entry(built.len() as u32);
+    if let DagNode::Basic(form) = &entry.node {
+        return relation(plan, form);
+    }
     let part = of_form(plan, built, entry)?;
     // The states tell that it is an automaton.
     let _ = part.states();

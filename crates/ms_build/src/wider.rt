@@ -8,7 +8,7 @@ ghost use Rattle.ms_dfa_explore.specs.Explored.{OnRefused};
 ghost use Rattle.ms_product.specs.Combined.{HaveEqualOrders};
 ghost use Rattle.ms_rename.specs.Whole.{HasNoNumber};
 ghost use Rattle.ms_build.specs.Built.{IsLimit, IsOver, IsWithin};
-ghost use Rattle.ms_minim.specs.Residual.{IsLeast};
+ghost use Rattle.ms_logic_words.specs.Residual.{IsLeast};
 ghost use Rattle.ms_build.specs.Short.{IsWideShort, WideningLacks};
 ghost use Rattle.ms_build.specs.Wider.{IsWider};
 

@@ -8,7 +8,7 @@ use Rattle.ms_logic_starts.specs.ContentStarts.{HaveDistinctNumbers}
 use Rattle.ms_logic_words.specs.Canonical.{IsCanonical}
 use Rattle.ms_logic_words.specs.Content.{Content, IsClosed}
 use Rattle.ms_logic_words.specs.declared.sign.Sign.{Sign}
-use Rattle.ms_minim.specs.Residual.{AreReached, HaveDifferentResiduals}
+use Rattle.ms_logic_words.specs.Residual.{AreReached, HaveDifferentResiduals}
 use Rattle.ms_product.specs.Pairing.{AreAtLeast, HaveRisingMaps, Operands}
 use Rattle.ms_product.specs.declared.op.Op.{Op}
 use Rattle.ms_build_parts.specs.Labels.{IsLabelledBelow}

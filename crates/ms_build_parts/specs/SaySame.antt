@@ -4,7 +4,7 @@ use Rattle.ms_list.specs.declared.word.Word.{Word}
 use Rattle.ms_arena.specs.Diagram.{IsOrdered}
 use Rattle.ms_logic_starts.specs.ContentStarts.{HaveDistinctNumbers}
 use Rattle.ms_logic_words.specs.Content.{Content, IsClosed, IsWordOver, sign_of}
-use Rattle.ms_minim.specs.Residual.{AreReached, HaveDifferentResiduals}
+use Rattle.ms_logic_words.specs.Residual.{AreReached, HaveDifferentResiduals}
 
 -- variables of the same orders, one after the other, and the same sign at each word
 pub record SaySame {Sign : Type 0} (one other : Content Sign) : Type 0 where

@@ -24,7 +24,7 @@ use Rattle.ms_logic.specs.Verdict.{MainNo, MainYes, variables_of}
 use Rattle.ms_logic_words.specs.Word.{Encodes, IsEncoding}
 use Rattle.ms_logic.proofs.Consistent.{yes_is_not_no}
 use Rattle.ms_logic_words.proofs.WordLaws.{length_is_least}
-use Rattle.ms_minim.specs.Residual.{HaveEqualSigns}
+use Rattle.ms_logic_words.specs.Residual.{HaveEqualSigns}
 use Rattle.ms_build_source.specs.Values.{IsFileOf, content_over, form_meaning}
 use Rattle.ms_build_source.proofs.SignOver.{sign-over}
 use Rattle.ms_dfa.specs.Values.{IsMeaning, Meaning, main_meaning, meaning_by}

@@ -12,7 +12,7 @@ use Rattle.ms_logic.specs.declared.mode.Order.{Order}
 use Rattle.ms_logic_starts.proofs.RisingLemmas.{rising_distinct}
 use Rattle.ms_logic_words.specs.Content.{AreLetters, Content, IsClosed, StateOf, bits_at, count_of, first_state, head_bit, is_in_letters, is_truth_value, last_state, next_from, next_state, padded, sign_at, sign_of, state_after, tail_bits}
 use Rattle.ms_logic_words.specs.declared.sign.Sign.{Sign}
-use Rattle.ms_minim.specs.Residual.{AreReached, HaveDifferentResiduals}
+use Rattle.ms_logic_words.specs.Residual.{AreReached, HaveDifferentResiduals}
 use Rattle.ms_rename.specs.Renamed.{HasPartsOf}
 use Rattle.ms_build_steps.proofs.Operands.{closed_least}
 use Rattle.ms_build_steps.proofs.Sides.{IsSide}

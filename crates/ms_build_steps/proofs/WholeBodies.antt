@@ -25,7 +25,7 @@ use Rattle.ms_logic_starts.specs.ContentStarts.{HaveDistinctNumbers}
 use Rattle.ms_logic_starts.proofs.RisingLemmas.{rising_distinct}
 use Rattle.ms_logic_words.specs.Content.{Content}
 use Rattle.ms_logic_words.specs.declared.sign.Sign.{Sign}
-use Rattle.ms_minim.specs.Residual.{AreReached, HaveDifferentResiduals}
+use Rattle.ms_logic_words.specs.Residual.{AreReached, HaveDifferentResiduals}
 use Rattle.ms_build_steps.specs.Laws.{IsPlanned}
 use Rattle.ms_build_steps.proofs.ManyMeanings.{child_means}
 use Rattle.ms_build_steps.proofs.NodeSigns.{say_same}

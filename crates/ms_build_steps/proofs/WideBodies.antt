@@ -20,7 +20,7 @@ use Rattle.ms_logic_words.specs.declared.sign.Sign.{Sign}
 use Rattle.ms_logic_words.specs.declared.sign.Sign.TheVariants.{Outside}
 use Rattle.ms_logic_words.specs.inner.Decoding.{HasOneBit, HaveOneBit, column_after}
 use Rattle.ms_logic_words.proofs.DecodedWords.{encodings_are}
-use Rattle.ms_minim.specs.Residual.{AreReached, HaveDifferentResiduals, IsLeast}
+use Rattle.ms_logic_words.specs.Residual.{AreReached, HaveDifferentResiduals, IsLeast}
 use Rattle.ms_minim_canonical.proofs.ContentLemmas.{IsClosed-content}
 use Rattle.ms_wider_parts.specs.Fixed.{IsFixedBy}
 use Rattle.ms_build_steps.proofs.SameParts.{closed_same, orders_of, over, parts_differ, parts_reached, sign_same}

@@ -28,7 +28,7 @@ use Rattle.ms_logic_words.specs.Word.{IsEncoding}
 use Rattle.ms_logic_words.specs.declared.sign.Sign.{Sign}
 use Rattle.ms_logic_words.specs.declared.sign.Sign.TheVariants.{Outside}
 use Rattle.ms_logic_words.proofs.WordLaws.{encoding_is_over}
-use Rattle.ms_minim.specs.Residual.{AreReached, HaveDifferentResiduals, HaveEqualResiduals}
+use Rattle.ms_logic_words.specs.Residual.{AreReached, HaveDifferentResiduals, HaveEqualResiduals}
 use Rattle.ms_minim.proofs.LettersLemmas.{over-with_letters, sign_of-with_letters, state_after-append, with_letters}
 use Rattle.ms_product.specs.Widened.{behind_through}
 use Rattle.ms_product.proofs.WidenedLemmas.{IsRisingMap-among, first_narrowed, followed, next_narrowed}

@@ -63,7 +63,7 @@ swapped is =
     let names : 1 ≡ 0 = ap (λ (v : Variable). v.name) there in
     omega (arith, names)
 
-subset_read : IsRead full_subset_content
+pub subset_read : IsRead full_subset_content
 subset_read =
     let canonical = full_subset.canonical in
     record {

@@ -24,7 +24,7 @@ use Rattle.ms_logic_starts.proofs.NeededApartLemmas.{needed_lead_apart}
 use Rattle.ms_logic_words.specs.Content.{AreLetters, Content, IsWordOver, StateOf, count_of, is_in_letters, is_truth_value, last_state, sign_at, state_after}
 use Rattle.ms_logic_words.specs.declared.sign.Sign.{Sign}
 use Rattle.ms_minim.specs.Needed.{NeedsAtLeast}
-use Rattle.ms_minim.specs.Residual.{HaveDifferentResiduals, HaveEqualResiduals, HaveEqualSigns}
+use Rattle.ms_logic_words.specs.Residual.{HaveDifferentResiduals, HaveEqualResiduals, HaveEqualSigns}
 use Rattle.ms_minim.specs.inner.Partition.{behind, next_by}
 use Rattle.ms_minim.specs.inner.Quotient.{IsNumberOf}
 use Rattle.ms_minim.proofs.LettersLemmas.{over-with_letters, sign_of-with_letters, with_letters}

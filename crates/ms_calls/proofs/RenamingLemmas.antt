@@ -15,7 +15,7 @@ use Rattle.ms_rename.specs.Renamed.{beside_itself, renamed_places}
 use Rattle.ms_rename_parts.proofs.Arranged.{IsArranged}
 use Rattle.ms_rename_parts.proofs.Arrangement.{arranged}
 use Rattle.ms_calls.specs.Products.{StandsAmong}
-use Rattle.ms_calls.specs.Renamings.{RenamesAreWithinMeasure}
+use Rattle.ms_calls.specs.Renamings.{RenamesAreWithinMeasure, RenamesNeedFewParts}
 use Rattle.ms_calls.proofs.ConnectiveLemmas.{below_measure}
 use Rattle.ms_calls.proofs.Pairs.{few}
 
@@ -52,8 +52,11 @@ module _ (content : Content Sign) (automaton : IsAutomaton content) (order : Lis
       (number_along (LeaveSame content order) (LeaveSameOfBoth content content order) (IsStartOver order) (IsStartOver order) m
       (λ one other. (λ same. (same, same), λ both. both.0)) (λ start. (λ over. over, λ over. over)) counted)
 
+pub renames_need_few_parts : RenamesNeedFewParts
+renames_need_few_parts content numbers automaton long count needs m r measure =
+    let own = rising_distinct content.variables automaton.rising in
+    needs_few content automaton (in_order_of numbers content.variables) (renamed_places numbers content.variables) (arranged numbers content.variables content.variables long refl own) count needs m measure.made
+
 pub renames_are_within_measure : RenamesAreWithinMeasure
 renames_are_within_measure content numbers automaton long limit needs m r measure =
-    let own = rising_distinct content.variables automaton.rising in
-    let less = needs_few content automaton (in_order_of numbers content.variables) (renamed_places numbers content.variables) (arranged numbers content.variables content.variables long refl own) limit needs m measure.made in
-    below_measure limit m r (omega (arith, less))
+    let less = renames_need_few_parts content numbers automaton long limit needs m r measure in below_measure limit m r (omega (arith, less))

@@ -6,7 +6,7 @@ use Rattle.ms_logic_measures.specs.FullContent.{part_count}
 use Rattle.ms_logic_words.specs.Content.{Content}
 use Rattle.ms_logic_words.specs.declared.sign.Sign.{Sign}
 use Rattle.ms_minim.specs.Needed.{NeedsAtLeast}
-use Rattle.ms_minim.specs.Residual.{HaveDifferentResiduals, HaveEqualSigns}
+use Rattle.ms_logic_words.specs.Residual.{HaveDifferentResiduals, HaveEqualSigns}
 
 -- starts lead an automaton to no more references than it has states and nodes
 abbrev pub ReachedPartsAreParts : Type 0

@@ -1,4 +1,5 @@
 pub mod Fewest
 pub mod Products
 pub mod Projections
+pub mod Relations
 pub mod Renamings

@@ -16,7 +16,14 @@ RisingRenamesHaveFewParts =
     → made.variables ≡ distinct (renamed numbers content.variables) → HasPartsOf content made
     → (m r : ℕ) → IsRenameMeasure content numbers m r → (n : ℕ) → HasReachedParts made n → n ≤ m
 
--- a renaming is short of nodes only under a limit below its measure, in whatever order its numbers stand
+-- what a renaming needs, in whatever order its numbers stand, is no more than the number m of the measure
+abbrev pub RenamesNeedFewParts : Type 0
+RenamesNeedFewParts =
+    (content : Content Sign) (numbers : List ℕ) → IsAutomaton content → length numbers ≡ length content.variables
+    → (count : ℕ) → ReachedAreAtLeast count And (beside_itself content (renamed_places numbers content.variables))
+    → (m r : ℕ) → IsRenameMeasure content numbers m r → count ≤ m
+
+-- so it is short of nodes only under a limit below its measure
 abbrev pub RenamesAreWithinMeasure : Type 0
 RenamesAreWithinMeasure =
     (content : Content Sign) (numbers : List ℕ) → IsAutomaton content → length numbers ≡ length content.variables

@@ -1,11 +1,13 @@
 //! The definitions at small cases, worked out by hand. The function has an empty body, and its contract is the table of its examples.
 
 ghost use Rattle.std.specs.Prelude.{◌-◌, ◌∷◌, []};
-ghost use Rattle.ms_calls.specs.Products.{StandsAmong};
+ghost use Rattle.ms_calls.specs.Products.{AreAutomata, StandsAmong};
 ghost use Rattle.ms_calls.specs.Projections.{IsBody, IsRange};
+ghost use Rattle.ms_calls.specs.Relations.{IsAutomatonOfRelation};
 ghost use Rattle.ms_logic.specs.declared.mode.Mode.TheVariants.{Ws1s};
 ghost use Rattle.ms_logic.specs.declared.mode.Order.TheVariants.{Two};
 ghost use Rattle.ms_logic.specs.inner.Examples.{set_P_and_Q, variable};
+ghost use Rattle.ms_logic_core.specs.declared.core_formula.Basic.TheVariants.{Sub};
 ghost use Rattle.ms_logic_words.specs.declared.sign.Sign.TheVariants.{Yes};
 ghost use Rattle.ms_logic_words.specs.inner.ContentExamples.{encodings_content, full_subset_content};
 ghost use Rattle.ms_minim.specs.Needed.{NeedsAtLeast};
@@ -32,8 +34,15 @@ pub fn worked_calls()
     ensures one { NeedsAtLeast 1 encodings_content }
     ensures no_five { ¬ NeedsAtLeast 5 full_subset_content }
 
+    // two automata, of whose variables those with one number have one order
+    ensures automata { AreAutomata full_subset_content full_subset_content }
+
     // truth restricts any body, since it has no variables; a set that the body lacks is in no range of it, and is not bound there
     ensures range { IsRange (everywhere Yes) (always Ws1s) }
     ensures no_range { ¬ IsRange (always Ws1s) (everywhere Yes) }
     ensures no_body { ¬ IsBody (always Ws1s) (variable 7 Two) }
+
+    // the content of P sub Q is an automaton of this relation, but not of Q sub P
+    ensures relation { IsAutomatonOfRelation Ws1s (Sub 0 1) full_subset_content }
+    ensures no_relation { ¬ IsAutomatonOfRelation Ws1s (Sub 1 0) full_subset_content }
 {}

@@ -5,10 +5,12 @@ mod connectives;
 mod examples;
 mod fewest;
 mod projections;
+mod relations;
 mod renamings;
 
 pub use connectives::laws_of_connectives;
 pub use examples::worked_calls;
 pub use fewest::laws_of_fewest_states;
 pub use projections::laws_of_projections;
+pub use relations::sizes_of_relations;
 pub use renamings::laws_of_renamings;

@@ -14,14 +14,14 @@ use Rattle.ms_logic.specs.declared.mode.Mode.{Mode}
 use Rattle.ms_logic.specs.declared.mode.Order.{Order}
 use Rattle.ms_logic_words.specs.declared.sign.Sign.{Sign}
 use Rattle.ms_logic.specs.Assignment.{Variable}
-use Rattle.ms_logic_words.specs.Content.{StateOf, Content, HasValueAt, IsClosed, IsFollowed, IsWordOver, is_truth_value, is_in_letters, next_from, sign_of, letter_bits}
+use Rattle.ms_logic_words.specs.Content.{AreLetters, StateOf, Content, HasValueAt, IsClosed, IsFollowed, IsWordOver, is_truth_value, is_in_letters, next_from, sign_at, sign_of, state_after, letter_bits}
 use Rattle.ms_dfa.specs.declared.state.State.{State}
 use Rattle.ms_dfa.specs.Automaton.{state_of, states_of}
 use Rattle.ms_dfa.proofs.States.{state_in}
-use Rattle.ms_dfa.specs.Machine.{Machine, end_of, IsSimulation}
+use Rattle.ms_dfa.specs.Machine.{Machine, after, end_of, IsSimulation}
 use Rattle.ms_dfa.proofs.FunctionLemmas.{TestsOnly-by_function}
 use Rattle.ms_dfa.proofs.HasValueAtLemmas.{HasValueAt-or_not}
-use Rattle.ms_dfa.proofs.MachineLemmas.{sign_by_simulation}
+use Rattle.ms_dfa.proofs.MachineLemmas.{related_after, sign_by_simulation}
 use Rattle.ms_dfa_explore.specs.Explored.{Findings, Leads, Follows}
 use Rattle.ms_dfa_explore.specs.inner.Run.{ReadsOnly, IsOver, AreNames}
 
@@ -87,9 +87,19 @@ module _ (nodes : List Node) (mode : Mode) (variables : List Variable) (start : 
             (over.next_found number named.0 bits (leaf_of nodes held.0.next bits) there, names.next number state letter (leaf_of nodes held.0.next bits) named.0 named.1 long there);
       }
 
-      -- and each word has the sign of the machine's state at its end
-      pub sign_of_explored : (word : Word) → IsWordOver variables word → sign_of explored word ≡ Some (sign (end_of machine word))
-      sign_of_explored = sign_by_simulation explored machine Names IsSimulation-explored sign (λ number state named.
+      -- a number has the sign of the state that it names
+      sign_of_named : (number : ℕ) (state : X) → Names number state → sign_at explored number ≡ Some (sign state)
+      sign_of_named number state named =
           let held = held_state number named.0 in
           ap (option_map (λ (found : StateOf Sign). found.sign)) (state_in states number held.0 held.1)
-          ∙ ap Some ((follows number held.0 held.1).1 ∙ names.signs number state named.0 named.1))
+          ∙ ap Some ((follows number held.0 held.1).1 ∙ names.signs number state named.0 named.1)
+
+      -- and each word has the sign of the machine's state at its end
+      pub sign_of_explored : (word : Word) → IsWordOver variables word → sign_of explored word ≡ Some (sign (end_of machine word))
+      sign_of_explored = sign_by_simulation explored machine Names IsSimulation-explored sign sign_of_named
+
+      -- so do letters behind the state of a number
+      pub sign_behind_explored : (number : ℕ) (state : X) (letters : List (List Bool)) → AreLetters variables letters → Names number state
+          → sign_at explored (state_after explored number letters) ≡ Some (sign (after machine state letters))
+      sign_behind_explored number state letters are named =
+          sign_of_named (state_after explored number letters) (after machine state letters) (related_after explored machine Names IsSimulation-explored number state letters are named)

@@ -1,5 +1,5 @@
 -- What is found of a table is over its variables, and names its states; so its automaton gives each word the table's sign.
-use Rattle.std.proofs.Common.{◌≡◌, ℕ, ◌+◌, ◌*◌, ◌<◌, ◌≤◌, max, ⊎_elim, Bool, true, false, if◌then◌else◌, List, [], ◌∷◌, length, Some, Result, Err, sym, ap, subst, ◌∙◌, arith}
+use Rattle.std.proofs.Common.{◌≡◌, ℕ, ◌+◌, ◌*◌, ◌<◌, ◌≤◌, max, ⊎_elim, Bool, true, false, if◌then◌else◌, List, [], ◌∷◌, length, Some, Result, Err, refl, sym, ap, subst, ◌∙◌, arith}
 use Rattle.std.proofs.Math.Nat.{mul-le-mul_left}
 use Rattle.std.proofs.lemmas.List.{length-map}
 use Rattle.std.proofs.lemmas.Option.{same_Some}
@@ -24,9 +24,9 @@ use Rattle.ms_dfa.proofs.EncodingLemmas.{zero_letter_over}
 use Rattle.ms_dfa_explore.specs.declared.small.TrackBits.{TrackBits}
 use Rattle.ms_dfa_explore.specs.Explored.{Findings, Leads, Follows, OnRefused, Explores}
 use Rattle.ms_dfa_explore.specs.inner.Run.{ReadsOnly, IsOver, AreNames}
-use Rattle.ms_dfa_explore.specs.Small.{Tabulated, most_nodes, read_tracks, zero_bits, track_bits, places_of, TransitionTable, findings_of, machine_of, sign_by, IsClosedTable, TellsWords}
+use Rattle.ms_dfa_explore.specs.Small.{Tabulated, most_nodes, read_tracks, zero_bits, track_bits, places_of, TransitionTable, findings_of, machine_of, sign_by, HasStatesOf, IsClosedTable, TellsWords}
 use Rattle.ms_dfa_explore.proofs.PlacesLemmas.{placed, read_tracks-absent, read_word}
-use Rattle.ms_dfa_explore.proofs.RunLemmas.{explored, length-states_of, IsClosed-explored, sign_of_explored}
+use Rattle.ms_dfa_explore.proofs.RunLemmas.{explored, length-states_of, IsClosed-explored, sign_behind_explored, sign_of_explored}
 
 -- a tabulated function reads only the tracks with a value
 ReadsOnly-tabulated : (lead : TrackBits → ℕ) (has_value : Order → Bool) (vs : List Variable) → ReadsOnly (HasValueAt vs has_value) (Tabulated lead (places_of has_value 0 vs) zero_bits)
@@ -61,6 +61,15 @@ module _ (table : TransitionTable) (variables : List Variable) (closed : IsClose
     pub sign_of_table : (word : Word) → IsWordOver variables word → sign_of (explored nodes mode variables start states all) word ≡ Some (sign_by table variables word)
     sign_of_table = sign_of_explored nodes mode variables start states all ordered reduced IsOver-table starts count follows (machine_of table variables) table.sign
         (λ number state. number ≡ state) AreNames-table
+
+    -- and it has the table's states
+    pub states_of_table : HasStatesOf table variables (explored nodes mode variables start states all)
+    states_of_table = record {
+      count = length-states_of states ∙ count;
+      signs = λ state letters within are.
+          sign_behind_explored nodes mode variables start states all ordered reduced IsOver-table starts count follows (machine_of table variables) table.sign
+          (λ number named. number ≡ named) AreNames-table state state letters are (within, refl);
+    }
 
     -- and it is an automaton, where the table tells which words encode an assignment
     pub IsAutomaton-table : AreRising variables → TellsWords mode variables table → table.states ≤ 4294967295 → IsAutomaton (explored nodes mode variables start states all)

@@ -1,5 +1,5 @@
 -- Machines over the bits of at most three tracks, whose states are all known.
-use Rattle.std.specs.Prelude.{◌≡◌, ◌≢◌, ◌↔◌, ℕ, zero, suc, ◌+◌, ◌<◌, max, Bool, false, if◌then◌else◌, List, [], ◌∷◌, Option, Some, None}
+use Rattle.std.specs.Prelude.{◌≡◌, ◌≢◌, ◌↔◌, ℕ, zero, suc, ◌+◌, ◌<◌, max, Bool, false, if◌then◌else◌, List, [], ◌∷◌, length, Option, Some, None}
 use Rattle.ms_list.specs.declared.word.Word.{Word}
 use Rattle.ms_arena.specs.Diagram.{Bits}
 use Rattle.ms_arena.specs.Target.{Target}
@@ -9,9 +9,9 @@ use Rattle.ms_logic.specs.declared.mode.Order.{Order}
 use Rattle.ms_logic_words.specs.declared.sign.Sign.{Sign}
 use Rattle.ms_logic_words.specs.declared.sign.Sign.TheVariants.{Outside}
 use Rattle.ms_logic.specs.Assignment.{Variable}
-use Rattle.ms_logic_words.specs.Content.{IsWordOver, truth_bits, letter_bits, with_zero_letter}
+use Rattle.ms_logic_words.specs.Content.{AreLetters, Content, IsWordOver, letter_bits, sign_at, state_after, truth_bits, with_zero_letter}
 use Rattle.ms_logic_words.specs.Word.{IsEncoding}
-use Rattle.ms_dfa.specs.Machine.{Machine, end_of}
+use Rattle.ms_dfa.specs.Machine.{Machine, after, end_of}
 use Rattle.ms_dfa_explore.specs.declared.small.TrackBits.{TrackBits}
 use Rattle.ms_dfa_explore.specs.Explored.{Findings}
 
@@ -93,6 +93,13 @@ machine_of table variables = record {
 -- the sign of a word
 abbrev pub sign_by : TransitionTable → List Variable → Word → Sign
 sign_by table variables word = table.sign (end_of (machine_of table variables) word)
+
+-- a content has the machine's states: as many, and letters behind each lead to the sign to which they lead behind that of the machine
+pub record HasStatesOf (table : TransitionTable) (variables : List Variable) (content : Content Sign) : Type 0 where
+  pub count : length content.states ≡ table.states
+  pub signs :
+      (state : ℕ) (letters : List (List Bool)) → state < table.states → AreLetters variables letters
+      → sign_at content (state_after content state letters) ≡ Some (table.sign (after (machine_of table variables) state letters))
 
 -- the start and each step lead to a state
 pub record IsClosedTable (table : TransitionTable) : Type 0 where

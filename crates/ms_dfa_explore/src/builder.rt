@@ -6,7 +6,7 @@ ghost use Rattle.ms_dfa.specs.Automaton.{variables_of};
 ghost use Rattle.ms_dfa.specs.Part.{has_value};
 ghost use Rattle.ms_logic.specs.FiniteSet.{IsRising};
 ghost use Rattle.ms_dfa_explore.specs.Explored.{Explores, OnRefused};
-ghost use Rattle.ms_dfa_explore.specs.Small.{IsClosedTable, TellsWords, findings_of, most_nodes, places_of, sign_by};
+ghost use Rattle.ms_dfa_explore.specs.Small.{HasStatesOf, IsClosedTable, TellsWords, findings_of, most_nodes, places_of, sign_by};
 
 use crate::exploration::explore;
 use crate::machine::Machine;
@@ -111,8 +111,8 @@ impl<M: SmallMachine + Drop> Machine for Known<M> {
     }
 }
 
-/// The automaton over these tracks that gives each word the sign of the machine. Nodes and states are together at most
-/// `limit`, and no more than eight for each state and for the start.
+/// The automaton over these tracks that gives each word the sign of the machine, and has its states. Nodes and states are
+/// together at most `limit`, and no more than eight for each state and for the start.
 pub fn from_machine<M: SmallMachine + Drop>(
     alloc: Global,
     machine: M,
@@ -130,6 +130,7 @@ pub fn from_machine<M: SmallMachine + Drop>(
     ensures variables { IfOk result (λ made. made.variables ≡ variables_of tracks) }
     ensures signs { IfOk result (λ made. (word : Word) → IsWordOver (variables_of tracks) word
         → sign_of made word ≡ Some (sign_by (M.table machine) (variables_of tracks) word)) }
+    ensures states { IfOk result (HasStatesOf (M.table machine) (variables_of tracks)) }
     ensures within { IfOk result (λ made. length made.nodes + length made.states ≤ limit) }
     ensures nodes { OnRefused result (λ refused. (refused ≡ limit) × (limit < 8 * ((M.table machine).states + 1))) }
 {

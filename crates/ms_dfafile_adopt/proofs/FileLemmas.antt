@@ -18,7 +18,7 @@ use Rattle.ms_dfa.specs.declared.plain.Plain.{Plain}
 use Rattle.ms_dfa.specs.Files.{content_of_file}
 use Rattle.ms_dfafile.specs.File.{IsFile}
 use Rattle.ms_dfafile_adopt.specs.Import.{Fits, IsFirstOpen, IsNotImportable, ShowsOpen}
-use Rattle.ms_minim.specs.Residual.{IsLeast}
+use Rattle.ms_logic_words.specs.Residual.{IsLeast}
 use Rattle.ms_dfafile_adopt.specs.Short.{AdoptionLacks}
 use Rattle.ms_dfafile_adopt.specs.inner.Open.{IsFirstChange, IsInMode, ShowsChange, ShowsNoChange}
 use Rattle.ms_dfafile_adopt.specs.Readings.{AgreesWithFile, own_sign}

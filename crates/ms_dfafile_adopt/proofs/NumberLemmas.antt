@@ -17,7 +17,7 @@ use Rattle.ms_dfa_explore.specs.Tracks.{merged}
 use Rattle.ms_dfa_explore.proofs.AmongLemmas.{among_at, merged-either}
 use Rattle.ms_dfa_explore.proofs.TracksLemmas.{merged-left, merged-right}
 use Rattle.ms_product.specs.Combined.{HaveEqualOrders}
-use Rattle.ms_minim.specs.Residual.{HaveEqualSigns}
+use Rattle.ms_logic_words.specs.Residual.{HaveEqualSigns}
 use Rattle.ms_rename.specs.Whole.{always}
 use Rattle.ms_rename.proofs.RenamedLemmas.{HasValues-same}
 use Rattle.ms_dfafile_adopt.specs.Readings.{TellsNumbers}

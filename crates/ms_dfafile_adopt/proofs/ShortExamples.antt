@@ -10,7 +10,7 @@ use Rattle.ms_logic_words.specs.Content.{Content, IsClosed, letter_bits, last_st
 use Rattle.ms_logic_words.specs.declared.sign.Sign.{Sign}
 use Rattle.ms_logic_words.specs.declared.sign.Sign.TheVariants.{Yes}
 use Rattle.ms_dfa.specs.Automaton.{IsAutomaton}
-use Rattle.ms_minim.specs.Residual.{IsLeast}
+use Rattle.ms_logic_words.specs.Residual.{IsLeast}
 use Rattle.ms_rename.proofs.WholeLemmas.{IsAutomaton-free}
 use Rattle.ms_dfafile_adopt.specs.inner.Examples.{empty_word, no_numbers, subset, zero_file}
 use Rattle.ms_dfafile_adopt.specs.Readings.{TellsNumbers, own_variables}

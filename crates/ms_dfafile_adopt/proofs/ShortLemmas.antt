@@ -14,7 +14,7 @@ use Rattle.ms_product.specs.Pairing.{AreAtLeast}
 use Rattle.ms_product.specs.declared.op.Op.{Op}
 use Rattle.ms_dfafile_adopt.specs.Readings.{own_variables}
 use Rattle.ms_dfafile_adopt.specs.Short.{AreNumbers, IsFileOverSets, NumbersLack, StringsLack, side_by_side}
-use Rattle.ms_minim.specs.Residual.{AreReached, HasFewestStates, HaveDifferentResiduals, IsLeast}
+use Rattle.ms_logic_words.specs.Residual.{AreReached, HasFewestStates, HaveDifferentResiduals, IsLeast}
 
 -- what is within the limit is not refused
 pub not_refused : {A : Type 0} (P : ℕ → Type 0) (limit count : ℕ) (result : Result A StepFault) → count ≤ limit → OnRefused result (λ refused. (refused ≡ limit) × (limit < count)) → OnRefused result P

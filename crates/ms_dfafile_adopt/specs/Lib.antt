@@ -1,5 +1,6 @@
 pub mod Import
 pub mod Laws
+pub mod Made
 pub mod Naming
 pub mod Readings
 pub mod Sets

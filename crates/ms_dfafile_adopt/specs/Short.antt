@@ -10,7 +10,7 @@ use Rattle.ms_logic_words.specs.declared.sign.Sign.{Sign}
 use Rattle.ms_dfa.specs.Automaton.{IsAutomaton}
 use Rattle.ms_dfa.specs.declared.plain.Plain.{Plain}
 use Rattle.ms_dfa_explore.specs.Tracks.{places_among}
-use Rattle.ms_minim.specs.Residual.{IsLeast}
+use Rattle.ms_logic_words.specs.Residual.{IsLeast}
 use Rattle.ms_product.specs.Pairing.{AreAtLeast, Operands, operands_of}
 use Rattle.ms_product.specs.declared.op.Op.{Op}
 use Rattle.ms_rename.specs.Renamed.{NeedsAtLeast, renamed_places}

@@ -3,8 +3,9 @@ ghost use Rattle.ms_dfafile.specs.File.{IsFile};
 ghost use Rattle.ms_logic_words.specs.Content.{IsOpen, variables_by_place};
 ghost use Rattle.ms_dfa.specs.Values.{HasValues};
 ghost use Rattle.ms_dfa.specs.Files.{content_of_file};
-ghost use Rattle.ms_minim.specs.Residual.{IsLeast};
+ghost use Rattle.ms_logic_words.specs.Residual.{IsLeast};
 ghost use Rattle.ms_dfafile_adopt.specs.Import.{Fits, IsImportable, IsNotImportable, adopted_meaning};
+ghost use Rattle.ms_dfafile_adopt.specs.Made.{IsRenamedFile};
 ghost use Rattle.ms_dfafile_adopt.specs.Naming.{IsNaming};
 ghost use Rattle.ms_dfafile_adopt.specs.Readings.{AgreesWithFile};
 ghost use Rattle.ms_dfafile_adopt.specs.inner.Images.{refusal_of};
@@ -114,6 +115,7 @@ pub fn adopt(
     ensures values { IfOk result (HasValues
         (adopted_meaning plain.now (map (λ pair. pair.name) used.now.pairs) (variables_by_place (map (λ pair. pair.order) used.now.pairs)))) }
     ensures importable { IfOk result (λ made. IsImportable plain.now mode used.now.pairs) }
+    ensures size { IfOk result (IsRenamedFile plain.now used.now.pairs mode) }
     ensures within { IfOk result (λ made. length made.nodes + length made.states ≤ limit) }
     ensures refused { IfErr result (IsNotImportable plain.now used.now mode limit) }
 {

@@ -8,7 +8,7 @@ ghost use Rattle.ms_dfa_explore.specs.Explored.{OnRefused};
 ghost use Rattle.ms_logic.specs.Assignment.{Variable};
 ghost use Rattle.ms_logic_words.specs.Content.{Content};
 ghost use Rattle.ms_logic_words.specs.declared.sign.Sign.{Sign};
-ghost use Rattle.ms_minim.specs.Residual.{IsLeast};
+ghost use Rattle.ms_logic_words.specs.Residual.{IsLeast};
 ghost use Rattle.ms_product.specs.Pairing.{AreAtLeast, operands_of};
 ghost use Rattle.ms_product.specs.declared.op.Op.{Op};
 ghost use Rattle.ms_rename.specs.Whole.{IsSmallWhole};

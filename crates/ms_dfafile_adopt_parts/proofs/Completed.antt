@@ -1,11 +1,10 @@
 -- A start whose last letter is completed by free bits is a word, which leads where the start leads with these bits.
-use Rattle.std.proofs.Common.{◌≡◌, ℕ, ◌<◌, Bool, false, IsTrue, List, [], ◌∷◌, ◌++◌, length, map, get_or, slice_get, Option, Some, None, unwrap_or, refl, sym, ap, subst, ◌∙◌, arith}
+use Rattle.std.proofs.Common.{◌≡◌, ℕ, Bool, false, IsTrue, List, [], ◌∷◌, ◌++◌, length, map, slice_get, Option, Some, None, unwrap_or, refl, sym, ap, subst, ◌∙◌}
 use Rattle.std.specs.Option.{option_and_then}
 use Rattle.std.proofs.lemmas.List.{map-append}
 use Rattle.std.proofs.lemmas.Option.{get_or_from_slice_get, slice_get_within}
 use Rattle.ms_arena.specs.declared.node.Ref.{Ref}
-use Rattle.ms_arena.specs.Diagram.{Bits, IsOrdered, IsValid, leaf_of}
-use Rattle.ms_arena.specs.Reach.{TestsOnly}
+use Rattle.ms_arena.specs.Diagram.{Bits, IsOrdered, leaf_of}
 use Rattle.ms_arena.proofs.ReachLemmas.{leaf_of-tested}
 use Rattle.ms_list.specs.declared.word.Word.{Word}
 use Rattle.ms_logic.specs.Assignment.{Variable}
@@ -14,7 +13,7 @@ use Rattle.ms_logic_measures.specs.Starts.{IsStartOver, Start, bits_for, given_b
 use Rattle.ms_logic_starts.specs.ContentStarts.{HaveDistinctNumbers}
 use Rattle.ms_logic_starts.specs.inner.Ranks.{bits_before, rank}
 use Rattle.ms_logic_starts.proofs.RankLemmas.{bit_before, given_at, length-bits_before, padded_at, rank_of_all}
-use Rattle.ms_logic_words.specs.Content.{Content, HasValueAt, IsClosed, IsFollowed, IsWordOver, StateOf, bits_at, count_of, first_state, is_in_letters, is_truth_value, last_state, next_from, next_state, padded, state_after}
+use Rattle.ms_logic_words.specs.Content.{Content, IsClosed, IsFollowed, IsWordOver, StateOf, bits_at, count_of, first_state, is_in_letters, is_truth_value, last_state, next_from, padded, state_after}
 use Rattle.ms_minim.proofs.LettersLemmas.{AreLetters-append, state_after-append}
 use Rattle.ms_rename_parts.proofs.Firsts.{bit_for}
 

@@ -1,5 +1,5 @@
 -- A word over the variables of the pairs encodes an assignment just where it does as a word over the variables of the file.
-use Rattle.std.proofs.Common.{◌≡◌, ◌≢◌, ℕ, ◌+◌, ◌↔◌, AllPairs, Bool, false, IsTrue, if◌then◌else◌, List, [], ◌∷◌, length, map, get_or, slice_get, slice_index, Some, unwrap_or, refl, sym, ap, subst, ◌∙◌, arith}
+use Rattle.std.proofs.Common.{◌≡◌, ◌≢◌, ℕ, ◌+◌, ◌↔◌, AllPairs, Bool, false, if◌then◌else◌, List, [], ◌∷◌, map, slice_get, slice_index, Some, unwrap_or, refl, sym, ap, subst, ◌∙◌, arith}
 use Rattle.std.specs.Option.{option_map}
 use Rattle.std.proofs.lemmas.List.{length-map}
 use Rattle.std.proofs.lemmas.Option.{get_or_from_slice_get, same_Some, slice_get-map, slice_get_within, unwrap_or-slice_get}
@@ -8,7 +8,7 @@ use Rattle.ms_arena.proofs.Lists.{slice_get-held}
 use Rattle.ms_build.proofs.PlaceLemmas.{length-by_place}
 use Rattle.ms_build.proofs.WholeLemmas.{rising-by_place}
 use Rattle.ms_build_steps.proofs.SameParts.{orders_of}
-use Rattle.ms_dfa.specs.Narrow.{IsCovered, ReadsThrough, gathered, narrowed_letter, narrowed_truth}
+use Rattle.ms_dfa.specs.Narrow.{ReadsThrough, gathered, narrowed_letter}
 use Rattle.ms_dfa.specs.Narrow.{narrowed as narrowed_by}
 use Rattle.ms_dfa.proofs.CoveredLemmas.{covered_encodes}
 use Rattle.ms_dfa.proofs.NarrowLemmas.{narrowed_assigned, narrowed_encodes}
@@ -29,7 +29,7 @@ use Rattle.ms_logic.specs.declared.mode.Order.TheVariants.{Zero, One, Two}
 use Rattle.ms_logic_measures.specs.Starts.{bits_for, given_bit, narrowed}
 use Rattle.ms_logic_starts.specs.inner.Ranks.{rank}
 use Rattle.ms_logic_starts.proofs.RankLemmas.{given_at, padded_at}
-use Rattle.ms_logic_words.specs.Content.{AreLetters, IsWordOver, bits_at, is_in_letters, is_truth_value, padded}
+use Rattle.ms_logic_words.specs.Content.{IsWordOver, bits_at, is_in_letters, is_truth_value, padded}
 use Rattle.ms_logic_words.specs.Word.{IsEncoding}
 use Rattle.ms_project.proofs.RestLemmas.{gathered_as}
 use Rattle.ms_rename_parts.proofs.Firsts.{bit_for, length-bits_for}

@@ -23,7 +23,7 @@ use Rattle.ms_logic_contents.proofs.FullContents.{full_contents_exist}
 use Rattle.ms_logic_core.specs.CoreForm.{truth}
 use Rattle.ms_logic_core.specs.Spread.{variables_of_import}
 use Rattle.ms_logic_counts.proofs.CallLemmas.{adopts_are_measured}
-use Rattle.ms_logic_measures.specs.Budgets.{IsMeasureOf, budget, pair_variables}
+use Rattle.ms_logic_measures.specs.Budgets.{IsMeasureOf, pair_variables}
 use Rattle.ms_logic_measures.specs.FullContent.{HasValueOn, IsFullContent}
 use Rattle.ms_logic_measures.specs.Steps.{import_of_source}
 use Rattle.ms_logic_words.specs.Content.{Content, IsContent, IsFollowed, NamesPart, StateOf, is_in_letters}

@@ -1,5 +1,5 @@
 -- The variables of a file by the places of the pairs that name them, and the variables of the pairs in their own order.
-use Rattle.std.proofs.Common.{◌≡◌, ◌≢◌, ℕ, zero, suc, ◌+◌, ◌<◌, ◌≤◌, AllPairs, ⊎_elim, Bool, true, false, if◌then◌else◌, List, [], ◌∷◌, length, map, slice_get, slice_index, Some, refl, sym, ap, subst, ◌∙◌, arith}
+use Rattle.std.proofs.Common.{◌≡◌, ◌≢◌, ℕ, zero, suc, ◌+◌, ◌<◌, AllPairs, ⊎_elim, true, if◌then◌else◌, List, [], ◌∷◌, length, map, slice_get, slice_index, Some, refl, sym, ap, subst, ◌∙◌, arith}
 use Rattle.std.specs.Option.{option_map}
 use Rattle.std.specs.Str.{bytes_eq}
 use Rattle.std.proofs.lemmas.Bool.{cases_Bool}

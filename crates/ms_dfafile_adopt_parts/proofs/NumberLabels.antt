@@ -1,9 +1,8 @@
 -- The automaton of some numbers has no more labels than there are states and nodes in the full content of `true` over variables with as
 -- many numbers: the first of these take the places of its own.
-use Rattle.std.proofs.Common.{◌≡◌, ◌≢◌, ℕ, ◌+◌, ◌*◌, ◌<◌, ◌≤◌, ◌↔◌, List, [], ◌∷◌, length, slice_get, Option, Some, None, refl, sym, ap, subst, ◌∙◌, arith}
+use Rattle.std.proofs.Common.{◌≡◌, ◌≢◌, ◌*◌, ◌≤◌, ◌↔◌, List, [], length, slice_get, Option, Some, None, refl, sym, ap, subst, ◌∙◌, arith}
 use Rattle.ms_arena.specs.Bits.{below_from}
 use Rattle.ms_arena.specs.Diagram.{Bits}
-use Rattle.ms_build.proofs.WholeLemmas.{rising-by_place}
 use Rattle.ms_build_parts.specs.Labels.{IsLabelledBelow, IsOrigin, behind, behind_state}
 use Rattle.ms_build_parts.proofs.Matching.{over_same}
 use Rattle.ms_build_steps.proofs.SameParts.{closed_same, differ_same, orders_of, over, reached_same, sign_same}
@@ -30,7 +29,7 @@ use Rattle.ms_logic_words.specs.Word.{IsEncoding}
 use Rattle.ms_logic_words.specs.declared.sign.Sign.{Sign}
 use Rattle.ms_logic_words.specs.declared.sign.Sign.TheVariants.{Yes, Outside}
 use Rattle.ms_logic_words.proofs.DecodedWords.{each_word_encodes}
-use Rattle.ms_minim.specs.Residual.{AreReached, HaveDifferentResiduals}
+use Rattle.ms_logic_words.specs.Residual.{AreReached, HaveDifferentResiduals}
 use Rattle.ms_minim_canonical.proofs.ContentLemmas.{IsClosed-content}
 use Rattle.ms_rename.specs.Whole.{always}
 use Rattle.ms_rename.proofs.WholeLemmas.{IsAutomaton-free, IsWhole-free, free_content}

@@ -1,5 +1,5 @@
 -- The file itself, the automaton of its numbers, and the two side by side lack nodes only below the measure of the call.
-use Rattle.std.proofs.Common.{◌≡◌, ℕ, ◌+◌, ◌*◌, ◌^◌, ◌<◌, ◌≤◌, ◌⊎◌, ⊎_elim, zero, suc, false, List, [], ◌∷◌, length, map, sym, subst, arith}
+use Rattle.std.proofs.Common.{◌≡◌, ℕ, ◌+◌, ◌*◌, ◌<◌, ◌≤◌, ⊎_elim, zero, suc, false, List, [], ◌∷◌, length, map, sym, subst, arith}
 use Rattle.std.proofs.Math.Nat.{mul-le-mul}
 use Rattle.std.proofs.lemmas.List.{length-map}
 use Rattle.ms_build.proofs.WholeLemmas.{rising-by_place}
@@ -20,7 +20,7 @@ use Rattle.ms_dfafile_adopt.specs.Readings.{own_variables}
 use Rattle.ms_dfafile_adopt.specs.Short.{AreNumbers, NumbersLack, ProductLacks, StringsLack, side_by_side}
 use Rattle.ms_dfafile_adopt.proofs.NumberLemmas.{equal_orders}
 use Rattle.ms_logic.specs.Assignment.{Variable}
-use Rattle.ms_logic.specs.Lists.{AreRising, IsAmong}
+use Rattle.ms_logic.specs.Lists.{AreRising}
 use Rattle.ms_logic.specs.Truth.{Import}
 use Rattle.ms_logic.specs.declared.checked.MapPair.{MapPair}
 use Rattle.ms_logic.specs.declared.mode.Mode.{Mode}

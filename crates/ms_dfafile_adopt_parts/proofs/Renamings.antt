@@ -1,11 +1,12 @@
--- The automaton of a file lacks nodes, once its variables are those of the pairs, only below the measure of the call: starts that lead
--- both the file and the full content of `true` to one reference lead it to one.
-use Rattle.std.proofs.Common.{◌≡◌, ◌≢◌, ℕ, zero, suc, ◌+◌, ◌<◌, ◌≤◌, ◌↔◌, nat_eq, ⊎_elim, AllPairs, Bool, true, false, if◌then◌else◌, List, [], ◌∷◌, ◌++◌, length, map, get_or, slice_get, Some, refl, sym, ap, subst, ◌∙◌, arith}
+-- The automaton of a file lacks nodes, once its variables are those of the pairs, only below the measure of the call, and what is made of it
+-- has no more parts: starts that lead both the file and the full content of `true` to one reference lead it to one.
+use Rattle.std.proofs.Common.{◌≡◌, ◌≢◌, ℕ, zero, suc, ◌+◌, ◌<◌, ◌≤◌, ◌↔◌, ⊎_elim, AllPairs, Bool, if◌then◌else◌, List, [], ◌∷◌, ◌++◌, length, map, get_or, slice_get, Some, refl, sym, ap, subst, ◌∙◌, arith}
 use Rattle.std.specs.Option.{option_map}
-use Rattle.std.proofs.lemmas.Bool.{eq-eqb, ne_eqb}
+use Rattle.std.proofs.lemmas.Bool.{cases_lt, eq-eqb, ne_eqb}
 use Rattle.std.proofs.lemmas.List.{length-map, map-append}
-use Rattle.std.proofs.lemmas.Option.{none-some, same_Some}
+use Rattle.std.proofs.lemmas.Option.{none-some, same_Some, slice_get-map, slice_get_within}
 use Rattle.ms_arena.specs.Diagram.{Bits}
+use Rattle.ms_arena.proofs.Lists.{slice_get-held}
 use Rattle.ms_build_parts.specs.SaySame.{AreComparable}
 use Rattle.ms_build_parts.proofs.Matching.{over_same}
 use Rattle.ms_build_steps.proofs.SameParts.{closed_same, differ_same, orders_of, over, sign_same}
@@ -16,22 +17,22 @@ use Rattle.ms_dfa.specs.Files.{content_of_file}
 use Rattle.ms_dfa.specs.declared.plain.Plain.{Plain}
 use Rattle.ms_dfa.proofs.EncodingLemmas.{encoding_or_not}
 use Rattle.ms_dfa.proofs.OwnMeaningLemmas.{last_within, sign_outside}
-use Rattle.ms_dfa_explore.specs.Tracks.{place_of}
+use Rattle.ms_dfa_explore.specs.Tracks.{place_of, distinct as distinct_tracks}
 use Rattle.ms_dfafile.specs.File.{IsFile}
 use Rattle.ms_dfafile_adopt.specs.Naming.{IsNaming}
 use Rattle.ms_dfafile_adopt.specs.Readings.{AgreesWithFile, own_sign, own_variables}
-use Rattle.ms_dfafile_adopt.specs.Short.{RenamingLacks}
 use Rattle.ms_list.specs.declared.word.Word.{Word}
 use Rattle.ms_logic.specs.Assignment.{Variable}
 use Rattle.ms_logic.specs.Truth.{Answer, Import}
 use Rattle.ms_logic.specs.declared.checked.MapPair.{MapPair}
 use Rattle.ms_logic.specs.declared.mode.Mode.{Mode}
+use Rattle.ms_logic.specs.declared.mode.Order.{Order}
 use Rattle.ms_logic.specs.declared.mode.Mode.TheVariants.{M2lStr}
 use Rattle.ms_logic_core.specs.CoreForm.{truth}
-use Rattle.ms_logic_measures.specs.CallMeasures.{IsAdoptMeasure, LeadToPairs, LeaveSame, LeaveSameOfBoth, call_measure}
+use Rattle.ms_logic_measures.specs.CallMeasures.{HasReachedParts, IsAdoptMeasure, LeadToPairs, LeadsToReferences, LeaveSame, LeaveSameOfBoth, call_measure}
 use Rattle.ms_logic_measures.specs.FullContent.{IsFullContent}
 use Rattle.ms_logic_measures.specs.Starts.{IsStartOver, Start, bits_for, left_by, narrowed}
-use Rattle.ms_logic_starts.specs.AtLeast.{IsAtLeastNumber, IsEquivalence}
+use Rattle.ms_logic_starts.specs.AtLeast.{IsAtLeastNumber}
 use Rattle.ms_logic_starts.specs.ContentStarts.{HaveDistinctNumbers}
 use Rattle.ms_logic_starts.proofs.AtLeastLemmas.{at_most_count}
 use Rattle.ms_logic_starts.proofs.RankLemmas.{bits_for_own}
@@ -40,19 +41,25 @@ use Rattle.ms_logic_words.specs.Content.{AreLetters, Content, IsClosed, IsWordOv
 use Rattle.ms_logic_words.specs.Word.{IsEncoding}
 use Rattle.ms_logic_words.specs.declared.sign.Sign.{Sign}
 use Rattle.ms_logic_words.specs.declared.sign.Sign.TheVariants.{Outside}
-use Rattle.ms_minim.specs.Residual.{IsLeast}
+use Rattle.ms_logic_words.specs.Residual.{IsLeast}
 use Rattle.ms_minim.proofs.LettersLemmas.{over-with_letters, sign_of-with_letters, state_after-append, with_letters}
 use Rattle.ms_minim_canonical.proofs.ContentLemmas.{IsClosed-content}
-use Rattle.ms_rename.specs.Renamed.{NeedsAtLeast, renamed_places}
+use Rattle.ms_product.specs.Pairing.{ReachedAreAtLeast}
+use Rattle.ms_product.specs.declared.op.Op.TheVariants.{And}
+use Rattle.ms_rename.specs.Renamed.{HasPartsOf, NeedsAtLeast, Rises, beside_itself, renamed, renamed_places}
+use Rattle.ms_rename.proofs.DiagonalLemmas.{needs_by_itself}
+use Rattle.ms_rename.proofs.OrderLemmas.{distinct-same, renamed-rising}
+use Rattle.ms_rename.proofs.RenamedLemmas.{renamed-at}
 use Rattle.ms_rename_parts.proofs.Firsts.{length-bits_for, letters_back, letters_over}
 use Rattle.ms_calls.proofs.ConnectiveLemmas.{below_measure}
 use Rattle.ms_calls.proofs.Pairs.{leave_same_of_both}
+use Rattle.ms_calls.proofs.Parts.{reached_parts_are_parts}
 use Rattle.ms_rename_parts.proofs.RenameParts.{apart as starts_lead_apart}
 use Rattle.ms_dfafile_adopt_parts.specs.Files.{content_for, paired, variables_of_pairs}
 use Rattle.ms_dfafile_adopt_parts.proofs.Completed.{led, whole_of, whole_over}
 use Rattle.ms_dfafile_adopt_parts.proofs.Encodings.{file_encodes}
 use Rattle.ms_dfafile_adopt_parts.proofs.Filed.{measured_closed, run_alike}
-use Rattle.ms_dfafile_adopt_parts.proofs.Naming.{in_pair_order, order_distinct, order_rising, same_orders, stands, vs_distinct, vs_long}
+use Rattle.ms_dfafile_adopt_parts.proofs.Naming.{in_pair_order, named_at, order_distinct, order_rising, same_orders, stands, vs_distinct}
 
 -- where no two variables have one number, each stands at the place of its number
 place_is : (us : List Variable) → HaveDistinctNumbers us → (i : ℕ) (v : Variable) → slice_get us i ≡ Some v → place_of v.name us ≡ i
@@ -76,6 +83,34 @@ own_word vs distinct word is_over =
     let first = bits_for_own is_truth_value vs word.truth distinct is_over.truth in
     let more = own_letters vs distinct word.letters is_over.letters in
     λ i. record { truth = first i; letters = more i }
+
+-- lists that have the same items
+same_list : {X : Type 0} (xs ys : List X) → length xs ≡ length ys → ((i : ℕ) (x : X) → slice_get xs i ≡ Some x → slice_get ys i ≡ Some x) → xs ≡ ys
+same_list [] [] long each = refl
+same_list [] (y ∷ ys) long each = absurd (omega (arith, long))
+same_list (x ∷ xs) [] long each = absurd (omega (arith, long))
+same_list (x ∷ xs) (y ∷ ys) long each =
+    let head = same_Some y x (each 0 x refl) in
+    let tail = same_list xs ys (omega (arith, long)) (λ i. each (suc i)) in
+    λ j. sym head j ∷ tail j
+
+-- a variable at a place, and one of the same order there
+order_at : (vs ws : List Variable) → orders_of vs ≡ orders_of ws → (i : ℕ) (v : Variable) → slice_get vs i ≡ Some v → (w : Variable) × (slice_get ws i ≡ Some w) × (v.order ≡ w.order)
+order_at vs ws same i v held =
+    let long = length-map vs (λ (u : Variable). u.order) in
+    let also = length-map ws (λ (u : Variable). u.order) in
+    let equal = ap length same in
+    let within = slice_get_within vs i v held in
+    let there = slice_get-held ws i (omega (arith, within, long, also, equal)) in
+    let one = slice_get-map (λ (u : Variable). u.order) vs i ∙ ap (option_map (λ (u : Variable). u.order)) held in
+    let other = slice_get-map (λ (u : Variable). u.order) ws i ∙ ap (option_map (λ (u : Variable). u.order)) there.1 in
+    (there.0, there.1, same_Some v.order there.0.order (sym one ∙ ap (λ (list : List Order). slice_get list i) same ∙ other))
+
+length-renamed : (names : List ℕ) (vs : List Variable) → length names ≡ length vs → length (renamed names vs) ≡ length vs
+length-renamed [] [] long = refl
+length-renamed [] (v ∷ vs) long = absurd (omega (arith, long))
+length-renamed (name ∷ names) [] long = absurd (omega (arith, long))
+length-renamed (name ∷ names) (v ∷ vs) long = (let others = length-renamed names vs (omega (arith, long)) in omega (arith, others))
 
 module _ (imports : List Import) (mode : Mode) (plain : Plain) (pairs : List MapPair) (file : IsFile plain)
     (apart : AllPairs (λ one other. one ≢ other) (map (λ (pair : MapPair). pair.name) pairs))
@@ -276,6 +311,12 @@ module _ (imports : List Import) (mode : Mode) (plain : Plain) (pairs : List Map
     same = record { orders = orders; signs = λ word is_over. sign_same own own.mode us orders word };
   }
 
+  is_over : encodings ≡ tells
+  is_over = λ i. record { mode = encodings.mode; variables = full.same_variables i; start = encodings.start; states = encodings.states; nodes = encodings.nodes }
+
+  pub over_pairs : (m : ℕ) → LeadToPairs measured encodings encodings.variables m → LeadToPairs measured tells order m
+  over_pairs m counted = subst (λ (c : Content Sign). LeadToPairs measured c c.variables m) is_over counted
+
   -- starts in the order of the pairs lead both apart, as many as it needs
   module _ (limit : ℕ) (short : NeedsAtLeast limit own (renamed_places places own.variables)) where
     few : (m : ℕ) → LeadToPairs measured tells order m → limit ≤ m
@@ -293,11 +334,61 @@ module _ (imports : List Import) (mode : Mode) (plain : Plain) (pairs : List Map
         let many = short.many in
         omega (arith, less, many)
 
-    is_over : encodings ≡ tells
-    is_over = λ i. record { mode = encodings.mode; variables = full.same_variables i; start = encodings.start; states = encodings.states; nodes = encodings.nodes }
-
     pub renaming_is_below : (m r : ℕ) → IsAdoptMeasure measured encodings m r → limit < call_measure m r
     renaming_is_below m r measure =
-        let counted : LeadToPairs measured tells order m = subst (λ (c : Content Sign). LeadToPairs measured c c.variables m) is_over measure.made in
-        let least = few m counted in
+        let least = few m (over_pairs m measure.made) in
         below_measure limit m r (omega (arith, least))
+
+  -- what is made of it has no more parts than starts in the order of the pairs lead both to
+  module _ (made : Content Sign) (made_automaton : IsAutomaton made) (made_mode : made.mode ≡ mode) (made_variables : made.variables ≡ order)
+      (renamed_are : made.variables ≡ distinct_tracks (renamed places own.variables)) (m n : ℕ) (counted : LeadToPairs measured tells order m) (mine : HasReachedParts made n) where
+    module _ (rises : Rises places) (parts : HasPartsOf own made) where
+      names_are : order ≡ renamed places own.variables
+      names_are = sym made_variables ∙ renamed_are ∙ distinct-same (renamed places own.variables) (renamed-rising places own.variables rises)
+
+      us_are : us ≡ renamed places own.variables
+      us_are = same_list us (renamed places own.variables) (let long = ap length names_are in let same = renamed_long in omega (arith, long, same, us_long)) (λ i v held.
+          let is = named_at plain pairs file apart places naming i v held in
+          let at = order_at us own.variables orders i v held in
+          renamed-at places own.variables i at.0 places_long at.1
+          ∙ (λ j. Some (record { name = sym is.place j; order = sym at.2 j })))
+        where
+          renamed_long : length (renamed places own.variables) ≡ length own.variables
+          renamed_long = length-renamed places own.variables places_long
+
+      is_moved : made ≡ moved
+      is_moved = λ i. record {
+        mode = (made_mode ∙ sym agrees.mode_is) i;
+        variables = (made_variables ∙ names_are ∙ sym us_are) i;
+        start = parts.start i;
+        states = parts.states i;
+        nodes = parts.nodes i;
+      }
+
+      few_in_order : n ≤ m
+      few_in_order =
+          let lead : LeadsToReferences moved order n = subst (λ vs. LeadsToReferences moved vs n) (us_are ∙ sym names_are) (subst (λ (c : Content Sign). HasReachedParts c n) is_moved mine) in
+          let both : IsAtLeastNumber (LeaveSameOfBoth measured tells order) (IsStartOver order) n = record {
+            chosen = lead.chosen;
+            items = lead.items;
+            different = λ i j d before within same.
+                lead.different i j d before within (leave_one (get_or lead.chosen i d) (get_or lead.chosen j d) (lead.items i d (omega (arith, before, within))) (lead.items j d within) same);
+            count = (let all = lead.count in omega (arith, all));
+          } in
+          at_most_count (LeaveSameOfBoth measured tells order) (IsStartOver order) (leave_same_of_both measured tells order) n m both counted
+
+    few_turned : ReachedAreAtLeast (length made.nodes + length made.states) And (beside_itself own (renamed_places places own.variables)) → n ≤ m
+    few_turned size =
+        let all = few (length made.nodes + length made.states) (needs_by_itself own (renamed_places places own.variables) (length made.nodes + length made.states) size) m counted in
+        let parts = reached_parts_are_parts made made_automaton n mine in
+        omega (arith, all, parts)
+
+    pub few_parts : (Rises places → HasPartsOf own made)
+        → (¬ Rises places → ReachedAreAtLeast (length made.nodes + length made.states) And (beside_itself own (renamed_places places own.variables))) → n ≤ m
+    few_parts in_order turned_round = ⊎_elim
+        (λ less.
+        let falls : Rises places → ⊥ = λ rises. let few_here = few_in_order rises (in_order rises) in omega (arith, few_here, less) in
+        let few_there = few_turned (turned_round falls) in
+        omega (arith, few_there, less))
+        (λ most. omega (arith, most))
+        (cases_lt m n)

@@ -1,15 +1,17 @@
 -- What makes a file the automaton of an import lacks nodes only below the budget of that import, and there is such a budget.
 use Rattle.std.specs.Prelude.{◌≡◌, ◌≢◌, ℕ, ◌<◌, ◌≤◌, List, AllPairs, map, slice_get, Some}
+use Rattle.ms_dfa.specs.Automaton.{IsAutomaton}
 use Rattle.ms_dfa.specs.declared.plain.Plain.{Plain}
 use Rattle.ms_dfafile.specs.File.{IsFile}
 use Rattle.ms_dfafile_adopt.specs.Import.{HasVariables}
+use Rattle.ms_dfafile_adopt.specs.Made.{IsRenamedFile}
 use Rattle.ms_dfafile_adopt.specs.Short.{AdoptionLacks}
 use Rattle.ms_logic.specs.Truth.{Answer, Import}
 use Rattle.ms_logic.specs.declared.checked.MapPair.{MapPair}
 use Rattle.ms_logic.specs.declared.mode.Mode.{Mode}
 use Rattle.ms_logic_core.specs.CoreForm.{truth}
 use Rattle.ms_logic_measures.specs.Budgets.{IsMeasureOf, budget, pair_variables}
-use Rattle.ms_logic_measures.specs.CallMeasures.{IsAdoptMeasure, call_measure}
+use Rattle.ms_logic_measures.specs.CallMeasures.{HasReachedParts, IsAdoptMeasure, call_measure}
 use Rattle.ms_logic_measures.specs.FullContent.{IsFullContent}
 use Rattle.ms_logic_measures.specs.Steps.{import_of_source}
 use Rattle.ms_logic_words.specs.Content.{Content}
@@ -45,3 +47,12 @@ AdoptionsAreWithinMeasure =
     → IsFile plain → HasVariables plain pairs → AllPairs (λ one other. one ≢ other) (map (λ pair. pair.name) pairs)
     → AdoptionLacks limit plain pairs mode → (encodings : Content Sign) → IsFullContent imports mode (variables_of_pairs pairs) truth encodings
     → (m r : ℕ) → IsAdoptMeasure (content_for pairs plain) encodings m r → limit < call_measure m r
+
+-- and starts lead what it makes to no more references than the number m of its measure
+abbrev pub AdoptionsHaveFewParts : Type 0
+AdoptionsHaveFewParts =
+    (imports : List Import) (mode : Mode) (plain : Plain) (pairs : List MapPair) (made : Content Sign)
+    → IsFile plain → AllPairs (λ one other. one ≢ other) (map (λ pair. pair.name) pairs)
+    → IsAutomaton made → made.mode ≡ mode → made.variables ≡ variables_of_pairs pairs → IsRenamedFile plain pairs mode made
+    → (encodings : Content Sign) → IsFullContent imports mode (variables_of_pairs pairs) truth encodings
+    → (m r : ℕ) → IsAdoptMeasure (content_for pairs plain) encodings m r → (n : ℕ) → HasReachedParts made n → n ≤ m

@@ -8,7 +8,7 @@ use Rattle.ms_logic_words.specs.declared.sign.Sign.{Sign}
 use Rattle.ms_logic_words.specs.declared.sign.Sign.TheVariants.{Yes}
 use Rattle.ms_logic_words.specs.Content.{StateOf, HasValueAt, IsClosed, IsFollowed, is_in_letters, is_truth_value, state_after, sign_at, truth_bits, letter_bits}
 use Rattle.ms_dfa.proofs.FunctionLemmas.{TestsOnly-leaf}
-use Rattle.ms_minim.specs.Residual.{HaveEqualSigns, HasFewestStates}
+use Rattle.ms_logic_words.specs.Residual.{HaveEqualSigns, HasFewestStates}
 use Rattle.ms_minim.specs.inner.Examples.{one_set, three_states, one_state, with_unreached}
 
 -- the two states with Yes lead to each other

@@ -29,7 +29,7 @@ use Rattle.ms_dfa.proofs.ValuesLemmas.{IsAutomaton-by_values}
 use Rattle.ms_dfa_explore.specs.Explored.{Findings, Leads, Follows, Explores}
 use Rattle.ms_dfa_explore.specs.inner.Run.{IsOver, AreNames}
 use Rattle.ms_dfa_explore.proofs.RunLemmas.{explored, length-states_of, IsClosed-explored, IsSimulation-explored, sign_of_explored}
-use Rattle.ms_minim.specs.Residual.{HaveEqualResiduals, HaveEqualSigns, HasFewestStates}
+use Rattle.ms_logic_words.specs.Residual.{HaveEqualResiduals, HaveEqualSigns, HasFewestStates}
 use Rattle.ms_minim.specs.inner.Partition.{HaveOneClass, behind, next_by}
 use Rattle.ms_minim.specs.inner.Quotient.{Quotienting, IsNumberOf, IsMemberOf, IsQuotient, sign_of_number, quotient_findings}
 use Rattle.ms_minim.specs.Reduced.{IsReducedOf, content_over}

@@ -9,7 +9,7 @@ use Rattle.ms_logic_words.specs.declared.sign.Sign.{Sign}
 use Rattle.ms_logic_words.specs.Content.{Content}
 use Rattle.ms_list.specs.declared.fault.NoMemory.{NoMemory}
 use Rattle.ms_minim.specs.declared.classes.Partition.{Partition}
-use Rattle.ms_minim.specs.Residual.{HaveEqualResiduals}
+use Rattle.ms_logic_words.specs.Residual.{HaveEqualResiduals}
 use Rattle.ms_minim.specs.inner.Partition.{HaveOneClass, IsInhabited, LeadAlike, IsPartition, IsPassed, AreNerodeClasses, AreMarks, AreSignMarks, next_by}
 use Rattle.ms_minim.specs.inner.Split.{IsSplit, AreZeros}
 use Rattle.ms_minim.proofs.Pigeonhole.{counted}

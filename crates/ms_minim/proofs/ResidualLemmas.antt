@@ -8,7 +8,7 @@ use Rattle.ms_logic_words.specs.Content.{StateOf, Content, IsClosed, IsFollowed,
 use Rattle.ms_dfa.specs.Narrow.{gathered}
 use Rattle.ms_dfa.proofs.GatheredLemmas.{length-gathered}
 use Rattle.ms_dfa.proofs.NarrowLemmas.{leaf_of-gathered}
-use Rattle.ms_minim.specs.Residual.{HaveEqualResiduals}
+use Rattle.ms_logic_words.specs.Residual.{HaveEqualResiduals}
 use Rattle.ms_minim.specs.inner.Partition.{behind, next_by}
 
 -- a letter leads where its bits do

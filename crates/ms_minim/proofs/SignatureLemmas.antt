@@ -17,7 +17,7 @@ use Rattle.ms_minim.specs.declared.signatures.Seen.{Seen}
 use Rattle.ms_minim.specs.inner.Marks.{IsMarkOf, pair_of}
 use Rattle.ms_minim.specs.inner.Partition.{IsPartition, LeadAlike, next_by}
 use Rattle.ms_minim.specs.inner.Predecessors.{AreBelow, ArePredecessors}
-use Rattle.ms_minim.specs.Residual.{HaveEqualResiduals}
+use Rattle.ms_logic_words.specs.Residual.{HaveEqualResiduals}
 use Rattle.ms_minim.specs.inner.Grouping.{AreCovered, AreGrouped, AreLabels, AreListed, AreSplitters, IsDue, IsLabel, IsLaterSeen, IsMoved, IsNewClass, IsSeen, NeverSplits, through}
 use Rattle.ms_minim.proofs.GroupingLemmas.{due_or_not}
 use Rattle.ms_minim.proofs.ResidualLemmas.{next_by-within, residuals_next}

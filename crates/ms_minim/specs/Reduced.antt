@@ -7,7 +7,7 @@ use Rattle.ms_dfa.specs.Automaton.{states_of}
 use Rattle.ms_dfa.specs.declared.state.State.{State}
 use Rattle.ms_logic_words.specs.declared.sign.Sign.{Sign}
 use Rattle.ms_logic_words.specs.Content.{Content, IsClosed}
-use Rattle.ms_minim.specs.Residual.{AreReached, HaveDifferentResiduals, HaveEqualSigns, HasFewestStates}
+use Rattle.ms_logic_words.specs.Residual.{AreReached, HaveDifferentResiduals, HaveEqualSigns, HasFewestStates}
 
 -- a content over the variables of another
 abbrev pub content_over : Content Sign → List Node → Ref → List State → Content Sign

@@ -1,4 +1,4 @@
-ghost use Rattle.ms_minim.specs.Residual.{HaveEqualResiduals, HasFewestStates};
+ghost use Rattle.ms_logic_words.specs.Residual.{HaveEqualResiduals, HasFewestStates};
 ghost use Rattle.std.specs.Prelude.{◌≡◌, [], ◌∷◌};
 ghost use Rattle.ms_arena.specs.declared.node.Ref.TheVariants.{Leaf, Inner};
 ghost use Rattle.ms_logic_words.specs.declared.sign.Sign.TheVariants.{No, Undefined, Outside};

@@ -1,7 +1,7 @@
 ghost use Rattle.std.specs.Prelude.{◌≡◌, ◌≤◌, ◌<◌, ◌+◌, length, IfOk};
 ghost use Rattle.ms_dfa_explore.specs.Explored.{OnRefused};
 ghost use Rattle.ms_minim.specs.Needed.{NeedsAtLeast};
-ghost use Rattle.ms_minim.specs.Residual.{AreReached, HasFewestStates, HaveDifferentResiduals, HaveEqualSigns};
+ghost use Rattle.ms_logic_words.specs.Residual.{AreReached, HasFewestStates, HaveDifferentResiduals, HaveEqualSigns};
 
 use crate::reading::SignReading;
 use crate::reduction::reduce;

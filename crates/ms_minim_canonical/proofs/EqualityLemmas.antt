@@ -4,7 +4,7 @@ use Rattle.std.proofs.lemmas.Option.{slice_get_within, same_Some}
 use Rattle.std.specs.Option.{option_map}
 use Rattle.ms_logic_words.specs.Canonical.{IsCanonical}
 use Rattle.ms_logic_words.specs.Content.{StateOf, Content}
-use Rattle.ms_minim.specs.Residual.{HaveEqualSigns}
+use Rattle.ms_logic_words.specs.Residual.{HaveEqualSigns}
 use Rattle.ms_minim_canonical.specs.Laws.{CanonicalContentsAreEqual}
 use Rattle.ms_minim_canonical.proofs.ContentLemmas.{sharing, sharing-same}
 use Rattle.ms_minim_canonical.proofs.Paired.{lists_equal}

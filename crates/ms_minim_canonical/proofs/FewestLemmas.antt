@@ -5,7 +5,7 @@ use Rattle.ms_logic_words.specs.Canonical.{IsCanonical}
 use Rattle.ms_logic_words.specs.Content.{Content, IsWordOver, AreLetters, state_after, last_state, sign_at}
 use Rattle.ms_dfa.proofs.OwnMeaningLemmas.{last_within}
 use Rattle.ms_minim.proofs.Pigeonhole.{counted}
-use Rattle.ms_minim.specs.Residual.{HaveEqualSigns}
+use Rattle.ms_logic_words.specs.Residual.{HaveEqualSigns}
 use Rattle.ms_minim_canonical.specs.Laws.{CanonicalContentsHaveFewestStates}
 use Rattle.ms_minim.proofs.LettersLemmas.{over-with_letters, sign_of-with_letters, with_letters}
 

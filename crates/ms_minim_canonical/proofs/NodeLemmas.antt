@@ -12,7 +12,7 @@ use Rattle.ms_arena.proofs.Canonicity.{same_reference}
 use Rattle.ms_logic_words.specs.Canonical.{IsCanonical, first_sights_of, seen_nodes, nodes_within}
 use Rattle.ms_logic_words.specs.Content.{StateOf, Content}
 use Rattle.ms_logic.specs.FiniteSet.{numbers_below}
-use Rattle.ms_minim.specs.Residual.{HaveEqualSigns}
+use Rattle.ms_logic_words.specs.Residual.{HaveEqualSigns}
 use Rattle.ms_minim_canonical.proofs.ContentLemmas.{sharing, valid-named}
 use Rattle.ms_minim_canonical.proofs.FirstSightLemmas.{IsMatching, numbers_below_at, paired-unseen}
 use Rattle.ms_minim_canonical.specs.inner.Renumbering.{ArePaired}

@@ -11,7 +11,7 @@ use Rattle.ms_logic_words.specs.Canonical.{IsCanonical}
 use Rattle.ms_logic_words.specs.Content.{StateOf, Content, IsWordOver, AreLetters, is_in_letters, is_truth_value, first_state, state_after, last_state, sign_at}
 use Rattle.ms_dfa.proofs.GatheredLemmas.{length-gathered}
 use Rattle.ms_dfa.proofs.OwnMeaningLemmas.{last_within}
-use Rattle.ms_minim.specs.Residual.{HaveEqualSigns}
+use Rattle.ms_logic_words.specs.Residual.{HaveEqualSigns}
 use Rattle.ms_minim.proofs.LettersLemmas.{over-with_letters, sign_of-with_letters, with_letters}
 use Rattle.ms_minim_canonical.proofs.ContentLemmas.{IsClosed-content, truth_for, letter_for, first_state-for, next_state-for, sharing, valid-named, next_followed}
 use Rattle.ms_minim_canonical.proofs.FirstSightLemmas.{IsMatching, paired-unseen, own_place}

@@ -3,7 +3,7 @@
 use Rattle.std.specs.Prelude.{◌≡◌}
 use Rattle.ms_logic_words.specs.Canonical.{IsCanonical}
 use Rattle.ms_logic_words.specs.Content.{Content}
-use Rattle.ms_minim.specs.Residual.{HaveEqualSigns, HasFewestStates}
+use Rattle.ms_logic_words.specs.Residual.{HaveEqualSigns, HasFewestStates}
 
 -- canonical contents of one mode and over the same variables that give each word over them the same sign are equal
 abbrev pub CanonicalContentsAreEqual : Type 0 → Type 0

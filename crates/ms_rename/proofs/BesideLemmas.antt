@@ -1,5 +1,5 @@
 -- The conjunction of an automaton with itself has its signs, and what it needs of pairs that are reached the automaton needs beside itself.
-use Rattle.std.proofs.Common.{◌≡◌, ℕ, nat_eq, nat_lt, true, false, if◌then◌else◌, ⊎_elim, List, [], ◌∷◌, ◌++◌, length, slice_get, Option, Some, None, Result, Ok, Err, IfOk, refl, sym, ap, subst, ◌∙◌, arith}
+use Rattle.std.proofs.Common.{◌≡◌, ℕ, ◌+◌, nat_eq, nat_lt, true, false, if◌then◌else◌, ⊎_elim, List, [], ◌∷◌, ◌++◌, length, slice_get, Option, Some, None, Result, Ok, Err, IfOk, refl, sym, ap, subst, ◌∙◌, arith}
 use Rattle.std.proofs.lemmas.Bool.{cases_lt, eq-eqb, le-ltb}
 use Rattle.std.proofs.lemmas.Option.{same_Some, slice_get_past}
 use Rattle.ms_list.specs.declared.fault.StepFault.{StepFault}
@@ -26,9 +26,9 @@ use Rattle.ms_product.specs.Widened.{behind_through, first_through, next_through
 use Rattle.ms_product.specs.declared.op.Op.TheVariants.{And}
 use Rattle.ms_product.proofs.ProductLemmas.{IsReachedPair-same}
 use Rattle.ms_rename.specs.inner.Image.{IsRenamedBy}
-use Rattle.ms_rename.specs.Renamed.{NeedsAtLeast, beside_itself}
+use Rattle.ms_rename.specs.Renamed.{beside_itself}
 use Rattle.ms_rename.proofs.OrderLemmas.{HaveOneOrder-rising}
-use Rattle.ms_rename.proofs.RenamedLemmas.{NeedsAtLeast-renamed, start_as, step_as}
+use Rattle.ms_rename.proofs.RenamedLemmas.{start_as, step_as}
 
 -- a list merged with itself
 pub merged-itself : (vs : List Variable) → merged vs vs ≡ vs
@@ -137,20 +137,21 @@ module _ (content made : Content Sign) (places : List ℕ) (made_is : IsAutomato
     reached = λ number pair held. IsReachedPair-same beside (beside_itself content places) first_same next_same pair (needs.reached number pair held);
   }
 
-  -- so a refusal of the conjunction is one of the renaming
+  own_needs : (count : ℕ) → ReachedAreAtLeast count And (operands_of made made) → ReachedAreAtLeast count And (beside_itself content places)
+  own_needs count needs =
+      beside_needs count (subst (λ (wide : List Variable). ReachedAreAtLeast count And (beside_itself made (places_among made.variables wide))) (merged-itself made.variables) needs)
+
+  -- so it is as large as the renaming needs
+  pub made_beside : (result : Result (Content Sign) StepFault)
+      → IfOk result (λ done. ReachedAreAtLeast (length done.nodes + length done.states) And (operands_of made made))
+      → IfOk result (λ done. ReachedAreAtLeast (length done.nodes + length done.states) And (beside_itself content places))
+  made_beside (Ok done) size = own_needs (length done.nodes + length done.states) size
+  made_beside (Err fault) size = tt
+
+  -- and a refusal of the conjunction is one of the renaming
   pub refused_beside : (limit : ℕ) (result : Result (Content Sign) StepFault) → OnRefused result (λ refused. ReachedAreAtLeast limit And (operands_of made made))
       → OnRefused result (λ refused. ReachedAreAtLeast limit And (beside_itself content places))
   refused_beside limit (Ok done) cause = tt
   refused_beside limit (Err Memory) cause = tt
   refused_beside limit (Err (Nodes refused)) cause =
-      beside_needs limit (subst (λ (wide : List Variable). ReachedAreAtLeast limit And (beside_itself made (places_among made.variables wide))) (merged-itself made.variables) cause)
-
--- where what was renamed is refused, and then what is reached of it, the first lack of nodes is one of the renaming
-pub refused_again : (limit : ℕ) (content made : Content Sign) (places : List ℕ) → IsAutomaton made → IsRenamedBy places content made → (A : Type 0) (fault : StepFault) (refused : ℕ) → fault ≡ Nodes refused
-    → OnRefused {A = A} (Err fault) (λ first. (first ≡ limit) × NeedsAtLeast limit made (places_among made.variables made.variables)) → (result : Result (Content Sign) StepFault)
-    → OnRefused result (λ again. again ≡ limit) → OnRefused result (λ again. (again ≡ limit) × NeedsAtLeast limit content places)
-refused_again limit content made places made_is is A fault refused is_nodes first (Ok done) again = tt
-refused_again limit content made places made_is is A fault refused is_nodes first (Err Memory) again = tt
-refused_again limit content made places made_is is A fault refused is_nodes first (Err (Nodes named)) again =
-    let cause = subst (λ (f : StepFault). OnRefused {A = A} (Err f) (λ first. (first ≡ limit) × NeedsAtLeast limit made (places_among made.variables made.variables))) is_nodes first in
-    (again, NeedsAtLeast-renamed content made places made_is is limit cause.1)
+      own_needs limit cause

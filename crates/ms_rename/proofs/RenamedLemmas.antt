@@ -1,13 +1,13 @@
 -- An automaton with the images of another's diagrams has its signs at the values that are read through the map.
-use Rattle.std.proofs.Common.{◌≡◌, ◌≢◌, ℕ, zero, suc, ◌<◌, inl, inr, ⊎_elim, Bool, true, false, List, [], ◌∷◌, length, slice_get, slice_index, Some, None, Result, Ok, Err, IfOk, refl, sym, ap, subst, ◌∙◌, arith}
+use Rattle.std.proofs.Common.{◌≡◌, ◌≢◌, ℕ, zero, suc, ◌<◌, inl, inr, ⊎_elim, Bool, true, false, List, [], ◌∷◌, length, slice_get, slice_index, Some, Result, Ok, Err, IfOk, refl, sym, ap, subst, ◌∙◌, arith}
 use Rattle.std.specs.Prelude.{map as map_list}
 use Rattle.std.specs.Option.{option_map}
 use Rattle.std.proofs.lemmas.Option.{none-some, same_Some, slice_get-map, slice_get_within, get_or_from_slice_get}
 use Rattle.ms_list.specs.declared.fault.StepFault.{StepFault}
 use Rattle.ms_list.specs.declared.word.Word.{Word}
 use Rattle.ms_arena.specs.declared.node.Ref.{Ref}
-use Rattle.ms_arena.specs.Bits.{with_bit, below_from}
-use Rattle.ms_arena.specs.Diagram.{end_at, leaf_of, IsOrdered, IsReduced}
+use Rattle.ms_arena.specs.Bits.{with_bit}
+use Rattle.ms_arena.specs.Diagram.{leaf_of, IsOrdered, IsReduced}
 use Rattle.ms_arena.proofs.Needs.{Implies}
 use Rattle.ms_arena.proofs.BitsLemmas.{with_bit-other}
 use Rattle.ms_arena.proofs.Lists.{slice_get-held}
@@ -32,7 +32,6 @@ use Rattle.ms_dfa.proofs.HasValueAtLemmas.{HasValueAt-or_not}
 use Rattle.ms_dfa.proofs.NarrowLemmas.{leaf_of-gathered, narrowed_encodes, narrowed_assigned, narrowed_over}
 use Rattle.ms_dfa.proofs.OwnMeaningLemmas.{next_within, sign_outside, HasValues-own, IsMeaning-own}
 use Rattle.ms_dfa.proofs.ValuesLemmas.{IsAutomaton-by_values}
-use Rattle.ms_dfa_explore.specs.Explored.{Origin, IsFound, target_of}
 use Rattle.ms_dfa_explore.specs.Tracks.{distinct, place_of, places_among}
 use Rattle.ms_dfa_explore.proofs.AmongLemmas.{among_at, held_among, one_place}
 use Rattle.ms_dfa_explore.proofs.TracksLemmas.{distinct-rising, place_of-among}
@@ -40,9 +39,9 @@ use Rattle.ms_basic.specs.Operands.{HaveOneOrder}
 use Rattle.ms_basic.proofs.DistinctLemmas.{among-distinct, distinct-among}
 use Rattle.ms_product.specs.Widened.{behind_through, widened_findings}
 use Rattle.ms_product.proofs.WidenedLemmas.{followed}
-use Rattle.ms_rename.proofs.CompactLemmas.{read_same}
+use Rattle.ms_rename.proofs.OwnPlaces.{read_same}
 use Rattle.ms_rename.specs.inner.Image.{IsImage, IsRenamedBy}
-use Rattle.ms_rename.specs.Renamed.{renamed, read_by, renamed_meaning, renamed_places, NeedsAtLeast}
+use Rattle.ms_rename.specs.Renamed.{renamed, read_by, renamed_meaning, renamed_places}
 
 -- a variable at a place, and the one that the map has for it
 pub renamed-at : (names : List ℕ) (vs : List Variable) (place : ℕ) (v : Variable) → length names ≡ length vs → slice_get vs place ≡ Some v
@@ -257,7 +256,7 @@ HasValues-same meaning content other mode_is variables_are signs values = record
       signs word over_here ∙ values.outside word over_here (subst (λ vs. IsOutside content.mode vs word) variables_are (subst (λ mode. IsOutside mode other.variables word) mode_is outside));
 }
 
--- what the renamed automaton needs over its own variables, the automaton needs over those of the map
+-- over its own variables the renamed automaton leads where the automaton leads over those of the map
 module _ (content made : Content Sign) (places : List ℕ) (made_is : IsAutomaton made) (is : IsRenamedBy places content made) where
   abbrev own : List ℕ
   own = places_among made.variables made.variables
@@ -276,23 +275,6 @@ module _ (content made : Content Sign) (places : List ℕ) (made_is : IsAutomato
       ∙ read_same made made_is is_in_letters held.0.next (followed made own made_is.closed state held.0 held.1) bits
       ∙ images.leaves bits
       ∙ sym (ap (λ found. behind_through content places found bits) was.1)
-
-  origin_as : (origin : Origin) → IsFound (widened_findings made own) origin
-      → IsFound (widened_findings content places) origin × Implies (target_of (widened_findings made own) origin) (target_of (widened_findings content places) origin)
-  origin_as None found = (tt, start_as)
-  origin_as (Some state) found = ((let counted = is.long in omega (arith, found, counted)), step_as state found)
-
-  pub NeedsAtLeast-renamed : (count : ℕ) → NeedsAtLeast count made own → NeedsAtLeast count content places
-  NeedsAtLeast-renamed count needs = record {
-    nodes = needs.nodes;
-    ordered = needs.ordered;
-    reduced = needs.reduced;
-    needed = λ place node held.
-        let was = needs.needed place node held in
-        let there = origin_as was.0 was.1 in
-        (was.0, there.0, (was.2.0, λ bits. there.1 (below_from node.var was.2.0 bits) (leaf_of needs.nodes (end_at node bits) bits) (was.2.1 bits)));
-    many = (let counted = is.long in let most = needs.many in omega (arith, most, counted));
-  }
 
 -- what has the signs of a content has its values, where there is an answer
 pub values_same : (meaning : Meaning) (content : Content Sign) (result : Result (Content Sign) StepFault) → IfOk result (λ made. made.mode ≡ content.mode)

@@ -10,7 +10,7 @@ ghost use Rattle.ms_product.specs.declared.op.Op.TheVariants.{And};
 ghost use Rattle.ms_rename.specs.Renamed.{HasPartsOf, NeedsAtLeast, Rises, beside_itself, renamed, renamed_meaning, renamed_places};
 
 use crate::images::{image, images};
-use crate::needed::{compact, reached};
+use crate::reached::reached;
 use crate::tracks;
 use ms_arena::Ref;
 use ms_dfa::{Automaton, State};
@@ -113,6 +113,8 @@ pub fn rename(alloc: Global, a: &Automaton, map: &[u32], limit: u64) -> Result<A
     ensures same { Rises map.now → IfOk result (HasPartsOf a.now) }
     ensures only_memory { Rises map.now → OnRefused result (λ refused. ⊥) }
     ensures within { (Rises map.now → length a.now.nodes + length a.now.states ≤ limit) → IfOk result (λ made. length made.nodes + length made.states ≤ limit) }
+    // Where they do not rise, it has what starts reach alone.
+    ensures size { ¬ Rises map.now → IfOk result (λ made. ReachedAreAtLeast (length made.nodes + length made.states) And (beside_itself a.now (renamed_places map.now a.now.variables))) }
     ensures nodes { OnRefused result (λ refused. (refused ≡ limit) × NeedsAtLeast limit a.now (renamed_places map.now a.now.variables)) }
     ensures reached_nodes { OnRefused result (λ refused. ReachedAreAtLeast limit And (beside_itself a.now (renamed_places map.now a.now.variables))) }
 {
@@ -128,10 +130,5 @@ pub fn rename(alloc: Global, a: &Automaton, map: &[u32], limit: u64) -> Result<A
         return Err(StepFault::Memory);
     };
     let _ = scattered.states();
-    match compact(alloc, &scattered, limit) {
-        Ok(made) => Ok(made),
-        Err(StepFault::Memory) => Err(StepFault::Memory),
-        // States that nothing reaches may have taken the nodes.
-        Err(StepFault::Nodes { .. }) => reached(alloc, &scattered, limit),
-    }
+    reached(alloc, &scattered, limit)
 }

@@ -8,7 +8,7 @@ use Rattle.ms_build_parts.proofs.Levels.{IsLevelOf, level_of, put_together}
 use Rattle.ms_dfa_explore.specs.Explored.{Origin}
 use Rattle.ms_logic_words.specs.Content.{Content, IsClosed}
 use Rattle.ms_logic_words.specs.declared.sign.Sign.{Sign}
-use Rattle.ms_minim.specs.Residual.{AreReached}
+use Rattle.ms_logic_words.specs.Residual.{AreReached}
 use Rattle.ms_wider_parts.specs.Fixed.{Follower, IsFixedBy, KeepsOrder}
 use Rattle.ms_wider_parts.specs.Laws.{ResidualsFixStates, RisingMapsKeepOrder}
 

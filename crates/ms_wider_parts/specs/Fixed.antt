@@ -9,7 +9,7 @@ use Rattle.ms_build_parts.specs.Labels.{IsOrigin, behind}
 use Rattle.ms_dfa_explore.specs.Explored.{Origin}
 use Rattle.ms_logic_words.specs.Content.{Content, IsClosed, LeadsToStates}
 use Rattle.ms_logic_words.specs.declared.sign.Sign.{Sign}
-use Rattle.ms_minim.specs.Residual.{AreReached}
+use Rattle.ms_logic_words.specs.Residual.{AreReached}
 
 -- bits are read in another way, which keeps their order: what is put together at some variable is then put together at some level
 abbrev pub KeepsOrder : ℕ → (Bits → Bits) → Type 0

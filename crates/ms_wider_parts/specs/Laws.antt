@@ -12,7 +12,7 @@ use Rattle.ms_logic_measures.specs.FullContent.{part_count}
 use Rattle.ms_logic_words.specs.Content.{Content, IsClosed, with_zero_letter}
 use Rattle.ms_logic_words.specs.Word.{IsEncoding}
 use Rattle.ms_logic_words.specs.declared.sign.Sign.{Sign}
-use Rattle.ms_minim.specs.Residual.{AreReached, HaveDifferentResiduals, HaveEqualResiduals}
+use Rattle.ms_logic_words.specs.Residual.{AreReached, HaveDifferentResiduals, HaveEqualResiduals}
 use Rattle.ms_product.specs.Pairing.{AreAtLeast, HaveRisingMaps, Operands}
 use Rattle.ms_product.specs.declared.op.Op.{Op}
 use Rattle.ms_product.specs.Widened.{IsRisingMap}

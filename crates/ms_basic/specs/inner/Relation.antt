@@ -7,6 +7,7 @@ use Rattle.ms_logic_words.specs.declared.sign.Sign.{Sign}
 use Rattle.ms_logic_words.specs.declared.sign.Sign.TheVariants.{Yes, No, Undefined, Outside}
 use Rattle.ms_logic.specs.Assignment.{Env, Variable, IsAssignment}
 use Rattle.ms_logic_words.specs.Content.{Content}
+use Rattle.ms_logic_words.specs.Residual.{AreReached, HaveDifferentResiduals}
 use Rattle.ms_logic_core.specs.CoreForm.{Holds, basic}
 use Rattle.ms_logic_words.specs.Word.{HasLength}
 use Rattle.ms_logic.specs.Letters.{bound_of}
@@ -42,10 +43,12 @@ pub record IsOfRelation (mode : Mode) (form : Basic) (made : Content Sign) : Typ
   pub variables : made.variables ≡ distinct (variables_of_basic form)
   pub values : HasValues (core_meaning [] (basic form)) made
 
--- a relation has been made into an automaton within the limit, or it has not: for want of memory, or where the limit is below eight for each
--- of so many states and for the start
+-- a relation has been made into an automaton within the limit, whose states are all reached and no two of them alike, or it has not: for want
+-- of memory, or where the limit is below eight for each of so many states and for the start
 pub record IsMade (mode : Mode) (form : Basic) (limit states : ℕ) (result : Result (Content Sign) StepFault) : Type 0 where
   pub made : IfOk result (IsOfRelation mode form)
+  pub differ : IfOk result HaveDifferentResiduals
+  pub reached : IfOk result AreReached
   pub within : IfOk result (λ made. length made.nodes + length made.states ≤ limit)
   pub nodes : OnRefused result (λ refused. (refused ≡ limit) × (limit < 8 * (states + 1)))
 

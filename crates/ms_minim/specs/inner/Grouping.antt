@@ -9,7 +9,7 @@ use Rattle.ms_minim.specs.declared.signatures.Seen.{Seen}
 use Rattle.ms_minim.specs.inner.Marks.{IsMarkOf}
 use Rattle.ms_minim.specs.inner.Partition.{HaveOneClass}
 use Rattle.ms_minim.specs.inner.Predecessors.{IsListed, AreBelow}
-use Rattle.ms_minim.specs.Residual.{HaveEqualResiduals}
+use Rattle.ms_logic_words.specs.Residual.{HaveEqualResiduals}
 
 -- states with equal residuals have one class
 abbrev pub NeverSplits : Content Sign → List ℕ → Type 0

@@ -5,7 +5,7 @@ use Rattle.ms_arena.specs.Diagram.{Bits, leaf_of}
 use Rattle.ms_logic.specs.declared.mode.Order.{Order}
 use Rattle.ms_logic_words.specs.declared.sign.Sign.{Sign}
 use Rattle.ms_logic_words.specs.Content.{StateOf, Content, IsFollowed, sign_at}
-use Rattle.ms_minim.specs.Residual.{HaveEqualResiduals}
+use Rattle.ms_logic_words.specs.Residual.{HaveEqualResiduals}
 
 -- the map leaves each of so many places where it is
 pub record IsIdentity (count : ℕ) (map : List ℕ) : Type 0 where

@@ -5,6 +5,7 @@ use Rattle.ms_dfa_explore.proofs.TracksLemmas.{distinct-rising}
 use Rattle.ms_logic_core.specs.Operands.{variables_of_basic}
 use Rattle.ms_basic.proofs.OperandsLemmas.{few_taken, few_tracks, orders-take, tracks_are, wires}
 use Rattle.ms_basic.proofs.RelationLemmas.{relation_built, tells_wired}
+use Rattle.ms_basic.proofs.ResidualLemmas.{differ_built, reached_built}
 use Rattle.ms_basic.proofs.made.made.Goals as goal
 
 pub wiring_of-wiring-requires : goal.wiring_of-wiring-requires
@@ -42,6 +43,16 @@ returns g c =
           (wires c.args.count c.args.form c.in-Ok.all c.slice.result.now c.in-Ok.ensures c.slice.ensures c.in-Ok-distinct.tracks c.in-Ok-distinct.ensures
           c.wiring_of-wiring.result c.slice-2.result.now c.slice-2.ensures c.wiring_of-wiring.ensures)
           c.requires.variables c.from_machine.ensures.mode c.from_machine.ensures.variables c.from_machine.ensures.signs;
+      differ = differ_built operands (variables_of c.in-Ok-distinct.tracks) c.wiring_of-wiring.result (g.M.SmallMachine.table c.args.machine) c.from_machine.result
+          (tracks_are c.args.count c.args.form c.in-Ok.all c.slice.result.now c.in-Ok.ensures c.slice.ensures c.in-Ok-distinct.tracks c.in-Ok-distinct.ensures)
+          (wires c.args.count c.args.form c.in-Ok.all c.slice.result.now c.in-Ok.ensures c.slice.ensures c.in-Ok-distinct.tracks c.in-Ok-distinct.ensures
+          c.wiring_of-wiring.result c.slice-2.result.now c.slice-2.ensures c.wiring_of-wiring.ensures)
+          c.from_machine.ensures.variables c.from_machine.ensures.states c.requires.apart;
+      reached = reached_built operands (variables_of c.in-Ok-distinct.tracks) c.wiring_of-wiring.result (g.M.SmallMachine.table c.args.machine) c.from_machine.result
+          (tracks_are c.args.count c.args.form c.in-Ok.all c.slice.result.now c.in-Ok.ensures c.slice.ensures c.in-Ok-distinct.tracks c.in-Ok-distinct.ensures)
+          (wires c.args.count c.args.form c.in-Ok.all c.slice.result.now c.in-Ok.ensures c.slice.ensures c.in-Ok-distinct.tracks c.in-Ok-distinct.ensures
+          c.wiring_of-wiring.result c.slice-2.result.now c.slice-2.ensures c.wiring_of-wiring.ensures)
+          c.from_machine.ensures.variables c.from_machine.ensures.states c.from_machine.ensures.signs c.requires.apart c.requires.reached;
       within = c.from_machine.ensures.within;
       nodes = c.from_machine.ensures.nodes;
     }

@@ -5,11 +5,22 @@ use Rattle.ms_basic.specs.inner.Relation.{DecidesRelation}
 use Rattle.ms_basic.specs.inner.Windows.{up_table}
 use Rattle.ms_basic.proofs.UpLemmas.{decides_up}
 use Rattle.ms_basic.proofs.WindowLemmas.{few_windows_up, some_windows, too_many_up}
+use Rattle.ms_basic.specs.inner.Apart.{HasStatesApart}
+use Rattle.ms_basic.proofs.ApartOverLemmas.{apart_two}
+use Rattle.ms_basic.proofs.UpApart.{up_apart}
+use Rattle.ms_basic.specs.inner.Reached.{HasStatesReached}
+use Rattle.ms_basic.proofs.ReachedOverLemmas.{reached_two}
+use Rattle.ms_basic.proofs.TablesReached.{up_reached}
 use Rattle.ms_basic.proofs.up.up.Goals as goal
 
 pub returns-then-n-gt-GREATEST : goal.returns-then-n-gt-GREATEST
-returns-then-n-gt-GREATEST c =
-    record { made = tt; within = tt; nodes = (refl, too_many_up c.args.s c.args.t c.args.n c.args.setting.limit c.if-s-t.false c.if-n-gt-GREATEST.true c.args.setting.small) }
+returns-then-n-gt-GREATEST c = record {
+  made = tt;
+  differ = tt;
+  reached = tt;
+  within = tt;
+  nodes = (refl, too_many_up c.args.s c.args.t c.args.n c.args.setting.limit c.if-s-t.false c.if-n-gt-GREATEST.true c.args.setting.small);
+}
 
 pub invariant_of-machine : goal.invariant_of-machine
 invariant_of-machine c = record {
@@ -21,3 +32,13 @@ pub made-requires-clause-decides : goal.made-requires-clause-decides
 made-requires-clause-decides c =
     subst (λ size. DecidesRelation c.args.setting.mode (set c.args.s ∷ set c.args.t ∷ []) (Up c.args.s c.args.t c.args.n) (up_table c.args.setting.mode size)) (sym c.size.ensures)
     (decides_up c.args.setting.mode c.args.s c.args.t c.args.n)
+
+pub made-requires-clause-apart : goal.made-requires-clause-apart
+made-requires-clause-apart c =
+    apart_two (set c.args.s) (set c.args.t) (up_table c.args.setting.mode c.size.result) c.if-s-t.false refl refl
+    (subst (λ size. HasStatesApart 2 (up_table c.args.setting.mode size)) (sym c.size.ensures) (up_apart c.args.setting.mode c.args.n))
+
+pub made-requires-clause-reached : goal.made-requires-clause-reached
+made-requires-clause-reached c =
+    reached_two (set c.args.s) (set c.args.t) (up_table c.args.setting.mode c.size.result) c.if-s-t.false refl refl
+    (subst (λ size. HasStatesReached 2 (up_table c.args.setting.mode size)) (sym c.size.ensures) (up_reached c.args.setting.mode c.args.n))

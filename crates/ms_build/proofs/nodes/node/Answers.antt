@@ -1,11 +1,24 @@
-use Rattle.std.proofs.Common.{◌≡◌, ◌<◌, ◌+◌, inl, inr, length, slice_get, Some, refl, rules}
+use Rattle.std.proofs.Common.{◌≡◌, ◌<◌, ◌+◌, inl, inr, length, slice_get, Some, refl, subst, rules}
+use Rattle.ms_dag.specs.Dag.{HasOwnOrders}
 use Rattle.ms_build.specs.Built.{entries_of}
-use Rattle.ms_build.proofs.FormLemmas.{IsOver-node, node_by, too_small}
+use Rattle.ms_build.proofs.FormLemmas.{IsOver-node, node_by, operands_one_order, relation_built, too_small}
 use Rattle.ms_build.specs.Short.{FormLacks, NodeLacks}
 use Rattle.ms_build.proofs.RefusalLemmas.{fault_more, refused_more}
 use Rattle.ms_build.proofs.nodes.node.Goals as goal
 use Rattle.ms_logic_words.specs.Content.{Content}
 use Rattle.ms_logic_words.specs.declared.sign.Sign.{Sign}
+
+pub relation-requires-clause-orders : goal.relation-requires-clause-orders
+relation-requires-clause-orders c =
+    let entry = c.entry-entry.result.now in
+    let node = c.requires.nodes.nodes (length c.args.built.now) entry c.entry-entry.ensures in
+    operands_one_order entry.orders c.in-Basic.form (subst (λ n. HasOwnOrders n entry.orders) c.in-Basic.is node.own)
+
+pub returns-in-Basic-clause-built : goal.returns-in-Basic-clause-built
+returns-in-Basic-clause-built c =
+    let is = c.relation.ensures in
+    relation_built c.args.plan.now c.requires.nodes (length c.args.built.now) c.entry-entry.result.now c.entry-entry.ensures c.in-Basic.form c.in-Basic.is c.relation.result
+    is.relation is.automaton is.least is.within
 
 pub of_form-requires-clause-node : goal.of_form-requires-clause-node
 of_form-requires-clause-node c =

@@ -1,4 +1,4 @@
-use Rattle.std.proofs.Common.{◌≡◌, ◌≢◌, ℕ, ◌<◌, Some}
+use Rattle.std.proofs.Common.{◌≢◌, ℕ, ◌<◌, Some}
 use Rattle.ms_logic_words.specs.Content.{sign_at}
 use Rattle.ms_logic_words.specs.declared.sign.Sign.TheVariants.{Undefined}
 use Rattle.ms_build.proofs.range.is_defined.Given as goal

@@ -1,4 +1,4 @@
-use Rattle.std.proofs.Common.{◌≡◌, sym, subst}
+use Rattle.std.proofs.Common.{sym, subst}
 use Rattle.ms_dfa.specs.Automaton.{variable_of}
 use Rattle.ms_dfa.specs.Values.{HasValues, own_meaning}
 use Rattle.ms_product.specs.Combined.{combined}

@@ -6,7 +6,7 @@ use Rattle.ms_product.specs.Combined.{HaveEqualOrders}
 use Rattle.ms_build.specs.inner.Lacked.{IsLacked}
 use Rattle.ms_build.specs.Wider.{IsWider}
 use Rattle.ms_build.proofs.WiderLemmas.{IsOver-lacked, IsWider-none, free_orders, number_orders, one_order, widening_then}
-use Rattle.ms_minim.specs.Residual.{IsLeast}
+use Rattle.ms_logic_words.specs.Residual.{IsLeast}
 use Rattle.ms_build.specs.Short.{IsWideShort, WideningLacks}
 use Rattle.ms_build.proofs.RefusalLemmas.{fault_more}
 use Rattle.ms_build.proofs.wider.over_tracks.Goals as goal

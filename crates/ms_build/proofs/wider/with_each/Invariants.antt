@@ -1,7 +1,7 @@
 use Rattle.std.proofs.Common.{◌≡◌, ◌⊎◌, take}
 use Rattle.ms_dfa.specs.Automaton.{variables_of}
 use Rattle.ms_build.specs.Built.{IsWithin}
-use Rattle.ms_minim.specs.Residual.{IsLeast}
+use Rattle.ms_logic_words.specs.Residual.{IsLeast}
 use Rattle.ms_build.specs.Wider.{IsWider}
 use Rattle.ms_build.proofs.wider.with_each.Given as goal
 

@@ -5,6 +5,9 @@ use Rattle.ms_logic_words.specs.declared.sign.Sign.TheVariants.{Yes}
 use Rattle.ms_project.specs.inner.Examples.{everywhere}
 use Rattle.ms_calls.proofs.ProjectionLemmas.{always_range}
 use Rattle.ms_calls.proofs.ExampleCalls.{apart, first, needs_one, no_five, second, stands, swapped, turned}
+use Rattle.ms_calls.proofs.ExampleRelations.{subset_relation, turned_relation}
+use Rattle.ms_logic_words.specs.inner.ContentExamples.{full_subset_content}
+use Rattle.ms_rename.proofs.BesideLemmas.{own_orders}
 use Rattle.ms_calls.proofs.examples.worked_calls.Goals as goal
 
 pub returns-clause-first : goal.returns-clause-first
@@ -39,3 +42,14 @@ returns-clause-no_body c = λ is. is.among
 
 pub returns-clause-turned : goal.returns-clause-turned
 returns-clause-turned c = turned
+
+pub returns-clause-relation : goal.returns-clause-relation
+returns-clause-relation c = subset_relation
+
+pub returns-clause-no_relation : goal.returns-clause-no_relation
+returns-clause-no_relation c = turned_relation
+
+pub returns-clause-automata : goal.returns-clause-automata
+returns-clause-automata c =
+    let is = subset_relation.automaton in
+    record { left = is; right = is; equal = own_orders full_subset_content is }

@@ -1,7 +1,9 @@
-use Rattle.std.proofs.Common.{◌≡◌, inr, length, ap, sym, subst, ◌∙◌}
+use Rattle.std.proofs.Common.{◌≡◌, ◌+◌, inr, length, ap, sym, subst, ◌∙◌}
 use Rattle.ms_basic.specs.Operands.{HaveOneOrder}
 use Rattle.ms_dfa_explore.specs.Tracks.{distinct}
-use Rattle.ms_rename.specs.Renamed.{NeedsAtLeast, renamed, renamed_meaning, renamed_places}
+use Rattle.ms_rename.specs.Renamed.{HasPartsOf, NeedsAtLeast, Rises, beside_itself, renamed, renamed_meaning, renamed_places}
+use Rattle.ms_product.specs.Pairing.{ReachedAreAtLeast}
+use Rattle.ms_product.specs.declared.op.Op.TheVariants.{And}
 use Rattle.ms_logic_words.specs.declared.sign.Sign.{Sign}
 use Rattle.ms_logic_words.specs.Content.{Content}
 use Rattle.ms_dfa.specs.Values.{HasValues, own_meaning}
@@ -42,6 +44,23 @@ returns-in-Ok-rename-clause-values c =
     adopted_values c.args.plain.now c.requires.file c.args.used.now.pairs c.requires.different c.in-Ok.places c.in-Ok.ensures.naming c.args.mode own c.states.ensures.automaton
     c.in-Ok-own_in_mode.ensures.signs made is.mode (subst (λ map. made.variables ≡ distinct (renamed map own.variables)) c.slice.ensures is.variables)
     (subst (λ map. HasValues (renamed_meaning map own.variables (own_meaning own)) made) c.slice.ensures is.values)
+
+pub returns-in-Ok-rename-clause-size : goal.returns-in-Ok-rename-clause-size
+returns-in-Ok-rename-clause-size c =
+    let own = c.in-Ok-own_in_mode.own in
+    let made = c.in-Ok-rename.made in
+    record {
+      own = own;
+      agrees = c.in-Ok-own_in_mode.ensures.signs;
+      automaton = c.states.ensures.automaton;
+      least = c.in-Ok-own_in_mode.ensures.least;
+      places = c.in-Ok.places;
+      naming = c.in-Ok.ensures.naming;
+      variables = subst (λ map. made.variables ≡ distinct (renamed map own.variables)) c.slice.ensures c.in-Ok-rename.ensures.variables;
+      in_order = subst (λ map. Rises map → HasPartsOf own made) c.slice.ensures c.in-Ok-rename.ensures.same;
+      turned = subst (λ map. ¬ Rises map → ReachedAreAtLeast (length made.nodes + length made.states) And (beside_itself own (renamed_places map own.variables))) c.slice.ensures
+          c.in-Ok-rename.ensures.size;
+    }
 
 pub returns-clause-refused : goal.returns-clause-refused
 returns-clause-refused c =

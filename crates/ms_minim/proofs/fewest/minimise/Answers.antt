@@ -3,7 +3,7 @@ use Rattle.ms_dfa.specs.Automaton.{IsAutomaton, variables_of}
 use Rattle.ms_logic_words.specs.declared.sign.Sign.{Sign}
 use Rattle.ms_logic_words.specs.Content.{Content}
 use Rattle.ms_minim.specs.Reduced.{IsReducedOf, content_over}
-use Rattle.ms_minim.specs.Residual.{AreReached, HaveDifferentResiduals, HaveEqualSigns, HasFewestStates}
+use Rattle.ms_logic_words.specs.Residual.{AreReached, HaveDifferentResiduals, HaveEqualSigns, HasFewestStates}
 use Rattle.ms_dfa_explore.proofs.RunLemmas.{length-states_of}
 use Rattle.ms_minim.proofs.FewestLemmas.{IsAutomaton-reduced, content_is}
 use Rattle.ms_minim.proofs.ReadingLemmas.{read-own}

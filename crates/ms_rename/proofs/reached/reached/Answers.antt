@@ -1,5 +1,5 @@
 use Rattle.ms_rename.proofs.BesideLemmas.{beside_signs, beside_variables, own_orders}
-use Rattle.ms_rename.proofs.needed.reached.Goals as goal
+use Rattle.ms_rename.proofs.reached.reached.Goals as goal
 
 pub combine-requires-clause-orders : goal.combine-requires-clause-orders
 combine-requires-clause-orders c = own_orders c.args.a.now c.states.ensures.automaton
