@@ -24,8 +24,18 @@ find_program() {
     program=
 }
 
+# Large automata wait for the page table. Where the kernel gives huge pages to those who ask for them, the C library is told to ask,
+# unless the caller tells it something himself.
+ask_for_huge_pages() {
+    local modes=
+    [ -z "${GLIBC_TUNABLES+told}" ] || return 0
+    read -r modes 2>/dev/null </sys/kernel/mm/transparent_hugepage/enabled || return 0
+    case "$modes" in *'[madvise]'*) export GLIBC_TUNABLES=glibc.malloc.hugetlb=1 ;; esac
+}
+
 # Runs the program in the place of this process, or, where somebody looks, beside a line that shows how long it goes on.
 run_program() {
+    ask_for_huge_pages
     is_watched || exec "$program" "$@"
     run_with_clock memory "$program" "$@"
     [ "$status" -ne 1 ] || [ $# -eq 0 ] || hint
