@@ -14,7 +14,7 @@ use Rattle.ms_logic.specs.declared.mode.Mode.TheVariants.{Ws1s, M2lStr}
 use Rattle.ms_logic_core.specs.CoreForm.{Holds, basic}
 use Rattle.ms_logic_core.specs.declared.core_formula.Basic.{Basic}
 use Rattle.ms_logic_measures.specs.FullContent.{HasValueOn, IsFullContent}
-use Rattle.ms_logic_measures.proofs.Pigeonhole.{pigeonhole}
+use Rattle.std_collections.proofs.IndexTableLemmas.Probe.{pigeonhole}
 use Rattle.ms_logic_measures.proofs.Runs.{state_after-append}
 use Rattle.ms_logic_words.specs.Content.{Content, StateOf, first_state, sign_at, sign_of, state_after}
 use Rattle.ms_logic_words.specs.Word.{Encodes, HasLength}

@@ -17,3 +17,4 @@ pub mod RelationLemmas
 pub mod RenamingLemmas
 pub mod RisingNames
 pub mod Sides
+pub mod WideningLemmas

@@ -3,3 +3,4 @@ pub mod Products
 pub mod Projections
 pub mod Relations
 pub mod Renamings
+pub mod Widenings

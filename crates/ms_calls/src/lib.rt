@@ -7,6 +7,7 @@ mod fewest;
 mod projections;
 mod relations;
 mod renamings;
+mod widenings;
 
 pub use connectives::laws_of_connectives;
 pub use examples::worked_calls;
@@ -14,3 +15,4 @@ pub use fewest::laws_of_fewest_states;
 pub use projections::laws_of_projections;
 pub use relations::sizes_of_relations;
 pub use renamings::laws_of_renamings;
+pub use widenings::laws_of_widenings;

@@ -10,7 +10,7 @@ use Rattle.ms_dfa.specs.declared.plain.FileSign.{FileSign}
 use Rattle.ms_dfa.specs.declared.plain.Plain.{Plain}
 use Rattle.ms_logic.specs.Assignment.{Variable}
 use Rattle.ms_logic.specs.FiniteSet.{numbers_below}
-use Rattle.ms_logic_measures.proofs.Pigeonhole.{pigeonhole}
+use Rattle.std_collections.proofs.IndexTableLemmas.Probe.{pigeonhole}
 use Rattle.ms_logic_words.specs.Content.{AreLetters, Content, IsContent, IsWordOver, first_state, last_state, next_state, sign_at, state_after}
 use Rattle.ms_cert.specs.Certificate.{AreWordsTo, IsCertified, IsLineOver, Separates, Tree, branch, ends_in, is_sign, leaf, lines_of}
 use Rattle.ms_cert.specs.Laws.{HaveSameWords}

@@ -7,7 +7,7 @@ use Rattle.ms_arena.proofs.Lists.{slice_get-held}
 use Rattle.ms_dfa.specs.declared.plain.FileSign.{FileSign}
 use Rattle.ms_dfa.specs.declared.plain.FileSign.TheVariants.{Plus}
 use Rattle.ms_logic.specs.FiniteSet.{numbers_below}
-use Rattle.ms_logic_measures.proofs.Pigeonhole.{pigeonhole}
+use Rattle.std_collections.proofs.IndexTableLemmas.Probe.{pigeonhole}
 use Rattle.ms_logic_words.specs.Content.{AreLetters, Content}
 use Rattle.ms_cert.specs.declared.splitter.Splitter.{Splitter}
 use Rattle.ms_cert.specs.inner.Partition.{Classes, IsIn, IsParting, IsPartition, StemsFrom, is_split_off, one_class}

@@ -11,7 +11,7 @@ use Rattle.ms_dfafile_adopt.specs.Naming.{IsNaming}
 use Rattle.ms_dfafile_adopt.specs.inner.Map.{ArePlacesOf, IsEachThere, file_names, pair_names}
 use Rattle.ms_dfafile_adopt.proofs.MapLemmas.{IsNaming-by, names_there, one_place_of, orders_there, pairs_there}
 use Rattle.ms_logic.specs.declared.checked.MapPair.{MapPair}
-use Rattle.ms_logic_measures.proofs.Pigeonhole.{pigeonhole}
+use Rattle.std_collections.proofs.IndexTableLemmas.Probe.{pigeonhole}
 
 -- places of names that are each there
 there_more : (names : List (List ℕ)) (first : List ℕ) (wanted : List (List ℕ)) (place : ℕ) (places : List ℕ) → slice_get names place ≡ Some first

@@ -1,10 +1,9 @@
 -- A content that meets the rule has as many states as there are sets of its numbers: each set is that of a word, and no two of these
 -- words lead to one state. So there are few numbers.
-use Rattle.std.proofs.Common.{◌≡◌, ℕ, zero, suc, ◌+◌, ◌^◌, ◌/◌, ◌%◌, ◌<◌, ◌≤◌, ◌||◌, ⊎_elim, Bool, true, false, eqb, List, [], ◌∷◌, length, refl, sym, ap, subst, ◌∙◌, arith}
-use Rattle.std.specs.List.{AllByRecursion, IsDistinct, list_any}
-use Rattle.std.proofs.lemmas.Bool.{cases_eq, cases_lt, eq-eqb, ne_eqb, eqb-true}
-use Rattle.std.proofs.lemmas.Map.Steps.{length-le_from_distinct_below}
+use Rattle.std.proofs.Common.{◌≡◌, ℕ, ◌+◌, ◌^◌, ◌/◌, ◌%◌, ◌<◌, ◌≤◌, ⊎_elim, Bool, true, false, eqb, List, [], ◌∷◌, length, sym, ap, subst, ◌∙◌, arith}
+use Rattle.std.proofs.lemmas.Bool.{cases_eq, cases_lt, eq-eqb, ne_eqb}
 use Rattle.std.proofs.Math.Nat.{div-div-eq-div-mul, div-one, pow-le-pow_right}
+use Rattle.std_collections.proofs.IndexTableLemmas.Probe.{pigeonhole}
 use Rattle.ms_arena.specs.Diagram.{Bits, leaf_of}
 use Rattle.ms_arena.proofs.Lists.{slice_get-held}
 use Rattle.ms_dfa.proofs.GatheredLemmas.{length-gathered}
@@ -43,47 +42,6 @@ set_of-bits (One ∷ orders) set small =
     let first : one_if (eqb (set / 1 % 2) 1) ≡ set % 2 = ap (λ k. one_if (eqb (k % 2) 1)) (div-one set) ∙ one_if-odd (set % 2) (omega arith) in
     omega (arith, rest, first)
 set_of-bits (Two ∷ orders) set small = set_of-bits orders set small
-
--- the values of a function below a number
-values : (ℕ → ℕ) → ℕ → List ℕ
-values f zero = []
-values f (suc n) = f n ∷ values f n
-
-length-values : (f : ℕ → ℕ) (n : ℕ) → length (values f n) ≡ n
-unfolding values
-length-values f zero = refl
-length-values f (suc n) = let rest = length-values f n in omega (arith, rest)
-
-value-of : (f : ℕ → ℕ) (n q : ℕ) → list_any (eqb q) (values f n) ≡ true → (i : ℕ) × (i < n) × (q ≡ f i)
-unfolding values
-value-of f zero q found = let never : ⊥ = cc in absurd never
-value-of f (suc n) q found = by_test (eqb q (f n)) refl (λ rest. value-of f n q rest) found
-  where
-    by_test : (test : Bool) → eqb q (f n) ≡ test → (list_any (eqb q) (values f n) ≡ true → (i : ℕ) × (i < n) × (q ≡ f i)) → list_any (eqb q) (f n ∷ values f n) ≡ true
-        → (i : ℕ) × (i < suc n) × (q ≡ f i)
-    by_test true is later any = (n, omega arith, eqb-true q (f n) is)
-    by_test false is later any =
-        let rest : list_any (eqb q) (values f n) ≡ true = sym (ap (λ test. test || list_any (eqb q) (values f n)) is) ∙ any in
-        let at = later rest in (at.0, omega (arith, at.1), at.2)
-
-differ-values : (f : ℕ → ℕ) (n value : ℕ) → ((i : ℕ) → i < n → value ≡ f i → ⊥) → AllByRecursion (λ y. eqb value y ≡ false) (values f n)
-unfolding values
-differ-values f zero value differ = tt
-differ-values f (suc n) value differ = (ne_eqb value (f n) (differ n (omega arith)), differ-values f n value (λ i less. differ i (omega (arith, less))))
-
-distinct-values : (f : ℕ → ℕ) (n : ℕ) → ((i j : ℕ) → i < n → j < n → f i ≡ f j → i ≡ j) → IsDistinct eqb (values f n)
-unfolding values IsDistinct
-distinct-values f zero apart = tt
-distinct-values f (suc n) apart = (
-  differ-values f n (f n) (λ i less same. let own : n ≡ i = apart n i (omega arith) (omega (arith, less)) same in omega (arith, own, less)),
-  distinct-values f n (λ i j less_i less_j same. apart i j (omega (arith, less_i)) (omega (arith, less_j)) same),
-)
-
--- so many values below a bound, no two of them equal, are no more than the bound
-pigeonhole : (f : ℕ → ℕ) (n m : ℕ) → ((i : ℕ) → i < n → f i < m) → ((i j : ℕ) → i < n → j < n → f i ≡ f j → i ≡ j) → n ≤ m
-pigeonhole f n m below apart =
-    subst (λ k. k ≤ m) (length-values f n) (length-le_from_distinct_below (values f n) m (distinct-values f n apart)
-    (λ q found. let at = value-of f n q found in subst (λ v. v < m) (sym at.2) (below at.0 at.1)))
 
 module _ (content : Content FileSign) (rules : IsContent content) (rising : AreRising content.variables) (marks : MarksOutside content) where
   -- the word of one letter whose ones are these numbers
@@ -125,5 +83,5 @@ module _ (content : Content FileSign) (rules : IsContent content) (rising : AreR
   pub few-numbers : length content.states < 2 ^ 32 → numbers_in (orders_in content) < 32
   few-numbers few =
       let n = numbers_in (orders_in content) in
-      let enough = pigeonhole (λ set. last_state content (word_of_set set)) (2 ^ n) (length content.states) (λ set less. last-below set) sets-apart in
+      let enough = pigeonhole (2 ^ n) (length content.states) (λ set. last_state content (word_of_set set)) (λ set less. last-below set) sets-apart in
       ⊎_elim (λ less. less) (λ many. let power : 2 ^ 32 ≤ 2 ^ n = pow-le-pow_right (omega arith) many in absurd (omega (arith, few, enough, power))) (cases_lt n 32)

@@ -6,7 +6,7 @@ use Rattle.std.proofs.lemmas.List.{get_or_default}
 use Rattle.std.proofs.lemmas.List.Elements.{All-from_recursion}
 use Rattle.ms_logic_measures.specs.CallMeasures.{IsNumberOf}
 use Rattle.ms_logic_measures.proofs.Counting.{not_0_1, of_each_pair}
-use Rattle.ms_logic_measures.proofs.Pigeonhole.{pigeonhole}
+use Rattle.std_collections.proofs.IndexTableLemmas.Probe.{pigeonhole}
 use Rattle.ms_logic_counts.specs.Counts.{AreCounted, IsFiniteLabelling}
 use Rattle.ms_logic_counts.specs.inner.Examples.{AreEqual, HaveOneRemainder, IsBelow, IsNumber, remainder}
 

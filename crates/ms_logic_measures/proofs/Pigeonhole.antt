@@ -1,49 +1,9 @@
 -- Two counts of the same things are equal, by the pigeonhole principle.
-use Rattle.std.proofs.Common.{◌≡◌, ℕ, zero, suc, ◌<◌, ◌≤◌, ◌⊎◌, inl, inr, ⊎_elim, Bool, true, false, cond, eqb, List, [], ◌∷◌, length, slice_index_or, All, Any, AllPairs, refl, sym, subst, ◌∙◌, arith}
-use Rattle.std.proofs.lemmas.Bool.{cases_lt, cases_order, eqb-true, eqb-false}
+use Rattle.std.proofs.Common.{◌≡◌, ℕ, ◌<◌, ◌≤◌, ◌⊎◌, inl, inr, ⊎_elim, List, [], ◌∷◌, length, slice_index_or, All, Any, AllPairs, sym, subst, ◌∙◌, arith}
+use Rattle.std.proofs.lemmas.Bool.{cases_lt, cases_order}
 use Rattle.std.proofs.lemmas.List.{get_or_default}
 use Rattle.ms_logic_measures.specs.CallMeasures.{IsNumberOf}
-
--- a number, with another in the place of the highest
-abbrev moved : ℕ → ℕ → ℕ → ℕ
-moved top value item = cond (eqb item top) value item
-
-moved_cases : (top value item : ℕ) → ((item ≡ top) × (moved top value item ≡ value)) ⊎ ((item ≡ top → ⊥) × (moved top value item ≡ item))
-moved_cases top value item = by_test (eqb item top) refl
-  where
-    by_test : (test : Bool) → eqb item top ≡ test → ((item ≡ top) × (cond test value item ≡ value)) ⊎ ((item ≡ top → ⊥) × (cond test value item ≡ item))
-    by_test true is = inl (eqb-true item top is, refl)
-    by_test false is = inr (eqb-false item top is, refl)
-
--- n numbers below m that differ are no more than m
-pub pigeonhole : (n m : ℕ) (f : ℕ → ℕ) → ((i : ℕ) → i < n → f i < m) → ((i j : ℕ) → i < n → j < n → f i ≡ f j → i ≡ j) → n ≤ m
-pigeonhole zero m f below apart = omega arith
-pigeonhole (suc n) zero f below apart = let never = below n (omega arith) in absurd (omega (arith, never))
-pigeonhole (suc n) (suc m) f below apart = let others = pigeonhole n m (λ i. moved m (f n) (f i)) below_last apart_still in omega (arith, others)
-  where
-    last : f n < suc m
-    last = below n (omega arith)
-
-    differs : (i : ℕ) → i < n → f i ≡ f n → ⊥
-    differs i less same = let own = apart i n (omega (arith, less)) (omega arith) same in omega (arith, own, less)
-
-    below_last : (i : ℕ) → i < n → moved m (f n) (f i) < m
-    below_last i less = ⊎_elim
-        (λ top. let differ = differs i less in let less_last : f n < m = ⊎_elim (λ under. under) (λ over. absurd (differ (omega (arith, top.0, last, over)))) (cases_lt (f n) m) in omega (arith, top.1, less_last))
-        (λ other. let under : f i < m = ⊎_elim (λ under. under) (λ over. let here = below i (omega (arith, less)) in absurd (other.0 (omega (arith, here, over)))) (cases_lt (f i) m) in omega (arith, other.1, under))
-        (moved_cases m (f n) (f i))
-
-    apart_still : (i j : ℕ) → i < n → j < n → moved m (f n) (f i) ≡ moved m (f n) (f j) → i ≡ j
-    apart_still i j less_i less_j same = ⊎_elim
-        (λ one. ⊎_elim
-        (λ two. apart i j (omega (arith, less_i)) (omega (arith, less_j)) (one.0 ∙ sym two.0))
-        (λ two. absurd (differs j less_j (sym two.1 ∙ (sym same ∙ one.1))))
-        (moved_cases m (f n) (f j)))
-        (λ one. ⊎_elim
-        (λ two. absurd (differs i less_i (sym one.1 ∙ (same ∙ two.1))))
-        (λ two. apart i j (omega (arith, less_i)) (omega (arith, less_j)) (sym one.1 ∙ (same ∙ two.1)))
-        (moved_cases m (f n) (f j)))
-        (moved_cases m (f n) (f i))
+use Rattle.std_collections.proofs.IndexTableLemmas.Probe.{pigeonhole}
 
 module _ {A : Type 0} (AreAlike : A → A → Type 0) (IsItem : A → Type 0) (symmetric : (one other : A) → AreAlike one other → AreAlike other one)
     (transitive : (one two three : A) → AreAlike one two → AreAlike two three → AreAlike one three) where

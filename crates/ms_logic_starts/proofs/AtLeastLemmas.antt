@@ -4,7 +4,7 @@ use Rattle.std.proofs.Math.Nat.{mul-le-mul_right}
 use Rattle.std.proofs.lemmas.Bool.{cases_lt, cases_order}
 use Rattle.std.proofs.lemmas.List.{get_or_default}
 use Rattle.ms_logic_measures.specs.CallMeasures.{IsNumberOf}
-use Rattle.ms_logic_measures.proofs.Pigeonhole.{pigeonhole}
+use Rattle.std_collections.proofs.IndexTableLemmas.Probe.{pigeonhole}
 use Rattle.ms_logic_starts.specs.AtLeast.{IsAtLeastNumber, IsEquivalence, IsLabelling}
 
 module _ (n m : ℕ) (R : ℕ → ℕ → Type 0) (choose : (i : ℕ) → i < n → (v : ℕ) × (v < m) × R i v) where

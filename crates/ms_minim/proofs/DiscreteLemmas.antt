@@ -17,7 +17,7 @@ use Rattle.ms_minim.specs.inner.Origin.{AreOrigins}
 use Rattle.ms_minim.specs.inner.Partition.{IsIdentity, HaveOneClass, IsInhabited, IsPartition, AreNerodeClasses, next_by}
 use Rattle.ms_minim.specs.SignReading.{IsRead}
 use Rattle.ms_minim.proofs.OriginLemmas.{comes_leaves}
-use Rattle.ms_minim.proofs.Pigeonhole.{pigeonhole}
+use Rattle.std_collections.proofs.IndexTableLemmas.Probe.{pigeonhole}
 
 -- one number more
 pub IsIdentity-more : (numbers : List ℕ) (count : ℕ) → IsIdentity count numbers → IsIdentity (count + 1) (numbers ++ count ∷ [])

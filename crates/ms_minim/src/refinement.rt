@@ -14,7 +14,7 @@ use crate::splitting::split;
 use ms_list::{List, NoMemory, push};
 use std::alloc::Global;
 
-/// How many passes over all states are tried before classes are split where few states lead elsewhere.
+/// How many passes that split little are made over all states before classes are split where few states lead elsewhere.
 const PASSES: u32 = 16;
 
 /// All of so many states in one class.
@@ -83,21 +83,26 @@ fn split_once(
     Ok(Pass { images, finer })
 }
 
-/// Classes that passes have come to. After so many of them they are split too by what `group` makes of them, which goes on
-/// where few states lead elsewhere.
+/// Whether a pass has come to less than half as many classes again. All others together are few, however many states there are.
+fn splits_little(before: usize, after: usize) -> bool {
+    after.saturating_sub(before) < before / 2
+}
+
+/// Classes that passes have come to. Where it is due they are split too by what `group` makes of them, which goes on where few
+/// states lead elsewhere.
 fn regrouped(
     alloc: Global,
     automaton: &Reader,
     places: &[u32],
     partition: Partition,
-    passes: u32,
+    is_due: bool,
 ) -> Result<Partition, NoMemory>
     requires places { IsIdentity (length automaton.now.variables) places.now }
     requires partition { IsPartition automaton.now partition.classes partition.members }
     ensures partition { IfOk result (λ made. IsPartition automaton.now made.classes made.members) }
     ensures more { IfOk result (λ made. length partition.members ≤ length made.members) }
 {
-    if passes != PASSES {
+    if !is_due {
         return Ok(partition);
     }
     // The states tell that it is an automaton.
@@ -161,7 +166,9 @@ pub(crate) fn refine(
         if finer.members.len() == partition.members.len() {
             return Ok(Residuals { partition, images });
         }
-        passes = passes.saturating_add(1);
-        partition = regrouped(alloc, automaton, places, finer, passes)?;
+        let is_slow = splits_little(partition.members.len(), finer.members.len());
+        passes = passes.saturating_add(u32::from(is_slow));
+        let is_due = is_slow && passes == PASSES;
+        partition = regrouped(alloc, automaton, places, finer, is_due)?;
     }
 }

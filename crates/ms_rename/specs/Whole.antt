@@ -1,5 +1,5 @@
 -- What holds at each assignment of some variables.
-use Rattle.std.specs.Prelude.{◌≡◌, ◌≢◌, ◌≤◌, ◌+◌, List, length}
+use Rattle.std.specs.Prelude.{◌≡◌, ◌≢◌, ℕ, ◌≤◌, ◌+◌, List, length}
 use Rattle.ms_logic.specs.declared.mode.Order.TheVariants.{One}
 use Rattle.ms_logic_words.specs.declared.sign.Sign.{Sign}
 use Rattle.ms_logic_words.specs.declared.sign.Sign.TheVariants.{Yes}
@@ -8,6 +8,8 @@ use Rattle.ms_logic_words.specs.Content.{Content}
 use Rattle.ms_dfa.specs.Automaton.{IsAutomaton}
 use Rattle.ms_dfa.specs.Values.{Meaning, HasValues}
 use Rattle.ms_logic.specs.Lists.{IsAmong}
+use Rattle.ms_product.specs.Pairing.{ReachedAreAtLeast, operands_of}
+use Rattle.ms_product.specs.declared.op.Op.TheVariants.{And}
 
 -- Yes is right everywhere
 abbrev pub always : Meaning
@@ -27,3 +29,7 @@ pub record IsSmallWhole (vs : List Variable) (content : Content Sign) : Type 0 w
 -- none of the variables is a number
 abbrev pub HasNoNumber : List Variable → Type 0
 HasNoNumber vs = (v : Variable) → IsAmong vs v → v.order ≢ One
+
+-- beside such an automaton over these variables the content needs, of pairs of states that are reached, at least so many states and nodes
+abbrev pub ReachedBesideWhole : ℕ → List Variable → Content Sign → Type 0
+ReachedBesideWhole count vs content = (other : Content Sign) × IsSmallWhole vs other × ReachedAreAtLeast count And (operands_of content other)

@@ -1,5 +1,5 @@
-ghost use Rattle.std.specs.Prelude.{◌≡◌, if◌then◌else◌, map, IfOk};
-ghost use Rattle.ms_arena.specs.Diagram.{Bits, IsValid, leaf_of};
+ghost use Rattle.std.specs.Prelude.{◌≡◌, if◌then◌else◌, map, IfOk, IsTrue};
+ghost use Rattle.ms_arena.specs.Diagram.{Bits, IsValid, TestsAbove, leaf_of};
 ghost use Rattle.ms_arena.specs.Target.{Extends};
 ghost use Rattle.ms_diagram.specs.Store.{IsStore};
 ghost use Rattle.ms_rename.specs.inner.Choice.{choice_of};
@@ -32,7 +32,19 @@ fn choices(alloc: Global, pairs: &Pairs, ends: &Pairs) -> Result<List<u32>, NoMe
     Ok(made)
 }
 
-/// The function that is `low` where the bit of the variable is 0, and `high` where it is 1. These may test any variables.
+/// Whether a reference tests only variables above this one.
+fn tests_above(store: &Store, var: u32, reference: Ref) -> bool
+    requires { IsValid store.now.nodes reference }
+    ensures { IsTrue result → TestsAbove store.now.nodes var reference }
+{
+    match reference {
+        Ref::Leaf(_) => true,
+        Ref::Inner(place) => var < store.node(place).var,
+    }
+}
+
+/// The function that is `low` where the bit of the variable is 0, and `high` where it is 1. These may test any variables: where
+/// they test only later ones it is one node, else it is built of the pairs of what the three come to.
 pub(crate) fn choose(
     alloc: Global,
     store: &mut Store,
@@ -48,6 +60,9 @@ pub(crate) fn choose(
     ensures function { IfOk result (λ made. (bits : Bits) → leaf_of store.new.nodes made bits
         ≡ (if bits var then leaf_of store.old.nodes high bits else leaf_of store.old.nodes low bits)) }
 {
+    if tests_above(store, var, low) && tests_above(store, var, high) {
+        return store.mk(var, low, high);
+    }
     let test = match store.mk(var, Ref::Leaf(0), Ref::Leaf(1)) {
         Ok(test) => test,
         Err(fault) => return Err(fault),

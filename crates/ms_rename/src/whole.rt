@@ -8,7 +8,7 @@ ghost use Rattle.ms_dfa_explore.specs.Explored.{OnRefused};
 ghost use Rattle.ms_dfa_explore.specs.Tracks.{merged};
 ghost use Rattle.ms_product.specs.Combined.{HaveEqualOrders};
 ghost use Rattle.ms_product.specs.Pairing.{AreAtLeast, operands_of};
-ghost use Rattle.ms_rename.specs.Whole.{HasNoNumber, IsSmallWhole};
+ghost use Rattle.ms_rename.specs.Whole.{HasNoNumber, IsSmallWhole, ReachedBesideWhole};
 
 use crate::tracks;
 use ms_arena::Ref;
@@ -99,8 +99,10 @@ pub fn widen(alloc: Global, a: &Automaton, track: Track, limit: u64) -> Result<A
     ensures variables { IfOk result (λ made. made.variables ≡ merged a.now.variables (variable_of track ∷ [])) }
     ensures values { IfOk result (HasValues (own_meaning a.now)) }
     ensures within { IfOk result (λ made. length made.nodes + length made.states ≤ limit) }
+    ensures size { IfOk result (λ made. ReachedBesideWhole (length made.nodes + length made.states) (variable_of track ∷ []) a.now) }
     ensures nodes { OnRefused result (λ refused. (refused ≡ limit)
         × ((limit < 32) ⊎ ((other : Content Sign) × IsSmallWhole (variable_of track ∷ []) other × AreAtLeast limit Op.And (operands_of a.now other)))) }
+    ensures reached_nodes { OnRefused result (λ refused. (limit < 32) ⊎ ReachedBesideWhole limit (variable_of track ∷ []) a.now) }
 {
     // The numbers of states tell that these are automata.
     let _ = a.states();
@@ -128,8 +130,10 @@ pub fn widen_all(
     ensures variables { IfOk result (λ made. made.variables ≡ merged a.now.variables (variables_of tracks.now)) }
     ensures values { IfOk result (HasValues (own_meaning a.now)) }
     ensures within { IfOk result (λ made. length made.nodes + length made.states ≤ limit) }
+    ensures size { IfOk result (λ made. ReachedBesideWhole (length made.nodes + length made.states) (variables_of tracks.now) a.now) }
     ensures nodes { OnRefused result (λ refused. (refused ≡ limit)
         × ((other : Content Sign) × IsSmallWhole (variables_of tracks.now) other × AreAtLeast limit Op.And (operands_of a.now other))) }
+    ensures reached_nodes { OnRefused result (λ refused. ReachedBesideWhole limit (variables_of tracks.now) a.now) }
 {
     // The numbers of states tell that these are automata.
     let _ = a.states();
