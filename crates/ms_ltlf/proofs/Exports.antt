@@ -1,87 +1,79 @@
 -- A translation exports nothing.
-use Rattle.std.proofs.Common.{◌≡◌, ℕ, ◌+◌, List, [], ◌++◌, refl, ◌∙◌, ap}
-use Rattle.ms_logic_core.specs.Roots.{Export}
-use Rattle.ms_logic_core.specs.Roots as roots
-use Rattle.ms_names_rules.specs.Numbers.{exports_in, exports_in_all}
-use Rattle.ms_names_checked.specs.Exports.{HasExportsInPlace, HaveExportsInPlace}
+use Rattle.std.proofs.Common.{ℕ, ◌+◌, refl}
+use Rattle.ms_logic.specs.declared.mode.Order.TheVariants.{One}
+use Rattle.ms_logic.specs.declared.mode.Quant.TheVariants.{Ex, All}
+use Rattle.ms_logic.specs.declared.mode.Rel.{Rel}
+use Rattle.ms_logic.specs.declared.mode.Rel.TheVariants.{Equal, Less, AtMost}
+use Rattle.ms_logic.specs.Lists.{Each}
+use Rattle.ms_logic.specs.Tree.{Form, Term, number_variable, numeral, plus, comparison}
+use Rattle.ms_logic.specs.Tree as string
 use Rattle.ms_ltlf.specs.Tree.{Temporal, truth, falsity, proposition, brackets, negation, conjunction, disjunction, implication, equivalence, next, weak_next, eventually, always, until, release, Temporals, no_temporals, more_temporals}
-use Rattle.ms_ltlf.specs.Strings.{string_form, string_forms}
+use Rattle.ms_ltlf.specs.Source.{string_formulas}
+use Rattle.ms_ltlf.specs.Strings.{at_most, between, exists, every, follows, freed_at, kept_at, string_form, string_forms}
+use Rattle.ms_translation.specs.Parts.{less, three, two}
+use Rattle.ms_translation.proofs.Exports.{ExportsNothing, ExportNothing, none-in-none, none-in-more, none-in-two, none-in-three, none-in-negation, none-in-conjunction, none-in-disjunction, none-in-implication, none-in-equivalence, none-in-body}
 
--- two empty lists, and one with nothing behind it
-none-of-two : {A : Type 0} (left right : List A) → left ≡ [] → right ≡ [] → left ++ right ≡ []
-none-of-two left right one other = ap (λ es. es ++ right) one ∙ other
+none-in-comparison : (r : Rel) (t u : Term) → ExportsNothing (comparison r t u)
+none-in-comparison r t u = record { numbers = refl; exports = refl; in_place = tt }
 
-none-behind : {A : Type 0} (left : List A) → left ≡ [] → left ++ [] ≡ []
-none-behind left one = none-of-two left [] one refl
+none-in-order : (x y : ℕ) → ExportsNothing (at_most x y)
+none-in-order x y = none-in-comparison AtMost (number_variable x) (number_variable y)
 
-mutual
-  pub no-numbers : (f : Temporal) (x : ℕ) → exports_in (string_form f x) ≡ []
-  no-numbers truth x = refl
-  no-numbers falsity x = refl
-  no-numbers (proposition p) x = refl
-  no-numbers (brackets f) x = no-numbers f x
-  no-numbers (negation f) x = no-numbers f x
-  no-numbers (conjunction fs) x = no-numbers-of-all fs x
-  no-numbers (disjunction fs) x = no-numbers-of-all fs x
-  no-numbers (implication f g) x = none-of-two (exports_in (string_form f x)) (exports_in (string_form g x)) (no-numbers f x) (no-numbers g x)
-  no-numbers (equivalence f g) x = none-of-two (exports_in (string_form f x)) (exports_in (string_form g x)) (no-numbers f x) (no-numbers g x)
-  no-numbers (next f) x = none-behind (exports_in (string_form f (x + 1))) (no-numbers f (x + 1))
-  no-numbers (weak_next f) x = no-numbers f (x + 1)
-  no-numbers (eventually f) x = none-behind (exports_in (string_form f (x + 1))) (no-numbers f (x + 1))
-  no-numbers (always f) x = no-numbers f (x + 1)
-  no-numbers (until f g) x =
-      none-of-two (exports_in (string_form g (x + 1))) (exports_in (string_form f (x + 2)) ++ []) (no-numbers g (x + 1)) (none-behind (exports_in (string_form f (x + 2))) (no-numbers f (x + 2)))
-  no-numbers (release f g) x =
-      none-of-two (exports_in (string_form g (x + 1))) ((exports_in (string_form f (x + 2)) ++ []) ++ []) (no-numbers g (x + 1))
-      (none-behind (exports_in (string_form f (x + 2)) ++ []) (none-behind (exports_in (string_form f (x + 2))) (no-numbers f (x + 2))))
+none-before : (x y : ℕ) → ExportsNothing (less x y)
+none-before x y = none-in-comparison Less (number_variable x) (number_variable y)
 
-  no-numbers-of-all : (fs : Temporals) (x : ℕ) → exports_in_all (string_forms fs x) ≡ []
-  no-numbers-of-all no_temporals x = refl
-  no-numbers-of-all (more_temporals f fs) x = none-of-two (exports_in (string_form f x)) (exports_in_all (string_forms fs x)) (no-numbers f x) (no-numbers-of-all fs x)
+none-behind : (x y : ℕ) → ExportsNothing (follows x y)
+none-behind x y = none-in-comparison Equal (number_variable y) (plus (number_variable x) 1)
 
-mutual
-  pub no-exports : (f : Temporal) (x : ℕ) → roots.exports_in (string_form f x) ≡ []
-  no-exports truth x = refl
-  no-exports falsity x = refl
-  no-exports (proposition p) x = refl
-  no-exports (brackets f) x = no-exports f x
-  no-exports (negation f) x = no-exports f x
-  no-exports (conjunction fs) x = no-exports-of-all fs x
-  no-exports (disjunction fs) x = no-exports-of-all fs x
-  no-exports (implication f g) x = none-of-two (roots.exports_in (string_form f x)) (roots.exports_in (string_form g x)) (no-exports f x) (no-exports g x)
-  no-exports (equivalence f g) x = none-of-two (roots.exports_in (string_form f x)) (roots.exports_in (string_form g x)) (no-exports f x) (no-exports g x)
-  no-exports (next f) x = none-behind (roots.exports_in (string_form f (x + 1))) (no-exports f (x + 1))
-  no-exports (weak_next f) x = no-exports f (x + 1)
-  no-exports (eventually f) x = none-behind (roots.exports_in (string_form f (x + 1))) (no-exports f (x + 1))
-  no-exports (always f) x = no-exports f (x + 1)
-  no-exports (until f g) x =
-      none-of-two (roots.exports_in (string_form g (x + 1))) (roots.exports_in (string_form f (x + 2)) ++ []) (no-exports g (x + 1)) (none-behind (roots.exports_in (string_form f (x + 2))) (no-exports f (x + 2)))
-  no-exports (release f g) x =
-      none-of-two (roots.exports_in (string_form g (x + 1))) ((roots.exports_in (string_form f (x + 2)) ++ []) ++ []) (no-exports g (x + 1))
-      (none-behind (roots.exports_in (string_form f (x + 2)) ++ []) (none-behind (roots.exports_in (string_form f (x + 2))) (no-exports f (x + 2))))
+-- at some position of a kind, and at each
+none-in-some : (x : ℕ) (f g : Form) → ExportsNothing f → ExportsNothing g → ExportsNothing (exists x (string.conjunction (two f g)))
+none-in-some x f g one other = none-in-body Ex One x (string.conjunction (two f g)) (none-in-conjunction (two f g) (none-in-two f g one other))
 
-  no-exports-of-all : (fs : Temporals) (x : ℕ) → roots.exports_among (string_forms fs x) ≡ []
-  no-exports-of-all no_temporals x = refl
-  no-exports-of-all (more_temporals f fs) x = none-of-two (roots.exports_in (string_form f x)) (roots.exports_among (string_forms fs x)) (no-exports f x) (no-exports-of-all fs x)
+none-in-all-of : (x : ℕ) (f g h : Form) → ExportsNothing f → ExportsNothing g → ExportsNothing h → ExportsNothing (exists x (string.conjunction (three f g h)))
+none-in-all-of x f g h one other third = none-in-body Ex One x (string.conjunction (three f g h)) (none-in-conjunction (three f g h) (none-in-three f g h one other third))
+
+none-in-each : (x : ℕ) (f g : Form) → ExportsNothing f → ExportsNothing g → ExportsNothing (every x (string.implication f g))
+none-in-each x f g one other = none-in-body All One x (string.implication f g) (none-in-implication f g one other)
+
+none-kept : (x : ℕ) (f : Form) → ExportsNothing f → ExportsNothing (kept_at x f)
+none-kept x f one =
+    none-in-each (x + 2) (between x) f
+    (none-in-conjunction (two (at_most x (x + 2)) (less (x + 2) (x + 1))) (none-in-two (at_most x (x + 2)) (less (x + 2) (x + 1)) (none-in-order x (x + 2)) (none-before (x + 2) (x + 1)))) one
+
+none-freed : (x : ℕ) (f : Form) → ExportsNothing f → ExportsNothing (freed_at x f)
+none-freed x f one = none-in-all-of (x + 2) (at_most x (x + 2)) (less (x + 2) (x + 1)) f (none-in-order x (x + 2)) (none-before (x + 2) (x + 1)) one
 
 mutual
-  pub none-out-of-place : (f : Temporal) (x : ℕ) → HasExportsInPlace (string_form f x)
-  none-out-of-place truth x = tt
-  none-out-of-place falsity x = tt
-  none-out-of-place (proposition p) x = tt
-  none-out-of-place (brackets f) x = none-out-of-place f x
-  none-out-of-place (negation f) x = none-out-of-place f x
-  none-out-of-place (conjunction fs) x = none-of-all-out-of-place fs x
-  none-out-of-place (disjunction fs) x = none-of-all-out-of-place fs x
-  none-out-of-place (implication f g) x = (none-out-of-place f x, none-out-of-place g x)
-  none-out-of-place (equivalence f g) x = (none-out-of-place f x, none-out-of-place g x)
-  none-out-of-place (next f) x = (refl, (tt, (none-out-of-place f (x + 1), tt)))
-  none-out-of-place (weak_next f) x = (refl, (tt, none-out-of-place f (x + 1)))
-  none-out-of-place (eventually f) x = (refl, (tt, (none-out-of-place f (x + 1), tt)))
-  none-out-of-place (always f) x = (refl, (tt, none-out-of-place f (x + 1)))
-  none-out-of-place (until f g) x = (refl, (tt, (none-out-of-place g (x + 1), ((refl, ((tt, (tt, tt)), none-out-of-place f (x + 2))), tt))))
-  none-out-of-place (release f g) x = (refl, (tt, (none-out-of-place g (x + 1), ((refl, (tt, (tt, (none-out-of-place f (x + 2), tt)))), tt))))
+  exports-nothing : (f : Temporal) (x : ℕ) → ExportsNothing (string_form f x)
+  exports-nothing truth x = record { numbers = refl; exports = refl; in_place = tt }
+  exports-nothing falsity x = record { numbers = refl; exports = refl; in_place = tt }
+  exports-nothing (proposition p) x = record { numbers = refl; exports = refl; in_place = tt }
+  exports-nothing (brackets f) x = exports-nothing f x
+  exports-nothing (negation f) x = none-in-negation (string_form f x) (exports-nothing f x)
+  exports-nothing (conjunction fs) x = none-in-conjunction (string_forms fs x) (export-nothing fs x)
+  exports-nothing (disjunction fs) x = none-in-disjunction (string_forms fs x) (export-nothing fs x)
+  exports-nothing (implication f g) x = none-in-implication (string_form f x) (string_form g x) (exports-nothing f x) (exports-nothing g x)
+  exports-nothing (equivalence f g) x = none-in-equivalence (string_form f x) (string_form g x) (exports-nothing f x) (exports-nothing g x)
+  exports-nothing (next f) x = none-in-some (x + 1) (follows x (x + 1)) (string_form f (x + 1)) (none-behind x (x + 1)) (exports-nothing f (x + 1))
+  exports-nothing (weak_next f) x = none-in-each (x + 1) (follows x (x + 1)) (string_form f (x + 1)) (none-behind x (x + 1)) (exports-nothing f (x + 1))
+  exports-nothing (eventually f) x = none-in-some (x + 1) (at_most x (x + 1)) (string_form f (x + 1)) (none-in-order x (x + 1)) (exports-nothing f (x + 1))
+  exports-nothing (always f) x = none-in-each (x + 1) (at_most x (x + 1)) (string_form f (x + 1)) (none-in-order x (x + 1)) (exports-nothing f (x + 1))
+  exports-nothing (until f g) x =
+      let kept = kept_at x (string_form f (x + 2)) in
+      none-in-all-of (x + 1) (at_most x (x + 1)) (string_form g (x + 1)) kept (none-in-order x (x + 1)) (exports-nothing g (x + 1)) (none-kept x (string_form f (x + 2)) (exports-nothing f (x + 2)))
+  exports-nothing (release f g) x =
+      let there = string_form g (x + 1) in
+      let freed = freed_at x (string_form f (x + 2)) in
+      none-in-each (x + 1) (at_most x (x + 1)) (string.disjunction (two there freed)) (none-in-order x (x + 1))
+      (none-in-disjunction (two there freed) (none-in-two there freed (exports-nothing g (x + 1)) (none-freed x (string_form f (x + 2)) (exports-nothing f (x + 2)))))
 
-  none-of-all-out-of-place : (fs : Temporals) (x : ℕ) → HaveExportsInPlace (string_forms fs x)
-  none-of-all-out-of-place no_temporals x = tt
-  none-of-all-out-of-place (more_temporals f fs) x = (none-out-of-place f x, none-of-all-out-of-place fs x)
+  export-nothing : (fs : Temporals) (x : ℕ) → ExportNothing (string_forms fs x)
+  export-nothing no_temporals x = none-in-none
+  export-nothing (more_temporals f fs) x = none-in-more (string_form f x) (string_forms fs x) (exports-nothing f x) (export-nothing fs x)
+
+-- nor does its source
+pub none-exported : (f : Temporal) (x : ℕ) → Each ExportsNothing (string_formulas x f)
+none-exported f x =
+    let first = comparison Equal (number_variable x) (numeral 0) in
+    let whole = none-in-some x first (string_form f x) (none-in-comparison Equal (number_variable x) (numeral 0)) (exports-nothing f x) in
+    (record { numbers = refl; exports = refl; in_place = (refl, tt) }, (whole, tt))

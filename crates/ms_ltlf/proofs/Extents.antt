@@ -1,13 +1,14 @@
 -- The source of strings is at most 5 times as deep as a formula and 14 times as large, and a little more.
-use Rattle.std.proofs.Common.{◌≡◌, ℕ, ◌+◌, ◌*◌, ◌≤◌, suc, List, [], ◌∷◌, ◌++◌, length, map, refl, ap, subst, arith}
+use Rattle.std.proofs.Common.{ℕ, ◌+◌, ◌*◌, ◌≤◌, List, ◌++◌, length, ap, subst, arith}
 use Rattle.ms_logic.specs.declared.checked.Checked.{Checked}
 use Rattle.ms_logic.specs.Verdict.{Problem}
-use Rattle.ms_logic.specs.View.{Answers, globals_from, problem_of}
-use Rattle.ms_logic_core.specs.Size.{Extents, depth_of_source, extent_under, extents_of_each, extents_of_restrictions, greatest_depth, no_extents, size_of_source, total_size}
+use Rattle.ms_logic.specs.View.{Answers, problem_of}
+use Rattle.ms_logic_core.specs.Size.{Extents, depth_of_source, extent_under, extents_of_each, greatest_depth, no_extents, size_of_source, total_size}
 use Rattle.ms_ltlf.specs.Tree.{Temporal, truth, falsity, proposition, brackets, negation, conjunction, disjunction, implication, equivalence, next, weak_next, eventually, always, until, release, Temporals, no_temporals, more_temporals, depth, depth_of_all, size, size_of_all}
-use Rattle.ms_ltlf.specs.Source.{IsStringSource, global_of, string_problem}
+use Rattle.ms_ltlf.specs.Source.{IsStringSource, string_problem}
 use Rattle.ms_ltlf.specs.Strings.{string_form, string_forms}
 use Rattle.ms_ltlf.proofs.Sources.{problem-same}
+use Rattle.ms_translation.proofs.Globals.{count-globals, restrictions-have-no-parts}
 
 depth-positive : (f : Temporal) → 1 ≤ depth f
 depth-positive truth = omega arith
@@ -71,22 +72,14 @@ module _ (E : Extents) where
     all-large no_temporals x = omega arith
     all-large (more_temporals f fs) x = omega (arith, large f x, all-large fs x)
 
-  no-parts : (names : List (List ℕ)) (from : ℕ) → extents_of_restrictions E (globals_from from (map global_of names)) ≡ []
-  no-parts [] from = refl
-  no-parts (name ∷ names) from = no-parts names (from + 1)
-
-count-globals : (names : List (List ℕ)) (from : ℕ) → length (globals_from from (map global_of names)) ≡ length names
-count-globals [] from = refl
-count-globals (name ∷ names) from = ap suc (count-globals names (from + 1))
-
 module _ (names : List (List ℕ)) (f : Temporal) where
   source-deep : depth_of_source (string_problem names f) ≤ 5 * depth f + 3
   source-deep =
-      omega (arith, ap (λ es. greatest_depth (es ++ extents_of_each no_extents (string_problem names f).formulas)) (no-parts no_extents names 0), deep no_extents f (length names), depth-positive f)
+      omega (arith, ap (λ es. greatest_depth (es ++ extents_of_each no_extents (string_problem names f).formulas)) (restrictions-have-no-parts no_extents names 0), deep no_extents f (length names), depth-positive f)
 
   source-large : size_of_source (string_problem names f) ≤ 14 * size f + length names + 11
   source-large =
-      omega (arith, ap (λ es. total_size (es ++ extents_of_each no_extents (string_problem names f).formulas)) (no-parts no_extents names 0), large no_extents f (length names), count-globals names 0)
+      omega (arith, ap (λ es. total_size (es ++ extents_of_each no_extents (string_problem names f).formulas)) (restrictions-have-no-parts no_extents names 0), large no_extents f (length names), count-globals names 0)
 
 -- for whatever is made as the source says
 

@@ -1,27 +1,20 @@
 -- A formula of strings beside the demand for a position.
-use Rattle.std.proofs.Common.{◌≡◌, ℕ, ◌<◌, ◌↔◌, [], inl, inr, ⊎_elim, Some, refl, arith}
+use Rattle.std.proofs.Common.{◌≡◌, ℕ, ◌<◌, ◌↔◌, inl, inr, ⊎_elim, Some, refl, arith}
 use Rattle.ms_logic.specs.declared.assignment.Value.TheVariants.{Number}
 use Rattle.ms_logic.specs.declared.mode.Order.TheVariants.{One}
 use Rattle.ms_logic.specs.declared.mode.Rel.TheVariants.{Equal}
 use Rattle.ms_logic.specs.Assignment.{Env, IsValueOf, assign}
 use Rattle.ms_logic.specs.Tree.{Form, number_variable, comparison}
 use Rattle.ms_logic.specs.Tree as string
-use Rattle.ms_logic.specs.Truth.{Given, Meanings, YesUnder, NoUnder, meanings_of}
-use Rattle.ms_logic.proofs.Consistent.{IsConsistent, consistent_given, never_both}
+use Rattle.ms_logic.specs.Truth.{YesUnder, NoUnder}
+use Rattle.ms_logic.proofs.Consistent.{never_both}
 use Rattle.ms_logic.proofs.Values.{each_value}
-use Rattle.ms_ltlf.specs.Strings.{two, some_position}
-use Rattle.ms_ltlf.proofs.Agreeing.{Agrees, agrees-exists, below-string}
+use Rattle.ms_ltlf.specs.Strings.{some_position}
 use Rattle.ms_ltlf.proofs.Positions.{stands-bound, value-variable, agrees-equal}
-
--- no predicate and no import
-abbrev pub nothing : Given
-nothing = record { predicates = []; imports = [] }
-
-abbrev pub meanings : Meanings
-meanings = meanings_of nothing
-
-pub consistent : IsConsistent meanings
-consistent = consistent_given nothing
+use Rattle.ms_ltlf.proofs.Quantifiers.{agrees-exists, below-string}
+use Rattle.ms_translation.specs.Parts.{two}
+use Rattle.ms_translation.proofs.Agreeing.{Agrees}
+use Rattle.ms_translation.proofs.Asked.{consistent, meanings}
 
 -- restrict(ex1 x: x = x) is Yes where there is a position
 has-position : (n x : ℕ) (e : Env) → e.universe ≡ Some n → 0 < n → YesUnder meanings (some_position x) e

@@ -1,15 +1,13 @@
-pub mod Agreeing
 pub mod Bounded
 pub mod Exports
 pub mod Extents
 pub mod Guarded
-pub mod Numbers
 pub mod Operands
 pub mod Positions
+pub mod Quantifiers
 pub mod Rules
 pub mod Seen
 pub mod Sources
-pub mod Titles
 pub mod Translated
 pub mod Truths
 pub mod Views

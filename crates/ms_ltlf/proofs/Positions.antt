@@ -12,8 +12,10 @@ use Rattle.ms_logic.specs.Terms.{if_within, number_value}
 use Rattle.ms_logic.specs.Tree.{Term, number_variable, numeral, plus, comparison, membership, set_variable}
 use Rattle.ms_logic.specs.Truth.{Meanings, NumbersRelate, HoldsOfBoth, MembershipHolds}
 use Rattle.ms_logic.proofs.Within.{if_within-of}
-use Rattle.ms_ltlf.specs.Strings.{follows, at_most, less}
-use Rattle.ms_ltlf.proofs.Agreeing.{Agrees, within-string}
+use Rattle.ms_ltlf.specs.Strings.{follows, at_most}
+use Rattle.ms_ltlf.proofs.Quantifiers.{within-string}
+use Rattle.ms_translation.specs.Parts.{less}
+use Rattle.ms_translation.proofs.Agreeing.{Agrees}
 
 -- a number variable stands for a position of a string of length n
 pub record StandsAt (e : Env) (n x i : ℕ) : Type 0 where

@@ -1,24 +1,24 @@
--- The source of strings meets the rules of checked sources.
-use Rattle.std.proofs.Common.{◌≡◌, ◌≢◌, ℕ, ◌+◌, ◌*◌, ◌<◌, ◌≤◌, zero, suc, List, [], ◌∷◌, length, map, refl, sym, subst, arith, rules}
+-- The source of strings is well numbered and meets the rules of checked sources.
+use Rattle.std.proofs.Common.{◌≢◌, ℕ, ◌+◌, ◌-◌, ◌*◌, ◌<◌, ◌≤◌, zero, suc, List, [], ◌∷◌, length, refl, arith}
 use Rattle.std.specs.Prelude.{AllPairs}
-use Rattle.ms_list.specs.declared.text.Text.{Text}
 use Rattle.ms_logic.specs.declared.checked.Checked.{Checked}
-use Rattle.ms_logic.specs.declared.checked.Placed.{Placed}
 use Rattle.ms_logic.specs.declared.mode.Mode.{Mode}
 use Rattle.ms_logic.specs.declared.mode.Mode.TheVariants.{M2lStr}
 use Rattle.ms_logic.specs.declared.mode.Order.{Order}
-use Rattle.ms_logic.specs.declared.mode.Order.TheVariants.{One, Two}
+use Rattle.ms_logic.specs.declared.mode.Order.TheVariants.{One}
 use Rattle.ms_logic.specs.Lists.{Each}
-use Rattle.ms_logic.specs.Tree.{Form}
-use Rattle.ms_logic.specs.View.{formula_of, globals_from}
+use Rattle.ms_names_rules.specs.Numbers.{IsWellNumbered}
 use Rattle.ms_names_checked.specs.Checked.{MeetsRules}
-use Rattle.ms_names_checked.specs.Constants.{AreInRange, HasConstantsInRange, IsDeclarationInRange, IsInRange}
-use Rattle.ms_names_checked.specs.Names.{NamesDiffer}
-use Rattle.ms_names_checked.specs.Orders.{BindsInOrder, DeclaresInOrder, EachBindsInOrder, HasOneOrder, HasOrder}
-use Rattle.ms_ltlf.specs.Tree.{Temporal, truth, falsity, proposition, brackets, negation, conjunction, disjunction, implication, equivalence, next, weak_next, eventually, always, until, release, Temporals, no_temporals, more_temporals, depth, depth_of_all}
-use Rattle.ms_ltlf.specs.Source.{IsStringSource, global_of, string_formulas}
+use Rattle.ms_names_checked.specs.Constants.{AreInRange, IsInRange}
+use Rattle.ms_names_checked.specs.Exports.{ListsFreeVariables}
+use Rattle.ms_names_checked.specs.Orders.{BindsInOrder, EachBindsInOrder, HasOrder}
+use Rattle.ms_ltlf.specs.Tree.{Temporal, truth, falsity, proposition, brackets, negation, conjunction, disjunction, implication, equivalence, next, weak_next, eventually, always, until, release, Temporals, no_temporals, more_temporals, depth, depth_of_all, IsOver}
+use Rattle.ms_ltlf.specs.Source.{IsStringSource, string_formulas}
 use Rattle.ms_ltlf.specs.Strings.{string_form, string_forms}
-use Rattle.ms_ltlf.proofs.Numbers.{each-formula, lists-free-variables, names-of-globals, source_with, source-same}
+use Rattle.ms_ltlf.proofs.Exports.{none-exported}
+use Rattle.ms_ltlf.proofs.Seen.{source-numbered}
+use Rattle.ms_translation.proofs.Rules.{behind-sets, sets_then}
+use Rattle.ms_translation.proofs.Rules as rules
 
 -- constants
 
@@ -45,19 +45,11 @@ module _ (mode : Mode) where
     all-in-range no_temporals x = tt
     all-in-range (more_temporals f fs) x = (in-range f x, all-in-range fs x)
 
-  globals-in-range : (names : List (List ℕ)) (from : ℕ) → Each (IsDeclarationInRange mode) (globals_from from (map global_of names))
-  globals-in-range [] from = tt
-  globals-in-range (name ∷ names) from = (tt, globals-in-range names (from + 1))
-
 -- orders: sets up to a number, and numbers behind it
 
 ones : ℕ → List Order
 ones zero = []
 ones (suc many) = One ∷ ones many
-
-orders : ℕ → ℕ → List Order
-orders zero many = ones many
-orders (suc count) many = Two ∷ orders count many
 
 one-there : (many x : ℕ) → x < many → HasOrder (ones many) x One
 unfolding ones
@@ -65,21 +57,12 @@ one-there zero x below = absurd (omega (arith, below))
 one-there (suc many) zero below = refl
 one-there (suc many) (suc x) below = one-there many x (omega (arith, below))
 
-set-there : (count many x : ℕ) → x < count → HasOrder (orders count many) x Two
-unfolding orders
-set-there zero many x below = absurd (omega (arith, below))
-set-there (suc count) many zero below = refl
-set-there (suc count) many (suc x) below = set-there count many x (omega (arith, below))
-
-number-there : (count many x : ℕ) → count ≤ x → x < count + many → HasOrder (orders count many) x One
-unfolding orders
-number-there zero many x above below = one-there many x (omega (arith, below))
-number-there (suc count) many zero above below = absurd (omega (arith, above))
-number-there (suc count) many (suc x) above below = number-there count many x (omega (arith, above)) (omega (arith, below))
+number-there : (count many x : ℕ) → count ≤ x → x < count + many → HasOrder (sets_then count (ones many)) x One
+number-there count many x above below = behind-sets count (ones many) (x - count) x One (omega (arith, above)) (one-there many (x - count) (omega (arith, above, below)))
 
 module _ (count many : ℕ) where
   mutual
-    in-order : (f : Temporal) (x : ℕ) → count ≤ x → x + 2 * depth f < count + many → BindsInOrder (orders count many) (string_form f x)
+    in-order : (f : Temporal) (x : ℕ) → count ≤ x → x + 2 * depth f < count + many → BindsInOrder (sets_then count (ones many)) (string_form f x)
     in-order truth x above below = tt
     in-order falsity x above below = tt
     in-order (proposition p) x above below = tt
@@ -120,53 +103,33 @@ module _ (count many : ℕ) where
       ),
     )
 
-    all-in-order : (fs : Temporals) (x : ℕ) → count ≤ x → x + 2 * depth_of_all fs < count + many → EachBindsInOrder (orders count many) (string_forms fs x)
+    all-in-order : (fs : Temporals) (x : ℕ) → count ≤ x → x + 2 * depth_of_all fs < count + many → EachBindsInOrder (sets_then count (ones many)) (string_forms fs x)
     all-in-order no_temporals x above below = tt
     all-in-order (more_temporals f fs) x above below = (in-order f x above (omega (arith, below)), all-in-order fs x above (omega (arith, below)))
 
-  declared-in-order : (names : List (List ℕ)) (from : ℕ) → from + length names ≤ count → Each (DeclaresInOrder (orders count many)) (globals_from from (map global_of names))
-  declared-in-order [] from within = tt
-  declared-in-order (name ∷ names) from within = ((set-there count many from (omega (arith, within)), tt), declared-in-order names (from + 1) (omega (arith, within)))
+-- the source
 
-module _ (names : List (List ℕ)) (f : Temporal) (made : List Placed) (files : List Text)
-    (formulas : map (λ (placed : Placed). formula_of placed.formula) made ≡ string_formulas (length names) f) where
-  abbrev source : Checked
-  source = source_with names made files
+module _ (names : List (List ℕ)) (f : Temporal) where
+  abbrev count : ℕ
+  count = length names
 
-  names-differ : AllPairs (λ one other. one ≢ other) names → NamesDiffer source
-  names-differ different =
-      let P : List (List ℕ) → Type 0 = AllPairs (λ one other. one ≢ other) in
-      record { globals = subst P (sym (names-of-globals names)) different; exports = tt; imports = tt; imported = tt; files = search rules }
+  abbrev many : ℕ
+  many = 2 * depth f + 1
 
-  one-order : HasOneOrder source
-  one-order =
-      let count = length names in
-      let many = 2 * depth f + 1 in
-      let E : List Form → Type 0 = Each (BindsInOrder (orders count many)) in
-      let first = number-there count many count (omega arith) (omega arith) in (
-        orders count many,
-        record {
-          globals = declared-in-order count many names 0 (omega arith);
-          predicates = tt;
-          formulas = each-formula (BindsInOrder (orders count many)) made (subst E (sym formulas) ((first, tt, tt), ((first, tt, (tt, (in-order count many f count (omega arith) (omega arith), tt))), tt)));
-        },
-      )
+  source-in-order : Each (BindsInOrder (sets_then count (ones many))) (string_formulas count f)
+  source-in-order =
+      let first = number-there count many count (omega arith) (omega arith) in
+      ((first, tt, tt), ((first, tt, (tt, (in-order count many f count (omega arith) (omega arith), tt))), tt))
 
-  constants-in-range : HasConstantsInRange source
-  constants-in-range =
-      let E : List Form → Type 0 = Each (IsInRange M2lStr) in
-      record {
-        globals = globals-in-range M2lStr names 0;
-        predicates = tt;
-        formulas = each-formula (IsInRange M2lStr) made (subst E (sym formulas) ((tt, (tt, tt, tt)), ((tt, ((tt, tt, omega arith), (in-range M2lStr f (length names), tt))), tt)));
-      }
+  source-in-range : Each (IsInRange M2lStr) (string_formulas count f)
+  source-in-range = ((tt, (tt, tt, tt)), ((tt, ((tt, tt, omega arith), (in-range M2lStr f count, tt))), tt))
 
-pub meets-rules : (names : List (List ℕ)) (f : Temporal) (made : Checked) → AllPairs (λ one other. one ≢ other) names → IsStringSource names f made → MeetsRules made
-meets-rules names f made different is =
-    let same = source-same names f made is in
-    record {
-      exports = lists-free-variables names f made is;
-      names = subst NamesDiffer same (names-differ names f made.formulas made.files is.formulas different);
-      orders = subst HasOneOrder same (one-order names f made.formulas made.files is.formulas);
-      constants = subst HasConstantsInRange same (constants-in-range names f made.formulas made.files is.formulas);
-    }
+  module _ (made : Checked) (is : IsStringSource names f made) where
+    pub is-well-numbered : IsOver count f → IsWellNumbered made
+    is-well-numbered over = rules.is-well-numbered M2lStr names (string_formulas count f) made is (λ tables. source-numbered tables 0 names f over) (none-exported f count)
+
+    pub lists-free-variables : ListsFreeVariables made
+    lists-free-variables = rules.lists-free-variables M2lStr names (string_formulas count f) made is (none-exported f count)
+
+    pub meets-rules : AllPairs (λ one other. one ≢ other) names → MeetsRules made
+    meets-rules different = rules.meets-rules M2lStr names (string_formulas count f) made is different (none-exported f count) (ones many) source-in-order source-in-range

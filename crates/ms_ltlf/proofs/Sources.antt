@@ -1,50 +1,41 @@
 -- The source of strings for a formula tells of each trace whether the formula holds.
-use Rattle.std.proofs.Common.{◌≡◌, ℕ, ◌+◌, ◌<◌, ◌≤◌, false, ◌↔◌, ⊎_elim, List, [], ◌∷◌, length, map, Some, None, IsSome, refl, sym, ◌∙◌, ap, subst, arith}
+use Rattle.std.proofs.Common.{◌≡◌, ℕ, ◌<◌, false, ◌↔◌, ⊎_elim, List, [], ◌∷◌, length, map, Some, None, IsSome, refl, sym, ◌∙◌, ap, subst, arith}
 use Rattle.std.proofs.lemmas.Bool.{cases_lt}
-use Rattle.std.specs.List.{zip}
-use Rattle.ms_logic.specs.declared.assignment.Value.TheVariants.{Number, Set}
+use Rattle.ms_logic.specs.declared.assignment.Value.TheVariants.{Number}
 use Rattle.ms_logic.specs.declared.checked.Checked.{Checked}
-use Rattle.ms_logic.specs.declared.checked.Global.{Global}
-use Rattle.ms_logic.specs.declared.mode.Mode.{Mode}
-use Rattle.ms_logic.specs.declared.mode.Order.TheVariants.{Two}
+use Rattle.ms_logic.specs.declared.mode.Mode.TheVariants.{M2lStr}
 use Rattle.ms_logic.specs.declared.mode.Rel.TheVariants.{Equal}
-use Rattle.ms_logic.specs.Assignment.{Universe, Env, AllWithin, IsValueOf, GivesEach, assign}
+use Rattle.ms_logic.specs.Assignment.{Universe, Env, AllWithin, assign}
 use Rattle.ms_logic.specs.Lists.{Each}
-use Rattle.ms_logic.specs.Tree.{Form, Forms, number_variable, numeral, comparison, Predicate}
+use Rattle.ms_logic.specs.Tree.{Form, number_variable, numeral, comparison}
 use Rattle.ms_logic.specs.Tree as string
-use Rattle.ms_logic.specs.Truth.{Meanings, AllMet}
-use Rattle.ms_logic.specs.Verdict.{Assigns, MainYes, MainNo, variables_of}
-use Rattle.ms_logic.specs.View.{Answers, forms, globals_from, import_of, main_question, predicate_of, problem_of}
+use Rattle.ms_logic.specs.Truth.{AllMet}
+use Rattle.ms_logic.specs.Verdict.{Assigns, MainYes, MainNo}
+use Rattle.ms_logic.specs.View.{Answers, globals_from, main_question, problem_of}
 use Rattle.ms_ltlf.specs.Tree.{Temporal}
 use Rattle.ms_ltlf.specs.Trace.{FiniteTrace, HoldsAt}
 use Rattle.ms_ltlf.specs.Meaning.{length_of, trace_of, TellsTruth, IsOverTraces, TellsVerdict}
-use Rattle.ms_ltlf.proofs.Titles.{main-alone}
-use Rattle.ms_ltlf.specs.Source.{IsStringSource, global_of, string_problem}
-use Rattle.ms_ltlf.specs.Strings.{two, string_form, at_the_start}
-use Rattle.ms_ltlf.proofs.Agreeing.{Agrees, along, agrees-two, agrees-exists}
-use Rattle.ms_ltlf.proofs.Guarded.{meanings, consistent, guarded-yes, guarded-no, guarded-never}
+use Rattle.ms_ltlf.specs.Source.{IsStringSource, string_formulas, string_problem}
+use Rattle.ms_ltlf.specs.Strings.{string_form, at_the_start}
+use Rattle.ms_ltlf.proofs.Guarded.{guarded-yes, guarded-no, guarded-never}
 use Rattle.ms_ltlf.proofs.Positions.{StandsAt, stands-bound, value-variable, value-zero, agrees-equal}
+use Rattle.ms_ltlf.proofs.Quantifiers.{agrees-exists}
 use Rattle.ms_ltlf.proofs.Translated.{translated}
+use Rattle.ms_translation.specs.Parts.{two}
+use Rattle.ms_translation.specs.Source.{global_of}
+use Rattle.ms_translation.proofs.Agreeing.{Agrees, along, agrees-two}
+use Rattle.ms_translation.proofs.Asked.{consistent, main-same, meanings}
+use Rattle.ms_translation.proofs.Asked as asked
+use Rattle.ms_translation.proofs.Globals.{all-met, gives-sets, sets-given}
 
 -- whatever its imports answer, since it has none
 pub problem-same : (names : List (List ℕ)) (f : Temporal) (made : Checked) (answers : Answers) → IsStringSource names f made → string_problem names f ≡ problem_of made answers
-problem-same names f made answers is =
-    let modes = ap (λ (mode : Mode). record (string_problem names f) { mode = mode }) (sym is.mode) in
-    let globals = ap (λ (gs : List Global). record (string_problem names f) { mode = made.mode; globals = globals_from 0 gs }) (sym is.globals) in
-    let predicates = ap (λ ps. record (string_problem names f) { mode = made.mode; globals = globals_from 0 made.globals; given = record { predicates = map predicate_of ps; imports = [] } }) (sym is.predicates) in
-    let imports = ap (λ used. record (string_problem names f) { mode = made.mode; globals = globals_from 0 made.globals; given = record { predicates = map predicate_of made.predicates; imports = map (λ p. import_of p.0 p.1) (zip used answers) } }) (sym is.imports) in
-    let formulas = ap (λ (fs : List Form). record (problem_of made answers) { formulas = forms fs }) (sym is.formulas) in
-    modes ∙ (globals ∙ (predicates ∙ (imports ∙ formulas)))
+problem-same names f made answers is = asked.problem-same M2lStr names (string_formulas (length names) f) made is answers
 
 -- the universe of an assignment is a string
 pub some-length : (u : Universe) → IsSome u → u ≡ Some (length_of u)
 some-length None given = absurd cc
 some-length (Some n) given = refl
-
--- no global has a restriction
-no-restrictions : (m : Meanings) (names : List (List ℕ)) (count : ℕ) (e : Env) → AllMet m (globals_from count (map global_of names)) e
-no-restrictions m [] count e = tt
-no-restrictions m (name ∷ names) count e = (tt, no-restrictions m names (count + 1) e)
 
 -- ex1 x: x = 0 & S(f, x)
 start-agrees : (f : Temporal) (n x : ℕ) (e : Env) → e.universe ≡ Some n → 0 < n → Agrees meanings (at_the_start x (string_form f x)) e (HoldsAt (record { length = n; positions = e.set }) f 0)
@@ -75,7 +66,7 @@ module _ (names : List (List ℕ)) (f : Temporal) where
     main-agrees positive = start-agrees f size count e of-size positive
 
     met : AllMet meanings (globals_from 0 (map global_of names)) e
-    met = no-restrictions meanings names 0 e
+    met = all-met meanings names 0 e
 
     main-yes : 0 < size → MainYes (string_problem names f) e ↔ HoldsAt (trace_of e) f 0
     main-yes positive =
@@ -94,21 +85,6 @@ module _ (names : List (List ℕ)) (f : Temporal) where
 
   truth-told : TellsTruth f (string_problem names f)
   truth-told = record { yes = main-yes; no = main-no; empty = main-empty }
-
--- the values of the propositions from a number on
-
-sets-given : (names : List (List ℕ)) (count : ℕ) (e : Env) → GivesEach (variables_of (globals_from count (map global_of names))) e →
-    (p : ℕ) → count ≤ p → p < count + length names → IsValueOf Two e.universe (Set (e.set p))
-sets-given [] count e given p from below = absurd (omega (arith, from, below))
-sets-given (name ∷ names) count e given p from below =
-    ⊎_elim (λ later. sets-given names (count + 1) e given.1 p (omega (arith, later)) (omega (arith, below)))
-    (λ first. let same : count ≡ p = omega (arith, from, first) in let P : ℕ → Type 0 = λ k. IsValueOf Two e.universe (Set (e.set k)) in subst P same given.0) (cases_lt count p)
-
-gives-sets : (names : List (List ℕ)) (count : ℕ) (e : Env) → ((p : ℕ) → count ≤ p → p < count + length names → IsValueOf Two e.universe (Set (e.set p))) →
-    GivesEach (variables_of (globals_from count (map global_of names))) e
-gives-sets [] count e sets = tt
-gives-sets (name ∷ names) count e sets =
-    (sets count (omega arith) (omega arith), gives-sets names (count + 1) e (λ p from below. sets p (omega (arith, from)) (omega (arith, below))))
 
 all-below : (n : ℕ) (members : List ℕ) → AllWithin (Some n) members → Each (λ i. i < n) members
 all-below n [] within = tt
@@ -162,10 +138,10 @@ verdict-told names f =
 -- for whatever is made as the source says
 
 pub tells-truth : (names : List (List ℕ)) (f : Temporal) (made : Checked) (answers : Answers) → IsStringSource names f made → TellsTruth f (main_question made answers)
-tells-truth names f made answers is = subst (TellsTruth f) (problem-same names f made answers is ∙ main-alone made answers is.titles) (truth-told names f)
+tells-truth names f made answers is = subst (TellsTruth f) (main-same M2lStr names (string_formulas (length names) f) made is answers) (truth-told names f)
 
 pub is-over-traces : (names : List (List ℕ)) (f : Temporal) (made : Checked) (answers : Answers) → IsStringSource names f made → IsOverTraces (length names) (main_question made answers)
-is-over-traces names f made answers is = subst (IsOverTraces (length names)) (problem-same names f made answers is ∙ main-alone made answers is.titles) (traces-assigned names f)
+is-over-traces names f made answers is = subst (IsOverTraces (length names)) (main-same M2lStr names (string_formulas (length names) f) made is answers) (traces-assigned names f)
 
 pub tells-verdict : (names : List (List ℕ)) (f : Temporal) (made : Checked) (answers : Answers) → IsStringSource names f made → TellsVerdict (length names) f (main_question made answers)
-tells-verdict names f made answers is = subst (TellsVerdict (length names) f) (problem-same names f made answers is ∙ main-alone made answers is.titles) (verdict-told names f)
+tells-verdict names f made answers is = subst (TellsVerdict (length names) f) (main-same M2lStr names (string_formulas (length names) f) made is answers) (verdict-told names f)

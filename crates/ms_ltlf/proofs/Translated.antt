@@ -9,9 +9,11 @@ use Rattle.ms_logic.specs.Truth.{Meanings}
 use Rattle.ms_logic.proofs.Consistent.{IsConsistent}
 use Rattle.ms_ltlf.specs.Tree.{Temporal, truth, falsity, proposition, brackets, negation, conjunction, disjunction, implication, equivalence, next, weak_next, eventually, always, until, release, Temporals, no_temporals, more_temporals}
 use Rattle.ms_ltlf.specs.Trace.{FiniteTrace, HoldsAt, EachHoldsAt, SomeHoldsAt}
-use Rattle.ms_ltlf.specs.Strings.{follows, at_most, less, every, two, three, between, freed_at, next_at, weak_next_at, eventually_at, always_at, until_at, release_at, string_form, string_forms}
-use Rattle.ms_ltlf.proofs.Agreeing.{Agrees, EachAgrees, SomeAgrees, along, agrees-truth, agrees-falsity, agrees-negation, agrees-implication, agrees-equivalence, each-none, each-more, some-none, some-more, agrees-conjunction, agrees-disjunction, agrees-two, agrees-three, agrees-either, agrees-exists, agrees-every}
+use Rattle.ms_ltlf.specs.Strings.{follows, at_most, every, between, freed_at, next_at, weak_next_at, eventually_at, always_at, until_at, release_at, string_form, string_forms}
 use Rattle.ms_ltlf.proofs.Positions.{StandsAt, stands-bound, stands-kept, value-variable, agrees-at_most, agrees-less, agrees-follows, agrees-member}
+use Rattle.ms_ltlf.proofs.Quantifiers.{agrees-exists, agrees-every}
+use Rattle.ms_translation.specs.Parts.{less, two, three}
+use Rattle.ms_translation.proofs.Agreeing.{Agrees, EachAgrees, SomeAgrees, along, agrees-truth, agrees-falsity, agrees-negation, agrees-implication, agrees-equivalence, each-none, each-more, some-none, some-more, agrees-conjunction, agrees-disjunction, agrees-two, agrees-three, agrees-either}
 
 -- the trace of a length with the sets of an environment
 abbrev pub trace : ℕ → Env → FiniteTrace

@@ -5,8 +5,8 @@ use Rattle.ms_logic.specs.Assignment.{Env}
 use Rattle.ms_ltlf.specs.Trace.{HoldsAt}
 use Rattle.ms_ltlf.specs.inner.Laws.{EventuallyIsDual, EventuallyIsUntil, NextIsDual, TruthIsDecided, UntilIsDual, UntilUnfolds}
 use Rattle.ms_ltlf.proofs.Bounded.{some_or_each}
-use Rattle.ms_ltlf.proofs.Guarded.{meanings, consistent}
 use Rattle.ms_ltlf.proofs.Translated.{translated}
+use Rattle.ms_translation.proofs.Asked.{meanings, consistent}
 
 pub decided : TruthIsDecided
 decided t f i below =

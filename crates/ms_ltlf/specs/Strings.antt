@@ -1,12 +1,13 @@
 -- The source of M2L-Str that says what a formula of linear temporal logic says: a proposition is the set of its positions.
 -- A formula is translated at a number variable, which stands for the position. What it binds has the numbers behind it.
-use Rattle.std.specs.Prelude.{ℕ, ◌+◌, true}
+use Rattle.std.specs.Prelude.{ℕ, ◌+◌}
 use Rattle.ms_logic.specs.declared.mode.Order.TheVariants.{One}
 use Rattle.ms_logic.specs.declared.mode.Quant.TheVariants.{Ex, All}
-use Rattle.ms_logic.specs.declared.mode.Rel.TheVariants.{Equal, Less, AtMost}
-use Rattle.ms_logic.specs.Tree.{Term, number_variable, numeral, plus, set_variable, Form, comparison, membership, quantified, unrestricted, restrict, Forms, no_forms, more_forms}
+use Rattle.ms_logic.specs.declared.mode.Rel.TheVariants.{Equal, AtMost}
+use Rattle.ms_logic.specs.Tree.{number_variable, numeral, plus, Form, comparison, quantified, unrestricted, restrict, Forms, no_forms, more_forms}
 use Rattle.ms_logic.specs.Tree as string
 use Rattle.ms_ltlf.specs.Tree.{Temporal, truth, falsity, proposition, brackets, negation, conjunction, disjunction, implication, equivalence, next, weak_next, eventually, always, until, release, Temporals, no_temporals, more_temporals}
+use Rattle.ms_translation.specs.Parts.{is_in, less, three, two}
 
 -- y = x + 1
 abbrev pub follows : ℕ → ℕ → Form
@@ -16,25 +17,11 @@ follows x y = comparison Equal (number_variable y) (plus (number_variable x) 1)
 abbrev pub at_most : ℕ → ℕ → Form
 at_most x y = comparison AtMost (number_variable x) (number_variable y)
 
--- x < y
-abbrev pub less : ℕ → ℕ → Form
-less x y = comparison Less (number_variable x) (number_variable y)
-
--- x in p
-abbrev pub is_in : ℕ → ℕ → Form
-is_in x p = membership true (number_variable x) (set_variable p)
-
 abbrev pub exists : ℕ → Form → Form
 exists x f = quantified Ex One x unrestricted f
 
 abbrev pub every : ℕ → Form → Form
 every x f = quantified All One x unrestricted f
-
-abbrev pub two : Form → Form → Forms
-two f g = more_forms f (more_forms g no_forms)
-
-abbrev pub three : Form → Form → Form → Forms
-three f g h = more_forms f (two g h)
 
 -- f says so at some y with y = x + 1
 abbrev pub next_at : ℕ → Form → Form

@@ -1,16 +1,17 @@
 ghost use Rattle.ms_logic.specs.Tree.{numeral, number_variable, comparison};
 ghost use Rattle.ms_logic.specs.View.{formula_of};
 ghost use Rattle.ms_logic.specs.declared.mode.Rel.TheVariants.{Equal};
-ghost use Rattle.ms_ltlf.specs.inner.Made.{Gives};
-ghost use Rattle.ms_ltlf.specs.Strings.{at_most, follows, is_in, less};
+ghost use Rattle.ms_ltlf.specs.Strings.{at_most, follows};
+ghost use Rattle.ms_translation.specs.Made.{Gives};
 ghost use Rattle.std.specs.Prelude.{◌≡◌, ◌+◌, ◌<◌, ◌^◌};
 
-use ms_list::{NoMemory, on_heap};
-use ms_logic::{Formula, Rel, Term1, Term2};
+use ms_list::on_heap;
+use ms_logic::{Formula, Rel, Term1};
+use ms_translation::Made;
 use std::alloc::Global;
 
 /// `y = x + 1`, where `y` is the variable behind `x`.
-pub(crate) fn follows(alloc: Global, x: u32) -> Result<Formula, NoMemory>
+pub(crate) fn follows(alloc: Global, x: u32) -> Made
     requires { x + 1 < 2 ^ 32 }
     ensures { Gives result (follows x (x + 1)) }
 {
@@ -25,13 +26,6 @@ pub(crate) fn at_most(x: u32, y: u32) -> Formula
     Formula::Compare(Rel::AtMost, Term1::Var(x), Term1::Var(y))
 }
 
-/// `x < y`
-pub(crate) fn less(x: u32, y: u32) -> Formula
-    ensures { formula_of result ≡ less x y }
-{
-    Formula::Compare(Rel::Less, Term1::Var(x), Term1::Var(y))
-}
-
 /// `x = x`
 pub(crate) fn itself(x: u32) -> Formula
     ensures { formula_of result ≡ comparison Equal (number_variable x) (number_variable x) }
@@ -44,11 +38,4 @@ pub(crate) fn is_first(x: u32) -> Formula
     ensures { formula_of result ≡ comparison Equal (number_variable x) (numeral 0) }
 {
     Formula::Compare(Rel::Equal, Term1::Var(x), Term1::Number(0))
-}
-
-/// `x in p`
-pub(crate) fn is_in(x: u32, p: u32) -> Formula
-    ensures { formula_of result ≡ is_in x p }
-{
-    Formula::Member(true, Term1::Var(x), Term2::Var(p))
 }

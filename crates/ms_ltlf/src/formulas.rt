@@ -1,21 +1,22 @@
 ghost use Rattle.ms_logic.specs.View.{formula_of};
 ghost use Rattle.ms_ltlf.specs.Tree.{depth, depth_of_all};
 ghost use Rattle.ms_ltlf.specs.View.{temporal_of, temporals};
-ghost use Rattle.ms_ltlf.specs.inner.Made.{Gives};
 ghost use Rattle.ms_ltlf.specs.Strings.{string_form};
+ghost use Rattle.ms_translation.specs.Made.{Gives};
 ghost use Rattle.std.specs.Prelude.{◌≡◌, ◌+◌, ◌*◌, ◌<◌, ◌^◌, map, IfOk};
 
-use crate::atoms::is_in;
 use crate::operators::{always, eventually, next, release, until, weak_next};
-use crate::parts::{conjunction, disjunction, equivalence, implication, negation};
 use crate::trace::Ltl;
-use ms_list::{List, NoMemory, push};
+use ms_list::{List, push};
 use ms_logic::Formula;
+use ms_translation::{
+    Made, MadeList, conjunction, disjunction, equivalence, implication, is_in, negation,
+};
 use std::alloc::Global;
 
 /// What a formula says of the position for which the variable `x` stands.
 #[cycle(formulas)]
-pub(crate) fn formula_at(alloc: Global, formula: &Ltl, x: u32) -> Result<Formula, NoMemory>
+pub(crate) fn formula_at(alloc: Global, formula: &Ltl, x: u32) -> Made
     requires { x + 2 * depth (temporal_of formula.now) < 2 ^ 32 }
     ensures { Gives result (string_form (temporal_of formula.now) x) }
 {
@@ -52,7 +53,7 @@ pub(crate) fn formula_at(alloc: Global, formula: &Ltl, x: u32) -> Result<Formula
 
 /// The same for each formula of a list.
 #[cycle(formulas)]
-fn formulas_at(alloc: Global, operands: &[Ltl], x: u32) -> Result<List<Formula>, NoMemory>
+fn formulas_at(alloc: Global, operands: &[Ltl], x: u32) -> MadeList
     requires { x + 2 * depth_of_all (temporals (map temporal_of operands.now)) < 2 ^ 32 }
     ensures { IfOk result (λ made. map formula_of made ≡ map (λ operand. string_form (temporal_of operand) x) operands.now) }
 {

@@ -2,12 +2,11 @@
 #![tactic(auto)]
 
 mod atoms;
+mod bound;
 mod examples;
 mod formulas;
 mod laws;
-mod made;
 mod operators;
-mod parts;
 mod strings;
 mod trace;
 

@@ -3,22 +3,17 @@
 //! `formula_at` calls are not inlined there, so that a level of a formula takes little stack.
 
 ghost use Rattle.ms_logic.specs.Tree.{Form};
-ghost use Rattle.ms_ltlf.specs.inner.Made.{Gives};
 ghost use Rattle.ms_ltlf.specs.Strings.{always_at, between, eventually_at, freed_at, kept_at, next_at, release_at, until_at, weak_next_at};
+ghost use Rattle.ms_translation.specs.Made.{Gives};
 ghost use Rattle.std.specs.Prelude.{◌+◌, ◌<◌, ◌^◌};
 
-use crate::atoms::{at_most, follows, less};
-use crate::parts::{all_hold, both_hold, either_holds, every, exists, implication};
-use ms_list::NoMemory;
-use ms_logic::Formula;
+use crate::atoms::{at_most, follows};
+use crate::bound::{every, exists};
+use ms_translation::{Made, all_hold, both_hold, either_holds, implication, less};
 use std::alloc::Global;
 
 #[inline(never)]
-pub(crate) fn next(
-    alloc: Global,
-    x: u32,
-    body: Result<Formula, NoMemory>,
-) -> Result<Formula, NoMemory>
+pub(crate) fn next(alloc: Global, x: u32, body: Made) -> Made
     requires { x + 1 < 2 ^ 32 }
     ensures { (f : Form) → Gives body f → Gives result (next_at x f) }
 {
@@ -26,11 +21,7 @@ pub(crate) fn next(
 }
 
 #[inline(never)]
-pub(crate) fn weak_next(
-    alloc: Global,
-    x: u32,
-    body: Result<Formula, NoMemory>,
-) -> Result<Formula, NoMemory>
+pub(crate) fn weak_next(alloc: Global, x: u32, body: Made) -> Made
     requires { x + 1 < 2 ^ 32 }
     ensures { (f : Form) → Gives body f → Gives result (weak_next_at x f) }
 {
@@ -38,11 +29,7 @@ pub(crate) fn weak_next(
 }
 
 #[inline(never)]
-pub(crate) fn eventually(
-    alloc: Global,
-    x: u32,
-    body: Result<Formula, NoMemory>,
-) -> Result<Formula, NoMemory>
+pub(crate) fn eventually(alloc: Global, x: u32, body: Made) -> Made
     requires { x + 1 < 2 ^ 32 }
     ensures { (f : Form) → Gives body f → Gives result (eventually_at x f) }
 {
@@ -50,11 +37,7 @@ pub(crate) fn eventually(
 }
 
 #[inline(never)]
-pub(crate) fn always(
-    alloc: Global,
-    x: u32,
-    body: Result<Formula, NoMemory>,
-) -> Result<Formula, NoMemory>
+pub(crate) fn always(alloc: Global, x: u32, body: Made) -> Made
     requires { x + 1 < 2 ^ 32 }
     ensures { (f : Form) → Gives body f → Gives result (always_at x f) }
 {
@@ -66,7 +49,7 @@ pub(crate) fn always(
 }
 
 /// `x <= z & z < y`
-fn between(alloc: Global, x: u32) -> Result<Formula, NoMemory>
+fn between(alloc: Global, x: u32) -> Made
     requires { x + 2 < 2 ^ 32 }
     ensures { Gives result (between x) }
 {
@@ -74,7 +57,7 @@ fn between(alloc: Global, x: u32) -> Result<Formula, NoMemory>
 }
 
 /// `all1 z: x <= z & z < y => left`
-fn kept(alloc: Global, x: u32, left: Result<Formula, NoMemory>) -> Result<Formula, NoMemory>
+fn kept(alloc: Global, x: u32, left: Made) -> Made
     requires { x + 2 < 2 ^ 32 }
     ensures { (f : Form) → Gives left f → Gives result (kept_at x f) }
 {
@@ -82,12 +65,7 @@ fn kept(alloc: Global, x: u32, left: Result<Formula, NoMemory>) -> Result<Formul
 }
 
 #[inline(never)]
-pub(crate) fn until(
-    alloc: Global,
-    x: u32,
-    left: Result<Formula, NoMemory>,
-    right: Result<Formula, NoMemory>,
-) -> Result<Formula, NoMemory>
+pub(crate) fn until(alloc: Global, x: u32, left: Made, right: Made) -> Made
     requires { x + 2 < 2 ^ 32 }
     ensures { (f g : Form) → Gives left f → Gives right g → Gives result (until_at x f g) }
 {
@@ -97,7 +75,7 @@ pub(crate) fn until(
 }
 
 /// `ex1 z: x <= z & z < y & left`
-fn freed(alloc: Global, x: u32, left: Result<Formula, NoMemory>) -> Result<Formula, NoMemory>
+fn freed(alloc: Global, x: u32, left: Made) -> Made
     requires { x + 2 < 2 ^ 32 }
     ensures { (f : Form) → Gives left f → Gives result (freed_at x f) }
 {
@@ -109,12 +87,7 @@ fn freed(alloc: Global, x: u32, left: Result<Formula, NoMemory>) -> Result<Formu
 }
 
 #[inline(never)]
-pub(crate) fn release(
-    alloc: Global,
-    x: u32,
-    left: Result<Formula, NoMemory>,
-    right: Result<Formula, NoMemory>,
-) -> Result<Formula, NoMemory>
+pub(crate) fn release(alloc: Global, x: u32, left: Made, right: Made) -> Made
     requires { x + 2 < 2 ^ 32 }
     ensures { (f g : Form) → Gives left f → Gives right g → Gives result (release_at x f g) }
 {

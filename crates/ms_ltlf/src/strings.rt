@@ -1,5 +1,5 @@
 ghost use Rattle.ms_logic.specs.Tree.{Form};
-ghost use Rattle.ms_logic.specs.View.{Answers, formula_of, goals_in, main_question, problem_of};
+ghost use Rattle.ms_logic.specs.View.{Answers, goals_in, main_question, problem_of};
 ghost use Rattle.ms_logic.specs.declared.checked.Global.{Global as Variable};
 ghost use Rattle.ms_logic.specs.declared.checked.Placed.{Placed};
 ghost use Rattle.ms_logic.specs.declared.mode.Mode.TheVariants.{M2lStr};
@@ -10,114 +10,44 @@ ghost use Rattle.ms_names_rules.specs.Numbers.{IsWellNumbered};
 ghost use Rattle.ms_ltlf.specs.Meaning.{IsOverTraces, TellsTruth, TellsVerdict};
 ghost use Rattle.ms_ltlf.specs.Tree.{depth, size};
 ghost use Rattle.ms_ltlf.specs.View.{IsWellFormed, temporal_of};
-ghost use Rattle.ms_ltlf.specs.inner.Made.{Gives};
-ghost use Rattle.ms_ltlf.specs.Source.{IsStringSource, global_of, start};
+ghost use Rattle.ms_ltlf.specs.Source.{IsStringSource, start};
 ghost use Rattle.ms_ltlf.specs.Strings.{at_the_start, some_position};
-ghost use Rattle.std.specs.Prelude.{◌≡◌, ◌≤◌, ◌+◌, ◌*◌, ◌∷◌, [], None, length, map, IfOk};
+ghost use Rattle.ms_translation.specs.Made.{Gives};
+ghost use Rattle.std.specs.Prelude.{◌≡◌, ◌≤◌, ◌+◌, ◌*◌, ◌∷◌, [], length, map, IfOk};
 
 use crate::atoms::{is_first, itself};
+use crate::bound::exists;
 use crate::formulas::formula_at;
-use crate::made::{both, two};
-use crate::parts::{both_hold, exists, restriction};
 use crate::trace::Trace;
-use ms_list::{At, List, Name, NoMemory, push};
-use ms_logic::{Checked, Formula, Global as Variable, Mode, Order, Placed};
+use ms_list::NoMemory;
+use ms_logic::{Checked, Mode};
+use ms_translation::{Made, both_hold, pair, restriction, source_over};
 use std::alloc::Global;
 
-/// A proposition as a variable for the set of its positions.
-fn proposition(alloc: Global, name: &Name) -> Result<Variable, NoMemory>
-    ensures { IfOk result (λ made. made ≡ global_of name.now) }
-{
-    let name = Name::new(alloc, name.text())?;
-    Ok(Variable {
-        at: At { file: 0, place: 0 },
-        item: 0,
-        order: Order::Two,
-        name,
-        domain: None,
-    })
-}
-
-fn propositions(alloc: Global, names: &[Name]) -> Result<List<Variable>, NoMemory>
-    ensures { IfOk result (λ made. made ≡ map global_of names.now) }
-{
-    let mut made = List::new(alloc);
-    for name in names {
-        push(&mut made, proposition(alloc, name)?)?;
-    }
-    Ok(made)
-}
-
 /// `restrict(ex1 x: x = x)`
-fn some_position(alloc: Global, x: u32) -> Result<Formula, NoMemory>
+fn some_position(alloc: Global, x: u32) -> Made
     ensures { Gives result (some_position x) }
 {
     restriction(alloc, exists(alloc, x, Ok(itself(x))))
 }
 
 /// `ex1 x: x = 0 & formula`
-fn at_the_start(
-    alloc: Global,
-    x: u32,
-    formula: Result<Formula, NoMemory>,
-) -> Result<Formula, NoMemory>
+fn at_the_start(alloc: Global, x: u32, formula: Made) -> Made
     ensures { (f : Form) → Gives formula f → Gives result (at_the_start x f) }
 {
     exists(alloc, x, both_hold(alloc, Ok(is_first(x)), formula))
-}
-
-/// Two formula declarations, the first and the second behind that of the variables.
-fn declared(
-    alloc: Global,
-    first: Result<Formula, NoMemory>,
-    second: Result<Formula, NoMemory>,
-) -> Result<List<Placed>, NoMemory>
-    ensures formulas { (f g : Form) → Gives first f → Gives second g →
-        IfOk result (λ made. map (λ (placed : Placed). formula_of placed.formula) made ≡ f ∷ g ∷ []) }
-    ensures places { IfOk result (λ made. map (λ (placed : Placed). placed.at) made ≡ start ∷ start ∷ []) }
-    ensures items { IfOk result (λ made. map (λ (placed : Placed). placed.item) made ≡ 1 ∷ 2 ∷ []) }
-    ensures titles { IfOk result (λ made. map (λ (placed : Placed). placed.title) made ≡ None ∷ None ∷ []) }
-{
-    let (first, second) = both(first, second)?;
-    two(alloc, placed(1, first), placed(2, second))
-}
-
-/// The formula as the declaration with this number.
-fn placed(item: u32, formula: Formula) -> Placed
-    ensures formula { result.formula ≡ formula }
-    ensures place { result.at ≡ start }
-    ensures item { result.item ≡ item }
-    ensures title { result.title ≡ None }
-{
-    Placed {
-        at: At { file: 0, place: 0 },
-        item,
-        title: None,
-        formula,
-    }
 }
 
 /// The source of strings, by its tree.
 fn string_source(alloc: Global, trace: &Trace) -> Result<Checked, NoMemory>
     requires { IsWellFormed trace.now }
     ensures source { IfOk result (IsStringSource trace.now.names (temporal_of trace.now.formula)) }
-    ensures places { IfOk result (λ made. map (λ (placed : Placed). placed.at) made.formulas ≡ start ∷ start ∷ []) }
-    ensures items { IfOk result (λ made. map (λ (placed : Placed). placed.item) made.formulas ≡ 1 ∷ 2 ∷ []) }
     ensures files { IfOk result (λ made. made.files ≡ []) }
 {
     let x = trace.names.len() as u32;
     let formula = at_the_start(alloc, x, formula_at(alloc, &trace.formula, x));
-    let formulas = declared(alloc, some_position(alloc, x), formula);
-    let (globals, formulas) = both(propositions(alloc, trace.names.slice()), formulas)?;
-    Ok(Checked {
-        mode: Mode::M2lStr,
-        globals,
-        predicates: List::new(alloc),
-        imports: List::new(alloc),
-        exports: List::new(alloc),
-        formulas,
-        files: List::new(alloc),
-    })
+    let formulas = pair(alloc, some_position(alloc, x), formula);
+    source_over(alloc, Mode::M2lStr, trace.names.slice(), formulas)
 }
 
 /// A source of M2L-Str that is Yes at a trace where the formula holds at its first position, and No where it does not. Its

@@ -12,9 +12,11 @@ use Rattle.ms_logic.specs.Truth.{Meanings}
 use Rattle.ms_logic.proofs.Consistent.{IsConsistent}
 use Rattle.ms_logic.proofs.Members.{no_member_from_bound}
 use Rattle.ms_presburger.specs.Digits.{number_of}
-use Rattle.ms_presburger.specs.Sets.{two, three, is_in, every_place, digit_adds, carry_follows, adds, same_behind, is_less}
+use Rattle.ms_translation.specs.Parts.{two, three, is_in}
+use Rattle.ms_presburger.specs.Sets.{every_place, digit_adds, carry_follows, adds, same_behind, is_less}
 use Rattle.ms_presburger.proofs.Addition.{Digits, Follows, AreCarries, adds-with, carries-of, quiet}
-use Rattle.ms_presburger.proofs.Agreeing.{Agrees, along, agrees-two, agrees-three, agrees-equivalence, agrees-implication, agrees-disjunction, some-more, some-none, agrees-some-place, agrees-every-place, agrees-some-set}
+use Rattle.ms_presburger.proofs.Quantifiers.{agrees-some-place, agrees-every-place, agrees-some-set}
+use Rattle.ms_translation.proofs.Agreeing.{Agrees, along, agrees-two, agrees-three, agrees-equivalence, agrees-implication, agrees-disjunction, some-more, some-none}
 use Rattle.ms_presburger.proofs.Binary.{digits_of}
 use Rattle.ms_presburger.proofs.Order.{last-of, less-with, not-true}
 use Rattle.ms_presburger.proofs.Places.{set-here, set-there, place-here, place-there, value-variable, value-next, value-zero, agrees-in, agrees-not-in, agrees-before}

@@ -1,22 +1,23 @@
 -- How deep and how large the source of sets is.
-use Rattle.std.proofs.Common.{◌≡◌, ℕ, ◌+◌, ◌*◌, ◌-◌, ◌^◌, ◌<◌, ◌≤◌, zero, suc, List, [], ◌∷◌, ◌++◌, length, map, take, drop, refl, ap, subst, arith}
+use Rattle.std.proofs.Common.{◌≡◌, ℕ, ◌+◌, ◌*◌, ◌-◌, ◌^◌, ◌<◌, ◌≤◌, zero, suc, List, [], ◌∷◌, ◌++◌, length, take, drop, refl, ap, subst, arith}
 use Rattle.ms_logic.specs.declared.checked.Checked.{Checked}
 use Rattle.ms_logic.specs.declared.mode.Quant.{Quant}
 use Rattle.ms_logic.specs.declared.mode.Rel.{Rel}
 use Rattle.ms_logic.specs.declared.mode.Rel.TheVariants.{Equal, Differs, Less, AtMost, Greater, AtLeast, Member, NotMember, Sub}
 use Rattle.ms_logic.specs.Tree.{Form}
 use Rattle.ms_logic.specs.Verdict.{Problem}
-use Rattle.ms_logic.specs.View.{Answers, globals_from, problem_of}
-use Rattle.ms_logic_core.specs.Size.{Extents, depth_of_source, extent_under, extents_of_each, extents_of_restrictions, greatest_depth, no_extents, size_of_source, total_size}
+use Rattle.ms_logic.specs.View.{Answers, problem_of}
+use Rattle.ms_logic_core.specs.Size.{Extents, depth_of_source, extent_under, extents_of_each, greatest_depth, no_extents, size_of_source, total_size}
 use Rattle.ms_presburger.specs.declared.summand.Summand.{Summand}
 use Rattle.ms_presburger.specs.declared.summand.Summand.TheVariants.{Constant, Shifted}
 use Rattle.ms_presburger.specs.Sets.{Scope, with_variable, half, sum_is, related, compared, over_sets, set_form, set_forms, summands_of}
-use Rattle.ms_presburger.specs.Source.{IsSetSource, global_of, place_of, set_problem}
+use Rattle.ms_presburger.specs.Source.{IsSetSource, place_of, set_problem}
 use Rattle.ms_presburger.specs.Tree.{Arithmetic, truth, falsity, comparison, brackets, negation, conjunction, disjunction, implication, equivalence, quantified, Arithmetics, no_arithmetics, more_arithmetics, extent, extent_of_all, reach, reach_of_all, size, size_of_all}
 use Rattle.ms_presburger.specs.inner.Scopes.{AreAllFactorsSmall, AreFactorsSmall}
 use Rattle.ms_presburger.proofs.Halves.{halved, length-front, length-rest}
 use Rattle.ms_presburger.proofs.Operands.{few-summands}
 use Rattle.ms_presburger.proofs.Sources.{problem-same}
+use Rattle.ms_translation.proofs.Globals.{count-globals, restrictions-have-no-parts}
 
 -- the halves of a list of two and more
 length-parts : (n : ℕ) (terms : List Summand) → n ≤ length terms → (length (take n terms) ≡ n) × (length (drop n terms) + n ≡ length terms)
@@ -156,26 +157,16 @@ module _ (E : Extents) where
     all-large no_arithmetics small scope x = omega arith
     all-large (more_arithmetics f fs) small scope x = omega (arith, large f small.0 scope x, all-large fs small.1 scope x)
 
--- the globals
-
-no-more : (E : Extents) (names : List (List ℕ)) (count : ℕ) → extents_of_restrictions E (globals_from count (map global_of names)) ≡ []
-no-more E [] count = refl
-no-more E (name ∷ names) count = no-more E names (count + 1)
-
-length-globals : (names : List (List ℕ)) (count : ℕ) → length (globals_from count (map global_of names)) ≡ length names
-length-globals [] count = refl
-length-globals (name ∷ names) count = ap (λ n. suc n) (length-globals names (count + 1))
-
 module _ (names : List (List ℕ)) (f : Arithmetic) (small : AreFactorsSmall f) where
   deep-problem : (levels : ℕ) → 64 * extent f ≤ 2 ^ levels → depth_of_source (set_problem names f) ≤ reach f + 2 * levels + 12
   deep-problem levels few =
-      let none = ap (λ l. greatest_depth (l ++ extents_of_each no_extents (set_problem names f).formulas)) (no-more no_extents names 0) in
+      let none = ap (λ l. greatest_depth (l ++ extents_of_each no_extents (set_problem names f).formulas)) (restrictions-have-no-parts no_extents names 0) in
       omega (arith, none, deep no_extents f levels few small (place_of names) (length names))
 
   large-problem : size_of_source (set_problem names f) ≤ 27 * size f + 3520 * extent f + length names + 1
   large-problem =
-      let none = ap (λ l. total_size (l ++ extents_of_each no_extents (set_problem names f).formulas)) (no-more no_extents names 0) in
-      omega (arith, none, large no_extents f small (place_of names) (length names), length-globals names 0)
+      let none = ap (λ l. total_size (l ++ extents_of_each no_extents (set_problem names f).formulas)) (restrictions-have-no-parts no_extents names 0) in
+      omega (arith, none, large no_extents f small (place_of names) (length names), count-globals names 0)
 
   pub is-deep : (made : Checked) (answers : Answers) → IsSetSource names f made → (levels : ℕ) → 64 * extent f ≤ 2 ^ levels → depth_of_source (problem_of made answers) ≤ reach f + 2 * levels + 12
   is-deep made answers is levels few =

@@ -7,7 +7,7 @@ use Rattle.ms_logic.specs.declared.formula.Formula.{Formula}
 use Rattle.ms_logic.specs.declared.mode.Quant.{Quant}
 use Rattle.ms_logic.specs.Tree.{Form, Forms, truth, falsity, no_forms, more_forms}
 use Rattle.ms_logic.specs.View.{forms, formula_of}
-use Rattle.ms_presburger.specs.inner.Made.{GiveAll, Gives}
+use Rattle.ms_translation.specs.Made.{GiveAll, Gives}
 use Rattle.ms_presburger.specs.inner.Scopes.{wrapped}
 
 differ : truth ≡ falsity → ⊥

@@ -1,9 +1,9 @@
 pub mod Addition
-pub mod Agreeing
 pub mod Atoms
 pub mod Binary
 pub mod Order
 pub mod Places
+pub mod Quantifiers
 pub mod Search
 pub mod Totals
 pub mod Scopes
@@ -13,7 +13,6 @@ pub mod Comparisons
 pub mod Deciding
 pub mod Named
 pub mod Sources
-pub mod Titles
 pub mod Halves
 pub mod Lookups
 pub mod Bits

@@ -11,7 +11,7 @@ use Rattle.ms_logic.specs.Terms.{if_within, number_value}
 use Rattle.ms_logic.specs.Tree.{Term, number_variable, numeral, plus, comparison, membership, set_variable}
 use Rattle.ms_logic.specs.Truth.{Meanings, NumbersRelate, HoldsOfBoth, MembershipHolds}
 use Rattle.ms_logic.proofs.Within.{if_within-of}
-use Rattle.ms_presburger.proofs.Agreeing.{Agrees}
+use Rattle.ms_translation.proofs.Agreeing.{Agrees}
 
 -- a set variable that is bound stands for its value, and the others for what they stood for
 pub set-here : (x : ℕ) (s : List ℕ) (e : Env) → (assign x (Set s) e).set x ≡ s

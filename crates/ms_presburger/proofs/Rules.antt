@@ -1,5 +1,5 @@
 -- The forms of a translation export nothing, their constants are in range, and variables of one number have one order.
-use Rattle.std.proofs.Common.{◌≡◌, ℕ, ◌+◌, ◌*◌, ◌^◌, ◌<◌, ◌≤◌, ◌==◌, zero, suc, inr, true, max, ⊎_elim, List, [], ◌∷◌, ◌++◌, length, map, refl, sym, ◌∙◌, ap, subst, arith}
+use Rattle.std.proofs.Common.{◌≡◌, ℕ, ◌+◌, ◌*◌, ◌^◌, ◌<◌, ◌≤◌, ◌==◌, zero, suc, inr, true, max, ⊎_elim, List, [], ◌∷◌, map, refl, subst, arith}
 use Rattle.std.proofs.lemmas.Bool.{cases_lt}
 use Rattle.std.proofs.lemmas.Bool.Decides.{nat_tests}
 use Rattle.std.proofs.lemmas.Nat.Bits.{bit_at_above}
@@ -10,27 +10,23 @@ use Rattle.ms_logic.specs.declared.mode.Rel.TheVariants.{Equal}
 use Rattle.ms_logic.specs.FiniteSet.{is_member, one_bits}
 use Rattle.ms_logic.specs.Lists.{Each}
 use Rattle.ms_logic.specs.Tree.{Form, truth, falsity, truth_variable, negation, conjunction, disjunction, implication, equivalence, comparison, set_comparison, membership, emptiness, set_variable, quantified, where_let, call, restrict, imported, exported, default_at, Forms, no_forms, more_forms, Restriction, unrestricted, restricted}
-use Rattle.ms_logic.specs.View.{globals_from}
 use Rattle.ms_logic.proofs.Members.{either_true}
 use Rattle.ms_logic.proofs.SetLaws.{one_bits_law}
-use Rattle.ms_logic_core.specs.Roots as roots
-use Rattle.ms_names_rules.specs.Numbers.{exports_in, exports_in_all}
+use Rattle.ms_names_rules.specs.Numbers.{exports_in}
 use Rattle.ms_names_checked.specs.Constants.{AreInRange, IsInRange}
-use Rattle.ms_names_checked.specs.Exports.{HasExportsInPlace, HaveExportsInPlace}
-use Rattle.ms_names_checked.specs.Orders.{BindsInOrder, DeclaresInOrder, EachBindsInOrder, HasOrder}
+use Rattle.ms_names_checked.specs.Orders.{BindsInOrder, EachBindsInOrder, HasOrder}
 use Rattle.ms_presburger.specs.declared.linear.Part.{Part}
 use Rattle.ms_presburger.specs.declared.linear.Part.TheVariants.{Number, Var, Times}
 use Rattle.ms_presburger.specs.declared.summand.Summand.{Summand}
 use Rattle.ms_presburger.specs.declared.summand.Summand.TheVariants.{Constant, Shifted}
 use Rattle.ms_presburger.specs.Sets.{Scope, summands_of_part, summands_of, term_of_summand, set_form}
-use Rattle.ms_presburger.specs.Source.{global_of}
 use Rattle.ms_presburger.specs.Tree.{Arithmetic, Arithmetics, no_arithmetics, more_arithmetics}
 use Rattle.ms_presburger.specs.Tree as numbers
 use Rattle.ms_presburger.specs.inner.Scopes.{AreAllFactorsSmall, AreFactorsSmall, IsFactorSmall}
 use Rattle.ms_presburger.proofs.Shapes.{IsClosed, HasSummands, HaveSummands, shape}
-
-none-of-two : {A : Type 0} (left right : List A) → left ≡ [] → right ≡ [] → left ++ right ≡ []
-none-of-two left right one other = ap (λ es. es ++ right) one ∙ other
+use Rattle.ms_presburger.proofs.Totals.{each-both}
+use Rattle.ms_translation.proofs.Exports.{ExportsNothing, ExportNothing, none-of-two, none-in-none, none-in-more, none-in-negation, none-in-conjunction, none-in-disjunction, none-in-implication, none-in-equivalence, none-in-body}
+use Rattle.ms_translation.proofs.Rules.{behind-sets, sets_then}
 
 -- any summands
 
@@ -60,43 +56,21 @@ mutual
 
 -- exports
 
-pub record ExportsNothing (f : Form) : Type 0 where
-  pub numbers : exports_in f ≡ []
-  pub exports : roots.exports_in f ≡ []
-  pub in_place : HasExportsInPlace f
-
-record ExportNothing (fs : Forms) : Type 0 where
-  numbers : exports_in_all fs ≡ []
-  exports : roots.exports_among fs ≡ []
-  in_place : HaveExportsInPlace fs
-
 abbrev Anywhere : ℕ → Type 0
 Anywhere x = Unit {0}
 
 exports-closed : IsClosed ExportsNothing ExportNothing Anywhere Any
 exports-closed = record {
   next = λ x from. tt;
-  none = record { numbers = refl; exports = refl; in_place = tt };
-  more = λ f fs one other. record {
-    numbers = none-of-two (exports_in f) (exports_in_all fs) one.numbers other.numbers;
-    exports = none-of-two (roots.exports_in f) (roots.exports_among fs) one.exports other.exports;
-    in_place = (one.in_place, other.in_place);
-  };
+  none = none-in-none;
+  more = none-in-more;
   truth = record { numbers = refl; exports = refl; in_place = tt };
   falsity = record { numbers = refl; exports = refl; in_place = tt };
-  negation = λ f one. record { numbers = one.numbers; exports = one.exports; in_place = one.in_place };
-  conjunction = λ fs each. record { numbers = each.numbers; exports = each.exports; in_place = each.in_place };
-  disjunction = λ fs each. record { numbers = each.numbers; exports = each.exports; in_place = each.in_place };
-  implication = λ f g one other. record {
-    numbers = none-of-two (exports_in f) (exports_in g) one.numbers other.numbers;
-    exports = none-of-two (roots.exports_in f) (roots.exports_in g) one.exports other.exports;
-    in_place = (one.in_place, other.in_place);
-  };
-  equivalence = λ f g one other. record {
-    numbers = none-of-two (exports_in f) (exports_in g) one.numbers other.numbers;
-    exports = none-of-two (roots.exports_in f) (roots.exports_in g) one.exports other.exports;
-    in_place = (one.in_place, other.in_place);
-  };
+  negation = none-in-negation;
+  conjunction = none-in-conjunction;
+  disjunction = none-in-disjunction;
+  implication = none-in-implication;
+  equivalence = none-in-equivalence;
   before = λ p q. record { numbers = refl; exports = refl; in_place = tt };
   place_in = λ positive p s. record { numbers = refl; exports = refl; in_place = tt };
   first_in = λ s. record { numbers = refl; exports = refl; in_place = tt };
@@ -106,9 +80,9 @@ exports-closed = record {
   differ = λ u v. record { numbers = refl; exports = refl; in_place = tt };
   term = λ y t any. record { numbers = refl; exports = refl; in_place = tt };
   some_set = λ x d f from one other. record { numbers = none-of-two (exports_in d) (exports_in f) one.numbers other.numbers; exports = other.exports; in_place = (one.numbers, other.in_place) };
-  a_set = λ q x f from one. record { numbers = one.numbers; exports = one.exports; in_place = (refl, one.in_place) };
-  a_place = λ q x f from one. record { numbers = one.numbers; exports = one.exports; in_place = (refl, one.in_place) };
-  a_later_place = λ q x f from one. record { numbers = one.numbers; exports = one.exports; in_place = (refl, one.in_place) };
+  a_set = λ q x f from one. none-in-body q Two x f one;
+  a_place = λ q x f from one. none-in-body q One (x + 1) f one;
+  a_later_place = λ q x f from one. none-in-body q One (x + 3) f one;
 }
 
 pub exports-nothing : (f : Arithmetic) (scope : Scope) (x : ℕ) → ExportsNothing (set_form f scope x)
@@ -177,10 +151,6 @@ small-part scope (Number (suc n)) small = (tt, tt)
 small-part scope (Var name) small = (omega arith, tt)
 small-part scope (Times n name) small = small-places (scope name) (one_bits n) (small-bits n small)
 
-each-both : (P : Summand → Type 0) (left right : List Summand) → Each P left → Each P right → Each P (left ++ right)
-each-both P [] right one other = other
-each-both P (t ∷ more) right one other = (one.0, each-both P more right one.1 other)
-
 small-sum : (scope : Scope) (parts : List Part) → Each IsFactorSmall parts → Each IsTermSmall (summands_of scope parts)
 small-sum scope [] small = tt
 small-sum scope (part ∷ more) small = each-both IsTermSmall (summands_of_part scope part) (summands_of scope more) (small-part scope part small.0) (small-sum scope more small.1)
@@ -238,13 +208,9 @@ abbrev mutual
   top_of_restriction unrestricted = 0
   top_of_restriction (restricted d) = top d
 
-turns : ℕ → List Order
+pub turns : ℕ → List Order
 turns zero = []
 turns (suc n) = Two ∷ (One ∷ turns n)
-
-pub orders : ℕ → ℕ → List Order
-orders zero many = turns many
-orders (suc count) many = Two ∷ orders count many
 
 set-turn : (n k : ℕ) → k < n → HasOrder (turns n) (2 * k) Two
 unfolding turns
@@ -258,35 +224,22 @@ place-turn zero k below = absurd (omega (arith, below))
 place-turn (suc n) zero below = refl
 place-turn (suc n) (suc k) below = let next : suc (suc (2 * k + 1)) ≡ 2 * suc k + 1 = omega arith in let P : ℕ → Type 0 = λ i. HasOrder (turns (suc n)) i One in subst P next (place-turn n k (omega (arith, below)))
 
-behind-globals : (count many k : ℕ) (o : Order) → HasOrder (turns many) k o → HasOrder (orders count many) (count + k) o
-unfolding orders
-behind-globals zero many k o has = let same : k ≡ 0 + k = omega arith in let P : ℕ → Type 0 = λ i. HasOrder (turns many) i o in subst P same has
-behind-globals (suc count) many k o has = let same : suc (count + k) ≡ suc count + k = omega arith in let P : ℕ → Type 0 = λ i. HasOrder (orders (suc count) many) i o in subst P same (behind-globals count many k o has)
-
-pub global-order : (count many x : ℕ) → x < count → HasOrder (orders count many) x Two
-unfolding orders
-global-order zero many x below = absurd (omega (arith, below))
-global-order (suc count) many zero below = refl
-global-order (suc count) many (suc x) below = global-order count many x (omega (arith, below))
-
 module _ (count : ℕ) where
   -- a set's turn
   abbrev SetsFrom : ℕ → Type 0
   SetsFrom x = (k : ℕ) × (x ≡ count + 2 * k)
 
   abbrev InTurn : Form → Type 0
-  InTurn f = (many : ℕ) → top f ≤ many → BindsInOrder (orders count many) f
+  InTurn f = (many : ℕ) → top f ≤ many → BindsInOrder (sets_then count (turns many)) f
 
   abbrev EachInTurn : Forms → Type 0
-  EachInTurn fs = (many : ℕ) → top_of_all fs ≤ many → EachBindsInOrder (orders count many) fs
+  EachInTurn fs = (many : ℕ) → top_of_all fs ≤ many → EachBindsInOrder (sets_then count (turns many)) fs
 
-  set-order : (x many : ℕ) → SetsFrom x → x < many → HasOrder (orders count many) x Two
-  set-order x many from below = let P : ℕ → Type 0 = λ i. HasOrder (orders count many) i Two in subst P (sym from.1) (behind-globals count many (2 * from.0) Two (set-turn many from.0 (omega (arith, from.1, below))))
+  set-order : (x many : ℕ) → SetsFrom x → x < many → HasOrder (sets_then count (turns many)) x Two
+  set-order x many from below = behind-sets count (turns many) (2 * from.0) x Two from.1 (set-turn many from.0 (omega (arith, from.1, below)))
 
-  place-order : (x many : ℕ) → SetsFrom x → x + 1 < many → HasOrder (orders count many) (x + 1) One
-  place-order x many from below =
-      let same : count + (2 * from.0 + 1) ≡ x + 1 = omega (arith, from.1) in
-      let P : ℕ → Type 0 = λ i. HasOrder (orders count many) i One in subst P same (behind-globals count many (2 * from.0 + 1) One (place-turn many from.0 (omega (arith, from.1, below))))
+  place-order : (x many : ℕ) → SetsFrom x → x + 1 < many → HasOrder (sets_then count (turns many)) (x + 1) One
+  place-order x many from below = behind-sets count (turns many) (2 * from.0 + 1) (x + 1) One (omega (arith, from.1)) (place-turn many from.0 (omega (arith, from.1, below)))
 
   next-set : (x : ℕ) → SetsFrom x → SetsFrom (x + 2)
   next-set x from = (from.0 + 1, omega (arith, from.1))
@@ -316,13 +269,9 @@ module _ (count : ℕ) where
     a_place = λ q x f from one many above. (place-order x many from (omega (arith, above)), tt, one many (omega (arith, above)));
     a_later_place = λ q x f from one many above.
         let same : x + 2 + 1 ≡ x + 3 = omega arith in
-        let P : ℕ → Type 0 = λ i. HasOrder (orders count many) i One in
+        let P : ℕ → Type 0 = λ i. HasOrder (sets_then count (turns many)) i One in
         (subst P same (place-order (x + 2) many (next-set x from) (omega (arith, above))), tt, one many (omega (arith, above)));
   }
 
-  pub in-turn : (f : Arithmetic) (scope : Scope) → (many : ℕ) → top (set_form f scope count) ≤ many → BindsInOrder (orders count many) (set_form f scope count)
+  pub in-turn : (f : Arithmetic) (scope : Scope) → (many : ℕ) → top (set_form f scope count) ≤ many → BindsInOrder (sets_then count (turns many)) (set_form f scope count)
   in-turn f scope = shape InTurn EachInTurn SetsFrom Any turns-closed f (has-any f) scope count (0, omega arith)
-
-  pub declared-in-turn : (many : ℕ) (names : List (List ℕ)) (from : ℕ) → from + length names ≤ count → Each (DeclaresInOrder (orders count many)) (globals_from from (map global_of names))
-  declared-in-turn many [] from within = tt
-  declared-in-turn many (name ∷ names) from within = ((global-order count many from (omega (arith, within)), tt), declared-in-turn many names (from + 1) (omega (arith, within)))

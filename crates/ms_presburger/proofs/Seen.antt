@@ -1,6 +1,5 @@
 -- The variables of a translation are seen where they stand, and what it binds is new.
-use Rattle.std.proofs.Common.{◌≡◌, ℕ, ◌+◌, ◌<◌, ◌≤◌, zero, suc, cond, inl, inr, ⊎_elim, List, [], ◌∷◌, ◌++◌, length, map, take, drop, refl, sym, ap, subst, arith}
-use Rattle.std.proofs.lemmas.Bool.{cases_lt}
+use Rattle.std.proofs.Common.{ℕ, ◌+◌, ◌<◌, zero, suc, cond, inl, inr, List, [], ◌∷◌, length, map, take, drop, refl, sym, ap, subst, arith}
 use Rattle.ms_logic.specs.declared.mode.Order.TheVariants.{One, Two}
 use Rattle.ms_logic.specs.declared.mode.Quant.{Quant}
 use Rattle.ms_logic.specs.declared.mode.Rel.{Rel}
@@ -9,23 +8,18 @@ use Rattle.ms_logic.specs.Assignment.{Variable}
 use Rattle.ms_logic.specs.FiniteSet.{one_bits}
 use Rattle.ms_logic.specs.Lists.{Each}
 use Rattle.ms_logic.specs.Tree.{set_comparison, set_variable}
-use Rattle.ms_logic.specs.Verdict.{variables_of}
-use Rattle.ms_logic.specs.View.{globals_from}
 use Rattle.ms_names_rules.specs.Numbers.{Tables, Sees, IsNew, seeing, IsNumbered, AreNumbered}
 use Rattle.ms_presburger.specs.declared.linear.Part.{Part}
 use Rattle.ms_presburger.specs.declared.linear.Part.TheVariants.{Number, Var, Times}
 use Rattle.ms_presburger.specs.declared.summand.Summand.{Summand}
 use Rattle.ms_presburger.specs.declared.summand.Summand.TheVariants.{Constant, Shifted}
 use Rattle.ms_presburger.specs.Sets.{Scope, with_variable, summands_of_part, summands_of, term_of_summand, adds, is_less, half, sum_is, related, compared, over_sets, set_form, set_forms}
-use Rattle.ms_presburger.specs.Source.{global_of, place_of}
+use Rattle.ms_presburger.specs.Source.{place_of}
 use Rattle.ms_presburger.specs.Tree.{Arithmetic, truth, falsity, comparison, brackets, negation, conjunction, disjunction, implication, equivalence, quantified, Arithmetics, no_arithmetics, more_arithmetics, names_in_part, names_in_sum, except, free_places, free_places_in_all}
 use Rattle.ms_presburger.proofs.Named.{IsNamed, place-below, each-weaker}
 use Rattle.ms_presburger.proofs.Scopes.{each-bound, each-left, each-right, except-none}
-use Rattle.ms_presburger.proofs.Totals.{each-take, each-drop}
-
-new-above : (seen : List Variable) (a b : ℕ) → a ≤ b → IsNew seen a → IsNew seen b
-new-above [] a b above new = tt
-new-above (v ∷ vs) a b above new = (omega (arith, new.0), new-above vs a b above new.1)
+use Rattle.ms_presburger.proofs.Totals.{each-both, each-take, each-drop}
+use Rattle.ms_translation.proofs.Globals.{names_seen, names-new, new-above, sees-name}
 
 -- behind what is bound at x
 new-behind : (seen : List Variable) (x y : ℕ) → x < y → IsNew seen x → IsNew (seeing x Two seen) y
@@ -153,10 +147,6 @@ part-sees seen scope (Number (suc n)) each = (tt, tt)
 part-sees seen scope (Var name) each = (each.0, tt)
 part-sees seen scope (Times n name) each = moved-sees seen (scope name) (one_bits n) each.0
 
-each-both : (P : Summand → Type 0) (left right : List Summand) → Each P left → Each P right → Each P (left ++ right)
-each-both P [] right one other = other
-each-both P (t ∷ more) right one other = (one.0, each-both P more right one.1 other)
-
 sum-sees : (seen : List Variable) (scope : Scope) (parts : List Part) → Each (NameSees seen scope) (names_in_sum parts) → Each (SummandSees seen) (summands_of scope parts)
 sum-sees seen scope [] each = tt
 sum-sees seen scope (part ∷ more) each =
@@ -200,22 +190,7 @@ module _ (tables : Tables) (bound : ℕ) where
     all-numbered (more_arithmetics f fs) seen scope x new each =
         (numbered f seen scope x new (each-left (NameSees seen scope) (free_places f) (free_places_in_all fs) each), all-numbered fs seen scope x new (each-right (NameSees seen scope) (free_places f) (free_places_in_all fs) each))
 
--- the free names as globals
-
-globals-new : (names : List (List ℕ)) (start : ℕ) → IsNew (variables_of (globals_from start (map global_of names))) (start + length names)
-globals-new [] start = tt
-globals-new (name ∷ names) start = (omega arith, new-above (variables_of (globals_from (start + 1) (map global_of names))) (start + 1 + length names) (start + length (name ∷ names)) (omega arith) (globals-new names (start + 1)))
-
-globals-there : (names : List (List ℕ)) (start p : ℕ) → start ≤ p → p < start + length names → Sees (variables_of (globals_from start (map global_of names))) p Two
-globals-there [] start p from below = absurd (omega (arith, from, below))
-globals-there (name ∷ names) start p from below =
-    ⊎_elim (λ later. inr (globals-there names (start + 1) p (omega (arith, later)) (omega (arith, below))))
-    (λ first. let same : start ≡ p = omega (arith, from, first) in inl (ap (λ (n : ℕ). record { name = n; order = Two }) same)) (cases_lt start p)
-
-abbrev pub names_seen : List (List ℕ) → List Variable
-names_seen names = variables_of (globals_from 0 (map global_of names))
-
 pub main-numbered : (tables : Tables) (bound : ℕ) (names : List (List ℕ)) (f : Arithmetic) → Each (IsNamed names) (free_places f) → IsNumbered tables bound (names_seen names) (set_form f (place_of names) (length names))
 main-numbered tables bound names f covered =
-    numbered tables bound f (names_seen names) (place_of names) (length names) (new-above (names_seen names) (0 + length names) (length names) (omega arith) (globals-new names 0))
-    (each-weaker (IsNamed names) (NameSees (names_seen names) (place_of names)) (λ x named. globals-there names 0 (place_of names x) (omega arith) (omega (arith, place-below names x named))) (free_places f) covered)
+    numbered tables bound f (names_seen names) (place_of names) (length names) (names-new names)
+    (each-weaker (IsNamed names) (NameSees (names_seen names) (place_of names)) (λ x named. sees-name names (place_of names x) (place-below names x named)) (free_places f) covered)

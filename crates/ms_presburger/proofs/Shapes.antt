@@ -9,7 +9,8 @@ use Rattle.ms_logic.specs.Lists.{Each}
 use Rattle.ms_logic.specs.Tree.{Term, number_variable, numeral, plus, SetTerm, set_variable, Form, comparison, set_comparison, membership, emptiness, quantified, unrestricted, Forms, no_forms, more_forms}
 use Rattle.ms_logic.specs.Tree as sets
 use Rattle.ms_presburger.specs.declared.summand.Summand.{Summand}
-use Rattle.ms_presburger.specs.Sets.{Scope, with_variable, term_of_summand, summands_of, two, three, is_in, some_set, every_place, digit_adds, carry_follows, adds, same_behind, is_less, half, sum_is, related, compared, over_sets, set_form, set_forms}
+use Rattle.ms_translation.specs.Parts.{two, three, is_in}
+use Rattle.ms_presburger.specs.Sets.{Scope, with_variable, term_of_summand, summands_of, some_set, every_place, digit_adds, carry_follows, adds, same_behind, is_less, half, sum_is, related, compared, over_sets, set_form, set_forms}
 use Rattle.ms_presburger.specs.Tree.{Arithmetic, truth, falsity, brackets, negation, conjunction, disjunction, implication, equivalence, Arithmetics, no_arithmetics, more_arithmetics}
 use Rattle.ms_presburger.specs.Tree as numbers
 use Rattle.ms_presburger.proofs.Totals.{each-take, each-drop}

@@ -1,72 +1,31 @@
 -- The source of sets for a formula tells of each valuation whether the formula holds.
-use Rattle.std.proofs.Common.{◌≡◌, ℕ, ◌+◌, ◌<◌, ◌≤◌, false, ◌↔◌, inl, inr, ⊎_elim, List, [], ◌∷◌, length, get_or, map, None, refl, sym, ◌∙◌, ap, subst, arith}
-use Rattle.std.proofs.lemmas.Bool.{cases_lt}
-use Rattle.std.specs.List.{zip}
-use Rattle.ms_logic.specs.declared.assignment.Value.TheVariants.{Set}
+use Rattle.std.proofs.Common.{◌≡◌, ℕ, false, ◌↔◌, inl, inr, ⊎_elim, List, [], ◌∷◌, length, get_or, None, refl, sym, ◌∙◌, ap, subst, arith}
 use Rattle.ms_logic.specs.declared.checked.Checked.{Checked}
-use Rattle.ms_logic.specs.declared.checked.Global.{Global}
-use Rattle.ms_logic.specs.declared.mode.Mode.{Mode}
-use Rattle.ms_logic.specs.declared.mode.Order.TheVariants.{Two}
-use Rattle.ms_logic.specs.Assignment.{Universe, Env, IsValueOf, GivesEach}
-use Rattle.ms_logic.specs.FiniteSet.{IsRising, one_bits}
+use Rattle.ms_logic.specs.declared.mode.Mode.TheVariants.{Ws1s}
+use Rattle.ms_logic.specs.Assignment.{Env}
+use Rattle.ms_logic.specs.FiniteSet.{one_bits}
 use Rattle.ms_logic.specs.Lists.{Each}
-use Rattle.ms_logic.specs.Tree.{Form}
-use Rattle.ms_logic.specs.Truth.{Given, Meanings, AllMet, meanings_of}
-use Rattle.ms_logic.specs.Verdict.{Assigns, MainYes, MainNo, variables_of}
-use Rattle.ms_logic.specs.View.{Answers, forms, globals_from, import_of, main_question, predicate_of, problem_of}
-use Rattle.ms_logic.proofs.Consistent.{IsConsistent, consistent_given, never_both}
+use Rattle.ms_logic.specs.Verdict.{Assigns, MainYes, MainNo}
+use Rattle.ms_logic.specs.View.{Answers, main_question, problem_of}
+use Rattle.ms_logic.proofs.Consistent.{never_both}
 use Rattle.ms_logic.proofs.Members.{all_natural}
 use Rattle.ms_logic.proofs.SetLaws.{one_bits_law}
 use Rattle.ms_presburger.specs.Meaning.{numbers_of, TellsTruth, IsOverNumbers, TellsVerdict}
 use Rattle.ms_presburger.specs.Numbers.{Valuation, Holds}
-use Rattle.ms_presburger.specs.Source.{IsSetSource, global_of, main_form, place_of, set_problem}
+use Rattle.ms_presburger.specs.Source.{IsSetSource, main_form, place_of, set_problem}
 use Rattle.ms_presburger.specs.Tree.{Arithmetic, free_names, free_places}
-use Rattle.ms_presburger.proofs.Agreeing.{Agrees}
 use Rattle.ms_presburger.proofs.Binary.{number_of-one_bits}
 use Rattle.ms_presburger.proofs.Named.{IsNamed, once-covers, place-below, name-at-place, each-named, each-weaker}
 use Rattle.ms_presburger.proofs.Scopes.{Stands}
-use Rattle.ms_presburger.proofs.Titles.{main-alone}
 use Rattle.ms_presburger.proofs.Translated.{translated}
-
--- no predicate and no import
-abbrev pub nothing : Given
-nothing = record { predicates = []; imports = [] }
-
-abbrev pub meanings : Meanings
-meanings = meanings_of nothing
-
-consistent : IsConsistent meanings
-consistent = consistent_given nothing
+use Rattle.ms_translation.proofs.Agreeing.{Agrees}
+use Rattle.ms_translation.proofs.Asked.{consistent, main-same, meanings}
+use Rattle.ms_translation.proofs.Asked as asked
+use Rattle.ms_translation.proofs.Globals.{all-met, gives-sets, sets-given}
 
 -- whatever its imports answer, since it has none
 pub problem-same : (names : List (List ℕ)) (f : Arithmetic) (made : Checked) (answers : Answers) → IsSetSource names f made → set_problem names f ≡ problem_of made answers
-problem-same names f made answers is =
-    let modes = ap (λ (mode : Mode). record (set_problem names f) { mode = mode }) (sym is.mode) in
-    let globals = ap (λ (gs : List Global). record (set_problem names f) { mode = made.mode; globals = globals_from 0 gs }) (sym is.globals) in
-    let predicates = ap (λ ps. record (set_problem names f) { mode = made.mode; globals = globals_from 0 made.globals; given = record { predicates = map predicate_of ps; imports = [] } }) (sym is.predicates) in
-    let imports = ap (λ used. record (set_problem names f) { mode = made.mode; globals = globals_from 0 made.globals; given = record { predicates = map predicate_of made.predicates; imports = map (λ p. import_of p.0 p.1) (zip used answers) } }) (sym is.imports) in
-    let formulas = ap (λ (fs : List Form). record (problem_of made answers) { formulas = forms fs }) (sym is.formulas) in
-    modes ∙ (globals ∙ (predicates ∙ (imports ∙ formulas)))
-
--- no global has a restriction
-no-restrictions : (m : Meanings) (names : List (List ℕ)) (count : ℕ) (e : Env) → AllMet m (globals_from count (map global_of names)) e
-no-restrictions m [] count e = tt
-no-restrictions m (name ∷ names) count e = (tt, no-restrictions m names (count + 1) e)
-
--- the values of the free names from a number on
-
-sets-given : (names : List (List ℕ)) (count : ℕ) (e : Env) → GivesEach (variables_of (globals_from count (map global_of names))) e →
-    (p : ℕ) → count ≤ p → p < count + length names → IsRising (e.set p)
-sets-given [] count e given p from below = absurd (omega (arith, from, below))
-sets-given (name ∷ names) count e given p from below =
-    ⊎_elim (λ later. sets-given names (count + 1) e given.1 p (omega (arith, later)) (omega (arith, below)))
-    (λ first. let same : count ≡ p = omega (arith, from, first) in let P : ℕ → Type 0 = λ k. IsRising (e.set k) in subst P same given.0.0) (cases_lt count p)
-
-gives-sets : (names : List (List ℕ)) (count : ℕ) (e : Env) → e.universe ≡ None → ((p : ℕ) → IsRising (e.set p)) → GivesEach (variables_of (globals_from count (map global_of names))) e
-gives-sets [] count e natural sets = tt
-gives-sets (name ∷ names) count e natural sets =
-    let P : Universe → Type 0 = λ u. IsValueOf Two u (Set (e.set count)) in
-    (subst P (sym natural) (sets count, all_natural (e.set count)), gives-sets names (count + 1) e natural sets)
+problem-same names f made answers is = asked.problem-same Ws1s names (main_form names f ∷ []) made is answers
 
 module _ (names : List (List ℕ)) (f : Arithmetic) (free : names ≡ free_names f) where
   covered : Each (IsNamed names) (free_places f)
@@ -77,18 +36,18 @@ module _ (names : List (List ℕ)) (f : Arithmetic) (free : names ≡ free_names
   agrees-at e assigned v same =
       translated meanings consistent f v (place_of names) (length names) e assigned.universe
       (each-weaker (IsNamed names) (Stands e (place_of names) v (length names)) (λ x named. let below = place-below names x named in
-      (below, sets-given names 0 e assigned.values (place_of names x) (omega arith) (omega (arith, below)), same x named)) (free_places f) covered)
+      (below, (sets-given names 0 e assigned.values (place_of names x) (omega arith) (omega (arith, below))).0, same x named)) (free_places f) covered)
 
   main-yes : (e : Env) (P : Type 0) → Agrees meanings (main_form names f) e P → MainYes (set_problem names f) e ↔ P
   main-yes e P agrees = (
     (λ main. ⊎_elim (λ yes. yes.0) (λ no. absurd (never_both meanings consistent (main_form names f) e main.1.0 no.1)) agrees),
-    (λ held. (no-restrictions meanings names 0 e, ⊎_elim (λ yes. (yes.1, tt)) (λ no. absurd (no.0 held)) agrees)),
+    (λ held. (all-met meanings names 0 e, ⊎_elim (λ yes. (yes.1, tt)) (λ no. absurd (no.0 held)) agrees)),
   )
 
   main-no : (e : Env) (P : Type 0) → Agrees meanings (main_form names f) e P → MainNo (set_problem names f) e ↔ (¬ P)
   main-no e P agrees = (
     (λ main. ⊎_elim (λ yes. absurd (⊎_elim (λ no. never_both meanings consistent (main_form names f) e yes.1 no) (λ never. never) main.1.1)) (λ no. no.0) agrees),
-    (λ fails. (no-restrictions meanings names 0 e, ⊎_elim (λ yes. absurd (fails yes.0)) (λ no. ((inr no.1, tt), inl no.1)) agrees)),
+    (λ fails. (all-met meanings names 0 e, ⊎_elim (λ yes. absurd (fails yes.0)) (λ no. ((inr no.1, tt), inl no.1)) agrees)),
   )
 
   truth-told : TellsTruth names f (set_problem names f)
@@ -103,7 +62,7 @@ module _ (names : List (List ℕ)) (f : Arithmetic) (free : names ≡ free_names
 
   env-assigned : (v : Valuation) → Assigns (set_problem names f) (env-of v)
   unfolding env-of
-  env-assigned v = record { universe = refl; values = gives-sets names 0 (env-of v) refl (λ p. (one_bits_law (v (get_or names p []))).rising) }
+  env-assigned v = record { universe = refl; values = gives-sets names 0 (env-of v) (λ p above below. ((one_bits_law (v (get_or names p []))).rising, all_natural (one_bits (v (get_or names p []))))) }
 
   env-numbers : (v : Valuation) (x : List ℕ) → IsNamed names x → numbers_of names (env-of v) x ≡ v x
   unfolding env-of
@@ -128,10 +87,10 @@ module _ (names : List (List ℕ)) (f : Arithmetic) (free : names ≡ free_names
 -- for whatever is made as the source says
 
 pub tells-truth : (names : List (List ℕ)) (f : Arithmetic) (made : Checked) (answers : Answers) → names ≡ free_names f → IsSetSource names f made → TellsTruth names f (main_question made answers)
-tells-truth names f made answers free is = subst (TellsTruth names f) (problem-same names f made answers is ∙ main-alone made answers is.titles) (truth-told names f free)
+tells-truth names f made answers free is = subst (TellsTruth names f) (main-same Ws1s names (main_form names f ∷ []) made is answers) (truth-told names f free)
 
 pub is-over-numbers : (names : List (List ℕ)) (f : Arithmetic) (made : Checked) (answers : Answers) → names ≡ free_names f → IsSetSource names f made → IsOverNumbers names (main_question made answers)
-is-over-numbers names f made answers free is = subst (IsOverNumbers names) (problem-same names f made answers is ∙ main-alone made answers is.titles) (numbers-assigned names f free)
+is-over-numbers names f made answers free is = subst (IsOverNumbers names) (main-same Ws1s names (main_form names f ∷ []) made is answers) (numbers-assigned names f free)
 
 pub tells-verdict : (names : List (List ℕ)) (f : Arithmetic) (made : Checked) (answers : Answers) → names ≡ free_names f → IsSetSource names f made → TellsVerdict f (main_question made answers)
-tells-verdict names f made answers free is = subst (TellsVerdict f) (problem-same names f made answers is ∙ main-alone made answers is.titles) (verdict-told names f free)
+tells-verdict names f made answers free is = subst (TellsVerdict f) (main-same Ws1s names (main_form names f ∷ []) made is answers) (verdict-told names f free)

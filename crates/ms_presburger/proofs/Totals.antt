@@ -1,5 +1,5 @@
 -- That a set is the sum of some summands agrees with what it says of numbers.
-use Rattle.std.proofs.Common.{◌≡◌, ◌≢◌, ℕ, ◌+◌, ◌*◌, ◌^◌, ◌<◌, ◌≤◌, zero, suc, ◌⊎◌, ◌↔◌, inl, inr, ⊎_elim, List, [], ◌∷◌, length, take, drop, filter, Some, None, refl, sym, ◌∙◌, ap, subst, arith}
+use Rattle.std.proofs.Common.{◌≡◌, ◌≢◌, ℕ, ◌+◌, ◌*◌, ◌^◌, ◌<◌, ◌≤◌, zero, suc, ◌⊎◌, ◌↔◌, inl, inr, ⊎_elim, List, [], ◌∷◌, ◌++◌, length, take, drop, filter, Some, None, refl, sym, ◌∙◌, ap, subst, arith}
 use Rattle.std.proofs.lemmas.Bool.{cases_lt}
 use Rattle.ms_logic.specs.declared.assignment.Value.TheVariants.{Set}
 use Rattle.ms_logic.specs.declared.mode.Rel.{Rel}
@@ -16,7 +16,8 @@ use Rattle.ms_presburger.specs.declared.summand.Summand.{Summand}
 use Rattle.ms_presburger.specs.declared.summand.Summand.TheVariants.{Constant, Shifted}
 use Rattle.ms_presburger.specs.Digits.{number_of}
 use Rattle.ms_presburger.specs.Sets.{term_of_summand, half, sum_is, some_set, adds, is_less, related, compared}
-use Rattle.ms_presburger.proofs.Agreeing.{Agrees, along, agrees-falsity, agrees-negation, agrees-where}
+use Rattle.ms_presburger.proofs.Quantifiers.{agrees-where}
+use Rattle.ms_translation.proofs.Agreeing.{Agrees, along, agrees-falsity, agrees-negation}
 use Rattle.ms_presburger.proofs.Atoms.{agrees-adds, agrees-less}
 use Rattle.ms_presburger.proofs.Binary.{number_of-unique, number_of-one_bits, number_of-moved_up, number_of-positive}
 use Rattle.ms_presburger.proofs.Places.{set-here, set-there, both-hold, both-held}
@@ -69,7 +70,11 @@ pub total-kept : (e : Env) (x y : ℕ) (s : List ℕ) → x ≤ y → (terms : L
 total-kept e x y s behind [] stands = refl
 total-kept e x y s behind (t ∷ more) stands = omega (arith, counts-kept e x y s behind t stands.0, total-kept e x y s behind more stands.1)
 
--- the front and the rest of a list
+-- two lists one behind the other, and the front and the rest of a list
+pub each-both : (P : Summand → Type 0) (left right : List Summand) → Each P left → Each P right → Each P (left ++ right)
+each-both P [] right one other = other
+each-both P (t ∷ more) right one other = (one.0, each-both P more right one.1 other)
+
 pub each-take : (P : Summand → Type 0) (n : ℕ) (terms : List Summand) → Each P terms → Each P (take n terms)
 each-take P zero terms each = tt
 each-take P (suc n) [] each = tt

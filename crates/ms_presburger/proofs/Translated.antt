@@ -11,7 +11,8 @@ use Rattle.ms_presburger.specs.Digits.{number_of}
 use Rattle.ms_presburger.specs.Numbers.{Valuation, with_number, value_of_sum, AtSome, AtAll, Holds, EachHolds, SomeHolds}
 use Rattle.ms_presburger.specs.Sets.{Scope, with_variable, summands_of, over_sets, set_form, set_forms}
 use Rattle.ms_presburger.specs.Tree.{Arithmetic, truth, falsity, comparison, brackets, negation, conjunction, disjunction, implication, equivalence, quantified, Arithmetics, no_arithmetics, more_arithmetics, names_in_sum, except, free_places, free_places_in_all}
-use Rattle.ms_presburger.proofs.Agreeing.{Agrees, EachAgrees, SomeAgrees, along, agrees-truth, agrees-falsity, agrees-negation, agrees-implication, agrees-equivalence, each-none, each-more, some-none, some-more, agrees-conjunction, agrees-disjunction, agrees-some-set, agrees-every-set}
+use Rattle.ms_presburger.proofs.Quantifiers.{agrees-some-set, agrees-every-set}
+use Rattle.ms_translation.proofs.Agreeing.{Agrees, EachAgrees, SomeAgrees, along, agrees-truth, agrees-falsity, agrees-negation, agrees-implication, agrees-equivalence, each-none, each-more, some-none, some-more, agrees-conjunction, agrees-disjunction}
 use Rattle.ms_presburger.proofs.Binary.{set_of_number}
 use Rattle.ms_presburger.proofs.Deciding.{truth-is-decided}
 use Rattle.ms_presburger.proofs.Scopes.{Stands, each-left, each-right, stand-summands, total-summands, stand-bound, except-none}

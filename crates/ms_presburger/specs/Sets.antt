@@ -9,7 +9,7 @@ use Rattle.ms_logic.specs.declared.mode.Quant.TheVariants.{Ex, All}
 use Rattle.ms_logic.specs.declared.mode.Rel.{Rel}
 use Rattle.ms_logic.specs.declared.mode.Rel.TheVariants.{Equal, Differs, Less, AtMost, Greater, AtLeast, Member, NotMember, Sub}
 use Rattle.ms_logic.specs.FiniteSet.{one_bits}
-use Rattle.ms_logic.specs.Tree.{SetTerm, set_variable, pconst, shift_up, Form, comparison, set_comparison, membership, emptiness, quantified, unrestricted, restricted, number_variable, numeral, plus, Forms, no_forms, more_forms}
+use Rattle.ms_logic.specs.Tree.{SetTerm, set_variable, pconst, shift_up, Form, set_comparison, membership, emptiness, quantified, unrestricted, restricted, number_variable, numeral, plus, Forms, no_forms, more_forms}
 use Rattle.ms_logic.specs.Tree as sets
 use Rattle.ms_presburger.specs.declared.linear.Part.{Part}
 use Rattle.ms_presburger.specs.declared.linear.Part.TheVariants.{Number, Var, Times}
@@ -17,6 +17,7 @@ use Rattle.ms_presburger.specs.declared.summand.Summand.{Summand}
 use Rattle.ms_presburger.specs.declared.summand.Summand.TheVariants.{Constant, Shifted}
 use Rattle.ms_presburger.specs.Tree.{Arithmetic, truth, falsity, brackets, negation, conjunction, disjunction, implication, equivalence, Arithmetics, no_arithmetics, more_arithmetics}
 use Rattle.ms_presburger.specs.Tree as numbers
+use Rattle.ms_translation.specs.Parts.{is_in, less, three, two}
 
 -- the set variables of the names in scope
 abbrev pub Scope : Type 0
@@ -40,16 +41,6 @@ summands_of_part scope (Times n name) = map (λ j. Shifted (scope name) j) (one_
 
 abbrev pub summands_of : Scope → List Part → List Summand
 summands_of scope parts = flat_map (summands_of_part scope) parts
-
-abbrev pub two : Form → Form → Forms
-two f g = more_forms f (more_forms g no_forms)
-
-abbrev pub three : Form → Form → Form → Forms
-three f g h = more_forms f (two g h)
-
--- p in s
-abbrev pub is_in : ℕ → ℕ → Form
-is_in p s = membership true (number_variable p) (set_variable s)
 
 -- ex2 x where d: f
 abbrev pub some_set : ℕ → Form → Form → Form
@@ -78,7 +69,7 @@ adds y u v x =
 -- q in u <=> q in v, for each q behind p
 abbrev pub same_behind : ℕ → ℕ → ℕ → ℕ → Form
 same_behind p q u v =
-    every_place q (sets.implication (comparison Less (number_variable p) (number_variable q)) (sets.equivalence (is_in q u) (is_in q v)))
+    every_place q (sets.implication (less p q) (sets.equivalence (is_in q u) (is_in q v)))
 
 -- u < v: at the last digit that differs, v has a one
 abbrev pub is_less : ℕ → ℕ → ℕ → Form

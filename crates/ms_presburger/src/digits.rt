@@ -1,25 +1,19 @@
 //! Sums and orders of numbers by their digits. A set is bound at `x`, and places at the numbers between those of sets.
 
 ghost use Rattle.ms_logic.specs.Tree.{membership, number_variable, plus, set_variable};
-ghost use Rattle.ms_logic.specs.View.{formula_of};
-ghost use Rattle.ms_presburger.specs.Sets.{adds, carry_follows, digit_adds, is_in, is_less, same_behind};
-ghost use Rattle.ms_presburger.specs.inner.Made.{Gives};
-ghost use Rattle.std.specs.Prelude.{◌≡◌, ◌+◌, ◌<◌, ◌^◌, true};
+ghost use Rattle.ms_presburger.specs.Sets.{adds, carry_follows, digit_adds, is_less, same_behind};
+ghost use Rattle.ms_translation.specs.Made.{Gives};
+ghost use Rattle.std.specs.Prelude.{◌+◌, ◌<◌, ◌^◌, true};
 
-use crate::parts::{all_hold, both_hold, bound, equivalence, implication, some_hold};
-use ms_list::{NoMemory, on_heap};
-use ms_logic::{Formula, Order, Quant, Rel, Term1, Term2};
+use ms_list::on_heap;
+use ms_logic::{Formula, Order, Quant, Term1, Term2};
+use ms_translation::{
+    Made, all_hold, both_hold, bound, equivalence, implication, is_in, less, some_hold,
+};
 use std::alloc::Global;
 
-/// `p in s`
-fn is_in(p: u32, s: u32) -> Formula
-    ensures { formula_of result ≡ is_in p s }
-{
-    Formula::Member(true, Term1::Var(p), Term2::Var(s))
-}
-
 /// At `p` the digit of `y` is that of `u` and `v` with the carry `x`.
-fn digit_adds(alloc: Global, y: u32, u: u32, v: u32, x: u32) -> Result<Formula, NoMemory>
+fn digit_adds(alloc: Global, y: u32, u: u32, v: u32, x: u32) -> Made
     requires { x + 3 < 2 ^ 32 }
     ensures { Gives result (digit_adds (x + 3) y u v x) }
 {
@@ -30,7 +24,7 @@ fn digit_adds(alloc: Global, y: u32, u: u32, v: u32, x: u32) -> Result<Formula, 
 }
 
 /// `p + 1 in x`
-fn next_in(alloc: Global, p: u32, x: u32) -> Result<Formula, NoMemory>
+fn next_in(alloc: Global, p: u32, x: u32) -> Made
     ensures { Gives result (membership true (plus (number_variable p) 1) (set_variable x)) }
 {
     let next = Term1::Plus(on_heap(alloc, Term1::Var(p))?, 1);
@@ -38,7 +32,7 @@ fn next_in(alloc: Global, p: u32, x: u32) -> Result<Formula, NoMemory>
 }
 
 /// The carry behind `p` is there where two of the three digits at `p` are.
-fn carry_follows(alloc: Global, u: u32, v: u32, x: u32) -> Result<Formula, NoMemory>
+fn carry_follows(alloc: Global, u: u32, v: u32, x: u32) -> Made
     requires { x + 3 < 2 ^ 32 }
     ensures { Gives result (carry_follows (x + 3) u v x) }
 {
@@ -51,7 +45,7 @@ fn carry_follows(alloc: Global, u: u32, v: u32, x: u32) -> Result<Formula, NoMem
 }
 
 /// `y = u + v`, where `x` is the set of carries.
-pub(crate) fn adds(alloc: Global, y: u32, u: u32, v: u32, x: u32) -> Result<Formula, NoMemory>
+pub(crate) fn adds(alloc: Global, y: u32, u: u32, v: u32, x: u32) -> Made
     requires { x + 3 < 2 ^ 32 }
     ensures { Gives result (adds y u v x) }
 {
@@ -64,17 +58,16 @@ pub(crate) fn adds(alloc: Global, y: u32, u: u32, v: u32, x: u32) -> Result<Form
 }
 
 /// Behind `p` the sets `u` and `v` have the same places, where `q` is each of them.
-fn same_behind(alloc: Global, p: u32, q: u32, u: u32, v: u32) -> Result<Formula, NoMemory>
+fn same_behind(alloc: Global, p: u32, q: u32, u: u32, v: u32) -> Made
     ensures { Gives result (same_behind p q u v) }
 {
-    let behind = Formula::Compare(Rel::Less, Term1::Var(p), Term1::Var(q));
     let same = equivalence(alloc, Ok(is_in(q, u)), Ok(is_in(q, v)));
-    let each = implication(alloc, Ok(behind), same);
+    let each = implication(alloc, Ok(less(p, q)), same);
     bound(alloc, Quant::All, Order::One, q, each)
 }
 
 /// `u < v`
-pub(crate) fn is_less(alloc: Global, u: u32, v: u32, x: u32) -> Result<Formula, NoMemory>
+pub(crate) fn is_less(alloc: Global, u: u32, v: u32, x: u32) -> Made
     requires { x + 3 < 2 ^ 32 }
     ensures { Gives result (is_less u v x) }
 {

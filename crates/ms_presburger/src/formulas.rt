@@ -5,30 +5,25 @@ ghost use Rattle.ms_logic.specs.View.{formula_of};
 ghost use Rattle.ms_presburger.specs.Sets.{Scope, compared, set_form, summands_of};
 ghost use Rattle.ms_presburger.specs.Tree.{extent, extent_of_all};
 ghost use Rattle.ms_presburger.specs.View.{arithmetic_of, arithmetics};
-ghost use Rattle.ms_presburger.specs.inner.Made.{Gives};
 ghost use Rattle.ms_presburger.specs.inner.Scopes.{AreAllFactorsSmall, AreFactorsSmall, IsAsIn, IsFactorSmall, variable_in, wrapped};
 ghost use Rattle.ms_logic.specs.Lists.{Each};
+ghost use Rattle.ms_translation.specs.Made.{Gives};
 ghost use Rattle.std.specs.Prelude.{◌≡◌, ◌+◌, ◌*◌, ◌<◌, ◌≤◌, ◌^◌, length, map, IfOk, OnOk};
 
 use crate::linear::{Linear, Part};
-use crate::made::and_then;
-use crate::parts::{bound, conjunction, disjunction, equivalence, implication, negation};
 use crate::scope::{Bindings, bind, unbind};
 use crate::summands::summands;
 use crate::sums::compared;
-use ms_list::{List, NoMemory, push};
+use ms_list::{List, push};
 use ms_logic::{Formula, Order, Quant, Rel};
+use ms_translation::{
+    Made, MadeList, and_then, bound, conjunction, disjunction, equivalence, implication, negation,
+};
 use std::alloc::Global;
 
 /// The relation of two sums.
 #[inline(never)]
-fn relation(
-    alloc: Global,
-    bindings: &Bindings,
-    x: u32,
-    rel: Rel,
-    sides: (&[Part], &[Part]),
-) -> Result<Formula, NoMemory>
+fn relation(alloc: Global, bindings: &Bindings, x: u32, rel: Rel, sides: (&[Part], &[Part])) -> Made
     requires room { x + 136 < 2 ^ 32 }
     requires few { length sides.0.now ≤ 67108864 }
     requires few_too { length sides.1.now ≤ 67108864 }
@@ -43,13 +38,7 @@ fn relation(
 
 /// Sets bound around the body, from `x` on.
 #[inline(never)]
-fn wrapped(
-    alloc: Global,
-    quant: Quant,
-    count: u32,
-    x: u32,
-    body: Result<Formula, NoMemory>,
-) -> Result<Formula, NoMemory>
+fn wrapped(alloc: Global, quant: Quant, count: u32, x: u32, body: Made) -> Made
     requires { x + 2 * count < 2 ^ 32 }
     ensures { (f : Form) → Gives body f → Gives result (wrapped quant count x f) }
 {
@@ -64,12 +53,7 @@ fn wrapped(
 
 /// What a formula says of the sets for the names in scope.
 #[cycle(formulas)]
-pub(crate) fn formula_at(
-    alloc: Global,
-    bindings: &mut Bindings,
-    x: u32,
-    formula: &Linear,
-) -> Result<Formula, NoMemory>
+pub(crate) fn formula_at(alloc: Global, bindings: &mut Bindings, x: u32, formula: &Linear) -> Made
     requires room { x + 2 * extent (arithmetic_of formula.now) + 136 < 2 ^ 32 }
     requires few { extent (arithmetic_of formula.now) ≤ 67108864 }
     ensures made { (scope : Scope) → IsAsIn scope bindings.old → Gives result (set_form (arithmetic_of formula.now) scope x) }
@@ -106,12 +90,7 @@ pub(crate) fn formula_at(
 
 /// The same for each formula of a list.
 #[cycle(formulas)]
-fn formulas_at(
-    alloc: Global,
-    bindings: &mut Bindings,
-    x: u32,
-    operands: &[Linear],
-) -> Result<List<Formula>, NoMemory>
+fn formulas_at(alloc: Global, bindings: &mut Bindings, x: u32, operands: &[Linear]) -> MadeList
     requires room { x + 2 * extent_of_all (arithmetics (map arithmetic_of operands.now)) + 136 < 2 ^ 32 }
     requires few { extent_of_all (arithmetics (map arithmetic_of operands.now)) ≤ 67108864 }
     ensures made { (scope : Scope) → IsAsIn scope bindings.old →

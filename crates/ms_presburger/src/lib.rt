@@ -6,8 +6,6 @@ mod examples;
 mod formulas;
 mod laws;
 mod linear;
-mod made;
-mod parts;
 mod scope;
 mod sets;
 mod summand;

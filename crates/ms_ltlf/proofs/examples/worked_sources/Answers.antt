@@ -7,10 +7,11 @@ use Rattle.ms_logic.specs.Tree.{numeral}
 use Rattle.ms_ltlf.specs.Meaning.{length_of}
 use Rattle.ms_ltlf.specs.inner.Examples.{sets_on, starts_in_p, trace}
 use Rattle.ms_ltlf.specs.Trace.{IsTrace}
-use Rattle.ms_ltlf.proofs.Agreeing.{Agrees}
-use Rattle.ms_ltlf.proofs.Guarded.{meanings, guarded-yes, guarded-no, guarded-never}
+use Rattle.ms_ltlf.proofs.Guarded.{guarded-yes, guarded-no, guarded-never}
 use Rattle.ms_ltlf.proofs.Positions.{agrees-member, value-zero}
 use Rattle.ms_ltlf.proofs.Sources.{some-length}
+use Rattle.ms_translation.proofs.Agreeing.{Agrees}
+use Rattle.ms_translation.proofs.Asked.{meanings}
 use Rattle.ms_ltlf.proofs.examples.worked_sources.Goals as goal
 
 empty-rises : (p : ℕ) → p < 1 → IsRising ((trace 1 [] []).positions p)

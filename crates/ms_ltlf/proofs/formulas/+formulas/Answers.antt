@@ -2,7 +2,7 @@ use Rattle.std.proofs.Common.{rules, map, subst, arith}
 use Rattle.ms_logic.specs.Tree.{Form}
 use Rattle.ms_ltlf.specs.declared.trace.Ltl.{the_lemmas}
 use Rattle.ms_ltlf.specs.View.{temporal_of}
-use Rattle.ms_ltlf.specs.inner.Made.{Gives}
+use Rattle.ms_translation.specs.Made.{Gives}
 use Rattle.ms_ltlf.specs.Strings.{string_form}
 use Rattle.ms_ltlf.proofs.Operands.{all-translated, some-translated, depth-operand}
 use Rattle.ms_ltlf.proofs.formulas.+formulas.Goals as goal

@@ -12,11 +12,10 @@ use Rattle.ms_logic_core.specs.Size.{depth_of_source, size_of_source}
 use Rattle.ms_ltlf.specs.Tree.{depth, size}
 use Rattle.ms_ltlf.specs.View.{temporal_of}
 use Rattle.ms_ltlf.proofs.Extents.{is-deep, is-large}
-use Rattle.ms_ltlf.specs.Source.{IsStringSource}
-use Rattle.ms_ltlf.proofs.Numbers.{is-well-numbered, lists-free-variables, names-kept}
-use Rattle.ms_ltlf.proofs.Rules.{meets-rules}
-use Rattle.ms_ltlf.proofs.Titles.{no-goals}
+use Rattle.ms_ltlf.specs.Source.{IsStringSource, string_formulas}
+use Rattle.ms_ltlf.proofs.Rules.{is-well-numbered, lists-free-variables, meets-rules}
 use Rattle.ms_ltlf.proofs.Sources.{tells-truth, is-over-traces, tells-verdict}
+use Rattle.ms_translation.proofs.Asked.{names-kept, no-goals}
 use Rattle.ms_ltlf.proofs.strings.to_strings.Goals as goal
 
 pub returns-clause-truth : goal.returns-clause-truth
@@ -45,14 +44,14 @@ returns-clause-no_goals c =
     let names = c.args.trace.now.names in
     let f = temporal_of c.args.trace.now.formula in
     IfOk-weaker c.string_source.result (IsStringSource names f) (λ (made : Checked). goals_in made ≡ [])
-    (λ made is. no-goals made is.titles) c.string_source.ensures.source
+    (λ made is. no-goals M2lStr names (string_formulas (length names) f) made is) c.string_source.ensures.source
 
 pub returns-clause-numbered : goal.returns-clause-numbered
 returns-clause-numbered c =
     let names = c.args.trace.now.names in
     let f = temporal_of c.args.trace.now.formula in
     IfOk-weaker c.string_source.result (IsStringSource names f) IsWellNumbered
-    (λ made is. is-well-numbered names f made c.requires.named is) c.string_source.ensures.source
+    (λ made is. is-well-numbered names f made is c.requires.named) c.string_source.ensures.source
 
 pub returns-clause-exports : goal.returns-clause-exports
 returns-clause-exports c =
@@ -73,7 +72,7 @@ returns-clause-names c =
     let names = c.args.trace.now.names in
     let f = temporal_of c.args.trace.now.formula in
     IfOk-weaker c.string_source.result (IsStringSource names f) (λ (made : Checked). map (λ (g : Global). g.name) made.globals ≡ names)
-    (λ made is. names-kept names f made is) c.string_source.ensures.source
+    (λ made is. names-kept M2lStr names (string_formulas (length names) f) made is) c.string_source.ensures.source
 
 pub returns-clause-imports_nothing : goal.returns-clause-imports_nothing
 returns-clause-imports_nothing c =
@@ -108,4 +107,4 @@ returns-clause-meets_rules c =
     let names = c.args.trace.now.names in
     let f = temporal_of c.args.trace.now.formula in
     IfOk-weaker c.string_source.result (IsStringSource names f) MeetsRules
-    (λ made is. meets-rules names f made c.requires.different is) c.string_source.ensures.source
+    (λ made is. meets-rules names f made is c.requires.different) c.string_source.ensures.source

@@ -8,7 +8,7 @@ use Rattle.ms_presburger.specs.declared.linear.Linear.TheVariants.{Not, And, Or,
 use Rattle.ms_presburger.specs.Sets.{Scope, set_form}
 use Rattle.ms_presburger.specs.Tree.{Arithmetic}
 use Rattle.ms_presburger.specs.View.{arithmetic_of, arithmetics}
-use Rattle.ms_presburger.specs.inner.Made.{Gives}
+use Rattle.ms_translation.specs.Made.{Gives}
 use Rattle.ms_presburger.specs.inner.Scopes.{AreAllFactorsSmall, AreFactorsSmall, IsAsIn, bound_in, hidden_by, variable_in, wrapped}
 use Rattle.ms_presburger.proofs.Operands.{all-translated, some-translated, bound-translated, extent-operand, small-more}
 use Rattle.ms_presburger.proofs.Kept.{both-made, done-then, gives-both, gives-then, kept, kept-all, kept-both, kept-then, then-both, where-made, wrapped-apart}

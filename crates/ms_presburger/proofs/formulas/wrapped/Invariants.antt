@@ -1,6 +1,6 @@
 use Rattle.std.proofs.Common.{◌+◌, ◌-◌, ◌*◌, ◌≤◌}
 use Rattle.ms_logic.specs.Tree.{Form}
-use Rattle.ms_presburger.specs.inner.Made.{Gives}
+use Rattle.ms_translation.specs.Made.{Gives}
 use Rattle.ms_presburger.specs.inner.Scopes.{wrapped}
 use Rattle.ms_presburger.proofs.formulas.wrapped.Given as goal
 

@@ -12,13 +12,13 @@ use Rattle.ms_names_checked.specs.Checked.{MeetsRules}
 use Rattle.ms_names_checked.specs.Exports.{ListsFreeVariables}
 use Rattle.ms_names_rules.specs.Numbers.{IsWellNumbered}
 use Rattle.ms_presburger.specs.Meaning.{IsOverNumbers, TellsTruth, TellsVerdict}
-use Rattle.ms_presburger.specs.Source.{IsSetSource, start}
+use Rattle.ms_presburger.specs.Source.{IsSetSource, main_form, start}
 use Rattle.ms_presburger.specs.inner.Scopes.{AreFactorsSmall}
 use Rattle.ms_presburger.specs.View.{arithmetic_of}
 use Rattle.ms_presburger.proofs.Kept.{with-kept}
-use Rattle.ms_presburger.proofs.Numbering.{is-well-numbered, lists-free-variables, meets-rules, names-kept}
+use Rattle.ms_presburger.proofs.Numbering.{is-well-numbered, lists-free-variables, meets-rules}
 use Rattle.ms_presburger.proofs.Sources.{tells-truth, is-over-numbers, tells-verdict}
-use Rattle.ms_presburger.proofs.Titles.{no-goals}
+use Rattle.ms_translation.proofs.Asked.{names-kept, no-goals}
 use Rattle.ms_presburger.proofs.sets.to_sets.Goals as goal
 
 pub returns-clause-truth : goal.returns-clause-truth
@@ -43,7 +43,7 @@ pub returns-clause-no_goals : goal.returns-clause-no_goals
 returns-clause-no_goals c =
     let names = c.args.problem.now.names in
     let f = arithmetic_of c.args.problem.now.formula in
-    IfOk-weaker c.set_source.result (IsSetSource names f) (λ (made : Checked). goals_in made ≡ []) (λ made is. no-goals made is.titles) c.set_source.ensures.source
+    IfOk-weaker c.set_source.result (IsSetSource names f) (λ (made : Checked). goals_in made ≡ []) (λ made is. no-goals Ws1s names (main_form names f ∷ []) made is) c.set_source.ensures.source
 
 pub returns-clause-mode : goal.returns-clause-mode
 returns-clause-mode c =
@@ -55,7 +55,7 @@ pub returns-clause-names : goal.returns-clause-names
 returns-clause-names c =
     let names = c.args.problem.now.names in
     let f = arithmetic_of c.args.problem.now.formula in
-    IfOk-weaker c.set_source.result (IsSetSource names f) (λ (made : Checked). map (λ (g : Global). g.name) made.globals ≡ names) (λ made is. names-kept names f made is) c.set_source.ensures.source
+    IfOk-weaker c.set_source.result (IsSetSource names f) (λ (made : Checked). map (λ (g : Global). g.name) made.globals ≡ names) (λ made is. names-kept Ws1s names (main_form names f ∷ []) made is) c.set_source.ensures.source
 
 pub returns-clause-imports_nothing : goal.returns-clause-imports_nothing
 returns-clause-imports_nothing c =

@@ -2,7 +2,7 @@ use Rattle.std.proofs.Common.{◌≡◌, ◌+◌, ◌-◌, ◌/◌, ◌%◌, ◌
 use Rattle.ms_logic.specs.Tree.{Form}
 use Rattle.ms_presburger.specs.declared.summand.Summand.{Summand}
 use Rattle.ms_presburger.specs.Sets.{adds, half, some_set, sum_is}
-use Rattle.ms_presburger.specs.inner.Made.{Gives}
+use Rattle.ms_translation.specs.Made.{Gives}
 use Rattle.ms_presburger.proofs.Halves.{halved, length-front, length-rest, more-than-one, rest-whole, sum-split}
 use Rattle.ms_presburger.proofs.sums.+sum_is.Goals as goal
 

@@ -1,6 +1,0 @@
-use Rattle.std.proofs.Common.{◌∷◌, [], map, ap}
-use Rattle.ms_logic.specs.View.{formula_of}
-use Rattle.ms_presburger.proofs.parts.pair.Goals as goal
-
-pub returns : goal.returns
-returns c = λ f g one other. c.with-2.ensures (f ∷ []) g (c.with.ensures [] f (ap (map formula_of) c.new.ensures) one) other

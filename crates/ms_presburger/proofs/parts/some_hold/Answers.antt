@@ -1,5 +1,0 @@
-use Rattle.std.proofs.Common.{◌∷◌, []}
-use Rattle.ms_presburger.proofs.parts.some_hold.Goals as goal
-
-pub returns : goal.returns
-returns c = λ f g h one other third. c.disjunction.ensures (f ∷ g ∷ h ∷ []) (c.with.ensures (f ∷ g ∷ []) h (c.pair.ensures f g one other) third)
