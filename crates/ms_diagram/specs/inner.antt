@@ -2,6 +2,7 @@ pub mod Adding
 pub mod Applying
 pub mod Bringing
 pub mod Collecting
+pub mod Computed
 pub mod Crossing
 pub mod Equal
 pub mod Examples

@@ -2,8 +2,9 @@ ghost use Rattle.std.specs.Prelude.{◌≡◌, [], ◌∷◌, false, true};
 ghost use Rattle.ms_arena.specs.declared.node.Ref.TheVariants.{Inner, Leaf};
 ghost use Rattle.ms_diagram.specs.Across.{AreOn, HasLeavesAcross, IsHalf, IsOn, LacksAcross, NumberAcross, leaves_across};
 ghost use Rattle.ms_diagram.specs.Store.{IsNewest};
+ghost use Rattle.ms_diagram.specs.inner.Computed.{HasMoved, IsPlaced, entries_of, no_slots, place_of, scattered};
 ghost use Rattle.ms_diagram.specs.inner.Short.{AreShort, IsLong, short_entries};
-ghost use Rattle.ms_diagram.specs.inner.Examples.{both_roots, crossed, only, without_map};
+ghost use Rattle.ms_diagram.specs.inner.Examples.{both_roots, crossed, half_full, only, without_map};
 
 /// Two diagrams of other stores, each read through a map: the pairs of their leaves, and the numbers of these.
 pub fn worked_sides()
@@ -24,14 +25,29 @@ pub fn worked_sides()
     ensures no_variable { ¬ IsOn without_map (Inner 0) }
 {}
 
-/// Codes of references, which have four bytes up to 2^32 - 1.
+/// Codes of references, which a computed table has up to 2^32 - 3.
 pub fn worked_codes()
     ensures entries { short_entries (((6, 7), Leaf 1) ∷ ((0, 1), Inner 4) ∷ []) ≡ ((Leaf 3, Inner 3), Leaf 1) ∷ ((Leaf 0, Inner 0), Inner 4) ∷ [] }
-    ensures greatest { AreShort (((4294967295, 0), Leaf 1) ∷ []) }
-    ensures too_great { ¬ AreShort (((0, 4294967296), Leaf 1) ∷ []) }
-    ensures long_node { IsLong (Inner 2147483648, Leaf 0) }
-    ensures long_leaf { IsLong (Inner 0, Leaf 2147483648) }
-    ensures short_pair { ¬ IsLong (Inner 2147483647, Leaf 2147483647) }
+    ensures greatest { AreShort (((4294967293, 0), Leaf 1) ∷ []) }
+    ensures too_great { ¬ AreShort (((0, 4294967294), Leaf 1) ∷ []) }
+    ensures long_node { IsLong (Inner 2147483647, Leaf 0) }
+    ensures long_leaf { IsLong (Inner 0, Leaf 2147483647) }
+    ensures short_pair { ¬ IsLong (Inner 2147483646, Leaf 2147483646) }
+{}
+
+/// A computed table of one bucket whose second slot is empty, and the buckets of pairs.
+pub fn worked_buckets()
+    ensures entries { entries_of (half_full ∷ []) ≡ ((6, 7), Leaf 1) ∷ [] }
+    ensures empty { entries_of (no_slots ∷ no_slots ∷ []) ≡ [] }
+    ensures scattered { scattered 1 ≡ 2654435769 }
+    ensures bucket { place_of 1024 (6, 7) ≡ 758 }
+    ensures few_buckets { place_of 16 (6, 7) ≡ 6 }
+    ensures other_order { place_of 1024 (7, 6) ≡ 101 }
+    ensures own_place { IsPlaced 16 6 half_full.first }
+    ensures other_place { ¬ IsPlaced 16 7 half_full.first }
+    ensures no_place { IsPlaced 16 7 half_full.second }
+    ensures moved { HasMoved (no_slots ∷ half_full ∷ []) (half_full ∷ []) }
+    ensures added { ¬ HasMoved (no_slots ∷ []) (half_full ∷ []) }
 {}
 
 /// What is left of each diagram once variable 0 has a bit: the right one reads it, and the left one reads variable 1 alone.

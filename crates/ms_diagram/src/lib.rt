@@ -7,6 +7,7 @@ mod across;
 mod apply;
 mod bring;
 mod collect;
+mod computed_table;
 mod examples;
 mod halves;
 mod leaves;
@@ -22,7 +23,7 @@ mod store;
 mod tables;
 mod walk;
 
-pub use examples::{worked_codes, worked_halves, worked_newest, worked_sides};
+pub use examples::{worked_buckets, worked_codes, worked_halves, worked_newest, worked_sides};
 pub use pair_table::PairTable;
 pub use pairs::Pairs;
 pub use places::PlaceTable;

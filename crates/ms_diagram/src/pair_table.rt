@@ -2,6 +2,7 @@ ghost use Rattle.std.specs.Prelude.{◌≡◌, ◌≤◌, MatchOption};
 ghost use Rattle.ms_arena.specs.inner.Code.{code_of};
 ghost use Rattle.ms_diagram.specs.inner.Short.{IsLong, IsShort};
 
+use crate::computed_table::ComputedTable;
 use crate::notes::Notes;
 use indexmap::IndexMap;
 use ms_arena::Ref;
@@ -9,15 +10,15 @@ use ms_list::NoMemory;
 use std::alloc::Global;
 use std::marker::Model;
 
-/// The numbers of references whose codes have four bytes are below this one.
-const SHORT: u32 = 0x8000_0000;
+/// The numbers of references whose codes have four bytes, and are none of the two greatest, are below this one.
+const SHORT: u32 = 0x7FFF_FFFF;
 
 /// What pairs of references have become, where a numbering of pairs grows beside it. A caller keeps it from call to call, so
 /// that what several diagrams share is built once. Contracts see the list of its entries.
 ///
 /// Nearly all references have a code of four bytes, so a pair of them is kept in eight; any other pair is kept as it is.
 pub struct PairTable {
-    short: IndexMap<(u32, u32), Ref>,
+    short: ComputedTable,
     long: IndexMap<(Ref, Ref), Ref>,
 }
 
@@ -34,9 +35,9 @@ impl Model for PairTable {
 
     ghost Value = { List ((Ref × Ref) × Ref) };
 
-    ghost view = { λ table. short_entries table.short.entries ++ table.long.entries };
+    ghost view = { λ table. short_entries table.short ++ table.long.entries };
 
-    ghost invariant = { λ table. AreShort table.short.entries };
+    ghost invariant = { λ table. AreShort table.short };
 }
 
 impl PairTable {
@@ -47,7 +48,7 @@ impl PairTable {
         ensures { result ≡ [] }
     {
         PairTable {
-            short: IndexMap::new(alloc),
+            short: ComputedTable::new(alloc),
             long: IndexMap::new(alloc),
         }
     }
@@ -55,7 +56,7 @@ impl PairTable {
 
 // The code of a reference, if it has four bytes: twice its number for a leaf, and one more for a node.
 fn short(reference: Ref) -> Option<u32>
-    ensures { MatchOption result (4294967296 ≤ code_of reference) (λ code. (code ≡ code_of reference) × IsShort code) }
+    ensures { MatchOption result (4294967294 ≤ code_of reference) (λ code. (code ≡ code_of reference) × IsShort code) }
 {
     let (number, is_node) = match reference {
         Ref::Leaf(value) => (value, 0),
@@ -81,11 +82,13 @@ impl Notes<(Ref, Ref)> for PairTable {
     ghost entries = { λ table. table };
 
     fn ask(&mut self, key: &(Ref, Ref)) -> Option<Ref> {
-        match short_pair(key) {
-            Some(codes) => match self.short.get(&codes).copied() {
-                Some(made) => Some(made),
-                None => self.long.get(key).copied(),
-            },
+        let found = match short_pair(key) {
+            Some(codes) => self.short.ask(codes),
+            None => None,
+        };
+        match found {
+            Some(made) => Some(made),
+            None if self.long.is_empty() => None,
             None => self.long.get(key).copied(),
         }
     }

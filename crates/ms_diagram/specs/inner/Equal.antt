@@ -1,5 +1,5 @@
 -- The `==` of pairs and of lists is equality where that of their parts is.
-use Rattle.std.specs.Prelude.{◌≡◌, Bool, true, ◌&&◌, List}
+use Rattle.std.specs.Prelude.{◌≡◌, ℕ, Bool, true, nat_eq, ◌&&◌, List}
 use Rattle.std.specs.Cmp.Lexicographic.{pointwise}
 use Rattle.std.proofs.Common.{[], ◌∷◌, refl}
 use Rattle.std.proofs.lemmas.Bool.{and_parts, false≢true}
@@ -15,6 +15,10 @@ module _ {A B : Type 0} (eq_a : A → A → Bool) (eq_b : B → B → Bool) wher
       let first = same_a x.0 y.0 parts.0 in
       let second = same_b x.1 y.1 parts.1 in
       λ i. (first i, second i)
+
+-- pairs of numbers
+abbrev pub numbers_eq : ℕ × ℕ → ℕ × ℕ → Bool
+numbers_eq = pair_eq nat_eq nat_eq
 
 module _ {X : Type 0} (eq : X → X → Bool) where
   -- so are lists

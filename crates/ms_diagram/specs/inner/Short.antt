@@ -11,14 +11,14 @@ with_refs entry = ((ref_of entry.0.0, ref_of entry.0.1), entry.1)
 abbrev pub short_entries : List ((ℕ × ℕ) × Ref) → List ((Ref × Ref) × Ref)
 short_entries entries = map with_refs entries
 
--- a code has four bytes
+-- a code has four bytes, and is none of the two greatest numbers of four bytes
 abbrev pub IsShort : ℕ → Type 0
-IsShort code = code < 4294967296
+IsShort code = code < 4294967294
 
 -- all codes of entries have
 abbrev pub AreShort : List ((ℕ × ℕ) × Ref) → Type 0
 AreShort entries = EachEntry (λ codes made. IsShort codes.0 × IsShort codes.1) entries
 
--- the code of one of two references has more
+-- that of one of two references does not
 abbrev pub IsLong : Ref × Ref → Type 0
-IsLong key = (4294967296 ≤ code_of key.0) ⊎ (4294967296 ≤ code_of key.1)
+IsLong key = (4294967294 ≤ code_of key.0) ⊎ (4294967294 ≤ code_of key.1)

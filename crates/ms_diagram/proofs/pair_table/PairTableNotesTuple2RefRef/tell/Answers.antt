@@ -10,12 +10,12 @@ use Rattle.ms_diagram.proofs.pair_table.PairTableNotesTuple2RefRef.tell.Goals as
 
 pub invariant_of-self : goal.invariant_of-self
 invariant_of-self c =
-    AreShort-noted c.self.inside.short.entries c.tell.new.self.entries c.in-Some.codes c.args.made c.in-Some.ensures.1 c.in-Some.ensures.2 c.tell.ensures.only c.self.invariant
+    AreShort-noted c.self.inside.short c.tell.new.self c.in-Some.codes c.args.made c.in-Some.ensures.1 c.in-Some.ensures.2 c.tell.ensures.only c.self.invariant
 
 pub returns-in-Some-clause-noted : goal.returns-in-Some-clause-noted
 returns-in-Some-clause-noted c =
     let key = c.args.key in
-    let new = c.tell.new.self.entries in
+    let new = c.tell.new.self in
     on_ok_weaker c.tell.result
     (λ found. lookup-in_front (refs_eq key) c.self.inside.long.entries (short_entries new) c.args.made
     (lookup-short key new ∙ subst (λ codes. lookup (numbers_eq codes) new ≡ Some c.args.made) c.in-Some.ensures.0 found))
@@ -23,8 +23,8 @@ returns-in-Some-clause-noted c =
 
 pub returns-in-Some-clause-only : goal.returns-in-Some-clause-only
 returns-in-Some-clause-only c =
-    let old = c.self.inside.short.entries in
-    let new = c.tell.new.self.entries in
+    let old = c.self.inside.short in
+    let new = c.tell.new.self in
     let behind = c.self.inside.long.entries in
     subst (λ was. NotesOnly refs_eq was (short_entries new ++ behind) c.args.key c.args.made) c.self.view_is
     (NotesOnly-in_front refs_eq c.args.key c.args.made (short_entries old) (short_entries new) behind
@@ -33,14 +33,14 @@ returns-in-Some-clause-only c =
 pub returns-in-None-clause-noted : goal.returns-in-None-clause-noted
 returns-in-None-clause-noted c =
     let key = c.args.key in
-    let short = c.self.inside.short.entries in
+    let short = c.self.inside.short in
     on_ok_weaker c.tell-in-None.result
     (λ found. lookup-behind (refs_eq key) c.tell-in-None.new.self.entries (short_entries short) (lookup-long key short c.self.invariant c.in-None.ensures) ∙ found)
     c.tell-in-None.ensures.noted
 
 pub returns-in-None-clause-only : goal.returns-in-None-clause-only
 returns-in-None-clause-only c =
-    let front = short_entries c.self.inside.short.entries in
+    let front = short_entries c.self.inside.short in
     let new = c.tell-in-None.new.self.entries in
     subst (λ was. NotesOnly refs_eq was (front ++ new) c.args.key c.args.made) c.self.view_is
     (NotesOnly-behind refs_eq c.args.key c.args.made front c.self.inside.long.entries new c.tell-in-None.ensures.only)
