@@ -4,6 +4,7 @@ pub mod ExampleLemmas
 pub mod ExampleOrigins
 pub mod FewestLemmas
 pub mod GroupingLemmas
+pub mod HashLemmas
 pub mod ImageLemmas
 pub mod LeadLemmas
 pub mod LettersLemmas

@@ -10,6 +10,7 @@ use Rattle.ms_logic_words.specs.Content.{Content}
 use Rattle.ms_list.specs.declared.fault.NoMemory.{NoMemory}
 use Rattle.ms_minim.specs.declared.classes.Partition.{Partition}
 use Rattle.ms_logic_words.specs.Residual.{HaveEqualResiduals}
+use Rattle.ms_minim.specs.inner.Hash.{AreCoarseMarks}
 use Rattle.ms_minim.specs.inner.Partition.{HaveOneClass, IsInhabited, LeadAlike, IsPartition, IsPassed, AreNerodeClasses, AreMarks, AreSignMarks, next_by}
 use Rattle.ms_minim.specs.inner.Split.{IsSplit, AreZeros}
 use Rattle.ms_minim.proofs.Pigeonhole.{counted}
@@ -32,10 +33,11 @@ module _ (content : Content Sign) (automaton : IsRead content) (classes members 
       (next_by-within content automaton.ordered automaton.closed one in_one bits) (next_by-within content automaton.ordered automaton.closed other in_other bits)
       (residuals_next content automaton.ordered automaton.closed one other in_one in_other equal bits)
 
-  module _ (marks : List ℕ) (are : AreMarks content classes marks) (made made_members : List ℕ) (split : IsSplit classes members marks made made_members) where
-    in_classes : (state : ℕ) → state < length content.states → state < length classes
-    in_classes state within = let same = partition.all in omega (arith, within, same)
+  in_classes : (state : ℕ) → state < length content.states → state < length classes
+  in_classes state within = let same = partition.all in omega (arith, within, same)
 
+  module _ (marks : List ℕ) (are : AreCoarseMarks content classes marks) (made made_members : List ℕ) (split : IsSplit classes members marks made made_members) where
+    -- what is split by coarse marks stays one
     pub IsPartition-split : IsPartition content made made_members
     IsPartition-split = record {
       all = split.all ∙ partition.all;
@@ -47,6 +49,7 @@ module _ (content : Content Sign) (automaton : IsRead content) (classes members 
           (are.alike one other in_one in_other (lead_alike one other in_one in_other equal));
     }
 
+  module _ (marks : List ℕ) (are : AreMarks content classes marks) (made made_members : List ℕ) (split : IsSplit classes members marks made made_members) where
     AreNerodeClasses-done : length made_members ≡ length members → AreNerodeClasses content classes members
     AreNerodeClasses-done count = record {
       partition = partition;
@@ -56,7 +59,7 @@ module _ (content : Content Sign) (automaton : IsRead content) (classes members 
 
     -- what a pass comes to
     pub IsPassed-split : IsPassed content classes members made made_members
-    IsPassed-split = record { partition = IsPartition-split; more = split.more; stable = AreNerodeClasses-done }
+    IsPassed-split = record { partition = IsPartition-split marks (record { all = are.all; alike = are.alike }) made made_members split; more = split.more; stable = AreNerodeClasses-done }
 
 -- the first partition is by signs
 pub IsPartition-signs : (content : Content Sign) (classes members marks made made_members : List ℕ) → length classes ≡ length content.states

@@ -1,6 +1,7 @@
 pub mod Discrete
 pub mod Examples
 pub mod Grouping
+pub mod Hash
 pub mod Image
 pub mod Later
 pub mod Lead
@@ -9,4 +10,5 @@ pub mod Origin
 pub mod Partition
 pub mod Predecessors
 pub mod Quotient
+pub mod Refined
 pub mod Split

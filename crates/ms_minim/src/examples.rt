@@ -7,6 +7,7 @@ ghost use Rattle.ms_minim.specs.declared.reading.SignReading.TheVariants.{AsThey
 ghost use Rattle.ms_minim.specs.SignReading.{read_sign};
 ghost use Rattle.ms_minim.specs.inner.Examples.{AreNoted, one_image, one_node, one_state, three_states, two_nodes, with_unreached};
 ghost use Rattle.ms_minim.specs.inner.Discrete.{AreOwnImages};
+ghost use Rattle.ms_minim.specs.inner.Hash.{AreCoarseMarks, AreHashes, hash_of, joined};
 ghost use Rattle.ms_minim.specs.inner.Image.{AreImages, IsImage, image_of};
 ghost use Rattle.ms_minim.specs.inner.Origin.{AreClosed, AreOrigins, ComesFrom, nowhere};
 
@@ -59,6 +60,21 @@ pub fn worked_are_origins()
     ensures no_node { (origins : Origins) → AreNoted origins (nowhere ∷ []) (0 ∷ 1 ∷ 2 ∷ []) → ¬ AreOrigins three_states origins }
     ensures no_end { (origins : Origins) → AreNoted origins (1 ∷ []) (0 ∷ nowhere ∷ 2 ∷ []) → ¬ AreOrigins three_states origins }
     ensures too_short { (origins : Origins) → AreNoted origins [] (0 ∷ []) → ¬ AreOrigins with_unreached origins }
+{}
+
+/// Hashes of nodes over leaves of two classes, and marks of states.
+pub fn worked_hashes()
+    ensures ends { joined 0 0 1 ≡ 839513548 }
+    ensures turned_round { joined 0 1 0 ≡ 256349429 }
+    ensures other_variable { joined 1 0 1 ≡ 2975101409 }
+    ensures equal_ends { joined 0 5 5 ≡ 5 }
+    ensures leaf { hash_of (4 ∷ 6 ∷ []) (9 ∷ []) (Leaf 1) ≡ 6 }
+    ensures node { hash_of (4 ∷ 6 ∷ []) (9 ∷ []) (Inner 0) ≡ 9 }
+    ensures nodes { AreHashes (one_node 1 0 1) (0 ∷ 1 ∷ []) (2975101409 ∷ []) }
+    ensures one_class { AreHashes (one_node 1 0 1) (5 ∷ 5 ∷ []) (5 ∷ []) }
+    ensures another { ¬ AreHashes (one_node 1 0 1) (0 ∷ 1 ∷ []) (5 ∷ []) }
+    ensures one_mark { AreCoarseMarks one_state (0 ∷ []) (7 ∷ []) }
+    ensures told_apart { ¬ AreCoarseMarks three_states (0 ∷ 1 ∷ 1 ∷ []) (0 ∷ 1 ∷ 2 ∷ []) }
 {}
 
 /// A leaf becomes its class, and a node what was found for it.

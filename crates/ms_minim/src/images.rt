@@ -39,7 +39,7 @@ impl Images {
 }
 
 /// The class of a state, and 0 where there is no such state.
-fn class_of(classes: &[u32], state: u32) -> u32
+pub(crate) fn class_of(classes: &[u32], state: u32) -> u32
     ensures { result ≡ slice_index classes.now state }
 {
     match classes.get(state as usize) {

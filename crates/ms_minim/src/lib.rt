@@ -7,6 +7,7 @@ mod due;
 mod examples;
 mod fewest;
 mod grouping;
+mod hashes;
 mod images;
 mod marking;
 mod numbers;
@@ -24,8 +25,8 @@ mod splitting;
 
 pub use examples::{
     worked_are_closed, worked_are_images, worked_are_origins, worked_are_own_images,
-    worked_comes_from, worked_fewest, worked_image_of, worked_is_image, worked_readings,
-    worked_residuals,
+    worked_comes_from, worked_fewest, worked_hashes, worked_image_of, worked_is_image,
+    worked_readings, worked_residuals,
 };
 pub use fewest::minimise;
 pub use reading::SignReading;

@@ -1,10 +1,12 @@
 ghost use Rattle.std.specs.Prelude.{◌≡◌, ◌≤◌, ◌<◌, ℕ, length, slice_get, IfOk, IsTrue};
 ghost use Rattle.ms_minim.specs.inner.Image.{AreImages};
 ghost use Rattle.ms_minim.specs.inner.Origin.{AreOrigins};
+ghost use Rattle.ms_minim.specs.inner.Refined.{IsRefined};
 ghost use Rattle.ms_minim.specs.inner.Partition.{IsIdentity, IsPartition, IsPassed, AreNerodeClasses, IsInhabited};
 
 use crate::classes::Partition;
 use crate::discrete::{own_classes, own_images};
+use crate::hashes::split_by_hashes;
 use crate::images::{Images, Reached, images_of};
 use crate::marking::{marks, sign_marks};
 use crate::origins::{Origins, reach_all, reach_nodes};
@@ -81,6 +83,36 @@ fn split_once(
     let marks = marks(alloc, automaton, origins, &images, classes)?;
     let finer = split(alloc, partition, marks.slice())?;
     Ok(Pass { images, finer })
+}
+
+/// What a pass comes to: finer classes, or the images of the nodes where no class is to be split.
+#[derive(Drop)]
+pub(crate) enum Refined {
+    Finer(Partition),
+    Settled(Images),
+}
+
+/// Classes split by hashes, and where these tell none apart, by where letters lead from all states.
+fn refine_once(
+    alloc: Global,
+    automaton: &Reader,
+    origins: &Origins,
+    partition: &Partition,
+) -> Result<Refined, NoMemory>
+    requires origins { AreOrigins automaton.now origins.now }
+    requires partition { IsPartition automaton.now partition.now.classes partition.now.members }
+    ensures { IfOk result (IsRefined automaton.now origins.now.nodes.items partition.now.classes partition.now.members) }
+{
+    let finer = split_by_hashes(alloc, automaton, partition)?;
+    if finer.members.len() != partition.members.len() {
+        return Ok(Refined::Finer(finer));
+    }
+    let Pass { images, finer } = split_once(alloc, automaton, origins, partition)?;
+    if finer.members.len() == partition.members.len() {
+        Ok(Refined::Settled(images))
+    } else {
+        Ok(Refined::Finer(finer))
+    }
 }
 
 /// Whether a pass has come to less than half as many classes again. All others together are few, however many states there are.
@@ -162,10 +194,10 @@ pub(crate) fn refine(
         if is_discrete(automaton, origins, &partition) {
             return own_residuals(alloc, automaton, origins, &partition);
         }
-        let Pass { images, finer } = split_once(alloc, automaton, origins, &partition)?;
-        if finer.members.len() == partition.members.len() {
-            return Ok(Residuals { partition, images });
-        }
+        let finer = match refine_once(alloc, automaton, origins, &partition)? {
+            Refined::Finer(finer) => finer,
+            Refined::Settled(images) => return Ok(Residuals { partition, images }),
+        };
         let is_slow = splits_little(partition.members.len(), finer.members.len());
         passes = passes.saturating_add(u32::from(is_slow));
         let is_due = is_slow && passes == PASSES;
