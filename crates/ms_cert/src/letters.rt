@@ -4,8 +4,7 @@ ghost use Rattle.ms_dfafile.specs.inner.Reading.{Finds, Reads};
 ghost use Rattle.ms_cert.specs.Text.{bit_text, bits_text, letter_text, letters_text};
 ghost use Rattle.ms_cert.specs.inner.Reading.{AreBits, AreLettersAt, IsLetter, IsNoLetter};
 
-use crate::field::behind;
-use ms_dfafile::FileFault;
+use ms_dfafile::{FileFault, behind};
 use ms_list::{List, NoMemory, push};
 use std::alloc::{AllocError, Global};
 

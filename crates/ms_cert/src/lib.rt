@@ -6,7 +6,6 @@ mod certifying;
 mod checking;
 mod difference;
 mod examples;
-mod field;
 mod growing;
 mod images;
 mod laid_out;

@@ -6,10 +6,9 @@ ghost use Rattle.ms_cert.specs.declared.cert.Cert.{Cert as ACert};
 ghost use Rattle.ms_cert.specs.inner.Parts.{AreTables, IsCounted, ending_text, front_text, parts_text, tables_text};
 
 use crate::cert::{Cert, TreeLine};
-use crate::field::{behind, number};
 use crate::lines::counted_lines;
 use crate::tree::is_one_tree;
-use ms_dfafile::FileFault;
+use ms_dfafile::{FileFault, behind, number};
 use ms_list::List;
 use std::alloc::Global;
 

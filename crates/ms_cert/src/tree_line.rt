@@ -4,10 +4,10 @@ ghost use Rattle.ms_dfafile.specs.inner.Reading.{Finds};
 ghost use Rattle.ms_cert.specs.Text.{IsSmallLine, tree_line};
 
 use crate::cert::TreeLine;
-use crate::field::{behind, number, sign, sign_field};
 use crate::letters::{append_letters, last_letters};
 use crate::line::Line;
-use ms_dfafile::FileFault;
+use crate::sign::{sign, sign_field};
+use ms_dfafile::{FileFault, behind, number};
 use std::alloc::{AllocError, Global};
 
 /// The state of a leaf, behind its first word.

@@ -2,10 +2,9 @@ ghost use Rattle.std.specs.Prelude.{◌≡◌, ◌++◌, OnOk, string_bytes};
 ghost use Rattle.ms_dfafile.specs.inner.Reading.{Finds};
 ghost use Rattle.ms_cert.specs.Text.{word_line};
 
-use crate::field::behind;
 use crate::letters::{append_bits, append_letters, bits, last_letters};
 use crate::line::Line;
-use ms_dfafile::FileFault;
+use ms_dfafile::{FileFault, behind};
 use ms_list::Word;
 use std::alloc::{AllocError, Global};
 

@@ -31,7 +31,7 @@ pub(crate) fn field(bytes: &[u8], end: u8) -> Option<(&[u8], &[u8])>
 }
 
 /// What stands behind a word at the front.
-pub(crate) fn behind<'a>(bytes: &'a [u8], word: &[u8]) -> Option<&'a [u8]>
+pub fn behind<'a>(bytes: &'a [u8], word: &[u8]) -> Option<&'a [u8]>
     ensures found { IfSome result (λ rest. bytes.now ≡ word.now ++ rest.now) }
     ensures none { IfNone result ((rest : List ℕ) → bytes.now ≢ word.now ++ rest) }
 {
@@ -74,7 +74,7 @@ fn reference_of(text: &[u8]) -> Option<Ref>
 }
 
 /// The number in the field at the front.
-pub(crate) fn number(bytes: &[u8], end: u8) -> Option<(u32, &[u8])>
+pub fn number(bytes: &[u8], end: u8) -> Option<(u32, &[u8])>
     requires { is_field_byte end ≡ false }
     ensures { Reads (λ n. ended end (decimal n)) IsSmall bytes.now result }
 {

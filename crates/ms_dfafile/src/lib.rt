@@ -20,6 +20,7 @@ mod writing;
 
 pub use examples::{worked_files, worked_rules, worked_texts};
 pub use fault::FileFault;
+pub use field::{behind, number};
 pub use laws::laws_of_files;
 pub use reading::read;
 pub use writing::write;
