@@ -9,15 +9,14 @@ use Rattle.ms_ltlf_parse.specs.Reading.{CanFollow, place, with_name, with_sight,
 use Rattle.ms_ltlf_parse.specs.Symbol.{Symbol, symbol_of}
 use Rattle.ms_ltlf_parse.specs.declared.read.Reader.{Reader}
 use Rattle.ms_ltlf_parse.specs.declared.sights.Sights.{Sights}
-use Rattle.ms_ltlf_parse.specs.declared.state.Outcome.{Outcome}
-use Rattle.ms_ltlf_parse.specs.declared.state.Outcome.TheVariants.{Wanted, Holding, Done}
+use Rattle.ms_parse_stack.specs.declared.outcome.Outcome.TheVariants.{Wanted, Holding, Done}
 use Rattle.ms_parse_stack.specs.declared.stop.Stop.{Stop}
 use Rattle.ms_parse_stack.specs.declared.stop.Stop.TheVariants.{Memory, Misplaced, TooDeep}
 use Rattle.ms_parse_stack.specs.inner.Machine.{GoesOn}
 use Rattle.ms_ltlf_parse.specs.inner.Machine.{step, shortest}
 use Rattle.ms_ltlf_parse.specs.inner.Reached.{reached, front, HasCome, StopsAt}
 use Rattle.ms_ltlf_parse.specs.inner.Sights.{IsTable}
-use Rattle.ms_ltlf_parse.specs.inner.States.{Begun, ComesTo, state_of}
+use Rattle.ms_ltlf_parse.specs.inner.States.{Begun, ComesTo, Outcome, state_of}
 use Rattle.ms_ltlf_parse.proofs.Names.{few_first_sights, place-with_name, with_sights-append}
 use Rattle.ms_ltlf_parse.proofs.Readings.{follows, follows_deeper, goes_on, is_shallow, reached-append}
 use Rattle.ms_parse_stack.proofs.Tokens.{length-symbols_of}

@@ -1,5 +1,5 @@
 -- The levels of the operators, and how deep the formulas are that they make.
-use Rattle.std.proofs.Common.{◌≡◌, ℕ, suc, ◌≤◌, List, refl, inl, arith, IfSome}
+use Rattle.std.proofs.Common.{◌≡◌, ℕ, suc, ◌≤◌, List, refl, inl, arith}
 use Rattle.std.specs.Prelude.{nat_eq, if◌then◌else◌}
 use Rattle.ms_ltlf.specs.Tree.{Temporal, depth}
 use Rattle.ms_parse_stack.specs.declared.junction.Junction.{Junction}
@@ -8,14 +8,13 @@ use Rattle.ms_parse_stack.specs.inner.Frames.{filled}
 use Rattle.ms_parse_stack.proofs.Depths as stacks
 use Rattle.ms_parse_stack.proofs.Depths.{Depths}
 use Rattle.ms_parse_stack.proofs.Fitting.{AreLevelled, Grouping, to_left, to_right, in_lists, left_of, right_of}
-use Rattle.ms_parse_stack.proofs.Growth.{IsDepth}
 use Rattle.ms_ltlf_parse.specs.Grammar.{binary_level, left_level, right_level, junction_level, prefix_level, level}
 use Rattle.ms_ltlf_parse.specs.declared.operator.Binary.{Binary}
 use Rattle.ms_ltlf_parse.specs.declared.operator.Binary.TheVariants.{Equivalence, Implication, Until, Release}
 use Rattle.ms_ltlf_parse.specs.declared.operator.Prefix.{Prefix}
 use Rattle.ms_ltlf_parse.specs.declared.operator.Prefix.TheVariants.{Negation, Next, WeakNext, Eventually, Always}
 use Rattle.ms_ltlf_parse.specs.inner.Deep.{operators_deep}
-use Rattle.ms_ltlf_parse.specs.inner.Machine.{operators, machine, prefixed, binary, joined, Place, wanted, holding}
+use Rattle.ms_ltlf_parse.specs.inner.Machine.{operators, prefixed, binary, joined}
 
 -- 0 `<=>`, 1 `=>`, 2 `|`, 3 `&`, 4 `U` and `R`
 abbrev grouping : ℕ → Grouping
@@ -83,13 +82,6 @@ level-binary Release f g = refl
 pub level-joined : (op : Junction) (fs : List Temporal) → level (joined op fs) ≡ junction_level op
 level-joined Conjunction fs = refl
 level-joined Disjunction fs = refl
-
-operand_deep : (p : Place) → IfSome (machine.operand p) (λ f. machine.completed p ≡ f)
-operand_deep wanted = tt
-operand_deep (holding f) = refl
-
-pub deep : IsDepth machine depth
-deep = record { levelled = levelled; operators_deep = operators_deep; wanted_deep = refl; holding_deep = λ f. refl; operand_deep = operand_deep }
 
 -- the depths of this machine's formulas
 abbrev pub depths : Depths (filled operators)

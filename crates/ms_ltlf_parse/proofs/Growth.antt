@@ -7,7 +7,8 @@ use Rattle.ms_parse_stack.proofs.Growth as growth
 use Rattle.ms_parse_stack.proofs.Growth.{IsGrowing}
 use Rattle.ms_ltlf_parse.specs.Symbol.{Symbol, name, word_true, word_false, prefix_operator, infix_operator, joining, open_bracket, close_bracket, semicolon, other}
 use Rattle.ms_ltlf_parse.specs.inner.Machine.{Frame, State, Place, wanted, holding, machine, completed, leaf, opened, action, run, shortest}
-use Rattle.ms_ltlf_parse.proofs.Groupings.{deep}
+use Rattle.ms_ltlf_parse.proofs.Groupings.{levelled}
+use Rattle.ms_ltlf_parse.specs.inner.Deep.{deep}
 
 leaf_grows : (f : Temporal) → 1 ≤ depth f → (p : Place) → IfSome (leaf f p) (λ q. depth (completed p) ≤ depth (completed q))
 leaf_grows f least wanted = least
@@ -30,4 +31,4 @@ grows number semicolon = tt
 grows number other = tt
 
 pub run_grows : (number : List ℕ → ℕ) (s : State) (xs : List Symbol) → GoesOn (run number s xs) → depth (shortest s) ≤ depth (shortest (run number s xs))
-run_grows number s xs on = growth.run_grows machine depth deep (action number) (grows number) s xs on
+run_grows number s xs on = growth.run_grows machine depth levelled deep (action number) (grows number) s xs on

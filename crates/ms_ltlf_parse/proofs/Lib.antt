@@ -8,5 +8,4 @@ pub mod Readings
 pub mod Sightings
 pub mod Soundness
 pub mod Spellings
-pub mod Steps
 pub mod Trials

@@ -1,4 +1,4 @@
-ghost use Rattle.std.specs.Prelude.{◌≡◌, ◌≤◌, suc};
+ghost use Rattle.std.specs.Prelude.{◌≡◌, ◌≤◌};
 ghost use Rattle.ms_ltlf_parse.specs.Grammar.{binary_level, junction_level, left_level, prefix_level};
 
 use crate::operator::{Binary, Junction, Prefix};
@@ -34,13 +34,6 @@ pub fn junction_level(op: Junction) -> u32
         Junction::Conjunction => 3,
         Junction::Disjunction => 2,
     }
-}
-
-/// The least level of an operand.
-pub fn operand_level(op: Junction) -> u32
-    ensures { result ≡ suc (junction_level op) }
-{
-    junction_level(op) + 1
 }
 
 /// The least level of an operand.

@@ -1,6 +1,7 @@
 ghost use Rattle.std.specs.Prelude.{◌≡◌, ◌⊎◌, ◌+◌, ◌<◌, ◌≤◌, length, IsUtf8, IfOk, IfErr, OnOk};
 ghost use Rattle.indexmap.specs.IndexMap.{get_by_text};
 ghost use Rattle.ms_ltlf.specs.View.{IsWellFormed};
+ghost use Rattle.ms_parse_stack.specs.declared.outcome.Outcome.TheVariants.{Wanted};
 ghost use Rattle.ms_ltlf_parse.specs.Reading.{ReadsAsTrace, place, with_sight};
 ghost use Rattle.ms_ltlf_parse.specs.Refused.{IsTraceFault};
 ghost use Rattle.ms_ltlf_parse.specs.inner.Reached.{HasCome, StopsAt};
@@ -93,7 +94,7 @@ fn finish(tokens: &Tokens, file: u32, reader: Reader, outcome: Outcome) -> Resul
 }
 
 fn new_reader(alloc: Global, tokens: &Tokens) -> Reader
-    ensures { HasCome tokens.now 0 result Outcome.Wanted }
+    ensures { HasCome tokens.now 0 result Wanted }
 {
     let sights = no_sights(alloc);
     let begun = Begun::nothing(alloc);

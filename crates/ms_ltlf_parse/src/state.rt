@@ -1,16 +1,8 @@
-use crate::frame::{Frame, Operand};
-use ms_parse_stack as begun;
+use crate::frame::{Frame, TemporalLogic};
+use ms_parse_stack as stacks;
 
 /// What has been begun, and the depth of the shortest formula that begins so.
-pub type Begun = begun::Begun<Frame>;
+pub type Begun = stacks::Begun<Frame>;
 
 /// What has been read last.
-#[derive(Drop)]
-pub enum Outcome {
-    /// An operand is wanted.
-    Wanted,
-    /// An operand has been read.
-    Holding(Operand),
-    /// The semicolon has been read.
-    Done(Operand),
-}
+pub type Outcome = stacks::Outcome<TemporalLogic>;

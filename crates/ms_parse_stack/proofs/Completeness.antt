@@ -2,8 +2,9 @@
 use Rattle.std.proofs.Common.{◌≡◌, ℕ, suc, ◌≤◌, true, List, [], ◌∷◌, ◌++◌, Some, refl, sym, ap, ◌∙◌, subst, arith, le-leb, append_assoc}
 use Rattle.std.proofs.lemmas.Bool.{lt-leb}
 use Rattle.ms_parse_stack.specs.declared.junction.Junction.{Junction}
+use Rattle.ms_parse_stack.specs.declared.sign.Sign.TheVariants as signs
 use Rattle.ms_parse_stack.specs.inner.Frames.{Frame, in_brackets, behind_prefix, behind_infix, behind_joining, hole_of, filled, yields}
-use Rattle.ms_parse_stack.specs.inner.Machine.{Machine, State, within, done, Action, operates, joins, closes, ends, settled, infixed, linked, closed, ended, acts, behind, performed, run, start}
+use Rattle.ms_parse_stack.specs.inner.Machine.{Machine, State, within, done, Action, follows, settled, infixed, linked, closed, ended, acts, behind, performed, run, start}
 use Rattle.ms_parse_stack.proofs.Fitting.{infix_rests, joining_rests, level_left, link_begins, link_further}
 use Rattle.ms_parse_stack.proofs.Runs.{run-append}
 use Rattle.ms_parse_stack.proofs.Settling.{settled-pop, settled-stay, settled-rests}
@@ -19,10 +20,10 @@ module _ {Prefix Binary Place Formula Symbol : Type 0} (m : Machine Prefix Binar
 
   -- What signs do, and that a formula binds for what stands behind it no more tightly than its operator and its last operand.
   pub record IsReader : Type 0 where
-    pub infix_acts : (op : Binary) → action (w.infix_sign op) ≡ operates op
-    pub joining_acts : (op : Junction) → action (w.joining_sign op) ≡ joins op
-    pub close_acts : action w.close_sign ≡ closes
-    pub end_acts : action w.end_sign ≡ ends
+    pub infix_acts : (op : Binary) → action (w.infix_sign op) ≡ follows (signs.Infix op)
+    pub joining_acts : (op : Junction) → action (w.joining_sign op) ≡ follows (signs.Joining op)
+    pub close_acts : action w.close_sign ≡ follows signs.Close
+    pub end_acts : action w.end_sign ≡ follows signs.End
     pub open_acts : (frames : Stack) → performed m (action w.open_sign) (within frames m.wanted) ≡ within (in_brackets ∷ frames) m.wanted
     pub prefix_acts : (op : Prefix) (frames : Stack) → g.IsSoundPrefix op → run m action (within frames m.wanted) (w.before op) ≡ within (behind_prefix op ∷ frames) m.wanted
     pub holding_operand : (f : Formula) → m.operand (m.holding f) ≡ Some f
@@ -59,7 +60,7 @@ module _ {Prefix Binary Place Formula Symbol : Type 0} (m : Machine Prefix Binar
   -- The state has read operands of a list: a further operator goes on with the list, if it takes the last operand, and without one the
   -- list is whole.
   record IsList (op : Junction) (frames : Stack) (fs : List Formula) (f : Formula) (t : Standing) : Type 0 where
-    goes : suc (m.operators.junction_level op) ≤ g.strength f → performed m (joins op) t ≡ within (behind_joining op (fs ++ f ∷ []) ∷ frames) m.wanted
+    goes : suc (m.operators.junction_level op) ≤ g.strength f → performed m (follows (signs.Joining op)) t ≡ within (behind_joining op (fs ++ f ∷ []) ∷ frames) m.wanted
     ends : HasSome fs → Holds frames (m.operators.joined op (fs ++ f ∷ [])) t
 
   some_left : (fs : List Formula) → HasSome (fs ++ []) → HasSome fs

@@ -1,8 +1,9 @@
 -- With each symbol the shortest formula that begins so becomes deeper or stays as deep as it was.
 use Rattle.std.proofs.Common.{◌≡◌, ℕ, suc, ◌≤◌, max, List, [], ◌∷◌, ◌++◌, Option, Some, None, sym, ap, subst, inl, inr, arith, le_refl, IfSome}
 use Rattle.ms_parse_stack.specs.declared.junction.Junction.{Junction}
-use Rattle.ms_parse_stack.specs.inner.Frames.{AreDeep, Frame, in_brackets, behind_prefix, behind_infix, behind_joining, inside, filled, yields, link}
-use Rattle.ms_parse_stack.specs.inner.Machine.{Machine, State, within, done, stopped, GoesOn, Action, moves, enters, operates, joins, closes, ends, stops, plugged, settled, stay, begin, infixed, linked, closed, ended, acts, behind, performed, run, shortest}
+use Rattle.ms_parse_stack.specs.declared.sign.Sign.TheVariants as signs
+use Rattle.ms_parse_stack.specs.inner.Frames.{Frame, in_brackets, behind_prefix, behind_infix, behind_joining, inside, filled, yields, link}
+use Rattle.ms_parse_stack.specs.inner.Machine.{IsDepth, Machine, State, within, done, stopped, GoesOn, Action, moves, enters, follows, stops, plugged, settled, stay, begin, infixed, linked, closed, ended, acts, behind, performed, run, shortest}
 use Rattle.ms_parse_stack.specs.inner.Settled.{rests}
 use Rattle.ms_parse_stack.proofs.Depths.{depth-more, depth-plugged-le, depths}
 use Rattle.ms_parse_stack.proofs.Fitting.{AreLevelled, link_cases}
@@ -16,14 +17,6 @@ module _ {Prefix Binary Place Formula : Type 0} (m : Machine Prefix Binary Place
   abbrev Standing : Type 0
   Standing = State Prefix Binary Place Formula
 
-  -- a formula that is wanted is completed by the least one, and one that has been read by itself
-  pub record IsDepth : Type 0 where
-    pub levelled : AreLevelled m.operators
-    pub operators_deep : AreDeep m.operators depth
-    pub wanted_deep : depth (m.completed m.wanted) ≡ 1
-    pub holding_deep : (f : Formula) → m.completed (m.holding f) ≡ f
-    pub operand_deep : (p : Place) → IfSome (m.operand p) (λ f. m.completed p ≡ f)
-
   -- what makes the shortest formula no less deep
   abbrev pub IsGrowing : Action Prefix Binary Place Formula → Type 0
   IsGrowing (moves move) = (p : Place) → IfSome (move p) (λ q. depth (m.completed p) ≤ depth (m.completed q))
@@ -33,7 +26,7 @@ module _ {Prefix Binary Place Formula : Type 0} (m : Machine Prefix Binary Place
   abbrev ActGrows : ℕ → (Stack × Formula → Standing) → Type 0
   ActGrows least act = (held : Stack × Formula) → rests (yields m.operators least) held.0 → GoesOn (act held) → depth (plugged m held.0 held.1) ≤ depth (shortest m (act held))
 
-  module _ (d : IsDepth) where
+  module _ (levelled : AreLevelled m.operators) (d : IsDepth m depth) where
     depth-filled : (frame : Frame Prefix Binary Formula) (f : Formula) → depth (filled m.operators frame f) ≡ suc (max (inside depth frame) (depth f))
     depth-filled frame f = (depths m.operators depth d.operators_deep).depth-filled frame f
 
@@ -47,7 +40,7 @@ module _ {Prefix Binary Place Formula : Type 0} (m : Machine Prefix Binary Place
     link_grows : (op : Junction) (f : Formula) (frames : Stack) → rests (yields m.operators (suc (m.operators.junction_level op))) frames → depth (plugged m frames f) ≤ depth (plugged m (link op f frames) (m.completed m.wanted))
     link_grows op f frames rest =
         let least = m.completed m.wanted in
-        elim (link_cases m.operators d.levelled op f frames rest) [
+        elim (link_cases m.operators levelled op f frames rest) [
           | inl first ↦ subst (λ x. depth (plugged m frames f) ≤ depth (plugged m x least)) (sym first.is) (frame_grows (behind_joining op (f ∷ [])) frames f (omega arith))
           | inr further ↦
               let frame = behind_joining op further.operands in
@@ -103,10 +96,10 @@ module _ {Prefix Binary Place Formula : Type 0} (m : Machine Prefix Binary Place
     performed_grows (enters opens) (within frames p) h on = begin_grows frames p (opens p) (h p) on
     performed_grows (enters opens) (done f) h on = absurd on
     performed_grows (enters opens) stopped h on = absurd on
-    performed_grows (operates op) t h on = behind_grows (m.operators.left_level op) (infixed m op) t (infixed_grows op) on
-    performed_grows (joins op) t h on = behind_grows (suc (m.operators.junction_level op)) (linked m op) t (linked_grows op) on
-    performed_grows closes t h on = behind_grows 0 (closed m) t closed_grows on
-    performed_grows ends t h on = behind_grows 0 (ended m) t ended_grows on
+    performed_grows (follows (signs.Infix op)) t h on = behind_grows (m.operators.left_level op) (infixed m op) t (infixed_grows op) on
+    performed_grows (follows (signs.Joining op)) t h on = behind_grows (suc (m.operators.junction_level op)) (linked m op) t (linked_grows op) on
+    performed_grows (follows signs.Close) t h on = behind_grows 0 (closed m) t closed_grows on
+    performed_grows (follows signs.End) t h on = behind_grows 0 (ended m) t ended_grows on
     performed_grows stops t h on = absurd on
 
     pub run_grows : {Symbol : Type 0} (action : Symbol → Action Prefix Binary Place Formula) → ((x : Symbol) → IsGrowing (action x)) → (t : Standing) (xs : List Symbol) → GoesOn (run m action t xs)

@@ -7,4 +7,5 @@ pub mod Runs
 pub mod Settling
 pub mod Soundness
 pub mod Spellings
+pub mod Steps
 pub mod Tokens

@@ -1,15 +1,12 @@
 -- The steps over some symbols, one after another.
 use Rattle.std.proofs.Common.{◌≡◌, List, [], ◌∷◌, ◌++◌, refl, subst}
-use Rattle.ms_parse_stack.specs.inner.Machine.{Machine, State, within, done, stopped, GoesOn, Action, moves, enters, operates, joins, closes, ends, stops, performed, run}
+use Rattle.ms_parse_stack.specs.inner.Machine.{Machine, State, within, done, stopped, GoesOn, Action, moves, enters, follows, stops, performed, run}
 
 module _ {Prefix Binary Place Formula : Type 0} (m : Machine Prefix Binary Place Formula) where
   performed-stopped : (a : Action Prefix Binary Place Formula) → performed m a stopped ≡ stopped
   performed-stopped (moves move) = refl
   performed-stopped (enters opens) = refl
-  performed-stopped (operates op) = refl
-  performed-stopped (joins op) = refl
-  performed-stopped closes = refl
-  performed-stopped ends = refl
+  performed-stopped (follows sign) = refl
   performed-stopped stops = refl
 
   -- what goes on has gone on before

@@ -1,8 +1,9 @@
 -- What a machine has begun can be ended as a grammatical formula.
 use Rattle.std.proofs.Common.{◌≡◌, ℕ, suc, ◌≤◌, true, List, [], ◌∷◌, ◌++◌, Option, Some, None, sym, subst, inl, inr, arith, leb-true, IfSome}
 use Rattle.ms_parse_stack.specs.declared.junction.Junction.{Junction}
+use Rattle.ms_parse_stack.specs.declared.sign.Sign.TheVariants as signs
 use Rattle.ms_parse_stack.specs.inner.Frames.{Frame, in_brackets, behind_prefix, behind_infix, behind_joining, hole, hole_of, frame_level, filled, yields, link}
-use Rattle.ms_parse_stack.specs.inner.Machine.{Machine, State, within, done, stopped, Action, moves, enters, operates, joins, closes, ends, stops, plugged, settled, stay, moved, begin, entered, infixed, linked, closed, ended, acts, behind, performed, shortest}
+use Rattle.ms_parse_stack.specs.inner.Machine.{Machine, State, within, done, stopped, Action, moves, enters, follows, stops, plugged, settled, stay, moved, begin, entered, infixed, linked, closed, ended, acts, behind, performed, shortest}
 use Rattle.ms_parse_stack.specs.inner.Settled.{rests}
 use Rattle.ms_parse_stack.proofs.Fitting.{AreLevelled, hole_small, infix_fits, left_small, link_cases}
 use Rattle.ms_parse_stack.proofs.Settling.{settled_by}
@@ -207,11 +208,11 @@ module _ {Prefix Binary Place Formula : Type 0} (m : Machine Prefix Binary Place
     pub performed_sound : (a : Action Prefix Binary Place Formula) (t : Standing) → IsSoundAction a → IsSoundState t → IsSoundState (performed m a t)
     performed_sound (moves move) t h sound = moved_sound move t h sound
     performed_sound (enters opens) t h sound = entered_sound opens t h sound
-    performed_sound (operates op) t h sound = behind_sound (m.operators.left_level op) (infixed m op) t (left_small m.operators s.levelled op) (infixed_sound op) sound
-    performed_sound (joins op) t h sound =
+    performed_sound (follows (signs.Infix op)) t h sound = behind_sound (m.operators.left_level op) (infixed m op) t (left_small m.operators s.levelled op) (infixed_sound op) sound
+    performed_sound (follows (signs.Joining op)) t h sound =
         behind_sound (suc (m.operators.junction_level op)) (linked m op) t (omega (arith, s.levelled.junction_small op, s.levelled.prefix_small)) (linked_sound op) sound
-    performed_sound closes t h sound = behind_sound 0 (closed m) t (omega arith) closed_sound sound
-    performed_sound ends t h sound = behind_sound 0 (ended m) t (omega arith) ended_sound sound
+    performed_sound (follows signs.Close) t h sound = behind_sound 0 (closed m) t (omega arith) closed_sound sound
+    performed_sound (follows signs.End) t h sound = behind_sound 0 (ended m) t (omega arith) ended_sound sound
     performed_sound stops t h sound = tt
 
     -- the shortest formula that begins so is grammatical

@@ -1,8 +1,9 @@
 -- The symbols that a machine has read, by what it has begun.
 use Rattle.std.proofs.Common.{◌≡◌, ℕ, suc, true, List, [], ◌∷◌, ◌++◌, Option, Some, None, refl, sym, ap, ◌∙◌, subst, inl, inr, append_assoc, append-nil, IfSome}
 use Rattle.ms_parse_stack.specs.declared.junction.Junction.{Junction}
+use Rattle.ms_parse_stack.specs.declared.sign.Sign.TheVariants as signs
 use Rattle.ms_parse_stack.specs.inner.Frames.{Frame, in_brackets, behind_prefix, behind_infix, behind_joining, filled, yields, link}
-use Rattle.ms_parse_stack.specs.inner.Machine.{Machine, State, within, done, stopped, GoesOn, Action, moves, enters, operates, joins, closes, ends, stops, plugged, settled, stay, begin, infixed, linked, closed, ended, acts, behind, performed, run, shortest}
+use Rattle.ms_parse_stack.specs.inner.Machine.{Machine, State, within, done, stopped, GoesOn, Action, moves, enters, follows, stops, plugged, settled, stay, begin, infixed, linked, closed, ended, acts, behind, performed, run, shortest}
 use Rattle.ms_parse_stack.specs.inner.Settled.{rests}
 use Rattle.ms_parse_stack.proofs.Fitting.{link_cases}
 use Rattle.ms_parse_stack.proofs.Runs.{performed_on}
@@ -102,10 +103,10 @@ module _ {Prefix Binary Place Formula Symbol : Type 0} (m : Machine Prefix Binar
   abbrev pub IsSaid : Symbol → Action Prefix Binary Place Formula → Type 0
   IsSaid x (moves move) = (p : Place) → g.IsSoundPlace p → IfSome (move p) (λ q. w.said q ≡ w.said p ++ x ∷ [])
   IsSaid x (enters opens) = (p : Place) → IfSome (opens p) (λ frame. said_before w frame ≡ w.said p ++ x ∷ [])
-  IsSaid x (operates op) = x ≡ w.infix_sign op
-  IsSaid x (joins op) = x ≡ w.joining_sign op
-  IsSaid x closes = x ≡ w.close_sign
-  IsSaid x ends = x ≡ w.end_sign
+  IsSaid x (follows (signs.Infix op)) = x ≡ w.infix_sign op
+  IsSaid x (follows (signs.Joining op)) = x ≡ w.joining_sign op
+  IsSaid x (follows signs.Close) = x ≡ w.close_sign
+  IsSaid x (follows signs.End) = x ≡ w.end_sign
   IsSaid x stops = Unit {0}
 
   -- the symbol's action is sound, and it is said with it
@@ -237,11 +238,11 @@ module _ {Prefix Binary Place Formula Symbol : Type 0} (m : Machine Prefix Binar
     performed_said (enters opens) x (within frames p) h sound on = begin_said frames p x (opens p) (h p) on
     performed_said (enters opens) x (done f) h sound on = absurd on
     performed_said (enters opens) x stopped h sound on = absurd on
-    performed_said (operates op) x t h sound on = behind_said (m.operators.left_level op) (infixed m op) x t (subst (ActSays (m.operators.left_level op) (infixed m op)) (sym h) (infixed_said op)) sound on
-    performed_said (joins op) x t h sound on =
+    performed_said (follows (signs.Infix op)) x t h sound on = behind_said (m.operators.left_level op) (infixed m op) x t (subst (ActSays (m.operators.left_level op) (infixed m op)) (sym h) (infixed_said op)) sound on
+    performed_said (follows (signs.Joining op)) x t h sound on =
         behind_said (suc (m.operators.junction_level op)) (linked m op) x t (subst (ActSays (suc (m.operators.junction_level op)) (linked m op)) (sym h) (linked_said op)) sound on
-    performed_said closes x t h sound on = behind_said 0 (closed m) x t (subst (ActSays 0 (closed m)) (sym h) closed_said) sound on
-    performed_said ends x t h sound on = behind_said 0 (ended m) x t (subst (ActSays 0 (ended m)) (sym h) ended_said) sound on
+    performed_said (follows signs.Close) x t h sound on = behind_said 0 (closed m) x t (subst (ActSays 0 (closed m)) (sym h) closed_said) sound on
+    performed_said (follows signs.End) x t h sound on = behind_said 0 (ended m) x t (subst (ActSays 0 (ended m)) (sym h) ended_said) sound on
     performed_said stops x t h sound on = absurd on
 
     module _ (action : Symbol → Action Prefix Binary Place Formula) where

@@ -2,4 +2,5 @@ pub mod Frames
 pub mod Machine
 pub mod Opened
 pub mod Settled
+pub mod States
 pub mod Stopped

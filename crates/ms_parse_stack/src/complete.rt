@@ -26,8 +26,8 @@ pub fn complete_brackets<G: Grammar>(
     alloc: Global,
     operand: Operand<G>,
 ) -> Result<Operand<G>, NoMemory>
-    requires { G.depth (G.operators.brackets (G.tree_of operand.formula)) ≤ 300 }
-    ensures { IfOk result (λ made. G.tree_of made.formula ≡ G.operators.brackets (G.tree_of operand.formula)) }
+    requires { G.depth (G.machine.operators.brackets (G.tree_of operand.formula)) ≤ 300 }
+    ensures { IfOk result (λ made. G.tree_of made.formula ≡ G.machine.operators.brackets (G.tree_of operand.formula)) }
 {
     let inside = operand.height;
     let Operand { formula, .. } = operand;
@@ -39,8 +39,8 @@ fn complete_prefix<G: Grammar>(
     op: G::Prefix,
     operand: Operand<G>,
 ) -> Result<Operand<G>, NoMemory>
-    requires { G.depth (G.operators.prefixed op (G.tree_of operand.formula)) ≤ 300 }
-    ensures { IfOk result (λ made. G.tree_of made.formula ≡ G.operators.prefixed op (G.tree_of operand.formula)) }
+    requires { G.depth (G.machine.operators.prefixed op (G.tree_of operand.formula)) ≤ 300 }
+    ensures { IfOk result (λ made. G.tree_of made.formula ≡ G.machine.operators.prefixed op (G.tree_of operand.formula)) }
 {
     let inside = operand.height;
     let Operand { formula, .. } = operand;
@@ -53,8 +53,8 @@ fn complete_infix<G: Grammar>(
     left: Operand<G>,
     right: Operand<G>,
 ) -> Result<Operand<G>, NoMemory>
-    requires { G.depth (G.operators.binary op (G.tree_of left.formula) (G.tree_of right.formula)) ≤ 300 }
-    ensures { IfOk result (λ made. G.tree_of made.formula ≡ G.operators.binary op (G.tree_of left.formula) (G.tree_of right.formula)) }
+    requires { G.depth (G.machine.operators.binary op (G.tree_of left.formula) (G.tree_of right.formula)) ≤ 300 }
+    ensures { IfOk result (λ made. G.tree_of made.formula ≡ G.machine.operators.binary op (G.tree_of left.formula) (G.tree_of right.formula)) }
 {
     let inside = left.height.max(right.height);
     let Operand { formula: left, .. } = left;
@@ -67,8 +67,8 @@ fn complete_joining<G: Grammar>(
     operands: Operands<G>,
     operand: Operand<G>,
 ) -> Result<Operand<G>, NoMemory>
-    requires { G.depth (G.operators.joined op (map G.tree_of operands.list ++ G.tree_of operand.formula ∷ [])) ≤ 300 }
-    ensures { IfOk result (λ made. G.tree_of made.formula ≡ G.operators.joined op (map G.tree_of operands.list ++ G.tree_of operand.formula ∷ [])) }
+    requires { G.depth (G.machine.operators.joined op (map G.tree_of operands.list ++ G.tree_of operand.formula ∷ [])) ≤ 300 }
+    ensures { IfOk result (λ made. G.tree_of made.formula ≡ G.machine.operators.joined op (map G.tree_of operands.list ++ G.tree_of operand.formula ∷ [])) }
 {
     let Operands { list, height } = with_operand(operands, operand)?;
     Ok(measured(G::joined(op, list), height))
@@ -80,8 +80,8 @@ pub fn complete<G: Grammar>(
     frame: Frame<G>,
     operand: Operand<G>,
 ) -> Result<Operand<G>, NoMemory>
-    requires { G.depth (filled G.operators (frame_of G.tree_of frame) (G.tree_of operand.formula)) ≤ 300 }
-    ensures { IfOk result (λ made. G.tree_of made.formula ≡ filled G.operators (frame_of G.tree_of frame) (G.tree_of operand.formula)) }
+    requires { G.depth (filled G.machine.operators (frame_of G.tree_of frame) (G.tree_of operand.formula)) ≤ 300 }
+    ensures { IfOk result (λ made. G.tree_of made.formula ≡ filled G.machine.operators (frame_of G.tree_of frame) (G.tree_of operand.formula)) }
 {
     match frame {
         Frame::Brackets => complete_brackets(alloc, operand),

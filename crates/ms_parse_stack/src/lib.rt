@@ -3,24 +3,29 @@
 
 mod begun;
 mod complete;
+mod entering;
+mod following;
 mod frame;
 mod grammar;
 mod junction;
 mod link;
 mod operand;
+mod outcome;
 mod refusal;
+mod sign;
 mod stack;
 mod stop;
 mod yielding;
 
 pub use begun::Begun;
-pub use complete::complete_brackets;
-pub use frame::{Frame, inside, is_brackets};
+pub use entering::enter;
+pub use following::follow;
+pub use frame::Frame;
 pub use grammar::Grammar;
 pub use junction::Junction;
-pub use link::{Link, link_of};
-pub use operand::{Operand, Operands, first_operand, with_operand};
+pub use operand::{Operand, Operands};
+pub use outcome::Outcome;
 pub use refusal::{refusal_at, refusal_at_end};
+pub use sign::Sign;
 pub use stack::Stack;
 pub use stop::Stop;
-pub use yielding::settle;

@@ -13,7 +13,7 @@ use std::alloc::Global;
 
 /// Whether what has been begun ends before a symbol that wants a left operand of this level.
 fn yields<G: Grammar>(least: u32, frame: &Frame<G>) -> bool
-    ensures { result ≡ yields G.operators least (frame_of G.tree_of frame.now) }
+    ensures { result ≡ yields G.machine.operators least (frame_of G.tree_of frame.now) }
 {
     match frame {
         Frame::Brackets => false,
@@ -30,8 +30,8 @@ pub fn settle<G: Grammar>(
     operand: Operand<G>,
     least: u32,
 ) -> Result<Operand<G>, NoMemory>
-    requires { G.depth (plugged (filled G.operators) (map (frame_of G.tree_of) stack.old) (G.tree_of operand.formula)) ≤ 300 }
-    ensures { IfOk result (λ made. settled (filled G.operators) (yields G.operators least) (map (frame_of G.tree_of) stack.old) (G.tree_of operand.formula) ≡ (map (frame_of G.tree_of) stack.new, G.tree_of made.formula)) }
+    requires { G.depth (plugged (filled G.machine.operators) (map (frame_of G.tree_of) stack.old) (G.tree_of operand.formula)) ≤ 300 }
+    ensures { IfOk result (λ made. settled (filled G.machine.operators) (yields G.machine.operators least) (map (frame_of G.tree_of) stack.old) (G.tree_of operand.formula) ≡ (map (frame_of G.tree_of) stack.new, G.tree_of made.formula)) }
 {
     let mut held = operand;
     while let Some(frame) = stack.pop() {

@@ -1,5 +1,5 @@
 -- The levels of the operators, and how deep the formulas are that they make.
-use Rattle.std.proofs.Common.{◌≡◌, ℕ, suc, ◌≤◌, ◌⊎◌, refl, inl, inr, arith, IfSome}
+use Rattle.std.proofs.Common.{◌≡◌, ℕ, suc, ◌≤◌, ◌⊎◌, refl, inl, inr, arith}
 use Rattle.std.specs.Prelude.{nat_eq, if◌then◌else◌}
 use Rattle.ms_presburger.specs.Tree.{depth}
 use Rattle.ms_parse_stack.specs.declared.junction.Junction.{Junction}
@@ -8,14 +8,13 @@ use Rattle.ms_parse_stack.specs.inner.Frames.{filled}
 use Rattle.ms_parse_stack.proofs.Depths as stacks
 use Rattle.ms_parse_stack.proofs.Depths.{Depths}
 use Rattle.ms_parse_stack.proofs.Fitting.{AreLevelled, Grouping, to_left, to_right, in_lists, left_of, right_of}
-use Rattle.ms_parse_stack.proofs.Growth.{IsDepth}
 use Rattle.ms_presburger_parse.specs.Grammar.{binary_level, left_level, right_level, junction_level, prefix_level}
 use Rattle.ms_presburger_parse.specs.declared.operator.Binary.{Binary}
 use Rattle.ms_presburger_parse.specs.declared.operator.Binary.TheVariants.{Equivalence, Implication}
 use Rattle.ms_presburger_parse.specs.declared.operator.Prefix.{Prefix}
 use Rattle.ms_presburger_parse.specs.declared.operator.Prefix.TheVariants.{Negation, Quantifier}
 use Rattle.ms_presburger_parse.specs.inner.Deep.{operators_deep}
-use Rattle.ms_presburger_parse.specs.inner.Machine.{operators, machine, prefix_operand, Place, on_left, on_right, wanted, naming, named, adding, added, holding}
+use Rattle.ms_presburger_parse.specs.inner.Machine.{operators, prefix_operand}
 
 -- 1 `<=>`, 2 `=>`, 3 `|`, 4 `&`
 abbrev grouping : ℕ → Grouping
@@ -71,19 +70,6 @@ levelled = record {
 pub left_some : (op : Binary) → 1 ≤ left_level op
 left_some Equivalence = omega arith
 left_some Implication = omega arith
-
--- a formula that may end is the shortest one
-pub operand_completed : (p : Place) → IfSome (machine.operand p) (λ f. machine.completed p ≡ f)
-operand_completed wanted = tt
-operand_completed (naming q xs) = tt
-operand_completed (named q xs) = tt
-operand_completed (adding side parts) = tt
-operand_completed (added on_left before last) = tt
-operand_completed (added (on_right r left) before last) = refl
-operand_completed (holding f) = refl
-
-pub deep : IsDepth machine depth
-deep = record { levelled = levelled; operators_deep = operators_deep; wanted_deep = refl; holding_deep = λ f. refl; operand_deep = operand_completed }
 
 -- the depths of this machine's formulas
 abbrev pub depths : Depths (filled operators)

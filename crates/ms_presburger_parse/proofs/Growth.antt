@@ -16,7 +16,8 @@ use Rattle.ms_presburger_parse.specs.Symbol.{Symbol, name, number, word_true, wo
 use Rattle.ms_presburger_parse.specs.declared.operator.Prefix.TheVariants.{Negation}
 use Rattle.ms_presburger_parse.specs.inner.Machine.{Frame, machine, action, Side, on_left, on_right, Place, wanted, naming, named, adding, added, holding, with_number, times, with_name, with_plus, with_relation, with_quantifier, with_comma, with_leaf, opening, body, State, run, compared, completed, shortest}
 use Rattle.ms_presburger_parse.specs.inner.States.{BecomesTwo, KeepsDepth}
-use Rattle.ms_presburger_parse.proofs.Groupings.{deep}
+use Rattle.ms_presburger_parse.proofs.Groupings.{levelled}
+use Rattle.ms_presburger_parse.specs.inner.Deep.{deep}
 
 pub depth-compared : (side : Side) (parts : List Part) → depth (compared side parts) ≡ 2
 depth-compared on_left parts = refl
@@ -146,4 +147,4 @@ grows semicolon = tt
 grows other = tt
 
 pub run_grows : (s : State) (xs : List Symbol) → GoesOn (run s xs) → depth (shortest s) ≤ depth (shortest (run s xs))
-run_grows s xs on = growth.run_grows machine depth deep action grows s xs on
+run_grows s xs on = growth.run_grows machine depth levelled deep action grows s xs on

@@ -1,43 +1,21 @@
 -- Where the code's steps lead.
-use Rattle.std.proofs.Common.{◌≡◌, ℕ, Bool, true, false, suc, ◌+◌, ◌<◌, ◌≤◌, max, List, [], ◌∷◌, Option, Some, length, refl, sym, ap, ◌∙◌, subst, arith}
-use Rattle.std.specs.Prelude.{◌↔◌, IsTrue, Result, Ok, Err, IfOk, IfErr, IfSome}
-use Rattle.ms_presburger.specs.Tree.{Arithmetic, depth}
-use Rattle.ms_presburger.specs.View.{arithmetic_of}
+use Rattle.std.proofs.Common.{◌≡◌, ℕ, suc, ◌+◌, ◌<◌, ◌≤◌, max, List, Option, Some, length, sym, ap, ◌∙◌, subst, arith}
+use Rattle.std.specs.Prelude.{Result, Ok, Err, IfOk, IfErr, IfSome}
+use Rattle.ms_presburger.specs.Tree.{depth}
 use Rattle.ms_presburger_parse.specs.declared.state.Outcome.{Outcome}
 use Rattle.ms_presburger_parse.specs.declared.state.Outcome.TheVariants.{Within}
 use Rattle.ms_parse_stack.specs.declared.stop.Stop.{Stop}
 use Rattle.ms_parse_stack.specs.declared.stop.Stop.TheVariants.{Memory, Misplaced, TooDeep}
-use Rattle.ms_parse_stack.specs.inner.Frames.{in_brackets, behind_prefix, behind_infix, behind_joining, filled, yields}
-use Rattle.ms_parse_stack.specs.inner.Machine.{within, stopped, acts, closed, ended, plugged, settled, stay, moved, GoesOn}
-use Rattle.ms_presburger_parse.specs.inner.Machine.{Frame, Place, operand, State, machine, operators, completed, shortest}
-use Rattle.ms_presburger_parse.specs.inner.States.{Begun, BecomesTwo, ComesTo, Frame as CodeFrame, IsMeasured, KeepsDepth, MovesTo, Operand, Settles, frame_of, place_of, stack_of}
+use Rattle.ms_parse_stack.specs.inner.Machine.{within, plugged, stay, moved, GoesOn}
+use Rattle.ms_presburger_parse.specs.inner.Machine.{Frame, Place, State, machine, completed, shortest}
+use Rattle.ms_presburger_parse.specs.inner.States.{Begun, BecomesTwo, ComesTo, Frame as CodeFrame, IsMeasured, KeepsDepth, MovesTo, frame_of, place_of, stack_of}
 use Rattle.ms_presburger_parse.specs.declared.place.Place as code
 use Rattle.ms_parse_stack.proofs.Depths.{replaced, same_depth}
-use Rattle.ms_presburger_parse.proofs.Groupings.{depths, operand_completed}
-use Rattle.ms_parse_stack.proofs.Settling.{plugged-settled}
-
-pub settles : (least : ℕ) (frames : List Frame) (p : Place) (f : Arithmetic) (begun : Begun) (made : Operand) → operand p ≡ Some f → begun.deepest ≡ depth (plugged machine frames (completed p)) → begun.deepest ≤ 300
-    → settled machine least frames f ≡ (stack_of begun.frames, arithmetic_of made.formula) → Settles least (within frames p) begun (Ok made)
-settles least frames p f begun made is deep shallow ok =
-    let same : completed p ≡ f = subst (λ o. IfSome o (λ g. completed p ≡ g)) is (operand_completed p) in (
-      λ act. ap (acts machine least act frames) is ∙ ap act ok,
-      deep ∙ ap (λ x. depth (plugged machine frames x)) same ∙ ap depth (sym (plugged-settled (filled operators) (yields operators least) frames f)) ∙ ap (λ (q : List Frame × Arithmetic). depth (plugged machine q.0 q.1)) ok,
-      shallow,
-    )
+use Rattle.ms_presburger_parse.proofs.Groupings.{depths}
 
 -- the same state, and what the code comes to
 pub comes_same : (s t : State) (begun : Begun) (r : Result Outcome Stop) → s ≡ t → ComesTo t begun r → ComesTo s begun r
 comes_same s t begun r same h = subst (λ x. ComesTo x begun r) (sym same) h
-
-pub closed_other : (frame : Frame) (frames : List Frame) (f : Arithmetic) → (frame ≡ in_brackets → ⊥) → closed machine (frame ∷ frames, f) ≡ stopped
-closed_other in_brackets frames f other = absurd (other refl)
-closed_other (behind_prefix op) frames f other = refl
-closed_other (behind_infix op left) frames f other = refl
-closed_other (behind_joining op operands) frames f other = refl
-
-pub ended_more : (empty : Bool) (fs : List CodeFrame) (f : Arithmetic) → (IsTrue empty ↔ (fs ≡ [])) → empty ≡ false → ended machine (stack_of fs, f) ≡ stopped
-ended_more empty [] f tells some = let never : true ≡ false = sym (tells.1 refl) ∙ some in cc
-ended_more empty (frame ∷ fs) f tells some = refl
 
 -- what stops within the innermost formula stops the step
 stops_moved : (move : Place → Option Place) (frames : List Frame) (p : Place) (begun : Begun) (stop : Stop) → MovesTo (move p) (Err stop) → ComesTo (moved machine move (within frames p)) begun (Err stop)

@@ -1,8 +1,8 @@
 ghost use Rattle.std.specs.Prelude.{◌≡◌, map};
 ghost use Rattle.ms_presburger.specs.Tree.{Arithmetic, depth};
 ghost use Rattle.ms_presburger.specs.View.{arithmetic_of};
-ghost use Rattle.ms_presburger_parse.specs.inner.Machine.{operators};
-ghost use Rattle.ms_presburger_parse.specs.inner.Deep.{operators_deep};
+ghost use Rattle.ms_presburger_parse.specs.inner.Machine.{Place, machine, operators};
+ghost use Rattle.ms_presburger_parse.specs.inner.Deep.{deep};
 
 use crate::levels;
 use crate::operator::{Binary, Junction, Prefix};
@@ -28,9 +28,11 @@ impl Grammar for LinearArithmetic {
 
     ghost depth = { depth };
 
-    ghost operators = { operators };
+    ghost Place = { Place };
 
-    ghost deep = { operators_deep };
+    ghost machine = { machine };
+
+    ghost deep = { deep };
 
     fn brackets(alloc: Global, operand: Linear) -> Result<Linear, NoMemory> {
         Ok(Linear::Paren(on_heap(alloc, operand)?))
@@ -70,14 +72,16 @@ impl Grammar for LinearArithmetic {
         levels::binary_level(*op)
     }
 
+    fn left_level(op: &Binary) -> u32 {
+        levels::left_level(*op)
+    }
+
     fn junction_level(op: Junction) -> u32 {
         levels::junction_level(op)
     }
 }
 
 pub type Operand = stacks::Operand<LinearArithmetic>;
-
-pub type Operands = stacks::Operands<LinearArithmetic>;
 
 /// An entry of the stack.
 pub type Frame = stacks::Frame<LinearArithmetic>;

@@ -1,4 +1,4 @@
-ghost use Rattle.std.specs.Prelude.{◌≡◌, ◌≤◌, suc};
+ghost use Rattle.std.specs.Prelude.{◌≡◌, ◌≤◌};
 ghost use Rattle.ms_presburger_parse.specs.Grammar.{binary_level, compares, junction_level, left_level};
 ghost use Rattle.ms_presburger_parse.specs.inner.Machine.{prefix_operand};
 
@@ -32,13 +32,6 @@ pub fn junction_level(op: Junction) -> u32
         Junction::Conjunction => 4,
         Junction::Disjunction => 3,
     }
-}
-
-/// The least level of an operand.
-pub fn operand_level(op: Junction) -> u32
-    ensures { result ≡ suc (junction_level op) }
-{
-    junction_level(op) + 1
 }
 
 /// The least level of an operand.

@@ -5,7 +5,8 @@ use Rattle.ms_ltlf.specs.View.{temporals}
 use Rattle.ms_parse_stack.specs.inner.Frames as frames
 use Rattle.ms_parse_stack.specs.inner.Frames.{Operators, in_brackets, behind_prefix}
 use Rattle.ms_parse_stack.specs.inner.Machine as machines
-use Rattle.ms_parse_stack.specs.inner.Machine.{Machine, moves, enters, operates, joins, closes, ends, stops}
+use Rattle.ms_parse_stack.specs.inner.Machine.{Machine, moves, enters, follows, stops}
+use Rattle.ms_parse_stack.specs.declared.sign.Sign.TheVariants as signs
 use Rattle.ms_ltlf_parse.specs.Grammar.{binary_level, left_level, right_level, junction_level, prefix_level}
 use Rattle.ms_ltlf_parse.specs.Symbol.{Symbol, name, word_true, word_false, prefix_operator, infix_operator, joining, open_bracket, close_bracket, semicolon, other}
 use Rattle.ms_ltlf_parse.specs.declared.operator.Binary.{Binary}
@@ -88,11 +89,11 @@ action number (name n) = moves (leaf (proposition (number n)))
 action number word_true = moves (leaf truth)
 action number word_false = moves (leaf falsity)
 action number (prefix_operator op) = enters (opened (behind_prefix op))
-action number (infix_operator op) = operates op
-action number (joining op) = joins op
+action number (infix_operator op) = follows (signs.Infix op)
+action number (joining op) = follows (signs.Joining op)
 action number open_bracket = enters (opened in_brackets)
-action number close_bracket = closes
-action number semicolon = ends
+action number close_bracket = follows signs.Close
+action number semicolon = follows signs.End
 action number other = stops
 
 abbrev pub step : (List ℕ → ℕ) → State → Symbol → State

@@ -5,13 +5,12 @@ use Rattle.ms_text.specs.TokenList.{Lexed}
 use Rattle.ms_ltlf_parse.specs.Reading.{place, first_sights, CanFollow, CanFollowAtAnyDepth}
 use Rattle.ms_ltlf_parse.specs.Symbol.{Symbol, symbol_of}
 use Rattle.ms_ltlf_parse.specs.declared.read.Reader.{Reader}
-use Rattle.ms_ltlf_parse.specs.declared.state.Outcome.{Outcome}
 use Rattle.ms_parse_stack.specs.Symbols as texts
 use Rattle.ms_parse_stack.specs.declared.stop.Stop.{Stop}
 use Rattle.ms_parse_stack.specs.inner.Stopped as stops
 use Rattle.ms_ltlf_parse.specs.inner.Machine.{State, run, start}
 use Rattle.ms_ltlf_parse.specs.inner.Sights.{IsTable}
-use Rattle.ms_ltlf_parse.specs.inner.States.{IsMeasured, state_of}
+use Rattle.ms_ltlf_parse.specs.inner.States.{IsMeasured, Outcome, state_of}
 
 -- the state behind some symbols
 abbrev pub reached : List Symbol → State

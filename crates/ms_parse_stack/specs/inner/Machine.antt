@@ -1,8 +1,10 @@
 -- A machine that reads symbols from left to right. It keeps a stack of frames, the formulas that have been begun, and its place in the
 -- innermost of them.
-use Rattle.std.specs.Prelude.{ℕ, suc, List, [], ◌∷◌, Option, Some, None}
+use Rattle.std.specs.Prelude.{◌≡◌, ℕ, suc, List, [], ◌∷◌, Option, Some, None, IfSome}
 use Rattle.ms_parse_stack.specs.declared.junction.Junction.{Junction}
-use Rattle.ms_parse_stack.specs.inner.Frames.{Operators, Frame, in_brackets, behind_infix, filled, link, yields}
+use Rattle.ms_parse_stack.specs.declared.sign.Sign.{Sign}
+use Rattle.ms_parse_stack.specs.declared.sign.Sign.TheVariants as signs
+use Rattle.ms_parse_stack.specs.inner.Frames.{AreDeep, Operators, Frame, in_brackets, behind_infix, filled, link, yields}
 use Rattle.ms_parse_stack.specs.inner.Settled as stacks
 
 pub data State (Prefix Binary Place Formula : Type 0) : Type 0 where
@@ -28,16 +30,22 @@ pub record Machine (Prefix Binary Place Formula : Type 0) : Type 0 where
   -- the shortest formula that goes on so
   pub completed : Place → Formula
 
+-- Formulas have a depth: each operator makes one that is one deeper than the deepest of its operands, where a formula is wanted the least
+-- one completes it, and one that has been read completes itself.
+pub record IsDepth {Prefix Binary Place Formula : Type 0} (m : Machine Prefix Binary Place Formula) (depth : Formula → ℕ) : Type 0 where
+  pub operators_deep : AreDeep m.operators depth
+  pub wanted_deep : depth (m.completed m.wanted) ≡ 1
+  pub holding_deep : (f : Formula) → m.completed (m.holding f) ≡ f
+  pub operand_deep : (p : Place) → IfSome (m.operand p) (λ f. m.completed p ≡ f)
+
 -- what a symbol does
 pub data Action (Prefix Binary Place Formula : Type 0) : Type 0 where
   -- leads on within the innermost formula
   moves : (move : Place → Option Place) → Action Prefix Binary Place Formula
   -- begins a frame
   enters : (opens : Place → Option (Frame Prefix Binary Formula)) → Action Prefix Binary Place Formula
-  operates : (op : Binary) → Action Prefix Binary Place Formula
-  joins : (op : Junction) → Action Prefix Binary Place Formula
-  closes : Action Prefix Binary Place Formula
-  ends : Action Prefix Binary Place Formula
+  -- stands behind an operand
+  follows : (sign : Sign Binary) → Action Prefix Binary Place Formula
   -- stands in no formula
   stops : Action Prefix Binary Place Formula
 
@@ -94,14 +102,25 @@ module _ {Prefix Binary Place Formula : Type 0} (m : Machine Prefix Binary Place
   behind least act (done f) = stopped
   behind least act stopped = stopped
 
+  -- the least level of the operand before a sign
+  abbrev pub least_before : Sign Binary → ℕ
+  least_before (signs.Infix op) = m.operators.left_level op
+  least_before (signs.Joining op) = suc (m.operators.junction_level op)
+  least_before signs.Close = 0
+  least_before signs.End = 0
+
+  -- what a sign does with the operand
+  abbrev pub put : Sign Binary → List (Frame Prefix Binary Formula) × Formula → State Prefix Binary Place Formula
+  put (signs.Infix op) held = infixed op held
+  put (signs.Joining op) held = linked op held
+  put signs.Close held = closed held
+  put signs.End held = ended held
+
   -- a step over a symbol
   abbrev pub performed : Action Prefix Binary Place Formula → State Prefix Binary Place Formula → State Prefix Binary Place Formula
   performed (moves move) s = moved move s
   performed (enters opens) s = entered opens s
-  performed (operates op) s = behind (m.operators.left_level op) (infixed op) s
-  performed (joins op) s = behind (suc (m.operators.junction_level op)) (linked op) s
-  performed closes s = behind 0 closed s
-  performed ends s = behind 0 ended s
+  performed (follows sign) s = behind (least_before sign) (put sign) s
   performed stops s = stopped
 
   -- the steps over some symbols

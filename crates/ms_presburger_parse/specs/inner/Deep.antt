@@ -1,15 +1,16 @@
 -- How deep the formulas are that operators make.
-use Rattle.std.proofs.Common.{◌≡◌, suc, max, List, [], ◌∷◌, refl, ap}
+use Rattle.std.proofs.Common.{◌≡◌, suc, max, List, [], ◌∷◌, refl, ap, IfSome}
 use Rattle.ms_presburger.specs.Tree.{Arithmetic, depth, depth_of_all}
 use Rattle.ms_presburger.specs.View.{arithmetics}
 use Rattle.ms_parse_stack.specs.declared.junction.Junction.{Junction}
 use Rattle.ms_parse_stack.specs.declared.junction.Junction.TheVariants.{Conjunction, Disjunction}
 use Rattle.ms_parse_stack.specs.inner.Frames.{AreDeep, depth_of_each}
+use Rattle.ms_parse_stack.specs.inner.Machine.{IsDepth}
 use Rattle.ms_presburger_parse.specs.declared.operator.Binary.{Binary}
 use Rattle.ms_presburger_parse.specs.declared.operator.Binary.TheVariants.{Equivalence, Implication}
 use Rattle.ms_presburger_parse.specs.declared.operator.Prefix.{Prefix}
 use Rattle.ms_presburger_parse.specs.declared.operator.Prefix.TheVariants.{Negation, Quantifier}
-use Rattle.ms_presburger_parse.specs.inner.Machine.{operators, prefixed, binary, joined}
+use Rattle.ms_presburger_parse.specs.inner.Machine.{operators, machine, prefixed, binary, joined, operand, completed, Place, on_left, on_right, wanted, naming, named, adding, added, holding}
 
 depth-prefixed : (op : Prefix) (f : Arithmetic) → depth (prefixed op f) ≡ suc (depth f)
 depth-prefixed Negation f = refl
@@ -29,3 +30,16 @@ depth-joined Disjunction fs = ap suc (depth-all fs)
 
 pub operators_deep : AreDeep operators depth
 operators_deep = record { brackets_deep = λ f. refl; prefixed_deep = depth-prefixed; binary_deep = depth-binary; joined_deep = depth-joined }
+
+-- a formula that may end is the shortest one
+operand_deep : (p : Place) → IfSome (operand p) (λ f. completed p ≡ f)
+operand_deep wanted = tt
+operand_deep (naming q xs) = tt
+operand_deep (named q xs) = tt
+operand_deep (adding side parts) = tt
+operand_deep (added on_left before last) = tt
+operand_deep (added (on_right r left) before last) = refl
+operand_deep (holding f) = refl
+
+pub deep : IsDepth machine depth
+deep = record { operators_deep = operators_deep; wanted_deep = refl; holding_deep = λ f. refl; operand_deep = operand_deep }

@@ -11,7 +11,8 @@ use Rattle.ms_presburger.specs.View.{arithmetics}
 use Rattle.ms_parse_stack.specs.inner.Frames as frames
 use Rattle.ms_parse_stack.specs.inner.Frames.{Operators, in_brackets, behind_prefix}
 use Rattle.ms_parse_stack.specs.inner.Machine as machines
-use Rattle.ms_parse_stack.specs.inner.Machine.{Machine, moves, enters, operates, joins, closes, ends, stops}
+use Rattle.ms_parse_stack.specs.inner.Machine.{Machine, moves, enters, follows, stops}
+use Rattle.ms_parse_stack.specs.declared.sign.Sign.TheVariants as signs
 use Rattle.ms_presburger_parse.specs.Grammar.{binary_level, left_level, right_level, junction_level, prefix_level, compares}
 use Rattle.ms_presburger_parse.specs.Symbol.{Symbol, name, number, word_true, word_false, quantifier, negation_sign, infix_operator, joining, relation, plus, comma, colon, open_bracket, close_bracket, semicolon, other}
 use Rattle.ms_presburger_parse.specs.declared.operator.Binary.{Binary}
@@ -203,15 +204,15 @@ action word_true = moves (with_leaf truth)
 action word_false = moves (with_leaf falsity)
 action (quantifier q) = moves (with_quantifier q)
 action negation_sign = enters (opening (behind_prefix Negation))
-action (infix_operator op) = operates op
-action (joining op) = joins op
+action (infix_operator op) = follows (signs.Infix op)
+action (joining op) = follows (signs.Joining op)
 action (relation r) = moves (with_relation r)
 action plus = moves with_plus
 action comma = moves with_comma
 action colon = enters body
 action open_bracket = enters (opening in_brackets)
-action close_bracket = closes
-action semicolon = ends
+action close_bracket = follows signs.Close
+action semicolon = follows signs.End
 action other = stops
 
 abbrev pub step : State → Symbol → State

@@ -1,5 +1,5 @@
 -- The states of the machine that the code's states stand for, and when the code takes the machine's steps.
-use Rattle.std.specs.Prelude.{◌≡◌, ℕ, ◌<◌, ◌≤◌, List, map, Option, Some, None, Result, IfSome}
+use Rattle.std.specs.Prelude.{◌≡◌, ◌≤◌, List, map, Option, Some, None, Result, IfSome}
 use Rattle.ms_presburger.specs.Tree.{Arithmetic, depth}
 use Rattle.ms_presburger.specs.View.{arithmetic_of}
 use Rattle.ms_presburger.specs.declared.linear.Linear.{Linear}
@@ -7,7 +7,6 @@ use Rattle.ms_presburger_parse.specs.declared.frame.LinearArithmetic.{LinearArit
 use Rattle.ms_presburger_parse.specs.contracts.frame.LinearArithmeticGrammar.TheImpl.{ghosts}
 use Rattle.ms_presburger_parse.specs.declared.operator.Binary.{Binary}
 use Rattle.ms_presburger_parse.specs.declared.operator.Prefix.{Prefix}
-use Rattle.ms_parse_stack.specs.declared.frame.Frame as code
 use Rattle.ms_parse_stack.specs.declared.operand.Operand as operands
 use Rattle.ms_parse_stack.specs.inner.Opened as opened
 use Rattle.ms_presburger_parse.specs.declared.place.Place.{Place}
@@ -18,13 +17,14 @@ use Rattle.ms_presburger_parse.specs.declared.state.Outcome.{Outcome}
 use Rattle.ms_presburger_parse.specs.declared.state.Outcome.TheVariants as outcomes
 use Rattle.ms_parse_stack.specs.declared.begun.Begun as stacks
 use Rattle.ms_parse_stack.specs.declared.stop.Stop.{Stop}
+use Rattle.ms_parse_stack.specs.inner.States as states
 use Rattle.ms_parse_stack.specs.inner.Stopped.{Gives}
 use Rattle.ms_presburger_parse.specs.inner.Machine as machines
-use Rattle.ms_presburger_parse.specs.inner.Machine.{machine, shortest}
-use Rattle.ms_parse_stack.specs.inner.Machine.{within, done, stopped, GoesOn, behind, plugged}
+use Rattle.ms_presburger_parse.specs.inner.Machine.{shortest}
+use Rattle.ms_parse_stack.specs.inner.Machine.{within, done}
 
 abbrev pub Frame : Type 0
-Frame = code.Frame LinearArithmetic Linear Prefix Binary ghosts
+Frame = states.CodeFrame ghosts
 
 abbrev pub Operand : Type 0
 Operand = operands.Operand LinearArithmetic Linear Prefix Binary ghosts
@@ -58,13 +58,12 @@ abbrev pub state_of : Begun → Outcome → machines.State
 state_of begun outcome = state_with (stack_of begun.frames) outcome
 
 -- what is kept as the depth is that of the shortest formula that begins so, which is not too deep
-pub record IsMeasured (begun : Begun) (outcome : Outcome) : Type 0 where
-  pub measured : begun.deepest ≡ depth (shortest (state_of begun outcome))
-  pub shallow : begun.deepest ≤ 300
+abbrev pub IsMeasured : Begun → Outcome → Type 0
+IsMeasured begun outcome = states.IsMeasured ghosts begun (shortest (state_of begun outcome))
 
 -- the code is in this state, or has stopped before it
 abbrev pub ComesTo : machines.State → Begun → Result Outcome Stop → Type 0
-ComesTo s begun result = Gives (λ (outcome : Outcome). (s ≡ state_of begun outcome) × IsMeasured begun outcome) (s ≡ stopped) (GoesOn s × (300 < depth (shortest s))) result
+ComesTo s begun result = states.Comes ghosts state_of s begun result
 
 -- the place that a symbol leads to within the innermost formula
 abbrev pub MovesTo : Option machines.Place → Result Place Stop → Type 0
@@ -73,14 +72,6 @@ MovesTo next result = Gives (λ (place : Place). next ≡ Some (place_of place))
 -- the formula that has been read, if it may end here
 abbrev pub HasOperand : Option Arithmetic → Result Operand Stop → Type 0
 HasOperand held result = Gives (λ (made : Operand). held ≡ Some (arithmetic_of made.formula)) (held ≡ None) ⊥ result
-
--- an operand, where the stack is settled for a symbol that wants this level on its left, or the symbol cannot stand there
-abbrev pub Settles : ℕ → machines.State → Begun → Result Operand Stop → Type 0
-Settles least s begun result =
-    Gives
-    (λ (made : Operand). ((act : List machines.Frame × Arithmetic → machines.State) → behind machine least act s ≡ act (stack_of begun.frames, arithmetic_of made.formula))
-    × (begun.deepest ≡ depth (plugged machine (stack_of begun.frames) (arithmetic_of made.formula))) × (begun.deepest ≤ 300))
-    ((act : List machines.Frame × Arithmetic → machines.State) → behind machine least act s ≡ stopped) ⊥ result
 
 -- what a symbol does to the depth of the shortest formula that goes on
 

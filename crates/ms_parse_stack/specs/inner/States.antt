@@ -1,0 +1,42 @@
+-- The states of the machine that the code's states stand for, and when the code takes the machine's steps.
+use Rattle.std.specs.Prelude.{◌≡◌, ◌<◌, ◌≤◌, List, map, Result}
+use Rattle.ms_parse_stack.specs.declared.begun.Begun.{Begun}
+use Rattle.ms_parse_stack.specs.declared.frame.Frame as code
+use Rattle.ms_parse_stack.specs.declared.grammar.Grammar.{Ghosts}
+use Rattle.ms_parse_stack.specs.declared.outcome.Outcome.{Outcome}
+use Rattle.ms_parse_stack.specs.declared.outcome.Outcome.TheVariants as outcomes
+use Rattle.ms_parse_stack.specs.declared.stop.Stop.{Stop}
+use Rattle.ms_parse_stack.specs.inner.Frames.{Frame}
+use Rattle.ms_parse_stack.specs.inner.Machine.{State, within, done, stopped, GoesOn, shortest}
+use Rattle.ms_parse_stack.specs.inner.Opened.{frame_of}
+use Rattle.ms_parse_stack.specs.inner.Stopped.{Gives}
+
+module _ {Grammar Tree Prefix Binary : Type 0} (g : Ghosts Grammar Tree Prefix Binary) where
+  abbrev pub CodeFrame : Type 0
+  CodeFrame = code.Frame Grammar Tree Prefix Binary g
+
+  abbrev pub Standing : Type 0
+  Standing = State Prefix Binary g.Place g.Tree
+
+  abbrev pub stack_of : List CodeFrame → List (Frame Prefix Binary g.Tree)
+  stack_of frames = map (frame_of g.tree_of) frames
+
+  abbrev pub state_with : List (Frame Prefix Binary g.Tree) → Outcome Grammar Tree Prefix Binary g → Standing
+  state_with frames outcomes.Wanted = within frames g.machine.wanted
+  state_with frames (outcomes.Holding operand) = within frames (g.machine.holding (g.tree_of operand.formula))
+  state_with frames (outcomes.Done operand) = done (g.tree_of operand.formula)
+
+  abbrev pub state_of : Begun CodeFrame → Outcome Grammar Tree Prefix Binary g → Standing
+  state_of begun outcome = state_with (stack_of begun.frames) outcome
+
+  -- what is kept as the depth is that of this formula, which is not too deep
+  pub record IsMeasured (begun : Begun CodeFrame) (whole : g.Tree) : Type 0 where
+    pub measured : begun.deepest ≡ g.depth whole
+    pub shallow : begun.deepest ≤ 300
+
+  -- the code is in this state, by the states that its outcomes stand for, or has stopped before it
+  abbrev pub Comes : {Code : Type 0} → (Begun CodeFrame → Code → Standing) → Standing → Begun CodeFrame → Result Code Stop → Type 0
+  Comes {Code} state s begun result = Gives (λ (outcome : Code). (s ≡ state begun outcome) × IsMeasured begun (shortest g.machine (state begun outcome))) (s ≡ stopped) (GoesOn s × (300 < g.depth (shortest g.machine s))) result
+
+  abbrev pub ComesTo : Standing → Begun CodeFrame → Result (Outcome Grammar Tree Prefix Binary g) Stop → Type 0
+  ComesTo s begun result = Comes state_of s begun result

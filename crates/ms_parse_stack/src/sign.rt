@@ -1,0 +1,11 @@
+use crate::junction::Junction;
+
+/// A sign behind an operand.
+#[derive(Drop)]
+pub enum Sign<Binary> {
+    Infix(Binary),
+    Joining(Junction),
+    Close,
+    /// The sign that ends the whole.
+    End,
+}
