@@ -19,4 +19,4 @@ pub use ms_logic_words::Sign;
 pub use part::{Part, is_in};
 pub use plain::{FileSign, FileState, FileVar, FileVersion, Plain};
 pub use state::State;
-pub use track::Track;
+pub use track::{Track, copy_tracks};

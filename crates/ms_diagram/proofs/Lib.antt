@@ -5,7 +5,7 @@ pub mod BringLemmas
 pub mod Building
 pub mod CollectLemmas
 pub mod CollectSteps
-mod ComputedLemmas
+pub mod ComputedLemmas
 pub mod EvalLemmas
 pub mod Keys
 pub mod LeavesLemmas

@@ -3,6 +3,7 @@ pub mod Apply
 pub mod Bring
 pub mod Collect
 pub mod Growth
+pub mod Hash
 pub mod Leaves
 pub mod Numbering
 pub mod Relabel

@@ -1,12 +1,12 @@
-ghost use Rattle.std.specs.Prelude.{◌≡◌, ◌≢◌, ◌<◌, ◌^◌, ℕ, List, [], length, Some, IfOk, OnOk, OnErr};
+ghost use Rattle.std.specs.Prelude.{◌≡◌, ◌≢◌, ◌<◌, ◌≤◌, ℕ, List, [], length, Some, OnOk, OnErr};
 ghost use Rattle.std.specs.Map.{lookup};
 ghost use Rattle.ms_diagram.specs.declared.computed_table.TheConstants.{EMPTY};
-ghost use Rattle.ms_diagram.specs.inner.Computed.{no_slots, AreEmpty, ArePlaced, HasMoved, entries_in, entries_of, held, place_of, scattered};
+ghost use Rattle.ms_diagram.specs.inner.Computed.{no_slots, AreAllPlaced, ArePlaced, HasMoved, entries_in, entries_of, held, place_of};
 ghost use Rattle.ms_diagram.specs.inner.Equal.{numbers_eq};
 ghost use Rattle.ms_diagram.specs.inner.Notes.{KeepsOnly};
 ghost use Rattle.ms_diagram.specs.inner.Short.{IsShort};
 
-use ms_arena::Ref;
+use crate::hash::scatter;
 use ms_list::NoMemory;
 use std::alloc::Global;
 use std::marker::Model;
@@ -14,20 +14,17 @@ use std::marker::Model;
 /// What stands in an empty slot for the first code. No pair that is told has it.
 const EMPTY: u32 = 0xFFFF_FFFF;
 
-/// An odd number whose bits look random: the first bits of the golden ratio.
-const FACTOR: u64 = 0x9E37_79B9_7F4A_7C15;
-
 const TWO_TO_32: u64 = 0x1_0000_0000;
 
 /// The number of buckets of the first table that takes memory, a power of two.
 const LEAST_BUCKETS: usize = 16;
 
-// The codes of a pair of references, and what the pair has become.
+// The codes of a pair of references, and that of what the pair has become.
 #[derive(Clone, Copy)]
 struct Slot {
     left: u32,
     right: u32,
-    made: Ref,
+    made: u32,
 }
 
 // The last two slots that were told of their pairs, the later one first.
@@ -43,21 +40,19 @@ struct Bucket {
 // It has four slots for three pairs that it was told. So a pair that was forgotten and is told again makes it larger, too.
 #[derive(Drop)]
 pub(crate) struct ComputedTable {
-    alloc: Global,
     buckets: Vec<Bucket>,
     told: usize,
 }
 
 impl Model for ComputedTable {
-    ghost use Rattle.std.specs.Prelude.{ℕ, List, length};
-    ghost use Rattle.ms_arena.specs.declared.node.Ref.{Ref};
-    ghost use Rattle.ms_diagram.specs.inner.Computed.{ArePlaced, entries_of};
+    ghost use Rattle.std.specs.Prelude.{ℕ, List};
+    ghost use Rattle.ms_diagram.specs.inner.Computed.{AreAllPlaced, entries_of};
 
-    ghost Value = { List ((ℕ × ℕ) × Ref) };
+    ghost Value = { List ((ℕ × ℕ) × ℕ) };
 
     ghost view = { λ table. entries_of table.buckets.items };
 
-    ghost invariant = { λ table. ArePlaced (length table.buckets.items) 0 table.buckets.items };
+    ghost invariant = { λ table. AreAllPlaced table.buckets.items };
 }
 
 impl ComputedTable {
@@ -69,14 +64,13 @@ impl ComputedTable {
         ensures { result ≡ [] }
     {
         ComputedTable {
-            alloc,
             buckets: Vec::new(alloc),
             told: 0,
         }
     }
 
     // What the pair has become, if it has an entry.
-    pub(crate) fn ask(&self, codes: (u32, u32)) -> Option<Ref>
+    pub(crate) fn ask(&self, codes: (u32, u32)) -> Option<u32>
         requires { IsShort codes.0 }
         ensures { result ≡ lookup (numbers_eq codes) self.now }
     {
@@ -88,12 +82,12 @@ impl ComputedTable {
     }
 
     // Gives an entry to the pair. Others may go.
-    pub(crate) fn tell(&mut self, codes: (u32, u32), made: Ref) -> Result<(), NoMemory>
+    pub(crate) fn tell(&mut self, codes: (u32, u32), made: u32) -> Result<(), NoMemory>
         requires { IsShort codes.0 }
         ensures noted { OnOk result (lookup (numbers_eq codes) self.new ≡ Some made) }
         ensures only { NotesOnly numbers_eq self.old self.new codes made }
     {
-        make_room(self.alloc, &mut self.buckets, self.told)?;
+        make_room(&mut self.buckets, self.told)?;
         self.told = self.told.saturating_add(1);
         let (left, right) = codes;
         put(&mut self.buckets, Slot { left, right, made });
@@ -117,7 +111,7 @@ impl Bucket {
         let slot = Slot {
             left: EMPTY,
             right: 0,
-            made: Ref::Leaf(0),
+            made: 0,
         };
         Bucket {
             first: slot,
@@ -126,7 +120,7 @@ impl Bucket {
     }
 
     // What the pair has become, if it has an entry here.
-    fn find(self, codes: (u32, u32)) -> Option<Ref>
+    fn find(self, codes: (u32, u32)) -> Option<u32>
         requires { IsShort codes.0 }
         ensures { result ≡ lookup (numbers_eq codes) (entries_in self []) }
     {
@@ -141,52 +135,54 @@ impl Bucket {
 }
 
 // Makes twice as many buckets where there are too few for one pair more than were told. Some entries may go.
-fn make_room(alloc: Global, buckets: &mut Vec<Bucket>, told: usize) -> Result<(), NoMemory>
-    requires placed { ArePlaced (length buckets.old.items) 0 buckets.old.items }
+fn make_room(buckets: &mut Vec<Bucket>, told: usize) -> Result<(), NoMemory>
+    requires placed { AreAllPlaced buckets.old.items }
     ensures moved { OnOk result (HasMoved buckets.old.items buckets.new.items) }
     ensures refused { OnErr result (buckets.new.items ≡ buckets.old.items) }
 {
     if told / 3 < buckets.len() / 2 {
         return Ok(());
     }
-    *buckets = grown(alloc, buckets)?;
+    grow(buckets)
+}
+
+// Makes twice as many buckets, or the first ones. Some entries may go.
+#[cold]
+fn grow(buckets: &mut Vec<Bucket>) -> Result<(), NoMemory>
+    ensures moved { OnOk result (HasMoved buckets.old.items buckets.new.items) }
+    ensures refused { OnErr result (buckets.new.items ≡ buckets.old.items) }
+{
+    let count = buckets.len();
+    let more = count.saturating_mul(2).max(LEAST_BUCKETS);
+    let Ok(()) = buckets.resize(more, Bucket::empty()) else {
+        return Err(NoMemory);
+    };
+    place_again(buckets, count);
     Ok(())
 }
 
-// Twice as many buckets, or the first ones, with the same entries. Some may go.
-#[cold]
-fn grown(alloc: Global, buckets: &[Bucket]) -> Result<Vec<Bucket>, NoMemory>
-    ensures { IfOk result (λ made. HasMoved buckets.now made.items) }
-{
-    let count = buckets.len().saturating_mul(2).max(LEAST_BUCKETS);
-    let mut made = Vec::new(alloc);
-    let Ok(()) = made.resize(count, Bucket::empty()) else {
-        return Err(NoMemory);
-    };
-    put_all(&mut made, buckets);
-    Ok(made)
-}
-
-// Puts all slots of the other buckets, which some of them push out again.
-fn put_all(buckets: &mut [Bucket], others: &[Bucket])
+// Puts all slots of the first buckets again, each into the bucket that it has now. Some of them push others out.
+fn place_again(buckets: &mut [Bucket], count: usize)
     requires room { 0 < length buckets.old }
-    requires empty { AreEmpty buckets.old }
-    ensures { HasMoved others.now buckets.new }
+    requires within { count ≤ length buckets.old }
+    requires placed { ArePlaced (0, count) (length buckets.old) 0 buckets.old }
+    ensures { HasMoved buckets.old buckets.new }
 {
-    for bucket in others {
-        put(buckets, bucket.second);
-        put(buckets, bucket.first);
+    for place in 0..count {
+        let Bucket { first, second } = buckets[place];
+        buckets[place] = Bucket::empty();
+        put(buckets, second);
+        put(buckets, first);
     }
 }
 
 // Puts the slot first into the bucket of its pair, unless it is empty. What was second there goes.
 fn put(buckets: &mut [Bucket], slot: Slot)
     requires room { 0 < length buckets.old }
-    requires placed { ArePlaced (length buckets.old) 0 buckets.old }
     ensures room { length buckets.new ≡ length buckets.old }
-    ensures placed { ArePlaced (length buckets.new) 0 buckets.new }
+    ensures placed { (waiting : ℕ × ℕ) → ArePlaced waiting (length buckets.old) 0 buckets.old → ArePlaced waiting (length buckets.new) 0 buckets.new }
     ensures only { KeepsOnly (held slot (entries_of buckets.old)) (entries_of buckets.new) }
-    ensures noted { slot.left ≢ EMPTY → lookup (numbers_eq (slot.left, slot.right)) (entries_of buckets.new) ≡ Some slot.made }
+    ensures noted { AreAllPlaced buckets.old → slot.left ≢ EMPTY → lookup (numbers_eq (slot.left, slot.right)) (entries_of buckets.new) ≡ Some slot.made }
 {
     if slot.left == EMPTY {
         return;
@@ -200,19 +196,16 @@ fn put(buckets: &mut [Bucket], slot: Slot)
 }
 
 // Which of so many buckets the pair of codes is in. They are all in use where their number is a power of two.
+//
+// Pairs that are near each other are asked for one after the other, so blocks of 64 buckets are scattered, and pairs whose
+// numbers differ in their last bits alone lie in one block.
 fn place(codes: (u32, u32), buckets: usize) -> usize
     requires { 0 < buckets }
     ensures value { result ≡ place_of buckets codes }
     ensures within { result < buckets }
 {
-    let pair = TWO_TO_32 * u64::from(codes.0) + u64::from(codes.1);
-    scatter(scatter(pair)) as usize & (buckets - 1)
-}
-
-// The upper half of a product in 64 bits.
-fn scatter(number: u64) -> u64
-    ensures value { result ≡ scattered number }
-    ensures short { result < 2 ^ 32 }
-{
-    number.wrapping_mul(FACTOR) >> 32
+    let (left, right) = codes;
+    let block = scatter(scatter(TWO_TO_32 * u64::from(left / 32) + u64::from(right / 8)));
+    let inside = u64::from(left / 2 % 16 + 16 * (right / 2 % 4));
+    (block + inside) as usize & (buckets - 1)
 }

@@ -1,8 +1,9 @@
 ghost use Rattle.std.specs.Prelude.{◌≡◌, [], ◌∷◌, false, true};
 ghost use Rattle.ms_arena.specs.declared.node.Ref.TheVariants.{Inner, Leaf};
 ghost use Rattle.ms_diagram.specs.Across.{AreOn, HasLeavesAcross, IsHalf, IsOn, LacksAcross, NumberAcross, leaves_across};
+ghost use Rattle.ms_diagram.specs.Hash.{scattered};
 ghost use Rattle.ms_diagram.specs.Store.{IsNewest};
-ghost use Rattle.ms_diagram.specs.inner.Computed.{HasMoved, IsPlaced, entries_of, no_slots, place_of, scattered};
+ghost use Rattle.ms_diagram.specs.inner.Computed.{block_of, HasMoved, IsPlaced, entries_of, no_slots, place_of};
 ghost use Rattle.ms_diagram.specs.inner.Short.{AreShort, IsLong, short_entries};
 ghost use Rattle.ms_diagram.specs.inner.Examples.{both_roots, crossed, half_full, only, without_map};
 
@@ -27,25 +28,30 @@ pub fn worked_sides()
 
 /// Codes of references, which a computed table has up to 2^32 - 3.
 pub fn worked_codes()
-    ensures entries { short_entries (((6, 7), Leaf 1) ∷ ((0, 1), Inner 4) ∷ []) ≡ ((Leaf 3, Inner 3), Leaf 1) ∷ ((Leaf 0, Inner 0), Inner 4) ∷ [] }
-    ensures greatest { AreShort (((4294967293, 0), Leaf 1) ∷ []) }
-    ensures too_great { ¬ AreShort (((0, 4294967294), Leaf 1) ∷ []) }
+    ensures entries { short_entries (((6, 7), 2) ∷ ((0, 1), 9) ∷ []) ≡ ((Leaf 3, Inner 3), Leaf 1) ∷ ((Leaf 0, Inner 0), Inner 4) ∷ [] }
+    ensures greatest { AreShort (((4294967293, 0), 2) ∷ []) }
+    ensures too_great { ¬ AreShort (((0, 4294967294), 2) ∷ []) }
     ensures long_node { IsLong (Inner 2147483647, Leaf 0) }
     ensures long_leaf { IsLong (Inner 0, Leaf 2147483647) }
     ensures short_pair { ¬ IsLong (Inner 2147483646, Leaf 2147483646) }
 {}
 
-/// A computed table of one bucket whose second slot is empty, and the buckets of pairs.
+/// A computed table of one bucket whose second slot is empty, and the buckets of pairs: those of leaf 3 and node 4 or 3 are in
+/// one block.
 pub fn worked_buckets()
-    ensures entries { entries_of (half_full ∷ []) ≡ ((6, 7), Leaf 1) ∷ [] }
+    ensures entries { entries_of (half_full ∷ []) ≡ ((6, 7), 2) ∷ [] }
     ensures empty { entries_of (no_slots ∷ no_slots ∷ []) ≡ [] }
     ensures scattered { scattered 1 ≡ 2654435769 }
-    ensures bucket { place_of 1024 (6, 7) ≡ 758 }
-    ensures few_buckets { place_of 16 (6, 7) ≡ 6 }
-    ensures other_order { place_of 1024 (7, 6) ≡ 101 }
-    ensures own_place { IsPlaced 16 6 half_full.first }
-    ensures other_place { ¬ IsPlaced 16 7 half_full.first }
-    ensures no_place { IsPlaced 16 7 half_full.second }
+    ensures block { block_of (6, 9) ≡ 839513548 }
+    ensures bucket { place_of 1024 (6, 9) ≡ 463 }
+    ensures few_buckets { place_of 16 (6, 7) ≡ 3 }
+    ensures same_block { block_of (8, 7) ≡ block_of (6, 7) }
+    ensures beside { place_of 16 (8, 7) ≡ 4 }
+    ensures own_place { IsPlaced (0, 0) 16 3 half_full.first }
+    ensures other_place { ¬ IsPlaced (0, 0) 16 4 half_full.first }
+    ensures waits { IsPlaced (4, 6) 16 4 half_full.first }
+    ensures waits_no_more { ¬ IsPlaced (5, 6) 16 4 half_full.first }
+    ensures no_place { IsPlaced (0, 0) 16 7 half_full.second }
     ensures moved { HasMoved (no_slots ∷ half_full ∷ []) (half_full ∷ []) }
     ensures added { ¬ HasMoved (no_slots ∷ []) (half_full ∷ []) }
 {}

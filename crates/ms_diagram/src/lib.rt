@@ -10,6 +10,7 @@ mod collect;
 mod computed_table;
 mod examples;
 mod halves;
+mod hash;
 mod leaves;
 mod notes;
 mod pair_table;
@@ -24,6 +25,7 @@ mod tables;
 mod walk;
 
 pub use examples::{worked_buckets, worked_codes, worked_halves, worked_newest, worked_sides};
+pub use hash::scatter;
 pub use pair_table::PairTable;
 pub use pairs::Pairs;
 pub use places::PlaceTable;

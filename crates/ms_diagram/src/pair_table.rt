@@ -1,6 +1,8 @@
-ghost use Rattle.std.specs.Prelude.{◌≡◌, ◌≤◌, MatchOption};
-ghost use Rattle.ms_arena.specs.inner.Code.{code_of};
-ghost use Rattle.ms_diagram.specs.inner.Short.{IsLong, IsShort};
+ghost use Rattle.std.specs.Prelude.{◌≡◌, ◌≤◌, [], IfSome, MatchOption};
+ghost use Rattle.std.specs.Map.{lookup};
+ghost use Rattle.ms_arena.specs.inner.Code.{code_of, ref_of};
+ghost use Rattle.ms_diagram.specs.inner.Equal.{refs_eq};
+ghost use Rattle.ms_diagram.specs.inner.Short.{AreShort, IsLong, IsShort, short_entries};
 
 use crate::computed_table::ComputedTable;
 use crate::notes::Notes;
@@ -16,7 +18,8 @@ const SHORT: u32 = 0x7FFF_FFFF;
 /// What pairs of references have become, where a numbering of pairs grows beside it. A caller keeps it from call to call, so
 /// that what several diagrams share is built once. Contracts see the list of its entries.
 ///
-/// Nearly all references have a code of four bytes, so a pair of them is kept in eight; any other pair is kept as it is.
+/// Nearly all references have a code of four bytes, so an entry is kept in twelve. Once there is one that needs more, all that
+/// are told later are kept as they are.
 pub struct PairTable {
     short: ComputedTable,
     long: IndexMap<(Ref, Ref), Ref>,
@@ -35,7 +38,7 @@ impl Model for PairTable {
 
     ghost Value = { List ((Ref × Ref) × Ref) };
 
-    ghost view = { λ table. short_entries table.short ++ table.long.entries };
+    ghost view = { λ table. table.long.entries ++ short_entries table.short };
 
     ghost invariant = { λ table. AreShort table.short };
 }
@@ -78,24 +81,67 @@ fn short_pair(key: &(Ref, Ref)) -> Option<(u32, u32)>
     Some((left, right))
 }
 
+// The codes of both, and that of what they have become, as long as no entry is kept as it is.
+fn short_entry(
+    long: &IndexMap<(Ref, Ref), Ref>,
+    key: &(Ref, Ref),
+    made: Ref,
+) -> Option<((u32, u32), u32)>
+    ensures { IfSome result (λ entry. (entry.0 ≡ (code_of key.now.0, code_of key.now.1)) × (entry.1 ≡ code_of made) × IsShort entry.0.0 × IsShort entry.0.1 × (long.now.entries ≡ [])) }
+{
+    if !long.is_empty() {
+        return None;
+    }
+    let codes = short_pair(key)?;
+    let code = short(made)?;
+    Some((codes, code))
+}
+
+// The reference of a code.
+fn reference(code: u32) -> Ref
+    ensures { result ≡ ref_of code }
+{
+    let number = code / 2;
+    if code % 2 == 0 {
+        Ref::Leaf(number)
+    } else {
+        Ref::Inner(number)
+    }
+}
+
+// What the pair has become by an entry in twelve bytes.
+fn ask_short(short: &ComputedTable, key: &(Ref, Ref)) -> Option<Ref>
+    requires { AreShort short.now }
+    ensures { result ≡ lookup (refs_eq key.now) (short_entries short.now) }
+{
+    let codes = short_pair(key)?;
+    let made = short.ask(codes)?;
+    Some(reference(made))
+}
+
+// What it has become by an entry that is kept as it is.
+fn ask_long(long: &IndexMap<(Ref, Ref), Ref>, key: &(Ref, Ref)) -> Option<Ref>
+    ensures { result ≡ lookup (refs_eq key.now) long.now.entries }
+{
+    if long.is_empty() {
+        return None;
+    }
+    long.get(key).copied()
+}
+
 impl Notes<(Ref, Ref)> for PairTable {
     ghost entries = { λ table. table };
 
     fn ask(&mut self, key: &(Ref, Ref)) -> Option<Ref> {
-        let found = match short_pair(key) {
-            Some(codes) => self.short.ask(codes),
-            None => None,
-        };
-        match found {
+        match ask_long(&self.long, key) {
             Some(made) => Some(made),
-            None if self.long.is_empty() => None,
-            None => self.long.get(key).copied(),
+            None => ask_short(&self.short, key),
         }
     }
 
     fn tell(&mut self, key: (Ref, Ref), made: Ref) -> Result<(), NoMemory> {
-        match short_pair(&key) {
-            Some(codes) => self.short.tell(codes, made),
+        match short_entry(&self.long, &key, made) {
+            Some((codes, code)) => self.short.tell(codes, code),
             None => self.long.tell(key, made),
         }
     }

@@ -1,5 +1,5 @@
 -- References that lead alike have equal hashes.
-use Rattle.std.proofs.Common.{◌≡◌, ℕ, zero, suc, ◌+◌, ◌-◌, ◌<◌, ◌≤◌, ◌⊎◌, inl, inr, ⊎_elim, Bool, true, false, nat_eq, if◌then◌else◌, List, [], ◌∷◌, ◌++◌, length, length-append, slice_get, slice_index, get_or, Some, unwrap_or, refl, sym, ap, subst, ◌∙◌, arith}
+use Rattle.std.proofs.Common.{◌≡◌, ℕ, zero, suc, ◌+◌, ◌-◌, ◌<◌, ◌≤◌, ◌⊎◌, inl, inr, ⊎_elim, Bool, true, false, if◌then◌else◌, List, [], ◌∷◌, ◌++◌, length, length-append, slice_get, slice_index, get_or, Some, unwrap_or, refl, sym, ap, ◌∙◌, arith}
 use Rattle.std.proofs.lemmas.Bool.{cases_lt, cases_order, eq-eqb}
 use Rattle.std.proofs.lemmas.List.{get_or_append_left, get_or-append_right}
 use Rattle.std.proofs.lemmas.Option.{same_Some, slice_get_within, unwrap_or-slice_get}
@@ -10,7 +10,7 @@ use Rattle.ms_arena.specs.Bits.{with_bit}
 use Rattle.ms_arena.specs.Diagram.{Bits, leaf_of, IsBefore, IsValid, TestsAbove, IsOrdered}
 use Rattle.ms_arena.specs.Halves.{size_of}
 use Rattle.ms_arena.proofs.BitsLemmas.{AgreeAbove-with_bit}
-use Rattle.ms_arena.proofs.Canonicity.{end_for, leaf_of-above, leaf_of-end_for, IsBefore-end_for, TestsAbove-end_for}
+use Rattle.ms_arena.proofs.Canonicity.{end_for, leaf_of-above, leaf_of-end_for, IsBefore-end_for}
 use Rattle.ms_arena.proofs.HalvesLemmas.{size-IsBefore}
 use Rattle.ms_arena.proofs.Lists.{slice_get-held}
 use Rattle.ms_arena.proofs.Paths.{IsBefore-later, leaf_of-leaf}

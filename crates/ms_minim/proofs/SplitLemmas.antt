@@ -1,13 +1,38 @@
 -- Classes are split by the numbers of their keys.
-use Rattle.std.proofs.Common.{◌≡◌, ℕ, ◌+◌, ◌<◌, ◌≤◌, ⊎_elim, List, [], ◌∷◌, ◌++◌, length, length-append, slice_get, slice_index, Some, sym, ap, subst, ◌∙◌, arith}
+use Rattle.std.proofs.Common.{◌≡◌, ◌≢◌, ℕ, zero, suc, ◌+◌, ◌-◌, ◌<◌, ◌≤◌, inl, inr, ⊎_elim, List, [], ◌∷◌, ◌++◌, length, length-append, append_assoc, slice_get, slice_index, Some, refl, sym, ap, subst, ◌∙◌, arith}
 use Rattle.std.proofs.lemmas.Bool.{cases_lt}
-use Rattle.std.proofs.lemmas.Option.{slice_get_within, same_Some, get_or_from_slice_get, slice_get-get_or}
+use Rattle.std.proofs.lemmas.Option.{none-some, slice_get_within, same_Some, get_or_from_slice_get, slice_get-get_or}
 use Rattle.ms_arena.specs.Target.{Extends}
 use Rattle.ms_arena.proofs.Appending.{Extends-same, slice_get-extends}
-use Rattle.ms_arena.proofs.Lists.{slice_get-held, slice_get-push, slice_get-pushed}
-use Rattle.ms_diagram.specs.Numbering.{IsMissing}
+use Rattle.ms_arena.proofs.Lists.{slice_get-append_left, slice_get-held, slice_get-push, slice_get-pushed}
+use Rattle.ms_diagram.specs.Numbering.{IsMissing, IsNumbering, Numbers}
+use Rattle.ms_diagram.proofs.NumberingLemmas.{IsNumbering-numbers}
 use Rattle.ms_minim.specs.inner.Partition.{HaveOneClass, IsInhabited}
-use Rattle.ms_minim.specs.inner.Split.{IsPlaced, key_of, AreKeyed, HaveBegun, AreSplit, IsSplit}
+use Rattle.ms_minim.specs.inner.Split.{IsPlaced, key_of, own_keys, AreKeyed, AreSplit, IsSplit}
+
+-- keys of old classes
+pub length-own_keys : (marks : List ℕ) (first : ℕ) (members : List ℕ) → length (own_keys marks first members) ≡ length members
+length-own_keys marks first [] = refl
+length-own_keys marks first (member ∷ members) = ap suc (length-own_keys marks (suc first) members)
+
+own_key : (marks : List ℕ) (first : ℕ) (members : List ℕ) (class : ℕ) → class < length members
+    → slice_get (own_keys marks first members) class ≡ Some (first + class, slice_index marks (slice_index members class))
+own_key marks first [] class less = absurd (omega (arith, less))
+own_key marks first (member ∷ members) zero less = ap (λ (number : ℕ). Some (number, slice_index marks member)) (omega arith)
+own_key marks first (member ∷ members) (suc class) less =
+    own_key marks (suc first) members class (omega (arith, less)) ∙ ap (λ (number : ℕ). Some (number, slice_index marks (slice_index members class))) (omega arith)
+
+is_own_key : (marks : List ℕ) (first : ℕ) (members : List ℕ) (class : ℕ) (key : ℕ × ℕ) → slice_get (own_keys marks first members) class ≡ Some key
+    → key ≡ (first + class, slice_index marks (slice_index members class))
+is_own_key marks first members class key held =
+    let less : class < length members = (let within = slice_get_within (own_keys marks first members) class key held in let long = length-own_keys marks first members in omega (arith, within, long)) in
+    same_Some key (first + class, slice_index marks (slice_index members class)) (sym held ∙ own_key marks first members class less)
+
+slice_get-behind : {X : Type 0} (front behind : List X) (place : ℕ) → slice_get (front ++ behind) (length front + place) ≡ slice_get behind place
+slice_get-behind [] behind place = let at : 0 + place ≡ place = omega arith in ap (slice_get behind) at
+slice_get-behind (item ∷ front) behind place =
+    let at : suc (length front) + place ≡ suc (length front + place) = omega arith in
+    ap (slice_get (item ∷ front ++ behind)) at ∙ slice_get-behind front behind place
 
 -- a key that got a number
 module _ (keys : List (ℕ × ℕ)) (members : List ℕ) (late_keys : List (ℕ × ℕ)) (late_members : List ℕ) (key : ℕ × ℕ) (state number : ℕ)
@@ -53,47 +78,105 @@ module _ (classes members marks : List ℕ) (inhabited : IsInhabited classes mem
       let class_is : slice_index classes state ≡ class = get_or_from_slice_get classes state class 0 (inhabited.member class state held) in
       ap (λ n. (n, slice_index marks state)) class_is
 
-  -- one class more
-  pub HaveBegun-more : (keys : List (ℕ × ℕ)) (made_members : List ℕ) (done state number : ℕ) → HaveBegun classes members marks keys made_members done → length keys ≡ done
-      → slice_get members done ≡ Some state → (late_keys : List (ℕ × ℕ)) (late_members : List ℕ)
-      → IsPlaced keys made_members late_keys late_members (done, slice_index marks state) state number
-      → HaveBegun classes members marks late_keys late_members (done + 1) × (length late_keys ≡ done + 1)
-  HaveBegun-more keys made_members done state number was count held late_keys late_members placed =
-      let key : ℕ × ℕ = (done, slice_index marks state) in
-      let key_is : key ≡ key_of classes marks state = sym (key_of_member done state held) in
-      let within : state < length classes = slice_get_within classes state done (inhabited.member done state held) in
-      let member_is : slice_index members done ≡ state = get_or_from_slice_get members done state 0 held in
-      let extends = Extends-placed keys made_members late_keys late_members key state number placed in
-      let new : IsMissing keys key × (late_keys ≡ keys ++ key ∷ []) × (late_members ≡ made_members ++ state ∷ []) = ⊎_elim
+  module _ (same_length : length marks ≡ length classes) (small : length members ≤ 4294967295) where
+    -- before the first state, keys are those of the old classes
+    pub AreSplit-none : AreSplit classes members marks (own_keys marks 0 members) members []
+    AreSplit-none = record {
+      begun = record {
+        keyed = record { numbering = own_numbering; equal = length-own_keys marks 0 members; keyed = keyed };
+        count = (let long = length-own_keys marks 0 members in omega (arith, long));
+        old = λ class less.
+            let held = slice_get-held members class less in
+            let member_is : slice_index members class ≡ held.0 = get_or_from_slice_get members class held.0 0 held.1 in
+            (keyed class held.0 held.1).1 ∙ ap (λ state. Some (key_of classes marks state)) (sym member_is);
+      };
+      numbered = λ state number held. absurd (none-some number held);
+    }
+      where
+        own_numbering : IsNumbering (own_keys marks 0 members)
+        own_numbering = record {
+          no_repeats = λ one two key first second.
+              let one_is : key.0 ≡ 0 + one = ap (λ (k : ℕ × ℕ). k.0) (is_own_key marks 0 members one key first) in
+              let two_is : key.0 ≡ 0 + two = ap (λ (k : ℕ × ℕ). k.0) (is_own_key marks 0 members two key second) in
+              omega (arith, one_is, two_is);
+          small = (let long = length-own_keys marks 0 members in omega (arith, long, small));
+        }
+
+        keyed : (class state : ℕ) → slice_get members class ≡ Some state → (state < length classes) × (slice_get (own_keys marks 0 members) class ≡ Some (key_of classes marks state))
+        keyed class state held =
+            let plain : 0 + class ≡ class = omega arith in
+            let member_is : slice_index members class ≡ state = get_or_from_slice_get members class state 0 held in (
+              slice_get_within classes state class (inhabited.member class state held),
+              own_key marks 0 members class (slice_get_within members class state held)
+                  ∙ ap (λ (number : ℕ). Some (number, slice_index marks (slice_index members class))) plain
+                  ∙ ap (λ (mark : ℕ). Some (class, mark)) (ap (slice_index marks) member_is) ∙ ap Some (sym (key_of_member class state held)),
+            )
+
+  -- a state with the mark of the one that its class is known by keeps its class
+  pub AreSplit-kept : (keys : List (ℕ × ℕ)) (made_members made : List ℕ) (state class known : ℕ) → AreSplit classes members marks keys made_members made → length made ≡ state
+      → slice_get classes state ≡ Some class → slice_get members class ≡ Some known → slice_index marks known ≡ slice_index marks state
+      → AreSplit classes members marks keys made_members (made ++ class ∷ [])
+  AreSplit-kept keys made_members made state class known was count class_is known_is same = record {
+    begun = was.begun;
+    numbered = λ one found held. ⊎_elim
+        (λ before. was.numbered one found before)
+        (λ last.
+        let own : one ≡ state = last.0 ∙ count in
+        let place : slice_index classes state ≡ class = get_or_from_slice_get classes state class 0 class_is in
+        let member_is : slice_index members class ≡ known = get_or_from_slice_get members class known 0 known_is in
+        let key : slice_get keys class ≡ Some (key_of classes marks state) =
+        was.begun.old class (slice_get_within members class known known_is)
+        ∙ ap (λ (s : ℕ). Some (key_of classes marks s)) member_is
+        ∙ ap Some (key_of_member class known known_is)
+        ∙ ap (λ (mark : ℕ). Some (class, mark)) same
+        ∙ ap (λ (c : ℕ). Some (c, slice_index marks state)) (sym place) in
+        subst (λ (n : ℕ). slice_get keys n ≡ Some (key_of classes marks one)) last.1 (key ∙ ap (λ (s : ℕ). Some (key_of classes marks s)) (sym own)))
+        (slice_get-pushed made class one found held);
+  }
+
+-- a state with another mark has none of the keys of old classes
+pub IsMissing-own : (marks members : List ℕ) (class known mark : ℕ) → slice_get members class ≡ Some known → slice_index marks known ≢ mark
+    → IsMissing (own_keys marks 0 members) (class, mark)
+IsMissing-own marks members class known mark known_is differs place held =
+    let is = is_own_key marks 0 members place (class, mark) held in
+    let from_front : class ≡ 0 + place = ap (λ (k : ℕ × ℕ). k.0) is in
+    let class_is : class ≡ place = omega (arith, from_front) in
+    let member_is : slice_index members class ≡ known = get_or_from_slice_get members class known 0 known_is in
+    differs (ap (slice_index marks) (sym member_is ∙ ap (slice_index members) class_is) ∙ sym (ap (λ (k : ℕ × ℕ). k.1) is))
+
+-- a key that gets its number behind others that it is none of
+pub IsPlaced-behind : (front keys late : List (ℕ × ℕ)) (members late_members : List ℕ) (key : ℕ × ℕ) (state number : ℕ)
+    → length front + length keys ≡ length members → length members < 4294967295 → IsNumbering (front ++ keys) → IsMissing front key
+    → Numbers keys late key → slice_get late number ≡ Some key
+    → (length front + number ≡ length members → late_members ≡ members ++ state ∷ []) → (length front + number ≢ length members → late_members ≡ members)
+    → IsPlaced (front ++ keys) members (front ++ late) late_members key state (length front + number)
+IsPlaced-behind front keys late members late_members key state number count room numbering missing numbers held pushed kept = record {
+  number_is = slice_get-behind front late number ∙ held;
+  added = ⊎_elim
       (λ same.
-      let there : slice_get keys number ≡ Some key = ap (λ list. slice_get list number) (sym same.0) ∙ placed.number_is in
-      let less : number < length keys = slice_get_within keys number key there in
-      let before : number < done = omega (arith, less, count) in
-      let of_number = was.old number before in
-      let held_number = slice_get-held members number (let all = slice_get_within members done state held in omega (arith, before, all)) in
-      let number_member : slice_index members number ≡ held_number.0 = get_or_from_slice_get members number held_number.0 0 held_number.1 in
-      let keys_are : key_of classes marks (slice_index members number) ≡ (number, slice_index marks held_number.0)
-      = ap (key_of classes marks) number_member ∙ key_of_member number held_number.0 held_number.1 in
-      let same_key : (number, slice_index marks held_number.0) ≡ key = sym keys_are ∙ same_Some (key_of classes marks (slice_index members number)) key (sym of_number ∙ there) in
-      let same_number : number ≡ done = ap (λ (p : ℕ × ℕ). p.0) same_key in
-      absurd (omega (arith, same_number, before)))
-      (λ added. added) placed.added
-      in
-      let longer : length late_keys ≡ length keys + 1 = ap length new.1 ∙ length-append keys (key ∷ []) in
-      let at_end : slice_get late_keys (length keys) ≡ Some key = ap (λ list. slice_get list (length keys)) new.1 ∙ slice_get-push keys key in (
-        record {
-          keyed = AreKeyed-placed keys made_members late_keys late_members key state number placed classes marks was.keyed within key_is;
-          count = omega (arith, longer, count);
-          old = λ class less. ⊎_elim
-              (λ before. slice_get-extends keys late_keys extends class (key_of classes marks (slice_index members class)) (was.old class before))
-              (λ past.
-              let last : class ≡ done = omega (arith, less, past) in
-              subst (λ c. slice_get late_keys c ≡ Some (key_of classes marks (slice_index members c))) (sym last)
-              (ap (slice_get late_keys) (sym count) ∙ at_end ∙ ap Some (key_is ∙ ap (key_of classes marks) (sym member_is))))
-              (cases_lt class done);
-        },
-        omega (arith, longer, count),
-      )
+      let less : number < length keys = slice_get_within keys number key (ap (λ list. slice_get list number) (sym same) ∙ held) in
+      inl (ap (λ list. front ++ list) same, kept (λ at_end. omega (arith, at_end, count, less))))
+      (λ added. inr (none added.0, longer added.1, pushed (let last = at_end added in omega (arith, last, count))))
+      numbers;
+  numbering = IsNumbering-numbers (front ++ keys) (front ++ late) key numbering (let long = length-append front keys in omega (arith, long, count, room))
+      (⊎_elim (λ same. inl (ap (λ list. front ++ list) same)) (λ added. inr (none added.0, longer added.1)) numbers);
+}
+  where
+    none : IsMissing keys key → IsMissing (front ++ keys) key
+    none absent place there = ⊎_elim
+        (λ before. missing place (sym (slice_get-append_left front keys place before) ∙ there))
+        (λ behind.
+        let at : place ≡ length front + (place - length front) = omega (arith, behind) in
+        absent (place - length front) (sym (slice_get-behind front keys (place - length front)) ∙ ap (slice_get (front ++ keys)) (sym at) ∙ there))
+        (cases_lt place (length front))
+
+    longer : late ≡ keys ++ key ∷ [] → front ++ late ≡ (front ++ keys) ++ key ∷ []
+    longer is = ap (λ list. front ++ list) is ∙ sym (append_assoc front keys (key ∷ []))
+
+    -- a key that was missing has the number behind all others
+    at_end : IsMissing keys key × (late ≡ keys ++ key ∷ []) → number ≡ length keys
+    at_end added = ⊎_elim (λ before. absurd (added.0 number before)) (λ last. last.0)
+        (slice_get-pushed keys key number key (ap (λ list. slice_get list number) (sym added.1) ∙ held))
 
 -- one state more
 pub AreSplit-more : (classes members marks : List ℕ) (keys : List (ℕ × ℕ)) (made_members made : List ℕ) (state number : ℕ) → AreSplit classes members marks keys made_members made

@@ -10,6 +10,7 @@ ghost use Rattle.ms_minim.specs.inner.Discrete.{AreOwnImages};
 ghost use Rattle.ms_minim.specs.inner.Hash.{AreCoarseMarks, AreHashes, hash_of, joined};
 ghost use Rattle.ms_minim.specs.inner.Image.{AreImages, IsImage, image_of};
 ghost use Rattle.ms_minim.specs.inner.Origin.{AreClosed, AreOrigins, ComesFrom, nowhere};
+ghost use Rattle.ms_minim.specs.inner.Split.{IsPlacedBehind, IsSplit, key_of, own_keys};
 
 /// States that lead to each other with one sign have equal residuals, and states with different signs have not.
 pub fn worked_residuals()
@@ -75,6 +76,16 @@ pub fn worked_hashes()
     ensures another { ¬ AreHashes (one_node 1 0 1) (0 ∷ 1 ∷ []) (5 ∷ []) }
     ensures one_mark { AreCoarseMarks one_state (0 ∷ []) (7 ∷ []) }
     ensures told_apart { ¬ AreCoarseMarks three_states (0 ∷ 1 ∷ 1 ∷ []) (0 ∷ 1 ∷ 2 ∷ []) }
+{}
+
+/// Two classes of three states, of which the third has not the mark of the first, by which its class is known. It gets a class of
+/// its own.
+pub fn worked_split()
+    ensures own_keys { own_keys (5 ∷ 7 ∷ 7 ∷ []) 0 (0 ∷ 1 ∷ []) ≡ (0, 5) ∷ (1, 7) ∷ [] }
+    ensures key { key_of (0 ∷ 1 ∷ 0 ∷ []) (5 ∷ 7 ∷ 7 ∷ []) 2 ≡ (0, 7) }
+    ensures placed { IsPlacedBehind [] (0 ∷ 1 ∷ []) ((0, 7) ∷ []) (0 ∷ 1 ∷ 2 ∷ []) (0, 7) 2 2 }
+    ensures left_together { ¬ IsSplit (0 ∷ 1 ∷ 0 ∷ []) (0 ∷ 1 ∷ []) (5 ∷ 7 ∷ 7 ∷ []) (0 ∷ 1 ∷ 0 ∷ []) (0 ∷ 1 ∷ []) }
+    ensures put_together { ¬ IsSplit (0 ∷ 1 ∷ 0 ∷ []) (0 ∷ 1 ∷ []) (5 ∷ 7 ∷ 7 ∷ []) (0 ∷ 1 ∷ 1 ∷ []) (0 ∷ 1 ∷ []) }
 {}
 
 /// A leaf becomes its class, and a node what was found for it.

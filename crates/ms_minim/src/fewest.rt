@@ -5,18 +5,9 @@ ghost use Rattle.ms_logic_words.specs.Residual.{AreReached, HasFewestStates, Hav
 
 use crate::reading::SignReading;
 use crate::reduction::reduce;
-use ms_dfa::{Automaton, Track};
-use ms_list::{List, NoMemory, StepFault};
+use ms_dfa::{Automaton, copy_tracks};
+use ms_list::StepFault;
 use std::alloc::Global;
-
-fn copy_tracks(alloc: Global, tracks: &[Track]) -> Result<List<Track>, NoMemory>
-    ensures { IfOk result (λ made. made ≡ tracks.now) }
-{
-    match Vec::from_slice(alloc, tracks) {
-        Ok(made) => Ok(List::from(made)),
-        Err(_) => Err(NoMemory),
-    }
-}
 
 /// The automaton of fewest states among those that give each word over its tracks the same sign. Nodes and states are
 /// together at most `limit`.

@@ -1,5 +1,5 @@
-ghost use Rattle.std.specs.Prelude.{◌≡◌, ◌<◌, ◌≤◌, ◌^◌, length, IfOk};
-ghost use Rattle.ms_minim.specs.inner.Hash.{AreCoarseMarks, AreHashes, hash_of, joined, scattered};
+ghost use Rattle.std.specs.Prelude.{◌≡◌, ◌≤◌, length, IfOk};
+ghost use Rattle.ms_minim.specs.inner.Hash.{AreCoarseMarks, AreHashes, hash_of, joined};
 ghost use Rattle.ms_minim.specs.inner.Partition.{IsPartition};
 
 use crate::classes::Partition;
@@ -7,22 +7,11 @@ use crate::images::class_of;
 use crate::reading::Reader;
 use crate::splitting::split;
 use ms_arena::Ref;
-use ms_diagram::Store;
+use ms_diagram::{Store, scatter};
 use ms_list::{List, NoMemory, push};
 use std::alloc::Global;
 
-/// An odd number whose bits look random: the first bits of the golden ratio.
-const FACTOR: u64 = 0x9E37_79B9_7F4A_7C15;
-
 const TWO_TO_32: u64 = 0x1_0000_0000;
-
-/// The upper half of a product in 64 bits.
-fn scatter(number: u64) -> u64
-    ensures value { result ≡ scattered number }
-    ensures short { result < 2 ^ 32 }
-{
-    number.wrapping_mul(FACTOR) >> 32
-}
 
 /// The hash of a node by those of its ends: theirs where they are equal, so that a variable that makes no difference is not seen.
 fn joined(var: u32, low: u32, high: u32) -> u32

@@ -26,7 +26,7 @@ mod splitting;
 pub use examples::{
     worked_are_closed, worked_are_images, worked_are_origins, worked_are_own_images,
     worked_comes_from, worked_fewest, worked_hashes, worked_image_of, worked_is_image,
-    worked_readings, worked_residuals,
+    worked_readings, worked_residuals, worked_split,
 };
 pub use fewest::minimise;
 pub use reading::SignReading;

@@ -4,7 +4,7 @@ ghost use Rattle.ms_dfa.specs.Values.{HasValues, own_meaning};
 ghost use Rattle.ms_product.specs.Combined.{changed, with_sign, with_signs};
 ghost use Rattle.ms_product.specs.Signs.{change_by, negated, restricted};
 
-use ms_dfa::{Automaton, State, Track};
+use ms_dfa::{Automaton, State, copy_tracks};
 use ms_list::{List, NoMemory, push};
 use ms_logic_words::Sign;
 use std::alloc::Global;
@@ -24,15 +24,6 @@ fn change_by(change: Change, sign: Sign) -> Sign
         (Change::Negation, Sign::No) => Sign::Yes,
         (Change::Restriction, Sign::No) => Sign::Undefined,
         (_, sign) => sign,
-    }
-}
-
-fn copy_tracks(alloc: Global, tracks: &[Track]) -> Result<List<Track>, NoMemory>
-    ensures { IfOk result (λ made. made ≡ tracks.now) }
-{
-    match Vec::from_slice(alloc, tracks) {
-        Ok(made) => Ok(List::from(made)),
-        Err(_) => Err(NoMemory),
     }
 }
 

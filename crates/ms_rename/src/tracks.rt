@@ -41,13 +41,3 @@ pub(crate) fn places(
     }
     Ok(made)
 }
-
-/// The same tracks in a list of their own.
-pub(crate) fn copy(alloc: Global, tracks: &[Track]) -> Result<List<Track>, NoMemory>
-    ensures { IfOk result (λ made. made ≡ tracks.now) }
-{
-    match Vec::from_slice(alloc, tracks) {
-        Ok(made) => Ok(List::from(made)),
-        Err(_) => Err(NoMemory),
-    }
-}

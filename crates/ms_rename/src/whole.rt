@@ -10,10 +10,9 @@ ghost use Rattle.ms_product.specs.Combined.{HaveEqualOrders};
 ghost use Rattle.ms_product.specs.Pairing.{AreAtLeast, operands_of};
 ghost use Rattle.ms_rename.specs.Whole.{HasNoNumber, IsSmallWhole, ReachedBesideWhole};
 
-use crate::tracks;
 use ms_arena::Ref;
 use ms_basic::basic;
-use ms_dfa::{Automaton, State, Track};
+use ms_dfa::{Automaton, State, Track, copy_tracks};
 use ms_diagram::Store;
 use ms_list::{List, NoMemory, StepFault, push};
 use ms_logic::{Mode, Order};
@@ -29,7 +28,7 @@ fn free(alloc: Global, tracks: &[Track], mode: Mode) -> Result<Automaton, NoMemo
     ensures mode { IfOk result (λ made. made.mode ≡ mode) }
     ensures whole { IfOk result (IsSmallWhole (variables_of tracks.now)) }
 {
-    let tracks = tracks::copy(alloc, tracks)?;
+    let tracks = copy_tracks(alloc, tracks)?;
     let mut states = List::new(alloc);
     let state = State {
         sign: Sign::Yes,

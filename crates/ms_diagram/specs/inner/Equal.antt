@@ -3,6 +3,8 @@ use Rattle.std.specs.Prelude.{◌≡◌, ℕ, Bool, true, nat_eq, ◌&&◌, List
 use Rattle.std.specs.Cmp.Lexicographic.{pointwise}
 use Rattle.std.proofs.Common.{[], ◌∷◌, refl}
 use Rattle.std.proofs.lemmas.Bool.{and_parts, false≢true}
+use Rattle.ms_arena.specs.declared.node.Ref.{Ref}
+use Rattle.ms_arena.specs.contracts.node.RefPartialEq.TheImpl as of_ref
 
 module _ {A B : Type 0} (eq_a : A → A → Bool) (eq_b : B → B → Bool) where
   abbrev pub pair_eq : A × B → A × B → Bool
@@ -19,6 +21,10 @@ module _ {A B : Type 0} (eq_a : A → A → Bool) (eq_b : B → B → Bool) wher
 -- pairs of numbers
 abbrev pub numbers_eq : ℕ × ℕ → ℕ × ℕ → Bool
 numbers_eq = pair_eq nat_eq nat_eq
+
+-- pairs of references
+abbrev pub refs_eq : Ref × Ref → Ref × Ref → Bool
+refs_eq = pair_eq of_ref.eq-value.it of_ref.eq-value.it
 
 module _ {X : Type 0} (eq : X → X → Bool) where
   -- so are lists

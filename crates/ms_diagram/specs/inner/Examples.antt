@@ -30,4 +30,4 @@ only var = λ other. other == var
 
 -- a bucket of a computed table, whose second slot is empty
 abbrev pub half_full : Bucket
-half_full = record { first = record { left = 6; right = 7; made = Leaf 1 }; second = no_slots.second }
+half_full = record { first = record { left = 6; right = 7; made = 2 }; second = no_slots.second }

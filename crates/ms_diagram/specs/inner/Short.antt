@@ -5,18 +5,18 @@ use Rattle.ms_cache.specs.Memo.{EachEntry}
 use Rattle.ms_arena.specs.inner.Code.{code_of, ref_of}
 
 -- an entry, with references in place of its codes
-abbrev pub with_refs : (ℕ × ℕ) × Ref → (Ref × Ref) × Ref
-with_refs entry = ((ref_of entry.0.0, ref_of entry.0.1), entry.1)
+abbrev pub with_refs : (ℕ × ℕ) × ℕ → (Ref × Ref) × Ref
+with_refs entry = ((ref_of entry.0.0, ref_of entry.0.1), ref_of entry.1)
 
-abbrev pub short_entries : List ((ℕ × ℕ) × Ref) → List ((Ref × Ref) × Ref)
+abbrev pub short_entries : List ((ℕ × ℕ) × ℕ) → List ((Ref × Ref) × Ref)
 short_entries entries = map with_refs entries
 
 -- a code has four bytes, and is none of the two greatest numbers of four bytes
 abbrev pub IsShort : ℕ → Type 0
 IsShort code = code < 4294967294
 
--- all codes of entries have
-abbrev pub AreShort : List ((ℕ × ℕ) × Ref) → Type 0
+-- all codes of entries' pairs have
+abbrev pub AreShort : List ((ℕ × ℕ) × ℕ) → Type 0
 AreShort entries = EachEntry (λ codes made. IsShort codes.0 × IsShort codes.1) entries
 
 -- that of one of two references does not

@@ -1,16 +1,12 @@
 -- Hashes of the nodes of an automaton by the classes of its states: where the same bits lead to the same classes, they are equal.
-use Rattle.std.specs.Prelude.{◌≡◌, ℕ, ◌+◌, ◌*◌, ◌/◌, ◌%◌, ◌^◌, ◌<◌, nat_eq, if◌then◌else◌, List, length, slice_get, slice_index, Some}
+use Rattle.std.specs.Prelude.{◌≡◌, ℕ, ◌+◌, ◌*◌, ◌<◌, nat_eq, if◌then◌else◌, List, length, slice_get, slice_index, Some}
 use Rattle.ms_arena.specs.declared.node.Node.{Node}
 use Rattle.ms_arena.specs.declared.node.Ref.{Ref}
 use Rattle.ms_arena.specs.declared.node.Ref.TheVariants.{Leaf, Inner}
+use Rattle.ms_diagram.specs.Hash.{scattered}
 use Rattle.ms_logic_words.specs.declared.sign.Sign.{Sign}
 use Rattle.ms_logic_words.specs.Content.{Content}
-use Rattle.ms_minim.specs.declared.hashes.TheConstants.{FACTOR}
 use Rattle.ms_minim.specs.inner.Partition.{LeadAlike}
-
--- the upper half of a product in 64 bits
-abbrev pub scattered : ℕ → ℕ
-scattered number = ((number * FACTOR) % 2 ^ 64) / 2 ^ 32
 
 -- of a variable and the hashes of both ends
 unfoldable pub mixed : ℕ → ℕ → ℕ → ℕ

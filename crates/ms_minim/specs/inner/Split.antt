@@ -1,5 +1,5 @@
 -- How classes are split by marks.
-use Rattle.std.specs.Prelude.{◌≡◌, ◌⊎◌, ℕ, ◌<◌, ◌≤◌, List, [], ◌∷◌, ◌++◌, length, slice_get, slice_index, Some}
+use Rattle.std.specs.Prelude.{◌≡◌, ◌⊎◌, ℕ, suc, ◌+◌, ◌<◌, ◌≤◌, List, [], ◌∷◌, ◌++◌, length, slice_get, slice_index, Some}
 use Rattle.ms_diagram.specs.Numbering.{IsMissing, IsNumbering}
 use Rattle.ms_minim.specs.inner.Partition.{HaveOneClass, IsInhabited}
 
@@ -8,6 +8,12 @@ pub record IsPlaced (keys : List (ℕ × ℕ)) (members : List ℕ) (late_keys :
   pub number_is : slice_get late_keys number ≡ Some key
   pub added : ((late_keys ≡ keys) × (late_members ≡ members)) ⊎ (IsMissing keys key × (late_keys ≡ keys ++ key ∷ []) × (late_members ≡ members ++ state ∷ []))
   pub numbering : IsNumbering late_keys
+
+-- so it is behind any keys that are in front, one for each class that has none of these keys, where the key is none of them
+abbrev pub IsPlacedBehind : List (ℕ × ℕ) → List ℕ → List (ℕ × ℕ) → List ℕ → ℕ × ℕ → ℕ → ℕ → Type 0
+IsPlacedBehind keys members late_keys late_members key state number =
+    (front : List (ℕ × ℕ)) → length front + length keys ≡ length members → IsNumbering (front ++ keys) → IsMissing front key
+    → IsPlaced (front ++ keys) members (front ++ late_keys) late_members key state number
 
 -- the old class of a state with its mark
 abbrev pub key_of : List ℕ → List ℕ → ℕ → ℕ × ℕ
@@ -19,15 +25,16 @@ pub record AreKeyed (classes marks : List ℕ) (keys : List (ℕ × ℕ)) (membe
   pub equal : length keys ≡ length members
   pub keyed : (class state : ℕ) → slice_get members class ≡ Some state → (state < length classes) × (slice_get keys class ≡ Some (key_of classes marks state))
 
--- the first old classes have their numbers
-pub record HaveBegun (classes members marks : List ℕ) (keys : List (ℕ × ℕ)) (made_members : List ℕ) (done : ℕ) : Type 0 where
-  pub keyed : AreKeyed classes marks keys made_members
-  pub count : done ≤ length keys
-  pub old : (class : ℕ) → class < done → slice_get keys class ≡ Some (key_of classes marks (slice_index members class))
+-- the number of each class, from the first one on, with the mark of the state that the class is known by
+abbrev pub own_keys : List ℕ → ℕ → List ℕ → List (ℕ × ℕ)
+own_keys marks first [] = []
+own_keys marks first (member ∷ members) = (first, slice_index marks member) ∷ own_keys marks (suc first) members
 
--- all old classes have their numbers
-abbrev pub BeginsWith : List ℕ → List ℕ → List ℕ → List (ℕ × ℕ) → List ℕ → Type 0
-BeginsWith classes members marks keys made_members = HaveBegun classes members marks keys made_members (length members)
+-- the old classes keep their numbers
+pub record BeginsWith (classes members marks : List ℕ) (keys : List (ℕ × ℕ)) (made_members : List ℕ) : Type 0 where
+  pub keyed : AreKeyed classes marks keys made_members
+  pub count : length members ≤ length keys
+  pub old : (class : ℕ) → class < length members → slice_get keys class ≡ Some (key_of classes marks (slice_index members class))
 
 -- the first states have the numbers of their keys
 pub record AreSplit (classes members marks : List ℕ) (keys : List (ℕ × ℕ)) (made_members made : List ℕ) : Type 0 where

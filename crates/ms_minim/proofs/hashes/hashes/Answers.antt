@@ -1,4 +1,4 @@
-use Rattle.std.proofs.Common.{◌≡◌, ◌+◌, ◌∷◌, ◌++◌, [], length, length-append, sym, ap, subst, ◌∙◌, arith}
+use Rattle.std.proofs.Common.{◌≡◌, ◌∷◌, ◌++◌, [], length, length-append, sym, ap, subst, ◌∙◌, arith}
 use Rattle.ms_minim.specs.inner.Hash.{joined, hash_of, HaveHashes}
 use Rattle.ms_minim.proofs.HashLemmas.{HaveHashes-more}
 use Rattle.ms_minim.proofs.hashes.hashes.Goals as goal

@@ -1,6 +1,7 @@
 use Rattle.std.proofs.Common.{◌≡◌, ◌+◌, ◌*◌, Bool, if◌then◌else◌, ap, sym, ◌∙◌}
 use Rattle.std.proofs.lemmas.Bool.{ne_eqb}
-use Rattle.ms_minim.specs.inner.Hash.{joined, mixed, scattered}
+use Rattle.ms_diagram.specs.Hash.{scattered}
+use Rattle.ms_minim.specs.inner.Hash.{mixed}
 use Rattle.ms_minim.proofs.hashes.joined.Goals as goal
 
 pub returns : goal.returns

@@ -1,5 +1,4 @@
-use Rattle.std.proofs.Common.{length, ap, subst, ◌∙◌}
-use Rattle.ms_diagram.specs.Store.{Contents}
+use Rattle.std.proofs.Common.{length, subst, ◌∙◌}
 use Rattle.ms_minim.specs.inner.Discrete.{AreOwnImages}
 use Rattle.ms_minim.specs.inner.Partition.{IsIdentity}
 use Rattle.ms_minim.proofs.DiscreteLemmas.{AreNerodeClasses-own, AreImages-own}

@@ -13,6 +13,6 @@ returns c =
     let same : c.place-place.result ≡ place_of (length buckets) codes = c.place-place.ensures.value ∙ ap (λ count. place_of count codes) (c.len.ensures ∙ c.self.inside.buckets.ok.0) in
     c.find.ensures
     ∙ ap (λ (bucket : Bucket). lookup (numbers_eq codes) (entries_in bucket [])) c.index.ensures
-    ∙ sym (lookup-bucket (length buckets) codes 0 c.place-place.result buckets _ c.self.invariant
+    ∙ sym (lookup-bucket 0 (length buckets) codes 0 c.place-place.result buckets _ c.self.invariant
     (omega (arith, same)) (omega (arith, c.place-place.ensures.within, c.len.ensures, c.self.inside.buckets.ok.0)))
     ∙ ap (lookup (numbers_eq codes)) c.self.view_is
