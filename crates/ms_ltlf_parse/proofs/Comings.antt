@@ -1,9 +1,8 @@
 -- Where the code comes to with one token more.
 use Rattle.std.proofs.Common.{◌≡◌, ℕ, ◌+◌, ◌≤◌, List, [], ◌∷◌, ◌++◌, length, take, sym, ap, ◌∙◌, subst, arith, length-take}
-use Rattle.std.specs.Prelude.{Result, Ok, Err, IfOk, IfErr, OnOk}
+use Rattle.std.specs.Prelude.{Result, Ok, Err, IfOk, OnOk}
 use Rattle.indexmap.specs.IndexMap.{get_by_text}
 use Rattle.ms_text.specs.TokenList.{Lexed}
-use Rattle.ms_ltlf.specs.Tree.{depth}
 use Rattle.ms_ltlf_parse.specs.Grammar.{Names}
 use Rattle.ms_ltlf_parse.specs.Reading.{CanFollow, place, with_name, with_sight, first_sights}
 use Rattle.ms_ltlf_parse.specs.Symbol.{Symbol, symbol_of}
@@ -11,14 +10,14 @@ use Rattle.ms_ltlf_parse.specs.declared.read.Reader.{Reader}
 use Rattle.ms_ltlf_parse.specs.declared.sights.Sights.{Sights}
 use Rattle.ms_parse_stack.specs.declared.outcome.Outcome.TheVariants.{Wanted, Holding, Done}
 use Rattle.ms_parse_stack.specs.declared.stop.Stop.{Stop}
-use Rattle.ms_parse_stack.specs.declared.stop.Stop.TheVariants.{Memory, Misplaced, TooDeep}
 use Rattle.ms_parse_stack.specs.inner.Machine.{GoesOn}
-use Rattle.ms_ltlf_parse.specs.inner.Machine.{step, shortest}
-use Rattle.ms_ltlf_parse.specs.inner.Reached.{reached, front, HasCome, StopsAt}
+use Rattle.ms_ltlf_parse.specs.inner.Machine.{step}
+use Rattle.ms_ltlf_parse.specs.inner.Reached.{reached, front, HasCome}
 use Rattle.ms_ltlf_parse.specs.inner.Sights.{IsTable}
 use Rattle.ms_ltlf_parse.specs.inner.States.{Begun, ComesTo, Outcome, state_of}
 use Rattle.ms_ltlf_parse.proofs.Names.{few_first_sights, place-with_name, with_sights-append}
-use Rattle.ms_ltlf_parse.proofs.Readings.{follows, follows_deeper, goes_on, is_shallow, reached-append}
+use Rattle.ms_parse_stack.proofs.Readings.{follows_here}
+use Rattle.ms_ltlf_parse.proofs.Readings.{recognises, reached-append}
 use Rattle.ms_parse_stack.proofs.Tokens.{length-symbols_of}
 
 goes_on_here : (begun : Begun) (outcome : Outcome) → GoesOn (state_of begun outcome)
@@ -27,9 +26,7 @@ goes_on_here begun (Holding operand) = tt
 goes_on_here begun (Done operand) = tt
 
 pub can_follow : (lexed : Lexed) (i : ℕ) (reader : Reader) (outcome : Outcome) → HasCome lexed i reader outcome → CanFollow (front lexed i)
-can_follow lexed i reader outcome h =
-    let deep = ap (λ s. depth (shortest s)) h.state in
-    follows (front lexed i) (subst GoesOn (sym h.state) (goes_on_here reader.begun outcome)) (omega (arith, deep, h.measured.measured, h.measured.shallow))
+can_follow lexed i reader outcome h = follows_here recognises (front lexed i) (state_of reader.begun outcome) reader.begun h.state (goes_on_here reader.begun outcome) h.measured
 
 -- no more names than tokens
 pub few_names : (lexed : Lexed) (i : ℕ) (reader : Reader) (outcome : Outcome) → HasCome lexed i reader outcome → length reader.sights.names ≤ i
@@ -58,12 +55,6 @@ pub come_ok : (lexed : Lexed) (i : ℕ) (sights : Sights) (begun : Begun) (r : R
     → ComesTo (reached (front lexed (i + 1))) begun r → IfOk r (λ next. HasCome lexed (i + 1) (record { sights = sights; begun = begun }) next)
 come_ok lexed i sights begun (Ok next) names table comes = record { names = names; table = table; state = comes.0; measured = comes.1 }
 come_ok lexed i sights begun (Err stop) names table comes = tt
-
-pub come_err : (lexed : Lexed) (i : ℕ) (begun : Begun) (r : Result Outcome Stop) → CanFollow (front lexed i) → ComesTo (reached (front lexed (i + 1))) begun r → IfErr r (StopsAt lexed i)
-come_err lexed i begun (Ok next) h comes = tt
-come_err lexed i begun (Err Memory) h comes = tt
-come_err lexed i begun (Err Misplaced) h comes = (h, λ any. subst GoesOn comes (goes_on (front lexed (i + 1)) any))
-come_err lexed i begun (Err TooDeep) h comes = (h, λ any. omega (arith, is_shallow (front lexed (i + 1)) any, comes.1), follows_deeper (front lexed (i + 1)) comes.0)
 
 -- the number of a name is its place
 pub number_is_place : {E : Type 0} (r : Result ℕ E) (old new : Names) (n slice : List ℕ) (T : Type 0) → IfOk r (λ number. number ≡ place old n) → OnOk r (new ≡ with_name old n) → n ≡ slice → IfOk r (λ number. T → place new slice ≡ number)

@@ -1,65 +1,23 @@
 -- What is refused, and that it reads as no formula.
-use Rattle.std.proofs.Common.{◌≡◌, ℕ, suc, ◌+◌, ◌≤◌, length, drop, slice_get, Some, refl, sym, ap, ◌∙◌, subst, inl, inr, arith}
-use Rattle.ms_edge.specs.declared.refusal.Refusal.TheVariants as refusals
+use Rattle.std.proofs.Common.{◌≡◌, ℕ, ◌≤◌, length, sym, ap, subst, arith}
+use Rattle.ms_edge.specs.declared.refusal.Refusal.{Refusal}
 use Rattle.ms_text.specs.TokenList.{Lexed}
-use Rattle.ms_text.specs.declared.token.Token.{Token}
-use Rattle.ms_ltlf.specs.Tree.{Temporal, depth}
+use Rattle.ms_ltlf.specs.Tree.{depth}
 use Rattle.ms_ltlf.specs.View.{temporal_of, IsWellFormed}
 use Rattle.ms_ltlf.specs.declared.trace.Trace.{Trace}
-use Rattle.ms_ltlf_parse.specs.Grammar.{Names}
-use Rattle.ms_ltlf_parse.specs.Reading.{Reads, ReadsAsTrace, CanFollow, CanFollowAtAnyDepth, first_sights, greatest_depth}
+use Rattle.ms_ltlf_parse.specs.Reading.{Reads, ReadsAsTrace, first_sights, greatest_depth}
 use Rattle.ms_ltlf_parse.specs.Refused.{IsTraceFault}
 use Rattle.ms_ltlf_parse.specs.Symbol.{symbol_of, symbols}
-use Rattle.ms_parse_stack.specs.inner.Machine.{within, done, stopped, GoesOn}
-use Rattle.ms_ltlf_parse.specs.inner.Machine.{State, shortest}
-use Rattle.ms_ltlf_parse.specs.inner.Reached.{reached, front, StopsAt}
+use Rattle.ms_parse_stack.specs.inner.Machine.{done}
+use Rattle.ms_ltlf_parse.specs.inner.Reached.{reached}
 use Rattle.ms_ltlf_parse.proofs.Names.{AreDifferent, different_first_sights, few_first_sights}
-use Rattle.ms_ltlf_parse.proofs.Readings.{follows, reached-whole, reads_done}
-use Rattle.ms_parse_stack.proofs.Faults.{misplaced, too_deep}
-use Rattle.ms_parse_stack.proofs.Tokens.{length-symbols_of, symbols-split}
-use Rattle.ms_parse_stack.specs.Symbols as texts
-use Rattle.ms_parse_stack.specs.declared.stop.Stop.TheVariants.{Misplaced, TooDeep}
+use Rattle.ms_ltlf_parse.proofs.Readings.{reading, reads_done}
+use Rattle.ms_parse_stack.proofs.Faults.{IsFault}
+use Rattle.ms_parse_stack.proofs.Tokens.{length-symbols_of}
 
--- what the text reads as goes on behind its first tokens
-front_follows : (lexed : Lexed) (i : ℕ) (token : Token) → slice_get lexed.tokens i ≡ Some token → (names : Names) (f : Temporal) → Reads (symbols lexed) names f → CanFollow (front lexed (i + 1))
-front_follows lexed i token found names f reads = (texts.symbols_of symbol_of lexed (drop (suc i) lexed.tokens), names, f, subst (λ x. Reads x names f) (symbols-split symbol_of lexed i token found) reads)
-
-pub is_misplaced : (file : ℕ) (lexed : Lexed) (i : ℕ) (token : Token) → slice_get lexed.tokens i ≡ Some token → StopsAt lexed i Misplaced
-    → IsTraceFault file lexed (refusals.Grammar (record { file = file; place = token.place }))
-is_misplaced file lexed i token found stops = record {
-  reads_none = λ names f reads.
-      let on = front_follows lexed i token found names f reads in
-      stops.1 (on.0, on.1, on.2, on.3.read);
-  names = inr (misplaced symbol_of CanFollow CanFollowAtAnyDepth file lexed i token found stops);
-}
-
-pub is_too_deep : (file : ℕ) (lexed : Lexed) (i : ℕ) (token : Token) → slice_get lexed.tokens i ≡ Some token → StopsAt lexed i TooDeep
-    → IsTraceFault file lexed (refusals.Depth (record { file = file; place = token.place }))
-is_too_deep file lexed i token found stops = record {
-  reads_none = λ names f reads. stops.1 (front_follows lexed i token found names f reads);
-  names = too_deep symbol_of CanFollow CanFollowAtAnyDepth file lexed i token found stops;
-}
-
--- the formula has no end yet
-abbrev pub IsOpen : State → Type 0
-IsOpen (within frames p) = Unit {0}
-IsOpen (done f) = ⊥
-IsOpen stopped = ⊥
-
-on_open : (s : State) → IsOpen s → GoesOn s
-on_open (within frames p) h = tt
-on_open (done f) h = tt
-on_open stopped h = h
-
-pub ends_early : (file : ℕ) (lexed : Lexed) (s : State) → reached (symbols lexed) ≡ s → IsOpen s → depth (shortest s) ≤ greatest_depth
-    → IsTraceFault file lexed (refusals.Grammar (record { file = file; place = length lexed.bytes }))
-ends_early file lexed s is open_yet shallow = record {
-  reads_none = λ names f reads. subst IsOpen (sym is ∙ reached-whole (symbols lexed) names f reads.read) open_yet;
-  names = inl (record {
-    is_end = refl;
-    can_follow = follows (symbols lexed) (subst GoesOn (sym is) (on_open s open_yet)) (subst (λ t. depth (shortest t) ≤ greatest_depth) (sym is) shallow);
-  });
-}
+-- the fault of a text, by what the machine tells of it
+pub trace_fault : {file : ℕ} {lexed : Lexed} {refusal : Refusal} → IsFault reading file lexed refusal → IsTraceFault file lexed refusal
+trace_fault h = record { reads_none = λ names f reads. h.reads_none (names, f, reads); names = h.names }
 
 -- the code's names and formula
 

@@ -8,4 +8,3 @@ pub mod Readings
 pub mod Sightings
 pub mod Soundness
 pub mod Spellings
-pub mod Trials

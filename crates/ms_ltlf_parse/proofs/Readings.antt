@@ -3,13 +3,15 @@ use Rattle.std.proofs.Common.{◌≡◌, ℕ, ◌<◌, ◌≤◌, List, [], ◌�
 use Rattle.ms_ltlf.specs.Tree.{Temporal, depth}
 use Rattle.ms_ltlf_parse.specs.Grammar.{Names}
 use Rattle.ms_ltlf_parse.specs.Reading.{place, with_sights, first_sights, ReadsAtAnyDepth, Reads, greatest_depth, CanFollow, CanFollowAtAnyDepth}
-use Rattle.ms_ltlf_parse.specs.Symbol.{Symbol, semicolon}
+use Rattle.ms_ltlf_parse.specs.Symbol.{Symbol, semicolon, symbol_of}
 use Rattle.ms_parse_stack.specs.inner.Frames.{in_brackets, behind_prefix, behind_infix, behind_joining}
 use Rattle.ms_parse_stack.specs.inner.Machine.{within, done, stopped, GoesOn}
+use Rattle.ms_parse_stack.proofs.Readings.{Reading, Recognises}
 use Rattle.ms_parse_stack.proofs.Runs.{run_on, run-append}
 use Rattle.ms_parse_stack.proofs.Soundness.{shortest_sound}
 use Rattle.ms_parse_stack.proofs.Spellings as spellings
 use Rattle.ms_parse_stack.proofs.Spellings.{closing, HasRead, read_run, rest_spelled}
+use Rattle.ms_ltlf_parse.specs.contracts.frame.TemporalLogicGrammar.TheImpl.{ghosts}
 use Rattle.ms_ltlf_parse.specs.inner.Machine.{Frame, State, wanted, holding, machine, action, run, start, shortest}
 use Rattle.ms_ltlf_parse.specs.inner.Reached.{reached}
 use Rattle.ms_ltlf_parse.proofs.Completeness.{reads_whole}
@@ -87,6 +89,21 @@ is_shallow front (more, names, f, reads) =
     let small = subst (λ s. depth (shortest (reached front)) ≤ depth (shortest s)) end less in
     omega (arith, small, reads.shallow)
 
+-- which rows of symbols read as a formula, begin one, and would begin one if the depth had no limit
+abbrev pub reading : Reading ghosts Symbol
+reading = record { symbol_of = symbol_of; reached = reached; Reads = λ all. (names : Names) × (f : Temporal) × Reads all names f; CanFollow = CanFollow; CanFollowAtAnyDepth = CanFollowAtAnyDepth }
+
+pub recognises : Recognises reading
+recognises = record {
+  whole = λ all reads. record { formula = reads.1; is = reached-whole all reads.0 reads.1 reads.2.read; shallow = reads.2.shallow };
+  front_follows = λ front more reads. (more, reads.0, reads.1, reads.2);
+  deeper = λ front any. (any.0, any.1, any.2, any.3.read);
+  follows = follows;
+  follows_deeper = follows_deeper;
+  goes_on = goes_on;
+  is_shallow = is_shallow;
+}
+
 -- the machine has come to the end
 pub reads_done : (all : List Symbol) (f : Temporal) → reached all ≡ done f → depth f ≤ greatest_depth → Reads all (first_sights all) f
 reads_done all f end shallow =
@@ -95,10 +112,6 @@ reads_done all f end shallow =
       read = subst (λ x. ReadsAtAnyDepth x (first_sights all) f) (append-nil all) (subst P end (begins all) tt);
       shallow = shallow;
     }
-
--- what reads as a formula goes on behind each of its fronts
-pub follows_front : (front more : List Symbol) (names : Names) (f : Temporal) → Reads (front ++ more) names f → CanFollow front
-follows_front front more names f reads = (more, names, f, reads)
 
 -- symbols read as one formula at most
 pub one_reading : (all : List Symbol) (names names' : Names) (f f' : Temporal) → Reads all names f → Reads all names' f' → (names ≡ names') × (f ≡ f')

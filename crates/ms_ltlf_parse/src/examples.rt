@@ -8,7 +8,8 @@ ghost use Rattle.ms_ltlf_parse.specs.Grammar.{Names};
 ghost use Rattle.ms_ltlf_parse.specs.Reading.{CanFollow, CanFollowAtAnyDepth, Reads, first_sights};
 ghost use Rattle.ms_ltlf_parse.specs.Refused.{IsTraceFault};
 ghost use Rattle.ms_ltlf_parse.specs.Symbol.{name, word_true, word_false, open_bracket, close_bracket, semicolon, other, symbol_of, symbols};
-ghost use Rattle.ms_ltlf_parse.specs.inner.Examples.{a, b, c, negated, X, WX, F, G, U, R, implies, iff, and, or, only_a, a_b, a_b_c, first, second, third, two, three, repeated, bracketed, in_brackets, open_brackets, text};
+ghost use Rattle.ms_parse_stack.specs.inner.Examples.{repeated, text};
+ghost use Rattle.ms_ltlf_parse.specs.inner.Examples.{a, b, c, negated, X, WX, F, G, U, R, implies, iff, and, or, only_a, a_b, a_b_c, first, second, third, two, three, bracketed, in_brackets, open_brackets};
 
 use ms_edge::Refusal;
 use ms_text::{Keyword, Kind, Mark};

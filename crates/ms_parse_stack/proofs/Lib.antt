@@ -3,9 +3,11 @@ pub mod Depths
 pub mod Faults
 pub mod Fitting
 pub mod Growth
+pub mod Readings
 pub mod Runs
 pub mod Settling
 pub mod Soundness
 pub mod Spellings
 pub mod Steps
 pub mod Tokens
+pub mod Trials

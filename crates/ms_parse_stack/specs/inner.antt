@@ -1,3 +1,4 @@
+pub mod Examples
 pub mod Frames
 pub mod Machine
 pub mod Opened

@@ -2,7 +2,7 @@ ghost use Rattle.std.specs.Prelude.{◌≡◌, ◌≤◌, ◌∷◌, ◌++◌, [
 ghost use Rattle.ms_parse_stack.specs.inner.Frames.{behind_joining, inside};
 ghost use Rattle.ms_parse_stack.specs.inner.Machine.{linked, plugged, within};
 ghost use Rattle.ms_parse_stack.specs.inner.Opened.{frame_of};
-ghost use Rattle.ms_parse_stack.specs.inner.States.{ComesTo, IsMeasured, stack_of};
+ghost use Rattle.ms_parse_stack.specs.inner.States.{ComesTo, IsMeasured, IsMeasuredWith, held_of, stack_of};
 
 use crate::begun::Begun;
 use crate::frame::{Frame, inside};
@@ -33,7 +33,7 @@ fn begin_list<G: Grammar>(
     op: Junction,
     operand: Operand<G>,
 ) -> Result<Outcome<G>, Stop>
-    requires { IsMeasured G.Grammar begun.old (plugged G.machine (stack_of G.Grammar begun.old.frames) (G.tree_of operand.formula)) }
+    requires { IsMeasuredWith G.Grammar begun.old operand }
     ensures { ComesTo G.Grammar (within (behind_joining op (G.tree_of operand.formula ∷ []) ∷ stack_of G.Grammar begun.old.frames) G.machine.wanted) begun.new result }
 {
     let operands = first_operand(alloc, operand)?;
@@ -60,8 +60,8 @@ pub fn join<G: Grammar>(
     op: Junction,
     operand: Operand<G>,
 ) -> Result<Outcome<G>, Stop>
-    requires { IsMeasured G.Grammar begun.old (plugged G.machine (stack_of G.Grammar begun.old.frames) (G.tree_of operand.formula)) }
-    ensures { ComesTo G.Grammar (linked G.machine op (stack_of G.Grammar begun.old.frames, G.tree_of operand.formula)) begun.new result }
+    requires { IsMeasuredWith G.Grammar begun.old operand }
+    ensures { ComesTo G.Grammar (linked G.machine op (held_of G.Grammar begun.old operand)) begun.new result }
 {
     let Some(frame) = begun.frames.pop() else {
         return begin_list(alloc, begun, op, operand);

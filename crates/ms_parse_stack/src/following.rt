@@ -1,6 +1,6 @@
 ghost use Rattle.std.specs.Prelude.{◌≡◌, Some};
-ghost use Rattle.ms_parse_stack.specs.inner.Machine.{closed, ended, follows, least_before, performed, plugged, put, within};
-ghost use Rattle.ms_parse_stack.specs.inner.States.{ComesTo, IsMeasured, stack_of};
+ghost use Rattle.ms_parse_stack.specs.inner.Machine.{closed, ended, follows, least_before, performed, put, within};
+ghost use Rattle.ms_parse_stack.specs.inner.States.{ComesTo, IsMeasuredWith, held_of, stack_of};
 
 use crate::begun::Begun;
 use crate::complete::complete_brackets;
@@ -33,8 +33,8 @@ fn close<G: Grammar>(
     begun: &mut Begun<Frame<G>>,
     operand: Operand<G>,
 ) -> Result<Outcome<G>, Stop>
-    requires { IsMeasured G.Grammar begun.old (plugged G.machine (stack_of G.Grammar begun.old.frames) (G.tree_of operand.formula)) }
-    ensures { ComesTo G.Grammar (closed G.machine (stack_of G.Grammar begun.old.frames, G.tree_of operand.formula)) begun.new result }
+    requires { IsMeasuredWith G.Grammar begun.old operand }
+    ensures { ComesTo G.Grammar (closed G.machine (held_of G.Grammar begun.old operand)) begun.new result }
 {
     let Some(frame) = begun.frames.pop() else {
         return Err(Stop::Misplaced);
@@ -49,8 +49,8 @@ fn close<G: Grammar>(
 
 /// The sign that ends the whole.
 fn end<G: Grammar>(begun: &Begun<Frame<G>>, operand: Operand<G>) -> Result<Outcome<G>, Stop>
-    requires { IsMeasured G.Grammar begun.now (plugged G.machine (stack_of G.Grammar begun.now.frames) (G.tree_of operand.formula)) }
-    ensures { ComesTo G.Grammar (ended G.machine (stack_of G.Grammar begun.now.frames, G.tree_of operand.formula)) begun.now result }
+    requires { IsMeasuredWith G.Grammar begun.now operand }
+    ensures { ComesTo G.Grammar (ended G.machine (held_of G.Grammar begun.now operand)) begun.now result }
 {
     if begun.frames.is_empty() {
         Ok(Outcome::Done(operand))
@@ -66,8 +66,8 @@ fn put<G: Grammar>(
     operand: Operand<G>,
     sign: Sign<G::Binary>,
 ) -> Result<Outcome<G>, Stop>
-    requires { IsMeasured G.Grammar begun.old (plugged G.machine (stack_of G.Grammar begun.old.frames) (G.tree_of operand.formula)) }
-    ensures { ComesTo G.Grammar (put G.machine sign (stack_of G.Grammar begun.old.frames, G.tree_of operand.formula)) begun.new result }
+    requires { IsMeasuredWith G.Grammar begun.old operand }
+    ensures { ComesTo G.Grammar (put G.machine sign (held_of G.Grammar begun.old operand)) begun.new result }
 {
     match sign {
         Sign::Infix(op) => enter(begun, Frame::Infix(op, operand)),
@@ -84,7 +84,7 @@ pub fn follow<G: Grammar>(
     operand: Operand<G>,
     sign: Sign<G::Binary>,
 ) -> Result<Outcome<G>, Stop>
-    requires { IsMeasured G.Grammar begun.old (plugged G.machine (stack_of G.Grammar begun.old.frames) (G.tree_of operand.formula)) }
+    requires { IsMeasuredWith G.Grammar begun.old operand }
     ensures { (p : G.Place) → G.machine.operand p ≡ Some (G.tree_of operand.formula) → ComesTo G.Grammar (performed G.machine (follows sign) (within (stack_of G.Grammar begun.old.frames) p)) begun.new result }
 {
     let operand = settle(alloc, &mut begun.frames, operand, least_before::<G>(&sign))?;

@@ -14,4 +14,3 @@ pub mod Steps
 pub mod Strength
 pub mod Sums
 pub mod Trees
-pub mod Trials

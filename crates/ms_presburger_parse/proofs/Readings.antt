@@ -2,12 +2,14 @@
 use Rattle.std.proofs.Common.{◌≡◌, ◌≤◌, List, [], ◌++◌, refl, sym, ap, ◌∙◌, subst, arith, append-nil}
 use Rattle.ms_presburger.specs.Tree.{Arithmetic, depth}
 use Rattle.ms_presburger_parse.specs.Reading.{ReadsAtAnyDepth, Reads, greatest_depth, CanFollow, CanFollowAtAnyDepth}
-use Rattle.ms_presburger_parse.specs.Symbol.{Symbol}
+use Rattle.ms_presburger_parse.specs.Symbol.{Symbol, symbol_of}
 use Rattle.ms_parse_stack.specs.inner.Machine.{done, GoesOn}
+use Rattle.ms_parse_stack.proofs.Readings.{Reading, Recognises}
 use Rattle.ms_parse_stack.proofs.Runs.{run_on, run-append}
 use Rattle.ms_parse_stack.proofs.Soundness.{shortest_sound}
 use Rattle.ms_parse_stack.proofs.Spellings as spellings
 use Rattle.ms_parse_stack.proofs.Spellings.{HasRead, read_run, rest_spelled}
+use Rattle.ms_presburger_parse.specs.contracts.frame.LinearArithmeticGrammar.TheImpl.{ghosts}
 use Rattle.ms_presburger_parse.specs.inner.Machine.{State, machine, action, run, start, shortest}
 use Rattle.ms_presburger_parse.specs.inner.Reached.{reached}
 use Rattle.ms_presburger_parse.proofs.Completeness.{reads_whole}
@@ -57,6 +59,21 @@ is_shallow front (more, f, reads) =
     let less = run_grows (reached front) more on in
     let small = subst (λ s. depth (shortest (reached front)) ≤ depth (shortest s)) end less in
     omega (arith, small, reads.shallow)
+
+-- which rows of symbols read as a formula, begin one, and would begin one if the depth had no limit
+abbrev pub reading : Reading ghosts Symbol
+reading = record { symbol_of = symbol_of; reached = reached; Reads = λ all. (f : Arithmetic) × Reads all f; CanFollow = CanFollow; CanFollowAtAnyDepth = CanFollowAtAnyDepth }
+
+pub recognises : Recognises reading
+recognises = record {
+  whole = λ all reads. record { formula = reads.0; is = reached-whole all reads.0 reads.1.read; shallow = reads.1.shallow };
+  front_follows = λ front more reads. (more, reads.0, reads.1);
+  deeper = λ front any. (any.0, any.1, any.2.read);
+  follows = follows;
+  follows_deeper = follows_deeper;
+  goes_on = goes_on;
+  is_shallow = is_shallow;
+}
 
 -- the machine has come to the end
 pub reads_done : (all : List Symbol) (f : Arithmetic) → reached all ≡ done f → depth f ≤ greatest_depth → Reads all f

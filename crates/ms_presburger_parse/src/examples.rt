@@ -10,7 +10,8 @@ ghost use Rattle.ms_presburger.specs.Tree.{Arithmetic, truth, falsity, compariso
 ghost use Rattle.ms_presburger_parse.specs.Reading.{CanFollow, CanFollowAtAnyDepth, Reads, ReadsAsProblem};
 ghost use Rattle.ms_presburger_parse.specs.Refused.{IsProblemFault};
 ghost use Rattle.ms_presburger_parse.specs.Symbol.{name, number, word_true, word_false, quantifier, negation_sign, relation, plus, comma, colon, open_bracket, close_bracket, semicolon, other, symbol_of, symbols};
-ghost use Rattle.ms_presburger_parse.specs.inner.Examples.{a, b, c, x, y, z, ex, all, implies, iff, and, or, equals, less, first, second, third, same, two, three, repeated, bracketed, in_brackets, behind_brackets, text};
+ghost use Rattle.ms_parse_stack.specs.inner.Examples.{repeated, behind_brackets, text};
+ghost use Rattle.ms_presburger_parse.specs.inner.Examples.{a, b, c, x, y, z, ex, all, implies, iff, and, or, equals, less, first, second, third, same, two, three, bracketed, in_brackets};
 
 use ms_edge::Refusal;
 use ms_logic::Rel;

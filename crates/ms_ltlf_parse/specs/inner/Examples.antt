@@ -1,14 +1,11 @@
 -- Symbols, formulas and texts for worked examples.
-use Rattle.std.specs.Prelude.{ℕ, zero, suc, List, [], ◌∷◌, codes, replicate}
-use Rattle.std.specs.Str.{byte}
-use Rattle.ms_text.specs.TokenList.{Lexed, token_at}
-use Rattle.ms_text.specs.declared.mark.Mark.TheVariants.{OpenParenthesis}
-use Rattle.ms_text.specs.declared.token.Kind.TheVariants as kinds
-use Rattle.ms_text.specs.declared.token.Token.{Token}
+use Rattle.std.specs.Prelude.{ℕ, zero, suc, List, [], ◌∷◌, codes}
+use Rattle.ms_text.specs.TokenList.{Lexed}
 use Rattle.ms_ltlf.specs.Tree.{Temporal, proposition, brackets, Temporals, no_temporals, more_temporals}
 use Rattle.ms_ltlf_parse.specs.Grammar.{Names}
 use Rattle.ms_ltlf_parse.specs.Symbol.{Symbol, name, prefix_operator, infix_operator, joining, open_bracket, close_bracket, semicolon}
 use Rattle.ms_ltlf_parse.specs.declared.operator.Binary.TheVariants.{Equivalence, Implication, Until, Release}
+use Rattle.ms_parse_stack.specs.inner.Examples.{repeated, behind_brackets}
 use Rattle.ms_parse_stack.specs.declared.junction.Junction.TheVariants.{Conjunction, Disjunction}
 use Rattle.ms_ltlf_parse.specs.declared.operator.Prefix.TheVariants.{Negation, Next, WeakNext, Eventually, Always}
 
@@ -82,11 +79,6 @@ two f g = more_temporals f (more_temporals g no_temporals)
 abbrev pub three : Temporal → Temporal → Temporal → Temporals
 three f g h = more_temporals f (two g h)
 
--- the symbol so many times
-abbrev pub repeated : ℕ → Symbol → List Symbol → List Symbol
-repeated zero s more = more
-repeated (suc n) s more = s ∷ repeated n s more
-
 -- `a;` in so many brackets
 abbrev pub bracketed : ℕ → List Symbol
 bracketed n = repeated n open_bracket (a ∷ repeated n close_bracket (semicolon ∷ []))
@@ -96,15 +88,6 @@ abbrev pub in_brackets : ℕ → Temporal
 in_brackets zero = first
 in_brackets (suc n) = brackets (in_brackets n)
 
--- a text and its tokens
-abbrev pub text : List ℕ → List Token → Lexed
-text bytes tokens = record { bytes = bytes; tokens = tokens }
-
--- so many tokens `(`, from a place on
-abbrev pub brackets_from : ℕ → ℕ → List Token
-brackets_from at zero = []
-brackets_from at (suc n) = token_at (kinds.Mark OpenParenthesis) at 1 ∷ brackets_from (suc at) n
-
 -- the text of so many brackets
 abbrev pub open_brackets : ℕ → Lexed
-open_brackets n = text (replicate n (byte "(")) (brackets_from 0 n)
+open_brackets n = behind_brackets n [] []

@@ -1,16 +1,12 @@
--- Symbols, formulas and texts for worked examples.
-use Rattle.std.specs.Prelude.{ℕ, zero, suc, List, [], ◌∷◌, ◌++◌, codes, replicate}
-use Rattle.std.specs.Str.{byte}
+-- Symbols and formulas for worked examples.
+use Rattle.std.specs.Prelude.{ℕ, zero, suc, List, [], ◌∷◌, ◌++◌, codes}
 use Rattle.ms_logic.specs.declared.mode.Quant.TheVariants.{Ex, All}
 use Rattle.ms_logic.specs.declared.mode.Rel.TheVariants.{Equal, Less}
-use Rattle.ms_text.specs.TokenList.{Lexed, token_at}
-use Rattle.ms_text.specs.declared.mark.Mark.TheVariants.{OpenParenthesis}
-use Rattle.ms_text.specs.declared.token.Kind.TheVariants as kinds
-use Rattle.ms_text.specs.declared.token.Token.{Token}
 use Rattle.ms_presburger.specs.declared.linear.Part.TheVariants.{Number, Var}
 use Rattle.ms_presburger.specs.Tree.{Arithmetic, comparison, brackets, Arithmetics, no_arithmetics, more_arithmetics}
 use Rattle.ms_presburger_parse.specs.Symbol.{Symbol, name, number, quantifier, infix_operator, joining, relation, open_bracket, close_bracket, semicolon}
 use Rattle.ms_presburger_parse.specs.declared.operator.Binary.TheVariants.{Equivalence, Implication}
+use Rattle.ms_parse_stack.specs.inner.Examples.{repeated}
 use Rattle.ms_parse_stack.specs.declared.junction.Junction.TheVariants.{Conjunction, Disjunction}
 
 -- names
@@ -83,11 +79,6 @@ two f g = more_arithmetics f (more_arithmetics g no_arithmetics)
 abbrev pub three : Arithmetic → Arithmetic → Arithmetic → Arithmetics
 three f g h = more_arithmetics f (two g h)
 
--- the symbol so many times
-abbrev pub repeated : ℕ → Symbol → List Symbol → List Symbol
-repeated zero s more = more
-repeated (suc n) s more = s ∷ repeated n s more
-
 -- these symbols in so many brackets, and a semicolon
 abbrev pub bracketed : ℕ → List Symbol → List Symbol
 bracketed n inner = repeated n open_bracket (inner ++ repeated n close_bracket (semicolon ∷ []))
@@ -96,16 +87,3 @@ bracketed n inner = repeated n open_bracket (inner ++ repeated n close_bracket (
 abbrev pub in_brackets : ℕ → Arithmetic → Arithmetic
 in_brackets zero f = f
 in_brackets (suc n) f = brackets (in_brackets n f)
-
--- a text and its tokens
-abbrev pub text : List ℕ → List Token → Lexed
-text bytes tokens = record { bytes = bytes; tokens = tokens }
-
--- so many tokens `(`, from a place on
-abbrev pub brackets_from : ℕ → ℕ → List Token
-brackets_from at zero = []
-brackets_from at (suc n) = token_at (kinds.Mark OpenParenthesis) at 1 ∷ brackets_from (suc at) n
-
--- the text of so many brackets, and these bytes and tokens behind them
-abbrev pub behind_brackets : ℕ → List ℕ → List Token → Lexed
-behind_brackets n bytes tokens = text (replicate n (byte "(") ++ bytes) (brackets_from 0 n ++ tokens)

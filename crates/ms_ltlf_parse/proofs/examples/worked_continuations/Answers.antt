@@ -1,8 +1,9 @@
 use Rattle.std.proofs.Common.{[], ◌∷◌, lit≤, refl}
 use Rattle.ms_ltlf_parse.specs.Symbol.{other, word_true, open_bracket, semicolon}
-use Rattle.ms_ltlf_parse.specs.inner.Examples.{a, b, and, U, R, repeated}
-use Rattle.ms_ltlf_parse.proofs.Readings.{follows, follows_deeper, goes_on}
-use Rattle.ms_ltlf_parse.proofs.Trials.{too_deep_by_trial}
+use Rattle.ms_parse_stack.specs.inner.Examples.{repeated}
+use Rattle.ms_ltlf_parse.specs.inner.Examples.{a, b, and, U, R}
+use Rattle.ms_parse_stack.proofs.Trials.{too_deep_by_trial}
+use Rattle.ms_ltlf_parse.proofs.Readings.{follows, follows_deeper, goes_on, recognises}
 use Rattle.ms_ltlf_parse.proofs.examples.worked_continuations.Goals as goal
 
 pub returns-clause-at_the_beginning : goal.returns-clause-at_the_beginning
@@ -39,7 +40,7 @@ pub returns-clause-deepest_bracket : goal.returns-clause-deepest_bracket
 returns-clause-deepest_bracket c = follows (repeated 299 open_bracket []) tt (lit≤ tt)
 
 pub returns-clause-bracket_too_deep : goal.returns-clause-bracket_too_deep
-returns-clause-bracket_too_deep c any = too_deep_by_trial (repeated 300 open_bracket []) refl any
+returns-clause-bracket_too_deep c any = too_deep_by_trial recognises (repeated 300 open_bracket []) refl any
 
 pub returns-clause-bracket_at_any_depth : goal.returns-clause-bracket_at_any_depth
 returns-clause-bracket_at_any_depth c = follows_deeper (repeated 300 open_bracket []) tt
@@ -48,7 +49,7 @@ pub returns-clause-operand_at_the_depth : goal.returns-clause-operand_at_the_dep
 returns-clause-operand_at_the_depth c = follows (repeated 299 open_bracket (a ∷ [])) tt (lit≤ tt)
 
 pub returns-clause-operator_too_deep : goal.returns-clause-operator_too_deep
-returns-clause-operator_too_deep c any = too_deep_by_trial (repeated 299 open_bracket (a ∷ U ∷ [])) refl any
+returns-clause-operator_too_deep c any = too_deep_by_trial recognises (repeated 299 open_bracket (a ∷ U ∷ [])) refl any
 
 pub returns-clause-operator_at_any_depth : goal.returns-clause-operator_at_any_depth
 returns-clause-operator_at_any_depth c = follows_deeper (repeated 299 open_bracket (a ∷ U ∷ [])) tt
@@ -57,4 +58,4 @@ pub returns-clause-deep_on_the_left : goal.returns-clause-deep_on_the_left
 returns-clause-deep_on_the_left c = follows (a ∷ U ∷ repeated 298 open_bracket []) tt (lit≤ tt)
 
 pub returns-clause-deeper_on_the_left : goal.returns-clause-deeper_on_the_left
-returns-clause-deeper_on_the_left c any = too_deep_by_trial (a ∷ U ∷ repeated 299 open_bracket []) refl any
+returns-clause-deeper_on_the_left c any = too_deep_by_trial recognises (a ∷ U ∷ repeated 299 open_bracket []) refl any

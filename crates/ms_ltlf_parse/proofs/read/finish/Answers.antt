@@ -1,13 +1,13 @@
 use Rattle.std.proofs.Common.{ap, sym, ◌∙◌, subst, arith}
-use Rattle.ms_ltlf.specs.Tree.{depth}
 use Rattle.ms_ltlf_parse.specs.Symbol.{symbol_of}
 use Rattle.ms_ltlf_parse.specs.Reading.{first_sights}
 use Rattle.ms_ltlf_parse.specs.Refused.{IsTraceFault}
-use Rattle.ms_ltlf_parse.specs.inner.Machine.{shortest}
 use Rattle.ms_ltlf_parse.specs.inner.Reached.{reached}
-use Rattle.ms_ltlf_parse.specs.inner.States.{state_of}
-use Rattle.ms_ltlf_parse.proofs.Faults.{ends_early, trace_read, trace_well_formed}
+use Rattle.ms_ltlf_parse.specs.inner.States.{IsMeasured, state_of}
+use Rattle.ms_ltlf_parse.proofs.Faults.{trace_fault, trace_read, trace_well_formed}
+use Rattle.ms_parse_stack.proofs.Faults.{ends_here}
 use Rattle.ms_parse_stack.proofs.Tokens.{front-whole}
+use Rattle.ms_ltlf_parse.proofs.Readings.{recognises}
 use Rattle.ms_ltlf_parse.proofs.read.finish.Goals as goal
 
 pub returns-in-Done-clause-read : goal.returns-in-Done-clause-read
@@ -23,16 +23,12 @@ returns-in-Done-clause-well_formed c =
 
 pub returns-in-Wanted-clause-refused : goal.returns-in-Wanted-clause-refused
 returns-in-Wanted-clause-refused c =
-    let lexed = c.args.tokens.now in
-    let is = ap (state_of c.args.reader.begun) c.in-Wanted.is in
-    let state = ap reached (sym (front-whole symbol_of lexed)) ∙ c.requires.here.state ∙ is in
-    let deep = c.requires.here.measured.measured ∙ ap (λ s. depth (shortest s)) is in
-    subst (IsTraceFault c.args.file lexed) (sym c.refusal_at_end.ensures) (ends_early c.args.file lexed _ state tt (omega (arith, deep, c.requires.here.measured.shallow)))
+    let begun = c.args.reader.begun in
+    let deep = subst (IsMeasured begun) c.in-Wanted.is c.requires.here.measured in
+    subst (IsTraceFault c.args.file c.args.tokens.now) (sym c.refusal_at_end.ensures) (trace_fault (ends_here recognises c.args.file c.args.tokens.now begun _ (c.requires.here.state ∙ ap (state_of begun) c.in-Wanted.is) tt deep))
 
 pub returns-clause-refused : goal.returns-clause-refused
 returns-clause-refused c =
-    let lexed = c.args.tokens.now in
-    let is = ap (state_of c.args.reader.begun) c.in-Holding.is in
-    let state = ap reached (sym (front-whole symbol_of lexed)) ∙ c.requires.here.state ∙ is in
-    let deep = c.requires.here.measured.measured ∙ ap (λ s. depth (shortest s)) is in
-    subst (IsTraceFault c.args.file lexed) (sym c.refusal_at_end-in-Holding.ensures) (ends_early c.args.file lexed _ state tt (omega (arith, deep, c.requires.here.measured.shallow)))
+    let begun = c.args.reader.begun in
+    let deep = subst (IsMeasured begun) c.in-Holding.is c.requires.here.measured in
+    subst (IsTraceFault c.args.file c.args.tokens.now) (sym c.refusal_at_end-in-Holding.ensures) (trace_fault (ends_here recognises c.args.file c.args.tokens.now begun _ (c.requires.here.state ∙ ap (state_of begun) c.in-Holding.is) tt deep))

@@ -2,7 +2,10 @@ use Rattle.std.proofs.Common.{arith}
 use Rattle.ms_ltlf_parse.specs.Symbol.{symbol_of}
 use Rattle.ms_ltlf_parse.specs.inner.Terminals.{symbol_with}
 use Rattle.ms_ltlf_parse.specs.Reading.{place}
-use Rattle.ms_ltlf_parse.proofs.Comings.{come_err, come_ok, comes_next, few_names, can_follow}
+use Rattle.ms_ltlf_parse.specs.inner.States.{state_of}
+use Rattle.ms_ltlf_parse.proofs.Comings.{come_ok, comes_next, few_names, can_follow}
+use Rattle.ms_ltlf_parse.proofs.Readings.{recognises}
+use Rattle.ms_parse_stack.proofs.Steps.{come_err}
 use Rattle.ms_parse_stack.proofs.Tokens.{front-next, token_is_utf8}
 use Rattle.ms_ltlf_parse.proofs.read.step_at.Goals as goal
 
@@ -31,4 +34,4 @@ returns-clause-err c =
     let names = c.number_of.new.sights.names in
     let next = front-next symbol_of lexed c.args.i c.get-token.result slice x c.get-token.ensures.token c.slice-slice.ensures.slice c.terminal_of-terminal.ensures.symbol in
     let all = comes_next lexed c.args.i c.args.reader.now c.args.outcome x names c.step.new.begun c.step.result c.requires.here next c.in_ok-number.ensures.names (c.step.ensures (place names) slice c.in_ok-number.ensures.number) in
-    come_err lexed c.args.i c.step.new.begun c.step.result (can_follow lexed c.args.i c.args.reader.now c.args.outcome c.requires.here) all.1
+    come_err recognises state_of lexed c.args.i c.step.new.begun c.step.result (can_follow lexed c.args.i c.args.reader.now c.args.outcome c.requires.here) all.1

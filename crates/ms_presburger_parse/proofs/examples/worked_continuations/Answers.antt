@@ -1,8 +1,9 @@
 use Rattle.std.proofs.Common.{[], ◌∷◌, ◌++◌, lit≤, refl}
 use Rattle.ms_presburger_parse.specs.Symbol.{name, number, word_true, plus, comma, colon, open_bracket, semicolon}
-use Rattle.ms_presburger_parse.specs.inner.Examples.{a, c, x, y, ex, all, and, equals, repeated}
-use Rattle.ms_presburger_parse.proofs.Readings.{follows, follows_deeper, goes_on}
-use Rattle.ms_presburger_parse.proofs.Trials.{too_deep_by_trial}
+use Rattle.ms_parse_stack.specs.inner.Examples.{repeated}
+use Rattle.ms_presburger_parse.specs.inner.Examples.{a, c, x, y, ex, all, and, equals}
+use Rattle.ms_parse_stack.proofs.Trials.{too_deep_by_trial}
+use Rattle.ms_presburger_parse.proofs.Readings.{follows, follows_deeper, goes_on, recognises}
 use Rattle.ms_presburger_parse.proofs.examples.worked_continuations.Goals as goal
 
 pub returns-clause-at_the_beginning : goal.returns-clause-at_the_beginning
@@ -54,7 +55,7 @@ pub returns-clause-deepest_bracket : goal.returns-clause-deepest_bracket
 returns-clause-deepest_bracket c = follows (repeated 299 open_bracket []) tt (lit≤ tt)
 
 pub returns-clause-bracket_too_deep : goal.returns-clause-bracket_too_deep
-returns-clause-bracket_too_deep c any = too_deep_by_trial (repeated 300 open_bracket []) refl any
+returns-clause-bracket_too_deep c any = too_deep_by_trial recognises (repeated 300 open_bracket []) refl any
 
 pub returns-clause-bracket_at_any_depth : goal.returns-clause-bracket_at_any_depth
 returns-clause-bracket_at_any_depth c = follows_deeper (repeated 300 open_bracket []) tt
@@ -66,13 +67,13 @@ pub returns-clause-deepest_name : goal.returns-clause-deepest_name
 returns-clause-deepest_name c = follows (repeated 298 open_bracket (name x ∷ [])) tt (lit≤ tt)
 
 pub returns-clause-name_too_deep : goal.returns-clause-name_too_deep
-returns-clause-name_too_deep c any = too_deep_by_trial (repeated 299 open_bracket (name x ∷ [])) refl any
+returns-clause-name_too_deep c any = too_deep_by_trial recognises (repeated 299 open_bracket (name x ∷ [])) refl any
 
 pub returns-clause-name_at_any_depth : goal.returns-clause-name_at_any_depth
 returns-clause-name_at_any_depth c = follows_deeper (repeated 299 open_bracket (name x ∷ [])) tt
 
 pub returns-clause-number_too_deep : goal.returns-clause-number_too_deep
-returns-clause-number_too_deep c any = too_deep_by_trial (repeated 299 open_bracket (number 5 ∷ [])) refl any
+returns-clause-number_too_deep c any = too_deep_by_trial recognises (repeated 299 open_bracket (number 5 ∷ [])) refl any
 
 pub returns-clause-number_at_any_depth : goal.returns-clause-number_at_any_depth
 returns-clause-number_at_any_depth c = follows_deeper (repeated 299 open_bracket (number 5 ∷ [])) tt
@@ -81,7 +82,7 @@ pub returns-clause-deepest_comparison : goal.returns-clause-deepest_comparison
 returns-clause-deepest_comparison c = follows (repeated 298 open_bracket a) tt (lit≤ tt)
 
 pub returns-clause-operator_too_deep : goal.returns-clause-operator_too_deep
-returns-clause-operator_too_deep c any = too_deep_by_trial (repeated 298 open_bracket (a ++ and ∷ [])) refl any
+returns-clause-operator_too_deep c any = too_deep_by_trial recognises (repeated 298 open_bracket (a ++ and ∷ [])) refl any
 
 pub returns-clause-operator_at_any_depth : goal.returns-clause-operator_at_any_depth
 returns-clause-operator_at_any_depth c = follows_deeper (repeated 298 open_bracket (a ++ and ∷ [])) tt
@@ -90,7 +91,7 @@ pub returns-clause-deepest_quantifier : goal.returns-clause-deepest_quantifier
 returns-clause-deepest_quantifier c = follows (repeated 298 open_bracket (ex ∷ name x ∷ colon ∷ [])) tt (lit≤ tt)
 
 pub returns-clause-quantifier_too_deep : goal.returns-clause-quantifier_too_deep
-returns-clause-quantifier_too_deep c any = too_deep_by_trial (repeated 299 open_bracket (ex ∷ [])) refl any
+returns-clause-quantifier_too_deep c any = too_deep_by_trial recognises (repeated 299 open_bracket (ex ∷ [])) refl any
 
 pub returns-clause-quantifier_at_any_depth : goal.returns-clause-quantifier_at_any_depth
 returns-clause-quantifier_at_any_depth c = follows_deeper (repeated 299 open_bracket (ex ∷ [])) tt

@@ -9,7 +9,8 @@ use Rattle.ms_presburger.specs.declared.linear.Part.TheVariants.{Var, Times}
 use Rattle.ms_presburger.specs.Tree.{free_names}
 use Rattle.ms_presburger_parse.specs.Reading.{Reads}
 use Rattle.ms_presburger_parse.specs.Symbol.{symbols}
-use Rattle.ms_presburger_parse.specs.inner.Examples.{text, x, y}
+use Rattle.ms_parse_stack.specs.inner.Examples.{text}
+use Rattle.ms_presburger_parse.specs.inner.Examples.{x, y}
 use Rattle.ms_presburger_parse.proofs.Trees.{arithmetic_of-Compare}
 use Rattle.ms_presburger_parse.proofs.examples.worked_scopes.Goals as goal
 

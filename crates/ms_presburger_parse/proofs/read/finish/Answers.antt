@@ -1,13 +1,12 @@
 use Rattle.std.proofs.Common.{ap, sym, ◌∙◌, subst, inr, arith}
-use Rattle.ms_presburger.specs.Tree.{depth}
 use Rattle.ms_presburger.specs.View.{arithmetic_of}
 use Rattle.ms_presburger_parse.specs.Refused.{IsProblemFault}
 use Rattle.ms_presburger_parse.specs.Symbol.{symbols, symbol_of}
-use Rattle.ms_presburger_parse.specs.inner.Machine.{shortest}
 use Rattle.ms_presburger_parse.specs.inner.Reached.{reached}
-use Rattle.ms_presburger_parse.specs.inner.States.{state_of}
-use Rattle.ms_presburger_parse.proofs.Faults.{ends_early}
-use Rattle.ms_presburger_parse.proofs.Readings.{reads_done}
+use Rattle.ms_presburger_parse.specs.inner.States.{IsMeasured, state_of}
+use Rattle.ms_presburger_parse.proofs.Faults.{problem_fault}
+use Rattle.ms_presburger_parse.proofs.Readings.{reads_done, recognises}
+use Rattle.ms_parse_stack.proofs.Faults.{ends_here}
 use Rattle.ms_parse_stack.proofs.Tokens.{front-whole}
 use Rattle.ms_presburger_parse.proofs.read.finish.Goals as goal
 
@@ -19,8 +18,6 @@ problem_of-requires-clause-read c =
 
 pub returns-in-Within-clause-refused : goal.returns-in-Within-clause-refused
 returns-in-Within-clause-refused c =
-    let lexed = c.args.tokens.now in
-    let is = ap (state_of c.args.begun) c.in-Within.is in
-    let state = ap reached (sym (front-whole symbol_of lexed)) ∙ c.requires.here.state ∙ is in
-    let deep = c.requires.here.measured.measured ∙ ap (λ s. depth (shortest s)) is in
-    inr (subst (IsProblemFault c.args.file lexed) (sym c.refusal_at_end.ensures) (ends_early c.args.file lexed _ state tt (omega (arith, deep, c.requires.here.measured.shallow))))
+    let begun = c.args.begun in
+    let deep = subst (IsMeasured begun) c.in-Within.is c.requires.here.measured in
+    inr (subst (IsProblemFault c.args.file c.args.tokens.now) (sym c.refusal_at_end.ensures) (problem_fault (ends_here recognises c.args.file c.args.tokens.now begun _ (c.requires.here.state ∙ ap (state_of begun) c.in-Within.is) tt deep)))
