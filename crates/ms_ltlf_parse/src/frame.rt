@@ -4,7 +4,6 @@ ghost use Rattle.ms_ltlf.specs.View.{temporal_of};
 ghost use Rattle.ms_ltlf_parse.specs.inner.Machine.{Place, machine, operators};
 ghost use Rattle.ms_ltlf_parse.specs.inner.Deep.{deep};
 
-use crate::levels;
 use crate::operator::{Binary, Junction, Prefix};
 use ms_list::{List, NoMemory, on_heap};
 use ms_ltlf::Ltl;
@@ -69,20 +68,33 @@ impl Grammar for TemporalLogic {
         }
     }
 
-    fn prefix_operand(op: &Prefix) -> u32 {
-        levels::prefix_operand(op)
+    fn prefix_operand(_op: &Prefix) -> u32 {
+        5
     }
 
     fn binary_level(op: &Binary) -> u32 {
-        levels::binary_level(*op)
+        match op {
+            Binary::Equivalence => 0,
+            Binary::Implication => 1,
+            Binary::Until => 4,
+            Binary::Release => 4,
+        }
     }
 
     fn left_level(op: &Binary) -> u32 {
-        levels::left_level(*op)
+        match op {
+            Binary::Equivalence => 0,
+            Binary::Implication => 2,
+            Binary::Until => 5,
+            Binary::Release => 5,
+        }
     }
 
     fn junction_level(op: Junction) -> u32 {
-        levels::junction_level(op)
+        match op {
+            Junction::Conjunction => 3,
+            Junction::Disjunction => 2,
+        }
     }
 }
 

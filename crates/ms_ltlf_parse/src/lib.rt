@@ -5,7 +5,6 @@ mod enter;
 mod examples;
 mod frame;
 mod laws;
-mod levels;
 mod operator;
 mod read;
 mod sights;

@@ -4,7 +4,6 @@ ghost use Rattle.ms_presburger.specs.View.{arithmetic_of};
 ghost use Rattle.ms_presburger_parse.specs.inner.Machine.{Place, machine, operators};
 ghost use Rattle.ms_presburger_parse.specs.inner.Deep.{deep};
 
-use crate::levels;
 use crate::operator::{Binary, Junction, Prefix};
 use ms_list::{List, NoMemory, on_heap};
 use ms_parse_stack as stacks;
@@ -65,19 +64,31 @@ impl Grammar for LinearArithmetic {
     }
 
     fn prefix_operand(op: &Prefix) -> u32 {
-        levels::prefix_operand(op)
+        match op {
+            Prefix::Negation => 5,
+            Prefix::Quantifier(..) => 0,
+        }
     }
 
     fn binary_level(op: &Binary) -> u32 {
-        levels::binary_level(*op)
+        match op {
+            Binary::Equivalence => 1,
+            Binary::Implication => 2,
+        }
     }
 
     fn left_level(op: &Binary) -> u32 {
-        levels::left_level(*op)
+        match op {
+            Binary::Equivalence => 1,
+            Binary::Implication => 3,
+        }
     }
 
     fn junction_level(op: Junction) -> u32 {
-        levels::junction_level(op)
+        match op {
+            Junction::Conjunction => 4,
+            Junction::Disjunction => 3,
+        }
     }
 }
 

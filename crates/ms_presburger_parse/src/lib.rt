@@ -6,7 +6,6 @@ mod examples;
 mod frame;
 mod free;
 mod laws;
-mod levels;
 mod moves;
 mod operator;
 mod place;

@@ -3,11 +3,11 @@
 ghost use Rattle.std.specs.Prelude.{◌≡◌, IsUtf8, IfOk};
 ghost use Rattle.ms_presburger.specs.Tree.{depth};
 ghost use Rattle.ms_presburger.specs.View.{arithmetic_of};
+ghost use Rattle.ms_presburger_parse.specs.Grammar.{compares};
 ghost use Rattle.ms_presburger_parse.specs.inner.Machine.{operand, times, with_comma, with_leaf, with_name, with_number, with_plus, with_quantifier, with_relation};
 ghost use Rattle.ms_presburger_parse.specs.inner.States.{HasOperand, MovesTo, place_of, side_of};
 
 use crate::frame::Operand;
-use crate::levels::compares;
 use crate::place::{Place, Side};
 use ms_list::{List, Name, NoMemory, push};
 use ms_logic::{Quant, Rel};
@@ -128,6 +128,23 @@ fn compare(
             Ok(Place::Adding(Side::Right(rel, left), parts))
         }
         Side::Right(..) => Err(Stop::Misplaced),
+    }
+}
+
+/// Whether a relation is one of numbers that can be written.
+fn compares(rel: Rel) -> bool
+    ensures { result ≡ compares rel }
+{
+    match rel {
+        Rel::Equal => true,
+        Rel::Differs => true,
+        Rel::Less => true,
+        Rel::AtMost => true,
+        Rel::Greater => true,
+        Rel::AtLeast => true,
+        Rel::Member => false,
+        Rel::NotMember => false,
+        Rel::Sub => false,
     }
 }
 
