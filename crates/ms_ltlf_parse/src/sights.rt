@@ -51,15 +51,6 @@ fn note(
     Ok(())
 }
 
-fn keep(alloc: Global, names: &mut List<Name>, name: &str) -> Result<(), NoMemory>
-    ensures { OnOk result (names.new ≡ names.old ++ name.now ∷ []) }
-{
-    let Ok(own) = Name::new(alloc, name) else {
-        return Err(NoMemory);
-    };
-    push(names, own)
-}
-
 /// The place of a name, which is put behind the others if it is not there.
 pub fn number(alloc: Global, sights: &mut Sights, name: &str) -> Result<u32, NoMemory>
     requires table { IsTable (λ n. get_by_text sights.old.places n) sights.old.names }
@@ -73,6 +64,6 @@ pub fn number(alloc: Global, sights: &mut Sights, name: &str) -> Result<u32, NoM
     }
     let place = sights.names.len() as u32;
     note(alloc, &mut sights.places, name, place)?;
-    keep(alloc, &mut sights.names, name)?;
+    push(&mut sights.names, Name::new(alloc, name)?)?;
     Ok(place)
 }

@@ -1,10 +1,11 @@
 -- What has been gathered of the free names of a formula.
-use Rattle.std.proofs.Common.{◌≡◌, ℕ, zero, suc, ◌+◌, ◌-◌, ◌<◌, ◌≤◌, Bool, true, false, not, cond, ◌||◌, ◌&&◌, List, [], ◌∷◌, ◌++◌, length, take, map, get_or, refl, sym, ap, ◌∙◌, inl, inr, arith, add-one, append_assoc, append-nil}
-use Rattle.std.specs.Prelude.{filter, if◌then◌else◌}
+use Rattle.std.proofs.Common.{◌≡◌, ℕ, zero, suc, ◌+◌, ◌-◌, ◌<◌, ◌≤◌, Bool, true, false, not, cond, ◌||◌, ◌&&◌, List, [], ◌∷◌, ◌++◌, length, take, map, get_or, refl, sym, ap, ◌∙◌, subst, inl, inr, arith, add-one, append_assoc, append-nil}
+use Rattle.std.specs.Prelude.{filter, if◌then◌else◌, Result, OnOk}
 use Rattle.std.specs.Str.{bytes_eq}
 use Rattle.std.proofs.lemmas.Bool.{cases_Bool}
 use Rattle.std.proofs.lemmas.List.Elements.{filter-append}
 use Rattle.std.proofs.lemmas.List.Folds.{list_any-append}
+use Rattle.std.proofs.lemmas.Result.{on_ok_weaker}
 use Rattle.std.proofs.lemmas.Slice.Eq.{bytes_eq-Decides}
 use Rattle.ms_presburger.specs.declared.linear.Linear.{Linear}
 use Rattle.ms_presburger.specs.declared.linear.Part.{Part}
@@ -35,6 +36,10 @@ gathers_append a b c xs ys one two = record {
   bound = λ x. two.bound x ∙ one.bound x;
   marked = two.marked;
 }
+
+-- the places of a formula are those of its first part and of its second
+pub gathers_both : {T E : Type 0} (f : Arithmetic) (a b c : Gathered) (xs ys : List (List ℕ)) (r : Result T E) → free_places f ≡ xs ++ ys → Gathers a b xs → OnOk r (Gathers b c ys) → OnOk r (Gathers a c (free_places f))
+gathers_both f a b c xs ys r is one two = on_ok_weaker {P = Gathers b c ys} {Q = Gathers a c (free_places f)} r (λ h. subst (Gathers a c) (sym is) (gathers_append a b c xs ys one h)) two
 
 -- a place of a name
 

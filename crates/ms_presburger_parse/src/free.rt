@@ -28,10 +28,10 @@ pub struct Gathered {
     pub names: List<Name>,
 }
 
-fn standing_of(gathered: &Gathered, name: &str) -> Standing
+fn standing_of(gathered: &Gathered, name: &Name) -> Standing
     ensures { result ≡ standing_in gathered.now name.now }
 {
-    match gathered.standings.get(name) {
+    match gathered.standings.get(name.text()) {
         Some(standing) => *standing,
         None => Standing {
             bound: 0,
@@ -43,13 +43,13 @@ fn standing_of(gathered: &Gathered, name: &str) -> Standing
 fn set_standing(
     alloc: Global,
     gathered: &mut Gathered,
-    name: &str,
+    name: &Name,
     standing: Standing,
 ) -> Result<(), NoMemory>
     ensures ok { OnOk result ((x : Sequence ℕ) → standing_in gathered.new x ≡ (if bytes_eq name.now x then standing else standing_in gathered.old x)) }
     ensures names { gathered.new.names ≡ gathered.old.names }
 {
-    let Ok(key) = String::from_str(alloc, name) else {
+    let Ok(key) = String::from_str(alloc, name.text()) else {
         return Err(NoMemory);
     };
     let Ok(_) = gathered.standings.insert(key, standing) else {
@@ -58,21 +58,12 @@ fn set_standing(
     Ok(())
 }
 
-fn keep(alloc: Global, names: &mut List<Name>, name: &str) -> Result<(), NoMemory>
-    ensures { OnOk result (names.new ≡ names.old ++ name.now ∷ []) }
-{
-    let Ok(own) = Name::new(alloc, name) else {
-        return Err(NoMemory);
-    };
-    push(names, own)
-}
-
 /// A place of a name.
 fn mention(alloc: Global, gathered: &mut Gathered, name: &Name) -> Result<(), NoMemory>
     requires { IsMarked gathered.old }
     ensures { OnOk result (Gathers gathered.old gathered.new (name.now ∷ [])) }
 {
-    let standing = standing_of(gathered, name.text());
+    let standing = standing_of(gathered, name);
     if standing.bound > 0 || standing.noted {
         return Ok(());
     }
@@ -80,8 +71,8 @@ fn mention(alloc: Global, gathered: &mut Gathered, name: &Name) -> Result<(), No
         bound: 0,
         noted: true,
     };
-    set_standing(alloc, gathered, name.text(), noted)?;
-    keep(alloc, &mut gathered.names, name.text())
+    set_standing(alloc, gathered, name, noted)?;
+    push(&mut gathered.names, Name::new(alloc, name.text())?)
 }
 
 fn mention_part(alloc: Global, gathered: &mut Gathered, part: &Part) -> Result<(), NoMemory>
@@ -112,12 +103,12 @@ fn bind(alloc: Global, gathered: &mut Gathered, names: &[Name]) -> Result<(), No
     ensures { OnOk result (Binds gathered.old gathered.new (λ x. bound_in gathered.old x + count_of names.now x)) }
 {
     for name in names {
-        let Standing { bound, noted } = standing_of(gathered, name.text());
+        let Standing { bound, noted } = standing_of(gathered, name);
         let more = Standing {
             bound: bound + 1,
             noted,
         };
-        set_standing(alloc, gathered, name.text(), more)?;
+        set_standing(alloc, gathered, name, more)?;
     }
     Ok(())
 }
@@ -129,12 +120,12 @@ fn unbind(alloc: Global, gathered: &mut Gathered, names: &[Name]) -> Result<(), 
     ensures { OnOk result (Binds gathered.old gathered.new (λ x. bound_in gathered.old x - count_of names.now x)) }
 {
     for name in names {
-        let Standing { bound, noted } = standing_of(gathered, name.text());
+        let Standing { bound, noted } = standing_of(gathered, name);
         let less = Standing {
             bound: bound - 1,
             noted,
         };
-        set_standing(alloc, gathered, name.text(), less)?;
+        set_standing(alloc, gathered, name, less)?;
     }
     Ok(())
 }

@@ -7,50 +7,35 @@ use Rattle.ms_presburger.specs.View.{arithmetic_of}
 use Rattle.ms_presburger.proofs.Operands.{extent-operand, extent-Bind}
 use Rattle.ms_presburger.proofs.Views.{arithmetic_of-Implies, arithmetic_of-Iff, arithmetic_of-Bind}
 use Rattle.ms_presburger_parse.specs.inner.Gathering.{Binds, Gathers, bound_in, count_of}
-use Rattle.ms_presburger_parse.proofs.Gatherings.{count_of-most, gathers_append, gathers_bound, places-next, places_of}
+use Rattle.ms_presburger_parse.proofs.Gatherings.{count_of-most, gathers_append, gathers_both, gathers_bound, places-next, places_of}
 use Rattle.std.proofs.lemmas.Result.{on_ok_weaker}
 use Rattle.ms_presburger_parse.proofs.Trees.{arithmetic_of-Compare}
 use Rattle.ms_presburger_parse.proofs.free.+gathering.Goals as goal
 
 pub gather-returns-in_ok-mention_sum-in-Compare : goal.gather-returns-in_ok-mention_sum-in-Compare
 gather-returns-in_ok-mention_sum-in-Compare t c =
-    let before = c.args.gathered.now in
-    let middle = c.mention_sum.new.gathered in
-    let after = c.mention_sum-in-Compare.new.gathered in
     let left = c.slice.result.now in
     let right = c.slice-in-Compare.result.now in
     let r = c.in-Compare.field-0 in
     let parts = ap (λ (l : List Part). Compare r l c.in-Compare.right) (sym c.slice.ensures) ∙ ap (λ (l : List Part). Compare r left l) (sym c.slice-in-Compare.ensures) in
     let is = ap arithmetic_of (c.in-Compare.is ∙ parts) ∙ arithmetic_of-Compare r left right in
-    let P : Arithmetic → Type 0 = λ f. Gathers before after (free_places f) in
-    on_ok_weaker {P = Gathers middle after (names_in_sum right)} {Q = P (arithmetic_of c.args.formula.now)} c.mention_sum-in-Compare.result
-    (λ second. subst P (sym is) (gathers_append before middle after (names_in_sum left) (names_in_sum right) c.in_ok-mention_sum-in-Compare.ensures second)) c.mention_sum-in-Compare.ensures
+    gathers_both (arithmetic_of c.args.formula.now) c.args.gathered.now c.mention_sum.new.gathered c.mention_sum-in-Compare.new.gathered (names_in_sum left) (names_in_sum right) c.mention_sum-in-Compare.result (ap free_places is) c.in_ok-mention_sum-in-Compare.ensures c.mention_sum-in-Compare.ensures
 
 pub gather-returns-in_ok-gather-in-Implies : goal.gather-returns-in_ok-gather-in-Implies
 gather-returns-in_ok-gather-in-Implies t c =
-    let before = c.args.gathered.now in
-    let middle = c.gather-in-Implies.new.gathered in
-    let after = c.gather-in-Implies-2.new.gathered in
     let left = c.get-in-Implies.result.now in
     let right = c.get-in-Implies-2.result.now in
     let parts = ap (λ (l : Linear). Implies l c.in-Implies.right) (sym c.get-in-Implies.ensures) ∙ ap (λ (r : Linear). Implies left r) (sym c.get-in-Implies-2.ensures) in
     let is = ap arithmetic_of (c.in-Implies.is ∙ parts) ∙ arithmetic_of-Implies left right in
-    let P : Arithmetic → Type 0 = λ f. Gathers before after (free_places f) in
-    on_ok_weaker {P = Gathers middle after (free_places (arithmetic_of right))} {Q = P (arithmetic_of c.args.formula.now)} c.gather-in-Implies-2.result
-    (λ second. subst P (sym is) (gathers_append before middle after (free_places (arithmetic_of left)) (free_places (arithmetic_of right)) c.in_ok-gather-in-Implies.ensures second)) c.gather-in-Implies-2.ensures
+    gathers_both (arithmetic_of c.args.formula.now) c.args.gathered.now c.gather-in-Implies.new.gathered c.gather-in-Implies-2.new.gathered (free_places (arithmetic_of left)) (free_places (arithmetic_of right)) c.gather-in-Implies-2.result (ap free_places is) c.in_ok-gather-in-Implies.ensures c.gather-in-Implies-2.ensures
 
 pub gather-returns-in_ok-gather-in-Iff : goal.gather-returns-in_ok-gather-in-Iff
 gather-returns-in_ok-gather-in-Iff t c =
-    let before = c.args.gathered.now in
-    let middle = c.gather-in-Iff.new.gathered in
-    let after = c.gather-in-Iff-2.new.gathered in
     let left = c.get-in-Iff.result.now in
     let right = c.get-in-Iff-2.result.now in
     let parts = ap (λ (l : Linear). Iff l c.in-Iff.right) (sym c.get-in-Iff.ensures) ∙ ap (λ (r : Linear). Iff left r) (sym c.get-in-Iff-2.ensures) in
     let is = ap arithmetic_of (c.in-Iff.is ∙ parts) ∙ arithmetic_of-Iff left right in
-    let P : Arithmetic → Type 0 = λ f. Gathers before after (free_places f) in
-    on_ok_weaker {P = Gathers middle after (free_places (arithmetic_of right))} {Q = P (arithmetic_of c.args.formula.now)} c.gather-in-Iff-2.result
-    (λ second. subst P (sym is) (gathers_append before middle after (free_places (arithmetic_of left)) (free_places (arithmetic_of right)) c.in_ok-gather-in-Iff.ensures second)) c.gather-in-Iff-2.ensures
+    gathers_both (arithmetic_of c.args.formula.now) c.args.gathered.now c.gather-in-Iff.new.gathered c.gather-in-Iff-2.new.gathered (free_places (arithmetic_of left)) (free_places (arithmetic_of right)) c.gather-in-Iff-2.result (ap free_places is) c.in_ok-gather-in-Iff.ensures c.gather-in-Iff-2.ensures
 
 pub gather-gather-requires-in-Bind : goal.gather-gather-requires-in-Bind
 gather-gather-requires-in-Bind t c =
