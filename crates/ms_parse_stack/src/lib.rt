@@ -4,6 +4,7 @@
 mod begun;
 mod complete;
 mod entering;
+mod examples;
 mod following;
 mod frame;
 mod grammar;
@@ -19,6 +20,9 @@ mod yielding;
 
 pub use begun::Begun;
 pub use entering::enter;
+pub use examples::{
+    worked_frames, worked_refusals, worked_rows, worked_stacks, worked_states, worked_steps,
+};
 pub use following::follow;
 pub use frame::Frame;
 pub use grammar::Grammar;

@@ -7,6 +7,7 @@ use Rattle.ms_parse_stack.specs.declared.sign.Sign.TheVariants as signs
 use Rattle.ms_parse_stack.specs.inner.Frames.{AreDeep, Operators, Frame, in_brackets, behind_infix, filled, link, yields}
 use Rattle.ms_parse_stack.specs.inner.Settled as stacks
 
+-- where the machine stands
 pub data State (Prefix Binary Place Formula : Type 0) : Type 0 where
   -- formulas have been begun
   within : (frames : List (Frame Prefix Binary Formula)) (p : Place) → State Prefix Binary Place Formula
@@ -15,6 +16,7 @@ pub data State (Prefix Binary Place Formula : Type 0) : Type 0 where
   -- the last symbol could not stand there
   stopped : State Prefix Binary Place Formula
 
+-- the last symbol could stand there
 abbrev pub GoesOn : {Prefix Binary Place Formula : Type 0} → State Prefix Binary Place Formula → Type 0
 GoesOn (within frames p) = Unit {0}
 GoesOn (done f) = Unit {0}
@@ -58,19 +60,23 @@ module _ {Prefix Binary Place Formula : Type 0} (m : Machine Prefix Binary Place
   abbrev pub settled : ℕ → List (Frame Prefix Binary Formula) → Formula → List (Frame Prefix Binary Formula) × Formula
   settled least frames f = stacks.settled (filled m.operators) (yields m.operators least) frames f
 
+  -- the place that a symbol leads to, if it can stand there
   abbrev pub stay : List (Frame Prefix Binary Formula) → Option Place → State Prefix Binary Place Formula
   stay frames (Some p) = within frames p
   stay frames None = stopped
 
+  -- a symbol that leads on within the innermost formula
   abbrev pub moved : (Place → Option Place) → State Prefix Binary Place Formula → State Prefix Binary Place Formula
   moved move (within frames p) = stay frames (move p)
   moved move (done f) = stopped
   moved move stopped = stopped
 
+  -- the frame that a symbol begins, if it can stand there
   abbrev pub begin : List (Frame Prefix Binary Formula) → Option (Frame Prefix Binary Formula) → State Prefix Binary Place Formula
   begin frames (Some frame) = within (frame ∷ frames) m.wanted
   begin frames None = stopped
 
+  -- a symbol that begins a frame
   abbrev pub entered : (Place → Option (Frame Prefix Binary Formula)) → State Prefix Binary Place Formula → State Prefix Binary Place Formula
   entered opens (within frames p) = begin frames (opens p)
   entered opens (done f) = stopped
@@ -80,23 +86,26 @@ module _ {Prefix Binary Place Formula : Type 0} (m : Machine Prefix Binary Place
   abbrev pub infixed : Binary → List (Frame Prefix Binary Formula) × Formula → State Prefix Binary Place Formula
   infixed op (frames, f) = within (behind_infix op f ∷ frames) m.wanted
 
+  -- an operator of a list behind an operand
   abbrev pub linked : Junction → List (Frame Prefix Binary Formula) × Formula → State Prefix Binary Place Formula
   linked op (frames, f) = within (link op f frames) m.wanted
 
+  -- what ends brackets, behind their operand
   abbrev pub closed : List (Frame Prefix Binary Formula) × Formula → State Prefix Binary Place Formula
   closed (in_brackets ∷ frames, f) = within frames (m.holding (m.operators.brackets f))
   closed (frames, f) = stopped
 
+  -- what ends the whole, behind its formula
   abbrev pub ended : List (Frame Prefix Binary Formula) × Formula → State Prefix Binary Place Formula
   ended ([], f) = done f
   ended (frame ∷ frames, f) = stopped
 
-  -- what a symbol does that wants a left operand of a level
-
+  -- what a symbol does that wants a left operand of this level, if one has been read
   abbrev pub acts : ℕ → (List (Frame Prefix Binary Formula) × Formula → State Prefix Binary Place Formula) → List (Frame Prefix Binary Formula) → Option Formula → State Prefix Binary Place Formula
   acts least act frames (Some f) = act (settled least frames f)
   acts least act frames None = stopped
 
+  -- so in each state
   abbrev pub behind : ℕ → (List (Frame Prefix Binary Formula) × Formula → State Prefix Binary Place Formula) → State Prefix Binary Place Formula → State Prefix Binary Place Formula
   behind least act (within frames p) = acts least act frames (m.operand p)
   behind least act (done f) = stopped

@@ -9,6 +9,7 @@ use Rattle.ms_parse_stack.specs.declared.link.Link.TheVariants as links
 use Rattle.ms_parse_stack.specs.inner.Frames.{Frame, in_brackets, behind_prefix, behind_infix, behind_joining, link}
 
 module _ {Grammar Tree Prefix Binary Formula : Type 0} {ghosts : Ghosts Grammar Tree Prefix Binary} (formula_of : Tree → Formula) where
+  -- the frame that one of the code's stands for
   abbrev pub frame_of : code.Frame Grammar Tree Prefix Binary ghosts → Frame Prefix Binary Formula
   frame_of frames.Brackets = in_brackets
   frame_of (frames.Prefix op) = behind_prefix op

@@ -13,20 +13,25 @@ use Rattle.ms_parse_stack.specs.inner.Opened.{frame_of}
 use Rattle.ms_parse_stack.specs.inner.Stopped.{Gives}
 
 module _ {Grammar Tree Prefix Binary : Type 0} (g : Ghosts Grammar Tree Prefix Binary) where
+  -- a frame of the code
   abbrev pub CodeFrame : Type 0
   CodeFrame = code.Frame Grammar Tree Prefix Binary g
 
+  -- a state of the machine
   abbrev pub Standing : Type 0
   Standing = State Prefix Binary g.Place g.Tree
 
+  -- the stack that the code's frames stand for
   abbrev pub stack_of : List CodeFrame → List (Frame Prefix Binary g.Tree)
   stack_of frames = map (frame_of g.tree_of) frames
 
+  -- the state with this stack, by what has been read last
   abbrev pub state_with : List (Frame Prefix Binary g.Tree) → Outcome Grammar Tree Prefix Binary g → Standing
   state_with frames outcomes.Wanted = within frames g.machine.wanted
   state_with frames (outcomes.Holding operand) = within frames (g.machine.holding (g.tree_of operand.formula))
   state_with frames (outcomes.Done operand) = done (g.tree_of operand.formula)
 
+  -- the state that the code stands in
   abbrev pub state_of : Begun CodeFrame → Outcome Grammar Tree Prefix Binary g → Standing
   state_of begun outcome = state_with (stack_of begun.frames) outcome
 
@@ -47,5 +52,6 @@ module _ {Grammar Tree Prefix Binary : Type 0} (g : Ghosts Grammar Tree Prefix B
   abbrev pub Comes : {Code : Type 0} → (Begun CodeFrame → Code → Standing) → Standing → Begun CodeFrame → Result Code Stop → Type 0
   Comes {Code} state s begun result = Gives (λ (outcome : Code). (s ≡ state begun outcome) × IsMeasured begun (shortest g.machine (state begun outcome))) (s ≡ stopped) (GoesOn s × (300 < g.depth (shortest g.machine s))) result
 
+  -- so for a step of this crate, by what has been read last
   abbrev pub ComesTo : Standing → Begun CodeFrame → Result (Outcome Grammar Tree Prefix Binary g) Stop → Type 0
   ComesTo s begun result = Comes state_of s begun result
