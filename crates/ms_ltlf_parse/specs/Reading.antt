@@ -22,6 +22,7 @@ abbrev pub with_sight : Names → Symbol → Names
 with_sight names (name n) = with_name names n
 with_sight names _ = names
 
+-- so for each symbol of a row
 abbrev pub with_sights : Names → List Symbol → Names
 with_sights names [] = names
 with_sights names (s ∷ more) = with_sights (with_sight names s) more

@@ -13,8 +13,8 @@ mod step;
 mod terminal;
 
 pub use examples::{
-    worked_continuations, worked_depths, worked_names, worked_operators, worked_refusals,
-    worked_rows,
+    worked_continuations, worked_depths, worked_levels, worked_names, worked_operators,
+    worked_places, worked_refusals, worked_rows, worked_steps,
 };
 pub use laws::one_trace;
 pub use operator::{Binary, Junction, Prefix};

@@ -1,6 +1,7 @@
 -- What is refused where the reading stops at a token.
-use Rattle.std.proofs.Common.{◌≡◌, ◌⊎◌, ℕ, suc, ◌<◌, ◌+◌, ◌≤◌, List, length, get_or, take, drop, slice_get, Some, refl, sym, ap, ◌∙◌, subst, inl, inr}
+use Rattle.std.proofs.Common.{◌≡◌, ◌⊎◌, ℕ, suc, ◌<◌, ◌+◌, ◌≤◌, List, [], ◌∷◌, length, length-append, get_or, take, drop, slice_get, Some, refl, sym, ap, ◌∙◌, subst, inl, inr, arith}
 use Rattle.std.specs.Prelude.{IfSome}
+use Rattle.ms_list.specs.declared.at.At.{At}
 use Rattle.ms_edge.specs.declared.refusal.Refusal.{Refusal}
 use Rattle.ms_edge.specs.declared.refusal.Refusal.TheVariants as refusals
 use Rattle.std.proofs.lemmas.Option.{slice_get-get_or}
@@ -47,6 +48,13 @@ module _ {S : Type 0} (symbol_of : Kind → List ℕ → S) (CanFollow CanFollow
     cannot_follow = subst (λ x. CanFollow (symbols_of symbol_of lexed x) → ⊥) (taken_next lexed.tokens i token found) stops.1;
     can_follow_deeper = subst (λ x. CanFollowAtAnyDepth (symbols_of symbol_of lexed x)) (taken_next lexed.tokens i token found) stops.2;
   }
+
+  -- a text with no tokens is refused at its end
+  pub fault_of_nothing : (file : ℕ) (bytes : List ℕ) (at : At) → NamesFault symbol_of CanFollow CanFollowAtAnyDepth file (record { bytes = bytes; tokens = [] }) (refusals.Grammar at) → at ≡ record { file = file; place = length bytes }
+  fault_of_nothing file bytes at (inl early) = early.is_end
+  fault_of_nothing file bytes at (inr there) =
+      let never : ⊥ = omega (arith, ap length there.stands.stands, length-append there.before (there.token ∷ there.stands.after)) in
+      absurd never
 
 module _ {Grammar Tree Prefix Binary : Type 0} {g : Ghosts Grammar Tree Prefix Binary} {S : Type 0} (r : Reading g S) where
   -- the text reads as none, and the refusal says where it leaves the grammar

@@ -1,20 +1,33 @@
 //! The definitions at small cases, worked out by hand. Each function has an empty body, and its contract is the table of its
 //! examples.
 
-ghost use Rattle.std.specs.Prelude.{◌≡◌, [], ◌∷◌, ◌++◌, codes};
+ghost use Rattle.std.specs.Prelude.{◌≡◌, [], ◌∷◌, ◌++◌, codes, false, true, Some, None, Ok, Err};
 ghost use Rattle.ms_logic.specs.declared.mode.Quant.TheVariants.{Ex, All};
 ghost use Rattle.ms_logic.specs.declared.mode.Rel.TheVariants as relations;
 ghost use Rattle.ms_text.specs.TokenList.{token_at};
 ghost use Rattle.ms_presburger.specs.declared.linear.Part.TheVariants.{Number, Var, Times};
-ghost use Rattle.ms_presburger.specs.Tree.{Arithmetic, truth, falsity, comparison, brackets, negation, conjunction, disjunction, implication, equivalence, quantified, free_names};
+ghost use Rattle.ms_presburger.specs.Tree.{Arithmetic, truth, falsity, comparison, brackets, negation, conjunction, disjunction, implication, equivalence, quantified, free_names, no_arithmetics, more_arithmetics};
+ghost use Rattle.ms_presburger_parse.specs.Grammar.{AreOperands, HasOne, HasTwo, IsClosedBefore, IsGrammatical, compares, ends_open, last_ends_open, left_level, level, right_level, spelled, spelled_names, spelled_sum};
 ghost use Rattle.ms_presburger_parse.specs.Reading.{CanFollow, CanFollowAtAnyDepth, Reads, ReadsAsProblem};
 ghost use Rattle.ms_presburger_parse.specs.Refused.{IsProblemFault};
 ghost use Rattle.ms_presburger_parse.specs.Symbol.{name, number, word_true, word_false, quantifier, negation_sign, relation, plus, comma, colon, open_bracket, close_bracket, semicolon, other, symbol_of, symbols};
 ghost use Rattle.ms_parse_stack.specs.inner.Examples.{repeated, behind_brackets, text};
 ghost use Rattle.ms_presburger_parse.specs.inner.Examples.{a, b, c, x, y, z, ex, all, implies, iff, and, or, equals, less, first, second, third, same, two, three, bracketed, in_brackets};
+ghost use Rattle.ms_presburger_parse.specs.inner.Gathering.{count_of, free_among, is_among, or_unknown, with_names};
+ghost use Rattle.ms_presburger_parse.specs.inner.Machine as machines;
+ghost use Rattle.ms_presburger_parse.specs.inner.Machine.{added, adding, completed, named, naming, on_left, on_right, opening, operand, prefix_operand, shortest, with_comma, with_leaf, with_name, with_number, with_plus, with_quantifier, with_relation};
+ghost use Rattle.ms_presburger_parse.specs.inner.Reached.{reached};
+ghost use Rattle.ms_presburger_parse.specs.inner.States.{BecomesTwo, HasOperand, KeepsDepth, MovesTo, place_of, side_of};
+ghost use Rattle.ms_presburger_parse.specs.inner.Terminals.{symbol_with};
+ghost use Rattle.ms_parse_stack.specs.inner.Frames as frames;
+ghost use Rattle.ms_parse_stack.specs.inner.Machine.{done, stopped};
 
+use crate::operator::{Binary, Prefix};
+use crate::place::{Place, Side};
+use crate::terminal::Terminal;
 use ms_edge::Refusal;
 use ms_logic::Rel;
+use ms_parse_stack::Stop;
 use ms_presburger::{Linear, Part};
 use ms_text::{Keyword, Kind, Mark};
 
@@ -105,6 +118,109 @@ pub fn worked_symbols()
     ensures minus { symbol_of (Kind.Mark Mark.Minus) (codes "-") ≡ other }
     ensures of_a_text { symbols (text (codes "ex x: x<3;") (token_at Kind.Name 0 2 ∷ token_at Kind.Name 3 1 ∷ token_at (Kind.Mark Mark.Colon) 4 1 ∷ token_at Kind.Name 6 1 ∷ token_at (Kind.Mark Mark.Less) 7 1 ∷ token_at (Kind.Number 3) 8 1 ∷ token_at (Kind.Mark Mark.Semicolon) 9 1 ∷ []))
         ≡ ex ∷ name x ∷ colon ∷ name x ∷ less ∷ number 3 ∷ semicolon ∷ [] }
+{}
+
+/// Levels of formulas, which formulas end in an open body, and which are grammatical.
+pub fn worked_levels()
+    ensures equivalence { level (equivalence first second) ≡ 1 }
+    ensures disjunction { level (disjunction (two first second)) ≡ 3 }
+    ensures quantified { level (quantified Ex (x ∷ []) first) ≡ 5 }
+    ensures comparison { level first ≡ 6 }
+    ensures left_of_implication { left_level Binary.Implication ≡ 3 }
+    ensures right_of_implication { right_level Binary.Implication ≡ 2 }
+    ensures at_least { compares Rel.AtLeast ≡ true }
+    ensures subset { compares Rel.Sub ≡ false }
+
+    // ~ex x: A, (ex x: A), and A & ex x: B
+    ensures open_body { ends_open (negation (quantified Ex (x ∷ []) first)) ≡ true }
+    ensures body_in_brackets { ends_open (brackets (quantified Ex (x ∷ []) first)) ≡ false }
+    ensures open_on_the_right { ends_open (conjunction (two first (quantified Ex (x ∷ []) second))) ≡ true }
+    ensures open_on_the_left { last_ends_open (two (quantified Ex (x ∷ []) first) second) ≡ false }
+    ensures closed_before_others { IsClosedBefore (more_arithmetics second no_arithmetics) first }
+    ensures open_before_others { ¬ IsClosedBefore (more_arithmetics second no_arithmetics) (quantified Ex (x ∷ []) first) }
+    ensures open_at_the_end { IsClosedBefore no_arithmetics (quantified Ex (x ∷ []) first) }
+
+    ensures right_body { IsGrammatical (implication first (quantified Ex (x ∷ []) second)) }
+    ensures left_body { ¬ IsGrammatical (implication (quantified Ex (x ∷ []) first) second) }
+    ensures loose_body { IsGrammatical (quantified Ex (x ∷ []) (equivalence first second)) }
+    ensures no_names { ¬ IsGrammatical (quantified Ex [] first) }
+    ensures no_left_sum { ¬ IsGrammatical (comparison relations.Equal [] (Number 1 ∷ [])) }
+    ensures relation_of_sets { ¬ IsGrammatical (comparison relations.Sub (Var x ∷ []) (Var y ∷ [])) }
+    ensures some_item { HasOne (x ∷ []) }
+    ensures two_operands { HasTwo (two first second) }
+    ensures one_operand { ¬ HasTwo (more_arithmetics first no_arithmetics) }
+    ensures tight_operands { AreOperands 4 (two first (conjunction (two second third))) }
+    ensures loose_operand { ¬ AreOperands 4 (two first (disjunction (two second third))) }
+    ensures open_operand { ¬ AreOperands 4 (two (quantified Ex (x ∷ []) first) second) }
+
+    // 2 x + y, and x, y
+    ensures sum { spelled_sum (Times 2 x ∷ Var y ∷ []) ≡ number 2 ∷ name x ∷ plus ∷ name y ∷ [] }
+    ensures names { spelled_names (x ∷ y ∷ []) ≡ name x ∷ comma ∷ name y ∷ [] }
+    ensures body { spelled (quantified All (x ∷ []) first) ≡ all ∷ name x ∷ colon ∷ a }
+{}
+
+/// What the machine does with single symbols, and the states behind rows of them.
+pub fn worked_steps()
+    ensures body_of_a_quantifier { prefix_operand (Prefix.Quantifier Ex (x ∷ [])) ≡ 0 }
+    ensures operand_of_a_negation { prefix_operand Prefix.Negation ≡ 5 }
+    ensures number { with_number 5 machines.wanted ≡ Some (added on_left [] (Number 5)) }
+    ensures second_number { with_number 5 (added on_left [] (Number 5)) ≡ None }
+    ensures number_times_name { with_name x (added on_left [] (Number 5)) ≡ Some (added on_left [] (Times 5 x)) }
+    ensures name_times_name { with_name x (added on_left [] (Var y)) ≡ None }
+    ensures bound_name { with_name x (naming Ex []) ≡ Some (named Ex (x ∷ [])) }
+    ensures plus { with_plus (added on_left [] (Var x)) ≡ Some (adding on_left (Var x ∷ [])) }
+    ensures two_signs { with_plus (adding on_left (Var x ∷ [])) ≡ None }
+    ensures relation { with_relation relations.Less (added on_left [] (Var x)) ≡ Some (adding (on_right relations.Less (Var x ∷ [])) []) }
+    ensures second_relation { with_relation relations.Less (added (on_right relations.Less (Var x ∷ [])) [] (Var y)) ≡ None }
+    ensures relation_of_sets { with_relation relations.Sub (added on_left [] (Var x)) ≡ None }
+    ensures quantifier { with_quantifier Ex machines.wanted ≡ Some (naming Ex []) }
+    ensures no_quantifier { with_quantifier Ex (naming All []) ≡ None }
+    ensures comma { with_comma (named Ex (x ∷ [])) ≡ Some (naming Ex (x ∷ [])) }
+    ensures no_comma { with_comma (naming Ex (x ∷ [])) ≡ None }
+    ensures leaf { with_leaf truth machines.wanted ≡ Some (machines.holding truth) }
+    ensures no_leaf { with_leaf truth (machines.holding truth) ≡ None }
+    ensures opening { opening frames.in_brackets machines.wanted ≡ Some frames.in_brackets }
+    ensures not_opening { opening frames.in_brackets (machines.holding truth) ≡ None }
+    ensures body { machines.body (named Ex (x ∷ [])) ≡ Some (frames.behind_prefix (Prefix.Quantifier Ex (x ∷ []))) }
+    ensures no_body { machines.body (naming Ex (x ∷ [])) ≡ None }
+    ensures operand { operand (added (on_right relations.Equal (Var x ∷ [])) [] (Number 1)) ≡ Some first }
+    ensures no_operand { operand (added on_left [] (Var x)) ≡ None }
+
+    // the shortest formulas that go on so
+    ensures completed_name { completed (naming Ex []) ≡ quantified Ex (x ∷ []) truth }
+    ensures completed_sum { completed (adding on_left (Var x ∷ [])) ≡ comparison relations.Equal (Var x ∷ Number 0 ∷ []) (Number 0 ∷ []) }
+    ensures becomes_two { BecomesTwo (with_number 5) }
+    ensures leaf_is_less { ¬ BecomesTwo (with_leaf truth) }
+    ensures keeps_depth { KeepsDepth with_plus }
+    ensures number_is_deeper { ¬ KeepsDepth (with_number 5) }
+
+    // x = 1
+    ensures whole { reached (a ++ semicolon ∷ []) ≡ done first }
+    ensures begun { shortest (reached (name x ∷ equals ∷ [])) ≡ comparison relations.Equal (Var x ∷ []) (Number 0 ∷ []) }
+    ensures stops { reached (name x ∷ name y ∷ []) ≡ stopped }
+    ensures symbol { symbol_with Terminal.Name x ≡ name x }
+    ensures no_name { symbol_with Terminal.Colon x ≡ colon }
+
+    // what the code's places stand for
+    ensures place { place_of (Place.Naming Ex (x ∷ [])) ≡ naming Ex (x ∷ []) }
+    ensures side { side_of (Side.Right Rel.Less (Var x ∷ [])) ≡ on_right relations.Less (Var x ∷ []) }
+    ensures moves { MovesTo (with_comma (named Ex (x ∷ []))) (Ok (Place.Naming Ex (x ∷ []))) }
+    ensures moves_elsewhere { ¬ MovesTo (with_comma (named Ex (x ∷ []))) (Ok Place.Wanted) }
+    ensures does_not_move { MovesTo (with_comma machines.wanted) (Err Stop.Misplaced) }
+    ensures moves_after_all { ¬ MovesTo (with_comma (named Ex (x ∷ []))) (Err Stop.Misplaced) }
+    ensures has_none { HasOperand (operand machines.wanted) (Err Stop.Misplaced) }
+    ensures has_one { ¬ HasOperand (operand (machines.holding truth)) (Err Stop.Misplaced) }
+{}
+
+/// What is gathered of free names.
+pub fn worked_names()
+    ensures count { count_of (x ∷ y ∷ x ∷ []) x ≡ 2 }
+    ensures no_count { count_of (x ∷ y ∷ x ∷ []) z ≡ 0 }
+    ensures among { is_among (x ∷ y ∷ []) y ≡ true }
+    ensures not_among { is_among (x ∷ y ∷ []) z ≡ false }
+    ensures seen { with_names (x ∷ []) (y ∷ x ∷ y ∷ []) ≡ x ∷ y ∷ [] }
+    ensures free { free_among (λ n. count_of (y ∷ []) n) (x ∷ y ∷ z ∷ []) ≡ x ∷ z ∷ [] }
+    ensures unknown { or_unknown None ≡ record { bound = 0; noted = false } }
 {}
 
 /// Brackets up to the greatest depth, and beyond.
@@ -202,5 +318,6 @@ pub fn worked_refusals()
     ensures sum_too_deep { IsProblemFault 0 (behind_brackets 299 (codes "x=1") (token_at Kind.Name 299 1 ∷ token_at (Kind.Mark Mark.Equal) 300 1 ∷ token_at (Kind.Number 1) 301 1 ∷ []))
         (Refusal.Depth (record { file = 0; place = 299 })) }
     // nothing
+    ensures other_place { ¬ (IsProblemFault 0 (text [] []) (Refusal.Grammar (record { file = 0; place = 1 }))) }
     ensures empty { IsProblemFault 0 (text [] []) (Refusal.Grammar (record { file = 0; place = 0 })) }
 {}

@@ -15,8 +15,8 @@ mod step;
 mod terminal;
 
 pub use examples::{
-    worked_continuations, worked_depths, worked_operators, worked_quantifiers, worked_refusals,
-    worked_rows, worked_scopes, worked_symbols,
+    worked_continuations, worked_depths, worked_levels, worked_names, worked_operators,
+    worked_quantifiers, worked_refusals, worked_rows, worked_scopes, worked_steps, worked_symbols,
 };
 pub use laws::one_problem;
 pub use operator::{Binary, Junction};

@@ -16,6 +16,7 @@ use Rattle.ms_parse_stack.specs.declared.junction.Junction.TheVariants.{Conjunct
 use Rattle.ms_ltlf_parse.specs.declared.operator.Prefix.{Prefix}
 use Rattle.ms_ltlf_parse.specs.declared.operator.Prefix.TheVariants.{Negation, Next, WeakNext, Eventually, Always}
 
+-- what an operator before its operand makes
 abbrev pub prefixed : Prefix → Temporal → Temporal
 prefixed Negation f = negation f
 prefixed Next f = next f
@@ -23,16 +24,19 @@ prefixed WeakNext f = weak_next f
 prefixed Eventually f = eventually f
 prefixed Always f = always f
 
+-- what an operator between two operands makes
 abbrev pub binary : Binary → Temporal → Temporal → Temporal
 binary Equivalence f g = equivalence f g
 binary Implication f g = implication f g
 binary Until f g = until f g
 binary Release f g = release f g
 
+-- what `&` and `|` make of their operands
 abbrev pub joined : Junction → List Temporal → Temporal
 joined Conjunction fs = conjunction (temporals fs)
 joined Disjunction fs = disjunction (temporals fs)
 
+-- the operators, with their levels
 abbrev pub operators : Operators Prefix Binary Temporal
 operators = record {
   brackets = brackets;
@@ -48,29 +52,36 @@ operators = record {
   junction_level = junction_level;
 }
 
+-- where the machine stands in the innermost formula
 pub data Place : Type 0 where
   -- an operand is wanted
   wanted : Place
   -- an operand has been read
   holding : (f : Temporal) → Place
 
+-- a formula that has been begun, up to the operand that follows
 abbrev pub Frame : Type 0
 Frame = frames.Frame Prefix Binary Temporal
 
+-- a state of the machine
 abbrev pub State : Type 0
 State = machines.State Prefix Binary Place Temporal
 
+-- what a symbol can do
 abbrev pub Action : Type 0
 Action = machines.Action Prefix Binary Place Temporal
 
+-- the formula that has been read
 abbrev pub operand : Place → Option Temporal
 operand wanted = None
 operand (holding f) = Some f
 
+-- the shortest formula that goes on so, with `true` for an operand that is wanted
 abbrev pub completed : Place → Temporal
 completed wanted = truth
 completed (holding f) = f
 
+-- the operators and the places
 abbrev pub machine : Machine Prefix Binary Place Temporal
 machine = record { operators = operators; wanted = wanted; holding = holding; operand = operand; completed = completed }
 
@@ -79,6 +90,7 @@ abbrev pub leaf : Temporal → Place → Option Place
 leaf f wanted = Some (holding f)
 leaf f (holding g) = None
 
+-- the frame that a symbol begins where an operand is wanted
 abbrev pub opened : Frame → Place → Option Frame
 opened frame wanted = Some frame
 opened frame (holding g) = None
@@ -96,14 +108,18 @@ action number close_bracket = follows signs.Close
 action number semicolon = follows signs.End
 action number other = stops
 
+-- the state behind one symbol more
 abbrev pub step : (List ℕ → ℕ) → State → Symbol → State
 step number s x = machines.performed machine (action number x) s
 
+-- the state behind some symbols more
 abbrev pub run : (List ℕ → ℕ) → State → List Symbol → State
 run number s xs = machines.run machine (action number) s xs
 
+-- the state before the first symbol
 abbrev pub start : State
 start = machines.start machine
 
+-- the formula of the shortest row of symbols that begins so
 abbrev pub shortest : State → Temporal
 shortest s = machines.shortest machine s

@@ -14,18 +14,23 @@ use Rattle.ms_parse_stack.specs.inner.States as states
 use Rattle.ms_ltlf_parse.specs.inner.Machine as machines
 use Rattle.ms_ltlf_parse.specs.inner.Machine.{shortest}
 
+-- a frame of the code
 abbrev pub Frame : Type 0
 Frame = states.CodeFrame ghosts
 
+-- the frame that one of the code's stands for
 abbrev pub frame_of : Frame → machines.Frame
 frame_of frame = opened.frame_of temporal_of frame
 
+-- what the code has begun, with the depth that it keeps
 abbrev pub Begun : Type 0
 Begun = stacks.Begun Frame
 
+-- what the code has read last
 abbrev pub Outcome : Type 0
 Outcome = outcomes.Outcome TemporalLogic Ltl Prefix Binary ghosts
 
+-- the state that the code stands in
 abbrev pub state_of : Begun → Outcome → machines.State
 state_of begun outcome = states.state_of ghosts begun outcome
 

@@ -22,6 +22,7 @@ use Rattle.ms_presburger_parse.specs.declared.operator.Prefix.TheVariants.{Negat
 use Rattle.ms_parse_stack.specs.declared.junction.Junction.{Junction}
 use Rattle.ms_parse_stack.specs.declared.junction.Junction.TheVariants.{Conjunction, Disjunction}
 
+-- what an operator before its operand makes
 abbrev pub prefixed : Prefix → Arithmetic → Arithmetic
 prefixed Negation f = negation f
 prefixed (Quantifier q xs) f = quantified q xs f
@@ -31,14 +32,17 @@ abbrev pub prefix_operand : Prefix → ℕ
 prefix_operand Negation = prefix_level
 prefix_operand (Quantifier q xs) = 0
 
+-- what an operator between two operands makes
 abbrev pub binary : Binary → Arithmetic → Arithmetic → Arithmetic
 binary Equivalence f g = equivalence f g
 binary Implication f g = implication f g
 
+-- what `&` and `|` make of their operands
 abbrev pub joined : Junction → List Arithmetic → Arithmetic
 joined Conjunction fs = conjunction (arithmetics fs)
 joined Disjunction fs = disjunction (arithmetics fs)
 
+-- the operators, with their levels
 abbrev pub operators : Operators Prefix Binary Arithmetic
 operators = record {
   brackets = brackets;
@@ -54,6 +58,7 @@ operators = record {
   junction_level = junction_level;
 }
 
+-- a formula that has been begun, up to the operand that follows
 abbrev pub Frame : Type 0
 Frame = frames.Frame Prefix Binary Arithmetic
 
@@ -187,12 +192,15 @@ completed (adding side parts) = compared side (parts ++ Number 0 ∷ [])
 completed (added side before last) = compared side (before ++ last ∷ [])
 completed (holding f) = f
 
+-- a state of the machine
 abbrev pub State : Type 0
 State = machines.State Prefix Binary Place Arithmetic
 
+-- what a symbol can do
 abbrev pub Action : Type 0
 Action = machines.Action Prefix Binary Place Arithmetic
 
+-- the operators and the places
 abbrev pub machine : Machine Prefix Binary Place Arithmetic
 machine = record { operators = operators; wanted = wanted; holding = holding; operand = operand; completed = completed }
 
@@ -215,14 +223,18 @@ action close_bracket = follows signs.Close
 action semicolon = follows signs.End
 action other = stops
 
+-- the state behind one symbol more
 abbrev pub step : State → Symbol → State
 step s x = machines.performed machine (action x) s
 
+-- the state behind some symbols more
 abbrev pub run : State → List Symbol → State
 run s xs = machines.run machine action s xs
 
+-- the state before the first symbol
 abbrev pub start : State
 start = machines.start machine
 
+-- the formula of the shortest row of symbols that begins so
 abbrev pub shortest : State → Arithmetic
 shortest s = machines.shortest machine s

@@ -23,25 +23,32 @@ use Rattle.ms_presburger_parse.specs.inner.Machine as machines
 use Rattle.ms_presburger_parse.specs.inner.Machine.{shortest}
 use Rattle.ms_parse_stack.specs.inner.Machine.{within, done}
 
+-- a frame of the code
 abbrev pub Frame : Type 0
 Frame = states.CodeFrame ghosts
 
+-- a formula that the code has read, with its depth
 abbrev pub Operand : Type 0
 Operand = operands.Operand LinearArithmetic Linear Prefix Binary ghosts
 
+-- the frame that one of the code's stands for
 abbrev pub frame_of : Frame → machines.Frame
 frame_of frame = opened.frame_of arithmetic_of frame
 
+-- the stack that the code's frames stand for
 abbrev pub stack_of : List Frame → List machines.Frame
 stack_of fs = map frame_of fs
 
+-- what the code has begun, with the depth that it keeps
 abbrev pub Begun : Type 0
 Begun = stacks.Begun Frame
 
+-- the sum of a comparison in which the code's side stands
 abbrev pub side_of : Side → machines.Side
 side_of sides.Left = machines.on_left
 side_of (sides.Right r left) = machines.on_right r left
 
+-- the place that the code's place stands for
 abbrev pub place_of : Place → machines.Place
 place_of places.Wanted = machines.wanted
 place_of (places.Naming q xs) = machines.naming q xs
@@ -50,10 +57,12 @@ place_of (places.Adding side parts) = machines.adding (side_of side) parts
 place_of (places.Added side before last) = machines.added (side_of side) before last
 place_of (places.Holding operand) = machines.holding (arithmetic_of operand.formula)
 
+-- the state with this stack, by what has been read last
 abbrev pub state_with : List machines.Frame → Outcome → machines.State
 state_with fs (outcomes.Within place) = within fs (place_of place)
 state_with fs (outcomes.Done operand) = done (arithmetic_of operand.formula)
 
+-- the state that the code stands in
 abbrev pub state_of : Begun → Outcome → machines.State
 state_of begun outcome = state_with (stack_of begun.frames) outcome
 

@@ -1,13 +1,16 @@
-use Rattle.std.proofs.Common.{[], ◌∷◌, lit≤, refl}
+use Rattle.std.proofs.Common.{◌≡◌, [], ◌∷◌, lit≤, refl, sym, ap, subst, arith}
 use Rattle.std.specs.Prelude.{codes}
+use Rattle.ms_list.specs.declared.at.At.{At}
 use Rattle.ms_text.specs.TokenList.{token_at}
 use Rattle.ms_text.specs.declared.mark.Mark.TheVariants as marks
 use Rattle.ms_text.specs.declared.token.Kind.TheVariants as kinds
-use Rattle.ms_ltlf_parse.specs.Symbol.{other, open_bracket, semicolon, symbols}
+use Rattle.ms_ltlf.proofs.Views.{temporal_of-Prop}
+use Rattle.ms_ltlf_parse.specs.Reading.{CanFollow, CanFollowAtAnyDepth, Reads}
+use Rattle.ms_ltlf_parse.specs.Symbol.{other, open_bracket, semicolon, symbol_of, symbols}
 use Rattle.ms_parse_stack.specs.inner.Examples.{repeated, text}
-use Rattle.ms_ltlf_parse.specs.inner.Examples.{a, b, open_brackets}
+use Rattle.ms_ltlf_parse.specs.inner.Examples.{a, b, first, only_a, open_brackets}
 use Rattle.ms_ltlf_parse.specs.inner.Reached.{reached}
-use Rattle.ms_parse_stack.proofs.Faults.{ends_early, is_misplaced, is_too_deep}
+use Rattle.ms_parse_stack.proofs.Faults.{ends_early, fault_of_nothing, is_misplaced, is_too_deep}
 use Rattle.ms_ltlf_parse.proofs.Faults.{trace_fault}
 use Rattle.ms_parse_stack.proofs.Trials.{too_deep_by_trial}
 use Rattle.ms_ltlf_parse.proofs.Readings.{follows, follows_deeper, goes_on, recognises}
@@ -38,3 +41,17 @@ pub returns-clause-empty : goal.returns-clause-empty
 returns-clause-empty c =
     let lexed = text [] [] in
     trace_fault (ends_early recognises 0 lexed (reached (symbols lexed)) refl tt (lit≤ tt))
+
+reads_a : Reads (a ∷ semicolon ∷ []) only_a first
+reads_a = record { read = record { is_spelled = refl; grammatical = tt; numbered = refl; named = omega arith }; shallow = lit≤ tt }
+
+pub returns-clause-reads : goal.returns-clause-reads
+returns-clause-reads c = subst (Reads (a ∷ semicolon ∷ []) only_a) (sym (temporal_of-Prop 0)) reads_a
+
+pub returns-clause-no_fault : goal.returns-clause-no_fault
+returns-clause-no_fault c fault = fault.reads_none only_a first reads_a
+
+pub returns-clause-other_place : goal.returns-clause-other_place
+returns-clause-other_place c fault =
+    let at : 1 ≡ 0 = ap (λ (a : At). a.place) (fault_of_nothing symbol_of CanFollow CanFollowAtAnyDepth 0 [] (record { file = 0; place = 1 }) fault.names) in
+    omega (arith, at)

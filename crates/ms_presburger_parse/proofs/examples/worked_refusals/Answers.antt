@@ -1,14 +1,16 @@
-use Rattle.std.proofs.Common.{[], ◌∷◌, lit≤, refl}
+use Rattle.std.proofs.Common.{◌≡◌, [], ◌∷◌, lit≤, refl, ap, arith}
 use Rattle.std.specs.Prelude.{codes}
+use Rattle.ms_list.specs.declared.at.At.{At}
 use Rattle.ms_text.specs.TokenList.{token_at}
 use Rattle.ms_text.specs.declared.keyword.Keyword.TheVariants as words
 use Rattle.ms_text.specs.declared.mark.Mark.TheVariants as marks
 use Rattle.ms_text.specs.declared.token.Kind.TheVariants as kinds
-use Rattle.ms_presburger_parse.specs.Symbol.{name, other, open_bracket, semicolon, symbols, word_true}
+use Rattle.ms_presburger_parse.specs.Reading.{CanFollow, CanFollowAtAnyDepth}
+use Rattle.ms_presburger_parse.specs.Symbol.{name, other, open_bracket, semicolon, symbol_of, symbols, word_true}
 use Rattle.ms_parse_stack.specs.inner.Examples.{behind_brackets, repeated, text}
 use Rattle.ms_presburger_parse.specs.inner.Examples.{ex, x, y}
 use Rattle.ms_presburger_parse.specs.inner.Reached.{reached}
-use Rattle.ms_parse_stack.proofs.Faults.{ends_early, is_misplaced, is_too_deep}
+use Rattle.ms_parse_stack.proofs.Faults.{ends_early, fault_of_nothing, is_misplaced, is_too_deep}
 use Rattle.ms_presburger_parse.proofs.Faults.{problem_fault}
 use Rattle.ms_parse_stack.proofs.Trials.{too_deep_by_trial}
 use Rattle.ms_presburger_parse.proofs.Readings.{follows, follows_deeper, goes_on, recognises}
@@ -53,3 +55,8 @@ pub returns-clause-empty : goal.returns-clause-empty
 returns-clause-empty c =
     let lexed = text [] [] in
     problem_fault (ends_early recognises 0 lexed (reached (symbols lexed)) refl tt (lit≤ tt))
+
+pub returns-clause-other_place : goal.returns-clause-other_place
+returns-clause-other_place c fault =
+    let at : 1 ≡ 0 = ap (λ (a : At). a.place) (fault_of_nothing symbol_of CanFollow CanFollowAtAnyDepth 0 [] (record { file = 0; place = 1 }) fault.names) in
+    omega (arith, at)
