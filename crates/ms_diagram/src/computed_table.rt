@@ -197,15 +197,14 @@ fn put(buckets: &mut [Bucket], slot: Slot)
 
 // Which of so many buckets the pair of codes is in. They are all in use where their number is a power of two.
 //
-// Pairs that are near each other are asked for one after the other, so blocks of 64 buckets are scattered, and pairs whose
-// numbers differ in their last bits alone lie in one block.
+// A walk asks for the same right node with one left node after the other, of which most were made shortly after each other. So
+// their buckets stand in a row: 1,024 left numbers from one bucket on, which a hash gives.
 fn place(codes: (u32, u32), buckets: usize) -> usize
     requires { 0 < buckets }
     ensures value { result ≡ place_of buckets codes }
     ensures within { result < buckets }
 {
     let (left, right) = codes;
-    let block = scatter(scatter(TWO_TO_32 * u64::from(left / 32) + u64::from(right / 8)));
-    let inside = u64::from(left / 2 % 16 + 16 * (right / 2 % 4));
-    (block + inside) as usize & (buckets - 1)
+    let row = scatter(scatter(TWO_TO_32 * u64::from(left / 2048) + u64::from(right / 2)));
+    (row + u64::from(left / 2)) as usize & (buckets - 1)
 }

@@ -3,7 +3,7 @@ ghost use Rattle.ms_arena.specs.declared.node.Ref.TheVariants.{Inner, Leaf};
 ghost use Rattle.ms_diagram.specs.Across.{AreOn, HasLeavesAcross, IsHalf, IsOn, LacksAcross, NumberAcross, leaves_across};
 ghost use Rattle.ms_diagram.specs.Hash.{scattered};
 ghost use Rattle.ms_diagram.specs.Store.{IsNewest};
-ghost use Rattle.ms_diagram.specs.inner.Computed.{block_of, HasMoved, IsPlaced, entries_of, no_slots, place_of};
+ghost use Rattle.ms_diagram.specs.inner.Computed.{row_of, HasMoved, IsPlaced, entries_of, no_slots, place_of};
 ghost use Rattle.ms_diagram.specs.inner.Short.{AreShort, IsLong, short_entries};
 ghost use Rattle.ms_diagram.specs.inner.Examples.{both_roots, crossed, half_full, only, without_map};
 
@@ -36,22 +36,22 @@ pub fn worked_codes()
     ensures short_pair { ¬ IsLong (Inner 2147483646, Leaf 2147483646) }
 {}
 
-/// A computed table of one bucket whose second slot is empty, and the buckets of pairs: those of leaf 3 and node 4 or 3 are in
-/// one block.
+/// A computed table of one bucket whose second slot is empty, and the buckets of pairs: those of leaves 3 and 4 with one node
+/// stand side by side.
 pub fn worked_buckets()
     ensures entries { entries_of (half_full ∷ []) ≡ ((6, 7), 2) ∷ [] }
     ensures empty { entries_of (no_slots ∷ no_slots ∷ []) ≡ [] }
     ensures scattered { scattered 1 ≡ 2654435769 }
-    ensures block { block_of (6, 9) ≡ 839513548 }
-    ensures bucket { place_of 1024 (6, 9) ≡ 463 }
-    ensures few_buckets { place_of 16 (6, 7) ≡ 3 }
-    ensures same_block { block_of (8, 7) ≡ block_of (6, 7) }
-    ensures beside { place_of 16 (8, 7) ≡ 4 }
-    ensures own_place { IsPlaced (0, 0) 16 3 half_full.first }
-    ensures other_place { ¬ IsPlaced (0, 0) 16 4 half_full.first }
-    ensures waits { IsPlaced (4, 6) 16 4 half_full.first }
-    ensures waits_no_more { ¬ IsPlaced (5, 6) 16 4 half_full.first }
-    ensures no_place { IsPlaced (0, 0) 16 7 half_full.second }
+    ensures row { row_of (6, 9) ≡ 1741314242 }
+    ensures bucket { place_of 1024 (6, 9) ≡ 197 }
+    ensures few_buckets { place_of 16 (6, 7) ≡ 13 }
+    ensures same_row { row_of (8, 7) ≡ row_of (6, 7) }
+    ensures beside { place_of 16 (8, 7) ≡ 14 }
+    ensures own_place { IsPlaced (0, 0) 16 13 half_full.first }
+    ensures other_place { ¬ IsPlaced (0, 0) 16 14 half_full.first }
+    ensures waits { IsPlaced (14, 16) 16 14 half_full.first }
+    ensures waits_no_more { ¬ IsPlaced (15, 16) 16 14 half_full.first }
+    ensures no_place { IsPlaced (0, 0) 16 17 half_full.second }
     ensures moved { HasMoved (no_slots ∷ half_full ∷ []) (half_full ∷ []) }
     ensures added { ¬ HasMoved (no_slots ∷ []) (half_full ∷ []) }
 {}

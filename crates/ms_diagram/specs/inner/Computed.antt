@@ -1,18 +1,18 @@
 -- A computed table: buckets of two slots each, where a pair of codes has its bucket by a hash. What is told last comes first.
-use Rattle.std.specs.Prelude.{◌≡◌, ◌≢◌, ◌⊎◌, ℕ, suc, ◌+◌, ◌-◌, ◌*◌, ◌/◌, ◌%◌, ◌<◌, ◌≤◌, nat_eq, if◌then◌else◌, bit_and, List, [], ◌∷◌, length}
+use Rattle.std.specs.Prelude.{◌≡◌, ◌≢◌, ◌⊎◌, ℕ, suc, ◌+◌, ◌-◌, ◌*◌, ◌/◌, ◌<◌, ◌≤◌, nat_eq, if◌then◌else◌, bit_and, List, [], ◌∷◌, length}
 use Rattle.ms_diagram.specs.declared.computed_table.Bucket.{Bucket}
 use Rattle.ms_diagram.specs.declared.computed_table.Slot.{Slot}
 use Rattle.ms_diagram.specs.declared.computed_table.TheConstants.{EMPTY}
 use Rattle.ms_diagram.specs.Hash.{scattered}
 use Rattle.ms_diagram.specs.inner.Notes.{KeepsOnly}
 
--- the first of the 64 buckets that pairs have whose numbers differ in their last bits alone
-abbrev pub block_of : ℕ × ℕ → ℕ
-block_of codes = scattered (scattered (4294967296 * (codes.0 / 32) + codes.1 / 8))
+-- from which on the buckets stand of the pairs of a right number with 1,024 left ones in a row
+abbrev pub row_of : ℕ × ℕ → ℕ
+row_of codes = scattered (scattered (4294967296 * (codes.0 / 2048) + codes.1 / 2))
 
--- which of so many buckets the pair of codes is in: its block, and by the last bits of both numbers the place in it
+-- which of so many buckets the pair of codes is in: the one in its row that the left number tells
 unfoldable pub place_of : ℕ → ℕ × ℕ → ℕ
-place_of buckets codes = bit_and (block_of codes + (codes.0 / 2 % 16 + 16 * (codes.1 / 2 % 4))) (buckets - 1)
+place_of buckets codes = bit_and (row_of codes + codes.0 / 2) (buckets - 1)
 
 -- the entry of a slot, unless it is empty, in front of others
 abbrev pub held : Slot → List ((ℕ × ℕ) × ℕ) → List ((ℕ × ℕ) × ℕ)

@@ -15,7 +15,7 @@ pub returns-clause-beside : goal.returns-clause-beside
 unfolding place_of
 returns-clause-beside c = refl
 
-bucket : place_of 16 (6, 7) ≡ 3
+bucket : place_of 16 (6, 7) ≡ 13
 unfolding place_of
 bucket = refl
 
@@ -24,14 +24,14 @@ returns-clause-own_place c full = inl bucket
 
 pub returns-clause-other_place : goal.returns-clause-other_place
 returns-clause-other_place c placed =
-    ⊎_elim (λ is. let same : 3 ≡ 4 = sym bucket ∙ is in omega (arith, same)) (λ between. omega (arith, between.1)) (placed (λ is. omega (arith, is)))
+    ⊎_elim (λ is. let same : 13 ≡ 14 = sym bucket ∙ is in omega (arith, same)) (λ between. omega (arith, between.1)) (placed (λ is. omega (arith, is)))
 
 pub returns-clause-waits : goal.returns-clause-waits
 returns-clause-waits c full = inr (omega arith, omega arith)
 
 pub returns-clause-waits_no_more : goal.returns-clause-waits_no_more
 returns-clause-waits_no_more c placed =
-    ⊎_elim (λ is. let same : 3 ≡ 4 = sym bucket ∙ is in omega (arith, same)) (λ between. omega (arith, between.0)) (placed (λ is. omega (arith, is)))
+    ⊎_elim (λ is. let same : 13 ≡ 14 = sym bucket ∙ is in omega (arith, same)) (λ between. omega (arith, between.0)) (placed (λ is. omega (arith, is)))
 
 pub returns-clause-moved : goal.returns-clause-moved
 unfolding place_of
