@@ -7,6 +7,7 @@ mod declared;
 mod formula;
 mod name;
 mod order;
+mod parts;
 mod quantifier;
 mod term;
 

@@ -8,7 +8,8 @@ ghost use Rattle.std.specs.Option.{option_map};
 ghost use Rattle.std.specs.Prelude.{◌≡◌, ◌∷◌, ◌++◌, [], map, slice_get, IfOk};
 
 use crate::order::in_order;
-use ms_list::{List, NoMemory, push};
+use crate::parts::one_more;
+use ms_list::{List, NoMemory};
 use ms_logic::{Arg, Formula, Order, Term1, Term2};
 
 /// A variable by itself.
@@ -55,14 +56,7 @@ pub fn more_arguments(
     ensures { IfOk result (λ list. option_map (map argument_of) list
         ≡ both (λ front a. front ++ a ∷ []) (option_map (map argument_of) made) (argument_for order (option_map argument_of value))) }
 {
-    let Some(mut list) = made else {
-        return Ok(None);
-    };
-    let Some(argument) = argument_for(order, value) else {
-        return Ok(None);
-    };
-    push(&mut list, argument)?;
-    Ok(Some(list))
+    one_more(made, argument_for(order, value))
 }
 
 /// A call of the predicate with a number, if each of its arguments is there.

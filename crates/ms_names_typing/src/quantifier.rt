@@ -8,7 +8,8 @@ ghost use Rattle.std.specs.Option.{option_and_then, option_map};
 ghost use Rattle.std.specs.Prelude.{◌≡◌, ◌∷◌, ◌++◌, [], map, IfOk};
 
 use crate::order::{formula_in, in_order};
-use ms_list::{Boxed, List, NoMemory, on_heap, push};
+use crate::parts::{boxed, one_more};
+use ms_list::{List, NoMemory, on_heap};
 use ms_logic::{Arg, Binding, Formula, Order, Param, Quant};
 use std::alloc::Global;
 
@@ -46,15 +47,6 @@ pub fn more_params(
     }
 }
 
-fn boxed_domain(alloc: Global, domain: Option<Formula>) -> Result<Option<Boxed<Formula>>, NoMemory>
-    ensures { IfOk result (λ made. made ≡ domain) }
-{
-    match domain {
-        None => Ok(None),
-        Some(formula) => Ok(Some(on_heap(alloc, formula)?)),
-    }
-}
-
 fn quantifier(alloc: Global, quant: Quant, param: Param, body: Formula) -> Result<Formula, NoMemory>
     ensures { IfOk result (λ made. formula_of made ≡ quantified_over quant (declaration_of param ∷ []) (formula_of body)) }
 {
@@ -63,7 +55,7 @@ fn quantifier(alloc: Global, quant: Quant, param: Param, body: Formula) -> Resul
         variable,
         domain,
     } = param;
-    let domain = boxed_domain(alloc, domain)?;
+    let domain = boxed(alloc, domain)?;
     Ok(Formula::Bind(quant, order, variable, domain, on_heap(alloc, body)?))
 }
 
@@ -114,14 +106,8 @@ pub fn more_bindings(
     ensures { IfOk result (λ list. option_map (map binding_of) list
         ≡ both (λ front a. front ++ (x, a) ∷ []) (option_map (map binding_of) made) (option_and_then (of_order order) (option_map argument_of value))) }
 {
-    let Some(mut list) = made else {
-        return Ok(None);
-    };
-    let Some(value) = in_order(order, value) else {
-        return Ok(None);
-    };
-    push(&mut list, Binding { variable: x, value })?;
-    Ok(Some(list))
+    let binding = in_order(order, value).map(|value| Binding { variable: x, value });
+    one_more(made, binding)
 }
 
 /// A `let`, by what its right sides and its body became.

@@ -1,62 +1,40 @@
 //! What numbers and sets become that are put together of others.
 
 ghost use Rattle.ms_logic.specs.Tree as tree;
-ghost use Rattle.ms_logic.specs.View.{argument_of, set_term_of};
+ghost use Rattle.ms_logic.specs.View.{argument_of};
 ghost use Rattle.ms_names_rules.specs.inner.Lists.{terms_of};
 ghost use Rattle.ms_names_rules.specs.Typed.{both, number_in, number_of_set, set_in, moved, typed_shift, number_behind};
 ghost use Rattle.std.specs.Option.{option_map};
 ghost use Rattle.std.specs.Prelude.{◌≡◌, IfOk};
 
 use crate::order::{number_in, set_in};
-use ms_list::{Boxed, List, NoMemory, on_heap, push};
+use crate::parts::{both_boxed, boxed, one_more};
+use ms_list::{List, NoMemory, on_heap};
 use ms_logic::{Arg, Term1, Term2};
 use std::alloc::Global;
-
-// A set on the heap.
-fn boxed_set(alloc: Global, value: Option<Arg>) -> Result<Option<Boxed<Term2>>, NoMemory>
-    ensures { IfOk result (λ made. option_map set_term_of made ≡ set_in (option_map argument_of value)) }
-{
-    match set_in(value) {
-        None => Ok(None),
-        Some(set) => Ok(Some(on_heap(alloc, set)?)),
-    }
-}
 
 #[inline(never)]
 pub fn minimum(alloc: Global, body: Option<Arg>) -> Result<Option<Arg>, NoMemory>
     ensures { IfOk result (λ made. option_map argument_of made ≡ number_of_set (λ s. tree.minimum s) (option_map argument_of body)) }
 {
-    let Some(body) = set_in(body) else {
-        return Ok(None);
-    };
-    Ok(Some(Arg::One(Term1::Min(on_heap(alloc, body)?))))
+    let body = boxed(alloc, set_in(body))?;
+    Ok(body.map(|body| Arg::One(Term1::Min(body))))
 }
 
 #[inline(never)]
 pub fn maximum(alloc: Global, body: Option<Arg>) -> Result<Option<Arg>, NoMemory>
     ensures { IfOk result (λ made. option_map argument_of made ≡ number_of_set (λ s. tree.maximum s) (option_map argument_of body)) }
 {
-    let Some(body) = set_in(body) else {
-        return Ok(None);
-    };
-    Ok(Some(Arg::One(Term1::Max(on_heap(alloc, body)?))))
+    let body = boxed(alloc, set_in(body))?;
+    Ok(body.map(|body| Arg::One(Term1::Max(body))))
 }
 
 #[inline(never)]
 pub fn union(alloc: Global, left: Option<Arg>, right: Option<Arg>) -> Result<Option<Arg>, NoMemory>
     ensures { IfOk result (λ made. option_map argument_of made ≡ both (λ s t. tree.set_argument (tree.union s t)) (set_in (option_map argument_of left)) (set_in (option_map argument_of right))) }
 {
-    let left = boxed_set(alloc, left)?;
-    let right = boxed_set(alloc, right)?;
-    Ok(union_of(left, right))
-}
-
-fn union_of(left: Option<Boxed<Term2>>, right: Option<Boxed<Term2>>) -> Option<Arg>
-    ensures { option_map argument_of result ≡ both (λ s t. tree.set_argument (tree.union s t)) (option_map set_term_of left) (option_map set_term_of right) }
-{
-    let left = left?;
-    let right = right?;
-    Some(Arg::Two(Term2::Union(left, right)))
+    let sides = both_boxed(alloc, set_in(left), set_in(right))?;
+    Ok(sides.map(|(left, right)| Arg::Two(Term2::Union(left, right))))
 }
 
 #[inline(never)]
@@ -67,17 +45,8 @@ pub fn intersection(
 ) -> Result<Option<Arg>, NoMemory>
     ensures { IfOk result (λ made. option_map argument_of made ≡ both (λ s t. tree.set_argument (tree.intersection s t)) (set_in (option_map argument_of left)) (set_in (option_map argument_of right))) }
 {
-    let left = boxed_set(alloc, left)?;
-    let right = boxed_set(alloc, right)?;
-    Ok(intersection_of(left, right))
-}
-
-fn intersection_of(left: Option<Boxed<Term2>>, right: Option<Boxed<Term2>>) -> Option<Arg>
-    ensures { option_map argument_of result ≡ both (λ s t. tree.set_argument (tree.intersection s t)) (option_map set_term_of left) (option_map set_term_of right) }
-{
-    let left = left?;
-    let right = right?;
-    Some(Arg::Two(Term2::Inter(left, right)))
+    let sides = both_boxed(alloc, set_in(left), set_in(right))?;
+    Ok(sides.map(|(left, right)| Arg::Two(Term2::Inter(left, right))))
 }
 
 #[inline(never)]
@@ -88,17 +57,8 @@ pub fn difference(
 ) -> Result<Option<Arg>, NoMemory>
     ensures { IfOk result (λ made. option_map argument_of made ≡ both (λ s t. tree.set_argument (tree.difference s t)) (set_in (option_map argument_of left)) (set_in (option_map argument_of right))) }
 {
-    let left = boxed_set(alloc, left)?;
-    let right = boxed_set(alloc, right)?;
-    Ok(difference_of(left, right))
-}
-
-fn difference_of(left: Option<Boxed<Term2>>, right: Option<Boxed<Term2>>) -> Option<Arg>
-    ensures { option_map argument_of result ≡ both (λ s t. tree.set_argument (tree.difference s t)) (option_map set_term_of left) (option_map set_term_of right) }
-{
-    let left = left?;
-    let right = right?;
-    Some(Arg::Two(Term2::Minus(left, right)))
+    let sides = both_boxed(alloc, set_in(left), set_in(right))?;
+    Ok(sides.map(|(left, right)| Arg::Two(Term2::Minus(left, right))))
 }
 
 /// A number behind those before it, if all are numbers.
@@ -109,14 +69,7 @@ pub fn more_numbers(
 ) -> Result<Option<List<Term1>>, NoMemory>
     ensures { IfOk result (λ list. option_map terms_of list ≡ both number_behind (option_map terms_of made) (number_in (option_map argument_of value))) }
 {
-    let Some(mut list) = made else {
-        return Ok(None);
-    };
-    let Some(number) = number_in(value) else {
-        return Ok(None);
-    };
-    push(&mut list, number)?;
-    Ok(Some(list))
+    one_more(made, number_in(value))
 }
 
 #[inline(never)]
