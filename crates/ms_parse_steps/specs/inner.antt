@@ -1,3 +1,4 @@
+pub mod Binders
 pub mod Configurations
 pub mod Ends
 pub mod Followed

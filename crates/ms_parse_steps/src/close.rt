@@ -30,25 +30,20 @@ pub fn end_bracket(
     ensures { (c : Context) (file : ℕ) (lexed : Lexed) (frames : List Frame) →
         ActsAs c file lexed (hold greatest_depth c (enclosed at bracket (expression_of operand.expr)) (stack_of frames) (behind file lexed (i - 1)) (behind file lexed i)) frames result }
 {
-    let Operand { expr, height, .. } = operand;
-    let form = enclosed(alloc, bracket, expr)?;
+    let height = operand.height;
+    let form = enclosed(alloc, bracket, operand.expr)?;
     let made = finish(at, form, height, i.saturating_sub(1))?;
     Ok((Outcome::Holding(made), i))
 }
 
 /// The bracket behind the last expression of a list.
-fn end_list(
-    at: At,
-    listing: Listing,
-    operands: Operands,
-    operand: Operand,
-    i: u32,
-) -> Result<(Outcome, u32), Stop>
+fn end_list(entries: Entries, operand: Operand, i: u32) -> Result<(Outcome, u32), Stop>
     ensures { (c : Context) (file : ℕ) (lexed : Lexed) (frames : List Frame) →
-        ActsAs c file lexed (hold greatest_depth c (listed at listing (and_expression (expressions_of operands.list) (expression_of operand.expr))) (stack_of frames) (behind file lexed (i - 1)) (behind file lexed i)) frames result }
+        ActsAs c file lexed (hold greatest_depth c (listed entries.at entries.listing (and_expression (expressions_of entries.operands.list) (expression_of operand.expr))) (stack_of frames) (behind file lexed (i - 1)) (behind file lexed i)) frames result }
 {
-    let Operands { list, height } = with_expression(operands, operand)?;
-    let made = finish(at, listed(listing, list), height, i.saturating_sub(1))?;
+    let Operands { list, height } = with_expression(entries.operands, operand)?;
+    let form = listed(entries.listing, list);
+    let made = finish(entries.at, form, height, i.saturating_sub(1))?;
     Ok((Outcome::Holding(made), i))
 }
 
@@ -57,13 +52,8 @@ pub fn end_literal(entries: Entries, operand: Operand, i: u32) -> Result<(Outcom
     ensures { (c : Context) (file : ℕ) (lexed : Lexed) (below : List Frame) →
         ActsAs c file lexed (close_curly_at greatest_depth c (expression_of operand.expr) (list_frame entries.at entries.listing (expressions_of entries.operands.list) ∷ stack_of below) (behind file lexed (i - 1)) (behind file lexed i)) below result }
 {
-    let Entries {
-        at,
-        listing,
-        operands,
-    } = entries;
-    match listing {
-        Listing::Literal => end_list(at, Listing::Literal, operands, operand, i),
+    match entries.listing {
+        Listing::Literal => end_list(entries, operand, i),
         Listing::Call(_) => Err(Stop::Refused(i.saturating_sub(1))),
     }
 }
@@ -73,13 +63,8 @@ pub fn end_call(entries: Entries, operand: Operand, i: u32) -> Result<(Outcome, 
     ensures { (c : Context) (file : ℕ) (lexed : Lexed) (below : List Frame) →
         ActsAs c file lexed (close_round_at greatest_depth c (expression_of operand.expr) (list_frame entries.at entries.listing (expressions_of entries.operands.list) ∷ stack_of below) (behind file lexed (i - 1)) (behind file lexed i)) below result }
 {
-    let Entries {
-        at,
-        listing,
-        operands,
-    } = entries;
-    match listing {
-        Listing::Call(name) => end_list(at, Listing::Call(name), operands, operand, i),
+    match entries.listing {
+        Listing::Call(_) => end_list(entries, operand, i),
         Listing::Literal => Err(Stop::Refused(i.saturating_sub(1))),
     }
 }

@@ -11,7 +11,7 @@ use crate::append::with_expression;
 use crate::form::{infixed, joined, placed, prefixed};
 use crate::frame::Frame;
 use crate::memory::boxed;
-use crate::operand::{Binder, Bounds, Chain, GREATEST_DEPTH, Locals, Operand, Operands, Parts};
+use crate::operand::{Binder, Chain, GREATEST_DEPTH, Locals, Operand, Operands};
 use crate::stop::Stop;
 use ms_list::At;
 use ms_logic::Form;
@@ -66,8 +66,7 @@ pub fn complete_prefix(
     ensures err { IfErr result (IsTooDeep (prefixed at op (expression_of operand.expr)) i) }
 {
     let inside = operand.height;
-    let Operand { expr, .. } = operand;
-    finish(at, prefixed(alloc, op, expr)?, inside, i)
+    finish(at, prefixed(alloc, op, operand.expr)?, inside, i)
 }
 
 pub fn complete_left(
@@ -82,18 +81,15 @@ pub fn complete_left(
 {
     let inside = left.height.max(right.height);
     let at = left.start;
-    let Operand { expr: l, .. } = left;
-    let Operand { expr: r, .. } = right;
-    finish(at, infixed(alloc, op, l, r)?, inside, i)
+    finish(at, infixed(alloc, op, left.expr, right.expr)?, inside, i)
 }
 
 pub fn complete_joined(chain: Chain, operand: Operand, i: u32) -> Result<Operand, Stop>
     ensures ok { IfOk result (λ made. expression_of made.expr ≡ joined chain.at chain.op (and_expression (expressions_of chain.operands.list) (expression_of operand.expr))) }
     ensures err { IfErr result (IsTooDeep (joined chain.at chain.op (and_expression (expressions_of chain.operands.list) (expression_of operand.expr))) i) }
 {
-    let Chain { at, op, operands } = chain;
-    let Operands { list, height } = with_expression(operands, operand)?;
-    finish(at, joined(op, list), height, i)
+    let Operands { list, height } = with_expression(chain.operands, operand)?;
+    finish(chain.at, joined(chain.op, list), height, i)
 }
 
 pub fn complete_body(
@@ -105,17 +101,10 @@ pub fn complete_body(
     ensures ok { IfOk result (λ made. expression_of made.expr ≡ quantified binder.at binder.quant binder.order (variables_of binder.bounds.list) (expression_of operand.expr)) }
     ensures err { IfErr result (IsTooDeep (quantified binder.at binder.quant binder.order (variables_of binder.bounds.list) (expression_of operand.expr)) i) }
 {
-    let Binder {
-        at,
-        quant,
-        order,
-        bounds,
-    } = binder;
-    let inside = bounds.height.max(operand.height);
-    let Bounds { list, .. } = bounds;
-    let Operand { expr, .. } = operand;
-    let body = boxed(alloc, expr)?;
-    finish(at, Form::Bind(quant, order, list, body), inside, i)
+    let inside = binder.bounds.height.max(operand.height);
+    let body = boxed(alloc, operand.expr)?;
+    let form = Form::Bind(binder.quant, binder.order, binder.bounds.list, body);
+    finish(binder.at, form, inside, i)
 }
 
 pub fn complete_let(
@@ -127,10 +116,8 @@ pub fn complete_let(
     ensures ok { IfOk result (λ made. expression_of made.expr ≡ let_in locals.at locals.order (parts_of locals.parts.list) (expression_of operand.expr)) }
     ensures err { IfErr result (IsTooDeep (let_in locals.at locals.order (parts_of locals.parts.list) (expression_of operand.expr)) i) }
 {
-    let Locals { at, order, parts } = locals;
-    let inside = parts.height.max(operand.height);
-    let Parts { list, .. } = parts;
-    let Operand { expr, .. } = operand;
-    let body = boxed(alloc, expr)?;
-    finish(at, Form::Let(order, list, body), inside, i)
+    let inside = locals.parts.height.max(operand.height);
+    let body = boxed(alloc, operand.expr)?;
+    let form = Form::Let(locals.order, locals.parts.list, body);
+    finish(locals.at, form, inside, i)
 }

@@ -53,7 +53,7 @@ impl Input<'_> {
     pub fn next_summand(
         self,
         parser: &mut Parser,
-        constant: Constant,
+        mut constant: Constant,
         i: u32,
     ) -> Result<(Configuration, u32), Stop>
         ensures { StepsAs self.entry.file self.entry.tokens.now (next_summand (document_of parser.old.source) constant.at constant.at_name constant.name constant.sum (behind self.entry.file self.entry.tokens.now i)) parser.new result }
@@ -61,25 +61,16 @@ impl Input<'_> {
         let Some((terminal, _)) = self.terminal_at(i) else {
             return Err(Stop::Refused(i));
         };
-        let Constant {
-            at,
-            at_name,
-            name,
-            mut sum,
-        } = constant;
         match terminal {
-            Terminal::Semicolon => parser.declared(at, Decl::Const(at_name, name, sum), i + 1),
+            Terminal::Semicolon => {
+                let decl = Decl::Const(constant.at_name, constant.name, constant.sum);
+                parser.declared(constant.at, decl, i + 1)
+            }
             Terminal::Shift(minus) => {
                 let Some((number, next)) = self.int_at(i + 1, minus)? else {
                     return Err(Stop::Refused(i + 1));
                 };
-                push(&mut sum, number)?;
-                let constant = Constant {
-                    at,
-                    at_name,
-                    name,
-                    sum,
-                };
+                push(&mut constant.sum, number)?;
                 Ok((Configuration::Summand(constant), next))
             }
             _ => Err(Stop::Refused(i)),

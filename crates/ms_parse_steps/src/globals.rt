@@ -15,7 +15,7 @@ use crate::followed::Followed;
 use crate::input::Input;
 use crate::lists::push_variable;
 use crate::memory::boxed;
-use crate::operand::{Identifier, Operand};
+use crate::operand::Identifier;
 use crate::parser::Parser;
 use crate::stop::Stop;
 use crate::terminal::Terminal;
@@ -25,7 +25,7 @@ use std::alloc::Global;
 
 /// A comma behind a variable that is declared.
 fn another_global(
-    globals: Globals,
+    mut globals: Globals,
     variable: Identifier,
     domain: Option<Boxed<Expr>>,
     i: u32,
@@ -33,21 +33,21 @@ fn another_global(
     ensures { (file : ℕ) (lexed : Lexed) (parser : Parser) →
         StepsAs file lexed (took (global_wanted (document_of parser.source) globals.at globals.order (and_variable (variables_of globals.list) variable.at globals.order variable.name (domain_of domain))) (behind file lexed i)) parser result }
 {
-    let Globals {
-        at,
-        order,
-        mut list,
-    } = globals;
-    let Identifier { at: at_name, name } = variable;
-    push_variable(&mut list, at_name, order, name, domain)?;
-    Ok((Configuration::Global(Globals { at, order, list }), i))
+    push_variable(
+        &mut globals.list,
+        variable.at,
+        globals.order,
+        variable.name,
+        domain,
+    )?;
+    Ok((Configuration::Global(globals), i))
 }
 
 impl Parser {
     /// The end behind the last variable of a declaration.
     fn last_global(
         &mut self,
-        globals: Globals,
+        mut globals: Globals,
         variable: Identifier,
         domain: Option<Boxed<Expr>>,
         i: u32,
@@ -55,14 +55,14 @@ impl Parser {
         ensures { (file : ℕ) (lexed : Lexed) →
             StepsAs file lexed (took (outside (declare (document_of self.old.source) globals.at (variables (and_variable (variables_of globals.list) variable.at globals.order variable.name (domain_of domain))))) (behind file lexed i)) self.new result }
     {
-        let Globals {
-            at,
-            order,
-            mut list,
-        } = globals;
-        let Identifier { at: at_name, name } = variable;
-        push_variable(&mut list, at_name, order, name, domain)?;
-        self.declared(at, Decl::Vars(list), i)
+        push_variable(
+            &mut globals.list,
+            variable.at,
+            globals.order,
+            variable.name,
+            domain,
+        )?;
+        self.declared(globals.at, Decl::Vars(globals.list), i)
     }
 
     /// What stands behind a variable that is declared.
@@ -95,14 +95,9 @@ impl Parser {
         ensures { (file : ℕ) (lexed : Lexed) (bytes : List ℕ) (inside : Bool) → IsEnd inside (symbol_with followed.terminal bytes) →
             StepsAs file lexed (settled file lexed (in_global (document_of self.old.source) globals.at globals.order (variables_of globals.list) variable.at variable.name) bytes inside followed []) self.new result }
     {
-        let Followed {
-            operand,
-            terminal,
-            next,
-        } = followed;
-        let Operand { expr, .. } = operand;
-        let domain = boxed(alloc, expr)?;
-        match terminal {
+        let domain = boxed(alloc, followed.operand.expr)?;
+        let next = followed.next;
+        match followed.terminal {
             Terminal::Comma => another_global(globals, variable, Some(domain), next),
             Terminal::Semicolon => self.last_global(globals, variable, Some(domain), next),
             _ => Err(Stop::Refused(next.saturating_sub(1))),

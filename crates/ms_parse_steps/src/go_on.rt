@@ -53,12 +53,9 @@ impl Input<'_> {
         ensures { (c : machine.Context) (bytes : List ℕ) (inside : Bool) → IsOperator inside (symbol_with followed.terminal bytes) →
             ActsAs c self.entry.file self.entry.tokens.now (settled self.entry.file self.entry.tokens.now c bytes inside followed (stack_of stack.old.items)) stack.new.items result }
     {
-        let Followed {
-            operand,
-            terminal,
-            next,
-        } = followed;
-        match terminal {
+        let operand = followed.operand;
+        let next = followed.next;
+        match followed.terminal {
             Terminal::Infix(op) => shift(stack, op, operand, next),
             Terminal::Joining(op) => join(self.alloc, stack, op, operand, next),
             Terminal::Shift(minus) => self.shift_int(stack, operand, minus, next),
@@ -77,12 +74,9 @@ fn settle_frame(
     ensures { (c : machine.Context) (file : ℕ) (lexed : Lexed) (bytes : List ℕ) (inside : Bool) → IsEnd inside (symbol_with followed.terminal bytes) →
         ActsAs c file lexed (settled file lexed c bytes inside followed (frame_of frame ∷ stack_of stack.old.items)) stack.new.items result }
 {
-    let Followed {
-        operand,
-        terminal,
-        next,
-    } = followed;
-    match terminal {
+    let operand = followed.operand;
+    let next = followed.next;
+    match followed.terminal {
         Terminal::CloseRound => frame.close_round(alloc, operand, next),
         Terminal::CloseCurly => frame.close_curly(operand, next),
         Terminal::Comma => frame.comma(alloc, stack, operand, next),
@@ -98,15 +92,13 @@ impl Parser {
         ensures { (file : ℕ) (lexed : Lexed) (bytes : List ℕ) (inside : Bool) → IsEnd inside (symbol_with followed.terminal bytes) →
             StepsAs file lexed (settled file lexed (in_formula (document_of self.old.source) at) bytes inside followed []) self.new result }
     {
-        let Followed {
-            operand,
-            terminal,
-            next,
-        } = followed;
-        let Operand { expr, .. } = operand;
-        match terminal {
-            Terminal::Semicolon => self.declared(at, Decl::Formula(expr), next),
-            _ => Err(Stop::Refused(next.saturating_sub(1))),
+        match followed.terminal {
+            Terminal::Semicolon => self.declared(
+                at,
+                Decl::Formula(followed.operand.expr),
+                followed.next,
+            ),
+            _ => Err(Stop::Refused(followed.next.saturating_sub(1))),
         }
     }
 
@@ -119,25 +111,18 @@ impl Parser {
         ensures { (file : ℕ) (lexed : Lexed) (bytes : List ℕ) (inside : Bool) → IsEnd inside (symbol_with followed.terminal bytes) →
             StepsAs file lexed (settled file lexed (in_predicate (document_of self.old.source) (head_of signature) (variables_of signature.parameters)) bytes inside followed []) self.new result }
     {
-        let Signature {
-            at,
-            is_pred,
-            at_name,
-            name,
-            parameters,
-        } = signature;
-        let Followed {
-            operand,
-            terminal,
-            next,
-        } = followed;
-        let Operand { expr, .. } = operand;
-        match terminal {
+        match followed.terminal {
             Terminal::Semicolon => {
-                let decl = Decl::Pred(is_pred, at_name, name, parameters, expr);
-                self.declared(at, decl, next)
+                let decl = Decl::Pred(
+                    signature.is_pred,
+                    signature.at_name,
+                    signature.name,
+                    signature.parameters,
+                    followed.operand.expr,
+                );
+                self.declared(signature.at, decl, followed.next)
             }
-            _ => Err(Stop::Refused(next.saturating_sub(1))),
+            _ => Err(Stop::Refused(followed.next.saturating_sub(1))),
         }
     }
 
@@ -152,15 +137,13 @@ impl Parser {
         ensures { (file : ℕ) (lexed : Lexed) (bytes : List ℕ) (inside : Bool) → IsEnd inside (symbol_with followed.terminal bytes) →
             StepsAs file lexed (settled file lexed (in_default (document_of self.old.source) at order name) bytes inside followed []) self.new result }
     {
-        let Followed {
-            operand,
-            terminal,
-            next,
-        } = followed;
-        let Operand { expr, .. } = operand;
-        match terminal {
-            Terminal::Semicolon => self.declared(at, Decl::Default(order, name, expr), next),
-            _ => Err(Stop::Refused(next.saturating_sub(1))),
+        match followed.terminal {
+            Terminal::Semicolon => self.declared(
+                at,
+                Decl::Default(order, name, followed.operand.expr),
+                followed.next,
+            ),
+            _ => Err(Stop::Refused(followed.next.saturating_sub(1))),
         }
     }
 
@@ -175,15 +158,13 @@ impl Parser {
         ensures { (file : ℕ) (lexed : Lexed) (bytes : List ℕ) (inside : Bool) → IsEnd inside (symbol_with followed.terminal bytes) →
             StepsAs file lexed (settled file lexed (in_goal (document_of self.old.source) at at_title title) bytes inside followed []) self.new result }
     {
-        let Followed {
-            operand,
-            terminal,
-            next,
-        } = followed;
-        let Operand { expr, .. } = operand;
-        match terminal {
-            Terminal::Semicolon => self.declared(at, Decl::Goal(at_title, title, expr), next),
-            _ => Err(Stop::Refused(next.saturating_sub(1))),
+        match followed.terminal {
+            Terminal::Semicolon => self.declared(
+                at,
+                Decl::Goal(at_title, title, followed.operand.expr),
+                followed.next,
+            ),
+            _ => Err(Stop::Refused(followed.next.saturating_sub(1))),
         }
     }
 }

@@ -37,9 +37,8 @@ fn join_further(
     ensures { (c : Context) (file : ℕ) (lexed : Lexed) →
         ActsAs c file lexed (enter greatest_depth c (joined_frame chain.at chain.op (and_expression (expressions_of chain.operands.list) (expression_of operand.expr))) (stack_of stack.old.items) (too_deep (behind file lexed (i - 1))) (behind file lexed i)) stack.new.items result }
 {
-    let Chain { at, op, operands } = chain;
-    let operands = with_expression(operands, operand)?;
-    let frame = Frame::Joined(Chain { at, op, operands });
+    let operands = with_expression(chain.operands, operand)?;
+    let frame = Frame::Joined(Chain { operands, ..chain });
     begin_frame(stack, frame, i)
 }
 

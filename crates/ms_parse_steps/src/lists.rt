@@ -67,6 +67,5 @@ pub fn push_restricted(
     ensures err { IfErr result (λ stop. stop ≡ Memory) }
 {
     let domain = boxed(alloc, domain)?;
-    let Identifier { at, name } = variable;
-    push_variable(list, at, order, name, Some(domain))
+    push_variable(list, variable.at, order, variable.name, Some(domain))
 }

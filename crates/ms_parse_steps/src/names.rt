@@ -107,42 +107,15 @@ fn behind_variable(
     ensures { (c : Context) (file : ℕ) (lexed : Lexed) (bytes : List ℕ) →
         ActsAs c file lexed (behind_variable greatest_depth c (stack_of stack.old.items) binder.at binder.quant binder.order (variables_of binder.bounds.list) variable.at variable.name (symbol_with terminal bytes) (behind file lexed (i - 1)) (behind file lexed i)) stack.new.items result }
 {
-    let Binder {
-        at,
-        quant,
-        order,
-        bounds,
-    } = binder;
     match terminal {
-        Terminal::Where => {
-            let binder = Binder {
-                at,
-                quant,
-                order,
-                bounds,
-            };
-            let frame = Frame::Domain(Domain { binder, variable });
-            begin_frame(stack, frame, i)
-        }
+        Terminal::Where => begin_frame(stack, Frame::Domain(Domain { binder, variable }), i),
         Terminal::Comma => {
-            let bounds = with_unrestricted(bounds, order, variable)?;
-            let binder = Binder {
-                at,
-                quant,
-                order,
-                bounds,
-            };
+            let binder = with_unrestricted(binder, variable)?;
             Ok((Outcome::Variable(binder), i))
         }
         Terminal::Colon => {
-            let bounds = with_unrestricted(bounds, order, variable)?;
-            let frame = Frame::Body(Binder {
-                at,
-                quant,
-                order,
-                bounds,
-            });
-            begin_frame(stack, frame, i)
+            let binder = with_unrestricted(binder, variable)?;
+            begin_frame(stack, Frame::Body(binder), i)
         }
         _ => Err(Stop::Refused(i.saturating_sub(1))),
     }

@@ -16,7 +16,7 @@ use crate::followed::Followed;
 use crate::input::Input;
 use crate::lists::push_variable;
 use crate::memory::boxed;
-use crate::operand::{Identifier, Operand};
+use crate::operand::Identifier;
 use crate::parser::Parser;
 use crate::punctuation::Punctuation;
 use crate::stop::Stop;
@@ -43,21 +43,22 @@ impl Input<'_> {
 
 /// A comma behind a parameter.
 fn another_parameter(
-    parameter: Parameter,
+    mut parameter: Parameter,
     domain: Option<Boxed<Expr>>,
     i: u32,
 ) -> Result<(Configuration, u32), Stop>
     ensures { (file : ℕ) (lexed : Lexed) (parser : Parser) →
         StepsAs file lexed (took (parameter_wanted (document_of parser.source) (head_of parameter.signature) (and_variable (variables_of parameter.signature.parameters) parameter.variable.at parameter.order parameter.variable.name (domain_of domain))) (behind file lexed i)) parser result }
 {
-    let Parameter {
-        mut signature,
-        order,
-        variable,
-    } = parameter;
-    let Identifier { at, name } = variable;
-    push_variable(&mut signature.parameters, at, order, name, domain)?;
-    Ok((Configuration::Parameter(signature), i))
+    let variable = parameter.variable;
+    push_variable(
+        &mut parameter.signature.parameters,
+        variable.at,
+        parameter.order,
+        variable.name,
+        domain,
+    )?;
+    Ok((Configuration::Parameter(parameter.signature), i))
 }
 
 impl Input<'_> {
@@ -65,20 +66,21 @@ impl Input<'_> {
     fn last_parameter(
         self,
         parser: &mut Parser,
-        parameter: Parameter,
+        mut parameter: Parameter,
         domain: Option<Boxed<Expr>>,
         i: u32,
     ) -> Result<(Configuration, u32), Stop>
         ensures { StepsAs self.entry.file self.entry.tokens.now (body_of (document_of parser.old.source) (head_of parameter.signature) (and_variable (variables_of parameter.signature.parameters) parameter.variable.at parameter.order parameter.variable.name (domain_of domain)) (behind self.entry.file self.entry.tokens.now i)) parser.new result }
     {
-        let Parameter {
-            mut signature,
-            order,
-            variable,
-        } = parameter;
-        let Identifier { at, name } = variable;
-        push_variable(&mut signature.parameters, at, order, name, domain)?;
-        self.body_of(parser, signature, i)
+        let variable = parameter.variable;
+        push_variable(
+            &mut parameter.signature.parameters,
+            variable.at,
+            parameter.order,
+            variable.name,
+            domain,
+        )?;
+        self.body_of(parser, parameter.signature, i)
     }
 
     /// What stands behind a parameter.
@@ -162,14 +164,9 @@ impl Input<'_> {
         ensures { (bytes : List ℕ) (inside : Bool) → IsEnd inside (symbol_with followed.terminal bytes) →
             StepsAs self.entry.file self.entry.tokens.now (settled self.entry.file self.entry.tokens.now (in_parameter (document_of parser.old.source) (head_of parameter.signature) (variables_of parameter.signature.parameters) parameter.order parameter.variable.at parameter.variable.name) bytes inside followed []) parser.new result }
     {
-        let Followed {
-            operand,
-            terminal,
-            next,
-        } = followed;
-        let Operand { expr, .. } = operand;
-        let domain = boxed(self.alloc, expr)?;
-        match terminal {
+        let domain = boxed(self.alloc, followed.operand.expr)?;
+        let next = followed.next;
+        match followed.terminal {
             Terminal::Comma => another_parameter(parameter, Some(domain), next),
             Terminal::CloseRound => self.last_parameter(parser, parameter, Some(domain), next),
             _ => Err(Stop::Refused(next.saturating_sub(1))),

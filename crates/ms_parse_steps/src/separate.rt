@@ -12,7 +12,7 @@ ghost use Rattle.ms_parse_grammar.specs.Grammar.{greatest_depth};
 use crate::append::{with_expression, with_part, with_restricted};
 use crate::enter::begin_frame;
 use crate::frame::Frame;
-use crate::operand::{Binder, Domain, Entries, Identifier, Locals, Operand};
+use crate::operand::{Domain, Entries, Identifier, Locals, Operand};
 use crate::outcome::Outcome;
 use crate::stop::Stop;
 use std::alloc::Global;
@@ -26,16 +26,10 @@ pub fn another_expression(
     ensures { (c : Context) (file : ℕ) (lexed : Lexed) →
         ActsAs c file lexed (enter greatest_depth c (list_frame entries.at entries.listing (and_expression (expressions_of entries.operands.list) (expression_of operand.expr))) (stack_of stack.old.items) (too_deep (behind file lexed (i - 1))) (behind file lexed i)) stack.new.items result }
 {
-    let Entries {
-        at,
-        listing,
-        operands,
-    } = entries;
-    let operands = with_expression(operands, operand)?;
+    let operands = with_expression(entries.operands, operand)?;
     let frame = Frame::Listed(Entries {
-        at,
-        listing,
         operands,
+        ..entries
     });
     begin_frame(stack, frame, i)
 }
@@ -49,20 +43,7 @@ pub fn another_variable(
     ensures { (c : Context) (file : ℕ) (lexed : Lexed) (frames : List Frame) →
         ActsAs c file lexed (took (variable_wanted c (stack_of frames) domain.binder.at domain.binder.quant domain.binder.order (and_variable (variables_of domain.binder.bounds.list) domain.variable.at domain.binder.order domain.variable.name (restricted (expression_of operand.expr)))) (behind file lexed i)) frames result }
 {
-    let Domain { binder, variable } = domain;
-    let Binder {
-        at,
-        quant,
-        order,
-        bounds,
-    } = binder;
-    let bounds = with_restricted(alloc, bounds, order, variable, operand)?;
-    let binder = Binder {
-        at,
-        quant,
-        order,
-        bounds,
-    };
+    let binder = with_restricted(alloc, domain.binder, domain.variable, operand)?;
     Ok((Outcome::Variable(binder), i))
 }
 
@@ -75,9 +56,8 @@ pub fn another_part(
     ensures { (c : Context) (file : ℕ) (lexed : Lexed) (frames : List Frame) →
         ActsAs c file lexed (took (part_wanted c (stack_of frames) locals.at locals.order (and_part (parts_of locals.parts.list) variable.at variable.name (expression_of operand.expr))) (behind file lexed i)) frames result }
 {
-    let Locals { at, order, parts } = locals;
-    let parts = with_part(parts, variable, operand)?;
-    Ok((Outcome::Part(Locals { at, order, parts }), i))
+    let parts = with_part(locals.parts, variable, operand)?;
+    Ok((Outcome::Part(Locals { parts, ..locals }), i))
 }
 
 pub fn begin_body(
@@ -90,21 +70,8 @@ pub fn begin_body(
     ensures { (c : Context) (file : ℕ) (lexed : Lexed) →
         ActsAs c file lexed (enter greatest_depth c (body_frame domain.binder.at domain.binder.quant domain.binder.order (and_variable (variables_of domain.binder.bounds.list) domain.variable.at domain.binder.order domain.variable.name (restricted (expression_of operand.expr)))) (stack_of stack.old.items) (too_deep (behind file lexed (i - 1))) (behind file lexed i)) stack.new.items result }
 {
-    let Domain { binder, variable } = domain;
-    let Binder {
-        at,
-        quant,
-        order,
-        bounds,
-    } = binder;
-    let bounds = with_restricted(alloc, bounds, order, variable, operand)?;
-    let frame = Frame::Body(Binder {
-        at,
-        quant,
-        order,
-        bounds,
-    });
-    begin_frame(stack, frame, i)
+    let binder = with_restricted(alloc, domain.binder, domain.variable, operand)?;
+    begin_frame(stack, Frame::Body(binder), i)
 }
 
 pub fn begin_scope(
@@ -117,8 +84,7 @@ pub fn begin_scope(
     ensures { (c : Context) (file : ℕ) (lexed : Lexed) →
         ActsAs c file lexed (enter greatest_depth c (let_frame locals.at locals.order (and_part (parts_of locals.parts.list) variable.at variable.name (expression_of operand.expr))) (stack_of stack.old.items) (too_deep (behind file lexed (i - 1))) (behind file lexed i)) stack.new.items result }
 {
-    let Locals { at, order, parts } = locals;
-    let parts = with_part(parts, variable, operand)?;
-    let frame = Frame::Let(Locals { at, order, parts });
+    let parts = with_part(locals.parts, variable, operand)?;
+    let frame = Frame::Let(Locals { parts, ..locals });
     begin_frame(stack, frame, i)
 }

@@ -55,9 +55,8 @@ pub fn join_new(
     }
     let height = first.height;
     let at = first.start;
-    let Operand { expr, .. } = first;
     let mut list = List::new(alloc);
-    push_expression(&mut list, expr)?;
+    push_expression(&mut list, first.expr)?;
     let operands = Operands { list, height };
     let frame = Frame::Joined(Chain { at, op, operands });
     begin_frame(stack, frame, i)
@@ -86,13 +85,9 @@ fn shift_by(
     ensures { (c : Context) (file : ℕ) (lexed : Lexed) →
         ActsAs c file lexed (took (holding c (shifted (place (expression_of operand.expr)) (expression_of operand.expr) number) (stack_of stack.now)) (behind file lexed i)) stack.now result }
 {
-    let Operand {
-        expr,
-        start,
-        height,
-    } = operand;
-    let form = Form::Shift(boxed(alloc, expr)?, number);
-    let made = finish(start, form, height, i)?;
+    let height = operand.height;
+    let form = Form::Shift(boxed(alloc, operand.expr)?, number);
+    let made = finish(operand.start, form, height, i)?;
     Ok((Outcome::Holding(made), i))
 }
 

@@ -15,12 +15,12 @@ returns-in-Where c context file lexed bytes =
     (ap (λ s. behind_variable greatest_depth context st c.args.binder.at c.args.binder.quant c.args.binder.order (variables_of c.args.binder.bounds.list) c.args.variable.at c.args.variable.name (symbol_with s bytes) from (behind file lexed c.args.i)) c.in-Where.is)
     (c.begin_frame.ensures context file lexed)
 
-pub returns-in_ok-bounds-in-Colon : goal.returns-in_ok-bounds-in-Colon
-returns-in_ok-bounds-in-Colon c context file lexed bytes =
+pub returns-in_ok-binder-in-Colon : goal.returns-in_ok-binder-in-Colon
+returns-in_ok-binder-in-Colon c context file lexed bytes =
     let st = stack_of c.args.stack.now.items in
     let from = behind file lexed (c.args.i - 1) in
     let ts = behind file lexed c.args.i in
     acts_as context file lexed _ _ c.begin_frame-in-Colon.new.stack.items c.begin_frame-in-Colon.result
     (ap (λ s. behind_variable greatest_depth context st c.args.binder.at c.args.binder.quant c.args.binder.order (variables_of c.args.binder.bounds.list) c.args.variable.at c.args.variable.name (symbol_with s bytes) from ts) c.in-Colon.is
-    ∙ ap (λ x. enter greatest_depth context (body_frame c.args.binder.at c.args.binder.quant c.args.binder.order x) st (too_deep from) ts) (sym c.in_ok-bounds-in-Colon.ensures.ok))
+    ∙ ap (λ b. enter greatest_depth context (body_frame b.0 b.1 b.2 b.3) st (too_deep from) ts) (sym c.in_ok-binder-in-Colon.ensures.ok))
     (c.begin_frame-in-Colon.ensures context file lexed)

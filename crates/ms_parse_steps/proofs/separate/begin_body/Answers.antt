@@ -10,6 +10,5 @@ pub returns : goal.returns
 returns c context file lexed =
     let st = stack_of c.args.stack.now.items in
     let ts = behind file lexed c.args.i in
-    let b = c.args.domain.binder in
     acts_as context file lexed _ _ c.begin_frame.new.stack.items c.begin_frame.result
-    (ap (λ x. enter greatest_depth context (body_frame b.at b.quant b.order x) st (too_deep (behind file lexed (c.args.i - 1))) ts) (sym c.in_ok-bounds.ensures.ok)) (c.begin_frame.ensures context file lexed)
+    (ap (λ b. enter greatest_depth context (body_frame b.0 b.1 b.2 b.3) st (too_deep (behind file lexed (c.args.i - 1))) ts) (sym c.in_ok-binder.ensures.ok)) (c.begin_frame.ensures context file lexed)
