@@ -1,20 +1,4 @@
-use Rattle.std.proofs.Common.{◌∷◌, ap, sym, ◌∙◌, ◌-◌}
-use Rattle.ms_parse_grammar.specs.Grammar.{greatest_depth}
-use Rattle.ms_parse_grammar.specs.Tree.{and_expression, listed}
-use Rattle.ms_parse_grammar.specs.View.{expression_of, expressions_of}
-use Rattle.ms_parse_steps.specs.inner.Machine.{close_round_at, hold, list_frame}
-use Rattle.ms_parse_steps.specs.inner.Terminals.{behind}
-use Rattle.ms_parse_steps.specs.inner.Stack.{stack_of}
-use Rattle.ms_parse_steps.proofs.Taking.{acts_as}
 use Rattle.ms_parse_steps.proofs.close.end_call.Goals as goal
 
 pub returns-in-Call : goal.returns-in-Call
-returns-in-Call c context file lexed below =
-    let at = c.args.entries.at in
-    let es = expressions_of c.args.entries.operands.list in
-    let e = expression_of c.args.operand.expr in
-    let from = behind file lexed (c.args.i - 1) in
-    let ts = behind file lexed c.args.i in
-    acts_as context file lexed _ _ below c.end_list.result
-    (ap (λ l. close_round_at greatest_depth context e (list_frame at l es ∷ stack_of below) from ts) c.in-Call.is
-    ∙ ap (λ l. hold greatest_depth context (listed at l (and_expression es e)) (stack_of below) from ts) (sym c.in-Call.is)) (c.end_list.ensures context file lexed below)
+returns-in-Call c context file lexed below = rw c.in-Call.is (rw c.in-Call.is at (c.end_list.ensures context file lexed below))

@@ -1,49 +1,24 @@
-use Rattle.std.proofs.Common.{ap, ◌∷◌, ◌-◌}
+use Rattle.std.proofs.Common.{◌∷◌, ◌-◌}
+use Rattle.ms_parse_grammar.specs.Grammar.{greatest_depth}
 use Rattle.ms_parse_grammar.specs.View.{expression_of}
-use Rattle.ms_parse_steps.specs.inner.Machine.{settle}
 use Rattle.ms_parse_steps.specs.inner.Frames.{frame_of}
-use Rattle.ms_parse_steps.specs.inner.Terminals.{behind, symbol_with}
+use Rattle.ms_parse_steps.specs.inner.Terminals.{behind}
 use Rattle.ms_parse_steps.specs.inner.Stack.{stack_of}
 use Rattle.ms_parse_steps.proofs.Ending.{in_settled}
-use Rattle.ms_parse_steps.proofs.go_on.settle_frame.Goals as goal
 use Rattle.ms_parse_steps.proofs.Taking.{acts_as}
-use Rattle.ms_parse_grammar.specs.Grammar.{greatest_depth}
+use Rattle.ms_parse_steps.proofs.go_on.settle_frame.Goals as goal
 
 pub returns-in-CloseRound : goal.returns-in-CloseRound
-returns-in-CloseRound c context file lexed bytes inside is =
-    let below = c.args.stack.now.items in
-    let st = frame_of c.args.frame ∷ stack_of below in
-    let e = expression_of c.args.followed.operand.expr in
-    let ts = behind file lexed c.args.followed.next in
-    acts_as context file lexed _ _ below c.close_round.result
-    (ap (λ s. settle greatest_depth context (symbol_with s bytes) inside (e, st) (behind file lexed (c.args.followed.next - 1)) ts) c.in-CloseRound.is) (c.close_round.ensures context file lexed below)
+returns-in-CloseRound c context file lexed bytes inside is = rw c.in-CloseRound.is (c.close_round.ensures context file lexed c.args.stack.now.items)
 
 pub returns-in-CloseCurly : goal.returns-in-CloseCurly
-returns-in-CloseCurly c context file lexed bytes inside is =
-    let below = c.args.stack.now.items in
-    let st = frame_of c.args.frame ∷ stack_of below in
-    let e = expression_of c.args.followed.operand.expr in
-    let ts = behind file lexed c.args.followed.next in
-    acts_as context file lexed _ _ below c.close_curly.result
-    (ap (λ s. settle greatest_depth context (symbol_with s bytes) inside (e, st) (behind file lexed (c.args.followed.next - 1)) ts) c.in-CloseCurly.is) (c.close_curly.ensures context file lexed below)
+returns-in-CloseCurly c context file lexed bytes inside is = rw c.in-CloseCurly.is (c.close_curly.ensures context file lexed c.args.stack.now.items)
 
 pub returns-in-Comma : goal.returns-in-Comma
-returns-in-Comma c context file lexed bytes inside is =
-    let top = frame_of c.args.frame in
-    let st = top ∷ stack_of c.args.stack.now.items in
-    let e = expression_of c.args.followed.operand.expr in
-    let ts = behind file lexed c.args.followed.next in
-    acts_as context file lexed _ _ c.comma.new.stack.items c.comma.result
-    (ap (λ s. settle greatest_depth context (symbol_with s bytes) inside (e, st) (behind file lexed (c.args.followed.next - 1)) ts) c.in-Comma.is) (c.comma.ensures context file lexed)
+returns-in-Comma c context file lexed bytes inside is = rw c.in-Comma.is (c.comma.ensures context file lexed)
 
 pub returns-in-Colon : goal.returns-in-Colon
-returns-in-Colon c context file lexed bytes inside is =
-    let top = frame_of c.args.frame in
-    let st = top ∷ stack_of c.args.stack.now.items in
-    let e = expression_of c.args.followed.operand.expr in
-    let ts = behind file lexed c.args.followed.next in
-    acts_as context file lexed _ _ c.colon.new.stack.items c.colon.result
-    (ap (λ s. settle greatest_depth context (symbol_with s bytes) inside (e, st) (behind file lexed (c.args.followed.next - 1)) ts) c.in-Colon.is) (c.colon.ensures context file lexed)
+returns-in-Colon c context file lexed bytes inside is = rw c.in-Colon.is (c.colon.ensures context file lexed)
 
 pub returns-in-Infix : goal.returns-in-Infix
 returns-in-Infix c context file lexed bytes inside is =
