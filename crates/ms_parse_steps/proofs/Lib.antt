@@ -5,7 +5,6 @@ pub mod Completeness
 pub mod Completions
 pub mod Declaring
 pub mod Ending
-pub mod Expressions
 pub mod Extensions
 pub mod Finding
 pub mod FindingBegin

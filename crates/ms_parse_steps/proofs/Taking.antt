@@ -1,5 +1,5 @@
 -- Steps as the code takes them.
-use Rattle.std.proofs.Common.{◌≡◌, ℕ, suc, ◌+◌, ◌-◌, Bool, true, false, inl, inr, List, [], ◌∷◌, Some, refl, sym, ap, ◌∙◌, subst, arith}
+use Rattle.std.proofs.Common.{◌≡◌, ◌≢◌, ℕ, suc, ◌+◌, ◌-◌, Bool, true, false, inl, inr, List, [], ◌∷◌, Some, refl, sym, ap, ◌∙◌, subst, arith}
 use Rattle.std.proofs.lemmas.Bool.{false≢true}
 use Rattle.std.specs.Prelude.{Result}
 use Rattle.ms_list.specs.declared.at.At.{At}
@@ -10,11 +10,8 @@ use Rattle.ms_logic.specs.declared.mode.Rel.TheVariants.{Equal}
 use Rattle.ms_parse_grammar.specs.declared.operator.Binary.TheVariants.{Relation}
 use Rattle.ms_parse_grammar.specs.Reads.{int_symbol, Starts, Follows}
 use Rattle.ms_parse_grammar.specs.Symbol.{Symbol, name, number, text, infix_operator, sign, kind, word_ws1s, open_round, close_round, close_curly, comma, semicolon, arrow, Placed, placed}
-use Rattle.ms_parse_grammar.specs.Grammar.{greatest_depth}
 use Rattle.ms_parse_grammar.specs.Tree.{Variables, no_variables, and_variable, Domain}
-use Rattle.ms_parse_grammar.specs.View.{expression_of}
 use Rattle.ms_parse_steps.specs.declared.frame.Frame.{Frame}
-use Rattle.ms_parse_steps.specs.declared.followed.Followed.{Followed}
 use Rattle.ms_parse_steps.specs.declared.outcome.Outcome.{Outcome}
 use Rattle.ms_parse_steps.specs.declared.punctuation.Punctuation.{Punctuation}
 use Rattle.ms_parse_steps.specs.declared.punctuation.Punctuation.TheVariants as marks
@@ -22,7 +19,7 @@ use Rattle.ms_parse_steps.specs.declared.parser.Parser.{Parser}
 use Rattle.ms_parse_steps.specs.declared.configuration.Configuration.{Configuration}
 use Rattle.ms_parse_steps.specs.declared.stop.Stop.{Stop}
 use Rattle.ms_parse_steps.specs.declared.terminal.Terminal.{Terminal}
-use Rattle.ms_parse_steps.specs.inner.Followed.{settled}
+use Rattle.ms_parse_steps.specs.declared.terminal.Terminal.TheVariants as terminals
 use Rattle.ms_parse_steps.specs.inner.Kinds.{IsKind, IsNoKind, last_order}
 use Rattle.ms_parse_steps.specs.inner.Machine as machine
 use Rattle.ms_parse_steps.specs.inner.Machine.{Move, took, misplaced, too_deep, is_mark, either_mark, mark_then, name_then, text_then, int_then, symbol_then, kind_then, settle}
@@ -157,17 +154,6 @@ pub kind_found : (vs : Variables) (o : Order) (further : Order → List Placed �
 kind_found vs o further ts ts' (inl follows) = ap (kind_then vs further) follows.1
 kind_found vs o further ts ts' (inr (none, last, same)) = kind_kept vs o further ts none last ∙ ap (further o) same
 
--- the same step, where it depends on what is known
-
-pub steps_by : {X : Type 0} (file : ℕ) (lexed : Lexed) (step : X → Move) (x is : X) (parser : Parser) (r : Result (Configuration × ℕ) Stop) → x ≡ is → StepsAs file lexed (step is) parser r → StepsAs file lexed (step x) parser r
-steps_by file lexed step x is parser r same stepped = subst (λ y. StepsAs file lexed (step y) parser r) (sym same) stepped
-
--- a step for which the stack was lent
-pub lent_acts : (c : machine.Context) (file : ℕ) (lexed : Lexed) (step : List Frame → Move) (lent old : List Frame) (r : Result (Outcome × ℕ) Stop) → lent ≡ old → ActsAs c file lexed (step lent) lent r → ActsAs c file lexed (step old) old r
-lent_acts c file lexed step lent old r whole is_so = subst (λ x. ActsAs c file lexed (step x) x r) whole is_so
-
--- a step that depends on the terminal behind a whole expression
-pub ends_by : (file : ℕ) (lexed : Lexed) (c : machine.Context) (bytes : List ℕ) (inside : Bool) (followed : Followed) (is : Terminal) (parser : Parser) (r : Result (Configuration × ℕ) Stop) → followed.terminal ≡ is
-    → StepsAs file lexed (settle greatest_depth c (symbol_with is bytes) inside (expression_of followed.operand.expr, []) (behind file lexed (followed.next - 1)) (behind file lexed followed.next)) parser r → StepsAs file lexed (settled file lexed c bytes inside followed []) parser r
-ends_by file lexed c bytes inside followed is parser r same stepped =
-    steps_by file lexed (λ s. settle greatest_depth c (symbol_with s bytes) inside (expression_of followed.operand.expr, []) (behind file lexed (followed.next - 1)) (behind file lexed followed.next)) followed.terminal is parser r same stepped
+-- where no name stands, the terminal is none
+pub no_name_terminal : (ts g : List Placed) (terminal : Terminal) (bytes : List ℕ) (at : At) → NoName ts → ts ≡ placed (symbol_with terminal bytes) at ∷ g → terminal ≢ terminals.Name
+no_name_terminal ts g terminal bytes at none next is = subst NoName (next ∙ ap (λ s. placed (symbol_with s bytes) at ∷ g) is) none

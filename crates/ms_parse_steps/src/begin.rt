@@ -1,6 +1,8 @@
-ghost use Rattle.std.specs.Prelude.{◌<◌, List, ◌-◌};
+ghost use Rattle.std.specs.Prelude.{◌≡◌, ◌<◌, List, ◌-◌};
+ghost use Rattle.ms_parse_grammar.specs.Tree.{listed, no_expressions};
+ghost use Rattle.ms_parse_steps.specs.inner.Punctuations.{closing, punctuation};
 ghost use Rattle.ms_parse_grammar.specs.Grammar.{greatest_depth};
-ghost use Rattle.ms_parse_steps.specs.inner.Machine.{Context, begin_name, begin_empty, begin_literal, begin_restrict, begin_export, begin_import, begin_pconst, with_room};
+ghost use Rattle.ms_parse_steps.specs.inner.Machine.{Context, begin_name, begin_empty, begin_restrict, begin_export, begin_import, begin_pconst, either_mark, enter_list, holding, took, with_room};
 ghost use Rattle.ms_parse_steps.specs.inner.Outcomes.{ActsAs};
 ghost use Rattle.ms_parse_steps.specs.inner.Terminals.{behind};
 ghost use Rattle.ms_parse_steps.specs.inner.Stack.{stack_of};
@@ -18,7 +20,42 @@ use ms_list::{At, List, Name};
 use ms_logic::Form;
 use ms_parse_grammar::{Bracket, Listing};
 
+/// The bracket behind a list.
+fn closing(listing: &Listing) -> Punctuation
+    ensures { result ≡ closing listing.now }
+{
+    match listing {
+        Listing::Literal => Punctuation::CloseCurly,
+        Listing::Call(_) => Punctuation::CloseRound,
+    }
+}
+
 impl Input<'_> {
+    /// A list begins behind its bracket, and may end at once.
+    pub fn begin_list(
+        self,
+        stack: &mut Vec<Frame>,
+        at: At,
+        listing: Listing,
+        i: u32,
+    ) -> Result<(Outcome, u32), Stop>
+        ensures { (c : Context) →
+            ActsAs c self.entry.file self.entry.tokens.now (either_mark (punctuation (closing listing)) (took (holding c (listed at listing no_expressions) (stack_of stack.old.items))) (enter_list greatest_depth c at listing (stack_of stack.old.items)) (behind self.entry.file self.entry.tokens.now i)) stack.new.items result }
+    {
+        let list = List::new(self.alloc);
+        if let Some(next) = self.behind_mark(i, closing(&listing)) {
+            let operand = finish(at, listed(listing, list), 0, i)?;
+            return Ok((Outcome::Holding(operand), next));
+        }
+        let operands = Operands { list, height: 0 };
+        let frame = Frame::Listed(Entries {
+            at,
+            listing,
+            operands,
+        });
+        enter(stack, frame, i, self.stop_inside(i))
+    }
+
     /// A name begins an expression: a call, where a bracket follows.
     pub fn begin_name(
         self,
@@ -34,17 +71,7 @@ impl Input<'_> {
             let operand = finish(at, Form::Name(name), 0, i)?;
             return Ok((Outcome::Holding(operand), i));
         };
-        let list = List::new(self.alloc);
-        if let Some(next) = self.behind_mark(inside, Punctuation::CloseRound) {
-            let operand = finish(at, listed(Listing::Call(name), list), 0, i)?;
-            return Ok((Outcome::Holding(operand), next));
-        }
-        let frame = Frame::Listed(Entries {
-            at,
-            listing: Listing::Call(name),
-            operands: Operands { list, height: 0 },
-        });
-        enter(stack, frame, inside, self.stop_inside(inside))
+        self.begin_list(stack, at, Listing::Call(name), inside)
     }
 
     /// `restrict` begins an expression.
@@ -78,29 +105,6 @@ impl Input<'_> {
         };
         let frame = Frame::Bracket(at, Bracket::Emptiness);
         enter(stack, frame, next, Stop::TooDeep(i))
-    }
-
-    /// `{` begins an expression.
-    pub fn begin_literal(
-        self,
-        stack: &mut Vec<Frame>,
-        at: At,
-        i: u32,
-    ) -> Result<(Outcome, u32), Stop>
-        ensures { (c : Context) →
-            ActsAs c self.entry.file self.entry.tokens.now (begin_literal greatest_depth c (stack_of stack.old.items) at (behind self.entry.file self.entry.tokens.now i)) stack.new.items result }
-    {
-        let list = List::new(self.alloc);
-        if let Some(next) = self.behind_mark(i, Punctuation::CloseCurly) {
-            let operand = finish(at, listed(Listing::Literal, list), 0, i)?;
-            return Ok((Outcome::Holding(operand), next));
-        }
-        let frame = Frame::Listed(Entries {
-            at,
-            listing: Listing::Literal,
-            operands: Operands { list, height: 0 },
-        });
-        enter(stack, frame, i, self.stop_inside(i))
     }
 
     /// `export` begins an expression.

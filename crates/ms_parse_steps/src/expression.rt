@@ -24,7 +24,7 @@ use crate::terminal::Terminal;
 use crate::top::need;
 use ms_list::{At, List};
 use ms_logic::{Form, Order, Quant};
-use ms_parse_grammar::{Bracket, Prefix};
+use ms_parse_grammar::{Bracket, Listing, Prefix};
 use std::alloc::Global;
 
 fn begin_atom(at: At, form: Form, i: u32) -> Result<(Outcome, u32), Stop>
@@ -129,7 +129,7 @@ impl Input<'_> {
             Terminal::Import => self.begin_import(stack, at, i),
             Terminal::Restrict => self.begin_restrict(stack, at, i),
             Terminal::Export => self.begin_export(stack, at, i),
-            Terminal::OpenCurly => self.begin_literal(stack, at, i),
+            Terminal::OpenCurly => self.begin_list(stack, at, Listing::Literal, i),
             Terminal::OpenRound => begin_bracket(stack, at, i),
             Terminal::Prefix(op) => begin_prefix(stack, at, op, i),
             Terminal::Quantifier(quant, order) => {

@@ -1,4 +1,6 @@
 -- The symbols that stand alone between names and expressions.
+use Rattle.ms_parse_grammar.specs.declared.operator.Listing.{Listing}
+use Rattle.ms_parse_grammar.specs.declared.operator.Listing.TheVariants.{Literal, Call}
 use Rattle.std.specs.Prelude.{◌≢◌, true, List, [], ◌∷◌}
 use Rattle.ms_logic.specs.declared.mode.Rel.TheVariants.{Equal}
 use Rattle.ms_parse_steps.specs.declared.punctuation.Punctuation.{Punctuation}
@@ -21,3 +23,8 @@ punctuation marks.Ws1s = word_ws1s
 abbrev pub IsNot : Symbol → List Placed → Type 0
 IsNot s [] = Unit {0}
 IsNot s (placed t at ∷ more) = t ≢ s
+
+-- the bracket behind a list
+abbrev pub closing : Listing → Punctuation
+closing Literal = marks.CloseCurly
+closing (Call p) = marks.CloseRound

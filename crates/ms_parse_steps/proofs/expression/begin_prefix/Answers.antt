@@ -5,7 +5,6 @@ use Rattle.ms_parse_steps.specs.inner.Machine.{prefix_frame, need, enter, mispla
 use Rattle.ms_parse_steps.specs.inner.Stack.{stack_of}
 use Rattle.ms_parse_steps.specs.inner.Terminals.{behind}
 use Rattle.ms_parse_steps.proofs.Frames.{chosen_yes}
-use Rattle.ms_parse_steps.proofs.Taking.{acts_as}
 use Rattle.ms_parse_steps.proofs.expression.begin_prefix.Goals as goal
 
 pub returns : goal.returns
@@ -14,6 +13,5 @@ returns c context file lexed =
     let from = behind file lexed (c.args.i - 1) in
     let least : c.need.result ≡ need st = c.need.ensures ∙ ap (λ x. need (stack_of x)) c.deref.ensures.value in
     let low : need st ≤ prefix_level c.args.op = omega (arith, c.level_of.ensures) in
-    acts_as context file lexed _ _ c.begin_frame.new.stack.items c.begin_frame.result
-    (chosen_yes (leb (need st) (prefix_level c.args.op)) (enter greatest_depth context (prefix_frame c.args.at c.args.op) st (too_deep from) (behind file lexed c.args.i)) (misplaced from) (le-leb (need st) (prefix_level c.args.op) low))
+    rw (chosen_yes (leb (need st) (prefix_level c.args.op)) (enter greatest_depth context (prefix_frame c.args.at c.args.op) st (too_deep from) (behind file lexed c.args.i)) (misplaced from) (le-leb (need st) (prefix_level c.args.op) low))
     (c.begin_frame.ensures context file lexed)

@@ -5,7 +5,6 @@ use Rattle.ms_parse_steps.specs.inner.Frames.{frame_of}
 use Rattle.ms_parse_steps.specs.inner.Terminals.{behind}
 use Rattle.ms_parse_steps.specs.inner.Stack.{stack_of}
 use Rattle.ms_parse_steps.proofs.Ending.{in_settled}
-use Rattle.ms_parse_steps.proofs.Taking.{acts_as}
 use Rattle.ms_parse_steps.proofs.go_on.settle_frame.Goals as goal
 
 pub returns-in-CloseRound : goal.returns-in-CloseRound
@@ -26,5 +25,4 @@ returns-in-Infix c context file lexed bytes inside is =
     let st = top ∷ stack_of c.args.stack.now.items in
     let e = expression_of c.args.followed.operand.expr in
     let ts = behind file lexed c.args.followed.next in
-    acts_as context file lexed _ _ c.end_parts.new.stack.items c.end_parts.result
-    (in_settled greatest_depth context c.args.followed.terminal c.in-Infix.field-0 bytes inside e st (behind file lexed (c.args.followed.next - 1)) ts c.in-Infix.is is) (c.end_parts.ensures context file lexed)
+    rw (in_settled greatest_depth context c.args.followed.terminal c.in-Infix.field-0 bytes inside e st (behind file lexed (c.args.followed.next - 1)) ts c.in-Infix.is is) (c.end_parts.ensures context file lexed)

@@ -8,15 +8,13 @@ use Rattle.ms_parse_steps.specs.inner.Stack.{stack_of}
 use Rattle.ms_parse_steps.proofs.Joins.{first_joined, other_joined}
 use Rattle.ms_parse_steps.proofs.Moves.{further_joined}
 use Rattle.ms_parse_steps.proofs.join.join.Goals as goal
-use Rattle.ms_parse_steps.proofs.Taking.{acts_as}
 use Rattle.ms_parse_grammar.specs.Grammar.{greatest_depth}
 
 pub returns-in_default : goal.returns-in_default
 returns-in_default c context file lexed =
     let e = expression_of c.args.operand.expr in
     let ts = behind file lexed c.args.i in
-    acts_as context file lexed _ _ c.join_new.new.stack.items c.join_new.result
-    (ap (λ x. join greatest_depth context c.args.op e x (behind file lexed (c.args.i - 1)) ts) c.in_default.ensures.top ∙ first_joined greatest_depth context c.args.op e (behind file lexed (c.args.i - 1)) ts ∙ ap (λ x. join_new greatest_depth context c.args.op e x (behind file lexed (c.args.i - 1)) ts) (sym c.in_default.ensures.none))
+    rw (ap (λ x. join greatest_depth context c.args.op e x (behind file lexed (c.args.i - 1)) ts) c.in_default.ensures.top ∙ first_joined greatest_depth context c.args.op e (behind file lexed (c.args.i - 1)) ts ∙ ap (λ x. join_new greatest_depth context c.args.op e x (behind file lexed (c.args.i - 1)) ts) (sym c.in_default.ensures.none))
     (c.join_new.ensures context file lexed)
 
 pub returns-in-Further : goal.returns-in-Further
@@ -27,8 +25,7 @@ returns-in-Further c context file lexed =
     let chain = c.in-Further.chain in
     let es = expressions_of chain.operands.list in
     let from = behind file lexed (c.args.i - 1) in
-    acts_as context file lexed _ _ c.join_further.new.stack.items c.join_further.result
-    (ap (λ x. join greatest_depth context c.args.op e x from ts) (c.in-Some.ensures.top ∙ ap (λ f. f ∷ below) (c.in-Further.ensures.0 ∙ ap (λ op. joined_frame chain.at op es) c.in-Further.ensures.1))
+    rw (ap (λ x. join greatest_depth context c.args.op e x from ts) (c.in-Some.ensures.top ∙ ap (λ f. f ∷ below) (c.in-Further.ensures.0 ∙ ap (λ op. joined_frame chain.at op es) c.in-Further.ensures.1))
     ∙ further_joined greatest_depth context c.args.op chain.at es e below from ts ∙ ap (λ op. enter greatest_depth context (joined_frame chain.at op (and_expression es e)) below (too_deep from) ts) (sym c.in-Further.ensures.1))
     (c.join_further.ensures context file lexed)
 
@@ -38,7 +35,6 @@ returns-in_ok-push_frame-in-Other c context file lexed =
     let ts = behind file lexed c.args.i in
     let below = stack_of c.pop_frame.new.stack.items in
     let f = frame_of c.in-Some.frame in
-    acts_as context file lexed _ _ c.join_new-in-Other.new.stack.items c.join_new-in-Other.result
-    (ap (λ x. join greatest_depth context c.args.op e x (behind file lexed (c.args.i - 1)) ts) c.in-Some.ensures.top ∙ other_joined greatest_depth context c.args.op e f below (behind file lexed (c.args.i - 1)) ts c.in-Other.ensures.1
+    rw (ap (λ x. join greatest_depth context c.args.op e x (behind file lexed (c.args.i - 1)) ts) c.in-Some.ensures.top ∙ other_joined greatest_depth context c.args.op e f below (behind file lexed (c.args.i - 1)) ts c.in-Other.ensures.1
     ∙ ap (λ x. join_new greatest_depth context c.args.op e x (behind file lexed (c.args.i - 1)) ts) (sym (c.in_ok-push_frame-in-Other.ensures.ok ∙ ap (λ g. g ∷ below) c.in-Other.ensures.0)))
     (c.join_new-in-Other.ensures context file lexed)

@@ -7,7 +7,7 @@ use Rattle.ms_parse_steps.specs.inner.Machine.{bracket_frame, wanted, took, misp
 use Rattle.ms_parse_steps.specs.inner.Stack.{stack_of}
 use Rattle.ms_parse_steps.specs.inner.Terminals.{behind, IsNext}
 use Rattle.ms_parse_steps.proofs.Steps.{roomy, entered}
-use Rattle.ms_parse_steps.proofs.Taking.{acts_as, mark_missing, text_found}
+use Rattle.ms_parse_steps.proofs.Taking.{mark_missing, text_found}
 use Rattle.ms_parse_steps.proofs.input.Input.begin_export.Goals as goal
 
 pub returns : goal.returns
@@ -20,8 +20,7 @@ returns c context =
     let f = bracket_frame c.args.at (Export c.in-Some-2.at_text c.in-Some-2.text) in
     let texts : IsNext file lexed inside (text c.in-Some-2.text) c.in-Some-2.at_text = search rules in
     let room : suc (suc (length st)) ≤ greatest_depth = subst (λ x. suc (suc (length (stack_of x))) ≤ greatest_depth) c.deref.ensures.value (c.has_room.ensures.yes (search rules)) in
-    acts_as context file lexed _ _ c.enter.new.stack.items c.enter.result
-    (roomy greatest_depth st from (begin_export context st c.args.at (behind file lexed c.args.i)) room ∙ ap (begin_export context st c.args.at) c.in-Some.ensures.some.1
+    rw (roomy greatest_depth st from (begin_export context st c.args.at (behind file lexed c.args.i)) room ∙ ap (begin_export context st c.args.at) c.in-Some.ensures.some.1
     ∙ text_found (λ a t. mark_then comma (took (wanted context (bracket_frame c.args.at (Export a t) ∷ st)))) file lexed inside c.in-Some-2.text c.in-Some-2.at_text texts
     ∙ ap (mark_then comma (took (wanted context (f ∷ st)))) c.in-Some-behind_mark.ensures.some.1 ∙ sym (entered greatest_depth context f st (too_deep from) (behind file lexed c.in-Some-behind_mark.next) room (omega arith)))
     (c.enter.ensures context file lexed (too_deep from) (search rules))

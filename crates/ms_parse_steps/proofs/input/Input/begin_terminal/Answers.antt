@@ -30,7 +30,7 @@ pub returns-in-Export : goal.returns-in-Export
 returns-in-Export c context bytes other = rw c.in-Export.is (c.begin_export.ensures context)
 
 pub returns-in-OpenCurly : goal.returns-in-OpenCurly
-returns-in-OpenCurly c context bytes other = rw c.in-OpenCurly.is (c.begin_literal.ensures context)
+returns-in-OpenCurly c context bytes other = rw c.in-OpenCurly.is (c.begin_list.ensures context)
 
 pub returns-in-OpenRound : goal.returns-in-OpenRound
 returns-in-OpenRound c context bytes other = rw c.in-OpenRound.is (c.begin_bracket.ensures context c.args.self.file c.args.self.tokens.now)

@@ -7,7 +7,7 @@ use Rattle.ms_parse_steps.specs.inner.Stack.{stack_of}
 use Rattle.ms_parse_steps.specs.inner.Configurations.{context_of}
 use Rattle.ms_parse_steps.specs.inner.Terminals.{symbol_with, behind, IsNext}
 use Rattle.ms_parse_steps.proofs.Ending.{held_settled}
-use Rattle.ms_parse_steps.proofs.Taking.{steps_as, symbol_behind}
+use Rattle.ms_parse_steps.proofs.Taking.{symbol_behind}
 use Rattle.ms_parse_steps.proofs.input.Input.go_on.Goals as goal
 
 pub returns : goal.returns
@@ -23,7 +23,6 @@ returns c =
     let next : (bytes : List ℕ) × IsNext file lexed i (symbol_with sign bytes) at = search rules in
     let s = symbol_with sign next.0 in
     let same : c.ends_part-is_end.result ≡ ends_part (in_part st) s = c.ends_part-is_end.ensures next.0 ∙ ap (λ x. ends_part (in_part (stack_of x)) s) c.deref.ensures.value in
-    steps_as file lexed _ _ c.settle.new.parser c.settle.result
-    (symbol_behind (λ a. go_on greatest_depth context e st) file lexed i s at next.1
+    rw (symbol_behind (λ a. go_on greatest_depth context e st) file lexed i s at next.1
     ∙ held_settled greatest_depth context e (expression_of c.in_ok-operand.operand.expr) st (stack_of c.collapse.new.stack.items) s (behind file lexed (i + 1 - 1)) (behind file lexed (i + 1)) c.bound-looseness.result (c.bound-looseness.ensures next.0 (in_part st) same) c.in_ok-operand.ensures)
     (c.settle.ensures next.0 (in_part st) same)

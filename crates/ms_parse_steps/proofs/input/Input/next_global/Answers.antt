@@ -3,7 +3,7 @@ use Rattle.ms_parse_grammar.specs.Symbol.{name}
 use Rattle.ms_parse_grammar.specs.View.{document_of, variables_of}
 use Rattle.ms_parse_steps.specs.inner.Machine.{behind_global, symbol_then}
 use Rattle.ms_parse_steps.specs.inner.Terminals.{symbol_with, IsNext}
-use Rattle.ms_parse_steps.proofs.Taking.{steps_as, name_found, symbol_second}
+use Rattle.ms_parse_steps.proofs.Taking.{name_found, symbol_second}
 use Rattle.ms_parse_steps.proofs.input.Input.next_global.Goals as goal
 
 pub returns : goal.returns
@@ -15,7 +15,6 @@ returns c =
     let further = behind_global (document_of c.args.parser.now.source) g.at g.order (variables_of g.list) in
     let names : IsNext file lexed i (name c.in-Some.name) c.in-Some.at_name = search rules in
     let next : (bytes : List ℕ) × IsNext file lexed (i + 1) (symbol_with c.in-Some-terminal_at.terminal bytes) c.in-Some-terminal_at.field-0-1 = search rules in
-    steps_as file lexed _ _ c.behind_global.new.self c.behind_global.result
-    (name_found (λ a n. symbol_then (λ x. further a n)) file lexed i c.in-Some.name c.in-Some.at_name names
+    rw (name_found (λ a n. symbol_then (λ x. further a n)) file lexed i c.in-Some.name c.in-Some.at_name names
     ∙ symbol_second (λ x. further c.in-Some.at_name c.in-Some.name) file lexed i (symbol_with c.in-Some-terminal_at.terminal next.0) c.in-Some-terminal_at.field-0-1 next.1)
     (c.behind_global.ensures file lexed next.0)

@@ -3,7 +3,7 @@ use Rattle.ms_parse_grammar.specs.Reads.{int_symbol, Starts}
 use Rattle.ms_parse_steps.specs.inner.Machine.{summand, summand_wanted, took}
 use Rattle.ms_parse_grammar.specs.View.{document_of}
 use Rattle.ms_parse_steps.specs.inner.Terminals.{behind, symbol_with, IsNext, NoInt}
-use Rattle.ms_parse_steps.proofs.Taking.{steps_as, int_found, int_missing, symbol_found}
+use Rattle.ms_parse_steps.proofs.Taking.{int_found, int_missing, symbol_found}
 use Rattle.ms_parse_steps.proofs.input.Input.next_summand.Goals as goal
 
 pub returns-in-Semicolon : goal.returns-in-Semicolon
@@ -14,8 +14,7 @@ returns-in-Semicolon c =
     let k = c.args.constant in
     let further = summand (document_of c.args.parser.now.source) k.at k.at_name k.name k.sum in
     let next : (bytes : List ℕ) × IsNext file lexed i (symbol_with c.in-Some.terminal bytes) c.in-Some.field-0-1 = search rules in
-    steps_as file lexed _ _ c.declared.new.self c.declared.result
-    (symbol_found (λ a. further) file lexed i (symbol_with c.in-Some.terminal next.0) c.in-Some.field-0-1 next.1
+    rw (symbol_found (λ a. further) file lexed i (symbol_with c.in-Some.terminal next.0) c.in-Some.field-0-1 next.1
     ∙ ap (λ s. further (symbol_with s next.0) (behind file lexed i) (behind file lexed (i + 1))) c.in-Semicolon.is)
     (c.declared.ensures file lexed)
 

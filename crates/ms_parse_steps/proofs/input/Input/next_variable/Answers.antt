@@ -5,7 +5,7 @@ use Rattle.ms_parse_grammar.specs.View.{variables_of}
 use Rattle.ms_parse_steps.specs.inner.Machine.{behind_variable, symbol_then}
 use Rattle.ms_parse_steps.specs.inner.Stack.{stack_of}
 use Rattle.ms_parse_steps.specs.inner.Terminals.{symbol_with, IsNext}
-use Rattle.ms_parse_steps.proofs.Taking.{acts_as, name_found, symbol_second}
+use Rattle.ms_parse_steps.proofs.Taking.{name_found, symbol_second}
 use Rattle.ms_parse_steps.proofs.input.Input.next_variable.Goals as goal
 
 pub returns : goal.returns
@@ -16,7 +16,6 @@ returns c context =
     let further = behind_variable greatest_depth context (stack_of c.args.stack.now.items) c.args.binder.at c.args.binder.quant c.args.binder.order (variables_of c.args.binder.bounds.list) in
     let names : IsNext file lexed i (name c.in-Some.name) c.in-Some.at_name = search rules in
     let next : (bytes : List ℕ) × IsNext file lexed (i + 1) (symbol_with c.in-Some-terminal_at.terminal bytes) c.in-Some-terminal_at.field-0-1 = search rules in
-    acts_as context file lexed _ _ c.behind_variable.new.stack.items c.behind_variable.result
-    (name_found (λ a n. symbol_then (λ x. further a n)) file lexed i c.in-Some.name c.in-Some.at_name names
+    rw (name_found (λ a n. symbol_then (λ x. further a n)) file lexed i c.in-Some.name c.in-Some.at_name names
     ∙ symbol_second (λ x. further c.in-Some.at_name c.in-Some.name) file lexed i (symbol_with c.in-Some-terminal_at.terminal next.0) c.in-Some-terminal_at.field-0-1 next.1)
     (c.behind_variable.ensures context file lexed next.0)

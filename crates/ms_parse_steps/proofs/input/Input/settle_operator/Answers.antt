@@ -4,7 +4,6 @@ use Rattle.ms_parse_steps.specs.inner.Terminals.{behind}
 use Rattle.ms_parse_steps.specs.inner.Stack.{stack_of}
 use Rattle.ms_parse_steps.proofs.Ending.{infix_settled}
 use Rattle.ms_parse_steps.proofs.input.Input.settle_operator.Goals as goal
-use Rattle.ms_parse_steps.proofs.Taking.{acts_as}
 use Rattle.ms_parse_grammar.specs.Grammar.{greatest_depth}
 
 pub returns-in-Infix : goal.returns-in-Infix
@@ -14,8 +13,7 @@ returns-in-Infix c context bytes inside is =
     let st = stack_of c.args.stack.now.items in
     let e = expression_of c.args.followed.operand.expr in
     let ts = behind file lexed c.args.followed.next in
-    acts_as context file lexed _ _ c.shift.new.stack.items c.shift.result
-    (infix_settled greatest_depth context c.args.followed.terminal c.in-Infix.op bytes inside e st (behind file lexed (c.args.followed.next - 1)) ts c.in-Infix.is is) (c.shift.ensures context file lexed)
+    rw (infix_settled greatest_depth context c.args.followed.terminal c.in-Infix.op bytes inside e st (behind file lexed (c.args.followed.next - 1)) ts c.in-Infix.is is) (c.shift.ensures context file lexed)
 
 pub returns-in-Joining : goal.returns-in-Joining
 returns-in-Joining c context bytes inside is = rw c.in-Joining.is (c.join.ensures context c.args.self.file c.args.self.tokens.now)
