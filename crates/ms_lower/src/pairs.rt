@@ -1,5 +1,5 @@
 ghost use Rattle.ms_logic_core.specs.CoreForm.{core_form_of};
-ghost use Rattle.ms_logic_core.specs.Spread.{is_member_or_not, numbers_relate, sets_relate, spread_number, spread_set};
+ghost use Rattle.ms_logic_core.specs.Spread.{spread_number, spread_set};
 ghost use Rattle.ms_logic.specs.Tree as tree;
 ghost use Rattle.ms_logic.specs.View.{set_term_of, term_of};
 ghost use Rattle.ms_logic.specs.declared.mode.Order.TheVariants.{One, Two};
@@ -86,34 +86,6 @@ fn over_two(alloc: Global, two: TermPair, body: Boxed<Core>) -> Result<Boxed<Cor
     over(alloc, first, body)
 }
 
-// A relation of two numbers.
-fn compare(alloc: Global, rel: Rel, two: TermPair) -> Result<Boxed<Core>, NoMemory>
-    ensures { IfOk result (λ core. core_form_of core
-        ≡ below two.first (below two.second (numbers_relate rel two.first.number two.second.number))) }
-{
-    let body = number_relation(alloc, rel, two.first.number, two.second.number)?;
-    over_two(alloc, two, body)
-}
-
-// A relation of two sets.
-fn compare_sets(alloc: Global, rel: Rel, two: TermPair) -> Result<Boxed<Core>, NoMemory>
-    ensures { IfOk result (λ core. core_form_of core
-        ≡ below two.first (below two.second (sets_relate rel two.first.number two.second.number))) }
-{
-    let body = set_relation(alloc, rel, two.first.number, two.second.number)?;
-    over_two(alloc, two, body)
-}
-
-// `in`, or where it is not positive `notin`.
-fn member(alloc: Global, positive: bool, two: TermPair) -> Result<Boxed<Core>, NoMemory>
-    ensures { IfOk result (λ core. core_form_of core
-        ≡ below two.first (below two.second (is_member_or_not positive two.first.number two.second.number))) }
-{
-    let relates = Basic::Member(two.first.number, two.second.number);
-    let body = relate(alloc, relates, positive)?;
-    over_two(alloc, two, body)
-}
-
 /// A relation of two terms for numbers.
 #[inline(never)]
 pub fn comparison(
@@ -127,7 +99,8 @@ pub fn comparison(
         (tree.comparison rel (term_of sides.entry.0.now) (term_of sides.entry.1.now)) (names_in scope.now) free) }
 {
     let two = two_numbers(tables, scope, sides.0, sides.1, free)?;
-    compare(tables.alloc, rel, two)
+    let relates = number_relation(tables.alloc, rel, two.first.number, two.second.number)?;
+    over_two(tables.alloc, two, relates)
 }
 
 /// A relation of two terms for sets.
@@ -143,7 +116,8 @@ pub fn set_comparison(
         (tree.set_comparison rel (set_term_of sides.entry.0.now) (set_term_of sides.entry.1.now)) (names_in scope.now) free) }
 {
     let two = two_sets(tables, scope, sides.0, sides.1, free)?;
-    compare_sets(tables.alloc, rel, two)
+    let relates = set_relation(tables.alloc, rel, two.first.number, two.second.number)?;
+    over_two(tables.alloc, two, relates)
 }
 
 /// `in` of a term for a number and a term for a set, or where it is not positive `notin`.
@@ -159,7 +133,9 @@ pub fn membership(
         (tree.membership positive (term_of sides.entry.0.now) (set_term_of sides.entry.1.now)) (names_in scope.now) free) }
 {
     let two = number_and_set(tables, scope, sides.0, sides.1, free)?;
-    member(tables.alloc, positive, two)
+    let member = Basic::Member(two.first.number, two.second.number);
+    let relates = relate(tables.alloc, member, positive)?;
+    over_two(tables.alloc, two, relates)
 }
 
 /// `empty` of a term for a set.
