@@ -14,11 +14,11 @@ use Rattle.ms_parse_grammar.specs.declared.operator.Listing.TheVariants.{Literal
 use Rattle.ms_parse_grammar.specs.Tree.{enclosed, listed}
 use Rattle.ms_parse_grammar.specs.Tree.{Expression, shifted, Expressions, no_expressions, and_expression, Variables, and_variable, restricted, and_part}
 use Rattle.ms_parse_grammar.specs.Tree.{Declaration, variables, predicate, default_restriction, formula, goal, Document}
-use Rattle.ms_parse_grammar.specs.Grammar.{binary_level, left_level, junction_level, level, ends_open, is_in, right_level, operand_level, has_bare_in, some_bare_in, domain_bare_in, depth}
+use Rattle.ms_parse_grammar.specs.Grammar.{binary_level, left_level, junction_level, level, ends_open, is_in, right_level, operand_level, has_bare_in, some_bare_in, domain_bare_in, depth, IsGrammatical}
 use Rattle.ms_parse_grammar.specs.Reads.{Starts, ReadsInt, place, FirstIsAt, ReadsExpression}
 use Rattle.ms_parse_grammar.specs.Declarations.{ReadsParameterList, ReadsDeclaration, BeginsAt}
-use Rattle.ms_parse_steps.specs.inner.Machine.{Head, Frame, prefix_frame, left_frame, joined_frame, bracket_frame, list_frame, domain_frame, body_frame, part_frame, let_frame, Context, in_formula, in_global, in_parameter, in_predicate, in_default, in_goal, holding, need, enter, ends, bound, shift, join_new, join, took, misplaced, too_deep, int_then, shift_int, declare, body_of, close_round_at, close_curly_at, comma_at, colon_at, in_at, semicolon_at, settle}
-use Rattle.ms_parse_steps.proofs.Frames.{Held, both_false, Stands, Collapsed, chosen}
+use Rattle.ms_parse_steps.specs.inner.Machine.{Head, Frame, prefix_frame, left_frame, joined_frame, bracket_frame, list_frame, domain_frame, body_frame, part_frame, let_frame, Context, in_formula, in_global, in_parameter, in_predicate, in_default, in_goal, holding, need, enter, ends, bound, shift, join_new, join, took, hold, misplaced, too_deep, int_then, shift_int, declare, body_of, close_round_at, close_curly_at, comma_at, colon_at, in_at, semicolon_at, settle}
+use Rattle.ms_parse_steps.proofs.Frames.{Held, InFrames, both_false, Stands, Collapsed, chosen}
 use Rattle.ms_parse_steps.proofs.Extensions.{entries_extended, variables_extended, parts_extended, parameters_extended, declarations_extended, all_declared}
 use Rattle.ms_parse_steps.proofs.Soundness.{SoFar, InContext, Good, GoodNext, need_small, enter_good}
 use Rattle.ms_parse_steps.proofs.Limits.{IsWithin, AreDomainsWithin, IsDeclarationWithin}
@@ -178,40 +178,33 @@ body_of_good limit some all d head vs f g h i (placed (infix_operator (Relation 
     (ts, (f, g, h, placed (infix_operator (Relation Equal)) a ∷ ts, so_far, words, starts, list, (a, refl), good), refl, omega arith)
 body_of_good limit some all d head vs f g h i _ so_far words starts list good = tt
 
+-- an expression that a bracket has ended
+hold_good : (limit : ℕ) (all here : List Placed) (c : Context) (e : Expression) (st : List Frame) (from middle ts : List Placed) → InContext limit c all from → InFrames limit st from middle
+    → ReadsExpression true e middle ts → IsGrammatical e → need st ≤ level e → length st + depth e ≤ limit → has_bare_in e ≡ false → ends_open e ≡ false → GoodNext limit all (hold limit c e st here ts)
+hold_good limit all here c e st from middle ts context below reads good needs deep quiet closed =
+    let held : Held limit e st from ts = record {
+      middle = middle;
+      frames = below;
+      reads = reads;
+      grammatical = good;
+      needs = needs;
+      deep = deep;
+      quiet = λ p. quiet;
+    } in
+    chosen (GoodNext limit all) (leb (depth e) limit) (took (holding c e st) ts) (too_deep here) (λ small. (from, context, held, closed)) (λ large. tt)
+
 close_round_good : (limit : ℕ) (some : 1 ≤ limit) (all here : List Placed) (c : Context) (e : Expression) (st : List Frame) (from ts : List Placed) (a : At) → InContext limit c all from → Held limit e st from (placed close_round a ∷ ts)
     → GoodNext limit all (close_round_at limit c e st here ts)
 close_round_good limit some all here c e (bracket_frame at b ∷ st) from ts a context held =
     let (m, below, reads, good, deep) = held.frames in
-    chosen (GoodNext limit all) (leb (depth (enclosed at b e)) limit) (took (holding c (enclosed at b e) st) ts) (too_deep here) (λ small. (
-      from,
-      context,
-      record {
-        middle = m;
-        frames = below;
-        reads = (held.middle, placed close_round a ∷ ts, reads, held.reads, (a, refl));
-        grammatical = held.grammatical;
-        needs = need_small st;
-        deep = omega (arith, held.deep);
-        quiet = λ p. refl;
-      },
-      refl,
-    )) (λ large. tt)
+    hold_good limit all here c (enclosed at b e) st from m ts context below
+    (held.middle, placed close_round a ∷ ts, reads, held.reads, (a, refl))
+    held.grammatical (need_small st) (omega (arith, held.deep)) refl refl
 close_round_good limit some all here c e (list_frame at (Call p) es ∷ st) from ts a context held =
     let (m, below, reads, good, deep) = held.frames in
-    chosen (GoodNext limit all) (leb (depth (listed at (Call p) (and_expression es e))) limit) (took (holding c (listed at (Call p) (and_expression es e)) st) ts) (too_deep here) (λ small. (
-      from,
-      context,
-      record {
-        middle = m;
-        frames = below;
-        reads = (reads.0, placed close_round a ∷ ts, reads.1, entries_extended es e reads.0 held.middle (placed close_round a ∷ ts) reads.2 held.reads, (a, refl));
-        grammatical = (good, held.grammatical);
-        needs = need_small st;
-        deep = omega (arith, held.deep, deep);
-        quiet = λ p. refl;
-      },
-      refl,
-    )) (λ large. tt)
+    hold_good limit all here c (listed at (Call p) (and_expression es e)) st from m ts context below
+    (reads.0, placed close_round a ∷ ts, reads.1, entries_extended es e reads.0 held.middle (placed close_round a ∷ ts) reads.2 held.reads, (a, refl))
+    (good, held.grammatical) (need_small st) (omega (arith, held.deep, deep)) refl refl
 close_round_good limit some all here (in_parameter d head vs o at_v n) e [] from ts a (f, g, h, i, j, k, l, so_far, words, starts, opens, before, kinds, names, follow, good) held =
     body_of_good limit some all d head (and_variable vs at_v o n (restricted e)) f g h i ts so_far words starts (
       i,
@@ -227,20 +220,9 @@ close_curly_good : (limit : ℕ) (all here : List Placed) (c : Context) (e : Exp
     → GoodNext limit all (close_curly_at limit c e st here ts)
 close_curly_good limit all here c e (list_frame at Literal es ∷ st) from ts a context held =
     let (m, below, reads, good, deep) = held.frames in
-    chosen (GoodNext limit all) (leb (depth (listed at Literal (and_expression es e))) limit) (took (holding c (listed at Literal (and_expression es e)) st) ts) (too_deep here) (λ small. (
-      from,
-      context,
-      record {
-        middle = m;
-        frames = below;
-        reads = (reads.0, placed close_curly a ∷ ts, reads.1, entries_extended es e reads.0 held.middle (placed close_curly a ∷ ts) reads.2 held.reads, (a, refl));
-        grammatical = (good, held.grammatical);
-        needs = need_small st;
-        deep = omega (arith, held.deep, deep);
-        quiet = λ p. refl;
-      },
-      refl,
-    )) (λ large. tt)
+    hold_good limit all here c (listed at Literal (and_expression es e)) st from m ts context below
+    (reads.0, placed close_curly a ∷ ts, reads.1, entries_extended es e reads.0 held.middle (placed close_curly a ∷ ts) reads.2 held.reads, (a, refl))
+    (good, held.grammatical) (need_small st) (omega (arith, held.deep, deep)) refl refl
 close_curly_good limit all here c e _ from ts a context held = tt
 
 comma_good : (limit : ℕ) (all here : List Placed) (c : Context) (e : Expression) (st : List Frame) (from ts : List Placed) (a : At) → InContext limit c all from → Held limit e st from (placed comma a ∷ ts)
