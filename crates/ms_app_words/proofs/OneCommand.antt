@@ -7,7 +7,8 @@ use Rattle.ms_dfa.specs.declared.plain.FileVersion.TheVariants.{One, Two}
 use Rattle.ms_app_words.specs.declared.command.Command.{Command}
 use Rattle.ms_app_words.specs.declared.command.Command.TheVariants.{Decide, Same, Gen, Ltl, Presburger, Check, Certify}
 use Rattle.ms_app_words.specs.declared.command.Verb.{Verb}
-use Rattle.ms_app_words.proofs.Verbs.{as_certify, as_check, as_decide, as_gen, as_ltl, as_presburger, as_same}
+use Rattle.ms_app_words.specs.declared.command.Verb.TheVariants as verb
+use Rattle.ms_app_words.proofs.Verbs.{Values, made, made_by}
 
 same_verb : (one other : Verb) → Some one ≡ Some other → one ≡ other
 same_verb one other same = cc
@@ -30,51 +31,48 @@ same_number : (found : Option Text) (one other : ℕ) → HasNumber found one �
 same_number None one other is is' = absurd is
 same_number (Some text) one other is is' = is.0.is ∙ sym is'.0.is
 
-same_of_file : (rows : List Row) (file file' : Text) (limit limit' : ℕ) → AsksOfFile rows file limit → AsksOfFile rows file' limit' → (file ≡ file') × (limit ≡ limit')
-same_of_file rows file file' limit limit' asks asks' = (same_text _ file file' asks.0 asks'.0, same_limit _ limit limit' asks.1 asks'.1)
+module _ (rows : List Row) where
+  same_of_file : (file file' : Text) (limit limit' : ℕ) → AsksOfFile rows file limit → AsksOfFile rows file' limit' → (file ≡ file') × (limit ≡ limit')
+  same_of_file file file' limit limit' asks asks' = (same_text _ file file' asks.0 asks'.0, same_limit _ limit limit' asks.1 asks'.1)
 
-same_asked : (rows : List Row) (one other : Command) → verb_of one ≡ verb_of other → Asks rows one → Asks rows other → one ≡ other
-same_asked rows (Decide file out limit stats format) other same asks others =
-    let of = as_decide other (sym same) in
-    let asks' = subst (Asks rows) of.5 others in
-    ap (λ f. Decide f out limit stats format) (same_text _ file of.0 asks.0 asks'.0)
-    ∙ ap (λ o. Decide of.0 o limit stats format) (asks.1 ∙ sym asks'.1)
-    ∙ ap (λ l. Decide of.0 of.1 l stats format) (same_limit _ limit of.2 asks.2 asks'.2)
-    ∙ ap (λ s. Decide of.0 of.1 of.2 s format) (asks.3 ∙ sym asks'.3)
-    ∙ ap (λ v. Decide of.0 of.1 of.2 of.3 v) (same_format _ format of.4 asks.4 asks'.4)
-    ∙ sym of.5
-same_asked rows (Same left right limit) other same asks others =
-    let of = as_same other (sym same) in
-    let asks' = subst (Asks rows) of.3 others in
-    ap (λ l. Same l right limit) (same_text _ left of.0 asks.0 asks'.0)
-    ∙ ap (λ r. Same of.0 r limit) (same_text _ right of.1 asks.1 asks'.1)
-    ∙ ap (λ n. Same of.0 of.1 n) (same_limit _ limit of.2 asks.2 asks'.2)
-    ∙ sym of.3
-same_asked rows (Gen number decide) other same asks others =
-    let of = as_gen other (sym same) in
-    let asks' = subst (Asks rows) of.2 others in
-    ap (λ n. Gen n decide) (same_number _ number of.0 asks.0 asks'.0) ∙ ap (λ d. Gen of.0 d) (asks.1 ∙ sym asks'.1) ∙ sym of.2
-same_asked rows (Ltl file limit) other same asks others =
-    let of = as_ltl other (sym same) in
-    let both = same_of_file rows file of.0 limit of.1 asks (subst (Asks rows) of.2 others) in
-    ap (λ f. Ltl f limit) both.0 ∙ ap (λ n. Ltl of.0 n) both.1 ∙ sym of.2
-same_asked rows (Presburger file limit) other same asks others =
-    let of = as_presburger other (sym same) in
-    let both = same_of_file rows file of.0 limit of.1 asks (subst (Asks rows) of.2 others) in
-    ap (λ f. Presburger f limit) both.0 ∙ ap (λ n. Presburger of.0 n) both.1 ∙ sym of.2
-same_asked rows (Check name) other same asks others =
-    let of = as_check other (sym same) in
-    ap (λ n. Check n) (same_text _ name of.0 asks (subst (Asks rows) of.1 others)) ∙ sym of.1
-same_asked rows (Certify file name limit) other same asks others =
-    let of = as_certify other (sym same) in
-    let asks' = subst (Asks rows) of.3 others in
-    let both = same_of_file rows file of.0 limit of.2 asks.0 asks'.0 in
-    ap (λ f. Certify f name limit) both.0 ∙ ap (λ n. Certify of.0 n limit) (same_text _ name of.1 asks.1 asks'.1) ∙ ap (λ l. Certify of.0 of.1 l) both.1 ∙ sym of.3
+  same_values : (verb : Verb) (one other : Values verb) → Asks rows (made verb one) → Asks rows (made verb other) → made verb one ≡ made verb other
+  same_values verb.Decide one other asks others =
+      let file = same_of_file one.0 other.0 one.2 other.2 (asks.0, asks.2) (others.0, others.2) in
+      let out = asks.1 ∙ sym others.1 in
+      let stats = asks.3 ∙ sym others.3 in
+      let format = same_format _ one.4 other.4 asks.4 others.4 in
+      λ i. Decide (file.0 i) (out i) (file.1 i) (stats i) (format i)
+  same_values verb.Same one other asks others =
+      let left = same_text _ one.0 other.0 asks.0 others.0 in
+      let right = same_text _ one.1 other.1 asks.1 others.1 in
+      let limit = same_limit _ one.2 other.2 asks.2 others.2 in
+      λ i. Same (left i) (right i) (limit i)
+  same_values verb.Gen one other asks others =
+      let number = same_number _ one.0 other.0 asks.0 others.0 in
+      let decide = asks.1 ∙ sym others.1 in
+      λ i. Gen (number i) (decide i)
+  same_values verb.Ltl one other asks others =
+      let file = same_of_file one.0 other.0 one.1 other.1 asks others in
+      λ i. Ltl (file.0 i) (file.1 i)
+  same_values verb.Presburger one other asks others =
+      let file = same_of_file one.0 other.0 one.1 other.1 asks others in
+      λ i. Presburger (file.0 i) (file.1 i)
+  same_values verb.Check one other asks others = ap Check (same_text _ one other asks others)
+  same_values verb.Certify one other asks others =
+      let file = same_of_file one.0 other.0 one.2 other.2 asks.0 others.0 in
+      let name = same_text _ one.1 other.1 asks.1 others.1 in
+      λ i. Certify (file.0 i) (name i) (file.1 i)
+
+  same_asked : (verb : Verb) (one other : Command) → AsksBy verb rows one → AsksBy verb rows other → one ≡ other
+  same_asked verb one other asked others =
+      let of = made_by verb one asked.0 in
+      let of' = made_by verb other others.0 in
+      of.1 ∙ same_values verb of.0 of'.0 (subst (Asks rows) of.1 asked.1) (subst (Asks rows) of'.1 others.1) ∙ sym of'.1
 
 pub one_command : (words : List Text) (one other : Command) → IsCommand words one → IsCommand words other → one ≡ other
 one_command words one other is is' =
     let same : verb_of one ≡ verb_of other = same_verb (verb_of one) (verb_of other) (sym is.verb ∙ is'.verb) in
-    same_asked (matches_of (app_for (verb_of other)) words) one other same (subst (λ v. Asks (matches_of (app_for v) words) one) same is.asked) is'.asked
+    same_asked (matches_of (app_for (verb_of other)) words) (verb_of other) one other (same, subst (λ v. Asks (matches_of (app_for v) words) one) same is.asked) (refl, is'.asked)
 
 -- words that ask for a command after their first word are this command
 pub command_by : (words : List Text) (verb : Verb) (command : Command) → first_verb words ≡ Some verb → fault_of (app_for verb) words ≡ [] → AsksBy verb (matches_of (app_for verb) words) command → IsCommand words command

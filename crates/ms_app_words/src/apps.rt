@@ -43,18 +43,15 @@ fn decide_front<'a>(alloc: Global) -> Result<Command<'a>, AllocError>
 {
     let with_file = command(alloc, "decide").arg(required(alloc, "FILE"))?;
     let with_out = with_file.arg(option(alloc, "out"))?;
-    let whole = with_out.arg(option(alloc, "max-nodes"))?;
-    Ok(whole)
+    with_out.arg(option(alloc, "max-nodes"))
 }
 
 /// The command `decide FILE [--out NAME] [--max-nodes N] [--stats] [--format V]`.
 fn decide_app<'a>(alloc: Global) -> Result<Command<'a>, AllocError>
     ensures { IfOk result (λ made. app_of made ≡ decide_app) }
 {
-    let front = decide_front(alloc)?;
-    let with_stats = front.arg(flag(alloc, "stats"))?;
-    let whole = with_stats.arg(option(alloc, "format"))?;
-    Ok(whole)
+    let with_stats = decide_front(alloc)?.arg(flag(alloc, "stats"))?;
+    with_stats.arg(option(alloc, "format"))
 }
 
 /// The command `same LEFT RIGHT [--max-nodes N]`.
@@ -63,8 +60,7 @@ fn same_app<'a>(alloc: Global) -> Result<Command<'a>, AllocError>
 {
     let with_left = command(alloc, "same").arg(required(alloc, "LEFT"))?;
     let with_right = with_left.arg(required(alloc, "RIGHT"))?;
-    let whole = with_right.arg(option(alloc, "max-nodes"))?;
-    Ok(whole)
+    with_right.arg(option(alloc, "max-nodes"))
 }
 
 /// The command `gen K [--decide]`.
@@ -72,8 +68,7 @@ fn gen_app<'a>(alloc: Global) -> Result<Command<'a>, AllocError>
     ensures { IfOk result (λ made. app_of made ≡ gen_app) }
 {
     let with_number = command(alloc, "gen").arg(required(alloc, "K"))?;
-    let whole = with_number.arg(flag(alloc, "decide"))?;
-    Ok(whole)
+    with_number.arg(flag(alloc, "decide"))
 }
 
 /// The command `NAME FILE [--max-nodes N]`, by its name.
@@ -81,16 +76,14 @@ fn formula_app<'a>(alloc: Global, name: &'a str) -> Result<Command<'a>, AllocErr
     ensures { IfOk result (λ made. app_of made ≡ formula_app name.entry.now) }
 {
     let with_file = command(alloc, name).arg(required(alloc, "FILE"))?;
-    let whole = with_file.arg(option(alloc, "max-nodes"))?;
-    Ok(whole)
+    with_file.arg(option(alloc, "max-nodes"))
 }
 
 /// The command `check NAME`.
 fn check_app<'a>(alloc: Global) -> Result<Command<'a>, AllocError>
     ensures { IfOk result (λ made. app_of made ≡ check_app) }
 {
-    let whole = command(alloc, "check").arg(required(alloc, "NAME"))?;
-    Ok(whole)
+    command(alloc, "check").arg(required(alloc, "NAME"))
 }
 
 /// The command `certify FILE NAME [--max-nodes N]`.
@@ -99,8 +92,7 @@ fn certify_app<'a>(alloc: Global) -> Result<Command<'a>, AllocError>
 {
     let with_file = command(alloc, "certify").arg(required(alloc, "FILE"))?;
     let with_name = with_file.arg(required(alloc, "NAME"))?;
-    let whole = with_name.arg(option(alloc, "max-nodes"))?;
-    Ok(whole)
+    with_name.arg(option(alloc, "max-nodes"))
 }
 
 /// The command with this first word, as `clap` is told of it.

@@ -133,19 +133,38 @@ fn option_of(alloc: Global, matches: &ArgMatches, name: &str) -> Result<Option<T
     }
 }
 
+/// A file, and a limit on the nodes and states of a step.
+#[derive(Drop)]
+struct LimitedFile {
+    file: Text,
+    max_nodes: u64,
+}
+
+/// What the matches of `FILE [--max-nodes N]` name.
+fn limited_file(alloc: Global, matches: &ArgMatches) -> Result<LimitedFile, WordsFault>
+    ensures named { IfOk result (λ made. AsksOfFile (rows_of (found_of matches.now)) made.file made.max_nodes) }
+    ensures usage { IfErr result (λ fault. fault ≡ WordsFault.Usage → (file : Word) (limit : ℕ) → ¬ AsksOfFile (rows_of (found_of matches.now)) file limit) }
+{
+    let Some(max_nodes) = limit_of(matches) else {
+        return Err(WordsFault::Usage);
+    };
+    let file = match text_of(alloc, matches, "FILE") {
+        Ok(file) => file,
+        Err(fault) => return Err(fault),
+    };
+    Ok(LimitedFile { file, max_nodes })
+}
+
 /// What the matches of `decide FILE [--out NAME] [--max-nodes N] [--stats] [--format V]` ask for.
 fn decide_by(alloc: Global, matches: &ArgMatches) -> Result<Command, WordsFault>
     ensures command { IfOk result (AsksBy Verb.Decide (rows_of (found_of matches.now))) }
     ensures usage { IfErr result (λ fault. fault ≡ WordsFault.Usage → (command : Asked) → ¬ AsksBy Verb.Decide (rows_of (found_of matches.now)) command) }
 {
-    let Some(max_nodes) = limit_of(matches) else {
-        return Err(WordsFault::Usage);
-    };
     let Some(format) = format_of(matches) else {
         return Err(WordsFault::Usage);
     };
-    let file = match text_of(alloc, matches, "FILE") {
-        Ok(file) => file,
+    let LimitedFile { file, max_nodes } = match limited_file(alloc, matches) {
+        Ok(limited) => limited,
         Err(fault) => return Err(fault),
     };
     let Ok(out) = option_of(alloc, matches, "out") else {
@@ -194,28 +213,6 @@ fn gen_by(matches: &ArgMatches) -> Result<Command, WordsFault>
     };
     let decide = is_given(matches, "decide");
     Ok(Command::Gen { number, decide })
-}
-
-/// A file, and a limit on the nodes and states of a step.
-#[derive(Drop)]
-struct LimitedFile {
-    file: Text,
-    max_nodes: u64,
-}
-
-/// What the matches of `FILE [--max-nodes N]` name.
-fn limited_file(alloc: Global, matches: &ArgMatches) -> Result<LimitedFile, WordsFault>
-    ensures named { IfOk result (λ made. AsksOfFile (rows_of (found_of matches.now)) made.file made.max_nodes) }
-    ensures usage { IfErr result (λ fault. fault ≡ WordsFault.Usage → (file : Word) (limit : ℕ) → ¬ AsksOfFile (rows_of (found_of matches.now)) file limit) }
-{
-    let Some(max_nodes) = limit_of(matches) else {
-        return Err(WordsFault::Usage);
-    };
-    let file = match text_of(alloc, matches, "FILE") {
-        Ok(file) => file,
-        Err(fault) => return Err(fault),
-    };
-    Ok(LimitedFile { file, max_nodes })
 }
 
 /// What the matches of `ltl FILE [--max-nodes N]` ask for.
