@@ -1,7 +1,7 @@
 -- From which classes others were split off.
-use Rattle.std.proofs.Common.{◌≡◌, ◌≢◌, ◌⊎◌, ℕ, zero, suc, ◌+◌, ◌<◌, ◌≤◌, List, [], ◌∷◌, ◌++◌, length, max, slice_get, Some, refl, sym, ap, subst, ◌∙◌, arith, inl, inr, ⊎_elim}
+use Rattle.std.proofs.Common.{◌≡◌, ◌≢◌, ◌⊎◌, ℕ, zero, suc, ◌+◌, ◌<◌, ◌≤◌, List, [], ◌∷◌, ◌++◌, length, max, slice_get, slice_index_or, Some, refl, sym, ap, subst, ◌∙◌, arith, inl, inr, ⊎_elim}
 use Rattle.std.proofs.lemmas.Bool.{cases_eq}
-use Rattle.std.proofs.lemmas.Option.{same_Some}
+use Rattle.std.proofs.lemmas.Option.{same_Some, slice_get-get_or}
 use Rattle.ms_arena.proofs.Lists.{slice_get-append_left, slice_get-held}
 use Rattle.ms_cert.specs.inner.Partition.{AreEarlier, IsParting, StemsFrom, StemsWithin}
 
@@ -127,45 +127,61 @@ way-begins parents one other within also = record {
   other_stems = stems-here parents (max one other) other (omega arith);
 }
 
-module _ (parents : List ℕ) (one other first second : ℕ) (earlier : AreEarlier parents) (way : AreOnWay parents one other first second) (parent : ℕ) where
+module _ (parents : List ℕ) (one other first second : ℕ) (earlier : AreEarlier parents) (way : AreOnWay parents one other first second) where
+  abbrev parent_of : ℕ → ℕ
+  parent_of class = slice_index_or parents class 0
+
+  -- the parents of both are there
+  first-held : slice_get parents first ≡ Some (parent_of first)
+  first-held = slice_get-get_or parents first 0 way.one_within
+
+  second-held : slice_get parents second ≡ Some (parent_of second)
+  second-held = slice_get-get_or parents second 0 way.other_within
+
+  -- the parent of the second is before it, where the first is before it
+  pub second-falls : first < second → parent_of second < second
+  second-falls above = earlier second (parent_of second) second-held (omega (arith, above))
+
   -- the later of both classes goes on to its parent
-  pub way-first : second < first → slice_get parents first ≡ Some parent → parent ≢ second → AreOnWay parents one other parent second
-  way-first above held differs =
+  pub way-first : second < first → parent_of first ≢ second → AreOnWay parents one other (parent_of first) second
+  way-first above differs =
+      let parent = parent_of first in
       let within = way.one_within in
-      let before : parent < first = earlier first parent held (omega (arith, above)) in record {
+      let before : parent < first = earlier first parent first-held (omega (arith, above)) in record {
         one_within = omega (arith, before, within);
         other_within = way.other_within;
         differ = λ _. differs;
-        one_stems = stems-further parents (max first second) (max parent second) one first parent (omega (arith, before, above)) (omega (arith, before)) held (omega arith) way.one_stems;
+        one_stems = stems-further parents (max first second) (max parent second) one first parent (omega (arith, before, above)) (omega (arith, before)) first-held (omega arith) way.one_stems;
         other_stems = stems-lower parents (max first second) (max parent second) other second (omega arith) (omega (arith, before)) way.other_stems;
       }
 
-  pub way-second : first < second → slice_get parents second ≡ Some parent → parent ≢ first → AreOnWay parents one other first parent
-  way-second above held differs =
+  pub way-second : first < second → parent_of second ≢ first → AreOnWay parents one other first (parent_of second)
+  way-second above differs =
+      let parent = parent_of second in
       let within = way.other_within in
-      let before : parent < second = earlier second parent held (omega (arith, above)) in record {
+      let before = second-falls above in record {
         one_within = way.one_within;
         other_within = omega (arith, before, within);
         differ = λ _ same. differs (sym same);
         one_stems = stems-lower parents (max first second) (max first parent) one first (omega arith) (omega (arith, before)) way.one_stems;
-        other_stems = stems-further parents (max first second) (max first parent) other second parent (omega (arith, before, above)) (omega (arith, before)) held (omega arith) way.other_stems;
+        other_stems = stems-further parents (max first second) (max first parent) other second parent (omega (arith, before, above)) (omega (arith, before)) second-held (omega arith) way.other_stems;
       }
 
   -- or has parted from the other one
-  pub part-first : second < first → slice_get parents first ≡ Some parent → parent ≡ second → IsParting parents one other first
-  part-first above held same =
+  pub part-first : second < first → parent_of first ≡ second → IsParting parents one other first
+  part-first above same =
       let top : max first second ≡ first = omega (arith, above) in record {
         some = omega (arith, above);
         parent = second;
-        there = held ∙ ap Some same;
+        there = first-held ∙ ap Some same;
         sides = inl (subst (λ (bound : ℕ). StemsFrom parents bound one first) top way.one_stems, subst (λ (bound : ℕ). StemsFrom parents bound other second) top way.other_stems);
       }
 
-  pub part-second : first < second → slice_get parents second ≡ Some parent → parent ≡ first → IsParting parents one other second
-  part-second above held same =
+  pub part-second : first < second → parent_of second ≡ first → IsParting parents one other second
+  part-second above same =
       let top : max first second ≡ second = omega (arith, above) in record {
         some = omega (arith, above);
         parent = first;
-        there = held ∙ ap Some same;
+        there = second-held ∙ ap Some same;
         sides = inr (subst (λ (bound : ℕ). StemsFrom parents bound other second) top way.other_stems, subst (λ (bound : ℕ). StemsFrom parents bound one first) top way.one_stems);
       }
