@@ -1,6 +1,6 @@
 -- What tells two states apart.
 use Rattle.std.proofs.Common.{◌≡◌, ◌≢◌, ℕ, ◌<◌, Bool, true, false, IfSome, List, [], ◌∷◌, slice_get, slice_index, Option, Some, None, sym, ap, subst, ◌∙◌, arith}
-use Rattle.std.proofs.lemmas.Option.{slice_get-get_or, slice_get_within}
+use Rattle.std.proofs.lemmas.Option.{same_Some, slice_get-get_or, slice_get_within}
 use Rattle.std.specs.Option.{option_map_or}
 use Rattle.ms_dfa.specs.declared.plain.FileSign.{FileSign}
 use Rattle.ms_logic_words.specs.Content.{Content, next_state, sign_at}
@@ -57,3 +57,12 @@ tail-tells content parts is splitter some has state class own held stems =
     let told = is.told splitter.tail parent next class own has.tail some held_parent has.there held stems in
     let same = behind-tail content parts splitter has state in
     (λ at_split. same ∙ told.0 at_split, λ at_parent. same ∙ told.1 at_parent)
+
+-- the same by what was read: the first letter, and the parents of classes
+pub tail-tells-read : (content : Content FileSign) (parts : Classes) (is : IsPartition content parts) (splitter : Splitter) (some : 0 < splitter.tail) (has : HasTail parts splitter) (letter : List Bool) → slice_get splitter.letters 0 ≡ Some letter
+    → (state class own : ℕ) → slice_get parts.classes (next_state content state letter) ≡ Some class → (parents : List ℕ) → parents ≡ parts.parents → StemsFrom parents splitter.tail class own
+    → (own ≡ splitter.tail → is_split_off content splitter state ≡ true) × (own ≡ slice_index parts.parents splitter.tail → is_split_off content splitter state ≡ false)
+tail-tells-read content parts is splitter some has letter first state class own held parents same stems =
+    let read : letter ≡ has.letter = same_Some letter has.letter (sym first ∙ ap (λ (ls : List (List Bool)). slice_get ls 0) has.letters) in
+    tail-tells content parts is splitter some has state class own (subst (λ (l : List Bool). slice_get parts.classes (next_state content state l) ≡ Some class) read held)
+    (subst (λ (ps : List ℕ). StemsFrom ps splitter.tail class own) same stems)
