@@ -1,5 +1,5 @@
 -- The content of a file: its parts by their places, and where its references lead.
-use Rattle.std.proofs.Common.{◌≡◌, ℕ, zero, suc, ◌+◌, ◌<◌, ◌≤◌, Bool, true, false, List, [], ◌∷◌, drop, drop-cons, length, slice_get, slice_index_or, Option, Some, None, refl, sym, ap, subst, ◌∙◌, arith}
+use Rattle.std.proofs.Common.{◌≡◌, ℕ, zero, suc, ◌+◌, ◌<◌, ◌≤◌, Bool, true, false, List, [], ◌∷◌, drop, length, slice_get, slice_index_or, Option, Some, None, refl, sym, ap, subst, ◌∙◌, arith}
 use Rattle.std.specs.Option.{option_map}
 use Rattle.std.proofs.lemmas.List.{length-map}
 use Rattle.std.proofs.lemmas.Option.{none-some, same_Some, slice_get-map}
@@ -17,6 +17,7 @@ use Rattle.ms_dfa.specs.declared.plain.FileState.{FileState}
 use Rattle.ms_dfa.specs.declared.plain.Plain.{Plain}
 use Rattle.ms_logic_words.specs.Content.{Content, IsContent, NamesPart, StateOf, first_state, letter_bits, next_from, next_state, sign_at, state_after, truth_bits}
 use Rattle.ms_cert.specs.inner.Slots.{orders_of, slot_bits, slots_of}
+use Rattle.ms_cert.proofs.ListLemmas.{drop-item}
 use Rattle.ms_cert.proofs.SlotsLemmas.{leaf-letter, leaf-truth}
 
 pub valid-part : {Sign : Type 0} (content : Content Sign) (reference : Ref) → NamesPart content reference → IsValid content.nodes reference
@@ -115,5 +116,4 @@ module _ (content : Content FileSign) (letters : List (List Bool)) (place : ℕ)
   pub run-more : (from state next : ℕ) → state_after content state (drop place letters) ≡ state_after content from letters → next ≡ next_state content state letter
       → state_after content next (drop (place + 1) letters) ≡ state_after content from letters
   run-more from state next so_far led =
-      let parts : drop place letters ≡ letter ∷ drop (place + 1) letters = drop-cons letters place letter within ∙ ap (λ (first : List Bool). first ∷ drop (suc place) letters) (sym is) ∙ (let up : suc place ≡ place + 1 = omega arith in ap (λ (n : ℕ). letter ∷ drop n letters) up) in
-      ap (λ (s : ℕ). state_after content s (drop (place + 1) letters)) led ∙ ap (λ (left : List (List Bool)). state_after content state left) (sym parts) ∙ so_far
+      ap (λ (s : ℕ). state_after content s (drop (place + 1) letters)) led ∙ ap (λ (left : List (List Bool)). state_after content state left) (sym (drop-item letters place letter within is)) ∙ so_far
