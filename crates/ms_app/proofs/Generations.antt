@@ -3,7 +3,6 @@ use Rattle.std.proofs.Common.{◌≡◌, ◌⊎◌, inl, inr, ℕ, true, List, [
 use Rattle.ms_dfa.specs.declared.plain.FileVersion.TheVariants as versions
 use Rattle.ms_dfafile_imports.specs.Adopted.{AreAdopted}
 use Rattle.ms_dfafile_imports.specs.Imports.{answers_by}
-use Rattle.ms_include.specs.Load.{IsLoadedText}
 use Rattle.ms_dfa.specs.declared.plain.Plain.{Plain}
 use Rattle.ms_edge.specs.declared.refusal.Refusal.{Refusal}
 use Rattle.ms_edge.specs.declared.refusal.Refusal.TheVariants.{Memory, Nodes}
@@ -96,77 +95,87 @@ wanting number is refusal files why =
       | inr wants ↦ inr (inr (is, wants.0, why))
     ]
 
--- it imports nothing, exports nothing and has no goals
-pub generated_alone : (number : ℕ) → IsNumber number → (bytes : List ℕ) → bytes ≡ generated number → (loaded : Loaded) (checked : Checked) → IsAccepted (text_of generated_name bytes) loaded checked
-    → (checked.imports ≡ []) × (checked.exports ≡ []) × (goals_in checked ≡ [])
-generated_alone number is bytes same loaded checked accepted =
-    let within = sources-are-valid number generated_name loaded checked is (subst (λ text. IsLoadedText generated_name text loaded) same accepted.is_loaded) accepted.typed in
-    (within.0.imports, within.0.exports, within.0.goals)
+-- the generated source with this number is accepted as this one, and is the only file that is named
+pub record IsAcceptedAs (number : ℕ) (loaded : Loaded) (checked : Checked) (names : List (List ℕ)) : Type 0 where
+  pub is_number : IsNumber number
+  pub is : IsAccepted (text_of generated_name (generated number)) loaded checked
+  pub only_own : generated_name ∷ [] ≡ names
 
 module _ (number : ℕ) (is_number : IsNumber number) (bytes : List ℕ) (is_text : bytes ≡ generated number) (old new : List (List ℕ)) (none : old ≡ []) where
   only_own : new ≡ old ++ generated_name ∷ [] → generated_name ∷ [] ≡ new
   only_own grown = sym (grown ∙ ap (λ names. names ++ generated_name ∷ []) none)
 
-  text_refused : new ≡ old ++ generated_name ∷ [] → (refusal : Refusal) → IsRefused (text_of generated_name bytes) [] node_limit refusal (generated_name ∷ [])
-      → IsRefused (text_of generated_name (generated number)) [] node_limit refusal new
-  text_refused grown refusal why =
-      let P : List ℕ → Type 0 = λ text. IsRefused (text_of generated_name text) [] node_limit refusal new in
-      subst P is_text (subst (IsRefused (text_of generated_name bytes) [] node_limit refusal) (only_own grown) why)
-
   pub text_unaccepted : (refusal : Refusal) → (refusal ≡ Memory) ⊎ ((new ≡ old ++ generated_name ∷ []) × IsUnaccepted (text_of generated_name bytes) refusal (generated_name ∷ []))
       → IsRefusedGeneration number refusal new
   text_unaccepted refusal (inl memory) = inl memory
-  text_unaccepted refusal (inr (grown, why)) = wanting number is_number refusal new (text_refused grown refusal (unaccepted why))
+  text_unaccepted refusal (inr (grown, why)) =
+      let P : List ℕ → Type 0 = λ text. IsRefused (text_of generated_name text) [] node_limit refusal new in
+      wanting number is_number refusal new (subst P is_text (subst (IsRefused (text_of generated_name bytes) [] node_limit refusal) (only_own grown) (unaccepted why)))
 
-  module _ (loaded : Loaded) (checked : Checked) (is : IsAccepted (text_of generated_name bytes) loaded checked) (grown : new ≡ old ++ generated_name ∷ []) where
-    alone : (checked.imports ≡ []) × (checked.exports ≡ []) × (goals_in checked ≡ [])
-    alone = generated_alone number is_number bytes is_text loaded checked is
+  pub accepted_as : (loaded : Loaded) (checked : Checked) → IsAccepted (text_of generated_name bytes) loaded checked → new ≡ old ++ generated_name ∷ [] → IsAcceptedAs number loaded checked new
+  accepted_as loaded checked is grown =
+      let P : List ℕ → Type 0 = λ text. IsAccepted (text_of generated_name text) loaded checked in
+      record { is_number = is_number; is = subst P is_text is; only_own = only_own grown }
 
-    taken : IsTaken (text_of generated_name bytes) [] loaded checked []
-    taken = record { is = is; free = no_outs _; imported = (alone.0, refl) }
+module _ {number : ℕ} {loaded : Loaded} {checked : Checked} {names : List (List ℕ)} (made : IsAcceptedAs number loaded checked names) where
+  -- it imports nothing, exports nothing and has no goals
+  alone : (checked.imports ≡ []) × (checked.exports ≡ []) × (goals_in checked ≡ [])
+  alone =
+      let within = sources-are-valid number generated_name loaded checked made.is_number made.is.is_loaded made.is.typed in
+      (within.0.imports, within.0.exports, within.0.goals)
 
-    pub text_unsolved : IsWellNumbered checked → (contents : List (Content Sign)) → AreAdopted node_limit checked.mode checked.imports [] contents → (refusal : Refusal)
-        → (refusal ≡ Memory) ⊎ IsUnsolved checked (answers_by checked.imports []) contents node_limit refusal → IsRefusedGeneration number refusal new
-    text_unsolved numbered contents adopted refusal (inl memory) = inl memory
-    text_unsolved numbered contents adopted refusal (inr why) =
-        wanting number is_number refusal new
-        (text_refused grown refusal (unsolved loaded checked [] taken (sym is.is_loaded.files) contents adopted why (below_budgets node_limit checked [] contents numbered adopted refusal why)))
+  taken : IsTaken (text_of generated_name (generated number)) [] loaded checked []
+  taken = record { is = made.is; free = no_outs _; imported = (alone.0, refl) }
 
-    pub text_decided : (found : Found) (files : List File) → IsFound checked (answers_with checked []) found → IsWithinLimits (problem_with checked [])
-        → HasStats true checked (answers_with checked []) (length loaded.files) found.stats → AreFilesOf versions.Two checked (answers_with checked []) None files
-        → IsDecided (text_of generated_name (generated number)) [] None true versions.Two found files
-    text_decided found files is_found within counted written =
-        let P : List ℕ → Type 0 = λ text. IsDecided (text_of generated_name text) [] None true versions.Two found files in
-        subst P is_text (record { loaded = loaded; checked = checked; plains = []; is = record { is = taken; within = within }; is_found = is_found; counted = counted; written = written })
+  pub text_unsolved : IsWellNumbered checked → (contents : List (Content Sign)) → AreAdopted node_limit checked.mode checked.imports [] contents → (refusal : Refusal)
+      → (refusal ≡ Memory) ⊎ IsUnsolved checked (answers_by checked.imports []) contents node_limit refusal → IsRefusedGeneration number refusal names
+  text_unsolved numbered contents adopted refusal (inl memory) = inl memory
+  text_unsolved numbered contents adopted refusal (inr why) =
+      wanting number made.is_number refusal names
+      (subst (IsRefused (text_of generated_name (generated number)) [] node_limit refusal) made.only_own
+      (unsolved loaded checked [] taken (sym made.is.is_loaded.files) contents adopted why (below_budgets node_limit checked [] contents numbered adopted refusal why)))
 
-    -- its main question alone is asked
-    pub main_alone : (found : Found) → IsFound checked (answers_with checked []) found
-        → (answer : Answer) × (found.main ≡ Some answer) × IsAnswer (main_question checked (answers_with checked [])) answer
-    main_alone found is = only_main checked alone.2 (main_question checked (answers_with checked [])) found.main is.main
+  pub text_decided : (found : Found) (files : List File) → IsFound checked (answers_with checked []) found → IsWithinLimits (problem_with checked [])
+      → HasStats true checked (answers_with checked []) (length loaded.files) found.stats → AreFilesOf versions.Two checked (answers_with checked []) None files
+      → IsDecided (text_of generated_name (generated number)) [] None true versions.Two found files
+  text_decided found files is_found within counted written = record {
+    loaded = loaded;
+    checked = checked;
+    plains = [];
+    is = record { is = taken; within = within };
+    is_found = is_found;
+    counted = counted;
+    written = written;
+  }
 
-    -- and no file is written
-    pub no_files : (files : List File) → AreFilesOf versions.Two checked (answers_with checked []) None files → files ≡ []
-    no_files files are =
-        let answers = answers_with checked [] in
-        let names = map (λ (g : Global). g.name) checked.globals in
-        let P : List ExportUse → Type 0 = λ exports. AreFilesFrom versions.Two (problem_of checked answers) (main_question checked answers) names 0 exports None files in
-        subst P alone.1 are
+  -- its main question alone is asked
+  pub main_alone : (found : Found) → IsFound checked (answers_with checked []) found
+      → (answer : Answer) × (found.main ≡ Some answer) × IsAnswer (main_question checked (answers_with checked [])) answer
+  main_alone found is = only_main checked alone.2 (main_question checked (answers_with checked [])) found.main is.main
 
-    -- its imports need no automata
-    pub nothing_lent : (contents : List (Content Sign)) → contents ≡ [] → AreLentFor checked.mode checked.imports contents
-    nothing_lent contents same =
-        let P : List ImportUse → Type 0 = λ uses. AreLentFor checked.mode uses [] in
-        subst (AreLentFor checked.mode checked.imports) (sym same) (subst P (sym alone.0) tt)
+  -- and no file is written
+  pub no_files : (files : List File) → AreFilesOf versions.Two checked (answers_with checked []) None files → files ≡ []
+  no_files files are =
+      let answers = answers_with checked [] in
+      let variables = map (λ (g : Global). g.name) checked.globals in
+      let P : List ExportUse → Type 0 = λ exports. AreFilesFrom versions.Two (problem_of checked answers) (main_question checked answers) variables 0 exports None files in
+      subst P alone.1 are
 
-    pub nothing_adopted : (contents : List (Content Sign)) → contents ≡ [] → AreAdopted node_limit checked.mode checked.imports [] contents
-    nothing_adopted contents same =
-        let P : List ImportUse → Type 0 = λ uses. AreAdopted node_limit checked.mode uses [] [] in
-        subst (AreAdopted node_limit checked.mode checked.imports []) (sym same) (subst P (sym alone.0) tt)
+  -- its imports need no automata
+  pub nothing_lent : (contents : List (Content Sign)) → contents ≡ [] → AreLentFor checked.mode checked.imports contents
+  nothing_lent contents same =
+      let P : List ImportUse → Type 0 = λ uses. AreLentFor checked.mode uses [] in
+      subst (AreLentFor checked.mode checked.imports) (sym same) (subst P (sym alone.0) tt)
 
-    pub nothing_answers : (contents : List (Content Sign)) → contents ≡ [] → AreAnswersOf checked.mode checked.imports (answers_by checked.imports []) contents
-    nothing_answers contents same =
-        let P : List ImportUse → Type 0 = λ uses. AreAnswersOf checked.mode uses (answers_by uses []) [] in
-        subst (AreAnswersOf checked.mode checked.imports (answers_by checked.imports [])) (sym same) (subst P (sym alone.0) tt)
+  pub nothing_adopted : (contents : List (Content Sign)) → contents ≡ [] → AreAdopted node_limit checked.mode checked.imports [] contents
+  nothing_adopted contents same =
+      let P : List ImportUse → Type 0 = λ uses. AreAdopted node_limit checked.mode uses [] [] in
+      subst (AreAdopted node_limit checked.mode checked.imports []) (sym same) (subst P (sym alone.0) tt)
 
-    pub nothing_counted : length (answers_by checked.imports []) ≡ length checked.imports
-    nothing_counted = let P : List ImportUse → Type 0 = λ uses. length (answers_by uses []) ≡ length uses in subst P (sym alone.0) refl
+  pub nothing_answers : (contents : List (Content Sign)) → contents ≡ [] → AreAnswersOf checked.mode checked.imports (answers_by checked.imports []) contents
+  nothing_answers contents same =
+      let P : List ImportUse → Type 0 = λ uses. AreAnswersOf checked.mode uses (answers_by uses []) [] in
+      subst (AreAnswersOf checked.mode checked.imports (answers_by checked.imports [])) (sym same) (subst P (sym alone.0) tt)
+
+  pub nothing_counted : length (answers_by checked.imports []) ≡ length checked.imports
+  nothing_counted = let P : List ImportUse → Type 0 = λ uses. length (answers_by uses []) ≡ length uses in subst P (sym alone.0) refl
