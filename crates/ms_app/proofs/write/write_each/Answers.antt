@@ -1,4 +1,4 @@
-use Rattle.std.proofs.Common.{◌≡◌, Some, length, slice_get, ap, sym, subst, arith, ◌∙◌}
+use Rattle.std.proofs.Common.{◌≡◌, ◌<◌, ℕ, List, Some, length, slice_get, slice_index_or, ap, sym, subst, arith, ◌∙◌}
 use Rattle.std.specs.Option.{option_map}
 use Rattle.std.proofs.lemmas.List.{length-map}
 use Rattle.std.proofs.lemmas.Option.{slice_get-get_or, slice_get-map}
@@ -8,6 +8,12 @@ use Rattle.ms_app.specs.Written.{File}
 use Rattle.ms_app.specs.declared.files.AutomatonFile.{AutomatonFile}
 use Rattle.ms_app.proofs.Written.{all_written, no_pairs, written_more, written_up_to}
 use Rattle.ms_app.proofs.write.write_each.Goals as goal
+
+-- the name and the bytes of the file at a place
+pair-at : (files : List AutomatonFile) (place : ℕ) (own : AutomatonFile) → place < length files → own ≡ slice_index_or files place own → slice_get (pairs_of files) place ≡ Some (own.name, own.bytes)
+pair-at files place own less is =
+    let pair_of : AutomatonFile → File = λ f. (f.name, f.bytes) in
+    slice_get-map pair_of files place ∙ ap (option_map pair_of) (slice_get-get_or files place own less ∙ ap Some (sym is))
 
 pub returns-in-Err-clause-stopped : goal.returns-in-Err-clause-stopped
 returns-in-Err-clause-stopped g c =
@@ -19,8 +25,7 @@ returns-in-Err-clause-stopped g c =
     let before = (g.F.Files.told c.args.files.now).held in
     let mid = (g.F.Files.told c.loop-place.files).held in
     let after = (g.F.Files.told c.write.new.self).held in
-    let here : slice_get (pairs_of written) place ≡ Some file =
-    slice_get-map (λ (f : AutomatonFile). (f.name, f.bytes)) written place ∙ ap (option_map (λ (f : AutomatonFile). (f.name, f.bytes))) (slice_get-get_or written place own (omega (arith, less)) ∙ ap Some (sym c.index-written-place.is)) in
+    let here = pair-at written place own (omega (arith, less)) c.index-written-place.is in
     written_up_to before mid after (pairs_of written) place file here c.requires c.loop-place.invariant.0 (subst (KeepsOthers mid after) c.text.ensures c.in-Err.ensures.others)
 
 pub loop-place-preserved : goal.loop-place-preserved
@@ -33,8 +38,7 @@ loop-place-preserved g c =
     let before = (g.F.Files.told c.args.files.now).held in
     let mid = (g.F.Files.told c.loop-place.files).held in
     let after = (g.F.Files.told c.write.new.self).held in
-    let here : slice_get (pairs_of written) place ≡ Some file =
-    slice_get-map (λ (f : AutomatonFile). (f.name, f.bytes)) written place ∙ ap (option_map (λ (f : AutomatonFile). (f.name, f.bytes))) (slice_get-get_or written place own (omega (arith, less)) ∙ ap Some (sym c.index-written-place.is)) in
+    let here = pair-at written place own (omega (arith, less)) c.index-written-place.is in
     let keeps = subst (KeepsOthers mid after) c.text.ensures c.in-Ok.ensures.others in
     let holds = subst (λ bytes. Holds after own.name bytes) c.slice.ensures (subst (λ name. Holds after name c.slice.result.now) c.text.ensures c.in-Ok.ensures.written) in
     let old = c.loop-place.invariant.1 in
