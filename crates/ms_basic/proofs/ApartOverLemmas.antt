@@ -65,7 +65,7 @@ order_of_one v a b (inl here) (inl also) same = sym here ∙ also
 order_of_one v a b (inr never) among same = absurd never
 order_of_one v a b (inl here) (inr never) same = absurd never
 
-orders_of_two : (v w : Variable) → v.name ≢ w.name → HaveOneOrder (v ∷ w ∷ [])
+pub orders_of_two : (v w : Variable) → v.name ≢ w.name → HaveOneOrder (v ∷ w ∷ [])
 orders_of_two v w names a b (inl is_v) (inl also) same = sym is_v ∙ also
 orders_of_two v w names a b (inl is_v) (inr (inl is_w)) same = absurd (names (ap (λ (u : Variable). u.name) is_v ∙ same ∙ ap (λ (u : Variable). u.name) (sym is_w)))
 orders_of_two v w names a b (inr (inl is_w)) (inl is_v) same = absurd (names (ap (λ (u : Variable). u.name) is_v ∙ sym same ∙ ap (λ (u : Variable). u.name) (sym is_w)))

@@ -1,5 +1,5 @@
 -- The machine of x = max S decides it.
-use Rattle.std.proofs.Common.{◌≡◌, ◌≢◌, ℕ, zero, suc, ◌+◌, ◌<◌, ◌≤◌, ◌⊎◌, inl, inr, ⊎_elim, Bool, true, false, if◌then◌else◌, List, [], ◌∷◌, refl, sym, ap, subst, ◌∙◌, arith}
+use Rattle.std.proofs.Common.{◌≡◌, ◌≢◌, ℕ, zero, suc, ◌<◌, ◌≤◌, ◌⊎◌, inl, inr, ⊎_elim, Bool, true, false, List, [], ◌∷◌, refl, sym, ap, subst, ◌∙◌, arith}
 use Rattle.std.proofs.lemmas.Bool.{cases_lt, false≢true}
 use Rattle.ms_logic_core.specs.declared.core_formula.Basic.TheVariants.{Max}
 use Rattle.ms_logic.specs.declared.mode.Mode.{Mode}
@@ -14,8 +14,8 @@ use Rattle.ms_basic.specs.inner.Tally.{IsTally}
 use Rattle.ms_basic.specs.Verdict.{sign_by_verdict}
 use Rattle.ms_basic.proofs.BitLemmas.{Tells, told}
 use Rattle.ms_basic.proofs.ReadingLemmas.{kept}
-use Rattle.ms_basic.proofs.SetLemmas.{first_is_member}
-use Rattle.ms_basic.proofs.VerdictLemmas.{count_met, met_signed}
+use Rattle.ms_basic.proofs.SetLemmas.{at_number, first_is_member}
+use Rattle.ms_basic.proofs.VerdictLemmas.{IsCounted, count_met, tally_by_verdict}
 
 -- no member is behind a number and below another
 abbrev NoneBetween : List ℕ → ℕ → ℕ → Type 0
@@ -58,9 +58,6 @@ GreatestAt x members position (suc (suc (suc zero))) = position ≡ 0
 GreatestAt x members position (suc (suc (suc (suc more)))) = (0 < position) × (position ≤ x)
 
 module _ (x : ℕ) (members : List ℕ) (rising : IsRising members) (position : ℕ) where
-  there : (bit : Bool) → x ≡ position → is_member position members ≡ bit → is_member x members ≡ bit
-  there bit same is = subst (λ k. is_member k members ≡ bit) (sym same) is
-
   none_yet : x ≡ position → NoneBetween members x (suc position)
   none_yet same k above below = absurd (omega (arith, same, above, below))
 
@@ -74,9 +71,9 @@ module _ (x : ℕ) (members : List ℕ) (rising : IsRising members) (position : 
   greatest_next (suc (suc zero)) false b first second at = (omega arith, at.1)
   greatest_next (suc (suc (suc zero))) true b first second at = (omega (arith, first), inr (omega (arith, first, at)), none_yet first)
   greatest_next (suc (suc (suc zero))) false b first second at = (omega arith, omega (arith, first, at))
-  greatest_next (suc (suc (suc (suc more)))) true true first second at = (omega (arith, first), inl (there true first second), none_yet first)
+  greatest_next (suc (suc (suc (suc more)))) true true first second at = (omega (arith, first), inl (at_number x position members true first second), none_yet first)
   greatest_next (suc (suc (suc (suc more)))) true false first second at =
-      (omega (arith, first), other_greatest members x rising (there false first second) (omega (arith, first, at.0)))
+      (omega (arith, first), other_greatest members x rising (at_number x position members false first second) (omega (arith, first, at.0)))
   greatest_next (suc (suc (suc (suc more)))) false b first second at = (omega arith, omega (arith, first, at.1))
 
 greatest_right : (x : ℕ) (members : List ℕ) (count state : ℕ) → IsRising members → GreatestAt x members count state → x < count → bound_of_set members ≤ count
@@ -87,31 +84,20 @@ greatest_right x members count (suc (suc zero)) rising at within bound = at.1
 greatest_right x members count (suc (suc (suc zero))) rising at within bound = omega (arith, at, within)
 greatest_right x members count (suc (suc (suc (suc more)))) rising at within bound = omega (arith, at.1, within)
 
-greatest_told : (state : ℕ) (a b : Bool) → (greatest_step state a b ≡ 0) ⊎ (count_met (greatest_step state a b) ≡ count_met state + (if a then 1 else 0))
-greatest_told zero a b = grind arith
-greatest_told (suc zero) a b = grind arith
-greatest_told (suc (suc zero)) a b = grind arith
-greatest_told (suc (suc (suc zero))) a b = grind arith
-greatest_told (suc (suc (suc (suc more)))) a b = grind arith
-
-greatest_closed : (state : ℕ) (a b : Bool) → greatest_step state a b < 5
-greatest_closed zero a b = grind arith
-greatest_closed (suc zero) a b = grind arith
-greatest_closed (suc (suc zero)) a b = grind arith
-greatest_closed (suc (suc (suc zero))) a b = grind arith
-greatest_closed (suc (suc (suc (suc more)))) a b = grind arith
+-- each step leads to one of the states, and counts the ones of the number
+greatest_steps : (state : ℕ) (a b : Bool) → (greatest_step state a b < 5) × IsCounted count_met a state (greatest_step state a b)
+greatest_steps zero a b = (grind arith, grind arith)
+greatest_steps (suc zero) a b = (grind arith, grind arith)
+greatest_steps (suc (suc zero)) a b = (grind arith, grind arith)
+greatest_steps (suc (suc (suc zero))) a b = (grind arith, grind arith)
+greatest_steps (suc (suc (suc (suc more)))) a b = (grind arith, grind arith)
 
 greatest_tally : IsTally greatest_table 0 count_met
-greatest_tally = record {
-  start = λ bits. refl;
-  lost = λ bits. refl;
-  step = λ state bits. greatest_told state bits.first bits.second;
-  sign = met_signed;
-}
+greatest_tally = tally_by_verdict greatest_table 0 count_met refl refl refl (λ bits. refl) (λ bits. refl) (λ state bits. (greatest_steps state bits.first bits.second).1)
 
 pub decides_max : (mode : Mode) (x s : ℕ) → DecidesRelation mode (variables_of_basic (Max x s)) (Max x s) greatest_table
 decides_max mode x s = record {
-  closed = record { start = λ bits. omega arith; step = λ state bits small. greatest_closed state bits.first bits.second };
+  closed = record { start = λ bits. omega arith; step = λ state bits small. (greatest_steps state bits.first bits.second).0 };
   tallies = ((count_met, greatest_tally), (tt, tt));
   right = λ e count assigned room string.
       greatest_right (e.number x) (e.set s) count _ assigned.values.1.0.0

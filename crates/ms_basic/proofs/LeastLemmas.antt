@@ -1,5 +1,5 @@
 -- The machine of x = min S decides it.
-use Rattle.std.proofs.Common.{◌≡◌, ◌≢◌, ℕ, zero, suc, ◌+◌, ◌<◌, ◌≤◌, ◌⊎◌, ⊎_elim, Bool, true, false, if◌then◌else◌, List, [], ◌∷◌, refl, sym, ap, subst, ◌∙◌, arith}
+use Rattle.std.proofs.Common.{◌≡◌, ◌≢◌, ℕ, zero, suc, ◌<◌, ◌≤◌, ⊎_elim, Bool, true, false, List, [], ◌∷◌, refl, sym, ap, subst, ◌∙◌, arith}
 use Rattle.std.proofs.lemmas.Bool.{cases_lt, false≢true}
 use Rattle.ms_logic_core.specs.declared.core_formula.Basic.TheVariants.{Min}
 use Rattle.ms_logic.specs.declared.mode.Mode.{Mode}
@@ -13,7 +13,8 @@ use Rattle.ms_basic.specs.inner.Relation.{DecidesRelation, IsRight}
 use Rattle.ms_basic.specs.inner.Tally.{IsTally}
 use Rattle.ms_basic.proofs.BitLemmas.{Tells, told}
 use Rattle.ms_basic.proofs.ReadingLemmas.{kept}
-use Rattle.ms_basic.proofs.SetLemmas.{NoneBelow, first_is_member, no_members, one_more_none}
+use Rattle.ms_basic.proofs.VerdictLemmas.{IsCounted}
+use Rattle.ms_basic.proofs.SetLemmas.{at_number, NoneBelow, first_is_member, no_members, one_more_none}
 
 -- a member that none is below is the least
 least_if : (members : List ℕ) (x : ℕ) → IsRising members → is_member x members ≡ true → NoneBelow members x → x ≡ least members
@@ -43,10 +44,6 @@ LeastAt x members position (suc (suc (suc (suc (suc zero))))) = (0 < position) �
 LeastAt x members position (suc (suc (suc (suc (suc (suc more)))))) = (position ≤ x) × ((k : ℕ) × (k < position) × (is_member k members ≡ true))
 
 module _ (x : ℕ) (members : List ℕ) (rising : IsRising members) (position : ℕ) where
-  -- what holds at the position, of the number that is met there
-  there : (bit : Bool) → x ≡ position → is_member position members ≡ bit → is_member x members ≡ bit
-  there bit same is = subst (λ k. is_member k members ≡ bit) (sym same) is
-
   none_there : x ≡ position → NoneBelow members position → NoneBelow members x
   none_there same none = subst (NoneBelow members) (sym same) none
 
@@ -67,16 +64,16 @@ module _ (x : ℕ) (members : List ℕ) (rising : IsRising members) (position : 
   )
   least_next (suc (suc (suc zero))) false false first second at = (at.0, omega arith, one_more_none members position at.2 second)
   least_next (suc (suc (suc (suc zero)))) true true first second at =
-      (omega (arith, first), least_if members x rising (there true first second) (none_there first (nothing_before at)))
+      (omega (arith, first), least_if members x rising (at_number x position members true first second) (none_there first (nothing_before at)))
   least_next (suc (suc (suc (suc zero)))) true false first second at =
       (omega (arith, first, at), omega arith, one_more_none members position (nothing_before at) second)
   least_next (suc (suc (suc (suc zero)))) false true first second at = (omega (arith, first, at), (position, omega arith, second))
   least_next (suc (suc (suc (suc zero)))) false false first second at =
       (omega arith, omega (arith, first, at), one_more_none members position (nothing_before at) second)
   least_next (suc (suc (suc (suc (suc zero))))) true true first second at =
-      (omega (arith, first), least_if members x rising (there true first second) (none_there first at.2))
+      (omega (arith, first), least_if members x rising (at_number x position members true first second) (none_there first at.2))
   least_next (suc (suc (suc (suc (suc zero))))) true false first second at =
-      (omega (arith, first), other_least members x rising (there false first second) (omega (arith, first, at.0)))
+      (omega (arith, first), other_least members x rising (at_number x position members false first second) (omega (arith, first, at.0)))
   least_next (suc (suc (suc (suc (suc zero))))) false true first second at = (omega (arith, first, at.1), (position, omega arith, second))
   least_next (suc (suc (suc (suc (suc zero))))) false false first second at =
       (omega arith, omega (arith, first, at.1), one_more_none members position at.2 second)
@@ -101,14 +98,15 @@ count_least (suc (suc zero)) = 1
 count_least (suc (suc (suc zero))) = 1
 count_least (suc (suc (suc (suc more)))) = 0
 
-least_told : (state : ℕ) (a b : Bool) → (least_step state a b ≡ 0) ⊎ (count_least (least_step state a b) ≡ count_least state + (if a then 1 else 0))
-least_told zero a b = grind arith
-least_told (suc zero) a b = grind arith
-least_told (suc (suc zero)) a b = grind arith
-least_told (suc (suc (suc zero))) a b = grind arith
-least_told (suc (suc (suc (suc zero)))) a b = grind arith
-least_told (suc (suc (suc (suc (suc zero))))) a b = grind arith
-least_told (suc (suc (suc (suc (suc (suc more)))))) a b = grind arith
+-- each step leads to one of the states, and counts the ones of the number
+least_steps : (state : ℕ) (a b : Bool) → (least_step state a b < 7) × IsCounted count_least a state (least_step state a b)
+least_steps zero a b = (grind arith, grind arith)
+least_steps (suc zero) a b = (grind arith, grind arith)
+least_steps (suc (suc zero)) a b = (grind arith, grind arith)
+least_steps (suc (suc (suc zero))) a b = (grind arith, grind arith)
+least_steps (suc (suc (suc (suc zero)))) a b = (grind arith, grind arith)
+least_steps (suc (suc (suc (suc (suc zero))))) a b = (grind arith, grind arith)
+least_steps (suc (suc (suc (suc (suc (suc more)))))) a b = (grind arith, grind arith)
 
 least_signed : (state : ℕ) → least_sign state ≢ Outside → (state ≢ 0) × (count_least state ≡ 1)
 least_signed zero inside = absurd (inside refl)
@@ -117,26 +115,17 @@ least_signed (suc (suc zero)) inside = (omega arith, refl)
 least_signed (suc (suc (suc zero))) inside = (omega arith, refl)
 least_signed (suc (suc (suc (suc more)))) inside = absurd (inside refl)
 
-least_closed : (state : ℕ) (a b : Bool) → least_step state a b < 7
-least_closed zero a b = grind arith
-least_closed (suc zero) a b = grind arith
-least_closed (suc (suc zero)) a b = grind arith
-least_closed (suc (suc (suc zero))) a b = grind arith
-least_closed (suc (suc (suc (suc zero)))) a b = grind arith
-least_closed (suc (suc (suc (suc (suc zero))))) a b = grind arith
-least_closed (suc (suc (suc (suc (suc (suc more)))))) a b = grind arith
-
 least_tally : IsTally least_table 0 count_least
 least_tally = record {
   start = λ bits. refl;
   lost = λ bits. refl;
-  step = λ state bits. least_told state bits.first bits.second;
+  step = λ state bits. (least_steps state bits.first bits.second).1;
   sign = least_signed;
 }
 
 pub decides_min : (mode : Mode) (x s : ℕ) → DecidesRelation mode (variables_of_basic (Min x s)) (Min x s) least_table
 decides_min mode x s = record {
-  closed = record { start = λ bits. omega arith; step = λ state bits small. least_closed state bits.first bits.second };
+  closed = record { start = λ bits. omega arith; step = λ state bits small. (least_steps state bits.first bits.second).0 };
   tallies = ((count_least, least_tally), (tt, tt));
   right = λ e count assigned room string.
       least_right (e.number x) (e.set s) count _

@@ -1,5 +1,5 @@
 -- The machine of x < y decides it.
-use Rattle.std.proofs.Common.{◌≡◌, ℕ, zero, suc, ◌+◌, ◌<◌, ◌≤◌, ◌⊎◌, Bool, if◌then◌else◌, refl, arith}
+use Rattle.std.proofs.Common.{ℕ, zero, suc, ◌<◌, ◌≤◌, Bool, refl, arith}
 use Rattle.ms_logic_core.specs.declared.core_formula.Basic.TheVariants.{Less}
 use Rattle.ms_logic.specs.declared.mode.Mode.{Mode}
 use Rattle.ms_basic.specs.inner.Less.{less_step, less_table}
@@ -9,7 +9,7 @@ use Rattle.ms_basic.specs.inner.Tally.{IsTally}
 use Rattle.ms_basic.specs.Verdict.{sign_by_verdict}
 use Rattle.ms_basic.proofs.BitLemmas.{Tells, told}
 use Rattle.ms_basic.proofs.ReadingLemmas.{kept}
-use Rattle.ms_basic.proofs.VerdictLemmas.{count_first, count_second, first_signed, second_signed}
+use Rattle.ms_basic.proofs.VerdictLemmas.{IsCounted, count_first, count_second, tally_by_verdict}
 
 -- what a state says of the numbers behind the positions so far
 abbrev LessAt : ℕ → ℕ → ℕ → ℕ → Type 0
@@ -37,51 +37,24 @@ less_right x y count (suc (suc (suc zero))) at first second = omega arith
 less_right x y count (suc (suc (suc (suc zero)))) at first second = omega arith
 less_right x y count (suc (suc (suc (suc (suc more))))) at first second = omega arith
 
--- how many ones each of the two has had
-first_told : (state : ℕ) (a b : Bool) → (less_step state a b ≡ 0) ⊎ (count_first (less_step state a b) ≡ count_first state + (if a then 1 else 0))
-first_told zero a b = grind arith
-first_told (suc zero) a b = grind arith
-first_told (suc (suc zero)) a b = grind arith
-first_told (suc (suc (suc zero))) a b = grind arith
-first_told (suc (suc (suc (suc zero)))) a b = grind arith
-first_told (suc (suc (suc (suc (suc more))))) a b = grind arith
-
-second_told : (state : ℕ) (a b : Bool) → (less_step state a b ≡ 0) ⊎ (count_second (less_step state a b) ≡ count_second state + (if b then 1 else 0))
-second_told zero a b = grind arith
-second_told (suc zero) a b = grind arith
-second_told (suc (suc zero)) a b = grind arith
-second_told (suc (suc (suc zero))) a b = grind arith
-second_told (suc (suc (suc (suc zero)))) a b = grind arith
-second_told (suc (suc (suc (suc (suc more))))) a b = grind arith
+-- each step leads to one of the states, and counts the ones of each of the two
+less_steps : (state : ℕ) (a b : Bool) → (state < 6 → less_step state a b < 6) × IsCounted count_first a state (less_step state a b) × IsCounted count_second b state (less_step state a b)
+less_steps zero a b = (λ small. grind arith, grind arith, grind arith)
+less_steps (suc zero) a b = (λ small. grind arith, grind arith, grind arith)
+less_steps (suc (suc zero)) a b = (λ small. grind arith, grind arith, grind arith)
+less_steps (suc (suc (suc zero))) a b = (λ small. grind arith, grind arith, grind arith)
+less_steps (suc (suc (suc (suc zero)))) a b = (λ small. grind arith, grind arith, grind arith)
+less_steps (suc (suc (suc (suc (suc more))))) a b = (λ small. grind arith, grind arith, grind arith)
 
 first_tally : IsTally less_table 0 count_first
-first_tally = record {
-  start = λ bits. refl;
-  lost = λ bits. refl;
-  step = λ state bits. first_told state bits.first bits.second;
-  sign = first_signed;
-}
+first_tally = tally_by_verdict less_table 0 count_first refl refl refl (λ bits. refl) (λ bits. refl) (λ state bits. (less_steps state bits.first bits.second).1)
 
 second_tally : IsTally less_table 1 count_second
-second_tally = record {
-  start = λ bits. refl;
-  lost = λ bits. refl;
-  step = λ state bits. second_told state bits.first bits.second;
-  sign = second_signed;
-}
-
--- each step leads to one of the states
-less_closed : (state : ℕ) (a b : Bool) → state < 6 → less_step state a b < 6
-less_closed zero a b small = grind arith
-less_closed (suc zero) a b small = grind arith
-less_closed (suc (suc zero)) a b small = grind arith
-less_closed (suc (suc (suc zero))) a b small = grind arith
-less_closed (suc (suc (suc (suc zero)))) a b small = grind arith
-less_closed (suc (suc (suc (suc (suc more))))) a b small = grind arith
+second_tally = tally_by_verdict less_table 1 count_second refl refl refl (λ bits. refl) (λ bits. refl) (λ state bits. (less_steps state bits.first bits.second).2)
 
 pub decides_less : (mode : Mode) (x y : ℕ) → DecidesRelation mode (variables_of_basic (Less x y)) (Less x y) less_table
 decides_less mode x y = record {
-  closed = record { start = λ bits. omega arith; step = λ state bits small. less_closed state bits.first bits.second small };
+  closed = record { start = λ bits. omega arith; step = λ state bits small. (less_steps state bits.first bits.second).0 small };
   tallies = ((count_first, first_tally), ((count_second, second_tally), tt));
   right = λ e count assigned room string.
       less_right (e.number x) (e.number y) count _

@@ -15,6 +15,7 @@ pub mod MemberLemmas
 pub mod NumberApart
 pub mod NumberLemmas
 pub mod OperandsLemmas
+pub mod PairLemmas
 pub mod PlusApart
 pub mod PlusLemmas
 pub mod ReachedLemmas

@@ -1,5 +1,5 @@
 -- The machine of x in S decides it.
-use Rattle.std.proofs.Common.{◌≡◌, ℕ, zero, suc, ◌+◌, ◌<◌, ◌≤◌, ◌⊎◌, Bool, true, false, if◌then◌else◌, List, refl, sym, subst, ◌∙◌, arith}
+use Rattle.std.proofs.Common.{◌≡◌, ℕ, zero, suc, ◌<◌, ◌≤◌, Bool, true, false, List, refl, sym, ◌∙◌, arith}
 use Rattle.std.proofs.lemmas.Bool.{false≢true}
 use Rattle.ms_logic_core.specs.declared.core_formula.Basic.TheVariants.{Member}
 use Rattle.ms_logic.specs.declared.mode.Mode.{Mode}
@@ -11,7 +11,8 @@ use Rattle.ms_basic.specs.inner.Tally.{IsTally}
 use Rattle.ms_basic.specs.Verdict.{sign_by_verdict}
 use Rattle.ms_basic.proofs.BitLemmas.{Tells, told}
 use Rattle.ms_basic.proofs.ReadingLemmas.{kept}
-use Rattle.ms_basic.proofs.VerdictLemmas.{count_met, met_signed}
+use Rattle.ms_basic.proofs.SetLemmas.{at_number}
+use Rattle.ms_basic.proofs.VerdictLemmas.{IsCounted, count_met, tally_by_verdict}
 
 -- what a state says behind the positions so far
 abbrev MemberAt : ℕ → List ℕ → ℕ → ℕ → Type 0
@@ -19,10 +20,6 @@ MemberAt x members position zero = ⊥
 MemberAt x members position (suc zero) = (x < position) × (is_member x members ≡ true)
 MemberAt x members position (suc (suc zero)) = (x < position) × (is_member x members ≡ false)
 MemberAt x members position (suc (suc (suc more))) = position ≤ x
-
--- whether the position of the number is a member
-at_number : (x position : ℕ) (members : List ℕ) (bit : Bool) → x ≡ position → is_member position members ≡ bit → is_member x members ≡ bit
-at_number x position members bit same is = subst (λ k. is_member k members ≡ bit) (sym same) is
 
 member_next : (x : ℕ) (members : List ℕ) (position state : ℕ) (a b : Bool) → Tells a x position → is_member position members ≡ b → MemberAt x members position state
     → MemberAt x members (suc position) (member_step state a b)
@@ -41,29 +38,19 @@ member_right x members count (suc zero) at within = at.1
 member_right x members count (suc (suc zero)) at within = λ member. false≢true (sym at.1 ∙ member)
 member_right x members count (suc (suc (suc more))) at within = omega arith
 
-member_told : (state : ℕ) (a b : Bool) → (member_step state a b ≡ 0) ⊎ (count_met (member_step state a b) ≡ count_met state + (if a then 1 else 0))
-member_told zero a b = grind arith
-member_told (suc zero) a b = grind arith
-member_told (suc (suc zero)) a b = grind arith
-member_told (suc (suc (suc more))) a b = grind arith
-
-member_closed : (state : ℕ) (a b : Bool) → member_step state a b < 4
-member_closed zero a b = grind arith
-member_closed (suc zero) a b = grind arith
-member_closed (suc (suc zero)) a b = grind arith
-member_closed (suc (suc (suc more))) a b = grind arith
+-- each step leads to one of the states, and counts the ones of the number
+member_steps : (state : ℕ) (a b : Bool) → (member_step state a b < 4) × IsCounted count_met a state (member_step state a b)
+member_steps zero a b = (grind arith, grind arith)
+member_steps (suc zero) a b = (grind arith, grind arith)
+member_steps (suc (suc zero)) a b = (grind arith, grind arith)
+member_steps (suc (suc (suc more))) a b = (grind arith, grind arith)
 
 member_tally : IsTally member_table 0 count_met
-member_tally = record {
-  start = λ bits. refl;
-  lost = λ bits. refl;
-  step = λ state bits. member_told state bits.first bits.second;
-  sign = met_signed;
-}
+member_tally = tally_by_verdict member_table 0 count_met refl refl refl (λ bits. refl) (λ bits. refl) (λ state bits. (member_steps state bits.first bits.second).1)
 
 pub decides_member : (mode : Mode) (x s : ℕ) → DecidesRelation mode (variables_of_basic (Member x s)) (Member x s) member_table
 decides_member mode x s = record {
-  closed = record { start = λ bits. omega arith; step = λ state bits small. member_closed state bits.first bits.second };
+  closed = record { start = λ bits. omega arith; step = λ state bits small. (member_steps state bits.first bits.second).0 };
   tallies = ((count_met, member_tally), (tt, tt));
   right = λ e count assigned room string.
       member_right (e.number x) (e.set s) count _

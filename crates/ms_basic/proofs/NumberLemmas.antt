@@ -1,5 +1,5 @@
 -- The machine of x = n decides it.
-use Rattle.std.proofs.Common.{◌≡◌, ◌≢◌, ℕ, zero, suc, ◌+◌, ◌<◌, ◌≤◌, ◌⊎◌, Bool, if◌then◌else◌, refl, arith}
+use Rattle.std.proofs.Common.{◌≡◌, ◌≢◌, ℕ, zero, suc, ◌+◌, ◌<◌, ◌≤◌, Bool, refl, arith}
 use Rattle.std.proofs.lemmas.Bool.Decides.{nat_tests}
 use Rattle.ms_logic_core.specs.declared.core_formula.Basic.TheVariants.{Number}
 use Rattle.ms_logic.specs.declared.mode.Mode.{Mode}
@@ -10,7 +10,7 @@ use Rattle.ms_basic.specs.inner.Tally.{IsTally}
 use Rattle.ms_basic.specs.Verdict.{sign_by_verdict}
 use Rattle.ms_basic.proofs.BitLemmas.{Tells, told}
 use Rattle.ms_basic.proofs.ReadingLemmas.{kept}
-use Rattle.ms_basic.proofs.VerdictLemmas.{count_met, met_signed}
+use Rattle.ms_basic.proofs.VerdictLemmas.{IsCounted, count_met, tally_by_verdict}
 
 -- what a state says behind the positions so far
 abbrev NumberAt : ℕ → ℕ → ℕ → ℕ → Type 0
@@ -34,31 +34,20 @@ number_right n x count (suc (suc zero)) at within = at.1
 number_right n x count (suc (suc (suc zero))) at within = omega arith
 number_right n x count (suc (suc (suc (suc k)))) at within = omega arith
 
-number_told : (n state : ℕ) (a : Bool) → (number_step n state a ≡ 0) ⊎ (count_met (number_step n state a) ≡ count_met state + (if a then 1 else 0))
-number_told n zero a = grind arith
-number_told n (suc zero) a = grind arith
-number_told n (suc (suc zero)) a = grind arith
-number_told n (suc (suc (suc zero))) a = grind arith
-number_told n (suc (suc (suc (suc k)))) a = grind (arith, nat_tests)
-
-number_closed : (n state : ℕ) (a : Bool) → state < n + 5 → number_step n state a < n + 5
-number_closed n zero a small = grind arith
-number_closed n (suc zero) a small = grind arith
-number_closed n (suc (suc zero)) a small = grind arith
-number_closed n (suc (suc (suc zero))) a small = grind arith
-number_closed n (suc (suc (suc (suc k)))) a small = grind (arith, nat_tests)
+-- each step leads to one of the states, and counts the ones of the number
+number_steps : (n state : ℕ) (a : Bool) → (state < n + 5 → number_step n state a < n + 5) × IsCounted count_met a state (number_step n state a)
+number_steps n zero a = (λ small. grind arith, grind arith)
+number_steps n (suc zero) a = (λ small. grind arith, grind arith)
+number_steps n (suc (suc zero)) a = (λ small. grind arith, grind arith)
+number_steps n (suc (suc (suc zero))) a = (λ small. grind arith, grind arith)
+number_steps n (suc (suc (suc (suc k)))) a = (λ small. grind (arith, nat_tests), grind (arith, nat_tests))
 
 number_tally : (n : ℕ) → IsTally (number_table n) 0 count_met
-number_tally n = record {
-  start = λ bits. refl;
-  lost = λ bits. refl;
-  step = λ state bits. number_told n state bits.first;
-  sign = met_signed;
-}
+number_tally n = tally_by_verdict (number_table n) 0 count_met refl refl refl (λ bits. refl) (λ bits. refl) (λ state bits. (number_steps n state bits.first).1)
 
 pub decides_number : (mode : Mode) (x n : ℕ) → DecidesRelation mode (variables_of_basic (Number x n)) (Number x n) (number_table n)
 decides_number mode x n = record {
-  closed = record { start = λ bits. omega arith; step = λ state bits small. number_closed n state bits.first small };
+  closed = record { start = λ bits. omega arith; step = λ state bits small. (number_steps n state bits.first).0 small };
   tallies = ((count_met, number_tally n), tt);
   right = λ e count assigned room string.
       number_right n (e.number x) count _

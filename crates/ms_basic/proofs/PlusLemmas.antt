@@ -1,5 +1,5 @@
 -- The machine of x = y + n decides it.
-use Rattle.std.proofs.Common.{◌≡◌, ◌≢◌, ℕ, zero, suc, ◌+◌, ◌<◌, ◌≤◌, ◌⊎◌, Bool, if◌then◌else◌, refl, arith}
+use Rattle.std.proofs.Common.{◌≡◌, ◌≢◌, ℕ, zero, suc, ◌+◌, ◌<◌, ◌≤◌, Bool, refl, arith}
 use Rattle.std.proofs.lemmas.Bool.Decides.{nat_tests}
 use Rattle.ms_logic_core.specs.declared.core_formula.Basic.TheVariants.{Plus}
 use Rattle.ms_logic.specs.declared.mode.Mode.{Mode}
@@ -10,7 +10,7 @@ use Rattle.ms_basic.specs.inner.Tally.{IsTally}
 use Rattle.ms_basic.specs.Verdict.{sign_by_verdict}
 use Rattle.ms_basic.proofs.BitLemmas.{Tells, told}
 use Rattle.ms_basic.proofs.ReadingLemmas.{kept}
-use Rattle.ms_basic.proofs.VerdictLemmas.{count_first, count_second, first_signed, second_signed}
+use Rattle.ms_basic.proofs.VerdictLemmas.{IsCounted, count_first, count_second, tally_by_verdict}
 
 -- what a state says behind the positions so far
 abbrev PlusAt : ℕ → ℕ → ℕ → ℕ → ℕ → Type 0
@@ -40,53 +40,25 @@ plus_right n x y count (suc (suc (suc (suc zero)))) at first second = omega arit
 plus_right n x y count (suc (suc (suc (suc (suc zero))))) at first second = omega arith
 plus_right n x y count (suc (suc (suc (suc (suc (suc j)))))) at first second = omega arith
 
--- how many ones each of the two has had
-first_told : (n state : ℕ) (a b : Bool) → (plus_step n state a b ≡ 0) ⊎ (count_first (plus_step n state a b) ≡ count_first state + (if a then 1 else 0))
-first_told n zero a b = grind arith
-first_told n (suc zero) a b = grind arith
-first_told n (suc (suc zero)) a b = grind arith
-first_told n (suc (suc (suc zero))) a b = grind (arith, nat_tests)
-first_told n (suc (suc (suc (suc zero)))) a b = grind arith
-first_told n (suc (suc (suc (suc (suc zero))))) a b = grind arith
-first_told n (suc (suc (suc (suc (suc (suc j)))))) a b = grind (arith, nat_tests)
-
-second_told : (n state : ℕ) (a b : Bool) → (plus_step n state a b ≡ 0) ⊎ (count_second (plus_step n state a b) ≡ count_second state + (if b then 1 else 0))
-second_told n zero a b = grind arith
-second_told n (suc zero) a b = grind arith
-second_told n (suc (suc zero)) a b = grind arith
-second_told n (suc (suc (suc zero))) a b = grind (arith, nat_tests)
-second_told n (suc (suc (suc (suc zero)))) a b = grind arith
-second_told n (suc (suc (suc (suc (suc zero))))) a b = grind arith
-second_told n (suc (suc (suc (suc (suc (suc j)))))) a b = grind (arith, nat_tests)
+-- each step leads to one of the states, and counts the ones of each of the two
+plus_steps : (n state : ℕ) (a b : Bool) → (state < n + 6 → plus_step n state a b < n + 6) × IsCounted count_first a state (plus_step n state a b) × IsCounted count_second b state (plus_step n state a b)
+plus_steps n zero a b = (λ small. grind arith, grind arith, grind arith)
+plus_steps n (suc zero) a b = (λ small. grind arith, grind arith, grind arith)
+plus_steps n (suc (suc zero)) a b = (λ small. grind arith, grind arith, grind arith)
+plus_steps n (suc (suc (suc zero))) a b = (λ small. grind (arith, nat_tests), grind (arith, nat_tests), grind (arith, nat_tests))
+plus_steps n (suc (suc (suc (suc zero)))) a b = (λ small. grind arith, grind arith, grind arith)
+plus_steps n (suc (suc (suc (suc (suc zero))))) a b = (λ small. grind arith, grind arith, grind arith)
+plus_steps n (suc (suc (suc (suc (suc (suc j)))))) a b = (λ small. grind (arith, nat_tests), grind (arith, nat_tests), grind (arith, nat_tests))
 
 first_tally : (n : ℕ) → IsTally (plus_table n) 0 count_first
-first_tally n = record {
-  start = λ bits. refl;
-  lost = λ bits. refl;
-  step = λ state bits. first_told n state bits.first bits.second;
-  sign = first_signed;
-}
+first_tally n = tally_by_verdict (plus_table n) 0 count_first refl refl refl (λ bits. refl) (λ bits. refl) (λ state bits. (plus_steps n state bits.first bits.second).1)
 
 second_tally : (n : ℕ) → IsTally (plus_table n) 1 count_second
-second_tally n = record {
-  start = λ bits. refl;
-  lost = λ bits. refl;
-  step = λ state bits. second_told n state bits.first bits.second;
-  sign = second_signed;
-}
-
-plus_closed : (n state : ℕ) (a b : Bool) → state < n + 6 → plus_step n state a b < n + 6
-plus_closed n zero a b small = grind arith
-plus_closed n (suc zero) a b small = grind arith
-plus_closed n (suc (suc zero)) a b small = grind arith
-plus_closed n (suc (suc (suc zero))) a b small = grind (arith, nat_tests)
-plus_closed n (suc (suc (suc (suc zero)))) a b small = grind arith
-plus_closed n (suc (suc (suc (suc (suc zero))))) a b small = grind arith
-plus_closed n (suc (suc (suc (suc (suc (suc j)))))) a b small = grind (arith, nat_tests)
+second_tally n = tally_by_verdict (plus_table n) 1 count_second refl refl refl (λ bits. refl) (λ bits. refl) (λ state bits. (plus_steps n state bits.first bits.second).2)
 
 pub decides_plus : (mode : Mode) (x y n : ℕ) → DecidesRelation mode (variables_of_basic (Plus x y n)) (Plus x y n) (plus_table n)
 decides_plus mode x y n = record {
-  closed = record { start = λ bits. omega arith; step = λ state bits small. plus_closed n state bits.first bits.second small };
+  closed = record { start = λ bits. omega arith; step = λ state bits small. (plus_steps n state bits.first bits.second).0 small };
   tallies = ((count_first, first_tally n), ((count_second, second_tally n), tt));
   right = λ e count assigned room string.
       plus_right n (e.number x) (e.number y) count _

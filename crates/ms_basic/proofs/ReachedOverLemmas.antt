@@ -1,5 +1,6 @@
 -- Machines whose states are reached by letters of operands reach them over the tracks of these operands.
-use Rattle.std.proofs.Common.{◌≡◌, ◌≢◌, ◌≤◌, ◌==◌, ◌⊎◌, ℕ, zero, suc, inl, inr, nat_eq, Bool, true, false, not, ◌&&◌, ◌||◌, if◌then◌else◌, IsTrue, List, [], ◌∷◌, length, map, refl, sym, ap, ap₂, ◌∙◌, arith}
+use Rattle.std.proofs.Common.{◌≡◌, ◌≢◌, ◌≤◌, ◌==◌, ℕ, zero, suc, inl, inr, nat_eq, Bool, true, false, not, ◌&&◌, ◌||◌, if◌then◌else◌, IsTrue, List, [], ◌∷◌, length, map, refl, sym, ap, ap₂, ◌∙◌, arith}
+use borrow.Author.Tests.{eqb-false}
 use Rattle.std.proofs.lemmas.List.Elements.{All-cons, All-nil}
 use Rattle.ms_logic.specs.Assignment.{Variable}
 use Rattle.ms_logic.specs.Lists.{IsAmong}
@@ -7,8 +8,9 @@ use Rattle.ms_logic_words.specs.Content.{is_in_letters, is_truth_value}
 use Rattle.ms_dfa_explore.specs.declared.small.TrackBits.{TrackBits}
 use Rattle.ms_dfa_explore.specs.Small.{TransitionTable, bit_at, zero_bits}
 use Rattle.ms_dfa_explore.specs.Tracks.{distinct}
+use Rattle.ms_logic_core.specs.Operands.{variables_of_basic}
 use Rattle.ms_basic.specs.Operands.{HaveOneOrder, set, truth_value}
-use Rattle.ms_basic.specs.Sets.{agrees, is_same, sets_table, tested_step}
+use Rattle.ms_basic.specs.Sets.{agrees, is_of_itself, is_same, sets_form, sets_table, tested_step}
 use Rattle.ms_basic.specs.declared.sets.SetRelation.{SetRelation}
 use Rattle.ms_basic.specs.declared.sets.SetRelation.TheVariants.{Sub, Union, Inter, Diff}
 use Rattle.ms_basic.specs.declared.reading.Wiring.{Wiring}
@@ -104,7 +106,7 @@ orders_of_three s t u v w v_among w_among same = is_set v v_among ∙ ap set sam
     is_set v (inr (inr (inl here))) = sym here ∙ ap (λ (w : Variable). set w.name) here
     is_set v (inr (inr (inr never))) = absurd never
 
-orders_of_two : (s t : ℕ) → HaveOneOrder (set s ∷ set t ∷ [])
+pub orders_of_two : (s t : ℕ) → HaveOneOrder (set s ∷ set t ∷ [])
 orders_of_two s t v w v_among w_among same = orders_of_three s t t v w (more v v_among) (more w w_among) same
   where
     more : (v : Variable) → IsAmong (set s ∷ set t ∷ []) v → IsAmong (set s ∷ set t ∷ set t ∷ []) v
@@ -112,21 +114,21 @@ orders_of_two s t v w v_among w_among same = orders_of_three s t t v w (more v v
     more v (inr (inl here)) = inr (inl here)
     more v (inr (inr never)) = absurd never
 
-pub sub_reached : (s t : ℕ) → s ≢ t → HasStatesReachedOver (set s ∷ set t ∷ []) (sets_table Sub)
+sub_reached : (s t : ℕ) → s ≢ t → HasStatesReachedOver (set s ∷ set t ∷ []) (sets_table Sub)
 sub_reached s t differ =
     sets_reached Sub (set s ∷ set t ∷ []) (λ name. nat_eq name s) (orders_of_two s t) (omega arith)
     (ap₂ (λ one other. not one || other) (same-eqb s) (differ-eqb t s (λ same. differ (sym same))))
 
 -- of three sets that are not all one, two differ
-by_difference : (s t u : ℕ) (Fact : Type 0) → (s ≢ t → Fact) → (s ≡ t → s ≢ u → Fact) → (s ≢ t) ⊎ (t ≢ u) → Fact
-by_difference s t u Fact first second differ = by_test (s == t) (told s t) differ
+by_difference : (s t u : ℕ) (Fact : Type 0) → (s ≢ t → Fact) → (s ≡ t → s ≢ u → Fact) → (s == t && t == u) ≡ false → Fact
+by_difference s t u Fact first second differ = by_test (s == t) (t == u) (told s t) (told t u) differ
   where
-    by_test : (test : Bool) → Tells test s t → (s ≢ t) ⊎ (t ≢ u) → Fact
-    by_test false apart differ = first apart
-    by_test true same (inl apart) = absurd (apart same)
-    by_test true same (inr apart) = second same (λ equal. apart (sym same ∙ equal))
+    by_test : (one other : Bool) → Tells one s t → Tells other t u → (one && other) ≡ false → Fact
+    by_test false other apart tells differ = first apart
+    by_test true false same apart differ = second same (λ equal. apart (sym same ∙ equal))
+    by_test true true same equal differ = let never : ⊥ = cc in absurd never
 
-pub union_reached : (s t u : ℕ) → (s ≢ t) ⊎ (t ≢ u) → HasStatesReachedOver (set s ∷ set t ∷ set u ∷ []) (sets_table Union)
+union_reached : (s t u : ℕ) → (s == t && t == u) ≡ false → HasStatesReachedOver (set s ∷ set t ∷ set u ∷ []) (sets_table Union)
 union_reached s t u = by_difference s t u (HasStatesReachedOver (set s ∷ set t ∷ set u ∷ []) (sets_table Union))
     (λ apart. sets_reached Union (set s ∷ set t ∷ set u ∷ []) (λ name. nat_eq name t) (orders_of_three s t u) (omega arith)
     (ap₂ (λ one other. is_same one (other || nat_eq u t)) (differ-eqb s t apart) (same-eqb t)))
@@ -134,7 +136,7 @@ union_reached s t u = by_difference s t u (HasStatesReachedOver (set s ∷ set t
     (ap (λ other. is_same (nat_eq s u) (other || nat_eq u u)) (ap (λ name. nat_eq name u) (sym same))
     ∙ ap₂ (λ one other. is_same one (one || other)) (differ-eqb s u apart) (same-eqb u)))
 
-pub inter_reached : (s t u : ℕ) → (s ≢ t) ⊎ (t ≢ u) → HasStatesReachedOver (set s ∷ set t ∷ set u ∷ []) (sets_table Inter)
+inter_reached : (s t u : ℕ) → (s == t && t == u) ≡ false → HasStatesReachedOver (set s ∷ set t ∷ set u ∷ []) (sets_table Inter)
 inter_reached s t u = by_difference s t u (HasStatesReachedOver (set s ∷ set t ∷ set u ∷ []) (sets_table Inter))
     (λ apart. sets_reached Inter (set s ∷ set t ∷ set u ∷ []) (λ name. nat_eq name s) (orders_of_three s t u) (omega arith)
     (ap₂ (λ one other. is_same one (other && nat_eq u s)) (same-eqb s) (differ-eqb t s (λ equal. apart (sym equal)))))
@@ -142,5 +144,16 @@ inter_reached s t u = by_difference s t u (HasStatesReachedOver (set s ∷ set t
     (ap (λ other. is_same (nat_eq s s) (other && nat_eq u s)) (ap (λ name. nat_eq name s) (sym same))
     ∙ ap₂ (λ one other. is_same one (one && other)) (same-eqb s) (differ-eqb u s (λ equal. apart (sym equal)))))
 
-pub diff_reached : (s t u : ℕ) → HasStatesReachedOver (set s ∷ set t ∷ set u ∷ []) (sets_table Diff)
-diff_reached s t u = sets_reached Diff (set s ∷ set t ∷ set u ∷ []) (λ name. true) (orders_of_three s t u) (omega arith) refl
+-- each relation between sets, where it is not one that holds of its operands as they are one
+pub relation_reached : (relation : SetRelation) (s t u : ℕ) → is_of_itself relation s t u ≡ false
+    → HasStatesReachedOver (variables_of_basic (sets_form relation s t u)) (sets_table relation)
+relation_reached Sub s t u differ = sub_reached s t (eqb-false s t differ)
+relation_reached Union s t u differ = union_reached s t u differ
+relation_reached Inter s t u differ = inter_reached s t u differ
+relation_reached Diff s t u differ = sets_reached Diff (set s ∷ set t ∷ set u ∷ []) (λ name. true) (orders_of_three s t u) (omega arith) refl
+
+pub relation_orders : (relation : SetRelation) (s t u : ℕ) → HaveOneOrder (variables_of_basic (sets_form relation s t u))
+relation_orders Sub s t u = orders_of_two s t
+relation_orders Union s t u = orders_of_three s t u
+relation_orders Inter s t u = orders_of_three s t u
+relation_orders Diff s t u = orders_of_three s t u

@@ -1,5 +1,6 @@
 -- The machines of relations that name one variable alone decide them.
-use Rattle.std.proofs.Common.{◌≡◌, ◌≢◌, ℕ, zero, suc, ◌+◌, ◌<◌, ◌≤◌, ◌⊎◌, inl, inr, Bool, true, false, ◌||◌, ◌&&◌, if◌then◌else◌, List, [], ◌∷◌, ◌++◌, refl, sym, subst, ◌∙◌, arith}
+use Rattle.std.proofs.Common.{◌≡◌, ◌≢◌, ℕ, zero, suc, ◌+◌, ◌<◌, ◌≤◌, ◌==◌, take, ◌⊎◌, inl, inr, Bool, true, false, ◌||◌, ◌&&◌, if◌then◌else◌, List, [], ◌∷◌, ◌++◌, refl, sym, subst, ◌∙◌, arith}
+use Rattle.std.proofs.lemmas.Bool.{eqb-true}
 use Rattle.ms_logic_core.specs.declared.core_formula.Basic.{Basic}
 use Rattle.ms_logic_core.specs.declared.core_formula.Basic.TheVariants.{Less, Plus, Sub, Union, Inter}
 use Rattle.ms_logic.specs.declared.mode.Mode.{Mode}
@@ -9,7 +10,11 @@ use Rattle.ms_logic_core.specs.CoreForm.{Holds}
 use Rattle.ms_logic.specs.FiniteSet.{is_member, IsRising, union_of, intersection_of}
 use Rattle.ms_logic.proofs.Members.{is_member-union_of, is_member-filter, IsRising-set_of, IsRising-filter}
 use Rattle.ms_logic.proofs.SetLaws.{sets_are_their_members, subset_law}
+use Rattle.ms_logic_core.specs.Operands.{variables_of_basic}
 use Rattle.ms_basic.specs.Operands.{number, set}
+use Rattle.ms_basic.specs.Sets.{is_of_itself, sets_form}
+use Rattle.ms_basic.specs.declared.sets.SetRelation.{SetRelation}
+use Rattle.ms_basic.specs.declared.sets.SetRelation.TheVariants as relations
 use Rattle.ms_basic.specs.inner.Relation.{DecidesRelation, IsRight}
 use Rattle.ms_basic.specs.inner.Repeated.{constant_table, one_number_sign, one_number_step, one_number_table, sign_of_constant}
 use Rattle.ms_basic.specs.inner.Tally.{IsTally}
@@ -117,14 +122,31 @@ pub same_members : (left right : List ℕ) → IsRising left → IsRising right 
 same_members left right rising_left rising_right same =
     sets_are_their_members left right rising_left rising_right (λ k. (λ member. same k ∙ member, λ member. sym (same k) ∙ member))
 
-pub decides_sub_itself : (mode : Mode) (s : ℕ) → DecidesRelation mode (set s ∷ []) (Sub s s) (constant_table true)
+decides_sub_itself : (mode : Mode) (s : ℕ) → DecidesRelation mode (set s ∷ []) (Sub s s) (constant_table true)
 decides_sub_itself mode s = decides_always mode s (Sub s s) (λ e assigned. (subset_law (e.set s) (e.set s)).1 (λ n member. member))
 
-pub decides_union_itself : (mode : Mode) (s : ℕ) → DecidesRelation mode (set s ∷ []) (Union s s s) (constant_table true)
+decides_union_itself : (mode : Mode) (s : ℕ) → DecidesRelation mode (set s ∷ []) (Union s s s) (constant_table true)
 decides_union_itself mode s = decides_always mode s (Union s s s) (λ e assigned.
     same_members (e.set s) (union_of (e.set s) (e.set s)) assigned.values.0.0 (IsRising-set_of (e.set s ++ e.set s)) (λ k. is_member-union_of k (e.set s) (e.set s) ∙ or_itself (is_member k (e.set s))))
 
-pub decides_inter_itself : (mode : Mode) (s : ℕ) → DecidesRelation mode (set s ∷ []) (Inter s s s) (constant_table true)
+decides_inter_itself : (mode : Mode) (s : ℕ) → DecidesRelation mode (set s ∷ []) (Inter s s s) (constant_table true)
 decides_inter_itself mode s = decides_always mode s (Inter s s s) (λ e assigned.
     same_members (e.set s) (intersection_of (e.set s) (e.set s)) assigned.values.0.0 (IsRising-filter (λ n. is_member n (e.set s)) (e.set s) assigned.values.0.0)
     (λ k. is_member-filter k (λ n. is_member n (e.set s)) (e.set s) ∙ and_itself (is_member k (e.set s))))
+
+-- what holds of three sets that are one
+of_one : (Fact : ℕ → ℕ → ℕ → Type 0) (s t u : ℕ) → (s == t && t == u) ≡ true → Fact s s s → Fact s t u
+of_one Fact s t u one fact = by_test (s == t) (t == u) (told s t) (told t u) one
+  where
+    by_test : (first second : Bool) → Tells first s t → Tells second t u → (first && second) ≡ true → Fact s t u
+    by_test true true same equal one = subst (λ t. Fact s t u) same (subst (Fact s s) (same ∙ equal) fact)
+    by_test true false same apart one = let never : ⊥ = cc in absurd never
+    by_test false second apart tells one = let never : ⊥ = cc in absurd never
+
+pub decides_itself : (mode : Mode) (relation : SetRelation) (s t u : ℕ) → is_of_itself relation s t u ≡ true
+    → DecidesRelation mode (take 1 (variables_of_basic (sets_form relation s t u))) (sets_form relation s t u) (constant_table true)
+decides_itself mode relations.Sub s t u one =
+    subst (λ t. DecidesRelation mode (set s ∷ []) (Sub s t) (constant_table true)) (eqb-true s t one) (decides_sub_itself mode s)
+decides_itself mode relations.Union s t u one = of_one (λ s t u. DecidesRelation mode (set s ∷ []) (Union s t u) (constant_table true)) s t u one (decides_union_itself mode s)
+decides_itself mode relations.Inter s t u one = of_one (λ s t u. DecidesRelation mode (set s ∷ []) (Inter s t u) (constant_table true)) s t u one (decides_inter_itself mode s)
+decides_itself mode relations.Diff s t u one = let never : ⊥ = cc in absurd never

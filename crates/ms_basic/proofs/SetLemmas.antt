@@ -41,6 +41,10 @@ no_and false b is = refl
 pub other_sets : (left right : List ℕ) (k : ℕ) → is_member k left ≢ is_member k right → left ≢ right
 other_sets left right k differ same = differ (ap (λ members. is_member k members) same)
 
+-- whether a number is a member, told at the position that it is
+pub at_number : (x position : ℕ) (members : List ℕ) (bit : Bool) → x ≡ position → is_member position members ≡ bit → is_member x members ≡ bit
+at_number x position members bit same is = subst (λ k. is_member k members ≡ bit) (sym same) is
+
 -- equal bits are the same, and other bits are not
 pub same_bits : (a b : Bool) → is_same a b ≡ true → a ≡ b
 same_bits true true same = refl

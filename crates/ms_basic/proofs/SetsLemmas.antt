@@ -1,5 +1,5 @@
 -- The machines of relations between sets that are tested position by position decide them.
-use Rattle.std.proofs.Common.{◌≡◌, ℕ, zero, suc, ◌<◌, ◌≤◌, Bool, true, false, not, ◌&&◌, ◌||◌, List, ◌++◌, refl, sym, ap, ◌∙◌, arith}
+use Rattle.std.proofs.Common.{◌≡◌, ℕ, zero, suc, ◌<◌, ◌≤◌, Bool, true, false, not, ◌&&◌, ◌||◌, List, ◌++◌, length, take, refl, sym, ap, ◌∙◌, arith}
 use Rattle.std.proofs.lemmas.Bool.{false≢true}
 use Rattle.ms_logic_core.specs.declared.core_formula.Basic.TheVariants.{Sub, Union, Inter, Diff}
 use Rattle.ms_logic.specs.declared.mode.Mode.{Mode}
@@ -14,7 +14,7 @@ use Rattle.ms_basic.specs.declared.sets.SetRelation.{SetRelation}
 use Rattle.ms_logic_core.specs.Operands.{variables_of_basic}
 use Rattle.ms_basic.specs.inner.Reading.{operand_bits, state_behind}
 use Rattle.ms_basic.specs.inner.Relation.{DecidesRelation, IsRight}
-use Rattle.ms_basic.specs.Sets.{agrees, is_same, sets_table, tested_step}
+use Rattle.ms_basic.specs.Sets.{agrees, is_same, sets_form, sets_table, tested_step}
 use Rattle.ms_basic.specs.Verdict.{sign_by_contradiction}
 use Rattle.ms_basic.proofs.ReadingLemmas.{kept}
 use Rattle.ms_basic.proofs.SetLemmas.{no_and, no_or, one_more_same, other_bits, other_sets, same_bits, same_sets}
@@ -130,3 +130,17 @@ decides_diff mode s t u = record {
       (λ k above. no_and (is_member k (e.set t)) (not (is_member k (e.set u))) (no_member_from_bound (e.set t) k (omega (arith, room, above))))
       (λ k. refl);
 }
+
+-- each relation between sets
+pub all_operands : (relation : SetRelation) (s t u : ℕ)
+    → take (length (variables_of_basic (sets_form relation 0 0 0))) (variables_of_basic (sets_form relation s t u)) ≡ variables_of_basic (sets_form relation s t u)
+all_operands relations.TheVariants.Sub s t u = refl
+all_operands relations.TheVariants.Union s t u = refl
+all_operands relations.TheVariants.Inter s t u = refl
+all_operands relations.TheVariants.Diff s t u = refl
+
+pub decides_sets : (mode : Mode) (relation : SetRelation) (s t u : ℕ) → DecidesRelation mode (variables_of_basic (sets_form relation s t u)) (sets_form relation s t u) (sets_table relation)
+decides_sets mode relations.TheVariants.Sub s t u = decides_sub mode s t
+decides_sets mode relations.TheVariants.Union s t u = decides_union mode s t u
+decides_sets mode relations.TheVariants.Inter s t u = decides_inter mode s t u
+decides_sets mode relations.TheVariants.Diff s t u = decides_diff mode s t u

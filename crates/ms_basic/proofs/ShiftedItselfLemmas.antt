@@ -15,7 +15,11 @@ use Rattle.ms_logic.proofs.SetLaws.{greatest_law, least_law, moved_up_law}
 use Rattle.ms_logic.proofs.Within.{is_within-of}
 use Rattle.ms_dfa_explore.specs.Small.{TransitionTable}
 use Rattle.ms_basic.specs.Bits.{bits_table}
+use Rattle.ms_logic_core.specs.Operands.{variables_of_basic}
 use Rattle.ms_basic.specs.Operands.{set}
+use Rattle.ms_basic.specs.declared.moved.Direction.{Direction}
+use Rattle.ms_basic.specs.declared.moved.Direction.TheVariants as directions
+use Rattle.ms_basic.specs.inner.Moved.{moved_form}
 use Rattle.ms_basic.specs.inner.Relation.{DecidesRelation, IsRight}
 use Rattle.ms_basic.specs.inner.Repeated.{constant_table}
 use Rattle.ms_basic.proofs.BitsLemmas.{decides_bits}
@@ -49,11 +53,9 @@ down_by_none members rising =
     same_members members (moved_down 0 members) rising (IsRising-moved_down 0 members rising)
     (λ k. is_member-moved_down k 0 members ∙ (let same : k + 0 ≡ k = omega arith in ap (λ n. is_member n members) same))
 
-pub decides_up_by_none : (mode : Mode) (s : ℕ) → DecidesRelation mode (set s ∷ []) (Up s s 0) (constant_table true)
-decides_up_by_none mode s = decides_always mode s (Up s s 0) (λ e assigned. up_by_none e.universe (e.set s) assigned.values.0.0 assigned.values.0.1)
-
-pub decides_down_by_none : (mode : Mode) (s : ℕ) → DecidesRelation mode (set s ∷ []) (Down s s 0) (constant_table true)
-decides_down_by_none mode s = decides_always mode s (Down s s 0) (λ e assigned. down_by_none (e.set s) assigned.values.0.0)
+pub decides_by_none : (mode : Mode) (direction : Direction) (s : ℕ) → DecidesRelation mode (set s ∷ []) (moved_form direction s s 0) (constant_table true)
+decides_by_none mode directions.Up s = decides_always mode s (Up s s 0) (λ e assigned. up_by_none e.universe (e.set s) assigned.values.0.0 assigned.values.0.1)
+decides_by_none mode directions.Down s = decides_always mode s (Down s s 0) (λ e assigned. down_by_none (e.set s) assigned.values.0.0)
 
 -- moved further, it is empty
 up_is_empty : (universe : Universe) (n : ℕ) (members : List ℕ) → IsRising members → 0 < n → members ≡ part_within universe (moved_up n members) → members ≡ []
@@ -93,20 +95,20 @@ decides_along mode operands one other table same decides = record {
   right = λ e count assigned room string. right_along (Holds one e) (Holds other e) _ (same e assigned).0 (same e assigned).1 (decides.right e count assigned room string);
 }
 
-pub decides_up_itself : (mode : Mode) (s n : ℕ) → 0 < n → DecidesRelation mode (set s ∷ []) (Up s s n) (bits_table mode 0 0)
-decides_up_itself mode s n further =
-    decides_along mode (set s ∷ []) (Bits s 0) (Up s s n) (bits_table mode 0 0)
-    (λ e assigned. (
+pub decides_further : (mode : Mode) (direction : Direction) (s n : ℕ) → 0 < n → DecidesRelation mode (set s ∷ []) (moved_form direction s s n) (bits_table mode 0 0)
+decides_further mode direction s n further =
+    decides_along mode (set s ∷ []) (Bits s 0) (moved_form direction s s n) (bits_table mode 0 0) (same direction) (decides_bits mode s 0 0 refl)
+  where
+    same : (way : Direction) (e : Env) → IsAssignment mode (set s ∷ []) e → Holds (Bits s 0) e ↔ Holds (moved_form way s s n) e
+    same directions.Up e assigned = (
       λ empty. empty ∙ sym (ap (λ list. part_within e.universe (moved_up n list)) empty),
-      λ same. up_is_empty e.universe n (e.set s) assigned.values.0.0 further same,
-    ))
-    (decides_bits mode s 0 0 refl)
+      λ moved. up_is_empty e.universe n (e.set s) assigned.values.0.0 further moved,
+    )
+    same directions.Down e assigned = (
+      λ empty. empty ∙ sym (ap (moved_down n) empty),
+      λ moved. down_is_empty n (e.set s) assigned.values.0.0 further moved,
+    )
 
-pub decides_down_itself : (mode : Mode) (s n : ℕ) → 0 < n → DecidesRelation mode (set s ∷ []) (Down s s n) (bits_table mode 0 0)
-decides_down_itself mode s n further =
-    decides_along mode (set s ∷ []) (Bits s 0) (Down s s n) (bits_table mode 0 0)
-    (λ e assigned. (
-      λ empty. empty ∙ sym (ap (λ list. moved_down n list) empty),
-      λ same. down_is_empty n (e.set s) assigned.values.0.0 further same,
-    ))
-    (decides_bits mode s 0 0 refl)
+pub moved_operands : (direction : Direction) (s t n : ℕ) → variables_of_basic (moved_form direction s t n) ≡ set s ∷ set t ∷ []
+moved_operands directions.Up s t n = refl
+moved_operands directions.Down s t n = refl

@@ -5,6 +5,10 @@ use Rattle.std.proofs.lemmas.Bool.{cases_lt, ne_eqb}
 use Rattle.std.proofs.lemmas.Nat.{div-add-mod', pow_pos}
 use Rattle.ms_logic.specs.FiniteSet.{is_member, moved_up}
 use Rattle.ms_logic.proofs.Members.{is_member-moved_up, is_member-moved_up_below}
+use Rattle.ms_basic.specs.States.{states_of}
+use Rattle.ms_basic.specs.declared.moved.Direction.{Direction}
+use Rattle.ms_basic.specs.declared.moved.Direction.TheVariants.{Up, Down}
+use Rattle.ms_basic.specs.inner.Moved.{moved_form}
 use Rattle.ms_basic.specs.inner.Windows.{shifted}
 
 -- the bits of a set below a position, the last of which counts 1
@@ -139,15 +143,13 @@ some_in_window members (suc n) (suc position) some = by_bit (some_in_window memb
         (found.0, omega (arith, found.1), omega (arith, found.2), found.3))
 
 -- where a window is too long, its machine has more states than any limit
-more_than_any : (n : ℕ) → 31 < n → 4294967296 ≤ 2 ^ n
-more_than_any n long = let larger : 2 ^ 32 ≤ 2 ^ n = pow-le-pow_right (omega arith) (let next : 32 ≤ n = omega (arith, long) in next) in larger
+more_than_any : (n : ℕ) → 30 < n → 2147483648 ≤ 2 ^ n
+more_than_any n long = let larger : 2 ^ 31 ≤ 2 ^ n = pow-le-pow_right (omega arith) (let next : 31 ≤ n = omega (arith, long) in next) in larger
 
-pub too_many_up : (s t n limit : ℕ) → s ≢ t → 31 < n → limit ≤ 4000000000 → limit < 8 * ((if s == t then (if n == 0 then 1 else 2) else 2 ^ n + 1) + 1)
-too_many_up s t n limit other long small =
+pub too_many_windows : (direction : Direction) (s t n limit : ℕ) → s ≢ t → 30 < n → limit ≤ 4000000000 → limit < 8 * (states_of (moved_form direction s t n) + 1)
+too_many_windows Up s t n limit other long small =
     subst (λ test. limit < 8 * ((if test then (if n == 0 then 1 else 2) else 2 ^ n + 1) + 1)) (sym (ne_eqb s t other)) (omega (arith, small, more_than_any n long))
-
-pub too_many_down : (s t n limit : ℕ) → s ≢ t → 30 < n → limit ≤ 4000000000 → limit < 8 * ((if s == t then (if n == 0 then 1 else 2) else 2 ^ (n + 1)) + 1)
-too_many_down s t n limit other long small =
+too_many_windows Down s t n limit other long small =
     subst (λ test. limit < 8 * ((if test then (if n == 0 then 1 else 2) else 2 ^ (n + 1)) + 1)) (sym (ne_eqb s t other))
     (omega (arith, small, more_than_any (n + 1) (omega (arith, long))))
 
@@ -155,8 +157,5 @@ too_many_down s t n limit other long small =
 pub some_windows : (n size : ℕ) → size ≡ 2 ^ n → 1 ≤ size
 some_windows n size is = omega (arith, is, pow_pos n)
 
-pub few_windows_up : (n size : ℕ) → size ≡ 2 ^ n → n ≤ 31 → size ≤ 2147483648
-few_windows_up n size is short = let larger : 2 ^ n ≤ 2 ^ 31 = pow-le-pow_right (omega arith) short in omega (arith, is, larger)
-
-pub few_windows_down : (n size : ℕ) → size ≡ 2 ^ n → n ≤ 30 → size ≤ 1073741824
-few_windows_down n size is short = let larger : 2 ^ n ≤ 2 ^ 30 = pow-le-pow_right (omega arith) short in omega (arith, is, larger)
+pub few_windows : (n size : ℕ) → size ≡ 2 ^ n → n ≤ 30 → size ≤ 1073741824
+few_windows n size is short = let larger : 2 ^ n ≤ 2 ^ 30 = pow-le-pow_right (omega arith) short in omega (arith, is, larger)

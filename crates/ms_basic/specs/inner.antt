@@ -4,7 +4,9 @@ pub mod Greatest
 pub mod Least
 pub mod Less
 pub mod Member
+pub mod Moved
 pub mod Number
+pub mod Pairs
 pub mod Plus
 pub mod Reached
 pub mod Reading

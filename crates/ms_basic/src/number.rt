@@ -4,7 +4,7 @@ ghost use Rattle.ms_basic.specs.inner.Relation.{IsMadeUnder};
 
 use crate::made::made;
 use crate::setting::Setting;
-use crate::verdict::{LOST, NO, YES, sign_by_verdict};
+use crate::verdict::{LOST, NO, YES, settled, sign_by_verdict};
 use ms_dfa::Automaton;
 use ms_dfa_explore::{SmallMachine, TrackBits};
 use ms_list::StepFault;
@@ -60,11 +60,7 @@ impl SmallMachine for NumberMachine {
 
     fn step(&self, state: u32, bits: TrackBits) -> u32 {
         match (state, bits.first) {
-            (LOST, _) => LOST,
-            (YES, false) => YES,
-            (NO, false) => NO,
-            (YES, true) => LOST,
-            (NO, true) => LOST,
+            (LOST | YES | NO, x) => settled(state, x),
             (LATE, false) => LATE,
             (LATE, true) => NO,
             (_, x) => self.from_waiting(state, x),

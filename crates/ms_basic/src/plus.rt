@@ -5,7 +5,7 @@ ghost use Rattle.ms_basic.specs.inner.Relation.{IsMadeUnder};
 use crate::made::made;
 use crate::repeated::OneNumberMachine;
 use crate::setting::Setting;
-use crate::verdict::{LOST, NO, YES, sign_by_verdict};
+use crate::verdict::{LOST, NO, YES, settled, sign_by_verdict};
 use ms_dfa::Automaton;
 use ms_dfa_explore::{SmallMachine, TrackBits};
 use ms_list::StepFault;
@@ -79,11 +79,7 @@ impl SmallMachine for PlusMachine {
 
     fn step(&self, state: u32, bits: TrackBits) -> u32 {
         match (state, bits.first, bits.second) {
-            (LOST, _, _) => LOST,
-            (YES, false, false) => YES,
-            (YES, _, _) => LOST,
-            (NO, false, false) => NO,
-            (NO, _, _) => LOST,
+            (LOST | YES | NO, x, y) => settled(state, x || y),
             (NEITHER, x, y) => self.from_neither(x, y),
             (FIRST, true, _) => LOST,
             (FIRST, false, true) => NO,

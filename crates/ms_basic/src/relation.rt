@@ -9,8 +9,14 @@ ghost use Rattle.ms_logic_core.specs.Operands.{variables_of_basic};
 ghost use Rattle.ms_basic.specs.inner.Relation.{IsMadeUnder};
 ghost use Rattle.ms_basic.specs.States.{states_of};
 
+use crate::bits::bits;
+use crate::moved::{Direction, moved};
+use crate::number::number;
+use crate::pairs::{PairRelation, less, pair};
+use crate::plus::plus;
+use crate::sets::{SetRelation, sets};
 use crate::setting::Setting;
-use crate::{bits, down, greatest, least, less, member, number, plus, sets, truth, up};
+use crate::truth::truth;
 use ms_dfa::Automaton;
 use ms_list::StepFault;
 use ms_logic::Mode;
@@ -23,20 +29,20 @@ fn relation(alloc: Global, form: Basic, setting: Setting) -> Result<Automaton, S
     ensures { IsMadeUnder setting form result }
 {
     match form {
-        Basic::Truth(a) => truth::truth(alloc, a, setting),
-        Basic::Number(x, n) => number::number(alloc, x, n, setting),
-        Basic::Plus(x, y, n) => plus::plus(alloc, x, y, n, setting),
-        Basic::Less(x, y) => less::less(alloc, x, y, setting),
-        Basic::Member(x, s) => member::member(alloc, x, s, setting),
-        Basic::Sub(s, t) => sets::sub(alloc, s, t, setting),
-        Basic::Union(s, t, u) => sets::union(alloc, s, t, u, setting),
-        Basic::Inter(s, t, u) => sets::inter(alloc, s, t, u, setting),
-        Basic::Diff(s, t, u) => sets::diff(alloc, s, t, u, setting),
-        Basic::Up(s, t, n) => up::up(alloc, s, t, n, setting),
-        Basic::Down(s, t, n) => down::down(alloc, s, t, n, setting),
-        Basic::Min(x, s) => least::least(alloc, x, s, setting),
-        Basic::Max(x, s) => greatest::greatest(alloc, x, s, setting),
-        Basic::Bits(s, n) => bits::bits(alloc, s, n, setting),
+        Basic::Truth(a) => truth(alloc, a, setting),
+        Basic::Number(x, n) => number(alloc, x, n, setting),
+        Basic::Plus(x, y, n) => plus(alloc, x, y, n, setting),
+        Basic::Less(x, y) => less(alloc, x, y, setting),
+        Basic::Member(x, s) => pair(alloc, PairRelation::Member, x, s, setting),
+        Basic::Sub(s, t) => sets(alloc, SetRelation::Sub, s, t, t, setting),
+        Basic::Union(s, t, u) => sets(alloc, SetRelation::Union, s, t, u, setting),
+        Basic::Inter(s, t, u) => sets(alloc, SetRelation::Inter, s, t, u, setting),
+        Basic::Diff(s, t, u) => sets(alloc, SetRelation::Diff, s, t, u, setting),
+        Basic::Up(s, t, n) => moved(alloc, Direction::Up, s, t, n, setting),
+        Basic::Down(s, t, n) => moved(alloc, Direction::Down, s, t, n, setting),
+        Basic::Min(x, s) => pair(alloc, PairRelation::Least, x, s, setting),
+        Basic::Max(x, s) => pair(alloc, PairRelation::Greatest, x, s, setting),
+        Basic::Bits(s, n) => bits(alloc, s, n, setting),
     }
 }
 

@@ -1,6 +1,7 @@
-ghost use Rattle.std.specs.Prelude.{◌≡◌};
+ghost use Rattle.std.specs.Prelude.{◌≡◌, length};
+ghost use Rattle.ms_logic_core.specs.Operands.{variables_of_basic};
 ghost use Rattle.ms_basic.specs.inner.Relation.{IsMadeUnder};
-ghost use Rattle.ms_basic.specs.Sets.{agrees};
+ghost use Rattle.ms_basic.specs.Sets.{agrees, is_of_itself, sets_form};
 
 use crate::made::made;
 use crate::repeated::ConstantMachine;
@@ -20,6 +21,39 @@ pub(crate) enum SetRelation {
     Union,
     Inter,
     Diff,
+}
+
+/// How many operands the relation has.
+fn count(relation: SetRelation) -> usize
+    ensures { result ≡ length (variables_of_basic (sets_form relation 0 0 0)) }
+{
+    match relation {
+        SetRelation::Sub => 2,
+        SetRelation::Union | SetRelation::Inter | SetRelation::Diff => 3,
+    }
+}
+
+/// The relation as a basic one; of an inclusion there is no third set.
+fn sets_form(relation: SetRelation, s: u32, t: u32, u: u32) -> Basic
+    ensures { result ≡ sets_form relation s t u }
+{
+    match relation {
+        SetRelation::Sub => Basic::Sub(s, t),
+        SetRelation::Union => Basic::Union(s, t, u),
+        SetRelation::Inter => Basic::Inter(s, t, u),
+        SetRelation::Diff => Basic::Diff(s, t, u),
+    }
+}
+
+/// Whether the operands are one set, and each set has the relation to itself.
+fn is_of_itself(relation: SetRelation, s: u32, t: u32, u: u32) -> bool
+    ensures { result ≡ is_of_itself relation s t u }
+{
+    match relation {
+        SetRelation::Sub => s == t,
+        SetRelation::Union | SetRelation::Inter => s == t && t == u,
+        SetRelation::Diff => false,
+    }
 }
 
 /// Whether the bits of a position agree with the relation.
@@ -67,70 +101,26 @@ impl SmallMachine for SetsMachine {
     }
 }
 
-/// The automaton of `S sub T`.
-pub(crate) fn sub(alloc: Global, s: u32, t: u32, setting: Setting) -> Result<Automaton, StepFault>
-    ensures { IsMadeUnder setting (Basic.Sub s t) result }
-{
-    let form = Basic::Sub(s, t);
-    if s == t {
-        return made(alloc, ConstantMachine { holds: true }, form, 1, setting);
-    }
-    let relation = SetRelation::Sub;
-    made(alloc, SetsMachine { relation }, form, 2, setting)
-}
-
-/// The automaton of `S = T union U`.
-pub(crate) fn union(
+/// The automaton of a relation between sets.
+pub(crate) fn sets(
     alloc: Global,
+    relation: SetRelation,
     s: u32,
     t: u32,
     u: u32,
     setting: Setting,
 ) -> Result<Automaton, StepFault>
-    ensures { IsMadeUnder setting (Basic.Union s t u) result }
+    ensures { IsMadeUnder setting (sets_form relation s t u) result }
 {
-    let form = Basic::Union(s, t, u);
-    if s == t && t == u {
+    let form = sets_form(relation, s, t, u);
+    if is_of_itself(relation, s, t, u) {
         return made(alloc, ConstantMachine { holds: true }, form, 1, setting);
     }
-    let relation = SetRelation::Union;
-    made(alloc, SetsMachine { relation }, form, 3, setting)
-}
-
-/// The automaton of `S = T inter U`.
-pub(crate) fn inter(
-    alloc: Global,
-    s: u32,
-    t: u32,
-    u: u32,
-    setting: Setting,
-) -> Result<Automaton, StepFault>
-    ensures { IsMadeUnder setting (Basic.Inter s t u) result }
-{
-    let form = Basic::Inter(s, t, u);
-    if s == t && t == u {
-        return made(alloc, ConstantMachine { holds: true }, form, 1, setting);
-    }
-    let relation = SetRelation::Inter;
-    made(alloc, SetsMachine { relation }, form, 3, setting)
-}
-
-/// The automaton of `S = T \ U`.
-pub(crate) fn diff(
-    alloc: Global,
-    s: u32,
-    t: u32,
-    u: u32,
-    setting: Setting,
-) -> Result<Automaton, StepFault>
-    ensures { IsMadeUnder setting (Basic.Diff s t u) result }
-{
-    let relation = SetRelation::Diff;
     made(
         alloc,
         SetsMachine { relation },
-        Basic::Diff(s, t, u),
-        3,
+        form,
+        count(relation),
         setting,
     )
 }

@@ -1,0 +1,86 @@
+ghost use Rattle.std.specs.Prelude.{◌≡◌};
+ghost use Rattle.ms_basic.specs.inner.Moved.{moved_form};
+ghost use Rattle.ms_basic.specs.inner.Relation.{IsMadeUnder};
+
+use crate::bits::BitsMachine;
+use crate::down::DownMachine;
+use crate::made::made;
+use crate::repeated::ConstantMachine;
+use crate::setting::Setting;
+use crate::up::UpMachine;
+use crate::windows::size;
+use ms_dfa::Automaton;
+use ms_list::StepFault;
+use ms_logic_core::Basic;
+use std::alloc::Global;
+
+/// Whether a set is moved up or down.
+#[derive(Clone, Copy)]
+pub(crate) enum Direction {
+    Up,
+    Down,
+}
+
+/// The greatest distance for which a machine is made: with a greater one there are more states than any limit.
+const GREATEST: u64 = 30;
+
+/// `S = T + n` or `S = T - n`.
+fn moved_form(direction: Direction, s: u32, t: u32, n: u64) -> Basic
+    ensures { result ≡ moved_form direction s t n }
+{
+    match direction {
+        Direction::Up => Basic::Up(s, t, n),
+        Direction::Down => Basic::Down(s, t, n),
+    }
+}
+
+/// The automaton of `S = S + n` or `S = S - n`: moved by 0 a set is itself, and moved further only the empty one is.
+fn moved_itself(
+    alloc: Global,
+    direction: Direction,
+    s: u32,
+    n: u64,
+    setting: Setting,
+) -> Result<Automaton, StepFault>
+    ensures { IsMadeUnder setting (moved_form direction s s n) result }
+{
+    let form = moved_form(direction, s, s, n);
+    if n == 0 {
+        made(alloc, ConstantMachine { holds: true }, form, 1, setting)
+    } else {
+        made(alloc, BitsMachine::none(setting.mode), form, 1, setting)
+    }
+}
+
+/// The automaton of `S = T + n` or `S = T - n`.
+pub(crate) fn moved(
+    alloc: Global,
+    direction: Direction,
+    s: u32,
+    t: u32,
+    n: u64,
+    setting: Setting,
+) -> Result<Automaton, StepFault>
+    ensures { IsMadeUnder setting (moved_form direction s t n) result }
+{
+    if s == t {
+        return moved_itself(alloc, direction, s, n, setting);
+    }
+    if n > GREATEST {
+        return Err(StepFault::Nodes {
+            limit: setting.limit,
+        });
+    }
+    let mode = setting.mode;
+    let size = size(n);
+    match direction {
+        Direction::Up => {
+            let form = Basic::Up(s, t, n);
+            made(alloc, UpMachine { mode, size }, form, 2, setting)
+        }
+        Direction::Down => {
+            let form = Basic::Down(s, t, n);
+            made(alloc, DownMachine { size }, form, 2, setting)
+        }
+    }
+}
