@@ -13,7 +13,7 @@ use Rattle.ms_names_rules.specs.declared.meaning.Meaning.{Meaning}
 use Rattle.ms_names_rules.specs.declared.meaning.Meaning.TheVariants as meaning
 use Rattle.ms_names_rules.specs.Declarations.{Known, after_declaration, count_of_globals, first_fault_from, occurrences_in}
 use Rattle.ms_names_rules.specs.Occurrence.{Occurrence}
-use Rattle.ms_names_rules.specs.Rules.{faults_at, faults_of_form, faults_of_order, faults_of_renames, faults_of_repeat, faults_of_variable, is_name_among}
+use Rattle.ms_names_rules.specs.Rules.{faults_at, faults_of_form, faults_of_order, faults_of_renames}
 use Rattle.ms_names_rules.specs.Scope.{Scope, meaning_among, meaning_of, Bytes}
 use Rattle.ms_parse_grammar.specs.Tree.{imported, Expression, atom, Declared}
 use Rattle.ms_names_rules.specs.TypedSource.{collected}
@@ -23,7 +23,7 @@ use Rattle.ms_names_rules.proofs.Makes.{right-there}
 use Rattle.ms_names_rules.proofs.Orders.{AreRight, back-empty, front-empty}
 use Rattle.ms_names_checked.specs.Names.{HasDifferentRights}
 use Rattle.ms_names_checked.proofs.Collected.{right-both}
-use Rattle.ms_names_checked.proofs.Differing.{Fresh, all-others, none-among, not-in-case}
+use Rattle.ms_names_checked.proofs.Differing.{Fresh, all-others, first-rename, none-among}
 use Rattle.ms_names_checked.proofs.Falling.{AreFalling, HasFalling, declaration-falling, falling-after}
 use Rattle.ms_names_checked.proofs.Scopes.{Names}
 use Rattle.ms_names_checked.proofs.Stages.{declaration-grows}
@@ -73,12 +73,7 @@ numbers_of pairs = map (λ (p : MapPair). p.variable) pairs
 fresh-rights : (s : Scope) (lefts rights : List Bytes) (rs : List Rename) → faults_of_renames s lefts rights rs ≡ [] → Fresh rights (rights_of rs)
 fresh-rights s lefts rights [] right = tt
 fresh-rights s lefts rights (r ∷ rs) right =
-    let first = faults_of_repeat r.at r.left lefts in
-    let second = faults_of_variable r.at_right r.right (meaning_of s r.right) in
-    let third = faults_of_repeat r.at_right r.right rights in
-    let rest = faults_of_renames s (r.left ∷ lefts) (r.right ∷ rights) rs in
-    let behind = back-empty second (third ++ rest) (back-empty first (second ++ (third ++ rest)) right) in
-    (not-in-case (is_name_among r.right rights) _ (front-empty third rest behind), fresh-rights s (r.left ∷ lefts) (r.right ∷ rights) rs (back-empty third rest behind))
+    let told = first-rename s lefts rights r rs right in (told.1, fresh-rights s (r.left ∷ lefts) (r.right ∷ rights) rs told.2)
 
 none-different : AllPairs (λ (x : ℕ) y. x ≢ y) []
 none-different = λ i j d less within. absurd (omega arith)

@@ -1,5 +1,5 @@
 -- The constants and relations of a checked source are in range.
-use Rattle.std.proofs.Common.{◌≡◌, ℕ, ◌+◌, List, [], ◌∷◌, map, refl, sym, subst, ◌∙◌, None, ◌++◌, Some}
+use Rattle.std.proofs.Common.{◌≡◌, ℕ, ◌+◌, List, [], ◌∷◌, map, refl, sym, subst, ◌∙◌, None, ◌++◌}
 use Rattle.ms_list.specs.declared.at.At.{At as Place}
 use Rattle.ms_logic.specs.declared.checked.Global.{Global}
 use Rattle.ms_logic.specs.declared.mode.Mode.{Mode}
@@ -27,7 +27,7 @@ use Rattle.ms_names_rules.proofs.Makes.{right-there}
 use Rattle.ms_names_rules.proofs.Numbering.{if-two}
 use Rattle.ms_names_rules.proofs.Orders.{AreRight, right-back, right-front}
 use Rattle.ms_names_checked.specs.Constants.{HasConstantsInRange, IsArgumentInRange, IsDeclarationInRange, IsInRange, IsPredicateInRange, IsRestrictionInRange}
-use Rattle.ms_names_checked.proofs.Collected.{each-collected, each-kept, each-mapped}
+use Rattle.ms_names_checked.proofs.Collected.{each-formula, each-collected, each-kept, each-mapped}
 use Rattle.ms_names_checked.proofs.InRange.{domain-in-range, formula-in-range, in-range, mode-bounds}
 
 -- the mode stays
@@ -137,21 +137,10 @@ module _ (mode : Mode) where
   predicates-in-range k (goal name_at title e) is h = tt
 
   formulas-in-range : (k : Known) (at : Place) (item : ℕ) (d : Declaration) → k.scope.mode ≡ mode → AreRight (occurrences_in k d) → Each (If FormulaInRange) (formulas_of k at item d)
-  formulas-in-range k at item (variables vs) is h = tt
-  formulas-in-range k at item (constant name_at n is) same h = tt
-  formulas-in-range k at item (predicate is_pred name_at n vs e) is h = tt
-  formulas-in-range k at item (included text_at file) is h = tt
-  formulas-in-range k at item (default_restriction o n e) is h = tt
-  formulas-in-range k at item (formula e) is h = (
-    if-one (IsInRange mode) FormulaInRange (λ form. record { at = at; item = item; title = None; formula = form }) (formula_in (typed k.scope k.before e)) (λ f i. i)
-        (formula-in-range mode (typed k.scope k.before e) (in-range mode k.scope k.before formula_wanted e is h)),
-    tt,
-  )
-  formulas-in-range k at item (goal name_at title e) is h = (
-    if-one (IsInRange mode) FormulaInRange (λ form. record { at = at; item = item; title = Some title; formula = form }) (formula_in (typed k.scope k.before e)) (λ f i. i)
-        (formula-in-range mode (typed k.scope k.before e) (in-range mode k.scope k.before formula_wanted e is h)),
-    tt,
-  )
+  formulas-in-range k at item d is h = each-formula (IsInRange mode) (λ d. AreRight (occurrences_in k d)) k held (λ name_at title. held) at item d h
+    where
+      held : (e : Expression) → AreRight (occurrences k.scope k.before formula_wanted e) → If (IsInRange mode) (formula_in (typed k.scope k.before e))
+      held e right = formula-in-range mode (typed k.scope k.before e) (in-range mode k.scope k.before formula_wanted e is right)
 
 pub constants-in-range : (loaded : Loaded) (checked : Checked) → IsTyped loaded checked → first_fault_of loaded.mode (map declared_of loaded.items) ≡ None → HasConstantsInRange checked
 constants-in-range loaded checked typed right =

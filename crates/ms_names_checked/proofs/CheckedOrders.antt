@@ -1,5 +1,5 @@
 -- Variables of one number have one order in a checked source.
-use Rattle.std.proofs.Common.{◌≡◌, ℕ, ◌+◌, List, [], ◌∷◌, ◌++◌, length, length-append, map, None, refl, sym, ap, subst, arith, Some}
+use Rattle.std.proofs.Common.{◌≡◌, ℕ, ◌+◌, List, [], ◌∷◌, ◌++◌, length, length-append, map, None, refl, sym, ap, subst, arith}
 use Rattle.ms_list.specs.declared.at.At.{At as Place}
 use Rattle.ms_logic.specs.declared.checked.Global.{Global}
 use Rattle.ms_logic.specs.declared.mode.Order.{Order}
@@ -22,7 +22,7 @@ use Rattle.ms_names_rules.proofs.Numbering.{Stand, if-two}
 use Rattle.ms_names_rules.proofs.Standing.{stand-all, stand-front}
 use Rattle.ms_names_checked.specs.Orders.{BindsInOrder, DeclaresInOrder, HasOneOrder, PredicateBindsInOrder, RestrictionBindsInOrder}
 use Rattle.ms_names_checked.proofs.Globals.{globals-picked, orders_of_globals, picked_in, picked_of_bounds}
-use Rattle.ms_names_checked.proofs.Collected.{each-kept, each-mapped}
+use Rattle.ms_names_checked.proofs.Collected.{each-formula, each-kept, each-mapped}
 use Rattle.ms_names_checked.proofs.InOrder.{domain-in-order, formula-in-order, in-order, stand-next}
 use Rattle.ms_names_checked.proofs.OrdersInText.{bounds-long, orders-long, orders_in, orders_in_bounds, orders_in_domain, restrictions-long}
 
@@ -166,21 +166,10 @@ module _ (T : List Order) where
   predicates-in-order k (goal name_at title e) h = tt
 
   formulas-in-order : (k : Known) (at : Place) (item : ℕ) (d : Declaration) → Stand T k.before.next (orders_in_declaration d) → Each (If FormulaInOrder) (formulas_of k at item d)
-  formulas-in-order k at item (variables vs) h = tt
-  formulas-in-order k at item (constant name_at n is) h = tt
-  formulas-in-order k at item (predicate is_pred name_at n vs e) h = tt
-  formulas-in-order k at item (included text_at file) h = tt
-  formulas-in-order k at item (default_restriction o n e) h = tt
-  formulas-in-order k at item (formula e) h = (
-    if-one (BindsInOrder T) FormulaInOrder (λ form. record { at = at; item = item; title = None; formula = form }) (formula_in (typed k.scope k.before e)) (λ f i. i)
-        (formula-in-order T (typed k.scope k.before e) (in-order T k.scope k.before e h)),
-    tt,
-  )
-  formulas-in-order k at item (goal name_at title e) h = (
-    if-one (BindsInOrder T) FormulaInOrder (λ form. record { at = at; item = item; title = Some title; formula = form }) (formula_in (typed k.scope k.before e)) (λ f i. i)
-        (formula-in-order T (typed k.scope k.before e) (in-order T k.scope k.before e h)),
-    tt,
-  )
+  formulas-in-order k at item d h = each-formula (BindsInOrder T) (λ d. Stand T k.before.next (orders_in_declaration d)) k held (λ name_at title. held) at item d h
+    where
+      held : (e : Expression) → Stand T k.before.next (orders_in e) → If (BindsInOrder T) (formula_in (typed k.scope k.before e))
+      held e stand = formula-in-order T (typed k.scope k.before e) (in-order T k.scope k.before e stand)
 
 -- all that the next declarations give
 record AllInOrder (T : List Order) (k : Known) (item : ℕ) (ds : List Declared) : Type 0 where

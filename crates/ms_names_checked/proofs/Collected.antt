@@ -1,12 +1,16 @@
 -- What holds of all that the declarations of a source without a fault give.
 use Rattle.std.proofs.Common.{◌≡◌, ℕ, ◌+◌, true, false, if◌then◌else◌, List, [], ◌∷◌, map, Option, Some, None, refl}
+use Rattle.ms_list.specs.declared.at.At.{At as Place}
+use Rattle.ms_logic.specs.Tree.{Form}
+use Rattle.ms_names_rules.specs.Scope.{Bytes}
 use Rattle.ms_names_rules.specs.declared.fault.Fault.{Fault}
 use Rattle.ms_names_rules.specs.Declarations.{Known, after_declaration, faults_in, first_fault_from, or_later}
 use Rattle.ms_names_rules.specs.Fault.{comes_before, first_fault, first_with}
 use Rattle.ms_logic.specs.Lists.{Each}
-use Rattle.ms_parse_grammar.specs.Tree.{Declaration, Declared}
-use Rattle.ms_names_rules.specs.TypedSource.{collected}
-use Rattle.ms_names_rules.proofs.Fitting.{If, each-append}
+use Rattle.ms_parse_grammar.specs.Tree.{Declaration, Declared, Expression, variables, constant, predicate, included, default_restriction, formula, goal}
+use Rattle.ms_names_rules.specs.Typed.{formula_in, typed}
+use Rattle.ms_names_rules.specs.TypedSource.{TypedFormula, collected, formulas_of}
+use Rattle.ms_names_rules.proofs.Fitting.{If, each-append, if-one}
 use Rattle.ms_names_checked.specs.inner.Examples.{holds}
 
 -- where there is no first fault there is none
@@ -48,3 +52,18 @@ each-kept P f (x ∷ xs) h = (h.0, each-kept P f xs h.1)
 pub each-mapped : {A B : Type 0} (P : B → Type 0) (f : A → B) (xs : List A) → Each (λ x. P (f x)) xs → Each P (map f xs)
 each-mapped P f [] h = tt
 each-mapped P f (x ∷ xs) h = (h.0, each-mapped P f xs h.1)
+
+-- P holds of the formulas that a declaration gives, where it holds of what those expressions become that stand in it as formulas or goals
+pub each-formula : (P : Form → Type 0) (Knows : Declaration → Type 0) (k : Known) →
+    ((e : Expression) → Knows (formula e) → If P (formula_in (typed k.scope k.before e))) →
+    ((name_at : Place) (title : Bytes) (e : Expression) → Knows (goal name_at title e) → If P (formula_in (typed k.scope k.before e))) →
+    (at : Place) (item : ℕ) (d : Declaration) → Knows d → Each (If (λ (f : TypedFormula). P f.formula)) (formulas_of k at item d)
+each-formula P Knows k of_formula of_goal at item (variables vs) h = tt
+each-formula P Knows k of_formula of_goal at item (constant name_at n is) h = tt
+each-formula P Knows k of_formula of_goal at item (predicate is_pred name_at n vs e) h = tt
+each-formula P Knows k of_formula of_goal at item (included text_at file) h = tt
+each-formula P Knows k of_formula of_goal at item (default_restriction o n e) h = tt
+each-formula P Knows k of_formula of_goal at item (formula e) h =
+    (if-one P (λ (f : TypedFormula). P f.formula) (λ form. record { at = at; item = item; title = None; formula = form }) (formula_in (typed k.scope k.before e)) (λ f held. held) (of_formula e h), tt)
+each-formula P Knows k of_formula of_goal at item (goal name_at title e) h =
+    (if-one P (λ (f : TypedFormula). P f.formula) (λ form. record { at = at; item = item; title = Some title; formula = form }) (formula_in (typed k.scope k.before e)) (λ f held. held) (of_goal name_at title e h), tt)

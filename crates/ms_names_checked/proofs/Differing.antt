@@ -183,16 +183,25 @@ fresh-pair lefts n (Some (meaning.Variable x o)) rest here h = (here, h)
 fresh-pair lefts n (Some (meaning.Constant value)) rest here h = fresh-later n lefts (lefts_of rest) h
 fresh-pair lefts n (Some (meaning.Predicate p parameters)) rest here h = fresh-later n lefts (lefts_of rest) h
 
-fresh-renames : (s : Scope) (lefts rights : List Bytes) (rs : List Rename) → faults_of_renames s lefts rights rs ≡ [] → Fresh lefts (lefts_of (pairs_of s rs))
-fresh-renames s lefts rights [] right = tt
-fresh-renames s lefts rights (r ∷ rs) right =
+-- where nothing is wrong with pairs, neither name of the first stands before it, and nothing is wrong with the others
+pub first-rename : (s : Scope) (lefts rights : List Bytes) (r : Rename) (rs : List Rename) → faults_of_renames s lefts rights (r ∷ rs) ≡ [] →
+    (is_name_among r.left lefts ≡ false) × (is_name_among r.right rights ≡ false) × (faults_of_renames s (r.left ∷ lefts) (r.right ∷ rights) rs ≡ [])
+first-rename s lefts rights r rs right =
     let first = faults_of_repeat r.at r.left lefts in
     let second = faults_of_variable r.at_right r.right (meaning_of s r.right) in
     let third = faults_of_repeat r.at_right r.right rights in
     let rest = faults_of_renames s (r.left ∷ lefts) (r.right ∷ rights) rs in
-    let later = back-empty third rest (back-empty second (third ++ rest) (back-empty first (second ++ (third ++ rest)) right)) in
-    fresh-pair lefts r.left (meaning_of s r.right) (pairs_of s rs) (not-in-case (is_name_among r.left lefts) _ (front-empty first (second ++ (third ++ rest)) right))
-    (fresh-renames s (r.left ∷ lefts) (r.right ∷ rights) rs later)
+    let behind = back-empty second (third ++ rest) (back-empty first (second ++ (third ++ rest)) right) in (
+      not-in-case (is_name_among r.left lefts) _ (front-empty first (second ++ (third ++ rest)) right),
+      not-in-case (is_name_among r.right rights) _ (front-empty third rest behind),
+      back-empty third rest behind,
+    )
+
+fresh-renames : (s : Scope) (lefts rights : List Bytes) (rs : List Rename) → faults_of_renames s lefts rights rs ≡ [] → Fresh lefts (lefts_of (pairs_of s rs))
+fresh-renames s lefts rights [] right = tt
+fresh-renames s lefts rights (r ∷ rs) right =
+    let told = first-rename s lefts rights r rs right in
+    fresh-pair lefts r.left (meaning_of s r.right) (pairs_of s rs) told.0 (fresh-renames s (r.left ∷ lefts) (r.right ∷ rights) rs told.2)
 
 abbrev pub HasDifferentLefts : ImportUse → Type 0
 HasDifferentLefts used = AreDifferent (lefts_of used.pairs)

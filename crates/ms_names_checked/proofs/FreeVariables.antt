@@ -49,29 +49,26 @@ use Rattle.ms_names_rules.proofs.Behind.{taken-orders}
 
 -- what is free in lists with one more behind
 
+only_last : {C : Type 0} → (⊥ ⊎ C) ↔ (C ⊎ ⊥)
+only_last = (λ free. ⊎_elim (λ none. absurd none) (λ last. inl last) free, λ free. inr (only free))
+
+behind_first : {A B C D : Type 0} → (B ⊎ C) ↔ D → ((A ⊎ B) ⊎ C) ↔ (A ⊎ D)
+behind_first rest = (
+  λ free. ⊎_elim (λ before. ⊎_elim (λ own. inl own) (λ later. inr (rest.0 (inl later))) before) (λ last. inr (rest.0 (inr last))) free,
+  λ free. ⊎_elim (λ own. inl (inl own)) (λ later. ⊎_elim (λ before. inl (inr before)) (λ last. inr last) (rest.1 later)) free,
+)
+
 terms-read : (ts : Terms) (t : Term) (v : Variable) → (TermsRead ts v ⊎ TermReads t v) ↔ TermsRead (number_behind ts t) v
-terms-read tree.no_terms t v = (λ free. ⊎_elim (λ none. absurd none) (λ last. inl last) free, λ free. inr (only free))
-terms-read (tree.more_terms first ts) t v =
-    let rest = terms-read ts t v in (
-      λ free. ⊎_elim (λ before. ⊎_elim (λ own. inl own) (λ later. inr (rest.0 (inl later))) before) (λ last. inr (rest.0 (inr last))) free,
-      λ free. ⊎_elim (λ own. inl (inl own)) (λ later. ⊎_elim (λ before. inl (inr before)) (λ last. inr last) (rest.1 later)) free,
-    )
+terms-read tree.no_terms t v = only_last
+terms-read (tree.more_terms first ts) t v = behind_first (terms-read ts t v)
 
 forms-free : (r : Reads) (fs : Forms) (f : Form) (v : Variable) → (FreeInForms r fs v ⊎ FreeUnder r f v) ↔ FreeInForms r (formula_behind fs f) v
-forms-free r tree.no_forms f v = (λ free. ⊎_elim (λ none. absurd none) (λ last. inl last) free, λ free. inr (only free))
-forms-free r (tree.more_forms first fs) f v =
-    let rest = forms-free r fs f v in (
-      λ free. ⊎_elim (λ before. ⊎_elim (λ own. inl own) (λ later. inr (rest.0 (inl later))) before) (λ last. inr (rest.0 (inr last))) free,
-      λ free. ⊎_elim (λ own. inl (inl own)) (λ later. ⊎_elim (λ before. inl (inr before)) (λ last. inr last) (rest.1 later)) free,
-    )
+forms-free r tree.no_forms f v = only_last
+forms-free r (tree.more_forms first fs) f v = behind_first (forms-free r fs f v)
 
 arguments-free : (r : Reads) (given : Arguments) (a : Argument) (v : Variable) → (FreeInArguments r given v ⊎ FreeInArgument r a v) ↔ FreeInArguments r (argument_behind given a) v
-arguments-free r tree.no_arguments a v = (λ free. ⊎_elim (λ none. absurd none) (λ last. inl last) free, λ free. inr (only free))
-arguments-free r (tree.more_arguments first more) a v =
-    let rest = arguments-free r more a v in (
-      λ free. ⊎_elim (λ before. ⊎_elim (λ own. inl own) (λ later. inr (rest.0 (inl later))) before) (λ last. inr (rest.0 (inr last))) free,
-      λ free. ⊎_elim (λ own. inl (inl own)) (λ later. ⊎_elim (λ before. inl (inr before)) (λ last. inr last) (rest.1 later)) free,
-    )
+arguments-free r tree.no_arguments a v = only_last
+arguments-free r (tree.more_arguments first more) a v = behind_first (arguments-free r more a v)
 
 exports-last : (fs : Forms) (f : Form) → exports_among (formula_behind fs f) ≡ exports_among fs ++ exports_in f
 exports-last tree.no_forms f = append-nil (exports_in f)

@@ -1,5 +1,5 @@
 -- What an expression becomes binds its variables with their orders.
-use Rattle.std.proofs.Common.{◌≡◌, ℕ, ◌+◌, Bool, true, false, List, [], ◌∷◌, ◌++◌, length, Option, Some, None, refl, sym, ap, subst, ◌∙◌, slice_get, ◌==◌}
+use Rattle.std.proofs.Common.{◌≡◌, ℕ, ◌+◌, Bool, true, false, List, [], ◌∷◌, ◌++◌, length, Option, Some, None, refl, sym, ap, subst, ◌∙◌, slice_get}
 use Rattle.std.specs.Option.{option_and_then}
 use Rattle.ms_logic.specs.declared.mode.Order.{Order}
 use Rattle.ms_logic.specs.declared.mode.Order.TheVariants.{Zero, One, Two}
@@ -16,13 +16,14 @@ use Rattle.ms_names_rules.specs.Constant.{value_of}
 use Rattle.ms_names_rules.specs.Declarations.{orders_of_bounds}
 use Rattle.ms_names_rules.specs.Numbers.{order_of_argument, orders_of_arguments}
 use Rattle.ms_names_rules.specs.Scope.{Scope, count_of_bounds, count_of_parts, default_of, meaning_of, under_bounds, under_parts, count}
-use Rattle.ms_names_rules.specs.Typed.{default_restriction, formula_in, numbers_of_parts, of_order, typed, typed_arguments, typed_call, typed_domain, typed_formulas, typed_name, typed_numbers, typed_parts, typed_quantifiers, typed_shift, variable_argument, argument_behind, argument_for, as_many, formula_behind, joined_formula, typed_atom, quantifier}
-use Rattle.ms_names_rules.proofs.Fitting.{If, if-any, if-one, if-test, if-weaker}
+use Rattle.ms_names_rules.specs.Typed.{default_restriction, formula_in, numbers_of_parts, of_order, typed, typed_arguments, typed_domain, typed_formulas, typed_name, typed_numbers, typed_parts, typed_quantifiers, typed_shift, variable_argument, argument_behind, argument_for, formula_behind, joined_formula, typed_atom, quantifier}
+use Rattle.ms_names_rules.proofs.Fitting.{If, if-any, if-one, if-weaker}
 use Rattle.ms_names_rules.proofs.Numbering.{Stand, if-two}
 use Rattle.ms_names_rules.proofs.Standing.{stand-back, stand-front}
 use Rattle.ms_names_checked.specs.Orders.{ArgumentBindsInOrder, ArgumentsBindInOrder, BindsInOrder, EachBindsInOrder, NamesHaveOrders, RestrictionBindsInOrder}
 use Rattle.ms_names_checked.proofs.Hiding.{from, orders_of_parts, numbers-from}
 use Rattle.ms_names_checked.proofs.OrdersInText.{bounds-long, orders-long, orders_in, orders_in_all, orders_in_bounds, orders_in_domain, orders_in_parts, parts-long, restrictions-long, sides-long}
+use Rattle.ms_names_checked.proofs.OfOrders.{if-call, if-formula, if-order}
 use Rattle.ms_names_checked.proofs.Operators.{Combines, bracket-holds, opened-next, prefix-holds, binary-holds}
 use Rattle.ms_parse_grammar.specs.declared.operator.Junction.{Junction}
 use Rattle.ms_names_rules.proofs.Behind.{orders-behind}
@@ -34,25 +35,13 @@ stand-next T n m xs ys same h = subst (λ k. Stand T k ys) (sym same) (stand-bac
 
 module _ (T : List Order) where
   pub formula-in-order : (a : Option Argument) → If (ArgumentBindsInOrder T) a → If (BindsInOrder T) (formula_in a)
-  formula-in-order None h = tt
-  formula-in-order (Some (truth_argument f)) h = h
-  formula-in-order (Some (number_argument t)) h = tt
-  formula-in-order (Some (set_argument s)) h = tt
+  formula-in-order = if-formula (ArgumentBindsInOrder T)
 
   abbrev IsSide : Order → Argument → Type 0
   IsSide o a = ArgumentBindsInOrder T a × (order_of_argument a ≡ o)
 
   side-in-order : (o : Order) (a : Option Argument) → If (ArgumentBindsInOrder T) a → If (IsSide o) (option_and_then (of_order o) a)
-  side-in-order o None h = tt
-  side-in-order Zero (Some (truth_argument f)) h = (h, refl)
-  side-in-order Zero (Some (number_argument t)) h = tt
-  side-in-order Zero (Some (set_argument s)) h = tt
-  side-in-order One (Some (truth_argument f)) h = tt
-  side-in-order One (Some (number_argument t)) h = (h, refl)
-  side-in-order One (Some (set_argument s)) h = tt
-  side-in-order Two (Some (truth_argument f)) h = tt
-  side-in-order Two (Some (number_argument t)) h = tt
-  side-in-order Two (Some (set_argument s)) h = (h, refl)
+  side-in-order = if-order (ArgumentBindsInOrder T) IsSide (λ f h. (h, refl)) (λ t h. (h, refl)) (λ s h. (h, refl))
 
   variable-in-order : (x : ℕ) (o : Order) → ArgumentBindsInOrder T (variable_argument x o)
   variable-in-order x Zero = tt
@@ -78,14 +67,6 @@ module _ (T : List Order) where
   argument-in-order : (o : Option Order) (a : Option Argument) → If (ArgumentBindsInOrder T) a → If (ArgumentBindsInOrder T) (argument_for o a)
   argument-in-order None a h = tt
   argument-in-order (Some o) a h = if-weaker (IsSide o) (ArgumentBindsInOrder T) (option_and_then (of_order o) a) (λ b k. k.0) (side-in-order o a h)
-
-  call-in-order : (m : Option Meaning) (n : ℕ) (given : Option Arguments) → If (ArgumentsBindInOrder T) given → If (ArgumentBindsInOrder T) (typed_call m (as_many n (parameters_of m) given))
-  call-in-order None n given h = tt
-  call-in-order (Some (meaning.Variable x o)) n given h = tt
-  call-in-order (Some (meaning.Constant value)) n given h = tt
-  call-in-order (Some (meaning.Predicate p parameters)) n given h =
-      if-one (ArgumentsBindInOrder T) (ArgumentBindsInOrder T) (λ arguments. truth_argument (tree.call p arguments)) (as_many n parameters given) (λ arguments k. k)
-      (if-test (ArgumentsBindInOrder T) (n == length parameters) given (λ test. h))
 
   -- lists with one more behind
 
@@ -159,7 +140,7 @@ module _ (T : List Order) where
     in-order s b (listed at Literal es) h = if-one (λ ts. Unit {0}) (ArgumentBindsInOrder T) (λ ts. set_argument (tree.literal ts)) (typed_numbers s b es) (λ ts trivial. tt) (if-any (typed_numbers s b es))
     in-order s b (listed at (Call n) es) h =
         let parameters = parameters_of (meaning_of s n) in
-        call-in-order (meaning_of s n) (count es) (typed_arguments s b parameters es) (arguments-all s b parameters es h)
+        if-call (ArgumentBindsInOrder T) (ArgumentsBindInOrder T) (λ p arguments h. h) (meaning_of s n) (count es) (typed_arguments s b parameters es) (arguments-all s b parameters es h)
     in-order s b (quantified at q o vs e) h =
         let next = with_names b (count_of_bounds vs) in
         let end = after_bounds next vs in

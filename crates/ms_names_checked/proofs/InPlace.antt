@@ -27,6 +27,7 @@ use Rattle.ms_names_rules.proofs.NoExports.{domain-none, none-exported}
 use Rattle.ms_names_rules.proofs.Numbering.{if-two}
 use Rattle.ms_names_rules.proofs.Orders.{AreRight, back-empty, front-empty, right-back, right-front}
 use Rattle.ms_names_checked.specs.Exports.{HasExportsInPlace, HaveExportsInPlace}
+use Rattle.ms_names_checked.proofs.OfOrders.{if-formula}
 use Rattle.ms_names_checked.proofs.Operators.{Combines, bracket-holds, prefix-holds, binary-holds}
 use Rattle.ms_parse_grammar.specs.declared.operator.Junction.{Junction}
 
@@ -49,10 +50,7 @@ pub inside-right : (s : Scope) (b : Before) (w : Wanted) (e : Expression) → Ar
 inside-right s b w e h = back-empty (faults_at (standing s b w e)) (flat_map faults_at (inside s b e)) h
 
 pub formula-in-place : (a : Option Argument) → If IsInPlace a → If HasExportsInPlace (formula_in a)
-formula-in-place None h = tt
-formula-in-place (Some (truth_argument f)) h = h
-formula-in-place (Some (number_argument t)) h = tt
-formula-in-place (Some (set_argument s)) h = tt
+formula-in-place = if-formula IsInPlace
 
 variable-in-place : (x : ℕ) (o : Order) → IsInPlace (variable_argument x o)
 variable-in-place x Zero = tt

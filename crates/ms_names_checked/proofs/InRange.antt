@@ -1,5 +1,5 @@
 -- Where nothing is wrong with an expression, its constants are in range and its relations stand between what they are for.
-use Rattle.std.proofs.Common.{◌≡◌, ℕ, ◌+◌, ◌≤◌, Bool, true, false, nat_lt, List, [], ◌∷◌, Option, Some, None, refl, subst, ◌∙◌, arith, length, slice_get, ◌==◌}
+use Rattle.std.proofs.Common.{◌≡◌, ℕ, ◌+◌, ◌≤◌, Bool, true, false, nat_lt, List, [], ◌∷◌, Option, Some, None, refl, subst, ◌∙◌, arith, slice_get}
 use Rattle.std.specs.Prelude.{flat_map}
 use Rattle.std.specs.Option.{option_and_then}
 use Rattle.std.proofs.lemmas.Bool.Decides.{nat_tests}
@@ -25,13 +25,14 @@ use Rattle.ms_names_rules.specs.Constant.{greatest_in_terms, value_of}
 use Rattle.ms_names_rules.specs.Order.{formula_wanted, number_wanted, order_of, parameters_of, content_wanted, left_wanted, operand_wanted, right_wanted, wanted_by}
 use Rattle.ms_names_rules.specs.Occurrence.{standing, occurrences, inside, inside_operands, inside_arguments, inside_bounds, inside_domain, inside_parts}
 use Rattle.ms_names_rules.specs.Rules.{faults_at, faults_of_form, faults_of_name, faults_of_offset, faults_of_order, faults_of_placed, faults_of_whole, in_case}
-use Rattle.ms_names_rules.specs.Typed.{default_restriction, formula_in, number_in, set_in, numbers_of_parts, of_order, typed, typed_arguments, typed_call, typed_domain, typed_formulas, typed_name, typed_numbers, typed_parts, typed_quantifiers, typed_shift, variable_argument, argument_behind, argument_for, as_many, formula_behind, joined_formula, number_behind, typed_atom, quantifier}
+use Rattle.ms_names_rules.specs.Typed.{default_restriction, formula_in, number_in, numbers_of_parts, of_order, typed, typed_arguments, typed_domain, typed_formulas, typed_name, typed_numbers, typed_parts, typed_quantifiers, typed_shift, variable_argument, argument_behind, argument_for, formula_behind, joined_formula, number_behind, typed_atom, quantifier}
 use Rattle.ms_names_rules.proofs.Exports.{typed-same, under_parts-same}
-use Rattle.ms_names_rules.proofs.Fitting.{If, if-any, if-one, if-test}
+use Rattle.ms_names_rules.proofs.Fitting.{If, if-any, if-one}
 use Rattle.ms_names_rules.proofs.Numbering.{if-two}
 use Rattle.ms_names_rules.proofs.Orders.{AreRight, back-empty, front-empty, right-back, right-front}
-use Rattle.ms_names_checked.specs.Constants.{AreArgumentsInRange, AreInRange, AreTermsInRange, HasWhole, IsArgumentInRange, IsInRange, IsRestrictionInRange, IsSetInRange, IsTermInRange}
+use Rattle.ms_names_checked.specs.Constants.{AreArgumentsInRange, AreInRange, AreTermsInRange, HasWhole, IsArgumentInRange, IsInRange, IsRestrictionInRange, IsTermInRange}
 use Rattle.ms_names_checked.proofs.InPlace.{inside-right}
+use Rattle.ms_names_checked.proofs.OfOrders.{if-call, if-formula, if-number, if-order}
 use Rattle.ms_names_checked.proofs.Operators.{Combines, bracket-holds, prefix-holds, binary-holds}
 use Rattle.ms_parse_grammar.specs.declared.operator.Junction.{Junction}
 
@@ -60,34 +61,10 @@ whole-allowed M2lStr at h = tt
 
 module _ (mode : Mode) where
   pub formula-in-range : (a : Option Argument) → If (IsArgumentInRange mode) a → If (IsInRange mode) (formula_in a)
-  formula-in-range None h = tt
-  formula-in-range (Some (truth_argument f)) h = h
-  formula-in-range (Some (number_argument t)) h = tt
-  formula-in-range (Some (set_argument s)) h = tt
-
-  number-in-range : (a : Option Argument) → If (IsArgumentInRange mode) a → If (IsTermInRange mode) (number_in a)
-  number-in-range None h = tt
-  number-in-range (Some (truth_argument f)) h = tt
-  number-in-range (Some (number_argument t)) h = h
-  number-in-range (Some (set_argument s)) h = tt
-
-  set-in-range : (a : Option Argument) → If (IsArgumentInRange mode) a → If (IsSetInRange mode) (set_in a)
-  set-in-range None h = tt
-  set-in-range (Some (truth_argument f)) h = tt
-  set-in-range (Some (number_argument t)) h = tt
-  set-in-range (Some (set_argument s)) h = h
+  formula-in-range = if-formula (IsArgumentInRange mode)
 
   order-in-range : (o : Order) (a : Option Argument) → If (IsArgumentInRange mode) a → If (IsArgumentInRange mode) (option_and_then (of_order o) a)
-  order-in-range o None h = tt
-  order-in-range Zero (Some (truth_argument f)) h = h
-  order-in-range Zero (Some (number_argument t)) h = tt
-  order-in-range Zero (Some (set_argument s)) h = tt
-  order-in-range One (Some (truth_argument f)) h = tt
-  order-in-range One (Some (number_argument t)) h = h
-  order-in-range One (Some (set_argument s)) h = tt
-  order-in-range Two (Some (truth_argument f)) h = tt
-  order-in-range Two (Some (number_argument t)) h = tt
-  order-in-range Two (Some (set_argument s)) h = h
+  order-in-range = if-order (IsArgumentInRange mode) (λ o. IsArgumentInRange mode) (λ f h. h) (λ t h. h) (λ s h. h)
 
   variable-in-range : (x : ℕ) (o : Order) → IsArgumentInRange mode (variable_argument x o)
   variable-in-range x Zero = tt
@@ -114,15 +91,6 @@ module _ (mode : Mode) where
   argument-in-range : (o : Option Order) (a : Option Argument) → If (IsArgumentInRange mode) a → If (IsArgumentInRange mode) (argument_for o a)
   argument-in-range None a h = tt
   argument-in-range (Some o) a h = order-in-range o a h
-
-  call-in-range : (m : Option Meaning) (n : ℕ) (given : Option Arguments) → If (AreArgumentsInRange mode) given →
-      If (IsArgumentInRange mode) (typed_call m (as_many n (parameters_of m) given))
-  call-in-range None n given h = tt
-  call-in-range (Some (meaning.Variable x o)) n given h = tt
-  call-in-range (Some (meaning.Constant value)) n given h = tt
-  call-in-range (Some (meaning.Predicate p parameters)) n given h =
-      if-one (AreArgumentsInRange mode) (IsArgumentInRange mode) (λ arguments. truth_argument (tree.call p arguments)) (as_many n parameters given) (λ arguments k. k)
-      (if-test (AreArgumentsInRange mode) (n == length parameters) given (λ test. h))
 
   -- lists with one more behind
 
@@ -194,7 +162,7 @@ module _ (mode : Mode) where
         if-one (AreTermsInRange mode) (IsArgumentInRange mode) (λ ts. set_argument (tree.literal ts)) (typed_numbers s b es) (λ ts k. k) (numbers-all s b es is (inside-right s b w (listed at Literal es) h))
     in-range s b w (listed at (Call n) es) is h =
         let parameters = parameters_of (meaning_of s n) in
-        call-in-range (meaning_of s n) (count es) (typed_arguments s b parameters es) (arguments-all s b parameters es is (inside-right s b w (listed at (Call n) es) h))
+        if-call (IsArgumentInRange mode) (AreArgumentsInRange mode) (λ p arguments h. h) (meaning_of s n) (count es) (typed_arguments s b parameters es) (arguments-all s b parameters es is (inside-right s b w (listed at (Call n) es) h))
     in-range s b w (quantified at q o vs e) is h =
         let next = with_names b (count_of_bounds vs) in
         let end = after_bounds next vs in
@@ -226,7 +194,7 @@ module _ (mode : Mode) where
         let os = inside_operands s b number_wanted es in
         let ps = occurrences s end number_wanted e in
         if-two (AreTermsInRange mode) (IsTermInRange mode) (AreTermsInRange mode) number_behind (typed_numbers s b es) (number_in (typed s end e)) terms-behind
-        (numbers-all s b es is (right-front os ps h)) (number-in-range (typed s end e) (in-range s end number_wanted e is (right-back os ps h)))
+        (numbers-all s b es is (right-front os ps h)) (if-number (IsArgumentInRange mode) (typed s end e) (in-range s end number_wanted e is (right-back os ps h)))
 
     formulas-all : (s : Scope) (b : Before) (es : Expressions) → s.mode ≡ mode → AreRight (inside_operands s b formula_wanted es) → If (AreInRange mode) (typed_formulas s b es)
     formulas-all s b no_expressions is h = tt

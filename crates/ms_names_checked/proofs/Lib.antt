@@ -19,6 +19,7 @@ pub mod InRange
 pub mod Knowing
 pub mod Leading
 pub mod Listing
+pub mod OfOrders
 pub mod Operators
 pub mod OrdersInText
 pub mod Predicates

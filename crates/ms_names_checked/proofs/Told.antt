@@ -27,6 +27,7 @@ use Rattle.ms_names_rules.specs.Typed.{formula_in, number_in, set_in, of_order, 
 use Rattle.ms_names_rules.specs.Uses.{pair_of, pairs_of}
 use Rattle.ms_names_rules.proofs.Fitting.{Falls, If, each-append, if-one}
 use Rattle.ms_names_checked.specs.Constants.{RelatesNumbers, RelatesSets}
+use Rattle.ms_names_checked.proofs.OfOrders.{if-formula, if-number, if-order, if-set}
 use Rattle.ms_names_checked.proofs.Leading.{Any, LeadsTo, Reaches, any-back, any-front, any-split, leads-variable, variable-leads}
 use Rattle.ms_names_checked.proofs.Scopes.{IsInScope, IsMeaning, IsOld, IsPredicate, Knows, Names, in-scope-once, in-scope-same, meaning-known, old-more}
 use Rattle.ms_names_rules.proofs.Numbering.{all-taken}
@@ -110,24 +111,15 @@ module _ (r : Reads) (exports : List ExportUse) (R : List Readings) (low : ℕ) 
 
   pub formula-told : (high : ℕ) (names : Names) (Q : ℕ → Type 0) (a : Option Argument) → If (λ a. Told r exports low high names Q (λ v. FreeInArgument r a v) (exports_of a)) a →
       If (λ f. Told r exports low high names Q (λ v. FreeUnder r f v) (exports_in f)) (formula_in a)
-  formula-told high names Q None h = tt
-  formula-told high names Q (Some (truth_argument f)) h = h
-  formula-told high names Q (Some (number_argument t)) h = tt
-  formula-told high names Q (Some (set_argument s)) h = tt
+  formula-told high names Q = if-formula (λ a. Told r exports low high names Q (λ v. FreeInArgument r a v) (exports_of a))
 
   pub number-told : (high : ℕ) (names : Names) (Q : ℕ → Type 0) (a : Option Argument) → If (λ a. Told r exports low high names Q (λ v. FreeInArgument r a v) (exports_of a)) a →
       If (λ t. Told r exports low high names Q (λ v. TermReads t v) []) (number_in a)
-  number-told high names Q None h = tt
-  number-told high names Q (Some (truth_argument f)) h = tt
-  number-told high names Q (Some (number_argument t)) h = h
-  number-told high names Q (Some (set_argument s)) h = tt
+  number-told high names Q = if-number (λ a. Told r exports low high names Q (λ v. FreeInArgument r a v) (exports_of a))
 
   pub set-told : (high : ℕ) (names : Names) (Q : ℕ → Type 0) (a : Option Argument) → If (λ a. Told r exports low high names Q (λ v. FreeInArgument r a v) (exports_of a)) a →
       If (λ t. Told r exports low high names Q (λ v. SetTermReads t v) []) (set_in a)
-  set-told high names Q None h = tt
-  set-told high names Q (Some (truth_argument f)) h = tt
-  set-told high names Q (Some (number_argument t)) h = tt
-  set-told high names Q (Some (set_argument s)) h = h
+  set-told high names Q = if-set (λ a. Told r exports low high names Q (λ v. FreeInArgument r a v) (exports_of a))
 
   -- an argument of an order
   abbrev pub OrderTold : ℕ → Names → (ℕ → Type 0) → Order → Argument → Type 0
@@ -135,16 +127,7 @@ module _ (r : Reads) (exports : List ExportUse) (R : List Readings) (low : ℕ) 
 
   pub order-told : (high : ℕ) (names : Names) (Q : ℕ → Type 0) (o : Order) (a : Option Argument) →
       If (λ a. Told r exports low high names Q (λ v. FreeInArgument r a v) (exports_of a)) a → If (OrderTold high names Q o) (option_and_then (of_order o) a)
-  order-told high names Q o None h = tt
-  order-told high names Q Zero (Some (truth_argument f)) h = (h, refl)
-  order-told high names Q Zero (Some (number_argument t)) h = tt
-  order-told high names Q Zero (Some (set_argument s)) h = tt
-  order-told high names Q One (Some (truth_argument f)) h = tt
-  order-told high names Q One (Some (number_argument t)) h = (h, refl)
-  order-told high names Q One (Some (set_argument s)) h = tt
-  order-told high names Q Two (Some (truth_argument f)) h = tt
-  order-told high names Q Two (Some (number_argument t)) h = tt
-  order-told high names Q Two (Some (set_argument s)) h = (h, refl)
+  order-told high names Q = if-order (λ a. Told r exports low high names Q (λ v. FreeInArgument r a v) (exports_of a)) (OrderTold high names Q) (λ f h. (h, refl)) (λ t h. (h, refl)) (λ s h. (h, refl))
 
   -- a shift reads what its term reads
   pub shift-told : (high : ℕ) (names : Names) (Q : ℕ → Type 0) (minus : Bool) (n : Option ℕ) (a : Option Argument) →

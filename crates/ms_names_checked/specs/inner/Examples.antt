@@ -1,6 +1,7 @@
 -- Small checked sources.
 use Rattle.std.specs.Prelude.{ℕ, List, [], ◌∷◌, codes, None}
 use Rattle.ms_list.specs.declared.at.At.{At}
+use Rattle.ms_logic.specs.declared.checked.MapPair.{MapPair}
 use Rattle.ms_logic.specs.declared.checked.Checked.{Checked}
 use Rattle.ms_logic.specs.declared.checked.ExportUse.{ExportUse}
 use Rattle.ms_logic.specs.declared.checked.Global.{Global}
@@ -69,25 +70,20 @@ declares n = source (declared Two n ∷ []) [] []
 abbrev pub lists_a_name_twice : Checked
 lists_a_name_twice = source [] (export_to (codes "a") (0 ∷ 1 ∷ []) (codes "X" ∷ codes "X" ∷ []) ∷ []) []
 
+-- import("a", ..);
+abbrev pub reads : List MapPair → Checked
+reads pairs = record (source [] [] []) { imports = record { at = nowhere; name = codes "a"; pairs = pairs } ∷ [] }
+
+abbrev pub read_as : Bytes → ℕ → MapPair
+read_as name x = record { name = name; variable = x; order = Two }
+
 -- import("a", P -> X, P -> Y); which is refused
 abbrev pub reads_a_name_twice : Checked
-reads_a_name_twice = record (source [] [] []) {
-  imports = record {
-    at = nowhere;
-    name = codes "a";
-    pairs = record { name = codes "P"; variable = 0; order = Two } ∷ record { name = codes "P"; variable = 1; order = Two } ∷ [];
-  } ∷ [];
-}
+reads_a_name_twice = reads (read_as (codes "P") 0 ∷ read_as (codes "P") 1 ∷ [])
 
 -- import("a", P -> X, Q -> X); which is refused too
 abbrev pub reads_into_one : Checked
-reads_into_one = record (source [] [] []) {
-  imports = record {
-    at = nowhere;
-    name = codes "a";
-    pairs = record { name = codes "P"; variable = 0; order = Two } ∷ record { name = codes "Q"; variable = 0; order = Two } ∷ [];
-  } ∷ [];
-}
+reads_into_one = reads (read_as (codes "P") 0 ∷ read_as (codes "Q") 0 ∷ [])
 
 -- (ex1 x: true) & (ex2 y: true); where x and y have these numbers
 abbrev pub binds_two : ℕ → ℕ → Checked
