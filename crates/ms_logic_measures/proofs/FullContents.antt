@@ -1,10 +1,9 @@
 -- The full contents of P sub Q and of `true` over P and Q.
-use Rattle.std.proofs.Common.{◌≡◌, ℕ, zero, suc, ◌<◌, Bool, true, false, cond, List, [], ◌∷◌, slice_get, Some, refl, sym, ◌∙◌, ap, subst, arith}
+use Rattle.std.proofs.Common.{◌≡◌, ℕ, zero, suc, ◌<◌, Bool, true, false, cond, [], slice_get, Some, refl, sym, ◌∙◌, ap, subst, arith}
 use Rattle.std.proofs.lemmas.Bool.{false≢true}
 use Rattle.std.proofs.lemmas.Option.{same_Some, none-some}
 use Rattle.ms_arena.specs.declared.node.Ref.TheVariants.{Leaf}
 use Rattle.ms_arena.specs.declared.node.Node.{Node}
-use Rattle.ms_arena.specs.Diagram.{leaf_of}
 use Rattle.ms_arena.specs.Reach.{TestsOnly}
 use Rattle.ms_list.specs.declared.word.Word.{Word}
 use Rattle.ms_logic_words.specs.declared.sign.Sign.{Sign}
@@ -14,7 +13,7 @@ use Rattle.ms_logic_core.specs.declared.core_formula.Basic.TheVariants.{Sub}
 use Rattle.ms_logic_words.specs.inner.ContentExamples.{full_subset_content, encodings_content, word}
 use Rattle.ms_logic.specs.Assignment.{IsAssignment}
 use Rattle.ms_logic_words.specs.Canonical.{IsCanonical}
-use Rattle.ms_logic_words.specs.Content.{StateOf, IsContent, NamesPart, IsWordOver, AreLetters, HasValueAt, is_in_letters, first_state, next_state, state_after, last_state, sign_at, sign_of}
+use Rattle.ms_logic_words.specs.Content.{StateOf, IsContent, NamesPart, IsWordOver, HasValueAt, is_in_letters, sign_at, sign_of}
 use Rattle.ms_logic_core.specs.CoreForm.{basic, truth}
 use Rattle.ms_logic_words.specs.inner.Decoding.{decoded}
 use Rattle.ms_logic_words.specs.Word.{Encodes}

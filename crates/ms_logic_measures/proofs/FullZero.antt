@@ -1,5 +1,5 @@
 -- The full contents of x = 0 and of restrict(x = 0) over x.
-use Rattle.std.proofs.Common.{◌≡◌, ◌≢◌, ℕ, suc, ◌+◌, ◌-◌, ◌<◌, ◌≤◌, min, Bool, true, false, cond, inr, List, [], ◌∷◌, length, slice_index_or, Option, Some, None, refl, sym, ◌∙◌, ap, ap₂, subst, arith}
+use Rattle.std.proofs.Common.{if◌then◌else◌, ◌≡◌, ◌≢◌, ℕ, suc, ◌+◌, ◌-◌, ◌<◌, ◌≤◌, min, Bool, true, false, cond, inr, List, [], ◌∷◌, length, slice_index_or, Option, Some, None, refl, sym, ◌∙◌, ap, ap₂, subst, arith}
 use Rattle.std.specs.List.{filter, range_with_len}
 use Rattle.ms_arena.specs.declared.node.Ref.{Ref}
 use Rattle.ms_arena.specs.declared.node.Ref.TheVariants.{Leaf, Inner}
@@ -12,7 +12,7 @@ use Rattle.ms_logic_words.specs.declared.sign.Sign.TheVariants as sign
 use Rattle.ms_logic.specs.declared.mode.Mode.{Mode}
 use Rattle.ms_logic.specs.declared.mode.Order.TheVariants.{One}
 use Rattle.ms_logic_words.specs.Canonical.{IsCanonical, HaveSameSigns, IsNodeReached}
-use Rattle.ms_logic_words.specs.Content.{Content, IsContent, NamesPart, IsWordOver, AreLetters, HasValueAt, is_in_letters, last_state, state_after, sign_at, sign_of}
+use Rattle.ms_logic_words.specs.Content.{next_state, Content, IsContent, NamesPart, IsWordOver, AreLetters, HasValueAt, is_in_letters, last_state, state_after, sign_at, sign_of}
 use Rattle.ms_logic_core.specs.CoreForm.{CoreForm, restrict}
 use Rattle.ms_logic_words.specs.inner.Decoding.{bit_in, positions_of, decoded}
 use Rattle.ms_logic.specs.inner.Examples.{just_x, variable}
@@ -100,28 +100,32 @@ module _ (mode : Mode) (elsewhere : Sign) where
   after_two [] are = refl
   after_two (letter ∷ letters) are = after_two letters are.1
 
-  after_zero : (k : ℕ) (letters : List (List Bool)) → AreLetters just_x letters → state_after content 2 letters ≡ found 2 (ones_from k letters)
-  unfolding leaf_of ones_from
-  after_zero k [] are = refl
-  after_zero k ([] ∷ letters) are = absurd (let short = are.0 in omega (arith, short))
-  after_zero k ((a ∷ b ∷ more) ∷ letters) are = absurd (let long = are.0 in omega (arith, long))
-  after_zero k ((true ∷ []) ∷ letters) are = after_two letters are.1
-  after_zero k ((false ∷ []) ∷ letters) are = after_zero (k + 1) letters are.1
+  -- where x has one position, 0 or another
+  after_found : (state k : ℕ) (letters : List (List Bool)) → ((bit : Bool) → next_state content state (bit ∷ []) ≡ (if bit then 4 else state)) → AreLetters just_x letters
+      → state_after content state letters ≡ found state (ones_from k letters)
+  unfolding ones_from
+  after_found state k [] next are = refl
+  after_found state k ([] ∷ letters) next are = absurd (let short = are.0 in omega (arith, short))
+  after_found state k ((a ∷ b ∷ more) ∷ letters) next are = absurd (let long = are.0 in omega (arith, long))
+  after_found state k ((true ∷ []) ∷ letters) next are = ap (λ s. state_after content s letters) (next true) ∙ after_two letters are.1
+  after_found state k ((false ∷ []) ∷ letters) next are = ap (λ s. state_after content s letters) (next false) ∙ after_found state (k + 1) letters next are.1
 
-  after_other : (k : ℕ) (letters : List (List Bool)) → AreLetters just_x letters → state_after content 3 letters ≡ found 3 (ones_from k letters)
-  unfolding leaf_of ones_from
-  after_other k [] are = refl
-  after_other k ([] ∷ letters) are = absurd (let short = are.0 in omega (arith, short))
-  after_other k ((a ∷ b ∷ more) ∷ letters) are = absurd (let long = are.0 in omega (arith, long))
-  after_other k ((true ∷ []) ∷ letters) are = after_two letters are.1
-  after_other k ((false ∷ []) ∷ letters) are = after_other (k + 1) letters are.1
+  next_zero : (bit : Bool) → next_state content 2 (bit ∷ []) ≡ (if bit then 4 else 2)
+  unfolding leaf_of
+  next_zero true = refl
+  next_zero false = refl
+
+  next_other : (bit : Bool) → next_state content 3 (bit ∷ []) ≡ (if bit then 4 else 3)
+  unfolding leaf_of
+  next_other true = refl
+  next_other false = refl
 
   after_none : (k : ℕ) (letters : List (List Bool)) → AreLetters just_x letters → state_after content 1 letters ≡ waited (ones_from k letters)
   unfolding leaf_of ones_from
   after_none k [] are = refl
   after_none k ([] ∷ letters) are = absurd (let short = are.0 in omega (arith, short))
   after_none k ((a ∷ b ∷ more) ∷ letters) are = absurd (let long = are.0 in omega (arith, long))
-  after_none k ((true ∷ []) ∷ letters) are = after_other (k + 1) letters are.1 ∙ found-waited k (ones_from (k + 1) letters)
+  after_none k ((true ∷ []) ∷ letters) are = after_found 3 (k + 1) letters next_other are.1 ∙ found-waited k (ones_from (k + 1) letters)
   after_none k ((false ∷ []) ∷ letters) are = after_none (k + 1) letters are.1
 
   ordered : IsOrdered content.nodes
@@ -254,7 +258,7 @@ module _ (mode : Mode) (elsewhere : Sign) where
       value_of truth ([] ∷ letters) over = absurd (let short = over.letters.0 in omega (arith, short))
       value_of truth ((a ∷ b ∷ more) ∷ letters) over = absurd (let long = over.letters.0 in omega (arith, long))
       value_of truth ((true ∷ []) ∷ letters) over =
-          value_at_zero (word truth ((true ∷ []) ∷ letters)) over (ones_from 1 letters) refl (after_zero 1 letters over.letters.1)
+          value_at_zero (word truth ((true ∷ []) ∷ letters)) over (ones_from 1 letters) refl (after_found 2 1 letters next_zero over.letters.1)
       value_of truth ((false ∷ []) ∷ letters) over =
           value_later (word truth ((false ∷ []) ∷ letters)) over (ones_from 1 letters) refl (first_one 1 letters over.letters.1) (after_none 1 letters over.letters.1)
 

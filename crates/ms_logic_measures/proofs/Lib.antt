@@ -6,6 +6,7 @@ pub mod FullZero
 pub mod OnlyDiagrams
 pub mod OnlySubset
 pub mod OrderedStarts
+pub mod OverTruthValues
 pub mod Pigeonhole
 pub mod ProjectStarts
 pub mod Runs

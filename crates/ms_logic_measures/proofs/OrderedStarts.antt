@@ -1,5 +1,5 @@
 -- The references to which starts over B and A, and over A and B, lead the content of restrict(B) & A.
-use Rattle.std.proofs.Common.{◌≡◌, ℕ, Bool, true, false, cond, eqb, List, [], ◌∷◌, length, Any, refl, arith}
+use Rattle.std.proofs.Common.{◌≡◌, ℕ, Bool, true, false, cond, eqb, List, [], ◌∷◌, Any, refl, arith}
 use Rattle.std.proofs.lemmas.Bool.{eqb-false}
 use Rattle.std.proofs.lemmas.List.Elements.{All-from_recursion}
 use Rattle.ms_arena.specs.Diagram.{Bits, leaf_of}
@@ -7,7 +7,8 @@ use Rattle.ms_logic.specs.Assignment.{Variable}
 use Rattle.ms_logic_measures.specs.CallMeasures.{LeaveSame, LeadsToReferences}
 use Rattle.ms_logic_words.specs.Content.{state_after}
 use Rattle.ms_logic_words.specs.inner.ContentExamples.{word}
-use Rattle.ms_logic_measures.specs.Starts.{Start, some_truth_values, whole_word, part_of_letter, IsStartOver, narrowed, left_by}
+use Rattle.ms_logic_measures.specs.Starts.{Start, some_truth_values, whole_word, IsStartOver, narrowed, left_by}
+use Rattle.ms_logic_measures.proofs.OverTruthValues.{over_two}
 use Rattle.ms_logic_measures.proofs.SubsetStarts.{rest_of}
 use Rattle.ms_logic_measures.specs.inner.MeasuredContents.{restricted_truth_content}
 use Rattle.ms_logic_measures.specs.inner.MeasureExamples.{truth_B_and_A, truth_A_and_B}
@@ -62,24 +63,23 @@ differ variables one other p q test alike = eqb-false (leave variables one (rest
 abbrev five : List Start
 five = none ∷ only true ∷ both false false ∷ both true false ∷ both true true ∷ []
 
-straight_word : (truth : List Bool) (letters : List (List Bool)) → length truth ≡ 2
-    → Any (λ one. LeaveSame restricted_truth_content truth_B_and_A (whole_word (word truth letters)) one) five
-unfolding leaf_of
-straight_word [] letters long = absurd (omega (arith, long))
-straight_word (b ∷ []) letters long = absurd (omega (arith, long))
-straight_word (b ∷ a ∷ c ∷ more) letters long = absurd (omega (arith, long))
-straight_word (false ∷ a ∷ []) letters long = (2, both false false, omega arith, refl, straight_after false a letters)
-straight_word (true ∷ false ∷ []) letters long = (3, both true false, omega arith, refl, straight_after true false letters)
-straight_word (true ∷ true ∷ []) letters long = (4, both true true, omega arith, refl, straight_after true true letters)
+abbrev IsLikeOneOfFive : Start → Type 0
+IsLikeOneOfFive start = Any (λ one. LeaveSame restricted_truth_content truth_B_and_A start one) five
 
-straight_complete : (start : Start) → IsStartOver truth_B_and_A start → Any (λ one. LeaveSame restricted_truth_content truth_B_and_A start one) five
+straight_first : (b : Bool) → IsLikeOneOfFive (some_truth_values (b ∷ []))
 unfolding leaf_of
-straight_complete (some_truth_values []) over = (0, none, omega arith, refl, (λ rest. refl))
-straight_complete (some_truth_values (true ∷ [])) over = (1, only true, omega arith, refl, (λ rest. refl))
-straight_complete (some_truth_values (false ∷ [])) over = (2, both false false, omega arith, refl, (λ rest. refl))
-straight_complete (some_truth_values (b ∷ a ∷ more)) over = absurd (omega (arith, over))
-straight_complete (whole_word w) over = straight_word w.truth w.letters over.truth
-straight_complete (part_of_letter w bits) over = absurd (let few = over.1 in omega (arith, few))
+straight_first true = (1, only true, omega arith, refl, (λ rest. refl))
+straight_first false = (2, both false false, omega arith, refl, (λ rest. refl))
+
+straight_word : (b a : Bool) (letters : List (List Bool)) → IsLikeOneOfFive (whole_word (word (b ∷ a ∷ []) letters))
+unfolding leaf_of
+straight_word false a letters = (2, both false false, omega arith, refl, straight_after false a letters)
+straight_word true false letters = (3, both true false, omega arith, refl, straight_after true false letters)
+straight_word true true letters = (4, both true true, omega arith, refl, straight_after true true letters)
+
+straight_complete : (start : Start) → IsStartOver truth_B_and_A start → IsLikeOneOfFive start
+unfolding leaf_of
+straight_complete = over_two IsLikeOneOfFive 0 1 (0, none, omega arith, refl, (λ rest. refl)) straight_first straight_word
 
 straight_over : (b a : Bool) → IsStartOver truth_B_and_A (both b a)
 straight_over b a = record { truth = refl; letters = tt }
@@ -108,24 +108,24 @@ straight_references = record {
 abbrev six : List Start
 six = none ∷ only false ∷ only true ∷ both false false ∷ both false true ∷ both true true ∷ []
 
-other_word : (truth : List Bool) (letters : List (List Bool)) → length truth ≡ 2
-    → Any (λ one. LeaveSame restricted_truth_content truth_A_and_B (whole_word (word truth letters)) one) six
-unfolding leaf_of
-other_word [] letters long = absurd (omega (arith, long))
-other_word (a ∷ []) letters long = absurd (omega (arith, long))
-other_word (a ∷ b ∷ c ∷ more) letters long = absurd (omega (arith, long))
-other_word (false ∷ false ∷ []) letters long = (3, both false false, omega arith, refl, other_after false false letters)
-other_word (true ∷ false ∷ []) letters long = (3, both false false, omega arith, refl, other_after true false letters)
-other_word (false ∷ true ∷ []) letters long = (4, both false true, omega arith, refl, other_after false true letters)
-other_word (true ∷ true ∷ []) letters long = (5, both true true, omega arith, refl, other_after true true letters)
+abbrev IsLikeOneOfSix : Start → Type 0
+IsLikeOneOfSix start = Any (λ one. LeaveSame restricted_truth_content truth_A_and_B start one) six
 
-other_complete : (start : Start) → IsStartOver truth_A_and_B start → Any (λ one. LeaveSame restricted_truth_content truth_A_and_B start one) six
-other_complete (some_truth_values []) over = (0, none, omega arith, refl, (λ rest. refl))
-other_complete (some_truth_values (false ∷ [])) over = (1, only false, omega arith, refl, (λ rest. refl))
-other_complete (some_truth_values (true ∷ [])) over = (2, only true, omega arith, refl, (λ rest. refl))
-other_complete (some_truth_values (a ∷ b ∷ more)) over = absurd (omega (arith, over))
-other_complete (whole_word w) over = other_word w.truth w.letters over.truth
-other_complete (part_of_letter w bits) over = absurd (let few = over.1 in omega (arith, few))
+other_first : (b : Bool) → IsLikeOneOfSix (some_truth_values (b ∷ []))
+unfolding leaf_of
+other_first false = (1, only false, omega arith, refl, (λ rest. refl))
+other_first true = (2, only true, omega arith, refl, (λ rest. refl))
+
+other_word : (b a : Bool) (letters : List (List Bool)) → IsLikeOneOfSix (whole_word (word (b ∷ a ∷ []) letters))
+unfolding leaf_of
+other_word false false letters = (3, both false false, omega arith, refl, other_after false false letters)
+other_word true false letters = (3, both false false, omega arith, refl, other_after true false letters)
+other_word false true letters = (4, both false true, omega arith, refl, other_after false true letters)
+other_word true true letters = (5, both true true, omega arith, refl, other_after true true letters)
+
+other_complete : (start : Start) → IsStartOver truth_A_and_B start → IsLikeOneOfSix start
+unfolding leaf_of
+other_complete = over_two IsLikeOneOfSix 1 0 (0, none, omega arith, refl, (λ rest. refl)) other_first other_word
 
 other_over : (a b : Bool) → IsStartOver truth_A_and_B (both a b)
 other_over a b = record { truth = refl; letters = tt }

@@ -38,7 +38,7 @@ kept_letters ((a ∷ []) ∷ letters) (b ∷ bits) are = ap (λ rest. (a ∷ b �
 -- the state after a word over P with bits for Q
 state_with : (w : Word) (bits : List Bool) → IsWordOver just_P w → state_at full_subset_content set_P_and_Q (word_with Two bits w) ≡ cond (is_within (with_Q w.letters bits)) 0 1
 state_with w bits over =
-    last_of_subset (narrowed set_P_and_Q (word_with Two bits w) set_P_and_Q) (record { truth = refl; letters = letters_for (with_Q w.letters bits) })
+    last_of_subset (narrowed set_P_and_Q (word_with Two bits w) set_P_and_Q) (record { truth = refl; letters = letters_for set_P_and_Q (with_Q w.letters bits) })
     ∙ ap (λ letters. cond (is_within letters) 0 1) (kept_letters w.letters bits over.letters)
 
 -- whether P has a member

@@ -8,15 +8,21 @@ use Rattle.ms_logic.specs.declared.assignment.Value.TheVariants.{Truth, Number, 
 use Rattle.ms_logic.specs.Assignment.{Universe}
 use Rattle.ms_logic_words.specs.inner.ContentExamples.{full_subset_content, encodings_content, subset_content}
 use Rattle.ms_logic_measures.specs.CallMeasures.{LeaveSame, LeaveSameOfBoth, LeadToPairs}
-use Rattle.ms_logic_words.specs.Content.{is_in_letters, next_state, state_after, sign_of, sign_at, env_of, shortest_word, answer_by, answer_of}
+use Rattle.ms_logic_words.specs.Content.{Content, is_in_letters, next_state, state_after, sign_of, sign_at, env_of, shortest_word, answer_by, answer_of}
 use Rattle.ms_logic.specs.inner.Examples.{set_P_and_Q}
 use Rattle.ms_logic_measures.specs.Starts.{Start, some_truth_values, whole_word, part_of_letter, IsStartOver, narrowed, with_free_bits, next_at, state_at, left_by}
-use Rattle.ms_logic_words.proofs.SubsetRuns.{last_of_true}
-use Rattle.ms_logic_measures.proofs.SubsetStarts.{subset_pairs}
+use Rattle.ms_logic_measures.proofs.SubsetStarts.{only_state_left, subset_pairs}
 use Rattle.ms_logic_measures.specs.inner.MeasuredContents.{turned_subset}
 use Rattle.ms_logic_measures.specs.inner.MeasureExamples.{set_Q_and_P}
 use Rattle.ms_logic_measures.proofs.Counting.{number_along}
 use Rattle.ms_logic_measures.proofs.TurnedStarts.{turned_references}
+
+-- contents whose states have the same next states run alike
+same_runs : {A B : Type 0} (one : Content A) (other : Content B) → ((s : ℕ) (letter : List Bool) → next_state one s letter ≡ next_state other s letter)
+    → (s : ℕ) (letters : List (List Bool)) → state_after one s letters ≡ state_after other s letters
+same_runs one other next s [] = refl
+same_runs one other next s (letter ∷ letters) =
+    same_runs one other next (next_state one s letter) letters ∙ ap (λ k. state_after other k letters) (next s letter)
 
 -- with the variables turned round
 next-turned : (s : ℕ) (letter : List Bool) → next_state subset_content s letter ≡ next_state turned_subset s letter
@@ -25,14 +31,9 @@ next-turned zero letter = refl
 next-turned (suc zero) letter = refl
 next-turned (suc (suc s)) letter = refl
 
-after-turned : (s : ℕ) (letters : List (List Bool)) → state_after subset_content s letters ≡ state_after turned_subset s letters
-after-turned s [] = refl
-after-turned s (letter ∷ letters) =
-    after-turned (next_state subset_content s letter) letters ∙ ap (λ k. state_after turned_subset k letters) (next-turned s letter)
-
 sign_of-turned : (w : Word) → sign_of subset_content w ≡ sign_of turned_subset w
 unfolding leaf_of
-sign_of-turned w = ap (sign_at subset_content) (after-turned 0 w.letters)
+sign_of-turned w = ap (sign_at subset_content) (same_runs subset_content turned_subset next-turned 0 w.letters)
 
 -- two values are encoded by one word, whichever of the two has the greater number
 same_word : (universe : Universe) (a b : Value) →
@@ -60,14 +61,9 @@ next-signs zero letter = refl
 next-signs (suc zero) letter = refl
 next-signs (suc (suc s)) letter = refl
 
-after-signs : (s : ℕ) (letters : List (List Bool)) → state_after subset_content s letters ≡ state_after full_subset_content s letters
-after-signs s [] = refl
-after-signs s (letter ∷ letters) =
-    after-signs (next_state subset_content s letter) letters ∙ ap (λ k. state_after full_subset_content k letters) (next-signs s letter)
-
 state-signs : (w : Word) → state_at subset_content set_P_and_Q w ≡ state_at full_subset_content set_P_and_Q w
 unfolding leaf_of
-state-signs w = after-signs 0 (narrowed set_P_and_Q w set_P_and_Q).letters
+state-signs w = same_runs subset_content full_subset_content next-signs 0 (narrowed set_P_and_Q w set_P_and_Q).letters
 
 next_at-signs : (s : ℕ) (bits : Bits) → next_at subset_content (slice_get subset_content.states s) bits ≡ next_at full_subset_content (slice_get full_subset_content.states s) bits
 next_at-signs zero bits = refl
@@ -94,7 +90,7 @@ state-turned : (w : Word) → state_at turned_subset set_P_and_Q w ≡ state_at 
 unfolding leaf_of
 state-turned w =
     let letters = (narrowed set_Q_and_P w set_P_and_Q).letters in
-    sym (after-turned 0 letters) ∙ after-signs 0 letters
+    sym (same_runs subset_content turned_subset next-turned 0 letters) ∙ same_runs subset_content full_subset_content next-signs 0 letters
 
 next_at-turned : (s : ℕ) (bits : Bits) → next_at turned_subset (slice_get turned_subset.states s) bits ≡ next_at full_subset_content (slice_get full_subset_content.states s) bits
 next_at-turned zero bits = refl
@@ -116,14 +112,6 @@ left-turned (part_of_letter w bits) rest =
     ap (λ s. next_at turned_subset (slice_get turned_subset.states s) (with_free_bits is_in_letters set_P_and_Q bits set_Q_and_P rest)) (state-turned w)
     ∙ (next_at-turned (state_at full_subset_content set_Q_and_P w) (with_free_bits is_in_letters set_P_and_Q bits set_Q_and_P rest)
     ∙ ap (next_at full_subset_content (slice_get full_subset_content.states (state_at full_subset_content set_Q_and_P w))) (same_bits (same_bits_read bits rest)))
-
--- what is left of the content of `true` is its one state
-only_state_left : (start : Start) (rest : Bits) → left_by encodings_content set_P_and_Q start rest ≡ 0
-unfolding leaf_of
-only_state_left (some_truth_values values) rest = refl
-only_state_left (whole_word w) rest = last_of_true (narrowed set_P_and_Q w set_P_and_Q)
-only_state_left (part_of_letter w bits) rest =
-    ap (λ s. next_at encodings_content (slice_get encodings_content.states s) (with_free_bits is_in_letters set_P_and_Q bits set_P_and_Q rest)) (last_of_true (narrowed set_P_and_Q w set_P_and_Q))
 
 -- a start over both variables in one order is one over them in the other
 turned_start : (start : Start) → IsStartOver set_Q_and_P start ↔ IsStartOver set_P_and_Q start

@@ -7,19 +7,20 @@ use Rattle.ms_logic.specs.declared.mode.Mode.TheVariants.{Ws1s}
 use Rattle.ms_logic_words.specs.inner.ContentExamples.{full_subset_content, encodings_content, word}
 use Rattle.ms_logic_measures.specs.CallMeasures.{IsNumberOf, LeaveSame, LeadsToReferences, LeadToPairs, no_restriction}
 use Rattle.ms_logic_words.specs.Content.{AreLetters, is_in_letters, state_after}
+use Rattle.ms_logic.specs.Assignment.{Variable}
 use Rattle.ms_logic.specs.inner.Examples.{set_P_and_Q}
 use Rattle.ms_logic_measures.specs.Starts.{Start, some_truth_values, whole_word, part_of_letter, IsStartOver, bits_for, narrowed, with_free_bits, state_at, next_at, left_by}
 use Rattle.ms_logic_words.proofs.SubsetRuns.{last_of_subset, last_of_true}
 use Rattle.ms_logic_words.proofs.SubsetWords.{is_within}
 
 -- the four starts: the empty word, P = {0} with Q = {}, and one letter of which no bit, or the bit 1 for P, is read
-abbrev inside : Start
+abbrev pub inside : Start
 inside = whole_word (word [] [])
 
 abbrev outside : Start
 outside = whole_word (word [] ((true ∷ false ∷ []) ∷ []))
 
-abbrev no_bit_read : Start
+abbrev pub no_bit_read : Start
 no_bit_read = part_of_letter (word [] []) []
 
 abbrev one_bit_read : Start
@@ -28,15 +29,15 @@ one_bit_read = part_of_letter (word [] []) (true ∷ [])
 abbrev four : List Start
 four = inside ∷ outside ∷ no_bit_read ∷ one_bit_read ∷ []
 
-pub letters_for : (letters : List (List Bool)) → AreLetters set_P_and_Q (map (λ letter. bits_for is_in_letters set_P_and_Q letter set_P_and_Q) letters)
-letters_for [] = tt
-letters_for (letter ∷ letters) = (refl, letters_for letters)
+pub letters_for : (variables : List Variable) (letters : List (List Bool)) → AreLetters set_P_and_Q (map (λ letter. bits_for is_in_letters variables letter set_P_and_Q) letters)
+letters_for variables [] = tt
+letters_for variables (letter ∷ letters) = (refl, letters_for variables letters)
 
--- the state after a word: 0 or 1
-state_after_word : (w : Word) → (within : Bool) × (state_at full_subset_content set_P_and_Q w ≡ cond within 0 1)
-state_after_word w =
-    let letters = map (λ letter. bits_for is_in_letters set_P_and_Q letter set_P_and_Q) w.letters in
-    (is_within letters, last_of_subset (narrowed set_P_and_Q w set_P_and_Q) (record { truth = refl; letters = letters_for w.letters }))
+-- the state after a word over both variables, in either order: 0 or 1
+pub state_after_word : (variables : List Variable) (w : Word) → (within : Bool) × (state_at full_subset_content variables w ≡ cond within 0 1)
+state_after_word variables w =
+    let letters = map (λ letter. bits_for is_in_letters variables letter set_P_and_Q) w.letters in
+    (is_within letters, last_of_subset (narrowed variables w set_P_and_Q) (record { truth = refl; letters = letters_for variables w.letters }))
 
 -- the references of the first state and of the second
 pub from_P : (bits : Bits) (p q : Bool) → bits 0 ≡ p → bits 1 ≡ q → leaf_of full_subset_content.nodes (Inner 1) bits ≡ cond p (cond q 0 1) 0
@@ -140,8 +141,8 @@ like_part w (a ∷ b ∷ more) true is few = absurd (omega arith)
 
 complete : (start : Start) → IsStartOver set_P_and_Q start → IsLikeOne start
 complete (some_truth_values values) over = absurd (omega (arith, over))
-complete (whole_word w) over = let after = state_after_word w in like_word w after.0 after.1
-complete (part_of_letter w bits) over = let after = state_after_word w in like_part w bits after.0 after.1 over.1
+complete (whole_word w) over = let after = state_after_word set_P_and_Q w in like_word w after.0 after.1
+complete (part_of_letter w bits) over = let after = state_after_word set_P_and_Q w in like_part w bits after.0 after.1 over.1
 
 -- P sub Q has four references
 pub subset_references : LeadsToReferences full_subset_content set_P_and_Q 4
@@ -159,7 +160,7 @@ number_of_both AreAlike AreAlikeToo IsItem n implies counted = record {
 }
 
 -- what is left of the content of `true` is its one state
-only_state_left : (start : Start) (rest : Bits) → left_by encodings_content set_P_and_Q start rest ≡ 0
+pub only_state_left : (start : Start) (rest : Bits) → left_by encodings_content set_P_and_Q start rest ≡ 0
 unfolding leaf_of
 only_state_left (some_truth_values values) rest = refl
 only_state_left (whole_word w) rest = last_of_true (narrowed set_P_and_Q w set_P_and_Q)

@@ -9,6 +9,7 @@ use Rattle.ms_logic_words.specs.Content.{state_after}
 use Rattle.ms_logic.specs.inner.Examples.{variable}
 use Rattle.ms_logic_words.specs.inner.ContentExamples.{word}
 use Rattle.ms_logic_measures.specs.Starts.{Start, some_truth_values, whole_word, part_of_letter, IsStartOver, narrowed, left_by}
+use Rattle.ms_logic_measures.proofs.OverTruthValues.{over_one, over_two}
 use Rattle.ms_logic_measures.proofs.SubsetStarts.{rest_of}
 use Rattle.ms_logic_measures.specs.inner.MeasuredContents.{implies_content, truth_content}
 use Rattle.ms_logic_measures.specs.inner.MeasureExamples.{truth_B_and_A, truth_A}
@@ -85,22 +86,23 @@ same_held b c a letters rest = truth_after b a letters rest ∙ sym (truth_after
 abbrev implies_four : List Start
 implies_four = none ∷ only false ∷ only true ∷ both true false ∷ []
 
-implies_word : (truth : List Bool) (letters : List (List Bool)) → length truth ≡ 2 → Any (λ one. LeaveSame implies_content truth_B_and_A (whole_word (word truth letters)) one) implies_four
-unfolding leaf_of
-implies_word [] letters long = absurd (omega (arith, long))
-implies_word (b ∷ []) letters long = absurd (omega (arith, long))
-implies_word (b ∷ a ∷ c ∷ more) letters long = absurd (omega (arith, long))
-implies_word (true ∷ false ∷ []) letters long = (3, both true false, omega arith, refl, same_implied true false true false letters refl)
-implies_word (true ∷ true ∷ []) letters long = (1, only false, omega arith, refl, implies_after true true letters)
-implies_word (false ∷ a ∷ []) letters long = (1, only false, omega arith, refl, implies_after false a letters)
+abbrev IsLikeOneOfFour : Start → Type 0
+IsLikeOneOfFour start = Any (λ one. LeaveSame implies_content truth_B_and_A start one) implies_four
 
-implies_complete : (start : Start) → IsStartOver truth_B_and_A start → Any (λ one. LeaveSame implies_content truth_B_and_A start one) implies_four
-implies_complete (some_truth_values []) over = (0, none, omega arith, refl, (λ rest. refl))
-implies_complete (some_truth_values (false ∷ [])) over = (1, only false, omega arith, refl, (λ rest. refl))
-implies_complete (some_truth_values (true ∷ [])) over = (2, only true, omega arith, refl, (λ rest. refl))
-implies_complete (some_truth_values (b ∷ a ∷ more)) over = absurd (omega (arith, over))
-implies_complete (whole_word w) over = implies_word w.truth w.letters over.truth
-implies_complete (part_of_letter w bits) over = absurd (let few = over.1 in omega (arith, few))
+implies_first : (b : Bool) → IsLikeOneOfFour (some_truth_values (b ∷ []))
+unfolding leaf_of
+implies_first false = (1, only false, omega arith, refl, (λ rest. refl))
+implies_first true = (2, only true, omega arith, refl, (λ rest. refl))
+
+implies_word : (b a : Bool) (letters : List (List Bool)) → IsLikeOneOfFour (whole_word (word (b ∷ a ∷ []) letters))
+unfolding leaf_of
+implies_word true false letters = (3, both true false, omega arith, refl, same_implied true false true false letters refl)
+implies_word true true letters = (1, only false, omega arith, refl, implies_after true true letters)
+implies_word false a letters = (1, only false, omega arith, refl, implies_after false a letters)
+
+implies_complete : (start : Start) → IsStartOver truth_B_and_A start → IsLikeOneOfFour start
+unfolding leaf_of
+implies_complete = over_two IsLikeOneOfFour 0 1 (0, none, omega arith, refl, (λ rest. refl)) implies_first implies_word
 
 -- two starts leave different states at some bits
 differ : (one other : Start) (p q : Bool) (a b : ℕ) → left_by implies_content truth_B_and_A one (rest_of p q) ≡ a →
@@ -130,18 +132,17 @@ implies_references = record {
 abbrev truth_three : List Start
 truth_three = none ∷ alone false ∷ alone true ∷ []
 
-truth_word : (truth : List Bool) (letters : List (List Bool)) → length truth ≡ 1 → Any (λ one. LeaveSame truth_content truth_A (whole_word (word truth letters)) one) truth_three
-unfolding leaf_of
-truth_word [] letters long = absurd (omega (arith, long))
-truth_word (a ∷ b ∷ more) letters long = absurd (omega (arith, long))
-truth_word (false ∷ []) letters long = (1, alone false, omega arith, refl, truth_after_alone false letters)
-truth_word (true ∷ []) letters long = (2, alone true, omega arith, refl, truth_after_alone true letters)
+abbrev IsLikeOneOfThree : Start → Type 0
+IsLikeOneOfThree start = Any (λ one. LeaveSame truth_content truth_A start one) truth_three
 
-truth_complete : (start : Start) → IsStartOver truth_A start → Any (λ one. LeaveSame truth_content truth_A start one) truth_three
-truth_complete (some_truth_values []) over = (0, none, omega arith, refl, (λ rest. refl))
-truth_complete (some_truth_values (b ∷ more)) over = absurd (omega (arith, over))
-truth_complete (whole_word w) over = truth_word w.truth w.letters over.truth
-truth_complete (part_of_letter w bits) over = absurd (let few = over.1 in omega (arith, few))
+truth_word : (a : Bool) (letters : List (List Bool)) → IsLikeOneOfThree (whole_word (word (a ∷ []) letters))
+unfolding leaf_of
+truth_word false letters = (1, alone false, omega arith, refl, truth_after_alone false letters)
+truth_word true letters = (2, alone true, omega arith, refl, truth_after_alone true letters)
+
+truth_complete : (start : Start) → IsStartOver truth_A start → IsLikeOneOfThree start
+unfolding leaf_of
+truth_complete = over_one IsLikeOneOfThree 1 (0, none, omega arith, refl, (λ rest. refl)) truth_word
 
 pub truth_references : LeadsToReferences truth_content truth_A 3
 unfolding leaf_of rest_of
@@ -160,22 +161,24 @@ truth_references = record {
 abbrev six : List Start
 six = none ∷ only false ∷ only true ∷ both false false ∷ both false true ∷ both true false ∷ []
 
-pair_word : (truth : List Bool) (letters : List (List Bool)) → length truth ≡ 2 → Any (λ one. AreAlike (whole_word (word truth letters)) one) six
-pair_word [] letters long = absurd (omega (arith, long))
-pair_word (b ∷ []) letters long = absurd (omega (arith, long))
-pair_word (b ∷ a ∷ c ∷ more) letters long = absurd (omega (arith, long))
-pair_word (false ∷ false ∷ []) letters long = (3, both false false, omega arith, refl, (same_implied false false false false letters refl, same_held false false false letters))
-pair_word (false ∷ true ∷ []) letters long = (4, both false true, omega arith, refl, (same_implied false true false true letters refl, same_held false false true letters))
-pair_word (true ∷ false ∷ []) letters long = (5, both true false, omega arith, refl, (same_implied true false true false letters refl, same_held true true false letters))
-pair_word (true ∷ true ∷ []) letters long = (4, both false true, omega arith, refl, (same_implied true true false true letters refl, same_held true false true letters))
+abbrev IsAlikeToOneOfSix : Start → Type 0
+IsAlikeToOneOfSix start = Any (λ one. AreAlike start one) six
 
-pair_complete : (start : Start) → IsStartOver truth_B_and_A start → Any (λ one. AreAlike start one) six
-pair_complete (some_truth_values []) over = (0, none, omega arith, refl, (λ rest. refl, λ rest. refl))
-pair_complete (some_truth_values (false ∷ [])) over = (1, only false, omega arith, refl, (λ rest. refl, λ rest. refl))
-pair_complete (some_truth_values (true ∷ [])) over = (2, only true, omega arith, refl, (λ rest. refl, λ rest. refl))
-pair_complete (some_truth_values (b ∷ a ∷ more)) over = absurd (omega (arith, over))
-pair_complete (whole_word w) over = pair_word w.truth w.letters over.truth
-pair_complete (part_of_letter w bits) over = absurd (let few = over.1 in omega (arith, few))
+pair_first : (b : Bool) → IsAlikeToOneOfSix (some_truth_values (b ∷ []))
+unfolding leaf_of
+pair_first false = (1, only false, omega arith, refl, (λ rest. refl, λ rest. refl))
+pair_first true = (2, only true, omega arith, refl, (λ rest. refl, λ rest. refl))
+
+pair_word : (b a : Bool) (letters : List (List Bool)) → IsAlikeToOneOfSix (whole_word (word (b ∷ a ∷ []) letters))
+unfolding leaf_of
+pair_word false false letters = (3, both false false, omega arith, refl, (same_implied false false false false letters refl, same_held false false false letters))
+pair_word false true letters = (4, both false true, omega arith, refl, (same_implied false true false true letters refl, same_held false false true letters))
+pair_word true false letters = (5, both true false, omega arith, refl, (same_implied true false true false letters refl, same_held true true false letters))
+pair_word true true letters = (4, both false true, omega arith, refl, (same_implied true true false true letters refl, same_held true false true letters))
+
+pair_complete : (start : Start) → IsStartOver truth_B_and_A start → IsAlikeToOneOfSix start
+unfolding leaf_of
+pair_complete = over_two IsAlikeToOneOfSix 0 1 (0, none, omega arith, refl, (λ rest. refl, λ rest. refl)) pair_first pair_word
 
 -- B => A tells two starts apart, or A does
 by_implies : (one other : Start) (p q : Bool) → (left_by implies_content truth_B_and_A one (rest_of p q) ≡ left_by implies_content truth_B_and_A other (rest_of p q) → ⊥) → AreAlike one other → ⊥

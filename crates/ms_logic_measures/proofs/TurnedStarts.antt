@@ -1,44 +1,26 @@
 -- The references to which starts over Q and P lead the content of P sub Q.
-use Rattle.std.proofs.Common.{◌≡◌, ℕ, ◌<◌, Bool, true, false, cond, List, [], ◌∷◌, length, map, slice_get, Any, refl, sym, ◌∙◌, ap, arith}
+use Rattle.std.proofs.Common.{◌≡◌, ℕ, ◌<◌, Bool, true, false, cond, List, [], ◌∷◌, length, slice_get, Any, refl, sym, ◌∙◌, ap, arith}
 use Rattle.std.proofs.lemmas.List.Elements.{All-from_recursion}
 use Rattle.ms_arena.specs.Diagram.{Bits, leaf_of}
 use Rattle.ms_list.specs.declared.word.Word.{Word}
 use Rattle.ms_logic_words.specs.inner.ContentExamples.{full_subset_content, word}
 use Rattle.ms_logic_measures.specs.CallMeasures.{LeaveSame, LeadsToReferences}
-use Rattle.ms_logic_words.specs.Content.{AreLetters, is_in_letters}
+use Rattle.ms_logic_words.specs.Content.{is_in_letters}
 use Rattle.ms_logic.specs.inner.Examples.{set_P_and_Q}
-use Rattle.ms_logic_measures.specs.Starts.{Start, some_truth_values, whole_word, part_of_letter, IsStartOver, bits_for, narrowed, with_free_bits, state_at, next_at, left_by}
-use Rattle.ms_logic_words.proofs.SubsetRuns.{last_of_subset}
-use Rattle.ms_logic_measures.proofs.SubsetStarts.{from_P, rest_of}
-use Rattle.ms_logic_words.proofs.SubsetWords.{is_within}
+use Rattle.ms_logic_measures.specs.Starts.{Start, some_truth_values, whole_word, part_of_letter, IsStartOver, with_free_bits, state_at, next_at, left_by}
+use Rattle.ms_logic_measures.proofs.SubsetStarts.{from_P, inside, no_bit_read, rest_of, state_after_word}
 use Rattle.ms_logic_measures.specs.inner.MeasureExamples.{set_Q_and_P}
 use Rattle.ms_logic_measures.proofs.Counting.{of_each_pair, not_0_1, not_1_0}
 
 -- the four starts: the empty word, P = {0} with Q = {}, and one letter of which no bit, or the bit 0 for Q, is read
-abbrev inside : Start
-inside = whole_word (word [] [])
-
 abbrev outside : Start
 outside = whole_word (word [] ((false ∷ true ∷ []) ∷ []))
-
-abbrev no_bit_read : Start
-no_bit_read = part_of_letter (word [] []) []
 
 abbrev zero_read : Start
 zero_read = part_of_letter (word [] []) (false ∷ [])
 
 abbrev four : List Start
 four = inside ∷ outside ∷ no_bit_read ∷ zero_read ∷ []
-
-letters_for : (letters : List (List Bool)) → AreLetters set_P_and_Q (map (λ letter. bits_for is_in_letters set_Q_and_P letter set_P_and_Q) letters)
-letters_for [] = tt
-letters_for (letter ∷ letters) = (refl, letters_for letters)
-
--- the state after a word: 0 or 1
-state_after_word : (w : Word) → (within : Bool) × (state_at full_subset_content set_Q_and_P w ≡ cond within 0 1)
-state_after_word w =
-    let letters = map (λ letter. bits_for is_in_letters set_Q_and_P letter set_P_and_Q) w.letters in
-    (is_within letters, last_of_subset (narrowed set_Q_and_P w set_P_and_Q) (record { truth = refl; letters = letters_for w.letters }))
 
 -- what a start in the midst of a letter leaves, from a state
 abbrev from_state : ℕ → List Bool → Bits → ℕ
@@ -77,8 +59,8 @@ like_part w (a ∷ b ∷ more) true is few = absurd (omega arith)
 
 complete : (start : Start) → IsStartOver set_Q_and_P start → IsLikeOne start
 complete (some_truth_values values) over = absurd (omega (arith, over))
-complete (whole_word w) over = let after = state_after_word w in like_word w after.0 after.1
-complete (part_of_letter w bits) over = let after = state_after_word w in like_part w bits after.0 after.1 over.1
+complete (whole_word w) over = let after = state_after_word set_Q_and_P w in like_word w after.0 after.1
+complete (part_of_letter w bits) over = let after = state_after_word set_Q_and_P w in like_part w bits after.0 after.1 over.1
 
 -- P sub Q has four references over Q and P too
 pub turned_references : LeadsToReferences full_subset_content set_Q_and_P 4

@@ -8,7 +8,6 @@ use Rattle.ms_logic_measures.specs.inner.BudgetExamples.{is_truth}
 use Rattle.ms_logic_core.specs.CoreForm as core
 use Rattle.ms_logic_core.specs.CoreForm.{CoreForm, basic}
 use Rattle.ms_logic.specs.inner.Examples.{variable}
-use Rattle.ms_logic.specs.Tree.{truth, quantified, unrestricted}
 
 -- the sets P and Q, the one with the greater number first
 abbrev pub set_Q_and_P : List Variable
