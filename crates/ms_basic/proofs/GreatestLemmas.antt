@@ -1,5 +1,5 @@
 -- The machine of x = max S decides it.
-use Rattle.std.proofs.Common.{◌≡◌, ◌≢◌, ℕ, zero, suc, ◌<◌, ◌≤◌, ◌⊎◌, inl, inr, ⊎_elim, Bool, true, false, List, [], ◌∷◌, refl, sym, ap, subst, ◌∙◌, arith}
+use Rattle.std.proofs.Common.{◌≡◌, ◌≢◌, ℕ, zero, suc, ◌<◌, ◌≤◌, ◌⊎◌, inl, inr, ⊎_elim, Bool, true, false, List, [], ◌∷◌, refl, sym, subst, ◌∙◌, arith}
 use Rattle.std.proofs.lemmas.Bool.{cases_lt, false≢true}
 use Rattle.ms_logic_core.specs.declared.core_formula.Basic.TheVariants.{Max}
 use Rattle.ms_logic.specs.declared.mode.Mode.{Mode}
@@ -14,7 +14,7 @@ use Rattle.ms_basic.specs.inner.Tally.{IsTally}
 use Rattle.ms_basic.specs.Verdict.{sign_by_verdict}
 use Rattle.ms_basic.proofs.BitLemmas.{Tells, told}
 use Rattle.ms_basic.proofs.ReadingLemmas.{kept}
-use Rattle.ms_basic.proofs.SetLemmas.{at_number, first_is_member}
+use Rattle.ms_basic.proofs.SetLemmas.{other_than, at_number, first_is_member}
 use Rattle.ms_basic.proofs.VerdictLemmas.{IsCounted, count_met, tally_by_verdict}
 
 -- no member is behind a number and below another
@@ -42,12 +42,8 @@ greatest_if (first ∷ more) x count rising bound either none =
 below_greatest : (members : List ℕ) (x k : ℕ) → IsRising members → is_member k members ≡ true → x < k → x ≢ greatest members
 below_greatest members x k rising member less = let law = greatest_law k members rising member in omega (arith, law.1, less)
 
--- and what is no member is the greatest number only where it is 0
 other_greatest : (members : List ℕ) (x : ℕ) → IsRising members → is_member x members ≡ false → 0 < x → x ≢ greatest members
-other_greatest [] x rising none above = omega (arith, above)
-other_greatest (first ∷ more) x rising none above = λ same.
-    let law = greatest_law first (first ∷ more) rising (first_is_member first more) in
-    false≢true (sym none ∙ ap (λ k. is_member k (first ∷ more)) same ∙ law.0)
+other_greatest = other_than greatest refl (λ x members rising member. (greatest_law x members rising member).0)
 
 -- what a state says behind the positions so far
 abbrev GreatestAt : ℕ → List ℕ → ℕ → ℕ → Type 0

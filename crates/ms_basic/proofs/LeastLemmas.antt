@@ -1,5 +1,5 @@
 -- The machine of x = min S decides it.
-use Rattle.std.proofs.Common.{◌≡◌, ◌≢◌, ℕ, zero, suc, ◌<◌, ◌≤◌, ⊎_elim, Bool, true, false, List, [], ◌∷◌, refl, sym, ap, subst, ◌∙◌, arith}
+use Rattle.std.proofs.Common.{◌≡◌, ◌≢◌, ℕ, zero, suc, ◌<◌, ◌≤◌, ⊎_elim, Bool, true, false, List, refl, sym, ap, subst, ◌∙◌, arith}
 use Rattle.std.proofs.lemmas.Bool.{cases_lt, false≢true}
 use Rattle.ms_logic_core.specs.declared.core_formula.Basic.TheVariants.{Min}
 use Rattle.ms_logic.specs.declared.mode.Mode.{Mode}
@@ -14,7 +14,7 @@ use Rattle.ms_basic.specs.inner.Tally.{IsTally}
 use Rattle.ms_basic.proofs.BitLemmas.{Tells, told}
 use Rattle.ms_basic.proofs.ReadingLemmas.{kept}
 use Rattle.ms_basic.proofs.VerdictLemmas.{IsCounted}
-use Rattle.ms_basic.proofs.SetLemmas.{at_number, NoneBelow, first_is_member, no_members, one_more_none}
+use Rattle.ms_basic.proofs.SetLemmas.{other_than, at_number, NoneBelow, no_members, one_more_none}
 
 -- a member that none is below is the least
 least_if : (members : List ℕ) (x : ℕ) → IsRising members → is_member x members ≡ true → NoneBelow members x → x ≡ least members
@@ -26,12 +26,8 @@ least_if members x rising member none =
 above_least : (members : List ℕ) (x k : ℕ) → IsRising members → is_member k members ≡ true → k < x → x ≢ least members
 above_least members x k rising member less = let law = least_law k members rising member in omega (arith, law.1, less)
 
--- and what is no member is the least number only where it is 0 and there is none
 other_least : (members : List ℕ) (x : ℕ) → IsRising members → is_member x members ≡ false → 0 < x → x ≢ least members
-other_least [] x rising none above = omega (arith, above)
-other_least (first ∷ more) x rising none above = λ same.
-    let law = least_law first (first ∷ more) rising (first_is_member first more) in
-    false≢true (sym none ∙ ap (λ k. is_member k (first ∷ more)) same ∙ law.0)
+other_least = other_than least refl (λ x members rising member. (least_law x members rising member).0)
 
 -- what a state says behind the positions so far
 abbrev LeastAt : ℕ → List ℕ → ℕ → ℕ → Type 0

@@ -1,5 +1,5 @@
 -- Sets by their members.
-use Rattle.std.proofs.Common.{◌≡◌, ◌≢◌, ℕ, suc, ◌<◌, ◌≤◌, Bool, true, false, ◌&&◌, ◌||◌, ⊎_elim, List, [], ◌∷◌, Some, None, refl, sym, ap, subst, ◌∙◌, arith}
+use Rattle.std.proofs.Common.{◌≡◌, ◌≢◌, ℕ, suc, ◌<◌, ◌≤◌, Bool, true, false, ◌&&◌, ⊎_elim, List, [], ◌∷◌, Some, None, refl, sym, ap, subst, ◌∙◌, arith}
 use Rattle.std.proofs.lemmas.Bool.{cases_lt, false≢true}
 use Rattle.std.proofs.lemmas.Bool.Decides.{nat_tests}
 use Rattle.ms_logic.specs.declared.mode.Mode.TheVariants.{M2lStr}
@@ -28,14 +28,6 @@ and_true false = refl
 and_false : (test : Bool) → (test && false) ≡ false
 and_false true = refl
 and_false false = refl
-
-pub no_or : (a b : Bool) → a ≡ false → b ≡ false → (a || b) ≡ false
-no_or true b is no_b = let never : ⊥ = cc in absurd never
-no_or false b is no_b = no_b
-
-pub no_and : (a b : Bool) → a ≡ false → (a && b) ≡ false
-no_and true b is = let never : ⊥ = cc in absurd never
-no_and false b is = refl
 
 -- sets that differ at a number are not equal
 pub other_sets : (left right : List ℕ) (k : ℕ) → is_member k left ≢ is_member k right → left ≢ right
@@ -103,3 +95,10 @@ first_is_member first more = grind (arith, nat_tests)
 pub no_members : (members : List ℕ) (count : ℕ) → bound_of_set members ≤ count → NoneBelow members count → members ≡ []
 no_members [] count bound none = refl
 no_members (first ∷ more) count bound none = absurd (false≢true (sym (none first (omega (arith, bound))) ∙ first_is_member first more))
+
+-- what is no member is the least or the greatest number only where it is 0 and there is none
+pub other_than : (chosen : List ℕ → ℕ) → chosen [] ≡ 0 → ((x : ℕ) (members : List ℕ) → IsRising members → is_member x members ≡ true → is_member (chosen members) members ≡ true)
+    → (members : List ℕ) (x : ℕ) → IsRising members → is_member x members ≡ false → 0 < x → x ≢ chosen members
+other_than chosen none among [] x rising other above = omega (arith, none, above)
+other_than chosen none among (first ∷ more) x rising other above = λ same.
+    false≢true (sym other ∙ ap (λ k. is_member k (first ∷ more)) same ∙ among first (first ∷ more) rising (first_is_member first more))

@@ -1,6 +1,8 @@
 -- The machines of relations between sets that are tested position by position decide them.
-use Rattle.std.proofs.Common.{◌≡◌, ℕ, zero, suc, ◌<◌, ◌≤◌, Bool, true, false, not, ◌&&◌, ◌||◌, List, ◌++◌, length, take, refl, sym, ap, ◌∙◌, arith}
+use Rattle.std.proofs.Common.{◌≡◌, ℕ, zero, suc, ◌<◌, ◌≤◌, Bool, true, false, not, ◌&&◌, ◌||◌, List, ◌++◌, length, take, refl, sym, ap, ◌∙◌, arith, ap₂, [], ◌∷◌}
 use Rattle.std.proofs.lemmas.Bool.{false≢true}
+use Rattle.ms_logic_core.specs.CoreForm.{Holds}
+use Rattle.ms_logic_core.specs.declared.core_formula.Basic.{Basic}
 use Rattle.ms_logic_core.specs.declared.core_formula.Basic.TheVariants.{Sub, Union, Inter, Diff}
 use Rattle.ms_logic.specs.declared.mode.Mode.{Mode}
 use Rattle.ms_logic.specs.Assignment.{Env, Variable}
@@ -8,16 +10,19 @@ use Rattle.ms_logic.specs.FiniteSet.{is_member, IsRising, IsSubset, union_of, in
 use Rattle.ms_logic.specs.Letters.{bound_of_set}
 use Rattle.ms_logic.proofs.Members.{is_member-union_of, is_member-filter, no_member_from_bound, member_below_bound, IsRising-set_of, IsRising-filter}
 use Rattle.ms_logic.proofs.SetLaws.{subset_law}
+use Rattle.ms_logic_words.specs.declared.sign.Sign.{Sign}
+use Rattle.ms_dfa_explore.specs.declared.small.TrackBits.{TrackBits}
 use Rattle.ms_dfa_explore.specs.Small.{IsClosedTable}
 use Rattle.ms_basic.specs.declared.sets.SetRelation as relations
 use Rattle.ms_basic.specs.declared.sets.SetRelation.{SetRelation}
 use Rattle.ms_logic_core.specs.Operands.{variables_of_basic}
+use Rattle.ms_basic.specs.Operands.{set}
 use Rattle.ms_basic.specs.inner.Reading.{operand_bits, state_behind}
 use Rattle.ms_basic.specs.inner.Relation.{DecidesRelation, IsRight}
 use Rattle.ms_basic.specs.Sets.{agrees, is_same, sets_form, sets_table, tested_step}
 use Rattle.ms_basic.specs.Verdict.{sign_by_contradiction}
 use Rattle.ms_basic.proofs.ReadingLemmas.{kept}
-use Rattle.ms_basic.proofs.SetLemmas.{no_and, no_or, one_more_same, other_bits, other_sets, same_bits, same_sets}
+use Rattle.ms_basic.proofs.SetLemmas.{one_more_same, other_bits, other_sets, same_bits, same_sets}
 
 -- in the state 0 some position so far did not agree, and in the others all did
 abbrev TestedAt : (ℕ → Bool) → ℕ → ℕ → Type 0
@@ -95,41 +100,37 @@ equal_decides relation operands e count left right told rising_left rising_right
     (λ k below breaks.
     other_sets left right k (λ same. other_bits (is_member k left) (told k) (sym (agree k) ∙ breaks) (same ∙ tells k)))
 
-pub decides_union : (mode : Mode) (s t u : ℕ) → DecidesRelation mode (variables_of_basic (Union s t u)) (Union s t u) (sets_table relations.TheVariants.Union)
-decides_union mode s t u = record {
-  closed = sets_closed relations.TheVariants.Union;
+-- the relations that say of a set that it is another, which is told member by member
+decides_equal : (mode : Mode) (relation : SetRelation) (form : Basic) (s t u : ℕ) (other : List ℕ → List ℕ → List ℕ) (test : Bool → Bool → Bool)
+    → ((e : Env) (sign : Sign) → IsRight (e.set s ≡ other (e.set t) (e.set u)) sign → IsRight (Holds form e) sign)
+    → ((left right : List ℕ) → IsRising left → IsRising (other left right)) → ((k : ℕ) (left right : List ℕ) → is_member k (other left right) ≡ test (is_member k left) (is_member k right))
+    → test false false ≡ false → ((bits : TrackBits) → agrees relation bits ≡ is_same bits.first (test bits.second bits.third))
+    → DecidesRelation mode (set s ∷ set t ∷ set u ∷ []) form (sets_table relation)
+decides_equal mode relation form s t u other test says rises tells none agree = record {
+  closed = sets_closed relation;
   tallies = (tt, (tt, (tt, tt)));
   right = λ e count assigned room string.
-      equal_decides relations.TheVariants.Union (variables_of_basic (Union s t u)) e count (e.set s) (union_of (e.set t) (e.set u))
-      (λ k. is_member k (e.set t) || is_member k (e.set u)) assigned.values.0.0 (IsRising-set_of (e.set t ++ e.set u)) (omega (arith, room))
-      (λ k. is_member-union_of k (e.set t) (e.set u))
-      (λ k above. no_or (is_member k (e.set t)) (is_member k (e.set u)) (no_member_from_bound (e.set t) k (omega (arith, room, above))) (no_member_from_bound (e.set u) k (omega (arith, room, above))))
-      (λ k. refl);
+      let no_member : (k : ℕ) → count ≤ k → test (is_member k (e.set t)) (is_member k (e.set u)) ≡ false
+      = λ k above. ap₂ test (no_member_from_bound (e.set t) k (omega (arith, room, above))) (no_member_from_bound (e.set u) k (omega (arith, room, above))) ∙ none in
+      says e _ (equal_decides relation (set s ∷ set t ∷ set u ∷ []) e count (e.set s) (other (e.set t) (e.set u)) (λ k. test (is_member k (e.set t)) (is_member k (e.set u)))
+      assigned.values.0.0 (rises (e.set t) (e.set u) assigned.values.1.0.0) (omega (arith, room)) (λ k. tells k (e.set t) (e.set u)) no_member
+      (λ k. agree (operand_bits (set s ∷ set t ∷ set u ∷ []) e k)));
 }
+
+pub decides_union : (mode : Mode) (s t u : ℕ) → DecidesRelation mode (variables_of_basic (Union s t u)) (Union s t u) (sets_table relations.TheVariants.Union)
+decides_union mode s t u =
+    decides_equal mode relations.TheVariants.Union (Union s t u) s t u union_of (λ a b. a || b) (λ e sign right. right) (λ left right rising. IsRising-set_of (left ++ right)) is_member-union_of
+    refl (λ bits. refl)
 
 pub decides_inter : (mode : Mode) (s t u : ℕ) → DecidesRelation mode (variables_of_basic (Inter s t u)) (Inter s t u) (sets_table relations.TheVariants.Inter)
-decides_inter mode s t u = record {
-  closed = sets_closed relations.TheVariants.Inter;
-  tallies = (tt, (tt, (tt, tt)));
-  right = λ e count assigned room string.
-      equal_decides relations.TheVariants.Inter (variables_of_basic (Inter s t u)) e count (e.set s) (intersection_of (e.set t) (e.set u))
-      (λ k. is_member k (e.set t) && is_member k (e.set u)) assigned.values.0.0 (IsRising-filter (λ n. is_member n (e.set u)) (e.set t) assigned.values.1.0.0) (omega (arith, room))
-      (λ k. is_member-filter k (λ n. is_member n (e.set u)) (e.set t))
-      (λ k above. no_and (is_member k (e.set t)) (is_member k (e.set u)) (no_member_from_bound (e.set t) k (omega (arith, room, above))))
-      (λ k. refl);
-}
+decides_inter mode s t u =
+    decides_equal mode relations.TheVariants.Inter (Inter s t u) s t u intersection_of (λ a b. a && b) (λ e sign right. right)
+    (λ left right rising. IsRising-filter (λ n. is_member n right) left rising) (λ k left right. is_member-filter k (λ n. is_member n right) left) refl (λ bits. refl)
 
 pub decides_diff : (mode : Mode) (s t u : ℕ) → DecidesRelation mode (variables_of_basic (Diff s t u)) (Diff s t u) (sets_table relations.TheVariants.Diff)
-decides_diff mode s t u = record {
-  closed = sets_closed relations.TheVariants.Diff;
-  tallies = (tt, (tt, (tt, tt)));
-  right = λ e count assigned room string.
-      equal_decides relations.TheVariants.Diff (variables_of_basic (Diff s t u)) e count (e.set s) (difference_of (e.set t) (e.set u))
-      (λ k. is_member k (e.set t) && not (is_member k (e.set u))) assigned.values.0.0 (IsRising-filter (λ n. not (is_member n (e.set u))) (e.set t) assigned.values.1.0.0) (omega (arith, room))
-      (λ k. is_member-filter k (λ n. not (is_member n (e.set u))) (e.set t))
-      (λ k above. no_and (is_member k (e.set t)) (not (is_member k (e.set u))) (no_member_from_bound (e.set t) k (omega (arith, room, above))))
-      (λ k. refl);
-}
+decides_diff mode s t u =
+    decides_equal mode relations.TheVariants.Diff (Diff s t u) s t u difference_of (λ a b. a && not b) (λ e sign right. right)
+    (λ left right rising. IsRising-filter (λ n. not (is_member n right)) left rising) (λ k left right. is_member-filter k (λ n. not (is_member n right)) left) refl (λ bits. refl)
 
 -- each relation between sets
 pub all_operands : (relation : SetRelation) (s t u : ℕ)
