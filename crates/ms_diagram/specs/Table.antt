@@ -1,8 +1,9 @@
 -- A table of what calls have built so far, as its list of entries, and which entries are right.
 pub use Rattle.ms_cache.specs.Memo.{EachEntry}
-use Rattle.std.specs.Prelude.{ℕ, List, Vec}
+use Rattle.std.specs.Prelude.{ℕ, List}
 use Rattle.ms_arena.specs.declared.node.Ref.{Ref}
 use Rattle.ms_arena.specs.declared.node.Node.{Node}
+use Rattle.ms_diagram.specs.declared.root_list.RootList.{RootList}
 use Rattle.ms_diagram.specs.declared.sides.Sides.{Sides}
 use Rattle.ms_diagram.specs.Across.{IsPairedAcross}
 use Rattle.ms_diagram.specs.Apply.{IsPaired}
@@ -19,8 +20,8 @@ abbrev pub ArePairedAcross : Sides → List (ℕ × ℕ) → List Node → List 
 ArePairedAcross sides pairs nodes = EachEntry (IsPairedAcross sides pairs nodes)
 
 -- each list of references has become the reference of the numbers of its sets of leaves
-abbrev pub AreCollected : {A : Type 0} → List Node → List (List ℕ) → ℕ → List (Vec Ref A × Ref) → Type 0
-AreCollected nodes sets track = EachEntry (λ key. IsCollected nodes sets track key.items)
+abbrev pub AreCollected : List Node → List (List ℕ) → ℕ → List (RootList × Ref) → Type 0
+AreCollected nodes sets track = EachEntry (λ key. IsCollected nodes sets track key.roots.items)
 
 -- each place of the other store has become its renamed function
 abbrev pub AreBrought : List Node → List ℕ → List Node → List (ℕ × Ref) → Type 0

@@ -4,6 +4,7 @@ ghost use Rattle.ms_arena.specs.Target.{Extends};
 
 use crate::halves::LEAF_LEVEL;
 use crate::notes::Notes;
+use crate::root_list::RootList;
 use crate::roots::leaf_set;
 use crate::sets::Sets;
 use crate::store::Store;
@@ -13,7 +14,7 @@ use ms_arena::Ref;
 use ms_list::StepFault;
 
 // What each list of roots has become.
-type RootTable = IndexMap<Vec<Ref>, Ref>;
+type RootTable = IndexMap<RootList, Ref>;
 
 // Sets of leaves get numbers, and the bit of the track is read at 0 and at 1.
 #[derive(Drop)]
@@ -24,22 +25,23 @@ struct Collecting<'a> {
 
 impl Walk for Collecting<'_> {
     ghost use Rattle.ms_diagram.specs.inner.Collecting.{collecting, collecting_laws};
+    ghost use Rattle.ms_diagram.specs.inner.Equal.{same_roots};
 
-    type Item = Vec<Ref>;
+    type Item = RootList;
 
-    type Key = Vec<Ref>;
+    type Key = RootList;
 
-    ghost rules = { collecting (λ s. s.track) (λ s. s.sets.now) (λ s. s.sets.ghost_name) (λ roots. roots.items) };
+    ghost rules = { collecting (λ s. s.track) (λ s. s.sets.now) (λ s. s.sets.ghost_name) (λ list. list.roots.items) };
 
-    ghost laws = { collecting_laws (λ s. s.track) (λ s. s.sets.now) (λ s. s.sets.ghost_name) (λ roots. roots.items) };
+    ghost laws = { collecting_laws (λ s. s.track) (λ s. s.sets.now) (λ s. s.sets.ghost_name) (λ list. list.roots.items) same_roots };
 
-    fn visit<T: Notes<Vec<Ref>>>(
+    fn visit<T: Notes<RootList>>(
         &mut self,
         store: &Store,
-        item: Vec<Ref>,
+        item: RootList,
         notes: &mut T,
-    ) -> Result<Visit<Vec<Ref>, Vec<Ref>>, StepFault> {
-        let list = item.as_slice();
+    ) -> Result<Visit<RootList, RootList>, StepFault> {
+        let list = item.roots.as_slice();
         let level = store.least_level(list);
         if level == LEAF_LEVEL {
             let made = store.set_leaf(list, self.sets)?;
@@ -55,10 +57,7 @@ impl Walk for Collecting<'_> {
             };
             return Ok(Visit::Instead(both));
         }
-        let Ok(low) = store.half_set(list, var, false) else {
-            return Err(StepFault::Memory);
-        };
-        let Ok(high) = store.half_set(list, var, true) else {
+        let Ok((low, high)) = store.half_sets(list, var) else {
             return Err(StepFault::Memory);
         };
         Ok(Visit::Split {
@@ -106,15 +105,15 @@ impl Store {
         requires store { IsStore self.old.nodes self.old.limit }
         requires numbering { IsSetNumbering sets.old }
         requires valid { All (IsValid self.old.nodes) roots.items }
-        requires table { EachEntry (λ key. IsCollected self.old.nodes sets.old track key.items) table.old.entries }
+        requires table { EachEntry (λ key. IsCollected self.old.nodes sets.old track key.roots.items) table.old.entries }
         ensures builds { Builds self.old self.new (SetNumber self.old.nodes sets.new roots.items track) (LacksSet self.old.nodes sets.new roots.items track) result }
         ensures sets { Extends sets.old sets.new }
         ensures added { AddsOnly (HasLeafSet self.old.nodes roots.items track) sets.old sets.new }
         ensures numbering { IsSetNumbering sets.new }
-        ensures table { EachEntry (λ key. IsCollected self.new.nodes sets.new track key.items) table.new.entries }
+        ensures table { EachEntry (λ key. IsCollected self.new.nodes sets.new track key.roots.items) table.new.entries }
     {
         let mut collecting = Collecting { track, sets };
-        self.walk(&mut collecting, roots, table)
+        self.walk(&mut collecting, RootList::new(roots), table)
     }
 
     // The leaf with the number of the set of the leaves among the roots.

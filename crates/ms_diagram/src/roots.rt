@@ -5,26 +5,30 @@ ghost use Rattle.ms_arena.specs.Halves.{half_of, IsLeaf};
 ghost use Rattle.ms_diagram.specs.Collect.{AreBothHalves, AreHalves, HaveSameItems, least_level, leaf_values};
 
 use crate::halves::LEAF_LEVEL;
+use crate::root_list::RootList;
 use crate::store::Store;
 use ms_arena::Ref;
 use ms_list::NoMemory;
 use std::alloc::Global;
 
 // Where a reference stands in a sorted list: the leaves first.
-fn rank(reference: &Ref) -> (bool, u32) {
+pub(crate) fn rank(reference: &Ref) -> u64 {
     match reference {
-        Ref::Leaf(value) => (false, *value),
-        Ref::Inner(place) => (true, *place),
+        Ref::Leaf(value) => u64::from(*value),
+        Ref::Inner(place) => LEAF_LEVEL + u64::from(*place),
     }
 }
 
 // The roots in one order, each once, so that equal sets are equal lists.
-fn ordered_set(mut roots: Vec<Ref>) -> Vec<Ref>
-    ensures { HaveSameItems roots.items result.items }
+fn ordered_set(mut roots: Vec<Ref>) -> RootList
+    ensures { HaveSameItems roots.items result.roots.items }
 {
+    if roots.len() < 2 {
+        return RootList::new(roots);
+    }
     roots.sort_unstable_by_key(rank);
     roots.dedup();
-    roots
+    RootList::new(roots)
 }
 
 // The numbers of the leaves among the roots, in rising order, each once.
@@ -61,40 +65,49 @@ impl Store {
         least
     }
 
-    // The halves of the roots for one value of the variable's bit, in their order.
-    fn half_list(&self, roots: &[Ref], var: u32, bit: bool) -> Result<Vec<Ref>, NoMemory>
+    // The halves of the roots where the bit of the variable is 0, in their order, and those where it is 1.
+    fn half_lists(&self, roots: &[Ref], var: u32) -> Result<(Vec<Ref>, Vec<Ref>), NoMemory>
         requires { All (IsValid self.now.nodes) roots.now }
-        ensures { IfOk result (λ halves. halves.items ≡ map (half_of self.now.nodes var bit) roots.now) }
+        ensures low { IfOk result (λ lists. lists.0.items ≡ map (half_of self.now.nodes var false) roots.now) }
+        ensures high { IfOk result (λ lists. lists.1.items ≡ map (half_of self.now.nodes var true) roots.now) }
     {
-        let mut list = Vec::new(self.alloc);
+        let Ok(mut low) = Vec::with_capacity(self.alloc, roots.len()) else {
+            return Err(NoMemory);
+        };
+        let Ok(mut high) = Vec::with_capacity(self.alloc, roots.len()) else {
+            return Err(NoMemory);
+        };
         for root in roots {
-            let (low, high) = self.halves(*root, var);
-            let half = if bit { high } else { low };
-            if list.push(half).is_err() {
+            let (low_half, high_half) = self.halves(*root, var);
+            if low.push(low_half).is_err() || high.push(high_half).is_err() {
                 return Err(NoMemory);
             }
         }
-        Ok(list)
+        Ok((low, high))
     }
 
-    // The same as an ordered set.
+    // The same as ordered sets.
     #[inline(never)]
-    pub(crate) fn half_set(&self, roots: &[Ref], var: u32, bit: bool) -> Result<Vec<Ref>, NoMemory>
+    pub(crate) fn half_sets(
+        &self,
+        roots: &[Ref],
+        var: u32,
+    ) -> Result<(RootList, RootList), NoMemory>
         requires { All (IsValid self.now.nodes) roots.now }
-        ensures { IfOk result (λ halves. AreHalves self.now.nodes var bit roots.now halves.items) }
+        ensures low { IfOk result (λ sets. AreHalves self.now.nodes var false roots.now sets.0.roots.items) }
+        ensures high { IfOk result (λ sets. AreHalves self.now.nodes var true roots.now sets.1.roots.items) }
     {
-        let list = self.half_list(roots, var, bit)?;
-        Ok(ordered_set(list))
+        let (low, high) = self.half_lists(roots, var)?;
+        Ok((ordered_set(low), ordered_set(high)))
     }
 
     // The halves for both values as one ordered set.
     #[inline(never)]
-    pub(crate) fn both_halves(&self, roots: &[Ref], var: u32) -> Result<Vec<Ref>, NoMemory>
+    pub(crate) fn both_halves(&self, roots: &[Ref], var: u32) -> Result<RootList, NoMemory>
         requires { All (IsValid self.now.nodes) roots.now }
-        ensures { IfOk result (λ halves. AreBothHalves self.now.nodes var roots.now halves.items) }
+        ensures { IfOk result (λ halves. AreBothHalves self.now.nodes var roots.now halves.roots.items) }
     {
-        let mut list = self.half_list(roots, var, false)?;
-        let high = self.half_list(roots, var, true)?;
+        let (mut list, high) = self.half_lists(roots, var)?;
         let Ok(()) = list.extend_from_slice(high.as_slice()) else {
             return Err(NoMemory);
         };

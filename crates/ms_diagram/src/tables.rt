@@ -5,6 +5,7 @@ ghost use Rattle.ms_arena.specs.Target.{Extends};
 use crate::pair_table::PairTable;
 use crate::pairs::Pairs;
 use crate::places::PlaceTable;
+use crate::root_list::RootList;
 use crate::sets::Sets;
 use crate::sides::Sides;
 use crate::store::Store;
@@ -28,7 +29,7 @@ impl<K: Eq + Hash + Drop> Drop for Table<K> {
 }
 
 /// What lists of references have become, where a numbering of sets grows beside it.
-pub type ListTable = Table<Vec<Ref>>;
+pub type ListTable = Table<RootList>;
 
 impl<K: Eq + Hash + Drop> Model for Table<K> {
     ghost use Rattle.std.specs.Prelude.{List};

@@ -1,19 +1,15 @@
 -- The walk over several diagrams at once.
-use Rattle.std.specs.Prelude.{◌≡◌, ℕ, List, slice_get, All, Contains, refl}
-use Rattle.std.specs.Cmp.Lexicographic.{pointwise}
+use Rattle.std.specs.Prelude.{◌≡◌, ℕ, Bool, true, List, slice_get, All, Contains, refl}
 use Rattle.std.proofs.Common.{get_or, sym, ap, subst, ◌∙◌}
 use Rattle.ms_arena.specs.declared.node.Ref.{Ref}
 use Rattle.ms_arena.specs.declared.node.Node.{Node}
-use Rattle.ms_arena.specs.contracts.node.RefPartialEq.TheImpl as of_ref
 use Rattle.ms_arena.specs.Diagram.{Bits, leaf_of, IsValid, IsOrdered}
 use Rattle.ms_arena.specs.Bits.{with_bit}
 use Rattle.ms_arena.specs.Target.{Extends}
 use Rattle.ms_arena.proofs.Appending.{Extends-same, Extends-further, IsValid-extends, leaf_of-extends, slice_get-extends}
-use Rattle.ms_arena.proofs.Equality.{same_ref}
 use Rattle.ms_arena.proofs.Needs.{Implies}
 use Rattle.ms_diagram.specs.inner.Adding.{AddsOnly-same, AddsOnly-then, AddsOnly-implies}
 use Rattle.ms_diagram.specs.Collect.{IsLeafThere, IsRisingSet, HasLeafSet, SetNumber, LacksSet, IsSetNumbering, IsCollected}
-use Rattle.ms_diagram.specs.inner.Equal.{same_list}
 use Rattle.ms_diagram.specs.Numbering.{AddsOnly}
 use Rattle.ms_diagram.specs.inner.Walk.{Rules, AreLaws}
 
@@ -102,8 +98,10 @@ module _ (old new : List Node) (ordered : IsOrdered old) (extends : Extends old 
   pub HasLeafSet-before : (set : List ℕ) → HasLeafSet new roots track set → HasLeafSet old roots track set
   HasLeafSet-before set has = (has.0, rising_before has.0 set has.1)
 
-module _ {S N I : Type 0} (track_of : S → ℕ) (sets_of : S → List (List ℕ)) (name_of : S → N) (roots_of : I → List Ref) where
-  pub collecting_laws : AreLaws (collecting track_of sets_of name_of roots_of) (λ key other. pointwise of_ref.eq-value.it (roots_of key) (roots_of other))
+-- where items that compare equal have the same roots
+module _ {S N I : Type 0} (track_of : S → ℕ) (sets_of : S → List (List ℕ)) (name_of : S → N) (roots_of : I → List Ref)
+    {equal : I → I → Bool} (same : (key other : I) → equal key other ≡ true → roots_of key ≡ roots_of other) where
+  pub collecting_laws : AreLaws (collecting track_of sets_of name_of roots_of) equal
   collecting_laws = record {
     later_same = λ state. (refl, refl, Extends-same (sets_of state));
     later_then = λ one two three first second.
@@ -117,7 +115,7 @@ module _ {S N I : Type 0} (track_of : S → ℕ) (sets_of : S → List (List ℕ
         subst (λ track. AddsOnly (HasLeafSet new (roots_of item) track) (sets_of before) (sets_of after)) (sym follows.later.0)
         (AddsOnly-implies (HasLeafSet old (roots_of item) (track_of early)) (HasLeafSet new (roots_of item) (track_of early)) (sets_of before) (sets_of after)
         (HasLeafSet-later old new follows.ordered_old follows.extends (roots_of item) fits (track_of early)) added);
-    adds_same = λ state nodes item same. AddsOnly-same (HasLeafSet nodes (roots_of item) (track_of state)) (sets_of same);
+    adds_same = λ state nodes item own. AddsOnly-same (HasLeafSet nodes (roots_of item) (track_of state)) (sets_of own);
     adds_then = λ state nodes item one two three later first second.
         let has : List ℕ → Type 0 = HasLeafSet nodes (roots_of item) (track_of state) in
         AddsOnly-then has has has (sets_of one) (sets_of two) (sets_of three) (λ set own. own) (λ set own. own) later.2 first second;
@@ -125,7 +123,6 @@ module _ {S N I : Type 0} (track_of : S → ℕ) (sets_of : S → List (List ℕ
         subst (λ track. IsCollected new (sets_of late) track (roots_of key) made) (sym follows.later.0)
         (IsCollected-grows old new follows.ordered_old follows.extends (sets_of early) (sets_of late) follows.later.2 (track_of early) (roots_of key) made is);
     entry_built = λ state nodes key made fits built. record { valid_roots = fits; valid = built.valid; meets = built.meets };
-    entry_same = λ state nodes key other made equal is.
-        subst (λ (roots : List Ref). IsCollected nodes (sets_of state) (track_of state) roots made)
-        (same_list of_ref.eq-value.it same_ref (roots_of key) (roots_of other) equal) is;
+    entry_same = λ state nodes key other made passes is.
+        subst (λ (roots : List Ref). IsCollected nodes (sets_of state) (track_of state) roots made) (same key other passes) is;
   }

@@ -5,5 +5,5 @@ use Rattle.ms_diagram.proofs.roots.ordered_set.Goals as goal
 
 pub returns : goal.returns
 returns c =
-    HaveSameItems-sorted ref_laws same_ref c.args.roots.items c.sort_unstable_by_key.new.self.items c.dedup.new.self.items
-    c.sort_unstable_by_key.ensures.permutation (dedup_is _ _ _ c.dedup.ensures.filtered)
+    rw c.new-2.ensures (HaveSameItems-sorted ref_laws same_ref c.args.roots.items c.sort_unstable_by_key.new.self.items c.dedup.new.self.items
+    c.sort_unstable_by_key.ensures.permutation (dedup_is _ _ _ c.dedup.ensures.filtered))
