@@ -1,5 +1,5 @@
 -- Each document that the automaton reads is in the grammar.
-use Rattle.std.proofs.Common.{◌≡◌, ℕ, zero, suc, ◌≤◌, Bool, true, false, ◌&&◌, inl, inr, List, [], ◌∷◌, codes, bytes_eq, Option, Some, None, refl, sym, ap, ◌∙◌, subst, arith, ◌+◌, max, length}
+use Rattle.std.proofs.Common.{◌≡◌, ℕ, zero, suc, ◌≤◌, Bool, true, false, ◌&&◌, inl, inr, List, [], ◌∷◌, ◌++◌, codes, bytes_eq, Option, Some, None, refl, sym, ap, ◌∙◌, subst, arith, ◌+◌, max, length}
 use Rattle.std.proofs.lemmas.Bool.{false≢true}
 use Rattle.std.proofs.lemmas.Slice.Eq.{bytes_eq-Decides}
 use Rattle.ms_logic.specs.declared.mode.Mode.TheVariants.{M2lStr}
@@ -15,7 +15,7 @@ use Rattle.ms_parse_grammar.specs.declared.operator.Binary.TheVariants.{Relation
 use Rattle.ms_parse_grammar.specs.Tree.{Variables, no_variables, and_variable, unrestricted, Parts}
 use Rattle.ms_parse_grammar.specs.Tree.{variables, constant, included, Document}
 use Rattle.ms_parse_grammar.specs.Grammar.{domain_bare_in, HaveGrammaticalDomains, AreOfOrder, depth_of_domains}
-use Rattle.ms_parse_grammar.specs.Reads.{Starts, Follows}
+use Rattle.ms_parse_grammar.specs.Reads.{Starts, Follows, ReadsInt}
 use Rattle.ms_parse_grammar.specs.Declarations.{ReadsString}
 use Rattle.ms_parse_steps.specs.inner.Machine.{Head, head_with, Frame, domain_frame, body_frame, part_frame, Context, in_formula, in_goal, Configuration, outside, wanted, holding, variable_wanted, part_wanted, pair_wanted, global_wanted, parameter_wanted, summand_wanted, Move, took, misplaced, too_deep, need, in_part, Top, on_top, settle, ends, collapse, bound, behind_variable, next_variable, next_part, next_pair, behind_global, next_global, behind_parameter, next_parameter, next_summand, begin_constant, begin_predicate, begin_include, begin_default, begin_name, begin_named, begin_declaration, step, headed, start, finished, goes_on, run, Runs}
 use Rattle.ms_parse_steps.proofs.Frames.{VariablesSoFar, InFrames, CollapsedTo, chosen, collapsed}
@@ -162,31 +162,18 @@ next_parameter_good limit some all d head (and_variable vs at' o' n' x) (placed 
     parameter_good limit some all _ d head (and_variable vs at' o' n' x) o' at_v n s a2 f g h i (placed (name n) at_v ∷ placed s a2 ∷ ts) ts ts so_far words starts opens before (inr (refl, refl)) good
 next_parameter_good limit some all d head vs _ is = tt
 
+-- a sign and its number behind the numbers of a constant
+summand_good : (limit : ℕ) (all : List Placed) (d : Document) (at at_n : At) (n : List ℕ) (sum : List PlacedInt) (k : PlacedInt) (ts mid after : List Placed) → Good limit (summand_wanted d at at_n n sum) all ts
+    → Follows (sign k.minus) ts mid → ReadsInt true k mid after → Good limit (summand_wanted d at at_n n (sum ++ k ∷ [])) all after
+summand_good limit all d at at_n n sum k ts mid after (f, g, h, i, so_far, words, starts, equal, sums) follows reads = (f, g, h, i, so_far, words, starts, equal, sum_extended sum k i ts mid after sums follows reads)
+
 next_summand_good : (limit : ℕ) (all : List Placed) (d : Document) (at at_n : At) (n : List ℕ) (sum : List PlacedInt) (ts : List Placed) → Good limit (summand_wanted d at at_n n sum) all ts → GoodNext limit all (next_summand d at at_n n sum ts)
 next_summand_good limit all d at at_n n sum (placed semicolon a ∷ ts) (f, g, h, i, so_far, words, starts, equal, sums) =
     declared_good limit all d at (constant at_n n sum) f (placed semicolon a ∷ ts) ts a so_far (begins_with word_const at f g words) (g, h, i, (words.0, words.1), starts, equal, sums) refl tt
-next_summand_good limit all d at at_n n sum (placed (sign minus) a1 ∷ placed (number k) a2 ∷ ts) (f, g, h, i, so_far, words, starts, equal, sums) = (
-  f,
-  g,
-  h,
-  i,
-  so_far,
-  words,
-  starts,
-  equal,
-  sum_extended sum (record { at = a2; value = Number k; minus = minus }) i (placed (sign minus) a1 ∷ placed (number k) a2 ∷ ts) (placed (number k) a2 ∷ ts) ts sums (a1, refl) (a2, refl, refl),
-)
-next_summand_good limit all d at at_n n sum (placed (sign minus) a1 ∷ placed (name k) a2 ∷ ts) (f, g, h, i, so_far, words, starts, equal, sums) = (
-  f,
-  g,
-  h,
-  i,
-  so_far,
-  words,
-  starts,
-  equal,
-  sum_extended sum (record { at = a2; value = Constant k; minus = minus }) i (placed (sign minus) a1 ∷ placed (name k) a2 ∷ ts) (placed (name k) a2 ∷ ts) ts sums (a1, refl) (a2, refl, refl),
-)
+next_summand_good limit all d at at_n n sum (placed (sign minus) a1 ∷ placed (number k) a2 ∷ ts) good =
+    summand_good limit all d at at_n n sum (record { at = a2; value = Number k; minus = minus }) (placed (sign minus) a1 ∷ placed (number k) a2 ∷ ts) (placed (number k) a2 ∷ ts) ts good (a1, refl) (a2, refl, refl)
+next_summand_good limit all d at at_n n sum (placed (sign minus) a1 ∷ placed (name k) a2 ∷ ts) good =
+    summand_good limit all d at at_n n sum (record { at = a2; value = Constant k; minus = minus }) (placed (sign minus) a1 ∷ placed (name k) a2 ∷ ts) (placed (name k) a2 ∷ ts) ts good (a1, refl) (a2, refl, refl)
 next_summand_good limit all d at at_n n sum _ is = tt
 
 constant_good : (limit : ℕ) (all : List Placed) (d : Document) (at : At) (ts : List Placed) → SoFar limit d all (placed word_const at ∷ ts) → GoodNext limit all (begin_constant d at ts)

@@ -26,7 +26,7 @@ pub fn with_unrestricted(binder: Binder, variable: Identifier) -> Result<Binder,
     ensures err { IfErr result (λ stop. stop ≡ Memory) }
 {
     let Bounds { mut list, height } = binder.bounds;
-    push_variable(&mut list, variable.at, binder.order, variable.name, None)?;
+    push_variable(&mut list, binder.order, variable, None)?;
     let bounds = Bounds { list, height };
     Ok(Binder { bounds, ..binder })
 }

@@ -13,7 +13,7 @@ use crate::form::listed;
 use crate::frame::Frame;
 use crate::input::Input;
 use crate::operand::{Entries, Operands};
-use crate::outcome::Outcome;
+use crate::outcome::{Outcome, Taken};
 use crate::punctuation::Punctuation;
 use crate::stop::Stop;
 use ms_list::{At, List, Name};
@@ -32,13 +32,7 @@ fn closing(listing: &Listing) -> Punctuation
 
 impl Input<'_> {
     /// A list begins behind its bracket, and may end at once.
-    pub fn begin_list(
-        self,
-        stack: &mut Vec<Frame>,
-        at: At,
-        listing: Listing,
-        i: u32,
-    ) -> Result<(Outcome, u32), Stop>
+    pub fn begin_list(self, stack: &mut Vec<Frame>, at: At, listing: Listing, i: u32) -> Taken
         ensures { (c : Context) →
             ActsAs c self.entry.file self.entry.tokens.now (either_mark (punctuation (closing listing)) (took (holding c (listed at listing no_expressions) (stack_of stack.old.items))) (enter_list greatest_depth c at listing (stack_of stack.old.items)) (behind self.entry.file self.entry.tokens.now i)) stack.new.items result }
     {
@@ -57,13 +51,7 @@ impl Input<'_> {
     }
 
     /// A name begins an expression: a call, where a bracket follows.
-    pub fn begin_name(
-        self,
-        stack: &mut Vec<Frame>,
-        at: At,
-        name: Name,
-        i: u32,
-    ) -> Result<(Outcome, u32), Stop>
+    pub fn begin_name(self, stack: &mut Vec<Frame>, at: At, name: Name, i: u32) -> Taken
         ensures { (c : Context) →
             ActsAs c self.entry.file self.entry.tokens.now (begin_name greatest_depth c (stack_of stack.old.items) at name (behind self.entry.file self.entry.tokens.now i)) stack.new.items result }
     {
@@ -75,12 +63,7 @@ impl Input<'_> {
     }
 
     /// `restrict` begins an expression.
-    pub fn begin_restrict(
-        self,
-        stack: &mut Vec<Frame>,
-        at: At,
-        i: u32,
-    ) -> Result<(Outcome, u32), Stop>
+    pub fn begin_restrict(self, stack: &mut Vec<Frame>, at: At, i: u32) -> Taken
         ensures { (c : Context) →
             ActsAs c self.entry.file self.entry.tokens.now (with_room greatest_depth (stack_of stack.old.items) (behind self.entry.file self.entry.tokens.now (i - 1)) (begin_restrict c (stack_of stack.old.items) at (behind self.entry.file self.entry.tokens.now i))) stack.new.items result }
     {
@@ -95,7 +78,7 @@ impl Input<'_> {
     }
 
     /// `empty` begins an expression: the formula, where a bracket follows.
-    pub fn begin_empty(self, stack: &mut Vec<Frame>, at: At, i: u32) -> Result<(Outcome, u32), Stop>
+    pub fn begin_empty(self, stack: &mut Vec<Frame>, at: At, i: u32) -> Taken
         ensures { (c : Context) →
             ActsAs c self.entry.file self.entry.tokens.now (begin_empty greatest_depth c (stack_of stack.old.items) at (behind self.entry.file self.entry.tokens.now i)) stack.new.items result }
     {
@@ -108,12 +91,7 @@ impl Input<'_> {
     }
 
     /// `export` begins an expression.
-    pub fn begin_export(
-        self,
-        stack: &mut Vec<Frame>,
-        at: At,
-        i: u32,
-    ) -> Result<(Outcome, u32), Stop>
+    pub fn begin_export(self, stack: &mut Vec<Frame>, at: At, i: u32) -> Taken
         ensures { (c : Context) →
             ActsAs c self.entry.file self.entry.tokens.now (with_room greatest_depth (stack_of stack.old.items) (behind self.entry.file self.entry.tokens.now (i - 1)) (begin_export c (stack_of stack.old.items) at (behind self.entry.file self.entry.tokens.now i))) stack.new.items result }
     {
@@ -134,12 +112,7 @@ impl Input<'_> {
     }
 
     /// `import` begins an expression.
-    pub fn begin_import(
-        self,
-        stack: &mut Vec<Frame>,
-        at: At,
-        i: u32,
-    ) -> Result<(Outcome, u32), Stop>
+    pub fn begin_import(self, stack: &mut Vec<Frame>, at: At, i: u32) -> Taken
         ensures { (c : Context) →
             ActsAs c self.entry.file self.entry.tokens.now (begin_import c (stack_of stack.old.items) at (behind self.entry.file self.entry.tokens.now i)) stack.new.items result }
     {
@@ -153,12 +126,7 @@ impl Input<'_> {
     }
 
     /// `pconst` begins an expression.
-    pub fn begin_pconst(
-        self,
-        stack: &mut Vec<Frame>,
-        at: At,
-        i: u32,
-    ) -> Result<(Outcome, u32), Stop>
+    pub fn begin_pconst(self, stack: &mut Vec<Frame>, at: At, i: u32) -> Taken
         ensures { (c : Context) →
             ActsAs c self.entry.file self.entry.tokens.now (begin_pconst c (stack_of stack.old.items) at (behind self.entry.file self.entry.tokens.now i)) stack.new.items result }
     {

@@ -13,20 +13,14 @@ use crate::append::with_expression;
 use crate::complete::finish;
 use crate::form::{enclosed, listed};
 use crate::operand::{Entries, Operand, Operands};
-use crate::outcome::Outcome;
+use crate::outcome::{Outcome, Taken};
 use crate::stop::Stop;
 use ms_list::At;
 use ms_parse_grammar::{Bracket, Listing};
 use std::alloc::Global;
 
 /// The bracket behind the expression that it encloses.
-pub fn end_bracket(
-    alloc: Global,
-    at: At,
-    bracket: Bracket,
-    operand: Operand,
-    i: u32,
-) -> Result<(Outcome, u32), Stop>
+pub fn end_bracket(alloc: Global, at: At, bracket: Bracket, operand: Operand, i: u32) -> Taken
     ensures { (c : Context) (file : ℕ) (lexed : Lexed) (frames : List Frame) →
         ActsAs c file lexed (hold greatest_depth c (enclosed at bracket (expression_of operand.expr)) (stack_of frames) (behind file lexed (i - 1)) (behind file lexed i)) frames result }
 {
@@ -37,7 +31,7 @@ pub fn end_bracket(
 }
 
 /// The bracket behind the last expression of a list.
-fn end_list(entries: Entries, operand: Operand, i: u32) -> Result<(Outcome, u32), Stop>
+fn end_list(entries: Entries, operand: Operand, i: u32) -> Taken
     ensures { (c : Context) (file : ℕ) (lexed : Lexed) (frames : List Frame) →
         ActsAs c file lexed (hold greatest_depth c (listed entries.at entries.listing (and_expression (expressions_of entries.operands.list) (expression_of operand.expr))) (stack_of frames) (behind file lexed (i - 1)) (behind file lexed i)) frames result }
 {
@@ -48,7 +42,7 @@ fn end_list(entries: Entries, operand: Operand, i: u32) -> Result<(Outcome, u32)
 }
 
 /// `}` behind an entry, which ends a set.
-pub fn end_literal(entries: Entries, operand: Operand, i: u32) -> Result<(Outcome, u32), Stop>
+pub fn end_literal(entries: Entries, operand: Operand, i: u32) -> Taken
     ensures { (c : Context) (file : ℕ) (lexed : Lexed) (below : List Frame) →
         ActsAs c file lexed (close_curly_at greatest_depth c (expression_of operand.expr) (list_frame entries.at entries.listing (expressions_of entries.operands.list) ∷ stack_of below) (behind file lexed (i - 1)) (behind file lexed i)) below result }
 {
@@ -59,7 +53,7 @@ pub fn end_literal(entries: Entries, operand: Operand, i: u32) -> Result<(Outcom
 }
 
 /// `)` behind an entry, which ends a call.
-pub fn end_call(entries: Entries, operand: Operand, i: u32) -> Result<(Outcome, u32), Stop>
+pub fn end_call(entries: Entries, operand: Operand, i: u32) -> Taken
     ensures { (c : Context) (file : ℕ) (lexed : Lexed) (below : List Frame) →
         ActsAs c file lexed (close_round_at greatest_depth c (expression_of operand.expr) (list_frame entries.at entries.listing (expressions_of entries.operands.list) ∷ stack_of below) (behind file lexed (i - 1)) (behind file lexed i)) below result }
 {

@@ -10,7 +10,7 @@ ghost use Rattle.ms_parse_steps.specs.inner.Configurations.{head_of, StepsAs};
 ghost use Rattle.ms_parse_steps.specs.declared.parser.Parser.{Parser};
 ghost use Rattle.ms_parse_grammar.specs.Grammar.{greatest_depth};
 
-use crate::configuration::Configuration;
+use crate::configuration::{Configuration, Step};
 use crate::context::{Constant, Context, Globals, Signature};
 use crate::declare::inside;
 use crate::input::{Input, name_with};
@@ -25,7 +25,7 @@ use std::alloc::Global;
 
 impl Input<'_> {
     /// `const` begins a declaration.
-    fn begin_constant(self, at: At, i: u32) -> Result<(Configuration, u32), Stop>
+    fn begin_constant(self, at: At, i: u32) -> Step
         ensures { (parser : Parser) →
             StepsAs self.entry.file self.entry.tokens.now (begin_constant (document_of parser.source) at (behind self.entry.file self.entry.tokens.now i)) parser result }
     {
@@ -50,12 +50,7 @@ impl Input<'_> {
     }
 
     /// A terminal and a number of a constant, or its end, where these are wanted.
-    pub fn next_summand(
-        self,
-        parser: &mut Parser,
-        mut constant: Constant,
-        i: u32,
-    ) -> Result<(Configuration, u32), Stop>
+    pub fn next_summand(self, parser: &mut Parser, mut constant: Constant, i: u32) -> Step
         ensures { StepsAs self.entry.file self.entry.tokens.now (next_summand (document_of parser.old.source) constant.at constant.at_name constant.name constant.sum (behind self.entry.file self.entry.tokens.now i)) parser.new result }
     {
         let Some((terminal, _)) = self.terminal_at(i) else {
@@ -78,12 +73,7 @@ impl Input<'_> {
     }
 
     /// What stands behind the name of a predicate.
-    fn behind_predicate(
-        self,
-        parser: &mut Parser,
-        signature: Signature,
-        i: u32,
-    ) -> Result<(Configuration, u32), Stop>
+    fn behind_predicate(self, parser: &mut Parser, signature: Signature, i: u32) -> Step
         requires { signature.parameters ≡ [] }
         ensures { StepsAs self.entry.file self.entry.tokens.now (behind_predicate (document_of parser.old.source) (head_of signature) (behind self.entry.file self.entry.tokens.now i)) parser.new result }
     {
@@ -100,13 +90,7 @@ impl Input<'_> {
     }
 
     /// `pred` or `macro` begins a declaration.
-    fn begin_predicate(
-        self,
-        parser: &mut Parser,
-        at: At,
-        is_pred: bool,
-        i: u32,
-    ) -> Result<(Configuration, u32), Stop>
+    fn begin_predicate(self, parser: &mut Parser, at: At, is_pred: bool, i: u32) -> Step
         ensures { StepsAs self.entry.file self.entry.tokens.now (begin_predicate (document_of parser.old.source) at is_pred (behind self.entry.file self.entry.tokens.now i)) parser.new result }
     {
         let Some((name, at_name)) = self.name_at(i)? else {
@@ -123,12 +107,7 @@ impl Input<'_> {
     }
 
     /// `include` begins a declaration.
-    fn begin_include(
-        self,
-        parser: &mut Parser,
-        at: At,
-        i: u32,
-    ) -> Result<(Configuration, u32), Stop>
+    fn begin_include(self, parser: &mut Parser, at: At, i: u32) -> Step
         ensures { StepsAs self.entry.file self.entry.tokens.now (begin_include (document_of parser.old.source) at (behind self.entry.file self.entry.tokens.now i)) parser.new result }
     {
         let Some((text, at_text)) = self.text_at(i)? else {
@@ -141,13 +120,7 @@ impl Input<'_> {
     }
 
     /// `defaultwhere1` or `defaultwhere2` begins a declaration.
-    fn begin_default(
-        self,
-        parser: &mut Parser,
-        at: At,
-        order: Order,
-        i: u32,
-    ) -> Result<(Configuration, u32), Stop>
+    fn begin_default(self, parser: &mut Parser, at: At, order: Order, i: u32) -> Step
         ensures { StepsAs self.entry.file self.entry.tokens.now (begin_default (document_of parser.old.source) at order (behind self.entry.file self.entry.tokens.now i)) parser.new result }
     {
         let Some(inside) = self.behind_mark(i, Punctuation::OpenRound) else {
@@ -178,12 +151,7 @@ impl Input<'_> {
     }
 
     /// A formula begins a declaration.
-    fn begin_formula(
-        self,
-        parser: &mut Parser,
-        at: At,
-        i: u32,
-    ) -> Result<(Configuration, u32), Stop>
+    fn begin_formula(self, parser: &mut Parser, at: At, i: u32) -> Step
         ensures { StepsAs self.entry.file self.entry.tokens.now (step greatest_depth (wanted (in_formula (document_of parser.old.source) at) []) (behind self.entry.file self.entry.tokens.now i)) parser.new result }
     {
         parser.stack.clear();
@@ -192,7 +160,7 @@ impl Input<'_> {
     }
 
     /// A name begins a declaration.
-    fn begin_named(self, parser: &mut Parser, at: At, i: u32) -> Result<(Configuration, u32), Stop>
+    fn begin_named(self, parser: &mut Parser, at: At, i: u32) -> Step
         ensures { (n : List ℕ) → IsNext self.entry.file self.entry.tokens.now i (name n) at →
             StepsAs self.entry.file self.entry.tokens.now (step greatest_depth (outside (document_of parser.old.source)) (behind self.entry.file self.entry.tokens.now i)) parser.new result }
     {
@@ -206,7 +174,7 @@ impl Input<'_> {
 }
 
 /// `var0`, `var1` or `var2` begins a declaration.
-fn begin_globals(alloc: Global, at: At, order: Order, i: u32) -> Result<(Configuration, u32), Stop>
+fn begin_globals(alloc: Global, at: At, order: Order, i: u32) -> Step
     ensures { (file : ℕ) (lexed : Lexed) (parser : Parser) →
         StepsAs file lexed (took (global_wanted (document_of parser.source) at order no_variables) (behind file lexed i)) parser result }
 {
@@ -216,11 +184,7 @@ fn begin_globals(alloc: Global, at: At, order: Order, i: u32) -> Result<(Configu
 
 impl Input<'_> {
     /// A declaration begins, where there is another symbol.
-    pub fn begin_declaration(
-        self,
-        parser: &mut Parser,
-        i: u32,
-    ) -> Result<(Configuration, u32), Stop>
+    pub fn begin_declaration(self, parser: &mut Parser, i: u32) -> Step
         ensures { StepsAs self.entry.file self.entry.tokens.now (step greatest_depth (outside (document_of parser.old.source)) (behind self.entry.file self.entry.tokens.now i)) parser.new result }
     {
         let Some((terminal, at)) = self.terminal_at(i) else {

@@ -7,18 +7,17 @@ ghost use Rattle.ms_parse_steps.specs.inner.Terminals.{behind};
 ghost use Rattle.ms_parse_steps.specs.inner.Configurations.{StepsAs, context_of};
 ghost use Rattle.ms_parse_steps.specs.declared.parser.Parser.{Parser};
 
-use crate::configuration::Configuration;
+use crate::configuration::{Configuration, Step};
 use crate::context::Context;
 use crate::memory::push;
-use crate::outcome::Outcome;
+use crate::outcome::{Outcome, Taken};
 use crate::parser::Parser;
-use crate::stop::Stop;
 use ms_list::At;
 use ms_logic::{Decl, Item};
 
 impl Parser {
     /// A declaration has ended.
-    pub fn declared(&mut self, at: At, decl: Decl, i: u32) -> Result<(Configuration, u32), Stop>
+    pub fn declared(&mut self, at: At, decl: Decl, i: u32) -> Step
         ensures { (file : ℕ) (lexed : Lexed) →
             StepsAs file lexed (took (outside (declare (document_of self.old.source) at (declaration_of decl))) (behind file lexed i)) self.new result }
     {
@@ -27,11 +26,7 @@ impl Parser {
     }
 
     /// An expression of a declaration is wanted.
-    pub fn begin_expression(
-        &mut self,
-        context: Context,
-        i: u32,
-    ) -> Result<(Configuration, u32), Stop>
+    pub fn begin_expression(&mut self, context: Context, i: u32) -> Step
         ensures { (file : ℕ) (lexed : Lexed) →
             StepsAs file lexed (took (wanted (context_of (document_of self.old.source) context) []) (behind file lexed i)) self.new result }
     {
@@ -41,10 +36,7 @@ impl Parser {
 }
 
 /// A step in an expression of a declaration.
-pub fn inside(
-    context: Context,
-    taken: Result<(Outcome, u32), Stop>,
-) -> Result<(Configuration, u32), Stop>
+pub fn inside(context: Context, taken: Taken) -> Step
     ensures { (file : ℕ) (lexed : Lexed) (step : Move) (parser : Parser) →
         ActsAs (context_of (document_of parser.source) context) file lexed step parser.stack.items taken → StepsAs file lexed step parser result }
 {

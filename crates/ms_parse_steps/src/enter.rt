@@ -11,7 +11,7 @@ ghost use Rattle.ms_parse_grammar.specs.View.{expression_of};
 use crate::frame::Frame;
 use crate::input::Input;
 use crate::operand::GREATEST_DEPTH;
-use crate::outcome::Outcome;
+use crate::outcome::{Outcome, Taken};
 use crate::stack::push_frame;
 use crate::stop::Stop;
 use crate::terminal::Terminal;
@@ -64,12 +64,7 @@ impl Input<'_> {
 }
 
 /// Puts a frame on the stack, where the depth leaves room for an expression in it, and else stops.
-pub fn enter(
-    stack: &mut Vec<Frame>,
-    frame: Frame,
-    i: u32,
-    otherwise: Stop,
-) -> Result<(Outcome, u32), Stop>
+pub fn enter(stack: &mut Vec<Frame>, frame: Frame, i: u32, otherwise: Stop) -> Taken
     ensures { (c : Context) (file : ℕ) (lexed : Lexed) (stuck : Move) → StopsAs file lexed stuck otherwise →
         ActsAs c file lexed (enter greatest_depth c (frame_of frame) (stack_of stack.old.items) stuck (behind file lexed i)) stack.new.items result }
 {
@@ -85,7 +80,7 @@ pub fn enter(
 }
 
 /// Puts a frame on the stack behind a token, where the depth leaves room for an expression in it.
-pub fn begin_frame(stack: &mut Vec<Frame>, frame: Frame, i: u32) -> Result<(Outcome, u32), Stop>
+pub fn begin_frame(stack: &mut Vec<Frame>, frame: Frame, i: u32) -> Taken
     ensures { (c : Context) (file : ℕ) (lexed : Lexed) →
         ActsAs c file lexed (enter greatest_depth c (frame_of frame) (stack_of stack.old.items) (too_deep (behind file lexed (i - 1))) (behind file lexed i)) stack.new.items result }
 {

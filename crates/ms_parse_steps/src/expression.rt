@@ -18,7 +18,7 @@ use crate::enter::{begin_frame, has_room};
 use crate::frame::Frame;
 use crate::input::Input;
 use crate::operand::{Binder, Bounds, Locals, Parts};
-use crate::outcome::Outcome;
+use crate::outcome::{Outcome, Taken};
 use crate::stop::Stop;
 use crate::terminal::Terminal;
 use crate::top::need;
@@ -27,7 +27,7 @@ use ms_logic::{Form, Order, Quant};
 use ms_parse_grammar::{Bracket, Listing, Prefix};
 use std::alloc::Global;
 
-fn begin_atom(at: At, form: Form, i: u32) -> Result<(Outcome, u32), Stop>
+fn begin_atom(at: At, form: Form, i: u32) -> Taken
     requires measured { depth (form_of form at) ≡ 1 }
     requires begins { place (form_of form at) ≡ at }
     ensures { (c : Context) (file : ℕ) (lexed : Lexed) (frames : List Frame) →
@@ -37,7 +37,7 @@ fn begin_atom(at: At, form: Form, i: u32) -> Result<(Outcome, u32), Stop>
     Ok((Outcome::Holding(operand), i))
 }
 
-fn begin_bracket(stack: &mut Vec<Frame>, at: At, i: u32) -> Result<(Outcome, u32), Stop>
+fn begin_bracket(stack: &mut Vec<Frame>, at: At, i: u32) -> Taken
     ensures { (c : Context) (file : ℕ) (lexed : Lexed) →
         ActsAs c file lexed (begin greatest_depth c (stack_of stack.old.items) at open_round (behind file lexed (i - 1)) (behind file lexed i)) stack.new.items result }
 {
@@ -55,7 +55,7 @@ fn level_of(op: Prefix) -> u32
     }
 }
 
-fn begin_prefix(stack: &mut Vec<Frame>, at: At, op: Prefix, i: u32) -> Result<(Outcome, u32), Stop>
+fn begin_prefix(stack: &mut Vec<Frame>, at: At, op: Prefix, i: u32) -> Taken
     ensures { (c : Context) (file : ℕ) (lexed : Lexed) →
         ActsAs c file lexed (begin greatest_depth c (stack_of stack.old.items) at (prefix_operator op) (behind file lexed (i - 1)) (behind file lexed i)) stack.new.items result }
 {
@@ -94,7 +94,7 @@ fn first_part(alloc: Global, at: At, order: Order) -> Outcome
 }
 
 /// A quantifier or a `let` begins an expression, and wants what the outcome says.
-fn begin_binding(stack: &[Frame], outcome: Outcome, i: u32) -> Result<(Outcome, u32), Stop>
+fn begin_binding(stack: &[Frame], outcome: Outcome, i: u32) -> Taken
     ensures { (c : Context) (file : ℕ) (lexed : Lexed) →
         ActsAs c file lexed (begin_binding greatest_depth (stack_of stack.now) (outcome_of c (stack_of stack.now) outcome) (behind file lexed (i - 1)) (behind file lexed i)) stack.now result }
 {
@@ -109,13 +109,7 @@ fn begin_binding(stack: &[Frame], outcome: Outcome, i: u32) -> Result<(Outcome, 
 
 impl Input<'_> {
     /// A symbol other than a name begins an expression.
-    fn begin_terminal(
-        self,
-        stack: &mut Vec<Frame>,
-        at: At,
-        terminal: Terminal,
-        i: u32,
-    ) -> Result<(Outcome, u32), Stop>
+    fn begin_terminal(self, stack: &mut Vec<Frame>, at: At, terminal: Terminal, i: u32) -> Taken
         ensures { (c : Context) (bytes : List ℕ) → terminal ≢ terminals.Name →
             ActsAs c self.entry.file self.entry.tokens.now (begin greatest_depth c (stack_of stack.old.items) at (symbol_with terminal bytes) (behind self.entry.file self.entry.tokens.now (i - 1)) (behind self.entry.file self.entry.tokens.now i)) stack.new.items result }
     {
@@ -145,7 +139,7 @@ impl Input<'_> {
     }
 
     /// A step where an expression is wanted.
-    pub fn begin(self, stack: &mut Vec<Frame>, i: u32) -> Result<(Outcome, u32), Stop>
+    pub fn begin(self, stack: &mut Vec<Frame>, i: u32) -> Taken
         ensures { (c : Context) →
             ActsAs c self.entry.file self.entry.tokens.now (step greatest_depth (wanted c (stack_of stack.old.items)) (behind self.entry.file self.entry.tokens.now i)) stack.new.items result }
     {

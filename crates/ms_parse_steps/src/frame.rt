@@ -16,7 +16,7 @@ use crate::complete::{
 };
 use crate::join::Link;
 use crate::operand::{Binder, Chain, Domain, Entries, Identifier, Locals, Operand};
-use crate::outcome::Outcome;
+use crate::outcome::Taken;
 use crate::separate::{
     another_expression, another_part, another_variable, begin_body, begin_scope,
 };
@@ -111,7 +111,7 @@ impl Frame {
     }
 
     /// `}` behind an expression, in the frame that stood on top of the stack.
-    pub fn close_curly(self, operand: Operand, i: u32) -> Result<(Outcome, u32), Stop>
+    pub fn close_curly(self, operand: Operand, i: u32) -> Taken
         ensures { (c : Context) (file : ℕ) (lexed : Lexed) (below : List Frame) →
             ActsAs c file lexed (close_curly_at greatest_depth c (expression_of operand.expr) (frame_of self ∷ stack_of below) (behind file lexed (i - 1)) (behind file lexed i)) below result }
     {
@@ -122,12 +122,7 @@ impl Frame {
     }
 
     /// `)` behind an expression, in the frame that stood on top of the stack.
-    pub fn close_round(
-        self,
-        alloc: Global,
-        operand: Operand,
-        i: u32,
-    ) -> Result<(Outcome, u32), Stop>
+    pub fn close_round(self, alloc: Global, operand: Operand, i: u32) -> Taken
         ensures { (c : Context) (file : ℕ) (lexed : Lexed) (below : List Frame) →
             ActsAs c file lexed (close_round_at greatest_depth c (expression_of operand.expr) (frame_of self ∷ stack_of below) (behind file lexed (i - 1)) (behind file lexed i)) below result }
     {
@@ -139,13 +134,7 @@ impl Frame {
     }
 
     /// `,` behind an expression, in the frame that stood on top of the stack.
-    pub fn comma(
-        self,
-        alloc: Global,
-        stack: &mut Vec<Frame>,
-        operand: Operand,
-        i: u32,
-    ) -> Result<(Outcome, u32), Stop>
+    pub fn comma(self, alloc: Global, stack: &mut Vec<Frame>, operand: Operand, i: u32) -> Taken
         ensures { (c : Context) (file : ℕ) (lexed : Lexed) →
             ActsAs c file lexed (comma_at greatest_depth c (expression_of operand.expr) (frame_of self ∷ stack_of stack.old.items) (behind file lexed (i - 1)) (behind file lexed i)) stack.new.items result }
     {
@@ -158,13 +147,7 @@ impl Frame {
     }
 
     /// `:` behind an expression, in the frame that stood on top of the stack.
-    pub fn colon(
-        self,
-        alloc: Global,
-        stack: &mut Vec<Frame>,
-        operand: Operand,
-        i: u32,
-    ) -> Result<(Outcome, u32), Stop>
+    pub fn colon(self, alloc: Global, stack: &mut Vec<Frame>, operand: Operand, i: u32) -> Taken
         ensures { (c : Context) (file : ℕ) (lexed : Lexed) →
             ActsAs c file lexed (colon_at greatest_depth c (expression_of operand.expr) (frame_of self ∷ stack_of stack.old.items) (behind file lexed (i - 1)) (behind file lexed i)) stack.new.items result }
     {
@@ -175,12 +158,7 @@ impl Frame {
     }
 
     /// `in` behind a right side of a `let`, in the frame that stood on top of the stack.
-    pub fn end_parts(
-        self,
-        stack: &mut Vec<Frame>,
-        operand: Operand,
-        i: u32,
-    ) -> Result<(Outcome, u32), Stop>
+    pub fn end_parts(self, stack: &mut Vec<Frame>, operand: Operand, i: u32) -> Taken
         ensures { (c : Context) (file : ℕ) (lexed : Lexed) →
             ActsAs c file lexed (in_at greatest_depth c (expression_of operand.expr) (frame_of self ∷ stack_of stack.old.items) (behind file lexed (i - 1)) (behind file lexed i)) stack.new.items result }
     {

@@ -9,7 +9,7 @@ ghost use Rattle.ms_parse_steps.specs.inner.Terminals.{behind, symbol_with};
 ghost use Rattle.ms_parse_steps.specs.inner.Configurations.{StepsAs};
 ghost use Rattle.ms_parse_steps.specs.declared.parser.Parser.{Parser};
 
-use crate::configuration::Configuration;
+use crate::configuration::{Configuration, Step};
 use crate::context::{Context, Globals};
 use crate::followed::Followed;
 use crate::input::Input;
@@ -24,44 +24,32 @@ use ms_logic::{Decl, Expr};
 use std::alloc::Global;
 
 /// A comma behind a variable that is declared.
-fn another_global(
+pub fn another_global(
     mut globals: Globals,
     variable: Identifier,
     domain: Option<Boxed<Expr>>,
     i: u32,
-) -> Result<(Configuration, u32), Stop>
+) -> Step
     ensures { (file : ℕ) (lexed : Lexed) (parser : Parser) →
         StepsAs file lexed (took (global_wanted (document_of parser.source) globals.at globals.order (and_variable (variables_of globals.list) variable.at globals.order variable.name (domain_of domain))) (behind file lexed i)) parser result }
 {
-    push_variable(
-        &mut globals.list,
-        variable.at,
-        globals.order,
-        variable.name,
-        domain,
-    )?;
+    push_variable(&mut globals.list, globals.order, variable, domain)?;
     Ok((Configuration::Global(globals), i))
 }
 
 impl Parser {
     /// The end behind the last variable of a declaration.
-    fn last_global(
+    pub fn last_global(
         &mut self,
         mut globals: Globals,
         variable: Identifier,
         domain: Option<Boxed<Expr>>,
         i: u32,
-    ) -> Result<(Configuration, u32), Stop>
+    ) -> Step
         ensures { (file : ℕ) (lexed : Lexed) →
             StepsAs file lexed (took (outside (declare (document_of self.old.source) globals.at (variables (and_variable (variables_of globals.list) variable.at globals.order variable.name (domain_of domain))))) (behind file lexed i)) self.new result }
     {
-        push_variable(
-            &mut globals.list,
-            variable.at,
-            globals.order,
-            variable.name,
-            domain,
-        )?;
+        push_variable(&mut globals.list, globals.order, variable, domain)?;
         self.declared(globals.at, Decl::Vars(globals.list), i)
     }
 
@@ -72,7 +60,7 @@ impl Parser {
         variable: Identifier,
         terminal: Terminal,
         i: u32,
-    ) -> Result<(Configuration, u32), Stop>
+    ) -> Step
         ensures { (file : ℕ) (lexed : Lexed) (bytes : List ℕ) →
             StepsAs file lexed (behind_global (document_of self.old.source) globals.at globals.order (variables_of globals.list) variable.at variable.name (symbol_with terminal bytes) (behind file lexed (i - 1)) (behind file lexed i)) self.new result }
     {
@@ -83,36 +71,11 @@ impl Parser {
             _ => Err(Stop::Refused(i.saturating_sub(1))),
         }
     }
-
-    /// What ends the restriction of a variable that is declared.
-    pub fn end_global(
-        &mut self,
-        alloc: Global,
-        globals: Globals,
-        variable: Identifier,
-        followed: Followed,
-    ) -> Result<(Configuration, u32), Stop>
-        ensures { (file : ℕ) (lexed : Lexed) (bytes : List ℕ) (inside : Bool) → IsEnd inside (symbol_with followed.terminal bytes) →
-            StepsAs file lexed (settled file lexed (in_global (document_of self.old.source) globals.at globals.order (variables_of globals.list) variable.at variable.name) bytes inside followed []) self.new result }
-    {
-        let domain = boxed(alloc, followed.operand.expr)?;
-        let next = followed.next;
-        match followed.terminal {
-            Terminal::Comma => another_global(globals, variable, Some(domain), next),
-            Terminal::Semicolon => self.last_global(globals, variable, Some(domain), next),
-            _ => Err(Stop::Refused(next.saturating_sub(1))),
-        }
-    }
 }
 
 impl Input<'_> {
     /// A variable that is declared and what stands behind it, where a variable is wanted.
-    pub fn next_global(
-        self,
-        parser: &mut Parser,
-        globals: Globals,
-        i: u32,
-    ) -> Result<(Configuration, u32), Stop>
+    pub fn next_global(self, parser: &mut Parser, globals: Globals, i: u32) -> Step
         ensures { StepsAs self.entry.file self.entry.tokens.now (next_global (document_of parser.old.source) globals.at globals.order (variables_of globals.list) (behind self.entry.file self.entry.tokens.now i)) parser.new result }
     {
         let Some((name, at_name)) = self.name_at(i)? else {

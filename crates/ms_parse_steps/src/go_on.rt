@@ -13,7 +13,7 @@ ghost use Rattle.ms_parse_steps.specs.inner.Configurations.{head_of, StepsAs, co
 ghost use Rattle.ms_parse_grammar.specs.Grammar.{greatest_depth};
 
 use crate::bound::{bound, ends_part};
-use crate::configuration::Configuration;
+use crate::configuration::Step;
 use crate::context::{Context, Signature};
 use crate::declare::inside;
 use crate::followed::Followed;
@@ -21,7 +21,7 @@ use crate::frame::Frame;
 use crate::input::Input;
 use crate::join::join;
 use crate::operand::Operand;
-use crate::outcome::Outcome;
+use crate::outcome::Taken;
 use crate::parser::Parser;
 use crate::settle::shift;
 use crate::stack::{collapse, pop_frame};
@@ -45,11 +45,7 @@ fn is_operator(terminal: Terminal, is_end: bool) -> bool
 
 impl Input<'_> {
     /// An operator behind its left operand, with the frames around it that go on.
-    fn settle_operator(
-        self,
-        stack: &mut Vec<Frame>,
-        followed: Followed,
-    ) -> Result<(Outcome, u32), Stop>
+    fn settle_operator(self, stack: &mut Vec<Frame>, followed: Followed) -> Taken
         ensures { (c : machine.Context) (bytes : List ℕ) (inside : Bool) → IsOperator inside (symbol_with followed.terminal bytes) →
             ActsAs c self.entry.file self.entry.tokens.now (settled self.entry.file self.entry.tokens.now c bytes inside followed (stack_of stack.old.items)) stack.new.items result }
     {
@@ -65,12 +61,7 @@ impl Input<'_> {
 }
 
 /// What ends an expression in a frame.
-fn settle_frame(
-    alloc: Global,
-    stack: &mut Vec<Frame>,
-    frame: Frame,
-    followed: Followed,
-) -> Result<(Outcome, u32), Stop>
+fn settle_frame(alloc: Global, stack: &mut Vec<Frame>, frame: Frame, followed: Followed) -> Taken
     ensures { (c : machine.Context) (file : ℕ) (lexed : Lexed) (bytes : List ℕ) (inside : Bool) → IsEnd inside (symbol_with followed.terminal bytes) →
         ActsAs c file lexed (settled file lexed c bytes inside followed (frame_of frame ∷ stack_of stack.old.items)) stack.new.items result }
 {
@@ -86,98 +77,9 @@ fn settle_frame(
     }
 }
 
-impl Parser {
-    /// What ends a formula that is declared.
-    pub fn end_formula(&mut self, at: At, followed: Followed) -> Result<(Configuration, u32), Stop>
-        ensures { (file : ℕ) (lexed : Lexed) (bytes : List ℕ) (inside : Bool) → IsEnd inside (symbol_with followed.terminal bytes) →
-            StepsAs file lexed (settled file lexed (in_formula (document_of self.old.source) at) bytes inside followed []) self.new result }
-    {
-        match followed.terminal {
-            Terminal::Semicolon => self.declared(
-                at,
-                Decl::Formula(followed.operand.expr),
-                followed.next,
-            ),
-            _ => Err(Stop::Refused(followed.next.saturating_sub(1))),
-        }
-    }
-
-    /// What ends the body of a predicate.
-    pub fn end_predicate(
-        &mut self,
-        signature: Signature,
-        followed: Followed,
-    ) -> Result<(Configuration, u32), Stop>
-        ensures { (file : ℕ) (lexed : Lexed) (bytes : List ℕ) (inside : Bool) → IsEnd inside (symbol_with followed.terminal bytes) →
-            StepsAs file lexed (settled file lexed (in_predicate (document_of self.old.source) (head_of signature) (variables_of signature.parameters)) bytes inside followed []) self.new result }
-    {
-        match followed.terminal {
-            Terminal::Semicolon => {
-                let decl = Decl::Pred(
-                    signature.is_pred,
-                    signature.at_name,
-                    signature.name,
-                    signature.parameters,
-                    followed.operand.expr,
-                );
-                self.declared(signature.at, decl, followed.next)
-            }
-            _ => Err(Stop::Refused(followed.next.saturating_sub(1))),
-        }
-    }
-
-    /// What ends the body of a default restriction.
-    pub fn end_default(
-        &mut self,
-        at: At,
-        order: Order,
-        name: Name,
-        followed: Followed,
-    ) -> Result<(Configuration, u32), Stop>
-        ensures { (file : ℕ) (lexed : Lexed) (bytes : List ℕ) (inside : Bool) → IsEnd inside (symbol_with followed.terminal bytes) →
-            StepsAs file lexed (settled file lexed (in_default (document_of self.old.source) at order name) bytes inside followed []) self.new result }
-    {
-        match followed.terminal {
-            Terminal::Semicolon => self.declared(
-                at,
-                Decl::Default(order, name, followed.operand.expr),
-                followed.next,
-            ),
-            _ => Err(Stop::Refused(followed.next.saturating_sub(1))),
-        }
-    }
-
-    /// What ends the formula of a goal.
-    pub fn end_goal(
-        &mut self,
-        at: At,
-        at_title: At,
-        title: Text,
-        followed: Followed,
-    ) -> Result<(Configuration, u32), Stop>
-        ensures { (file : ℕ) (lexed : Lexed) (bytes : List ℕ) (inside : Bool) → IsEnd inside (symbol_with followed.terminal bytes) →
-            StepsAs file lexed (settled file lexed (in_goal (document_of self.old.source) at at_title title) bytes inside followed []) self.new result }
-    {
-        match followed.terminal {
-            Terminal::Semicolon => self.declared(
-                at,
-                Decl::Goal(at_title, title, followed.operand.expr),
-                followed.next,
-            ),
-            _ => Err(Stop::Refused(followed.next.saturating_sub(1))),
-        }
-    }
-}
-
 impl Input<'_> {
     /// A terminal behind an expression, once the frames that end before it are completed.
-    fn settle(
-        self,
-        parser: &mut Parser,
-        context: Context,
-        followed: Followed,
-        is_end: bool,
-    ) -> Result<(Configuration, u32), Stop>
+    fn settle(self, parser: &mut Parser, context: Context, followed: Followed, is_end: bool) -> Step
         ensures { (bytes : List ℕ) (inside : Bool) → is_end ≡ ends_part inside (symbol_with followed.terminal bytes) →
             StepsAs self.entry.file self.entry.tokens.now (settled self.entry.file self.entry.tokens.now (context_of (document_of parser.old.source) context) bytes inside followed (stack_of parser.old.stack.items)) parser.new result }
     {
@@ -195,13 +97,7 @@ impl Input<'_> {
     }
 
     /// A step where an expression has been read.
-    pub fn go_on(
-        self,
-        parser: &mut Parser,
-        context: Context,
-        operand: Operand,
-        i: u32,
-    ) -> Result<(Configuration, u32), Stop>
+    pub fn go_on(self, parser: &mut Parser, context: Context, operand: Operand, i: u32) -> Step
         ensures { StepsAs self.entry.file self.entry.tokens.now (step greatest_depth (holding (context_of (document_of parser.old.source) context) (expression_of operand.expr) (stack_of parser.old.stack.items)) (behind self.entry.file self.entry.tokens.now i)) parser.new result }
     {
         let Some((terminal, _)) = self.terminal_at(i) else {

@@ -12,10 +12,9 @@ use crate::append::with_expression;
 use crate::enter::begin_frame;
 use crate::frame::Frame;
 use crate::operand::{Chain, Operand};
-use crate::outcome::Outcome;
+use crate::outcome::Taken;
 use crate::settle::join_new;
 use crate::stack::{pop_frame, push_frame};
-use crate::stop::Stop;
 use ms_parse_grammar::Junction;
 use std::alloc::Global;
 
@@ -28,12 +27,7 @@ pub enum Link {
     Other(Frame),
 }
 
-fn join_further(
-    stack: &mut Vec<Frame>,
-    chain: Chain,
-    operand: Operand,
-    i: u32,
-) -> Result<(Outcome, u32), Stop>
+fn join_further(stack: &mut Vec<Frame>, chain: Chain, operand: Operand, i: u32) -> Taken
     ensures { (c : Context) (file : ℕ) (lexed : Lexed) →
         ActsAs c file lexed (enter greatest_depth c (joined_frame chain.at chain.op (and_expression (expressions_of chain.operands.list) (expression_of operand.expr))) (stack_of stack.old.items) (too_deep (behind file lexed (i - 1))) (behind file lexed i)) stack.new.items result }
 {
@@ -43,13 +37,7 @@ fn join_further(
 }
 
 /// `&` or `|` behind an operand.
-pub fn join(
-    alloc: Global,
-    stack: &mut Vec<Frame>,
-    op: Junction,
-    operand: Operand,
-    i: u32,
-) -> Result<(Outcome, u32), Stop>
+pub fn join(alloc: Global, stack: &mut Vec<Frame>, op: Junction, operand: Operand, i: u32) -> Taken
     ensures { (c : Context) (file : ℕ) (lexed : Lexed) →
         ActsAs c file lexed (join greatest_depth c op (expression_of operand.expr) (stack_of stack.old.items) (behind file lexed (i - 1)) (behind file lexed i)) stack.new.items result }
 {

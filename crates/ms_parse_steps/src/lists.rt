@@ -17,13 +17,13 @@ pub fn push_expression(list: &mut List<Expr>, expr: Expr) -> Result<(), Stop>
     push(list, expr)
 }
 
-fn variable(at: At, order: Order, name: Name, domain: Option<Boxed<Expr>>) -> Bound
-    ensures { variable_of result ≡ record { at = at; order = order; name = name; domain = domain_of domain } }
+fn bound_of(order: Order, variable: Identifier, domain: Option<Boxed<Expr>>) -> Bound
+    ensures { variable_of result ≡ record { at = variable.at; order = order; name = variable.name; domain = domain_of domain } }
 {
     Bound {
-        at,
+        at: variable.at,
         order,
-        name,
+        name: variable.name,
         domain,
     }
 }
@@ -36,15 +36,14 @@ fn part(at: At, name: Name, value: Expr) -> LetPart
 
 pub fn push_variable(
     list: &mut List<Bound>,
-    at: At,
     order: Order,
-    name: Name,
+    variable: Identifier,
     domain: Option<Boxed<Expr>>,
 ) -> Result<(), Stop>
-    ensures ok { OnOk result (variables_of list.new ≡ and_variable (variables_of list.old) at order name (domain_of domain)) }
+    ensures ok { OnOk result (variables_of list.new ≡ and_variable (variables_of list.old) variable.at order variable.name (domain_of domain)) }
     ensures err { IfErr result (λ stop. stop ≡ Memory) }
 {
-    let one = variable(at, order, name, domain);
+    let one = bound_of(order, variable, domain);
     push(list, one)
 }
 
@@ -67,5 +66,5 @@ pub fn push_restricted(
     ensures err { IfErr result (λ stop. stop ≡ Memory) }
 {
     let domain = boxed(alloc, domain)?;
-    push_variable(list, variable.at, order, variable.name, Some(domain))
+    push_variable(list, order, variable, Some(domain))
 }

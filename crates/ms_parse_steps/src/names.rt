@@ -17,7 +17,7 @@ use crate::frame::Frame;
 use crate::input::Input;
 use crate::memory::push;
 use crate::operand::{Binder, Domain, Identifier, Locals};
-use crate::outcome::Outcome;
+use crate::outcome::{Outcome, Taken};
 use crate::punctuation::Punctuation;
 use crate::stop::Stop;
 use crate::terminal::Terminal;
@@ -26,12 +26,7 @@ use ms_logic::{Form, Rename};
 
 impl Input<'_> {
     /// A name of a `let` and `=`, where a name is wanted.
-    pub fn next_part(
-        self,
-        stack: &mut Vec<Frame>,
-        locals: Locals,
-        i: u32,
-    ) -> Result<(Outcome, u32), Stop>
+    pub fn next_part(self, stack: &mut Vec<Frame>, locals: Locals, i: u32) -> Taken
         ensures { (c : Context) →
             ActsAs c self.entry.file self.entry.tokens.now (next_part greatest_depth c (stack_of stack.old.items) locals.at locals.order (parts_of locals.parts.list) (behind self.entry.file self.entry.tokens.now i)) stack.new.items result }
     {
@@ -73,13 +68,7 @@ impl Input<'_> {
     }
 
     /// A pair of an import or its end, where these are wanted.
-    pub fn next_pair(
-        self,
-        at: At,
-        text: Text,
-        mut pairs: List<Rename>,
-        i: u32,
-    ) -> Result<(Outcome, u32), Stop>
+    pub fn next_pair(self, at: At, text: Text, mut pairs: List<Rename>, i: u32) -> Taken
         ensures { (c : Context) (frames : List Frame) →
             ActsAs c self.entry.file self.entry.tokens.now (next_pair c (stack_of frames) at text pairs (behind self.entry.file self.entry.tokens.now i)) frames result }
     {
@@ -103,7 +92,7 @@ fn behind_variable(
     variable: Identifier,
     terminal: Terminal,
     i: u32,
-) -> Result<(Outcome, u32), Stop>
+) -> Taken
     ensures { (c : Context) (file : ℕ) (lexed : Lexed) (bytes : List ℕ) →
         ActsAs c file lexed (behind_variable greatest_depth c (stack_of stack.old.items) binder.at binder.quant binder.order (variables_of binder.bounds.list) variable.at variable.name (symbol_with terminal bytes) (behind file lexed (i - 1)) (behind file lexed i)) stack.new.items result }
 {
@@ -123,12 +112,7 @@ fn behind_variable(
 
 impl Input<'_> {
     /// A variable of a binder and what stands behind it, where a variable is wanted.
-    pub fn next_variable(
-        self,
-        stack: &mut Vec<Frame>,
-        binder: Binder,
-        i: u32,
-    ) -> Result<(Outcome, u32), Stop>
+    pub fn next_variable(self, stack: &mut Vec<Frame>, binder: Binder, i: u32) -> Taken
         ensures { (c : Context) →
             ActsAs c self.entry.file self.entry.tokens.now (next_variable greatest_depth c (stack_of stack.old.items) binder.at binder.quant binder.order (variables_of binder.bounds.list) (behind self.entry.file self.entry.tokens.now i)) stack.new.items result }
     {

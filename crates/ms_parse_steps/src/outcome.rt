@@ -1,4 +1,5 @@
 use crate::operand::{Binder, Locals, Operand};
+use crate::stop::Stop;
 use ms_list::{At, List, Text};
 use ms_logic::Rename;
 
@@ -16,3 +17,6 @@ pub enum Outcome {
     /// A pair of an import or its end is wanted.
     Pair(At, Text, List<Rename>),
 }
+
+/// What a step in an expression comes to: where it stands then, and the number of the token behind; or why it is not taken.
+pub type Taken = Result<(Outcome, u32), Stop>;

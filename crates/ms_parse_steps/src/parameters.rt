@@ -10,7 +10,7 @@ ghost use Rattle.ms_parse_steps.specs.inner.Terminals.{behind, symbol_with};
 ghost use Rattle.ms_parse_steps.specs.inner.Configurations.{head_of, StepsAs};
 ghost use Rattle.ms_parse_steps.specs.declared.parser.Parser.{Parser};
 
-use crate::configuration::Configuration;
+use crate::configuration::{Configuration, Step};
 use crate::context::{Context, Parameter, Signature};
 use crate::followed::Followed;
 use crate::input::Input;
@@ -26,12 +26,7 @@ use ms_logic::{Bound, Expr, Order};
 
 impl Input<'_> {
     /// `=` behind the parameters of a predicate.
-    pub fn body_of(
-        self,
-        parser: &mut Parser,
-        signature: Signature,
-        i: u32,
-    ) -> Result<(Configuration, u32), Stop>
+    pub fn body_of(self, parser: &mut Parser, signature: Signature, i: u32) -> Step
         ensures { StepsAs self.entry.file self.entry.tokens.now (body_of (document_of parser.old.source) (head_of signature) (variables_of signature.parameters) (behind self.entry.file self.entry.tokens.now i)) parser.new result }
     {
         let Some(next) = self.behind_mark(i, Punctuation::Equal) else {
@@ -42,45 +37,37 @@ impl Input<'_> {
 }
 
 /// A comma behind a parameter.
-fn another_parameter(
-    mut parameter: Parameter,
-    domain: Option<Boxed<Expr>>,
-    i: u32,
-) -> Result<(Configuration, u32), Stop>
+pub fn another_parameter(parameter: Parameter, domain: Option<Boxed<Expr>>, i: u32) -> Step
     ensures { (file : ℕ) (lexed : Lexed) (parser : Parser) →
         StepsAs file lexed (took (parameter_wanted (document_of parser.source) (head_of parameter.signature) (and_variable (variables_of parameter.signature.parameters) parameter.variable.at parameter.order parameter.variable.name (domain_of domain))) (behind file lexed i)) parser result }
 {
-    let variable = parameter.variable;
-    push_variable(
-        &mut parameter.signature.parameters,
-        variable.at,
-        parameter.order,
-        variable.name,
-        domain,
-    )?;
-    Ok((Configuration::Parameter(parameter.signature), i))
+    let Parameter {
+        mut signature,
+        order,
+        variable,
+    } = parameter;
+    push_variable(&mut signature.parameters, order, variable, domain)?;
+    Ok((Configuration::Parameter(signature), i))
 }
 
 impl Input<'_> {
     /// The bracket behind the last parameter.
-    fn last_parameter(
+    pub fn last_parameter(
         self,
         parser: &mut Parser,
-        mut parameter: Parameter,
+        parameter: Parameter,
         domain: Option<Boxed<Expr>>,
         i: u32,
-    ) -> Result<(Configuration, u32), Stop>
+    ) -> Step
         ensures { StepsAs self.entry.file self.entry.tokens.now (body_of (document_of parser.old.source) (head_of parameter.signature) (and_variable (variables_of parameter.signature.parameters) parameter.variable.at parameter.order parameter.variable.name (domain_of domain)) (behind self.entry.file self.entry.tokens.now i)) parser.new result }
     {
-        let variable = parameter.variable;
-        push_variable(
-            &mut parameter.signature.parameters,
-            variable.at,
-            parameter.order,
-            variable.name,
-            domain,
-        )?;
-        self.body_of(parser, parameter.signature, i)
+        let Parameter {
+            mut signature,
+            order,
+            variable,
+        } = parameter;
+        push_variable(&mut signature.parameters, order, variable, domain)?;
+        self.body_of(parser, signature, i)
     }
 
     /// What stands behind a parameter.
@@ -90,7 +77,7 @@ impl Input<'_> {
         parameter: Parameter,
         terminal: Terminal,
         i: u32,
-    ) -> Result<(Configuration, u32), Stop>
+    ) -> Step
         ensures { (bytes : List ℕ) →
             StepsAs self.entry.file self.entry.tokens.now (behind_parameter (document_of parser.old.source) (head_of parameter.signature) (variables_of parameter.signature.parameters) parameter.order parameter.variable.at parameter.variable.name (symbol_with terminal bytes) (behind self.entry.file self.entry.tokens.now (i - 1)) (behind self.entry.file self.entry.tokens.now i)) parser.new result }
     {
@@ -129,12 +116,7 @@ impl Input<'_> {
     }
 
     /// A parameter and what stands behind it, where a parameter is wanted.
-    pub fn next_parameter(
-        self,
-        parser: &mut Parser,
-        signature: Signature,
-        i: u32,
-    ) -> Result<(Configuration, u32), Stop>
+    pub fn next_parameter(self, parser: &mut Parser, signature: Signature, i: u32) -> Step
         ensures { StepsAs self.entry.file self.entry.tokens.now (next_parameter (document_of parser.old.source) (head_of signature) (variables_of signature.parameters) (behind self.entry.file self.entry.tokens.now i)) parser.new result }
     {
         let Some((order, from)) = self.kind_at(&signature.parameters, i) else {
@@ -152,24 +134,5 @@ impl Input<'_> {
             variable: Identifier { at: at_name, name },
         };
         self.behind_parameter(parser, parameter, terminal, from + 2)
-    }
-
-    /// What ends the restriction of a parameter.
-    pub fn end_parameter(
-        self,
-        parser: &mut Parser,
-        parameter: Parameter,
-        followed: Followed,
-    ) -> Result<(Configuration, u32), Stop>
-        ensures { (bytes : List ℕ) (inside : Bool) → IsEnd inside (symbol_with followed.terminal bytes) →
-            StepsAs self.entry.file self.entry.tokens.now (settled self.entry.file self.entry.tokens.now (in_parameter (document_of parser.old.source) (head_of parameter.signature) (variables_of parameter.signature.parameters) parameter.order parameter.variable.at parameter.variable.name) bytes inside followed []) parser.new result }
-    {
-        let domain = boxed(self.alloc, followed.operand.expr)?;
-        let next = followed.next;
-        match followed.terminal {
-            Terminal::Comma => another_parameter(parameter, Some(domain), next),
-            Terminal::CloseRound => self.last_parameter(parser, parameter, Some(domain), next),
-            _ => Err(Stop::Refused(next.saturating_sub(1))),
-        }
     }
 }

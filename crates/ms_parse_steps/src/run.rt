@@ -11,7 +11,7 @@ ghost use Rattle.ms_parse_steps.specs.inner.Stack.{stack_of};
 ghost use Rattle.ms_parse_steps.specs.inner.Configurations.{StepsAs, context_of, configuration_of};
 ghost use Rattle.ms_parse_grammar.specs.Grammar.{greatest_depth};
 
-use crate::configuration::Configuration;
+use crate::configuration::{Configuration, Step};
 use crate::context::Context;
 use crate::declare::inside;
 use crate::header::start;
@@ -32,7 +32,7 @@ impl Input<'_> {
         context: Context,
         outcome: Outcome,
         i: u32,
-    ) -> Result<(Configuration, u32), Stop>
+    ) -> Step
         ensures { StepsAs self.entry.file self.entry.tokens.now (machine.step greatest_depth (outcome_of (context_of (document_of parser.old.source) context) (stack_of parser.old.stack.items) outcome) (behind self.entry.file self.entry.tokens.now i)) parser.new result }
     {
         match outcome {
@@ -49,12 +49,7 @@ impl Input<'_> {
     }
 
     /// A step.
-    fn step(
-        self,
-        parser: &mut Parser,
-        state: Configuration,
-        i: u32,
-    ) -> Result<(Configuration, u32), Stop>
+    fn step(self, parser: &mut Parser, state: Configuration, i: u32) -> Step
         ensures { StepsAs self.entry.file self.entry.tokens.now (machine.step greatest_depth (configuration_of (document_of parser.old.source) (stack_of parser.old.stack.items) state) (behind self.entry.file self.entry.tokens.now i)) parser.new result }
     {
         match state {

@@ -13,8 +13,7 @@ use crate::append::{with_expression, with_part, with_restricted};
 use crate::enter::begin_frame;
 use crate::frame::Frame;
 use crate::operand::{Domain, Entries, Identifier, Locals, Operand};
-use crate::outcome::Outcome;
-use crate::stop::Stop;
+use crate::outcome::{Outcome, Taken};
 use std::alloc::Global;
 
 pub fn another_expression(
@@ -22,7 +21,7 @@ pub fn another_expression(
     entries: Entries,
     operand: Operand,
     i: u32,
-) -> Result<(Outcome, u32), Stop>
+) -> Taken
     ensures { (c : Context) (file : ℕ) (lexed : Lexed) →
         ActsAs c file lexed (enter greatest_depth c (list_frame entries.at entries.listing (and_expression (expressions_of entries.operands.list) (expression_of operand.expr))) (stack_of stack.old.items) (too_deep (behind file lexed (i - 1))) (behind file lexed i)) stack.new.items result }
 {
@@ -34,12 +33,7 @@ pub fn another_expression(
     begin_frame(stack, frame, i)
 }
 
-pub fn another_variable(
-    alloc: Global,
-    domain: Domain,
-    operand: Operand,
-    i: u32,
-) -> Result<(Outcome, u32), Stop>
+pub fn another_variable(alloc: Global, domain: Domain, operand: Operand, i: u32) -> Taken
     ensures { (c : Context) (file : ℕ) (lexed : Lexed) (frames : List Frame) →
         ActsAs c file lexed (took (variable_wanted c (stack_of frames) domain.binder.at domain.binder.quant domain.binder.order (and_variable (variables_of domain.binder.bounds.list) domain.variable.at domain.binder.order domain.variable.name (restricted (expression_of operand.expr)))) (behind file lexed i)) frames result }
 {
@@ -47,12 +41,7 @@ pub fn another_variable(
     Ok((Outcome::Variable(binder), i))
 }
 
-pub fn another_part(
-    locals: Locals,
-    variable: Identifier,
-    operand: Operand,
-    i: u32,
-) -> Result<(Outcome, u32), Stop>
+pub fn another_part(locals: Locals, variable: Identifier, operand: Operand, i: u32) -> Taken
     ensures { (c : Context) (file : ℕ) (lexed : Lexed) (frames : List Frame) →
         ActsAs c file lexed (took (part_wanted c (stack_of frames) locals.at locals.order (and_part (parts_of locals.parts.list) variable.at variable.name (expression_of operand.expr))) (behind file lexed i)) frames result }
 {
@@ -66,7 +55,7 @@ pub fn begin_body(
     domain: Domain,
     operand: Operand,
     i: u32,
-) -> Result<(Outcome, u32), Stop>
+) -> Taken
     ensures { (c : Context) (file : ℕ) (lexed : Lexed) →
         ActsAs c file lexed (enter greatest_depth c (body_frame domain.binder.at domain.binder.quant domain.binder.order (and_variable (variables_of domain.binder.bounds.list) domain.variable.at domain.binder.order domain.variable.name (restricted (expression_of operand.expr)))) (stack_of stack.old.items) (too_deep (behind file lexed (i - 1))) (behind file lexed i)) stack.new.items result }
 {
@@ -80,7 +69,7 @@ pub fn begin_scope(
     variable: Identifier,
     operand: Operand,
     i: u32,
-) -> Result<(Outcome, u32), Stop>
+) -> Taken
     ensures { (c : Context) (file : ℕ) (lexed : Lexed) →
         ActsAs c file lexed (enter greatest_depth c (let_frame locals.at locals.order (and_part (parts_of locals.parts.list) variable.at variable.name (expression_of operand.expr))) (stack_of stack.old.items) (too_deep (behind file lexed (i - 1))) (behind file lexed i)) stack.new.items result }
 {

@@ -16,7 +16,7 @@ use crate::input::Input;
 use crate::lists::push_expression;
 use crate::memory::boxed;
 use crate::operand::{Chain, GREATEST_DEPTH, Operand, Operands};
-use crate::outcome::Outcome;
+use crate::outcome::{Outcome, Taken};
 use crate::stop::Stop;
 use ms_list::List;
 use ms_logic::{Form, PlacedInt};
@@ -24,12 +24,7 @@ use ms_parse_grammar::{Binary, Junction, least_left, least_operand};
 use std::alloc::Global;
 
 /// An operator behind its left operand.
-pub fn shift(
-    stack: &mut Vec<Frame>,
-    op: Binary,
-    left: Operand,
-    i: u32,
-) -> Result<(Outcome, u32), Stop>
+pub fn shift(stack: &mut Vec<Frame>, op: Binary, left: Operand, i: u32) -> Taken
     ensures { (c : Context) (file : ℕ) (lexed : Lexed) →
         ActsAs c file lexed (shift greatest_depth c op (expression_of left.expr, stack_of stack.old.items) (behind file lexed (i - 1)) (behind file lexed i)) stack.new.items result }
 {
@@ -46,7 +41,7 @@ pub fn join_new(
     op: Junction,
     first: Operand,
     i: u32,
-) -> Result<(Outcome, u32), Stop>
+) -> Taken
     ensures { (c : Context) (file : ℕ) (lexed : Lexed) →
         ActsAs c file lexed (join_new greatest_depth c op (expression_of first.expr) (stack_of stack.old.items) (behind file lexed (i - 1)) (behind file lexed i)) stack.new.items result }
 {
@@ -74,13 +69,7 @@ fn may_shift(stack: &[Frame], operand: &Operand) -> bool
 }
 
 /// `+` or `-` and its number behind an expression.
-fn shift_by(
-    alloc: Global,
-    stack: &[Frame],
-    operand: Operand,
-    number: PlacedInt,
-    i: u32,
-) -> Result<(Outcome, u32), Stop>
+fn shift_by(alloc: Global, stack: &[Frame], operand: Operand, number: PlacedInt, i: u32) -> Taken
     requires { length stack.now + suc (depth (expression_of operand.expr)) ≤ 300 }
     ensures { (c : Context) (file : ℕ) (lexed : Lexed) →
         ActsAs c file lexed (took (holding c (shifted (place (expression_of operand.expr)) (expression_of operand.expr) number) (stack_of stack.now)) (behind file lexed i)) stack.now result }
@@ -118,13 +107,7 @@ impl Input<'_> {
     }
 
     /// `+` or `-` behind an expression.
-    pub fn shift_int(
-        self,
-        stack: &[Frame],
-        operand: Operand,
-        minus: bool,
-        i: u32,
-    ) -> Result<(Outcome, u32), Stop>
+    pub fn shift_int(self, stack: &[Frame], operand: Operand, minus: bool, i: u32) -> Taken
         ensures { (c : Context) →
             ActsAs c self.entry.file self.entry.tokens.now (shift_int greatest_depth c minus (expression_of operand.expr) (stack_of stack.now) (behind self.entry.file self.entry.tokens.now (i - 1)) (behind self.entry.file self.entry.tokens.now i)) stack.now result }
     {

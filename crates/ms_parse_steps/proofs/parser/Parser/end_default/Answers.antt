@@ -1,4 +1,0 @@
-use Rattle.ms_parse_steps.proofs.parser.Parser.end_default.Goals as goal
-
-pub returns-in-Semicolon : goal.returns-in-Semicolon
-returns-in-Semicolon c file lexed bytes inside is = rw c.in-Semicolon.is (c.declared.ensures file lexed)
