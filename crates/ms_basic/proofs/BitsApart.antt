@@ -17,7 +17,7 @@ use Rattle.ms_basic.proofs.BitsLemmas.{member_is_one}
 use Rattle.ms_basic.proofs.SetLemmas.{first_is_member}
 
 -- the number below the bound of a set is a member
-top_member : (members : List ℕ) → 0 < bound_of_set members → is_member (bound_of_set members - 1) members ≡ true
+pub top_member : (members : List ℕ) → 0 < bound_of_set members → is_member (bound_of_set members - 1) members ≡ true
 top_member [] some = absurd (omega (arith, some))
 top_member (first ∷ more) some = ⊎_elim
     (λ less. let top : max (first + 1) (bound_of_set more) - 1 ≡ first = omega (arith, less) in ap (λ k. is_member k (first ∷ more)) top ∙ first_is_member first more)

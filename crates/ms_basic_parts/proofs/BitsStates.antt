@@ -14,7 +14,8 @@ use Rattle.ms_basic.specs.Bits.{digits_of, is_one}
 use Rattle.ms_basic.proofs.BitsLemmas.{member_is_one}
 use Rattle.ms_basic.proofs.SetLemmas.{same_sets}
 use Rattle.ms_basic_parts.specs.Laws.{BitsNeedStates}
-use Rattle.ms_basic_parts.proofs.ChosenLemmas.{all_within, bound_chosen, chosen, member_chosen, none_chosen, rising_chosen, top_member}
+use Rattle.ms_basic_parts.proofs.ChosenLemmas.{all_within, bound_chosen, chosen, member_chosen, none_chosen, rising_chosen}
+use Rattle.ms_basic.proofs.BitsApart.{top_member}
 use Rattle.ms_basic_parts.proofs.FoolingSets.{IsFoolingSet, Parts, needs_states, universe_for, values_at}
 use Rattle.ms_basic_parts.proofs.LetterLemmas.{AreBelow, HaveSameBits, eqb_alike}
 use Rattle.ms_basic_parts.proofs.ShiftStates.{set_is}

@@ -1,8 +1,8 @@
 -- Sets of the numbers below a count that pass a test, their members and bounds.
-use Rattle.std.proofs.Common.{◌≡◌, ℕ, zero, suc, ◌+◌, ◌-◌, ◌^◌, ◌<◌, ◌≤◌, ◌==◌, ◌&&◌, ◌||◌, ⊎_elim, max, Bool, true, false, cond, ltb, leb, List, [], ◌∷◌, map, filter, refl, sym, ap, ap₂, ◌∙◌, arith}
+use Rattle.std.proofs.Common.{◌≡◌, ℕ, zero, suc, ◌+◌, ◌-◌, ◌^◌, ◌<◌, ◌≤◌, ◌==◌, ◌&&◌, ⊎_elim, Bool, true, false, cond, ltb, leb, List, [], ◌∷◌, map, filter, refl, sym, ap, ap₂, ◌∙◌, arith}
 use Rattle.std.specs.List.{range_with_len}
 use Rattle.std.specs.Int.{bit_at}
-use Rattle.std.proofs.lemmas.Bool.{cases_eq, cases_lt, eqb-true, eq-eqb, le-leb}
+use Rattle.std.proofs.lemmas.Bool.{cases_eq, eqb-true, eq-eqb, le-leb}
 use Rattle.std.proofs.lemmas.Bool.Decides.{nat_tests}
 use Rattle.std.proofs.lemmas.Nat.Bits.{bit_at-lt, same_from_bits_below}
 use Rattle.ms_logic.specs.FiniteSet.{IsRising, is_member, moved_down, moved_up, numbers_below}
@@ -12,7 +12,6 @@ use Rattle.ms_logic.specs.declared.mode.Mode.{Mode}
 use Rattle.ms_logic.specs.declared.mode.Mode.TheVariants.{Ws1s, M2lStr}
 use Rattle.ms_logic.proofs.Members.{IsRising-filter, IsRising-range, is_member-filter, is_member-range}
 use Rattle.ms_basic.specs.Bits.{is_one}
-use Rattle.ms_basic.proofs.SetLemmas.{first_is_member}
 use Rattle.ms_basic_parts.proofs.FoolingSets.{universe_for}
 
 -- the numbers below a count that pass a test
@@ -72,20 +71,6 @@ all_within M2lStr count (first ∷ more) room =
     let kept : ltb first count ≡ true = le-leb (suc first) count (omega (arith, room)) in
     ap (λ passes. cond passes (first ∷ filter (λ n. ltb n count) more) (filter (λ n. ltb n count) more)) kept
     ∙ ap (λ (others : List ℕ). first ∷ others) (all_within M2lStr count more (omega (arith, room)))
-
--- the number below the bound of a set is a member
-pub top_member : (members : List ℕ) → 0 < bound_of_set members → is_member (bound_of_set members - 1) members ≡ true
-top_member [] some = absurd (omega (arith, some))
-top_member (first ∷ more) some = ⊎_elim
-    (λ less. let top : max (first + 1) (bound_of_set more) - 1 ≡ first = omega (arith, less) in ap (λ k. is_member k (first ∷ more)) top ∙ first_is_member first more)
-    (λ more_above.
-    let top : max (first + 1) (bound_of_set more) - 1 ≡ bound_of_set more - 1 = omega (arith, more_above) in
-    ap (λ k. is_member k (first ∷ more)) top ∙ behind (first == bound_of_set more - 1) (is_member (bound_of_set more - 1) more) (top_member more (omega (arith, more_above))))
-    (cases_lt (bound_of_set more) (first + 1))
-  where
-    behind : (here there : Bool) → there ≡ true → (here || there) ≡ true
-    behind true there is = refl
-    behind false there is = is
 
 -- two bits that are both 1 or both not
 same_bit : (a b : ℕ) → a < 2 → b < 2 → (a == 1) ≡ (b == 1) → a ≡ b
