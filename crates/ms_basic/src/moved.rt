@@ -34,24 +34,6 @@ fn moved_form(direction: Direction, s: u32, t: u32, n: u64) -> Basic
     }
 }
 
-/// The automaton of `S = S + n` or `S = S - n`: moved by 0 a set is itself, and moved further only the empty one is.
-fn moved_itself(
-    alloc: Global,
-    direction: Direction,
-    s: u32,
-    n: u64,
-    setting: Setting,
-) -> Result<Automaton, StepFault>
-    ensures { IsMadeUnder setting (moved_form direction s s n) result }
-{
-    let form = moved_form(direction, s, s, n);
-    if n == 0 {
-        made(alloc, ConstantMachine { holds: true }, form, 1, setting)
-    } else {
-        made(alloc, BitsMachine::none(setting.mode), form, 1, setting)
-    }
-}
-
 /// The automaton of `S = T + n` or `S = T - n`.
 pub(crate) fn moved(
     alloc: Global,
@@ -64,7 +46,14 @@ pub(crate) fn moved(
     ensures { IsMadeUnder setting (moved_form direction s t n) result }
 {
     if s == t {
-        return moved_itself(alloc, direction, s, n, setting);
+        let form = moved_form(direction, s, t, n);
+        return if n == 0 {
+            // Moved by 0, each set is itself.
+            made(alloc, ConstantMachine { holds: true }, form, 1, setting)
+        } else {
+            // Moved further, only the empty set is.
+            made(alloc, BitsMachine::none(setting.mode), form, 1, setting)
+        };
     }
     if n > GREATEST {
         return Err(StepFault::Nodes {
