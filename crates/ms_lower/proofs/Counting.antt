@@ -103,3 +103,12 @@ pub pair : (limit : ℕ) (front later : List Extent) (o p r : Option Counted) �
     r ≡ both_counts o p → o ≡ counted limit front → p ≡ counted limit later → r ≡ counted limit (front ++ later)
 pair limit front later o p r made one other =
     made ∙ (ap (λ c. both_counts c p) one ∙ (ap (both_counts (counted limit front)) other ∙ counted-append limit front later))
+
+-- a node over two parts that have been counted
+pub node_of_two : {X : Type 0} (E : X → Extent) (limit below : ℕ) (l r left right : X) (whole : Extent) (o p both made : Option Counted) →
+    both ≡ both_counts o p → o ≡ counted below (E l ∷ []) → l ≡ left → p ≡ counted below (E r ∷ []) → r ≡ right → made ≡ above_count both → whole ≡ above (E left ∷ E right ∷ []) → suc below ≡ limit → limit < 2 ^ 32 →
+    made ≡ counted limit (whole ∷ [])
+node_of_two E limit below l r left right whole o p both made joined one left_is other right_is top is step small =
+    node limit below (E left ∷ E right ∷ []) whole both made top
+    (pair below (E left ∷ []) (E right ∷ []) o p both joined (one ∙ ap (λ x. counted below (E x ∷ [])) left_is) (other ∙ ap (λ x. counted below (E x ∷ [])) right_is))
+    is step small

@@ -37,21 +37,19 @@ module _ (n : Numbering) (names : Names) where
   spread_of : List Term1 → List TermSpread
   spread_of ts = spread_elements (terms (map term_of ts)) names
 
-  first_of : (ts : List Term1) → first_half (spread_of ts) ≡ spread_of (take ((length ts + 1) / 2) ts)
+  halved : (half : List TermSpread → List TermSpread) (ts part : List Term1) → half (map (λ t. spread_number (term_of t) names) ts) ≡ map (λ t. spread_number (term_of t) names) part → half (spread_of ts) ≡ spread_of part
   unfolding spread_of
+  halved half ts part is = ap half (elements_are ts names) ∙ (is ∙ sym (elements_are part names))
+
+  first_of : (ts : List Term1) → first_half (spread_of ts) ≡ spread_of (take ((length ts + 1) / 2) ts)
   first_of ts =
       let f : Term1 → TermSpread = λ t. spread_number (term_of t) names in
-      ap first_half (elements_are ts names)
-      ∙ (ap (λ k. take ((k + 1) / 2) (map f ts)) (length-map ts f)
-      ∙ (take-map f ((length ts + 1) / 2) ts ∙ sym (elements_are (take ((length ts + 1) / 2) ts) names)))
+      halved first_half ts (take ((length ts + 1) / 2) ts) (ap (λ k. take ((k + 1) / 2) (map f ts)) (length-map ts f) ∙ take-map f ((length ts + 1) / 2) ts)
 
   second_of : (ts : List Term1) → second_half (spread_of ts) ≡ spread_of (drop ((length ts + 1) / 2) ts)
-  unfolding spread_of
   second_of ts =
       let f : Term1 → TermSpread = λ t. spread_number (term_of t) names in
-      ap second_half (elements_are ts names)
-      ∙ (ap (λ k. drop ((k + 1) / 2) (map f ts)) (length-map ts f)
-      ∙ (drop-map f ((length ts + 1) / 2) ts ∙ sym (elements_are (drop ((length ts + 1) / 2) ts) names)))
+      halved second_half ts (drop ((length ts + 1) / 2) ts) (ap (λ k. drop ((k + 1) / 2) (map f ts)) (length-map ts f) ∙ drop-map f ((length ts + 1) / 2) ts)
 
   -- the set of the elements of both halves
   halves : (S T : TermSpread) (free own : ℕ) (left right : Defined) (core : Core) → IsDefined n Two S (free + 1) left → IsDefined n Two T left.next right → own ≡ n.number Two free →

@@ -15,7 +15,7 @@ use Rattle.ms_lower.specs.NumberLaws.{numbering_in}
 use Rattle.ms_lower.specs.Numbering.{Numbering, number_at, rank, renumbered, renumbered_each, renumbered_in, renumbered_variable, with_new_numbers}
 use Rattle.ms_logic_core.specs.Orders.{order_of_rank}
 use Rattle.ms_logic_core.specs.Stands.{EachStands, RestrictionStands, Stands}
-use Rattle.ms_lower.proofs.SameNumbers.{Rises, basic_variables, import_length, import_variables, numbers_rise}
+use Rattle.ms_lower.proofs.SameNumbers.{Rises, basic_renumbered, import_length, import_variables, numbers_rise}
 
 among_renumbered : (n : Numbering) (scope : List Variable) (v : Variable) → IsAmong scope v → IsAmong (map (renumbered_variable n) scope) (renumbered_variable n v)
 among_renumbered n [] v here = absurd here
@@ -37,7 +37,7 @@ module _ (n : Numbering) (rises : Rises n) where
     stands_renumbered imports scope truth known stands = tt
     stands_renumbered imports scope falsity known stands = tt
     stands_renumbered imports scope (basic b) known stands =
-        subst (Each (IsAmong (map (renumbered_variable n) scope))) (sym (basic_variables n rises b)) (each_among_renumbered n scope (variables_of_basic b) stands)
+        subst (Each (IsAmong (map (renumbered_variable n) scope))) (sym (basic_renumbered n rises b).0) (each_among_renumbered n scope (variables_of_basic b) stands)
     stands_renumbered imports scope (negation f) known stands = stands_renumbered imports scope f known stands
     stands_renumbered imports scope (conjunction fs) known stands = all_renumbered imports scope fs known stands
     stands_renumbered imports scope (disjunction fs) known stands = all_renumbered imports scope fs known stands

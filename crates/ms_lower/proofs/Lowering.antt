@@ -21,9 +21,8 @@ use Rattle.ms_logic.specs.Tree.{Declaration, Form, Predicate, comparison, quanti
 use Rattle.ms_logic.specs.View.{argument_of, formula_of, forms, restriction, set_term_of, term_of}
 use Rattle.ms_logic.proofs.Views.{argument_of-Zero, formula_of-And, formula_of-Or}
 use Rattle.ms_lower.specs.declared.defined.Defined.{Defined}
-use Rattle.ms_lower.specs.declared.pairs.TermPair.{TermPair}
 use Rattle.ms_lower.specs.Callees.{disjunction_over}
-use Rattle.ms_lower.specs.inner.Defined.{AreDefined, below}
+use Rattle.ms_lower.specs.inner.Defined.{IsDefined, below}
 use Rattle.ms_lower.specs.inner.Given.{IsGiven, IsTruth}
 use Rattle.ms_lower.specs.Numbering.{Numbering, renumbered, renumbered_each, renumbered_in}
 use Rattle.ms_lower.proofs.Callees.{IsCallee}
@@ -37,33 +36,24 @@ conjunction_renumbered n [] = refl
 conjunction_renumbered n (f ∷ []) = refl
 conjunction_renumbered n (f ∷ g ∷ fs) = ap conjunction (each_renumbered n (f ∷ g ∷ fs))
 
-numbers_renumbered : (n : Numbering) (rel : Rel) (x y : ℕ) → renumbered n (numbers_relate rel x y) ≡ numbers_relate rel (n.number One x) (n.number One y)
-numbers_renumbered n Equal x y = refl
-numbers_renumbered n Differs x y = refl
-numbers_renumbered n Less x y = refl
-numbers_renumbered n AtMost x y = refl
-numbers_renumbered n Greater x y = refl
-numbers_renumbered n AtLeast x y = refl
-numbers_renumbered n Member x y = refl
-numbers_renumbered n NotMember x y = refl
-numbers_renumbered n Sub x y = refl
+pub relation_renumbered : (n : Numbering) (rel : Rel) (x y : ℕ)
+    → (renumbered n (numbers_relate rel x y) ≡ numbers_relate rel (n.number One x) (n.number One y)) × (renumbered n (sets_relate rel x y) ≡ sets_relate rel (n.number Two x) (n.number Two y))
+relation_renumbered n Equal x y = (refl, refl)
+relation_renumbered n Differs x y = (refl, refl)
+relation_renumbered n Less x y = (refl, refl)
+relation_renumbered n AtMost x y = (refl, refl)
+relation_renumbered n Greater x y = (refl, refl)
+relation_renumbered n AtLeast x y = (refl, refl)
+relation_renumbered n Member x y = (refl, refl)
+relation_renumbered n NotMember x y = (refl, refl)
+relation_renumbered n Sub x y = (refl, refl)
 
-sets_renumbered : (n : Numbering) (rel : Rel) (x y : ℕ) → renumbered n (sets_relate rel x y) ≡ sets_relate rel (n.number Two x) (n.number Two y)
-sets_renumbered n Equal x y = refl
-sets_renumbered n Differs x y = refl
-sets_renumbered n Less x y = refl
-sets_renumbered n AtMost x y = refl
-sets_renumbered n Greater x y = refl
-sets_renumbered n AtLeast x y = refl
-sets_renumbered n Member x y = refl
-sets_renumbered n NotMember x y = refl
-sets_renumbered n Sub x y = refl
-
-two_defined : (n : Numbering) (o p : Order) (S T : TermSpread) (free : ℕ) (two : TermPair) (Rel : ℕ → ℕ → CoreForm) (f : CoreForm) → AreDefined n o S p T free two →
-    f ≡ renumbered n (Rel two.first.name two.second.name) → below two.first (below two.second f) ≡ renumbered n (S free (λ free x. T free (λ free y. Rel x y)))
-two_defined n o p S T free two Rel f are is =
-    ap (λ g. below two.first (below two.second g)) is
-    ∙ (ap (below two.first) (sym (are.second.says (λ free y. Rel two.first.name y))) ∙ sym (are.first.says (λ free x. T free (λ free y. Rel x y))))
+-- a relation of two terms, below the binders of what they are
+pub relation_lowered : (n : Numbering) (o p : Order) (S T : TermSpread) (free : ℕ) (Rel : ℕ → ℕ → CoreForm) (first second : Defined) (made body : CoreForm) → ((x y : ℕ) → renumbered n (Rel x y) ≡ Rel (n.number o x) (n.number p y)) →
+    IsDefined n o S free first → IsDefined n p T first.next second → body ≡ Rel first.number second.number → made ≡ below first (below second body) → made ≡ renumbered n (S free (λ free x. T free (λ free y. Rel x y)))
+relation_lowered n o p S T free Rel first second made body renumbers one two body_is made_is =
+    made_is ∙ ap (λ f. below first (below second f)) (body_is ∙ ap (λ x. Rel x second.number) one.number_is ∙ ap (Rel (n.number o first.name)) two.number_is ∙ sym (renumbers first.name second.name))
+    ∙ (ap (below first) (sym (two.says (λ free y. Rel first.name y))) ∙ sym (one.says (λ free x. T free (λ free y. Rel x y))))
 
 module _ (n : Numbering) (c : Callees) (names : Names) (free : ℕ) (source : Formula) where
   pub and_lowered : (fs all : List Formula) (cores : List Core) → source ≡ form.And fs → all ≡ fs → map core_form_of cores ≡ map (renumbered n) (spread_each c (forms (map formula_of all)) names free) →
@@ -83,18 +73,6 @@ module _ (n : Numbering) (c : Callees) (names : Names) (free : ℕ) (source : Fo
       ∙ ap (λ f. renumbered n (spread_under c f names free)) (sym (ap formula_of is ∙ formula_of-Or fs))))
 
 module _ (n : Numbering) (c : Callees) (names : Names) (free : ℕ) where
-  pub compare_lowered : (rel : Rel) (t u : Term1) (two : TermPair) → AreDefined n One (spread_number (term_of t) names) One (spread_number (term_of u) names) free two →
-      below two.first (below two.second (numbers_relate rel two.first.number two.second.number)) ≡ renumbered n (spread_under c (comparison rel (term_of t) (term_of u)) names free)
-  compare_lowered rel t u two are =
-      two_defined n One One (spread_number (term_of t) names) (spread_number (term_of u) names) free two (numbers_relate rel) (numbers_relate rel two.first.number two.second.number) are
-      (ap (λ x. numbers_relate rel x two.second.number) are.first.number_is ∙ (ap (numbers_relate rel (n.number One two.first.name)) are.second.number_is ∙ sym (numbers_renumbered n rel two.first.name two.second.name)))
-
-  pub compare_sets_lowered : (rel : Rel) (s t : Term2) (two : TermPair) → AreDefined n Two (spread_set (set_term_of s) names) Two (spread_set (set_term_of t) names) free two →
-      below two.first (below two.second (sets_relate rel two.first.number two.second.number)) ≡ renumbered n (spread_under c (set_comparison rel (set_term_of s) (set_term_of t)) names free)
-  compare_sets_lowered rel s t two are =
-      two_defined n Two Two (spread_set (set_term_of s) names) (spread_set (set_term_of t) names) free two (sets_relate rel) (sets_relate rel two.first.number two.second.number) are
-      (ap (λ x. sets_relate rel x two.second.number) are.first.number_is ∙ (ap (sets_relate rel (n.number Two two.first.name)) are.second.number_is ∙ sym (sets_renumbered n rel two.first.name two.second.name)))
-
   pub bind_lowered : (q : Quant) (o : Order) (x : ℕ) (d : Option Formula) (f : Formula) (inner deeper : Names) (number : ℕ) (domain : CoreRestriction) (body : CoreForm) →
       inner ≡ named o x free names → deeper ≡ inner → number ≡ n.number o free → domain ≡ renumbered_in n (spread_restriction c (restriction (option_map formula_of d)) inner (free + 1)) →
       body ≡ renumbered n (spread_under c (formula_of f) deeper (free + 1)) →

@@ -21,7 +21,7 @@ use Rattle.ms_lower.specs.Callees.{callees_in}
 use Rattle.ms_lower.specs.NumberedRoots.{NumberedRoot, main_over, numbering_over, renumbered_root, root_of_forms}
 use Rattle.ms_lower.specs.Numbering.{Numbering, number_at, numbering_of, rank, renumbered, variables_at}
 use Rattle.ms_lower.proofs.Lowering.{conjunction_renumbered}
-use Rattle.ms_lower.proofs.Operands.{restrictions-append, spread_each-append}
+use Rattle.ms_lower.proofs.Operands.{restrictions-more, spread_each-append}
 
 global_at : ℕ → Global → Declaration
 global_at name g = record { variable = record { name = name; order = g.order }; restriction = restriction (option_map formula_of g.domain) }
@@ -39,31 +39,11 @@ globals-more gs i g below is =
 
 module _ (n : Numbering) (c : Callees) (names : Names) (free : ℕ) where
   -- one global more
-  pub global-restricted : (gs : List Global) (i : ℕ) (g : Global) (cores made : List Core) (core : Core) (d : Formula) → i < length gs → g ≡ get_or gs i g → g.domain ≡ Some d →
-      map core_form_of cores ≡ map (renumbered n) (restrictions_of c (globals_from 0 (take i gs)) names free) → core_form_of core ≡ restrict (renumbered n (spread_under c (formula_of d) names free)) →
-      made ≡ cores ++ core ∷ [] → map core_form_of made ≡ map (renumbered n) (restrictions_of c (globals_from 0 (take (i + 1) gs)) names free)
+  pub global-more : (gs : List Global) (i : ℕ) (g : Global) (there : Names) (before after : List CoreForm) → i < length gs → g ≡ get_or gs i g → there ≡ names →
+      before ≡ map (renumbered n) (restrictions_of c (globals_from 0 (take i gs)) names free) → after ≡ before ++ map (renumbered n) (restriction_before c (restriction (option_map formula_of g.domain)) there free []) →
+      after ≡ map (renumbered n) (restrictions_of c (globals_from 0 (take (i + 1) gs)) names free)
   unfolding global_at
-  global-restricted gs i g cores made core d below is domain before one made_is =
-      let front = restrictions_of c (globals_from 0 (take i gs)) names free in
-      ap (map core_form_of) made_is
-      ∙ (map-append core_form_of cores (core ∷ [])
-      ∙ (ap (λ l. l ++ core_form_of core ∷ []) before
-      ∙ (ap (λ k. map (renumbered n) (restrictions_of c (globals_from 0 (take i gs)) names free) ++ k ∷ []) one
-      ∙ (sym (map-append (renumbered n) (restrictions_of c (globals_from 0 (take i gs)) names free) (restrict (spread_under c (formula_of d) names free) ∷ []))
-      ∙ (ap (λ o. map (renumbered n) (restrictions_of c (globals_from 0 (take i gs)) names free ++ restriction_before c (restriction (option_map formula_of o)) names free [])) (sym domain)
-      ∙ (ap (map (renumbered n)) (sym (restrictions-append n c names free (globals_from 0 (take i gs)) (global_at (0 + length (take i gs)) g)))
-      ∙ ap (λ l. map (renumbered n) (restrictions_of c l names free)) (sym (globals-more gs i g below is))))))))
-
-  pub global-free : (gs : List Global) (i : ℕ) (g : Global) (cores : List Core) → i < length gs → g ≡ get_or gs i g → g.domain ≡ None →
-      map core_form_of cores ≡ map (renumbered n) (restrictions_of c (globals_from 0 (take i gs)) names free) →
-      map core_form_of cores ≡ map (renumbered n) (restrictions_of c (globals_from 0 (take (i + 1) gs)) names free)
-  unfolding global_at
-  global-free gs i g cores below is domain before =
-      before
-      ∙ (ap (map (renumbered n)) (sym (append-nil (restrictions_of c (globals_from 0 (take i gs)) names free)))
-      ∙ (ap (λ o. map (renumbered n) (restrictions_of c (globals_from 0 (take i gs)) names free ++ restriction_before c (restriction (option_map formula_of o)) names free [])) (sym domain)
-      ∙ (ap (map (renumbered n)) (sym (restrictions-append n c names free (globals_from 0 (take i gs)) (global_at (0 + length (take i gs)) g)))
-      ∙ ap (λ l. map (renumbered n) (restrictions_of c l names free)) (sym (globals-more gs i g below is)))))
+  global-more gs i g there before after below is = restrictions-more n c names free (globals_from 0 (take i gs)) (globals_from 0 (take (i + 1) gs)) (global_at (0 + length (take i gs)) g) there before after (globals-more gs i g below is)
 
   -- one formula more
   pub placed-more : (ps : List Placed) (p : Placed) (cores made : List Core) (core : Core) →

@@ -37,25 +37,11 @@ module _ (n : Numbering) (c : Callees) (names : Names) (free : ℕ) where
   restrictions-append [] d = refl
   restrictions-append (e ∷ ds) d = ap (restriction_before c e.restriction names free) (restrictions-append ds d) ∙ before-append e.restriction (restrictions_of c ds names free) (restriction_before c d.restriction names free [])
 
-  pub restriction-more : (ps : List Param) (i : ℕ) (p : Param) (cores made : List Core) (core : Core) (d : Formula) → i < length ps → p ≡ get_or ps i p → p.domain ≡ Some d →
-      map core_form_of cores ≡ map (renumbered n) (restrictions_of c (map declaration_of (take i ps)) names free) → core_form_of core ≡ restrict (renumbered n (spread_under c (formula_of d) names free)) →
-      made ≡ cores ++ core ∷ [] → map core_form_of made ≡ map (renumbered n) (restrictions_of c (map declaration_of (take (i + 1) ps)) names free)
-  restriction-more ps i p cores made core d below is domain before one made_is =
-      ap (map core_form_of) made_is
-      ∙ (map-append core_form_of cores (core ∷ [])
-      ∙ (ap (λ l. l ++ core_form_of core ∷ []) before
-      ∙ (ap (λ k. map (renumbered n) (restrictions_of c (map declaration_of (take i ps)) names free) ++ k ∷ []) one
-      ∙ (sym (map-append (renumbered n) (restrictions_of c (map declaration_of (take i ps)) names free) (restrict (spread_under c (formula_of d) names free) ∷ []))
-      ∙ (ap (λ o. map (renumbered n) (restrictions_of c (map declaration_of (take i ps)) names free ++ restriction_before c (restriction (option_map formula_of o)) names free [])) (sym domain)
-      ∙ (ap (map (renumbered n)) (sym (restrictions-append (map declaration_of (take i ps)) (declaration_of p)))
-      ∙ ap (λ l. map (renumbered n) (restrictions_of c l names free)) (sym (map-more declaration_of ps i p below is))))))))
-
-  pub restriction-none : (ps : List Param) (i : ℕ) (p : Param) (cores : List Core) → i < length ps → p ≡ get_or ps i p → p.domain ≡ None →
-      map core_form_of cores ≡ map (renumbered n) (restrictions_of c (map declaration_of (take i ps)) names free) →
-      map core_form_of cores ≡ map (renumbered n) (restrictions_of c (map declaration_of (take (i + 1) ps)) names free)
-  restriction-none ps i p cores below is domain before =
-      before
-      ∙ (ap (map (renumbered n)) (sym (append-nil (restrictions_of c (map declaration_of (take i ps)) names free)))
-      ∙ (ap (λ o. map (renumbered n) (restrictions_of c (map declaration_of (take i ps)) names free ++ restriction_before c (restriction (option_map formula_of o)) names free [])) (sym domain)
-      ∙ (ap (map (renumbered n)) (sym (restrictions-append (map declaration_of (take i ps)) (declaration_of p)))
-      ∙ ap (λ l. map (renumbered n) (restrictions_of c l names free)) (sym (map-more declaration_of ps i p below is)))))
+  -- the restrictions of a list that has one declaration more, whose restriction is read under names that are the same
+  pub restrictions-more : (ds all : List Declaration) (d : Declaration) (there : Names) (before after : List CoreForm) → all ≡ ds ++ d ∷ [] → there ≡ names →
+      before ≡ map (renumbered n) (restrictions_of c ds names free) → after ≡ before ++ map (renumbered n) (restriction_before c d.restriction there free []) → after ≡ map (renumbered n) (restrictions_of c all names free)
+  restrictions-more ds all d there before after all_are same so_far more =
+      more ∙ ap (λ m. before ++ map (renumbered n) (restriction_before c d.restriction m free [])) same
+      ∙ (ap (λ l. l ++ map (renumbered n) (restriction_before c d.restriction names free [])) so_far
+      ∙ (sym (map-append (renumbered n) (restrictions_of c ds names free) (restriction_before c d.restriction names free []))
+      ∙ (ap (map (renumbered n)) (sym (restrictions-append ds d)) ∙ ap (λ l. map (renumbered n) (restrictions_of c l names free)) (sym all_are))))

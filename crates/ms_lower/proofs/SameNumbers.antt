@@ -86,37 +86,22 @@ module _ (n : Numbering) (rises : Rises n) where
   same_variables pairs scope [] agrees all = tt
   same_variables pairs scope (v ∷ vs) agrees all = (refl, agrees v all.0, same_variables pairs scope vs agrees all.1)
 
-  pub basic_variables : (b : Basic) → variables_of_basic (renumbered_basic n b) ≡ map (renumbered_variable n) (variables_of_basic b)
-  basic_variables (Truth a) = refl
-  basic_variables (Number x k) = refl
-  basic_variables (Plus x y k) = refl
-  basic_variables (Less x y) = refl
-  basic_variables (Member x s) = refl
-  basic_variables (Sub s t) = refl
-  basic_variables (Union s t u) = refl
-  basic_variables (Inter s t u) = refl
-  basic_variables (Diff s t u) = refl
-  basic_variables (Up s t k) = refl
-  basic_variables (Down s t k) = refl
-  basic_variables (Min x s) = refl
-  basic_variables (Max x s) = refl
-  basic_variables (Bits s k) = refl
-
-  basic_places : (b : Basic) → at_places b ≡ at_places (renumbered_basic n b)
-  basic_places (Truth a) = refl
-  basic_places (Number x k) = refl
-  basic_places (Plus x y k) = refl
-  basic_places (Less x y) = refl
-  basic_places (Member x s) = refl
-  basic_places (Sub s t) = refl
-  basic_places (Union s t u) = refl
-  basic_places (Inter s t u) = refl
-  basic_places (Diff s t u) = refl
-  basic_places (Up s t k) = refl
-  basic_places (Down s t k) = refl
-  basic_places (Min x s) = refl
-  basic_places (Max x s) = refl
-  basic_places (Bits s k) = refl
+  -- renumbering maps the variables of a basic relation, and keeps whether it speaks of places
+  pub basic_renumbered : (b : Basic) → (variables_of_basic (renumbered_basic n b) ≡ map (renumbered_variable n) (variables_of_basic b)) × (at_places b ≡ at_places (renumbered_basic n b))
+  basic_renumbered (Truth a) = (refl, refl)
+  basic_renumbered (Number x k) = (refl, refl)
+  basic_renumbered (Plus x y k) = (refl, refl)
+  basic_renumbered (Less x y) = (refl, refl)
+  basic_renumbered (Member x s) = (refl, refl)
+  basic_renumbered (Sub s t) = (refl, refl)
+  basic_renumbered (Union s t u) = (refl, refl)
+  basic_renumbered (Inter s t u) = (refl, refl)
+  basic_renumbered (Diff s t u) = (refl, refl)
+  basic_renumbered (Up s t k) = (refl, refl)
+  basic_renumbered (Down s t k) = (refl, refl)
+  basic_renumbered (Min x s) = (refl, refl)
+  basic_renumbered (Max x s) = (refl, refl)
+  basic_renumbered (Bits s k) = (refl, refl)
 
   pub import_variables : (xs : List ℕ) (vs : List Variable) → variables_at (map (λ p. n.number p.1.order p.0) (zip xs vs)) vs ≡ map (renumbered_variable n) (variables_at xs vs)
   import_variables [] vs = refl
@@ -134,7 +119,7 @@ module _ (n : Numbering) (rises : Rises n) where
     same_renumbered imports pairs scope truth known agrees stands = tt
     same_renumbered imports pairs scope falsity known agrees stands = tt
     same_renumbered imports pairs scope (basic b) known agrees stands =
-        (basic_places b, subst (SameVariables pairs (variables_of_basic b)) (sym (basic_variables b)) (same_variables pairs scope (variables_of_basic b) agrees stands))
+        ((basic_renumbered b).1, subst (SameVariables pairs (variables_of_basic b)) (sym (basic_renumbered b).0) (same_variables pairs scope (variables_of_basic b) agrees stands))
     same_renumbered imports pairs scope (negation f) known agrees stands = same_renumbered imports pairs scope f known agrees stands
     same_renumbered imports pairs scope (conjunction fs) known agrees stands = each_renumbered imports pairs scope fs known agrees stands
     same_renumbered imports pairs scope (disjunction fs) known agrees stands = each_renumbered imports pairs scope fs known agrees stands

@@ -10,6 +10,7 @@ ghost use Rattle.std.specs.Prelude.{◌≡◌, map, IfOk, OnOk};
 
 use crate::formulas::formula;
 use crate::relations::{conjunction, constant, restricted};
+use crate::restriction::push_restriction;
 use crate::scope::{Named, Scope};
 use crate::tables::Tables;
 use crate::truths::enter_named;
@@ -79,13 +80,7 @@ fn restrictions(
 {
     let mut cores = List::new(tables.alloc);
     for param in params {
-        match &param.domain {
-            None => {}
-            Some(domain) => {
-                let core = formula(tables, scope, domain, free)?;
-                push(&mut cores, restricted(tables.alloc, core)?.into_inner())?;
-            }
-        }
+        push_restriction(tables, scope, &mut cores, &param.domain, free)?;
     }
     Ok(cores)
 }

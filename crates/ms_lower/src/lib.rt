@@ -21,6 +21,7 @@ mod orders;
 mod pairs;
 mod predicate_extents;
 mod relations;
+mod restriction;
 mod scope;
 mod source;
 mod source_extents;

@@ -10,7 +10,8 @@ ghost use Rattle.std.specs.Prelude.{◌≡◌, ◌++◌, filter, length, map, If
 
 use crate::exports::joined;
 use crate::formulas::formula;
-use crate::relations::{conjunction, restricted};
+use crate::relations::conjunction;
+use crate::restriction::push_restriction;
 use crate::scope::Scope;
 use crate::tables::Tables;
 use ms_list::{List, NoMemory, push};
@@ -29,13 +30,7 @@ pub fn global_restrictions(
     let mut scope = Scope::new(tables.alloc);
     let mut cores = List::new(tables.alloc);
     for global in globals {
-        match &global.domain {
-            None => {}
-            Some(domain) => {
-                let core = formula(tables, &mut scope, domain, free)?;
-                push(&mut cores, restricted(tables.alloc, core)?.into_inner())?;
-            }
-        }
+        push_restriction(tables, &mut scope, &mut cores, &global.domain, free)?;
     }
     Ok(cores)
 }

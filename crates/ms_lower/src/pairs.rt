@@ -1,11 +1,8 @@
 ghost use Rattle.ms_logic_core.specs.CoreForm.{core_form_of};
-ghost use Rattle.ms_logic_core.specs.Spread.{spread_number, spread_set};
 ghost use Rattle.ms_logic.specs.Tree as tree;
 ghost use Rattle.ms_logic.specs.View.{set_term_of, term_of};
-ghost use Rattle.ms_logic.specs.declared.mode.Order.TheVariants.{One, Two};
 ghost use Rattle.ms_lower.specs.Callees.{spread_in};
-ghost use Rattle.ms_lower.specs.inner.Defined.{AreDefined, below};
-ghost use Rattle.ms_lower.specs.Numbering.{numbering_of};
+ghost use Rattle.ms_lower.specs.inner.Defined.{below};
 ghost use Rattle.ms_lower.specs.inner.Scope.{names_in};
 ghost use Rattle.std.specs.Prelude.{◌≡◌, IfOk};
 
@@ -20,68 +17,15 @@ use ms_logic::{Rel, Term1, Term2};
 use ms_logic_core::{Basic, Core};
 use std::alloc::Global;
 
-/// The variables that two terms are, the first around the second.
-#[derive(Drop)]
-pub struct TermPair {
-    pub first: Defined,
-    pub second: Defined,
-}
-
-// Two numbers.
-fn two_numbers(
-    tables: &Tables,
-    scope: &Scope,
-    first: &Term1,
-    second: &Term1,
-    free: u64,
-) -> Result<TermPair, NoMemory>
-    ensures { IfOk result (AreDefined (numbering_of tables.now)
-        One (spread_number (term_of first.now) (names_in scope.now))
-        One (spread_number (term_of second.now) (names_in scope.now)) free) }
+/// A formula over what two terms are, the first around the second.
+fn over_two(
+    alloc: Global,
+    first: Defined,
+    second: Defined,
+    body: Boxed<Core>,
+) -> Result<Boxed<Core>, NoMemory>
+    ensures { IfOk result (λ core. core_form_of core ≡ below first (below second (core_form_of body))) }
 {
-    let first = define_number(tables, scope, first, free)?;
-    let second = define_number(tables, scope, second, first.next)?;
-    Ok(TermPair { first, second })
-}
-
-// Two sets.
-fn two_sets(
-    tables: &Tables,
-    scope: &Scope,
-    first: &Term2,
-    second: &Term2,
-    free: u64,
-) -> Result<TermPair, NoMemory>
-    ensures { IfOk result (AreDefined (numbering_of tables.now)
-        Two (spread_set (set_term_of first.now) (names_in scope.now))
-        Two (spread_set (set_term_of second.now) (names_in scope.now)) free) }
-{
-    let first = define_set(tables, scope, first, free)?;
-    let second = define_set(tables, scope, second, first.next)?;
-    Ok(TermPair { first, second })
-}
-
-// A number and a set.
-fn number_and_set(
-    tables: &Tables,
-    scope: &Scope,
-    first: &Term1,
-    second: &Term2,
-    free: u64,
-) -> Result<TermPair, NoMemory>
-    ensures { IfOk result (AreDefined (numbering_of tables.now)
-        One (spread_number (term_of first.now) (names_in scope.now))
-        Two (spread_set (set_term_of second.now) (names_in scope.now)) free) }
-{
-    let first = define_number(tables, scope, first, free)?;
-    let second = define_set(tables, scope, second, first.next)?;
-    Ok(TermPair { first, second })
-}
-
-fn over_two(alloc: Global, two: TermPair, body: Boxed<Core>) -> Result<Boxed<Core>, NoMemory>
-    ensures { IfOk result (λ core. core_form_of core ≡ below two.first (below two.second (core_form_of body))) }
-{
-    let TermPair { first, second } = two;
     let body = over(alloc, second, body)?;
     over(alloc, first, body)
 }
@@ -98,9 +42,10 @@ pub fn comparison(
     ensures { IfOk result (λ core. core_form_of core ≡ spread_in tables.now
         (tree.comparison rel (term_of sides.entry.0.now) (term_of sides.entry.1.now)) (names_in scope.now) free) }
 {
-    let two = two_numbers(tables, scope, sides.0, sides.1, free)?;
-    let relates = number_relation(tables.alloc, rel, two.first.number, two.second.number)?;
-    over_two(tables.alloc, two, relates)
+    let first = define_number(tables, scope, sides.0, free)?;
+    let second = define_number(tables, scope, sides.1, first.next)?;
+    let relates = number_relation(tables.alloc, rel, first.number, second.number)?;
+    over_two(tables.alloc, first, second, relates)
 }
 
 /// A relation of two terms for sets.
@@ -115,9 +60,10 @@ pub fn set_comparison(
     ensures { IfOk result (λ core. core_form_of core ≡ spread_in tables.now
         (tree.set_comparison rel (set_term_of sides.entry.0.now) (set_term_of sides.entry.1.now)) (names_in scope.now) free) }
 {
-    let two = two_sets(tables, scope, sides.0, sides.1, free)?;
-    let relates = set_relation(tables.alloc, rel, two.first.number, two.second.number)?;
-    over_two(tables.alloc, two, relates)
+    let first = define_set(tables, scope, sides.0, free)?;
+    let second = define_set(tables, scope, sides.1, first.next)?;
+    let relates = set_relation(tables.alloc, rel, first.number, second.number)?;
+    over_two(tables.alloc, first, second, relates)
 }
 
 /// `in` of a term for a number and a term for a set, or where it is not positive `notin`.
@@ -132,10 +78,11 @@ pub fn membership(
     ensures { IfOk result (λ core. core_form_of core ≡ spread_in tables.now
         (tree.membership positive (term_of sides.entry.0.now) (set_term_of sides.entry.1.now)) (names_in scope.now) free) }
 {
-    let two = number_and_set(tables, scope, sides.0, sides.1, free)?;
-    let member = Basic::Member(two.first.number, two.second.number);
+    let first = define_number(tables, scope, sides.0, free)?;
+    let second = define_set(tables, scope, sides.1, first.next)?;
+    let member = Basic::Member(first.number, second.number);
     let relates = relate(tables.alloc, member, positive)?;
-    over_two(tables.alloc, two, relates)
+    over_two(tables.alloc, first, second, relates)
 }
 
 /// `empty` of a term for a set.

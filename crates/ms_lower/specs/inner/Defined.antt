@@ -10,7 +10,6 @@ use Rattle.ms_lower.specs.declared.cores.Bound.{Bound}
 use Rattle.ms_logic_core.specs.CoreForm.{CoreForm, core_form_of, quantified, restricted}
 use Rattle.ms_logic_core.specs.Spread.{Saying, TermSpread}
 use Rattle.ms_lower.specs.declared.defined.Defined.{Defined}
-use Rattle.ms_lower.specs.declared.pairs.TermPair.{TermPair}
 use Rattle.ms_lower.specs.Numbering.{Numbering, renumbered}
 
 -- a formula below the binder of a new variable, if the variable is new: it has what it is restricted to be
@@ -34,8 +33,3 @@ new_definition order free number definition = record { order = order; name = fre
 -- a binder of a number
 abbrev pub number_binder : Quant → ℕ → Bound
 number_binder quant number = record { quant = quant; order = One; number = number }
-
--- two terms are these variables, the first around the second
-pub record AreDefined (n : Numbering) (o : Order) (S : TermSpread) (p : Order) (T : TermSpread) (free : ℕ) (two : TermPair) : Type 0 where
-  pub first : IsDefined n o S free two.first
-  pub second : IsDefined n p T two.first.next two.second

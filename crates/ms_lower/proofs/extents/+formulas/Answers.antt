@@ -6,7 +6,7 @@ use Rattle.ms_logic.proofs.Views.{formula_of-And, formula_of-Or, formula_of-Impl
 use Rattle.ms_lower.proofs.Trees.{formula_of-Bind}
 use Rattle.ms_lower.specs.Counted.{counted}
 use Rattle.ms_lower.specs.inner.Extents.{known_extents}
-use Rattle.ms_lower.proofs.Counting.{beyond, node, pair}
+use Rattle.ms_lower.proofs.Counting.{beyond, node, node_of_two, pair}
 use Rattle.ms_lower.proofs.Positive.{form_positive}
 use Rattle.ms_lower.proofs.extents.+formulas.Goals as goal
 
@@ -37,28 +37,14 @@ count_formula-returns-in-Or t c =
 pub count_formula-returns-in-Implies : goal.count_formula-returns-in-Implies
 count_formula-returns-in-Implies t c =
     let x = known_extents c.args.known.now in
-    let l = extent_under x (formula_of c.in-Implies.left) in
-    let r = extent_under x (formula_of c.in-Implies.right) in
-    node c.args.limit c.in_ok-below.below (l ∷ r ∷ []) (extent_under x (formula_of c.args.formula.now)) c.both.result c.above-in-Implies.result
-    c.above-in-Implies.ensures
-    (pair c.in_ok-below.below (l ∷ []) (r ∷ []) c.count_formula-left.result c.count_formula-in-Implies.result c.both.result c.both.ensures
-    (c.count_formula-left.ensures ∙ ap (λ f. counted c.in_ok-below.below (extent_under x (formula_of f) ∷ [])) c.get-in-Implies.ensures)
-    (c.count_formula-in-Implies.ensures ∙ ap (λ f. counted c.in_ok-below.below (extent_under x (formula_of f) ∷ [])) c.get-in-Implies-2.ensures))
-    (ap (λ f. extent_under x (formula_of f)) c.in-Implies.is ∙ ap (extent_under x) (formula_of-Implies c.in-Implies.left c.in-Implies.right))
-    (omega arith) (omega arith)
+    node_of_two (λ f. extent_under x (formula_of f)) c.args.limit c.in_ok-below.below _ _ _ _ _ _ _ _ _ c.both.ensures c.count_formula-left.ensures c.get-in-Implies.ensures c.count_formula-in-Implies.ensures c.get-in-Implies-2.ensures c.above-in-Implies.ensures
+    (ap (λ f. extent_under x (formula_of f)) c.in-Implies.is ∙ ap (extent_under x) (formula_of-Implies c.in-Implies.left c.in-Implies.right)) (omega arith) (omega arith)
 
 pub count_formula-returns-in-Iff : goal.count_formula-returns-in-Iff
 count_formula-returns-in-Iff t c =
     let x = known_extents c.args.known.now in
-    let l = extent_under x (formula_of c.in-Iff.left) in
-    let r = extent_under x (formula_of c.in-Iff.right) in
-    node c.args.limit c.in_ok-below.below (l ∷ r ∷ []) (extent_under x (formula_of c.args.formula.now)) c.both-in-Iff.result c.above-in-Iff.result
-    c.above-in-Iff.ensures
-    (pair c.in_ok-below.below (l ∷ []) (r ∷ []) c.count_formula-left-in-Iff.result c.count_formula-in-Iff.result c.both-in-Iff.result c.both-in-Iff.ensures
-    (c.count_formula-left-in-Iff.ensures ∙ ap (λ f. counted c.in_ok-below.below (extent_under x (formula_of f) ∷ [])) c.get-in-Iff.ensures)
-    (c.count_formula-in-Iff.ensures ∙ ap (λ f. counted c.in_ok-below.below (extent_under x (formula_of f) ∷ [])) c.get-in-Iff-2.ensures))
-    (ap (λ f. extent_under x (formula_of f)) c.in-Iff.is ∙ ap (extent_under x) (formula_of-Iff c.in-Iff.left c.in-Iff.right))
-    (omega arith) (omega arith)
+    node_of_two (λ f. extent_under x (formula_of f)) c.args.limit c.in_ok-below.below _ _ _ _ _ _ _ _ _ c.both-in-Iff.ensures c.count_formula-left-in-Iff.ensures c.get-in-Iff.ensures c.count_formula-in-Iff.ensures c.get-in-Iff-2.ensures c.above-in-Iff.ensures
+    (ap (λ f. extent_under x (formula_of f)) c.in-Iff.is ∙ ap (extent_under x) (formula_of-Iff c.in-Iff.left c.in-Iff.right)) (omega arith) (omega arith)
 
 pub count_formula-returns-in-Bind : goal.count_formula-returns-in-Bind
 count_formula-returns-in-Bind t c =

@@ -1,15 +1,11 @@
-use Rattle.std.proofs.Common.{ap, ◌∙◌}
 use Rattle.std.proofs.lemmas.Result.{IfOk-weaker}
-use Rattle.ms_lower.specs.Callees.{callees_in}
+use Rattle.ms_logic.specs.declared.mode.Order.TheVariants.{Two}
+use Rattle.ms_logic_core.specs.Spread.{sets_relate}
 use Rattle.ms_lower.specs.Numbering.{numbering_of}
-use Rattle.ms_lower.specs.inner.Defined.{below}
-use Rattle.ms_lower.specs.inner.Scope.{names_in}
-use Rattle.ms_lower.proofs.Lowering.{compare_sets_lowered}
+use Rattle.ms_lower.proofs.Lowering.{relation_lowered, relation_renumbered}
 use Rattle.ms_lower.proofs.pairs.set_comparison.Goals as goal
 
 pub returns : goal.returns
 returns c =
-    let T = c.args.tables.now in
-    let two = c.in_ok-two.two in
-    IfOk-weaker c.over_two.result _ _ (λ core is. is ∙ ap (λ f. below two.first (below two.second f)) c.in_ok-relates.ensures
-    ∙ compare_sets_lowered (numbering_of T) (callees_in T) (names_in c.args.scope.now) c.args.free c.args.rel c.args.sides.0.now c.args.sides.1.now two c.in_ok-two.ensures) c.over_two.ensures
+    let n = numbering_of c.args.tables.now in
+    IfOk-weaker c.over_two.result _ _ (λ core. relation_lowered n Two Two _ _ c.args.free (sets_relate c.args.rel) c.in_ok-first.first c.in_ok-second.second _ _ (λ x y. (relation_renumbered n c.args.rel x y).1) c.in_ok-first.ensures c.in_ok-second.ensures c.in_ok-relates.ensures) c.over_two.ensures
