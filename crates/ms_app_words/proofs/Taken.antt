@@ -6,22 +6,12 @@ use Rattle.ms_app_words.specs.Command.{app_for}
 use Rattle.ms_app_words.specs.declared.command.Verb.{Verb}
 use Rattle.ms_app_words.specs.declared.command.Verb.TheVariants.{Decide, Same, Gen, Ltl, Presburger, Check, Certify}
 
-pub app_is_simple : (verb : Verb) → is_simple (app_for verb) ≡ true
+pub app_is_taken : (verb : Verb) → (is_simple (app_for verb) ≡ true) × (is_simple_and_free (app_for verb) ≡ true)
 unfolding clap_on_literals
-app_is_simple Decide = refl
-app_is_simple Same = refl
-app_is_simple Gen = refl
-app_is_simple Ltl = refl
-app_is_simple Presburger = refl
-app_is_simple Check = refl
-app_is_simple Certify = refl
-
-pub app_is_free : (verb : Verb) → is_simple_and_free (app_for verb) ≡ true
-unfolding clap_on_literals
-app_is_free Decide = refl
-app_is_free Same = refl
-app_is_free Gen = refl
-app_is_free Ltl = refl
-app_is_free Presburger = refl
-app_is_free Check = refl
-app_is_free Certify = refl
+app_is_taken Decide = (refl, refl)
+app_is_taken Same = (refl, refl)
+app_is_taken Gen = (refl, refl)
+app_is_taken Ltl = (refl, refl)
+app_is_taken Presburger = (refl, refl)
+app_is_taken Check = (refl, refl)
+app_is_taken Certify = (refl, refl)

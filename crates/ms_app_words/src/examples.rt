@@ -1,4 +1,5 @@
 //! Worked examples of words. The functions have empty bodies, and their contracts state the examples.
+#![tactic(auto, unfolding(clap::proofs::OnLiterals::clap_on_literals))]
 
 ghost use Rattle.std.specs.Prelude.{◌≡◌, [], codes, false, true, None, Some};
 ghost use Rattle.clap.specs.Words.{fault_of, first_of, matches_of};
