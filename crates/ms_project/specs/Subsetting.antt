@@ -1,5 +1,5 @@
 -- The sets that a subset construction has found, in a store of their own that holds the diagrams over all variables.
-use Rattle.std.specs.Prelude.{◌≡◌, ◌≢◌, ◌⊎◌, ℕ, ◌+◌, ◌<◌, ◌≤◌, Bool, List, [], length, Contains, slice_get, slice_index, Option, Some, None, Result, Ok, Err, Vec}
+use Rattle.std.specs.Prelude.{◌≡◌, ◌≢◌, ◌⊎◌, ℕ, ◌+◌, ◌<◌, ◌≤◌, Bool, List, [], length, Contains, slice_get, slice_index, Option, Some, None, Result, Ok, Err}
 use Rattle.ms_list.specs.declared.fault.StepFault.{StepFault}
 use Rattle.ms_list.specs.declared.fault.StepFault.TheVariants.{Nodes, Memory}
 use Rattle.ms_arena.specs.declared.node.Ref.{Ref}
@@ -7,6 +7,7 @@ use Rattle.ms_arena.specs.declared.node.Node.{Node}
 use Rattle.ms_arena.specs.Bits.{with_bit}
 use Rattle.ms_arena.specs.Diagram.{Bits, leaf_of, IsValid, IsOrdered, IsReduced}
 use Rattle.ms_arena.specs.Target.{Target, Extends}
+use Rattle.ms_diagram.specs.declared.root_list.RootList.{RootList}
 use Rattle.ms_diagram.specs.Bring.{RenamedLeaf, Renames}
 use Rattle.ms_diagram.specs.Collect.{IsRisingSet, IsSetNumbering}
 use Rattle.ms_diagram.specs.Growth.{Builds}
@@ -97,7 +98,7 @@ pub record IsReadyForSets (v : Subsetting) : Type 0 where
 
 -- what has been noted is right: of lists of references what they have become in the own store, and of its nodes what they have
 -- become over the places of the rest
-abbrev pub AreNoted : {A : Type 0} → Subsetting → List Node → List (Vec Ref A × Ref) → List (ℕ × Ref) → Type 0
+abbrev pub AreNoted : Subsetting → List Node → List (RootList × Ref) → List (ℕ × Ref) → Type 0
 AreNoted v nodes lists places = AreCollected v.inner.nodes v.sets v.bound lists × AreBrought v.inner.nodes v.back nodes places
 
 -- the same construction with more sets, and with the nodes that they need
