@@ -1,11 +1,13 @@
 -- What a step finds: what it takes, it takes whatever follows that may follow, at this limit of the depth and above it; where
 -- it is stuck, what it has taken by then can be followed, and with the symbol at fault it cannot.
-use Rattle.std.proofs.Common.{◌≡◌, ℕ, suc, ◌+◌, ◌≤◌, max, leb, Bool, true, false, cond, ◌⊎◌, inl, inr, List, [], ◌∷◌, ◌++◌, length, None, refl, sym, ap, ◌∙◌, subst, arith}
+use Rattle.std.proofs.Common.{◌≡◌, ℕ, suc, ◌+◌, ◌≤◌, max, leb, Bool, true, false, cond, ◌⊎◌, inl, inr, List, [], ◌∷◌, ◌++◌, length, Option, Some, None, refl, sym, ap, ◌∙◌, subst, arith}
 use Rattle.std.proofs.lemmas.Bool.{le-leb, leb-true}
 use Rattle.ms_list.specs.declared.at.At.{At}
+use Rattle.ms_logic.specs.declared.source.Int.TheVariants.{Number}
 use Rattle.ms_logic.specs.declared.source.PlacedInt.{PlacedInt}
 use Rattle.ms_parse_grammar.specs.Symbol.{Symbol, name, number, text, Placed, placed}
-use Rattle.ms_parse_steps.specs.inner.Machine.{Frame, Context, Configuration, wanted, Move, took, misplaced, too_deep, frame_depth, enter, with_room, is_mark, either_mark, mark_then, name_then, text_then, int_then, symbol_then, step, finished}
+use Rattle.ms_parse_steps.specs.inner.Machine.{Frame, Context, Configuration, wanted, Move, took, misplaced, too_deep, frame_depth, enter, with_room, is_mark, either_mark, mark_then, or_else, said_then, name_then, text_then, int_then, symbol_then, step, finished}
+use Rattle.ms_parse_steps.specs.inner.Said.{name_of, text_of, int_of}
 use Rattle.ms_parse_steps.proofs.Closing.{anywhere, symbol, FramesFit}
 use Rattle.ms_parse_steps.proofs.Completions.{Fits}
 use Rattle.ms_parse_steps.proofs.Frames.{chosen, chosen_yes, chosen_no}
@@ -163,33 +165,33 @@ mark_tells limit m f is tells = record {
   finds = mark_finds limit m f tells;
 }
 
-name_finds : (limit : ℕ) (f : At → List ℕ → ℕ → List Placed → Move) → ((a : At) (n : List ℕ) → Tells limit (f a n)) → (ts : List Placed)
-    → Finds limit (λ l. name_then (λ a n. f a n l)) ts (name_then (λ a n. f a n limit) ts)
-name_finds limit f tells (placed (name n) a ∷ ts) = goes limit (f a n) (λ l. name_then (λ a' n'. f a' n' l)) (placed (name n) a) ts (λ l more above. refl) (tells a n)
-name_finds limit f tells [] = first limit (λ l. name_then (λ a n. f a n l)) [] tt
-name_finds limit f tells (t ∷ ts) = first limit (λ l. name_then (λ a n. f a n l)) (t ∷ ts) (λ above more is. tt)
+said_or_not : {X : Type 0} (limit : ℕ) (said : Symbol → Option X) (f : At → X → ℕ → List Placed → Move) → ((a : At) (x : X) → Tells limit (f a x)) → (s : Symbol) (a : At) (ts : List Placed) (o : Option X) → said s ≡ o
+    → Finds limit (λ l. said_then said (λ a x. f a x l)) (placed s a ∷ ts) (or_else (λ x. f a x limit ts) (misplaced (placed s a ∷ ts)) o)
+said_or_not limit said f tells s a ts None is =
+    refuse limit (λ l. said_then said (λ a x. f a x l)) (placed s a) ts (λ l more above. ap (or_else (λ x. f a x l more) (misplaced (placed s a ∷ more))) is)
+said_or_not limit said f tells s a ts (Some x) is =
+    goes limit (f a x) (λ l. said_then said (λ a x. f a x l)) (placed s a) ts (λ l more above. ap (or_else (λ x. f a x l more) (misplaced (placed s a ∷ more))) is) (tells a x)
+
+said_finds : {X : Type 0} (limit : ℕ) (said : Symbol → Option X) (f : At → X → ℕ → List Placed → Move) → ((a : At) (x : X) → Tells limit (f a x)) → (ts : List Placed)
+    → Finds limit (λ l. said_then said (λ a x. f a x l)) ts (said_then said (λ a x. f a x limit) ts)
+said_finds limit said f tells [] = first limit (λ l. said_then said (λ a x. f a x l)) [] tt
+said_finds limit said f tells (placed s a ∷ ts) = said_or_not limit said f tells s a ts (said s) refl
+
+-- the second and third of the arguments are a symbol that is wanted, and what it says
+said_tells : {X : Type 0} (limit : ℕ) (s : Symbol) (x : X) (said : Symbol → Option X) (f : At → X → ℕ → List Placed → Move) → said s ≡ Some x → ((a : At) (x : X) → Tells limit (f a x))
+    → Tells limit (λ l. said_then said (λ a x. f a x l))
+said_tells limit s x said f is tells =
+    let (more, end, same) = (tells anywhere x).opens in
+    record { opens = (symbol s ∷ more, end, ap (or_else (λ x. f anywhere x limit more) (misplaced (symbol s ∷ more))) is ∙ same); finds = said_finds limit said f tells }
 
 pub name_tells : (limit : ℕ) (f : At → List ℕ → ℕ → List Placed → Move) → ((a : At) (n : List ℕ) → Tells limit (f a n)) → Tells limit (λ l. name_then (λ a n. f a n l))
-name_tells limit f tells = let any = tells anywhere [] in record { opens = (symbol (name []) ∷ any.opens.0, any.opens.1, any.opens.2); finds = name_finds limit f tells }
-
-text_finds : (limit : ℕ) (f : At → List ℕ → ℕ → List Placed → Move) → ((a : At) (t : List ℕ) → Tells limit (f a t)) → (ts : List Placed)
-    → Finds limit (λ l. text_then (λ a t. f a t l)) ts (text_then (λ a t. f a t limit) ts)
-text_finds limit f tells (placed (text n) a ∷ ts) = goes limit (f a n) (λ l. text_then (λ a' n'. f a' n' l)) (placed (text n) a) ts (λ l more above. refl) (tells a n)
-text_finds limit f tells [] = first limit (λ l. text_then (λ a n. f a n l)) [] tt
-text_finds limit f tells (t ∷ ts) = first limit (λ l. text_then (λ a n. f a n l)) (t ∷ ts) (λ above more is. tt)
+name_tells limit f tells = said_tells limit (name []) [] name_of f refl tells
 
 pub text_tells : (limit : ℕ) (f : At → List ℕ → ℕ → List Placed → Move) → ((a : At) (t : List ℕ) → Tells limit (f a t)) → Tells limit (λ l. text_then (λ a t. f a t l))
-text_tells limit f tells = let any = tells anywhere [] in record { opens = (symbol (text []) ∷ any.opens.0, any.opens.1, any.opens.2); finds = text_finds limit f tells }
-
-int_finds : (limit : ℕ) (minus : Bool) (f : PlacedInt → ℕ → List Placed → Move) → ((n : PlacedInt) → Tells limit (f n)) → (ts : List Placed)
-    → Finds limit (λ l. int_then minus (λ n. f n l)) ts (int_then minus (λ n. f n limit) ts)
-int_finds limit minus f tells (placed (number n) a ∷ ts) = goes limit (f _) (λ l. int_then minus (λ k. f k l)) (placed (number n) a) ts (λ l more above. refl) (tells _)
-int_finds limit minus f tells (placed (name n) a ∷ ts) = goes limit (f _) (λ l. int_then minus (λ k. f k l)) (placed (name n) a) ts (λ l more above. refl) (tells _)
-int_finds limit minus f tells [] = first limit (λ l. int_then minus (λ k. f k l)) [] tt
-int_finds limit minus f tells (t ∷ ts) = first limit (λ l. int_then minus (λ k. f k l)) (t ∷ ts) (λ above more is. tt)
+text_tells limit f tells = said_tells limit (text []) [] text_of f refl tells
 
 pub int_tells : (limit : ℕ) (minus : Bool) (f : PlacedInt → ℕ → List Placed → Move) → ((n : PlacedInt) → Tells limit (f n)) → Tells limit (λ l. int_then minus (λ n. f n l))
-int_tells limit minus f tells = let any = tells _ in record { opens = (symbol (number 0) ∷ any.opens.0, any.opens.1, any.opens.2); finds = int_finds limit minus f tells }
+int_tells limit minus f tells = said_tells limit (number 0) (Number 0) int_of (λ a v. f (record { at = a; value = v; minus = minus })) refl (λ a v. tells (record { at = a; value = v; minus = minus }))
 
 pub symbol_finds : (limit : ℕ) (f : ℕ → At → Symbol → List Placed → List Placed → Move)
     → ((a : At) (s : Symbol) (ts : List Placed) → Finds limit (λ l. symbol_then (f l)) (placed s a ∷ ts) (f limit a s (placed s a ∷ ts) ts)) → (ts : List Placed) → Finds limit (λ l. symbol_then (f l)) ts (symbol_then (f limit) ts)

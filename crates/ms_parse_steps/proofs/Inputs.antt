@@ -6,9 +6,7 @@ use Rattle.std.proofs.lemmas.Bool.Decides.{nat_tests}
 use Rattle.std.proofs.lemmas.Str.{IsUtf8-from_ascii}
 use Rattle.ms_text.proofs.Bytes.{and_both}
 use Rattle.ms_list.specs.declared.at.At.{At}
-use Rattle.ms_text.specs.declared.keyword.Keyword.{Keyword}
 use Rattle.ms_text.specs.declared.keyword.Keyword.TheVariants as words
-use Rattle.ms_text.specs.declared.mark.Mark.{Mark}
 use Rattle.ms_text.specs.declared.mark.Mark.TheVariants as marks
 use Rattle.ms_text.specs.declared.token.Kind.{Kind}
 use Rattle.ms_text.specs.declared.token.Kind.TheVariants as kinds
@@ -16,7 +14,7 @@ use Rattle.ms_text.specs.declared.token.Token.{Token}
 use Rattle.ms_text.specs.Spelling.{is_name_byte, is_identifier, Spells}
 use Rattle.ms_text.specs.TokenList.{Lexed, slice_of}
 use Rattle.ms_text.proofs.Starts.{identifier_bytes}
-use Rattle.ms_parse_grammar.specs.Symbol.{Symbol, name, symbol_of, word_symbol, mark_symbol, Placed, placed, placed_symbol}
+use Rattle.ms_parse_grammar.specs.Symbol.{Symbol, name, symbol_of, Placed, placed, placed_symbol}
 use Rattle.ms_parse_steps.specs.inner.Terminals.{behind, IsNext, NoName, NoText}
 
 drop_read : (f : Token → Placed) (tokens : List Token) (i : ℕ) (token : Token) → slice_get tokens i ≡ Some token → drop i (map f tokens) ≡ f token ∷ drop (suc i) (map f tokens)
@@ -41,37 +39,17 @@ pub terminal_next : (file : ℕ) (lexed : Lexed) (i : ℕ) (token : Token) (s : 
 terminal_next file lexed i token s at found same here =
     next_is file lexed i token found ∙ ap (λ x. placed x (record { file = file; place = token.place }) ∷ behind file lexed (suc i)) same ∙ ap (λ x. placed s x ∷ behind file lexed (suc i)) (sym here)
 
-no_name_word : (w : Keyword) (at : At) (more : List Placed) → NoName (placed (word_symbol w) at ∷ more)
-no_name_word words.Ws1s at more = tt
-no_name_word _ at more = tt
-
-no_name_mark : (m : Mark) (at : At) (more : List Placed) → NoName (placed (mark_symbol m) at ∷ more)
-no_name_mark marks.Semicolon at more = tt
-no_name_mark _ at more = tt
-
-no_text_word : (w : Keyword) (at : At) (more : List Placed) → NoText (placed (word_symbol w) at ∷ more)
-no_text_word words.Ws1s at more = tt
-no_text_word _ at more = tt
-
-no_text_mark : (m : Mark) (at : At) (more : List Placed) → NoText (placed (mark_symbol m) at ∷ more)
-no_text_mark marks.Semicolon at more = tt
-no_text_mark _ at more = tt
-
 no_name_kind : (k : Kind) (slice : List ℕ) (at : At) (more : List Placed) → k ≢ kinds.Name → NoName (placed (symbol_of k slice) at ∷ more)
 no_name_kind kinds.Name slice at more other = absurd (other refl)
-no_name_kind (kinds.Word w) slice at more other = no_name_word w at more
-no_name_kind kinds.LeftOut slice at more other = tt
-no_name_kind (kinds.Number n) slice at more other = tt
-no_name_kind kinds.Text slice at more other = tt
-no_name_kind (kinds.Mark m) slice at more other = no_name_mark m at more
+no_name_kind (kinds.Word words.Ws1s) slice at more other = tt
+no_name_kind (kinds.Mark marks.Semicolon) slice at more other = tt
+no_name_kind _ slice at more other = tt
 
 no_text_kind : (k : Kind) (slice : List ℕ) (at : At) (more : List Placed) → k ≢ kinds.Text → NoText (placed (symbol_of k slice) at ∷ more)
 no_text_kind kinds.Text slice at more other = absurd (other refl)
-no_text_kind (kinds.Word w) slice at more other = no_text_word w at more
-no_text_kind kinds.LeftOut slice at more other = tt
-no_text_kind (kinds.Number n) slice at more other = tt
-no_text_kind kinds.Name slice at more other = tt
-no_text_kind (kinds.Mark m) slice at more other = no_text_mark m at more
+no_text_kind (kinds.Word words.Ws1s) slice at more other = tt
+no_text_kind (kinds.Mark marks.Semicolon) slice at more other = tt
+no_text_kind _ slice at more other = tt
 
 pub no_name : (file : ℕ) (lexed : Lexed) (i : ℕ) (token : Token) → slice_get lexed.tokens i ≡ Some token → token.kind ≢ kinds.Name → NoName (behind file lexed i)
 no_name file lexed i token found other =

@@ -4,9 +4,9 @@ use Rattle.std.proofs.lemmas.Bool.{false≢true}
 use Rattle.ms_parse_grammar.specs.declared.operator.Prefix.{Prefix}
 use Rattle.ms_parse_grammar.specs.declared.operator.Prefix.TheVariants.{Negation}
 use Rattle.ms_parse_grammar.specs.declared.operator.Binary.{Binary}
-use Rattle.ms_parse_grammar.specs.declared.operator.Binary.TheVariants.{Implication, Equivalence, Relation, Union, Intersection, Difference}
+use Rattle.ms_parse_grammar.specs.declared.operator.Binary.TheVariants.{Equivalence}
 use Rattle.ms_parse_grammar.specs.declared.operator.Junction.{Junction}
-use Rattle.ms_parse_grammar.specs.declared.operator.Junction.TheVariants.{Conjunction, Disjunction}
+use Rattle.ms_parse_grammar.specs.declared.operator.Junction.TheVariants.{Conjunction}
 use Rattle.ms_parse_grammar.specs.Tree.{Expression, atom, prefixed, binary, joined, shifted, enclosed, listed, quantified, let_in, Expressions, no_expressions, and_expression}
 use Rattle.ms_parse_grammar.specs.Grammar.{binary_level, left_level, right_level, prefix_level, operand_level, junction_level, level, ends_open, last_ends_open, IsGrammatical, AreOperands}
 
@@ -45,108 +45,60 @@ mutual
   last-yields-zero no_expressions = tt
   last-yields-zero (and_expression es e) = yields-zero e
 
--- an operator that wants this level on its left ends each operator of that level
-pub record Tight (least b : ℕ) : Type 0 where
-  pub infixes : (op : Binary) → least ≤ binary_level op → (b ≤ right_level op) × (least ≤ right_level op)
-  pub prefixes : (op : Prefix) → least ≤ prefix_level op → (b ≤ operand_level op) × (least ≤ operand_level op)
-  pub junctions : (op : Junction) → least ≤ junction_level op → b ≤ junction_level op
+-- How the level of an operator and the least level of its last operand stand to each other: the operand's is no lower, and
+-- it is higher from the relations on.
+pub record Rises (own last : ℕ) : Type 0 where
+  pub low : own ≤ last
+  pub positive : 1 ≤ last
+  pub high : 5 ≤ own → suc own ≤ last
+
+infix-rises : (op : Binary) → Rises (binary_level op) (right_level op)
+infix-rises Equivalence = record { low = omega arith; positive = omega arith; high = λ h. omega arith }
+infix-rises _ = record { low = omega arith; positive = omega arith; high = λ h. omega arith }
+
+prefix-rises : (op : Prefix) → Rises (prefix_level op) (operand_level op)
+prefix-rises Negation = record { low = omega arith; positive = omega arith; high = λ h. omega arith }
+prefix-rises _ = record { low = omega arith; positive = omega arith; high = λ h. omega arith }
+
+junction-rises : (op : Junction) → Rises (junction_level op) (junction_level op)
+junction-rises Conjunction = record { low = omega arith; positive = omega arith; high = λ h. omega arith }
+junction-rises _ = record { low = omega arith; positive = omega arith; high = λ h. omega arith }
+
+-- an operator that wants this level on its left, and binds more loosely than `b`, ends each operator of that level
+abbrev pub IsTight : ℕ → ℕ → Type 0
+IsTight least b = (own last : ℕ) → Rises own last → least ≤ own → (b ≤ last) × (least ≤ last)
 
 mutual
-  pub yields : (least b : ℕ) → Tight least b → (e : Expression) → IsGrammatical e → ends_open e ≡ false → least ≤ level e → Yields b e
+  pub yields : (least b : ℕ) → IsTight least b → (e : Expression) → IsGrammatical e → ends_open e ≡ false → least ≤ level e → Yields b e
   yields least b tight (atom at a) good closed at_least = tt
   yields least b tight (prefixed at op e) good closed at_least =
-      let fits = tight.prefixes op at_least in
+      let fits = tight (prefix_level op) (operand_level op) (prefix-rises op) at_least in
       let enough : least ≤ level e = omega (arith, fits.1, good.0) in
       (fits.0, yields least b tight e good.1 closed enough)
   yields least b tight (binary at op l r) good closed at_least =
-      let fits = tight.infixes op at_least in
+      let fits = tight (binary_level op) (right_level op) (infix-rises op) at_least in
       let enough : least ≤ level r = omega (arith, fits.1, good.3) in
       (fits.0, yields least b tight r good.4 closed enough)
   yields least b tight (joined at op es) good closed at_least =
-      (tight.junctions op at_least, yields-last least b tight (suc (junction_level op)) es (omega arith) good.1 closed)
+      ((tight (junction_level op) (junction_level op) (junction-rises op) at_least).0, yields-last least b tight (suc (junction_level op)) es (omega arith) good.1 closed)
   yields least b tight (shifted at e n) good closed at_least = tt
   yields least b tight (enclosed at x e) good closed at_least = tt
   yields least b tight (listed at l es) good closed at_least = tt
   yields least b tight (quantified at q o vs body) good closed at_least = absurd (false≢true (sym closed))
   yields least b tight (let_in at o parts body) good closed at_least = absurd (false≢true (sym closed))
 
-  yields-last : (least b : ℕ) → Tight least b → (higher : ℕ) (es : Expressions) → least ≤ higher → AreOperands higher es → last_ends_open es ≡ false → LastYields b es
+  yields-last : (least b : ℕ) → IsTight least b → (higher : ℕ) (es : Expressions) → least ≤ higher → AreOperands higher es → last_ends_open es ≡ false → LastYields b es
   yields-last least b tight higher no_expressions at_least good closed = tt
   yields-last least b tight higher (and_expression es e) at_least good closed =
       let enough : least ≤ level e = omega (arith, good.2) in
       yields least b tight e good.3 closed enough
 
-infix-infix : (op other : Binary) → left_level op ≤ binary_level other → (suc (binary_level op) ≤ right_level other) × (left_level op ≤ right_level other)
-infix-infix Equivalence Equivalence h = (omega arith, omega arith)
-infix-infix Equivalence _ h = (omega arith, omega arith)
-infix-infix Implication Equivalence h = (omega arith, omega arith)
-infix-infix Implication _ h = (omega arith, omega arith)
-infix-infix (Relation r) Equivalence h = (omega arith, omega arith)
-infix-infix (Relation r) _ h = (omega arith, omega arith)
-infix-infix Union Equivalence h = (omega arith, omega arith)
-infix-infix Union _ h = (omega arith, omega arith)
-infix-infix Intersection Equivalence h = (omega arith, omega arith)
-infix-infix Intersection _ h = (omega arith, omega arith)
-infix-infix Difference Equivalence h = (omega arith, omega arith)
-infix-infix Difference _ h = (omega arith, omega arith)
+pub tight-infix : (op : Binary) → IsTight (left_level op) (suc (binary_level op))
+tight-infix Equivalence own last rises at_least = (omega arith, omega arith)
+tight-infix _ own last rises at_least = (omega arith, omega arith)
 
-infix-prefix : (op : Binary) (other : Prefix) → left_level op ≤ prefix_level other → (suc (binary_level op) ≤ operand_level other) × (left_level op ≤ operand_level other)
-infix-prefix Equivalence Negation h = (omega arith, omega arith)
-infix-prefix Equivalence _ h = (omega arith, omega arith)
-infix-prefix Implication Negation h = (omega arith, omega arith)
-infix-prefix Implication _ h = (omega arith, omega arith)
-infix-prefix (Relation r) Negation h = (omega arith, omega arith)
-infix-prefix (Relation r) _ h = (omega arith, omega arith)
-infix-prefix Union Negation h = (omega arith, omega arith)
-infix-prefix Union _ h = (omega arith, omega arith)
-infix-prefix Intersection Negation h = (omega arith, omega arith)
-infix-prefix Intersection _ h = (omega arith, omega arith)
-infix-prefix Difference Negation h = (omega arith, omega arith)
-infix-prefix Difference _ h = (omega arith, omega arith)
+pub tight-joining : (op : Junction) → IsTight (suc (junction_level op)) (suc (junction_level op))
+tight-joining op own last rises at_least = (omega arith, omega arith)
 
-infix-junction : (op : Binary) (other : Junction) → left_level op ≤ junction_level other → suc (binary_level op) ≤ junction_level other
-infix-junction Equivalence Conjunction h = omega arith
-infix-junction Equivalence _ h = omega arith
-infix-junction Implication Conjunction h = omega arith
-infix-junction Implication _ h = omega arith
-infix-junction (Relation r) Conjunction h = omega arith
-infix-junction (Relation r) _ h = omega arith
-infix-junction Union Conjunction h = omega arith
-infix-junction Union _ h = omega arith
-infix-junction Intersection Conjunction h = omega arith
-infix-junction Intersection _ h = omega arith
-infix-junction Difference Conjunction h = omega arith
-infix-junction Difference _ h = omega arith
-
-pub tight-infix : (op : Binary) → Tight (left_level op) (suc (binary_level op))
-tight-infix op = record { infixes = infix-infix op; prefixes = infix-prefix op; junctions = infix-junction op }
-
-joining-infix : (op : Junction) (other : Binary) → suc (junction_level op) ≤ binary_level other → (suc (junction_level op) ≤ right_level other) × (suc (junction_level op) ≤ right_level other)
-joining-infix Conjunction Equivalence h = (omega arith, omega arith)
-joining-infix Conjunction _ h = (omega arith, omega arith)
-joining-infix Disjunction Equivalence h = (omega arith, omega arith)
-joining-infix Disjunction _ h = (omega arith, omega arith)
-
-joining-prefix : (op : Junction) (other : Prefix) → suc (junction_level op) ≤ prefix_level other → (suc (junction_level op) ≤ operand_level other) × (suc (junction_level op) ≤ operand_level other)
-joining-prefix Conjunction Negation h = (omega arith, omega arith)
-joining-prefix Conjunction _ h = (omega arith, omega arith)
-joining-prefix Disjunction Negation h = (omega arith, omega arith)
-joining-prefix Disjunction _ h = (omega arith, omega arith)
-
-pub tight-joining : (op : Junction) → Tight (suc (junction_level op)) (suc (junction_level op))
-tight-joining op = record { infixes = joining-infix op; prefixes = joining-prefix op; junctions = λ other h. h }
-
-sign-infix : (other : Binary) → 9 ≤ binary_level other → (10 ≤ right_level other) × (9 ≤ right_level other)
-sign-infix Equivalence h = (omega arith, omega arith)
-sign-infix _ h = (omega arith, omega arith)
-
-sign-prefix : (other : Prefix) → 9 ≤ prefix_level other → (10 ≤ operand_level other) × (9 ≤ operand_level other)
-sign-prefix Negation h = (omega arith, omega arith)
-sign-prefix _ h = (omega arith, omega arith)
-
-sign-junction : (other : Junction) → 9 ≤ junction_level other → 10 ≤ junction_level other
-sign-junction Conjunction h = omega arith
-sign-junction _ h = omega arith
-
-pub tight-sign : Tight 9 10
-tight-sign = record { infixes = sign-infix; prefixes = sign-prefix; junctions = sign-junction }
+pub tight-sign : IsTight 9 10
+tight-sign own last rises at_least = (omega arith, omega arith)

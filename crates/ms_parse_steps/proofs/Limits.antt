@@ -1,9 +1,10 @@
 -- Documents whose expressions are no deeper than a limit. At the greatest depth they are those of the grammar.
 use Rattle.std.proofs.Common.{ℕ, ◌≤◌, true, List, [], ◌∷◌}
+use Rattle.std.specs.Prelude.{◌↔◌}
 use Rattle.ms_parse_grammar.specs.Symbol.{Placed}
 use Rattle.ms_parse_grammar.specs.Tree.{Expression, Variables, no_variables, and_variable, unrestricted, restricted}
 use Rattle.ms_parse_grammar.specs.Tree.{Declaration, variables, constant, predicate, included, default_restriction, formula, goal, Declared, Document}
-use Rattle.ms_parse_grammar.specs.Grammar.{IsGrammatical, depth, greatest_depth}
+use Rattle.ms_parse_grammar.specs.Grammar.{IsGrammatical, IsExpression, depth, greatest_depth}
 use Rattle.ms_parse_grammar.specs.Declarations.{ReadsDocument, AreDomains, IsDeclaration, AreDeclarations, Reads}
 
 -- a grammatical expression, and not too deep
@@ -34,50 +35,41 @@ pub record ReadsWithin (limit : ℕ) (all : List Placed) (d : Document) : Type 0
   pub read : ReadsDocument true d all
   pub declarations : AreDeclarationsWithin limit d.declarations
 
-domains_within : (vs : Variables) → AreDomains vs → AreDomainsWithin greatest_depth vs
-domains_within no_variables good = tt
-domains_within (and_variable before at o n unrestricted) good = domains_within before good
-domains_within (and_variable before at o n (restricted d)) good =
-    (domains_within before good.0, record { grammatical = good.1.grammatical; shallow = good.1.shallow })
+-- at the greatest depth it is an expression of the grammar
+fits : (e : Expression) → IsExpression e ↔ IsWithin greatest_depth e
+fits e = (
+  λ good. record { grammatical = good.grammatical; shallow = good.shallow },
+  λ good. record { grammatical = good.grammatical; shallow = good.shallow },
+)
 
-declaration_within : (x : Declaration) → IsDeclaration x → IsDeclarationWithin greatest_depth x
-declaration_within (variables vs) good = domains_within vs good
-declaration_within (constant at n sum) good = tt
-declaration_within (predicate is_pred at n vs body) good =
-    (domains_within vs good.0, record { grammatical = good.1.grammatical; shallow = good.1.shallow })
-declaration_within (included at file) good = tt
-declaration_within (default_restriction o n body) good = record { grammatical = good.grammatical; shallow = good.shallow }
-declaration_within (formula e) good = record { grammatical = good.grammatical; shallow = good.shallow }
-declaration_within (goal at title e) good = record { grammatical = good.grammatical; shallow = good.shallow }
+both : {A A' B B' : Type 0} → A ↔ A' → B ↔ B' → (A × B) ↔ (A' × B')
+both same same' = (λ (a, b). (same.0 a, same'.0 b), λ (a, b). (same.1 a, same'.1 b))
 
-declarations_within : (ds : List Declared) → AreDeclarations ds → AreDeclarationsWithin greatest_depth ds
-declarations_within [] good = tt
-declarations_within (d ∷ ds) good = (declaration_within d.declaration good.0, declarations_within ds good.1)
+alike : {A : Type 0} → A ↔ A
+alike = (λ a. a, λ a. a)
+
+domains_fit : (vs : Variables) → AreDomains vs ↔ AreDomainsWithin greatest_depth vs
+domains_fit no_variables = alike
+domains_fit (and_variable before at o n unrestricted) = domains_fit before
+domains_fit (and_variable before at o n (restricted d)) = both (domains_fit before) (fits d)
+
+declaration_fits : (x : Declaration) → IsDeclaration x ↔ IsDeclarationWithin greatest_depth x
+declaration_fits (variables vs) = domains_fit vs
+declaration_fits (constant at n sum) = alike
+declaration_fits (predicate is_pred at n vs body) = both (domains_fit vs) (fits body)
+declaration_fits (included at file) = alike
+declaration_fits (default_restriction o n body) = fits body
+declaration_fits (formula e) = fits e
+declaration_fits (goal at title e) = fits e
+
+declarations_fit : (ds : List Declared) → AreDeclarations ds ↔ AreDeclarationsWithin greatest_depth ds
+declarations_fit [] = alike
+declarations_fit (d ∷ ds) = both (declaration_fits d.declaration) (declarations_fit ds)
 
 -- a document of the grammar is within the greatest depth
 pub within : (all : List Placed) (d : Document) → Reads true all d → ReadsWithin greatest_depth all d
-within all d reads = record { read = reads.read; declarations = declarations_within d.declarations reads.declarations }
-
-domains_grammar : (vs : Variables) → AreDomainsWithin greatest_depth vs → AreDomains vs
-domains_grammar no_variables good = tt
-domains_grammar (and_variable before at o n unrestricted) good = domains_grammar before good
-domains_grammar (and_variable before at o n (restricted d)) good =
-    (domains_grammar before good.0, record { grammatical = good.1.grammatical; shallow = good.1.shallow })
-
-declaration_grammar : (x : Declaration) → IsDeclarationWithin greatest_depth x → IsDeclaration x
-declaration_grammar (variables vs) good = domains_grammar vs good
-declaration_grammar (constant at n sum) good = tt
-declaration_grammar (predicate is_pred at n vs body) good =
-    (domains_grammar vs good.0, record { grammatical = good.1.grammatical; shallow = good.1.shallow })
-declaration_grammar (included at file) good = tt
-declaration_grammar (default_restriction o n body) good = record { grammatical = good.grammatical; shallow = good.shallow }
-declaration_grammar (formula e) good = record { grammatical = good.grammatical; shallow = good.shallow }
-declaration_grammar (goal at title e) good = record { grammatical = good.grammatical; shallow = good.shallow }
-
-declarations_grammar : (ds : List Declared) → AreDeclarationsWithin greatest_depth ds → AreDeclarations ds
-declarations_grammar [] good = tt
-declarations_grammar (d ∷ ds) good = (declaration_grammar d.declaration good.0, declarations_grammar ds good.1)
+within all d reads = record { read = reads.read; declarations = (declarations_fit d.declarations).0 reads.declarations }
 
 -- one within the greatest depth is of the grammar
 pub of_grammar : (all : List Placed) (d : Document) → ReadsWithin greatest_depth all d → Reads true all d
-of_grammar all d reads = record { read = reads.read; declarations = declarations_grammar d.declarations reads.declarations }
+of_grammar all d reads = record { read = reads.read; declarations = (declarations_fit d.declarations).1 reads.declarations }

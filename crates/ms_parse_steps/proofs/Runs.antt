@@ -7,6 +7,7 @@ use Rattle.ms_list.specs.declared.at.At.{At}
 use Rattle.ms_logic.specs.declared.mode.Order.{Order}
 use Rattle.ms_logic.specs.declared.mode.Quant.{Quant}
 use Rattle.ms_logic.specs.declared.mode.Rel.TheVariants.{Equal}
+use Rattle.ms_logic.specs.declared.source.Int.{Int}
 use Rattle.ms_logic.specs.declared.source.Int.TheVariants.{Number, Constant}
 use Rattle.ms_logic.specs.declared.source.PlacedInt.{PlacedInt}
 use Rattle.ms_logic.specs.declared.source.Rename.{Rename}
@@ -15,7 +16,7 @@ use Rattle.ms_parse_grammar.specs.declared.operator.Binary.TheVariants.{Relation
 use Rattle.ms_parse_grammar.specs.Tree.{Variables, no_variables, and_variable, unrestricted, Parts}
 use Rattle.ms_parse_grammar.specs.Tree.{variables, constant, included, Document}
 use Rattle.ms_parse_grammar.specs.Grammar.{domain_bare_in, HaveGrammaticalDomains, AreOfOrder, depth_of_domains}
-use Rattle.ms_parse_grammar.specs.Reads.{Starts, Follows, ReadsInt}
+use Rattle.ms_parse_grammar.specs.Reads.{Starts, Follows, ReadsInt, int_symbol}
 use Rattle.ms_parse_grammar.specs.Declarations.{ReadsString}
 use Rattle.ms_parse_steps.specs.inner.Machine.{Head, head_with, Frame, domain_frame, body_frame, part_frame, Context, in_formula, in_goal, Configuration, outside, wanted, holding, variable_wanted, part_wanted, pair_wanted, global_wanted, parameter_wanted, summand_wanted, Move, took, misplaced, too_deep, need, in_part, Top, on_top, settle, ends, collapse, bound, behind_variable, next_variable, next_part, next_pair, behind_global, next_global, behind_parameter, next_parameter, next_summand, begin_constant, begin_predicate, begin_include, begin_default, begin_name, begin_named, begin_declaration, step, headed, start, finished, goes_on, run, Runs}
 use Rattle.ms_parse_steps.proofs.Frames.{VariablesSoFar, InFrames, CollapsedTo, chosen, collapsed}
@@ -176,29 +177,19 @@ next_summand_good limit all d at at_n n sum (placed (sign minus) a1 ∷ placed (
     summand_good limit all d at at_n n sum (record { at = a2; value = Constant k; minus = minus }) (placed (sign minus) a1 ∷ placed (name k) a2 ∷ ts) (placed (name k) a2 ∷ ts) ts good (a1, refl) (a2, refl, refl)
 next_summand_good limit all d at at_n n sum _ is = tt
 
+-- the first number of a constant
+constant_begun : (limit : ℕ) (all : List Placed) (d : Document) (at at_n : At) (n : List ℕ) (a1 a2 : At) (k : Int) (ts : List Placed)
+    → SoFar limit d all (placed word_const at ∷ placed (name n) at_n ∷ placed (infix_operator (Relation Equal)) a1 ∷ placed (int_symbol k) a2 ∷ ts)
+    → Good limit (summand_wanted d at at_n n (record { at = a2; value = k; minus = false } ∷ [])) all ts
+constant_begun limit all d at at_n n a1 a2 k ts so_far =
+    let numbers : List Placed = placed (int_symbol k) a2 ∷ ts in
+    let equal : List Placed = placed (infix_operator (Relation Equal)) a1 ∷ numbers in
+    let names : List Placed = placed (name n) at_n ∷ equal in
+    (placed word_const at ∷ names, names, equal, numbers, so_far, (at, refl, refl), (at_n, refl, refl), (a1, refl), (ts, refl, (a2, refl, refl), refl))
+
 constant_good : (limit : ℕ) (all : List Placed) (d : Document) (at : At) (ts : List Placed) → SoFar limit d all (placed word_const at ∷ ts) → GoodNext limit all (begin_constant d at ts)
-constant_good limit all d at (placed (name n) at_n ∷ placed (infix_operator (Relation Equal)) a1 ∷ placed (number k) a2 ∷ ts) so_far = (
-  placed word_const at ∷ placed (name n) at_n ∷ placed (infix_operator (Relation Equal)) a1 ∷ placed (number k) a2 ∷ ts,
-  placed (name n) at_n ∷ placed (infix_operator (Relation Equal)) a1 ∷ placed (number k) a2 ∷ ts,
-  placed (infix_operator (Relation Equal)) a1 ∷ placed (number k) a2 ∷ ts,
-  placed (number k) a2 ∷ ts,
-  so_far,
-  (at, refl, refl),
-  (at_n, refl, refl),
-  (a1, refl),
-  (ts, refl, (a2, refl, refl), refl),
-)
-constant_good limit all d at (placed (name n) at_n ∷ placed (infix_operator (Relation Equal)) a1 ∷ placed (name k) a2 ∷ ts) so_far = (
-  placed word_const at ∷ placed (name n) at_n ∷ placed (infix_operator (Relation Equal)) a1 ∷ placed (name k) a2 ∷ ts,
-  placed (name n) at_n ∷ placed (infix_operator (Relation Equal)) a1 ∷ placed (name k) a2 ∷ ts,
-  placed (infix_operator (Relation Equal)) a1 ∷ placed (name k) a2 ∷ ts,
-  placed (name k) a2 ∷ ts,
-  so_far,
-  (at, refl, refl),
-  (at_n, refl, refl),
-  (a1, refl),
-  (ts, refl, (a2, refl, refl), refl),
-)
+constant_good limit all d at (placed (name n) at_n ∷ placed (infix_operator (Relation Equal)) a1 ∷ placed (number k) a2 ∷ ts) so_far = constant_begun limit all d at at_n n a1 a2 (Number k) ts so_far
+constant_good limit all d at (placed (name n) at_n ∷ placed (infix_operator (Relation Equal)) a1 ∷ placed (name k) a2 ∷ ts) so_far = constant_begun limit all d at at_n n a1 a2 (Constant k) ts so_far
 constant_good limit all d at _ so_far = tt
 
 predicate_good : (limit : ℕ) (some : 1 ≤ limit) (all : List Placed) (d : Document) (at : At) (is_pred : Bool) (ts : List Placed) → SoFar limit d all (placed (predicate_word is_pred) at ∷ ts) → GoodNext limit all (begin_predicate d at is_pred ts)

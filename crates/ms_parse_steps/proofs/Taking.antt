@@ -1,7 +1,7 @@
 -- Steps as the code takes them.
-use Rattle.std.proofs.Common.{◌≡◌, ◌≢◌, ℕ, suc, ◌+◌, ◌-◌, Bool, true, false, inl, inr, List, [], ◌∷◌, Some, refl, sym, ap, ◌∙◌, subst, arith}
+use Rattle.std.proofs.Common.{◌≡◌, ◌≢◌, ℕ, suc, ◌+◌, ◌-◌, Bool, true, false, inl, inr, List, [], ◌∷◌, Option, Some, None, refl, sym, ap, ◌∙◌, subst, arith}
 use Rattle.std.proofs.lemmas.Bool.{false≢true}
-use Rattle.std.specs.Prelude.{Result}
+use Rattle.std.specs.Prelude.{Result, IfSome}
 use Rattle.ms_list.specs.declared.at.At.{At}
 use Rattle.ms_text.specs.TokenList.{Lexed}
 use Rattle.ms_logic.specs.declared.source.PlacedInt.{PlacedInt}
@@ -9,7 +9,7 @@ use Rattle.ms_logic.specs.declared.mode.Order.{Order}
 use Rattle.ms_logic.specs.declared.mode.Rel.TheVariants.{Equal}
 use Rattle.ms_parse_grammar.specs.declared.operator.Binary.TheVariants.{Relation}
 use Rattle.ms_parse_grammar.specs.Reads.{int_symbol, Starts, Follows}
-use Rattle.ms_parse_grammar.specs.Symbol.{Symbol, name, number, text, infix_operator, sign, kind, word_ws1s, open_round, close_round, close_curly, comma, semicolon, arrow, Placed, placed}
+use Rattle.ms_parse_grammar.specs.Symbol.{Symbol, name, text, infix_operator, sign, kind, word_ws1s, open_round, close_round, close_curly, comma, semicolon, arrow, Placed, placed}
 use Rattle.ms_parse_grammar.specs.Tree.{Variables, no_variables, and_variable, Domain}
 use Rattle.ms_parse_steps.specs.declared.frame.Frame.{Frame}
 use Rattle.ms_parse_steps.specs.declared.outcome.Outcome.{Outcome}
@@ -22,11 +22,12 @@ use Rattle.ms_parse_steps.specs.declared.terminal.Terminal.{Terminal}
 use Rattle.ms_parse_steps.specs.declared.terminal.Terminal.TheVariants as terminals
 use Rattle.ms_parse_steps.specs.inner.Kinds.{IsKind, IsNoKind, last_order}
 use Rattle.ms_parse_steps.specs.inner.Machine as machine
-use Rattle.ms_parse_steps.specs.inner.Machine.{Move, took, misplaced, too_deep, is_mark, either_mark, mark_then, name_then, text_then, int_then, symbol_then, kind_then, settle}
+use Rattle.ms_parse_steps.specs.inner.Machine.{Move, took, misplaced, too_deep, is_mark, either_mark, mark_then, or_else, said_then, name_then, text_then, int_then, symbol_then, kind_then, settle}
 use Rattle.ms_parse_steps.specs.inner.Outcomes.{StopsAs, ActsAs}
 use Rattle.ms_parse_steps.specs.inner.Punctuations.{punctuation, IsNot}
 use Rattle.ms_parse_steps.specs.inner.Configurations.{StepsAs}
-use Rattle.ms_parse_steps.specs.inner.Terminals.{behind, symbol_with, IsNext, NoName, NoInt}
+use Rattle.ms_parse_steps.specs.inner.Said.{name_of, int_of}
+use Rattle.ms_parse_steps.specs.inner.Terminals.{behind, symbol_with, IsNext, SaysNot, NoName, NoInt}
 use Rattle.ms_parse_steps.proofs.Frames.{chosen_yes, chosen_no}
 use Rattle.ms_parse_steps.proofs.Moves.{int_read}
 use Rattle.ms_parse_steps.proofs.Steps.{at_start}
@@ -53,14 +54,7 @@ one_behind file lexed i = let one : i + 1 - 1 ≡ i = omega arith in ap (behind 
 
 mark_is : (m : Punctuation) → is_mark (punctuation m) (punctuation m) ≡ true
 mark_is marks.OpenRound = refl
-mark_is marks.CloseRound = refl
-mark_is marks.CloseCurly = refl
-mark_is marks.Comma = refl
-mark_is marks.Semicolon = refl
-mark_is marks.Arrow = refl
-mark_is marks.Equal = refl
-mark_is marks.Minus = refl
-mark_is marks.Ws1s = refl
+mark_is _ = refl
 
 unmarked : (b : Bool) → (b ≡ true → ⊥) → b ≡ false
 unmarked true never = absurd (never refl)
@@ -68,23 +62,15 @@ unmarked false never = refl
 
 same_mark : (m : Punctuation) (s : Symbol) → is_mark (punctuation m) s ≡ true → s ≡ punctuation m
 same_mark marks.OpenRound open_round is = refl
-same_mark marks.OpenRound _ is = absurd (false≢true is)
 same_mark marks.CloseRound close_round is = refl
-same_mark marks.CloseRound _ is = absurd (false≢true is)
 same_mark marks.CloseCurly close_curly is = refl
-same_mark marks.CloseCurly _ is = absurd (false≢true is)
 same_mark marks.Comma comma is = refl
-same_mark marks.Comma _ is = absurd (false≢true is)
 same_mark marks.Semicolon semicolon is = refl
-same_mark marks.Semicolon _ is = absurd (false≢true is)
 same_mark marks.Arrow arrow is = refl
-same_mark marks.Arrow _ is = absurd (false≢true is)
 same_mark marks.Equal (infix_operator (Relation Equal)) is = refl
-same_mark marks.Equal _ is = absurd (false≢true is)
 same_mark marks.Minus (sign true) is = refl
-same_mark marks.Minus _ is = absurd (false≢true is)
 same_mark marks.Ws1s word_ws1s is = refl
-same_mark marks.Ws1s _ is = absurd (false≢true is)
+same_mark _ _ is = absurd (false≢true is)
 
 -- a symbol that stands there, and one that does not
 pub mark_found : (m : Punctuation) (further other : List Placed → Move) (ts ts' : List Placed) → Follows (punctuation m) ts ts' → either_mark (punctuation m) further other ts ≡ further ts'
@@ -99,10 +85,16 @@ mark_missing m further other (placed s a ∷ ts) none =
 pub name_found : (further : At → List ℕ → List Placed → Move) (file : ℕ) (lexed : Lexed) (i : ℕ) (n : List ℕ) (at : At) → IsNext file lexed i (name n) at → name_then further (behind file lexed i) ≡ further at n (behind file lexed (i + 1))
 name_found further file lexed i n at next = ap (name_then further) next ∙ ap (further at n) (one_more file lexed i)
 
+else_taken : {X : Type 0} (further : X → Move) (otherwise : Move) (o : Option X) → IfSome o (λ x. ⊥) → or_else further otherwise o ≡ otherwise
+else_taken further otherwise None none = refl
+else_taken further otherwise (Some x) none = absurd none
+
+pub said_missing : {X : Type 0} (said : Symbol → Option X) (further : At → X → List Placed → Move) (ts : List Placed) → SaysNot said ts → said_then said further ts ≡ misplaced ts
+said_missing said further [] none = refl
+said_missing said further (placed s a ∷ ts) none = else_taken (λ x. further a x ts) (misplaced (placed s a ∷ ts)) (said s) none
+
 pub name_missing : (further : At → List ℕ → List Placed → Move) (ts : List Placed) → NoName ts → name_then further ts ≡ misplaced ts
-name_missing further [] none = refl
-name_missing further (placed (name n) a ∷ ts) none = absurd none
-name_missing further (placed _ a ∷ ts) none = refl
+name_missing further ts none = said_missing name_of further ts none
 
 pub text_found : (further : At → List ℕ → List Placed → Move) (file : ℕ) (lexed : Lexed) (i : ℕ) (n : List ℕ) (at : At) → IsNext file lexed i (text n) at → text_then further (behind file lexed i) ≡ further at n (behind file lexed (i + 1))
 text_found further file lexed i n at next = ap (text_then further) next ∙ ap (further at n) (one_more file lexed i)
@@ -112,10 +104,7 @@ int_found minus further v ts ts' starts same =
     ap (int_then minus further) (at_start (int_symbol v.value) v.at ts ts' starts) ∙ int_read minus further v.value v.at ts' ∙ ap (λ m. further (record { at = v.at; value = v.value; minus = m }) ts') (sym same)
 
 pub int_missing : (minus : Bool) (further : PlacedInt → List Placed → Move) (ts : List Placed) → NoInt ts → int_then minus further ts ≡ misplaced ts
-int_missing minus further [] none = refl
-int_missing minus further (placed (name n) a ∷ ts) none = absurd none
-int_missing minus further (placed (number n) a ∷ ts) none = absurd none
-int_missing minus further (placed _ a ∷ ts) none = refl
+int_missing minus further ts none = said_missing int_of (λ a v. further (record { at = a; value = v; minus = minus })) ts none
 
 pub symbol_found : (further : At → Symbol → List Placed → List Placed → Move) (file : ℕ) (lexed : Lexed) (i : ℕ) (s : Symbol) (at : At) → IsNext file lexed i s at
     → symbol_then further (behind file lexed i) ≡ further at s (behind file lexed i) (behind file lexed (i + 1))

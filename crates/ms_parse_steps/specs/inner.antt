@@ -10,6 +10,7 @@ pub mod Links
 pub mod Machine
 pub mod Outcomes
 pub mod Punctuations
+pub mod Said
 pub mod Stack
 pub mod Stops
 pub mod Terminals

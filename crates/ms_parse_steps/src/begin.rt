@@ -1,9 +1,10 @@
-ghost use Rattle.std.specs.Prelude.{◌≡◌, ◌<◌, List, ◌-◌};
+ghost use Rattle.std.specs.Prelude.{◌≡◌, ◌<◌, ◌≤◌, suc, length, IfOk, List, ◌-◌};
 ghost use Rattle.ms_parse_grammar.specs.Tree.{listed, no_expressions};
 ghost use Rattle.ms_parse_steps.specs.inner.Punctuations.{closing, punctuation};
 ghost use Rattle.ms_parse_grammar.specs.Grammar.{greatest_depth};
-ghost use Rattle.ms_parse_steps.specs.inner.Machine.{Context, begin_name, begin_empty, begin_restrict, begin_export, begin_import, begin_pconst, either_mark, enter_list, holding, took, with_room};
-ghost use Rattle.ms_parse_steps.specs.inner.Outcomes.{ActsAs};
+ghost use Rattle.ms_parse_steps.specs.inner.Machine.{Context, begin_name, begin_empty, begin_restrict, begin_export, begin_import, begin_pconst, either_mark, enter_list, holding, mark_then, took, with_room, Move};
+ghost use Rattle.ms_parse_steps.specs.inner.Outcomes.{ActsAs, GoesOn};
+ghost use Rattle.ms_parse_grammar.specs.Symbol.{Placed, open_round};
 ghost use Rattle.ms_parse_steps.specs.inner.Terminals.{behind};
 ghost use Rattle.ms_parse_steps.specs.inner.Stack.{stack_of};
 
@@ -62,17 +63,27 @@ impl Input<'_> {
         self.begin_list(stack, at, Listing::Call(name), inside)
     }
 
+    /// The number of the token behind `(`, where the depth leaves room for an expression in brackets.
+    fn inside_at(self, stack: &[Frame], i: u32) -> Result<u32, Stop>
+        ensures room { IfOk result (λ inside. suc (suc (length (stack_of stack.now))) ≤ greatest_depth) }
+        ensures step { (further : List Placed → Move) →
+            GoesOn self.entry.file self.entry.tokens.now (with_room greatest_depth (stack_of stack.now) (behind self.entry.file self.entry.tokens.now (i - 1)) (mark_then open_round further (behind self.entry.file self.entry.tokens.now i))) further result }
+    {
+        if !has_room(stack) {
+            return Err(Stop::TooDeep(i.saturating_sub(1)));
+        }
+        match self.behind_mark(i, Punctuation::OpenRound) {
+            Some(inside) => Ok(inside),
+            None => Err(Stop::Refused(i)),
+        }
+    }
+
     /// `restrict` begins an expression.
     pub fn begin_restrict(self, stack: &mut Vec<Frame>, at: At, i: u32) -> Taken
         ensures { (c : Context) →
             ActsAs c self.entry.file self.entry.tokens.now (with_room greatest_depth (stack_of stack.old.items) (behind self.entry.file self.entry.tokens.now (i - 1)) (begin_restrict c (stack_of stack.old.items) at (behind self.entry.file self.entry.tokens.now i))) stack.new.items result }
     {
-        if !has_room(stack) {
-            return Err(Stop::TooDeep(i.saturating_sub(1)));
-        }
-        let Some(next) = self.behind_mark(i, Punctuation::OpenRound) else {
-            return Err(Stop::Refused(i));
-        };
+        let next = self.inside_at(stack, i)?;
         let frame = Frame::Bracket(at, Bracket::Restriction);
         enter(stack, frame, next, Stop::TooDeep(i.saturating_sub(1)))
     }
@@ -95,12 +106,7 @@ impl Input<'_> {
         ensures { (c : Context) →
             ActsAs c self.entry.file self.entry.tokens.now (with_room greatest_depth (stack_of stack.old.items) (behind self.entry.file self.entry.tokens.now (i - 1)) (begin_export c (stack_of stack.old.items) at (behind self.entry.file self.entry.tokens.now i))) stack.new.items result }
     {
-        if !has_room(stack) {
-            return Err(Stop::TooDeep(i.saturating_sub(1)));
-        }
-        let Some(inside) = self.behind_mark(i, Punctuation::OpenRound) else {
-            return Err(Stop::Refused(i));
-        };
+        let inside = self.inside_at(stack, i)?;
         let Some((text, at_text)) = self.text_at(inside)? else {
             return Err(Stop::Refused(inside));
         };

@@ -1,4 +1,4 @@
-ghost use Rattle.std.specs.Prelude.{◌≡◌, [], ℕ, Bool, List, Option, IfSome, IfNone, ◌-◌};
+ghost use Rattle.std.specs.Prelude.{◌≡◌, [], ℕ, Bool, List, Option, IfSome, IfNone, IfOk, IfErr, ◌-◌};
 ghost use Rattle.ms_text.specs.TokenList.{Lexed};
 ghost use Rattle.ms_parse_grammar.specs.Tree.{and_variable};
 ghost use Rattle.ms_parse_grammar.specs.View.{document_of, domain_of, variables_of};
@@ -9,6 +9,7 @@ ghost use Rattle.ms_parse_steps.specs.inner.Machine.{behind_parameter, body_of, 
 ghost use Rattle.ms_parse_steps.specs.inner.Terminals.{behind, symbol_with};
 ghost use Rattle.ms_parse_steps.specs.inner.Configurations.{head_of, StepsAs};
 ghost use Rattle.ms_parse_steps.specs.declared.parser.Parser.{Parser};
+ghost use Rattle.ms_parse_steps.specs.declared.stop.Stop.TheVariants.{Memory};
 
 use crate::configuration::{Configuration, Step};
 use crate::context::{Context, Parameter, Signature};
@@ -36,10 +37,11 @@ impl Input<'_> {
     }
 }
 
-/// A comma behind a parameter.
-pub fn another_parameter(parameter: Parameter, domain: Option<Boxed<Expr>>, i: u32) -> Step
-    ensures { (file : ℕ) (lexed : Lexed) (parser : Parser) →
-        StepsAs file lexed (took (parameter_wanted (document_of parser.source) (head_of parameter.signature) (and_variable (variables_of parameter.signature.parameters) parameter.variable.at parameter.order parameter.variable.name (domain_of domain))) (behind file lexed i)) parser result }
+/// The predicate with the parameter behind those before it.
+fn with_parameter(parameter: Parameter, domain: Option<Boxed<Expr>>) -> Result<Signature, Stop>
+    ensures head { IfOk result (λ made. head_of made ≡ head_of parameter.signature) }
+    ensures list { IfOk result (λ made. variables_of made.parameters ≡ and_variable (variables_of parameter.signature.parameters) parameter.variable.at parameter.order parameter.variable.name (domain_of domain)) }
+    ensures err { IfErr result (λ stop. stop ≡ Memory) }
 {
     let Parameter {
         mut signature,
@@ -47,7 +49,18 @@ pub fn another_parameter(parameter: Parameter, domain: Option<Boxed<Expr>>, i: u
         variable,
     } = parameter;
     push_variable(&mut signature.parameters, order, variable, domain)?;
-    Ok((Configuration::Parameter(signature), i))
+    Ok(signature)
+}
+
+/// A comma behind a parameter.
+pub fn another_parameter(parameter: Parameter, domain: Option<Boxed<Expr>>, i: u32) -> Step
+    ensures { (file : ℕ) (lexed : Lexed) (parser : Parser) →
+        StepsAs file lexed (took (parameter_wanted (document_of parser.source) (head_of parameter.signature) (and_variable (variables_of parameter.signature.parameters) parameter.variable.at parameter.order parameter.variable.name (domain_of domain))) (behind file lexed i)) parser result }
+{
+    Ok((
+        Configuration::Parameter(with_parameter(parameter, domain)?),
+        i,
+    ))
 }
 
 impl Input<'_> {
@@ -61,13 +74,7 @@ impl Input<'_> {
     ) -> Step
         ensures { StepsAs self.entry.file self.entry.tokens.now (body_of (document_of parser.old.source) (head_of parameter.signature) (and_variable (variables_of parameter.signature.parameters) parameter.variable.at parameter.order parameter.variable.name (domain_of domain)) (behind self.entry.file self.entry.tokens.now i)) parser.new result }
     {
-        let Parameter {
-            mut signature,
-            order,
-            variable,
-        } = parameter;
-        push_variable(&mut signature.parameters, order, variable, domain)?;
-        self.body_of(parser, signature, i)
+        self.body_of(parser, with_parameter(parameter, domain)?, i)
     }
 
     /// What stands behind a parameter.

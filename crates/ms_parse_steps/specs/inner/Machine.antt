@@ -7,7 +7,6 @@ use Rattle.ms_logic.specs.declared.mode.Mode.TheVariants.{Ws1s, M2lStr}
 use Rattle.ms_logic.specs.declared.mode.Order.{Order}
 use Rattle.ms_logic.specs.declared.mode.Quant.{Quant}
 use Rattle.ms_logic.specs.declared.mode.Rel.TheVariants.{Equal}
-use Rattle.ms_logic.specs.declared.source.Int.TheVariants.{Number, Constant}
 use Rattle.ms_logic.specs.declared.source.PlacedInt.{PlacedInt}
 use Rattle.ms_logic.specs.declared.source.Rename.{Rename}
 use Rattle.ms_parse_grammar.specs.Symbol.{Symbol, name, number, text, prefix_operator, infix_operator, joining, sign, quantifier, let_word, kind, predicate_word, default_word, word_true, word_false, dollar, word_empty, word_pconst, word_import, word_export, word_restrict, word_where, word_const, word_include, word_ws1s, open_round, close_round, open_curly, close_curly, comma, colon, semicolon, arrow, Placed, placed}
@@ -25,6 +24,7 @@ use Rattle.ms_parse_grammar.specs.Tree.{Expression, atom, prefixed, binary, join
 use Rattle.ms_parse_grammar.specs.Tree.{Declaration, variables, constant, predicate, included, default_restriction, formula, goal, Document}
 use Rattle.ms_parse_grammar.specs.Grammar.{binary_level, left_level, right_level, prefix_level, operand_level, junction_level, level, is_in, depth, depth_of_all, depth_of_domains, depth_of_values}
 use Rattle.ms_parse_grammar.specs.Reads.{place}
+use Rattle.ms_parse_steps.specs.inner.Said.{name_of, text_of, int_of}
 
 -- an expression that has been begun
 pub data Frame : Type 0 where
@@ -194,19 +194,23 @@ mark_then m further ts = either_mark m further misplaced ts
 abbrev pub equal_then : (List Placed → Move) → List Placed → Move
 equal_then further ts = mark_then (infix_operator (Relation Equal)) further ts
 
+abbrev pub or_else : {X : Type 0} → (X → Move) → Move → Option X → Move
+or_else further otherwise None = otherwise
+or_else further otherwise (Some x) = further x
+
+abbrev pub said_then : {X : Type 0} → (Symbol → Option X) → (At → X → List Placed → Move) → List Placed → Move
+said_then said further [] = misplaced []
+said_then said further (placed s a ∷ ts) = or_else (λ x. further a x ts) (misplaced (placed s a ∷ ts)) (said s)
+
 abbrev pub name_then : (At → List ℕ → List Placed → Move) → List Placed → Move
-name_then further (placed (name n) a ∷ ts) = further a n ts
-name_then further ts = misplaced ts
+name_then further ts = said_then name_of further ts
 
 abbrev pub text_then : (At → List ℕ → List Placed → Move) → List Placed → Move
-text_then further (placed (text t) a ∷ ts) = further a t ts
-text_then further ts = misplaced ts
+text_then further ts = said_then text_of further ts
 
 -- a number or constant, behind `-` where `minus` is true
 abbrev pub int_then : Bool → (PlacedInt → List Placed → Move) → List Placed → Move
-int_then minus further (placed (number n) a ∷ ts) = further (record { at = a; value = Number n; minus = minus }) ts
-int_then minus further (placed (name n) a ∷ ts) = further (record { at = a; value = Constant n; minus = minus }) ts
-int_then minus further ts = misplaced ts
+int_then minus further ts = said_then int_of (λ a v. further (record { at = a; value = v; minus = minus })) ts
 
 -- any symbol; `further` sees the symbols from it on and those behind it
 abbrev pub symbol_then : (At → Symbol → List Placed → List Placed → Move) → List Placed → Move

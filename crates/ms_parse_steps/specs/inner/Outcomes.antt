@@ -36,3 +36,8 @@ ActsAs c file lexed step frames (Err stop) = StopsAs file lexed step stop
 abbrev pub Continues : {X : Type 0} → ℕ → Lexed → Move → (X → List Placed → Move) → Result (X × ℕ) Stop → Type 0
 Continues file lexed step further (Ok (x, i)) = step ≡ further x (behind file lexed i)
 Continues file lexed step further (Err stop) = StopsAs file lexed step stop
+
+-- the step goes on from the token with this number on; or it is stuck
+abbrev pub GoesOn : ℕ → Lexed → Move → (List Placed → Move) → Result ℕ Stop → Type 0
+GoesOn file lexed step further (Ok i) = step ≡ further (behind file lexed i)
+GoesOn file lexed step further (Err stop) = StopsAs file lexed step stop

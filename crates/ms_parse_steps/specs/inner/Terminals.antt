@@ -1,5 +1,5 @@
 -- Symbols as the code sees them, apart from the bytes of names and texts.
-use Rattle.std.specs.Prelude.{◌≡◌, ℕ, suc, List, [], ◌∷◌, drop}
+use Rattle.std.specs.Prelude.{◌≡◌, ℕ, suc, List, [], ◌∷◌, drop, Option, IfSome}
 use Rattle.ms_list.specs.declared.at.At.{At}
 use Rattle.ms_text.specs.declared.token.Kind.{Kind}
 use Rattle.ms_text.specs.declared.token.Kind.TheVariants as kinds
@@ -7,6 +7,7 @@ use Rattle.ms_text.specs.TokenList.{Lexed}
 use Rattle.ms_parse_steps.specs.declared.terminal.Terminal.{Terminal}
 use Rattle.ms_parse_steps.specs.declared.terminal.Terminal.TheVariants as terminals
 use Rattle.ms_parse_grammar.specs.Symbol.{Symbol, name, number, text, left_out, prefix_operator, infix_operator, joining, sign, quantifier, let_word, kind, predicate_word, default_word, word_true, word_false, dollar, word_empty, word_pconst, word_import, word_export, word_restrict, word_where, word_const, word_include, word_ws1s, open_round, close_round, open_curly, close_curly, comma, colon, semicolon, arrow, between_quotes, Placed, placed, symbols}
+use Rattle.ms_parse_steps.specs.inner.Said.{name_of, text_of, int_of}
 
 -- the symbol with these bytes, where it has bytes
 abbrev pub symbol_with : Terminal → List ℕ → Symbol
@@ -61,20 +62,17 @@ behind file lexed i = drop i (symbols file lexed)
 abbrev pub IsNext : ℕ → Lexed → ℕ → Symbol → At → Type 0
 IsNext file lexed i s at = behind file lexed i ≡ placed s at ∷ behind file lexed (suc i)
 
--- the first symbol is no name, and no text
+-- the first symbol says nothing of this kind
+abbrev pub SaysNot : {X : Type 0} → (Symbol → Option X) → List Placed → Type 0
+SaysNot said [] = Unit {0}
+SaysNot said (placed s at ∷ more) = IfSome (said s) (λ x. ⊥)
+
 abbrev pub NoName : List Placed → Type 0
-NoName [] = Unit {0}
-NoName (placed (name n) at ∷ more) = ⊥
-NoName (placed _ at ∷ more) = Unit {0}
+NoName ts = SaysNot name_of ts
 
 abbrev pub NoText : List Placed → Type 0
-NoText [] = Unit {0}
-NoText (placed (text t) at ∷ more) = ⊥
-NoText (placed _ at ∷ more) = Unit {0}
+NoText ts = SaysNot text_of ts
 
 -- the first symbol is no number and no name
 abbrev pub NoInt : List Placed → Type 0
-NoInt [] = Unit {0}
-NoInt (placed (name n) at ∷ more) = ⊥
-NoInt (placed (number n) at ∷ more) = ⊥
-NoInt (placed _ at ∷ more) = Unit {0}
+NoInt ts = SaysNot int_of ts

@@ -1,19 +1,24 @@
-use Rattle.std.proofs.Common.{rules, ◌≤◌, ◌-◌, suc, length, ap, ◌∙◌, subst, sym, arith}
+use Rattle.std.proofs.Common.{rules, ◌≡◌, ◌≤◌, ◌-◌, suc, List, length, ◌∷◌, ◌∙◌, sym, arith}
+use Rattle.std.specs.Prelude.{Err}
 use Rattle.ms_parse_grammar.specs.Grammar.{greatest_depth}
+use Rattle.ms_parse_grammar.specs.Symbol.{Placed}
 use Rattle.ms_parse_grammar.specs.declared.operator.Bracket.TheVariants.{Restriction}
-use Rattle.ms_parse_steps.specs.inner.Machine.{bracket_frame, too_deep, begin_restrict}
+use Rattle.ms_parse_steps.specs.inner.Machine.{bracket_frame, wanted, took, too_deep}
 use Rattle.ms_parse_steps.specs.inner.Stack.{stack_of}
 use Rattle.ms_parse_steps.specs.inner.Terminals.{behind}
-use Rattle.ms_parse_steps.proofs.Steps.{roomy, entered}
+use Rattle.ms_parse_steps.proofs.Steps.{entered}
 use Rattle.ms_parse_steps.proofs.input.Input.begin_restrict.Goals as goal
+
+pub returns-in_err-next : goal.returns-in_err-next
+returns-in_err-next c context =
+    let is : c.from_residual.result ≡ Err c.in_err-next.field-0.0 = search rules in
+    rw is (rw c.deref.ensures.value at (c.in_err-next.ensures.step (took (wanted context (bracket_frame c.args.at Restriction ∷ stack_of c.args.stack.now.items)))))
 
 pub returns : goal.returns
 returns c context =
-    let file = c.args.self.file in
-    let lexed = c.args.self.tokens.now in
     let st = stack_of c.args.stack.now.items in
-    let from = behind file lexed (c.args.i - 1) in
-    let room : suc (suc (length st)) ≤ greatest_depth = subst (λ x. suc (suc (length (stack_of x))) ≤ greatest_depth) c.deref.ensures.value (c.has_room.ensures.yes (search rules)) in
-    rw (roomy greatest_depth st from (begin_restrict context st c.args.at (behind file lexed c.args.i)) room ∙ ap (begin_restrict context st c.args.at) c.in-Some.ensures.some.1
-    ∙ sym (entered greatest_depth context (bracket_frame c.args.at Restriction) st (too_deep from) (behind file lexed c.in-Some.next) room (omega arith)))
-    (c.enter.ensures context file lexed (too_deep from) (search rules))
+    let f = bracket_frame c.args.at Restriction in
+    let from : List Placed = behind c.args.self.file c.args.self.tokens.now (c.args.i - 1) in
+    let room : suc (suc (length st)) ≤ greatest_depth = rw c.deref.ensures.value at c.in_ok-next.ensures.room in
+    rw (rw c.deref.ensures.value at (c.in_ok-next.ensures.step (took (wanted context (f ∷ st)))) ∙ sym (entered greatest_depth context f st (too_deep from) _ room (omega arith)))
+    (c.enter.ensures context c.args.self.file c.args.self.tokens.now (too_deep from) (search rules))
