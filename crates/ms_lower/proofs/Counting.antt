@@ -93,6 +93,11 @@ pub counted-done : (limit : ℕ) (o : Option Counted) → IsCapped o → both_co
 counted-done limit None capped = refl
 counted-done limit (Some c) capped = ap (both_counts (Some c)) (within limit [] (omega arith)) ∙ same_count _ c.size _ c.depth (omega arith) (omega arith)
 
+-- of all parts some have been counted, and the rest are left
+pub record CountsWith (limit : ℕ) (rest all : List Extent) (so_far : Option Counted) : Type 0 where
+  pub all_is : both_counts so_far (counted limit rest) ≡ counted limit all
+  pub capped : IsCapped so_far
+
 -- the count of a node, and of two parts, by the counts that were made
 pub node : (limit below : ℕ) (parts : List Extent) (whole : Extent) (o r : Option Counted) →
     r ≡ above_count o → o ≡ counted below parts → whole ≡ above parts → suc below ≡ limit → limit < 2 ^ 32 → r ≡ counted limit (whole ∷ [])
@@ -103,12 +108,3 @@ pub pair : (limit : ℕ) (front later : List Extent) (o p r : Option Counted) �
     r ≡ both_counts o p → o ≡ counted limit front → p ≡ counted limit later → r ≡ counted limit (front ++ later)
 pair limit front later o p r made one other =
     made ∙ (ap (λ c. both_counts c p) one ∙ (ap (both_counts (counted limit front)) other ∙ counted-append limit front later))
-
--- a node over two parts that have been counted
-pub node_of_two : {X : Type 0} (E : X → Extent) (limit below : ℕ) (l r left right : X) (whole : Extent) (o p both made : Option Counted) →
-    both ≡ both_counts o p → o ≡ counted below (E l ∷ []) → l ≡ left → p ≡ counted below (E r ∷ []) → r ≡ right → made ≡ above_count both → whole ≡ above (E left ∷ E right ∷ []) → suc below ≡ limit → limit < 2 ^ 32 →
-    made ≡ counted limit (whole ∷ [])
-node_of_two E limit below l r left right whole o p both made joined one left_is other right_is top is step small =
-    node limit below (E left ∷ E right ∷ []) whole both made top
-    (pair below (E left ∷ []) (E right ∷ []) o p both joined (one ∙ ap (λ x. counted below (E x ∷ [])) left_is) (other ∙ ap (λ x. counted below (E x ∷ [])) right_is))
-    is step small

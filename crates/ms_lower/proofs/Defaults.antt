@@ -13,9 +13,9 @@ pub default_over_same : (ds : List Declaration) (x : ℕ) (names : Names) → de
 default_over_same [] x names = refl
 default_over_same (d ∷ ds) x names = ap (named d.variable.order d.variable.name (names d.variable.order x)) (default_over_same ds x names)
 
-all_named-append : (ns : List Named) (n : Named) (base : Names) → all_named (ns ++ n ∷ []) base ≡ all_named ns (named n.order n.variable n.name base)
-all_named-append [] n base = refl
-all_named-append (m ∷ ns) n base = ap (named m.order m.variable m.name) (all_named-append ns n base)
+pub all_named-append : (ns later : List Named) (base : Names) → all_named (ns ++ later) base ≡ all_named ns (all_named later base)
+all_named-append [] later base = refl
+all_named-append (n ∷ ns) later base = ap (named n.order n.variable n.name) (all_named-append ns later base)
 
 default_over-append : (ds : List Declaration) (d : Declaration) (x : ℕ) (names base : Names) →
     default_over (ds ++ d ∷ []) x names base ≡ default_over ds x names (named d.variable.order d.variable.name (names d.variable.order x) base)
@@ -28,7 +28,7 @@ pub default_more : (ns made : List Named) (params : List Param) (i : ℕ) (p : P
     (base : Names) → all_named made base ≡ default_over (map declaration_of (take (i + 1) params)) x names base
 default_more ns made params i p x name names below is before name_is made_is base =
     ap (λ l. all_named l base) made_is
-    ∙ (all_named-append ns (record { order = p.order; variable = p.variable; name = name }) base
+    ∙ (all_named-append ns ((record { order = p.order; variable = p.variable; name = name }) ∷ []) base
     ∙ (before (named p.order p.variable name base)
     ∙ (ap (λ k. default_over (map declaration_of (take i params)) x names (named p.order p.variable k base)) name_is
     ∙ (sym (default_over-append (map declaration_of (take i params)) (declaration_of p) x names base)

@@ -10,18 +10,19 @@ use Rattle.ms_logic.specs.Tree.{Term, SetTerm, Argument, Arguments, more_argumen
 use Rattle.ms_logic.specs.View.{arguments}
 use Rattle.ms_lower.specs.declared.defined.Defined.{Defined}
 use Rattle.ms_lower.specs.declared.given.Entered.{Entered}
-use Rattle.ms_lower.specs.declared.given.Given.{Given}
 use Rattle.ms_lower.specs.inner.Defined.{IsDefined}
-use Rattle.ms_lower.specs.inner.Given.{Giving, IsGiven, IsNumberOrSet, IsTruth, EntersBefore, all_entered, below_all, below_given_at, entered_at, entered_with}
+use Rattle.ms_lower.specs.inner.Given.{Giving, IsGiven, IsNumberOrSet, IsTruth, EntersBefore, below_all, below_given_at, entered_with, named_by}
 use Rattle.ms_lower.specs.Numbering.{Numbering, renumbered}
-use Rattle.ms_lower.proofs.ValueLists.{all_entered-append, below_all-append}
+use Rattle.ms_lower.specs.inner.Scope.{all_named}
+use Rattle.ms_lower.proofs.Defaults.{all_named-append}
+use Rattle.ms_lower.proofs.ValueLists.{below_all-append}
 
 -- the variable at a place
-pub first_at : (xs : List ℕ) (i : ℕ) (o : Order) (y : ℕ) (names : Names) → first_named o (drop i xs) y names ≡ entered_at (slice_get xs i) o y names
-first_at [] zero o y names = refl
-first_at [] (suc i) o y names = refl
-first_at (x ∷ xs) zero o y names = refl
-first_at (x ∷ xs) (suc i) o y names = first_at xs i o y names
+first_at : (xs : List ℕ) (i : ℕ) (d : Defined) (names : Names) → first_named d.order (drop i xs) d.name names ≡ all_named (named_by (slice_get xs i) d) names
+first_at [] zero d names = refl
+first_at [] (suc i) d names = refl
+first_at (x ∷ xs) zero d names = refl
+first_at (x ∷ xs) (suc i) d names = first_at xs i d names
 
 drop_suc : {A : Type 0} (xs : List A) (i : ℕ) → drop (suc i) xs ≡ drop (i + 1) xs
 drop_suc xs i = let next : suc i ≡ i + 1 = omega arith in ap (λ k. drop k xs) next
@@ -56,18 +57,18 @@ module _ (n : Numbering) (whole : Giving) (free : ℕ) where
       EntersBefore n whole (λ inner free Said. T free (λ free y. rest inner free (λ inner free. Said (first_named o (drop i xs) y inner) free))) free made →
       EntersBefore n whole rest free (entered_with made variable (Some d))
   enters_more rest xs i o T made d variable is given before =
-      let g : Given = record { variable = variable; defined = d } in
+      let one = named_by variable d in
       record {
         says = λ inner Said.
-            let at : (inner : Names) → all_entered made.given (first_named o (drop i xs) d.name inner) ≡ all_entered (made.given ++ g ∷ []) inner =
-            λ inner. ap (all_entered made.given) (first_at xs i o d.name inner ∙ (ap (λ v. entered_at v o d.name inner) (sym is) ∙ ap (λ p. entered_at variable p d.name inner) (sym given.order_is))) ∙ sym (all_entered-append made.given g inner) in
-            let same : (λ inner free. Said (all_entered made.given (first_named o (drop i xs) d.name inner)) free) ≡ (λ inner free. Said (all_entered (made.given ++ g ∷ []) inner) free) =
+            let at : (inner : Names) → all_named made.named (first_named o (drop i xs) d.name inner) ≡ all_named (made.named ++ one) inner =
+            λ inner. ap (all_named made.named) (ap (λ p. first_named p (drop i xs) d.name inner) (sym given.order_is) ∙ (first_at xs i d inner ∙ ap (λ v. all_named (named_by v d) inner) (sym is))) ∙ sym (all_named-append made.named one inner) in
+            let same : (λ inner free. Said (all_named made.named (first_named o (drop i xs) d.name inner)) free) ≡ (λ inner free. Said (all_named (made.named ++ one) inner) free) =
             fun_ext (λ inner. ap Said (at inner)) in
             before.says inner Said
-            ∙ (ap (below_all made.given) (given.says (λ free y. rest inner free (λ inner free. Said (all_entered made.given (first_named o (drop i xs) y inner)) free))
+            ∙ (ap (below_all made.defined) (given.says (λ free y. rest inner free (λ inner free. Said (all_named made.named (first_named o (drop i xs) y inner)) free))
             ∙ (ap (λ S. below_given_at o d (renumbered n (rest inner d.next S))) same
-            ∙ ap (λ p. below_given_at p d (renumbered n (rest inner d.next (λ inner free. Said (all_entered (made.given ++ g ∷ []) inner) free)))) (sym given.order_is)))
-            ∙ sym (below_all-append made.given g (renumbered n (rest inner d.next (λ inner free. Said (all_entered (made.given ++ g ∷ []) inner) free)))));
+            ∙ ap (λ p. below_given_at p d (renumbered n (rest inner d.next (λ inner free. Said (all_named (made.named ++ one) inner) free)))) (sym given.order_is)))
+            ∙ sym (below_all-append made.defined d (renumbered n (rest inner d.next (λ inner free. Said (all_named (made.named ++ one) inner) free)))));
       }
 
   number_at_place : (xs : List ℕ) (names : Names) (i : ℕ) (a : Argument) (rest : Arguments) (value : Option Defined) (variable : Option ℕ) (before : Entered) →

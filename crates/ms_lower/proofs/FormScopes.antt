@@ -12,14 +12,14 @@ use Rattle.ms_logic.specs.declared.mode.Rel.TheVariants.{Equal, Differs, Less, A
 use Rattle.ms_logic.specs.Assignment.{Variable}
 use Rattle.ms_logic_core.specs.CoreForm.{CoreForm, basic, core_forms}
 use Rattle.ms_logic.specs.FreeVariables.{FreeUnder, FreeInForms, FreeInRestriction, FreeInArguments, IsBound, IsListed, IsVariable, Reads, orders_of}
-use Rattle.ms_logic_core.specs.Spread.{Callees, Names, conjunction_of, is_order, named, numbers_and_sets, numbers_relate, sets_relate, is_member_or_not, spread_each, spread_number, spread_restriction, spread_set, spread_under, truth_value, truth_values, variable_of_form, variables_of_import}
+use Rattle.ms_logic_core.specs.Spread.{Callees, Names, TermSpread, after_first, conjunction_of, first_named, is_order, named, numbers_and_sets, numbers_relate, sets_relate, is_member_or_not, spread_each, spread_number, spread_restriction, spread_set, spread_under, truth_value, truth_values, variable_of_form, variables_of_import}
 use Rattle.ms_logic_core.specs.Operands.{variables_at}
 use Rattle.ms_logic.specs.Tree.{Form, truth, falsity, truth_variable, negation, conjunction, disjunction, implication, equivalence, comparison, set_comparison, membership, emptiness, quantified, where_let, call, restrict, imported, exported, default_at, Forms, no_forms, more_forms, Restriction, unrestricted, restricted, truth_argument, number_argument, set_argument, Arguments, no_arguments, more_arguments}
 use Rattle.ms_logic.specs.Truth.{Import}
 use Rattle.ms_logic.specs.Lists.{Each, IsAmong}
-use Rattle.ms_lower.specs.inner.Given.{Inner}
+use Rattle.ms_lower.specs.inner.Given.{Giving, Inner}
 use Rattle.ms_logic_core.specs.Stands.{EachStands, RestrictionStands, Stands}
-use Rattle.ms_lower.proofs.TermScopes.{Below, Covers, SaysWell, Wider, at, below_new, number_well, set_well, variable}
+use Rattle.ms_lower.proofs.TermScopes.{Below, Covers, StandsWell, Wider, at, below_new, known_well, number_well, set_well, variable}
 
 order_is : (o p : Order) → is_order o p ≡ true → o ≡ p
 order_is Zero Zero is = refl
@@ -71,24 +71,27 @@ named_or o x y names w false is =
 Extends : (Variable → Type 0) → Names → Names → List Variable → Type 0
 Extends B inner made scope = (w : Variable) → (B w × IsAmong scope (at made w)) ⊎ ((¬ B w) × (at made w ≡ at inner w))
 
+-- the variable is the first that gets a value, and the value has its order
+FirstIs : List ℕ → Order → Variable → Type 0
+FirstIs [] o w = ⊥
+FirstIs (x ∷ xs) o w = IsVariable x o w
+
 -- a number or a set, and a truth value, is given to the variable
 
 GivenNumber : List ℕ → Arguments → Variable → Type 0
-GivenNumber [] args w = ⊥
-GivenNumber (x ∷ xs) no_arguments w = ⊥
-GivenNumber (x ∷ xs) (more_arguments (truth_argument f) more) w = GivenNumber xs more w
-GivenNumber (x ∷ xs) (more_arguments (number_argument t) more) w = IsVariable x One w ⊎ GivenNumber xs more w
-GivenNumber (x ∷ xs) (more_arguments (set_argument s) more) w = IsVariable x Two w ⊎ GivenNumber xs more w
+GivenNumber xs no_arguments w = ⊥
+GivenNumber xs (more_arguments (truth_argument f) more) w = GivenNumber (after_first xs) more w
+GivenNumber xs (more_arguments (number_argument t) more) w = FirstIs xs One w ⊎ GivenNumber (after_first xs) more w
+GivenNumber xs (more_arguments (set_argument s) more) w = FirstIs xs Two w ⊎ GivenNumber (after_first xs) more w
 
 GivenTruth : List ℕ → Arguments → Variable → Type 0
-GivenTruth [] args w = ⊥
-GivenTruth (x ∷ xs) no_arguments w = ⊥
-GivenTruth (x ∷ xs) (more_arguments (truth_argument f) more) w = IsVariable x Zero w ⊎ GivenTruth xs more w
-GivenTruth (x ∷ xs) (more_arguments (number_argument t) more) w = GivenTruth xs more w
-GivenTruth (x ∷ xs) (more_arguments (set_argument s) more) w = GivenTruth xs more w
+GivenTruth xs no_arguments w = ⊥
+GivenTruth xs (more_arguments (truth_argument f) more) w = FirstIs xs Zero w ⊎ GivenTruth (after_first xs) more w
+GivenTruth xs (more_arguments (number_argument t) more) w = GivenTruth (after_first xs) more w
+GivenTruth xs (more_arguments (set_argument s) more) w = GivenTruth (after_first xs) more w
 
 given_either : (xs : List ℕ) (args : Arguments) (w : Variable) → IsBound xs (orders_of args) w → GivenNumber xs args w ⊎ GivenTruth xs args w
-unfolding GivenNumber GivenTruth
+unfolding FirstIs GivenNumber GivenTruth
 given_either [] args w bound = absurd bound
 given_either (x ∷ xs) no_arguments w bound = absurd bound
 given_either (x ∷ xs) (more_arguments (truth_argument f) more) w (inl here) = inr (inl here)
@@ -98,11 +101,16 @@ given_either (x ∷ xs) (more_arguments (number_argument t) more) w (inr later) 
 given_either (x ∷ xs) (more_arguments (set_argument s) more) w (inl here) = inl (inl here)
 given_either (x ∷ xs) (more_arguments (set_argument s) more) w (inr later) = elim (given_either xs more w later) [ inl n ↦ inl (inr n) | inr v ↦ inr v ]
 
--- one name more
-extended : (B : Variable → Type 0) (o : Order) (x y : ℕ) (inner made : Names) (scope : List Variable) → IsAmong scope (variable y o) → Extends B inner made scope →
-    Extends (λ w. IsVariable x o w ⊎ B w) inner (named o x y made) scope
-unfolding Extends
-extended B o x y inner made scope there extends w =
+-- one name more, if there is a variable for it
+extended : (B : Variable → Type 0) (xs : List ℕ) (o : Order) (y : ℕ) (inner made : Names) (scope : List Variable) → IsAmong scope (variable y o) → Extends B inner made scope →
+    Extends (λ w. FirstIs xs o w ⊎ B w) inner (first_named o xs y made) scope
+unfolding Extends FirstIs
+extended B [] o y inner made scope there extends w =
+    elim (extends w) [
+      | inl given ↦ inl (inr given.0, given.1)
+      | inr kept ↦ inr ((λ e. ⊎_elim (λ none. none) kept.0 e), kept.1)
+    ]
+extended B (x ∷ xs) o y inner made scope there extends w =
     elim (named_or o x y made w (is_order o w.order) refl) [
       | inl here ↦ inl (inl here.0, subst (IsAmong scope) (sym here.1) there)
       | inr other ↦
@@ -182,43 +190,37 @@ module _ (imports : List Import) where
   abbrev InnerWell : List Variable → (Variable → Type 0) → Names → Inner → Type 0
   InnerWell scope B inner Said = (next : ℕ) (wide : List Variable) (made : Names) → Wider scope wide → Below next wide → Extends B inner made wide → Stands imports wide (Said made next)
 
+  -- one value more, around what gives the later ones
+  value_given : (B : Variable → Type 0) (o : Order) (T : TermSpread) (xs : List ℕ) (rest : Giving) (inner : Names) (free : ℕ) (scope : List Variable) (Said : Inner) → StandsWell imports scope o T →
+      ((next : ℕ) (wide : List Variable) (Said : Inner) → Wider scope wide → Below next wide → InnerWell wide B inner Said → Stands imports wide (rest inner next Said)) →
+      Below free scope → InnerWell scope (λ w. FirstIs xs o w ⊎ B w) inner Said →
+      Stands imports scope (T free (λ free y. rest inner free (λ made free. Said (first_named o xs y made) free)))
+  value_given B o T xs rest inner free scope Said one later below well =
+      one free scope (λ free y. rest inner free (λ made free. Said (first_named o xs y made) free)) (λ v h. h) below (λ next y wide w b there.
+      later next wide (λ made free. Said (first_named o xs y made) free) w b (λ last most made m k extends.
+      well last most (first_named o xs y made) (λ v h. m v (w v h)) k (extended B xs o y inner made most (m (variable y o) there) extends)))
+
   numbers_given : (r : Reads) (args : Arguments) (xs : List ℕ) (names inner : Names) (free : ℕ) (scope : List Variable) (Said : Inner) → Covers (FreeInArguments r args) names scope → Below free scope →
       InnerWell scope (GivenNumber xs args) inner Said → Stands imports scope (numbers_and_sets xs args names inner free Said)
   unfolding Extends GivenNumber
-  numbers_given r no_arguments [] names inner free scope Said covers below well = well free scope inner (λ v h. h) below (λ w. inr ((λ e. e), refl))
-  numbers_given r no_arguments (x ∷ xs) names inner free scope Said covers below well = well free scope inner (λ v h. h) below (λ w. inr ((λ e. e), refl))
-  numbers_given r (more_arguments (truth_argument f) more) [] names inner free scope Said covers below well =
-      numbers_given r more [] names inner free scope Said (λ w e. covers w (inr e)) below well
-  numbers_given r (more_arguments (truth_argument f) more) (x ∷ xs) names inner free scope Said covers below well =
-      numbers_given r more xs names inner free scope Said (λ w e. covers w (inr e)) below well
-  numbers_given r (more_arguments (number_argument t) more) [] names inner free scope Said covers below well =
-      number_well imports t names scope (λ w e. covers w (inl e)) free scope (λ free y. numbers_and_sets [] more names inner free Said) (λ v h. h) below (λ next y wide w b there.
-      numbers_given r more [] names inner next wide Said (λ z e. w (at names z) (covers z (inr e))) b (λ last most made m k extends. well last most made (λ v h. m v (w v h)) k extends))
-  numbers_given r (more_arguments (number_argument t) more) (x ∷ xs) names inner free scope Said covers below well =
-      number_well imports t names scope (λ w e. covers w (inl e)) free scope (λ free y. numbers_and_sets xs more names inner free (λ made free. Said (named One x y made) free)) (λ v h. h) below (λ next y wide w b there.
-      numbers_given r more xs names inner next wide (λ made free. Said (named One x y made) free) (λ z e. w (at names z) (covers z (inr e))) b (λ last most made m k extends.
-      well last most (named One x y made) (λ v h. m v (w v h)) k (extended (GivenNumber xs more) One x y inner made most (m (variable y One) there) extends)))
-  numbers_given r (more_arguments (set_argument s) more) [] names inner free scope Said covers below well =
-      set_well imports s names scope (λ w e. covers w (inl e)) free scope (λ free y. numbers_and_sets [] more names inner free Said) (λ v h. h) below (λ next y wide w b there.
-      numbers_given r more [] names inner next wide Said (λ z e. w (at names z) (covers z (inr e))) b (λ last most made m k extends. well last most made (λ v h. m v (w v h)) k extends))
-  numbers_given r (more_arguments (set_argument s) more) (x ∷ xs) names inner free scope Said covers below well =
-      set_well imports s names scope (λ w e. covers w (inl e)) free scope (λ free y. numbers_and_sets xs more names inner free (λ made free. Said (named Two x y made) free)) (λ v h. h) below (λ next y wide w b there.
-      numbers_given r more xs names inner next wide (λ made free. Said (named Two x y made) free) (λ z e. w (at names z) (covers z (inr e))) b (λ last most made m k extends.
-      well last most (named Two x y made) (λ v h. m v (w v h)) k (extended (GivenNumber xs more) Two x y inner made most (m (variable y Two) there) extends)))
+  numbers_given r no_arguments xs names inner free scope Said covers below well = well free scope inner (λ v h. h) below (λ w. inr ((λ e. e), refl))
+  numbers_given r (more_arguments (truth_argument f) more) xs names inner free scope Said covers below well =
+      numbers_given r more (after_first xs) names inner free scope Said (λ w e. covers w (inr e)) below well
+  numbers_given r (more_arguments (number_argument t) more) xs names inner free scope Said covers below well =
+      value_given (GivenNumber (after_first xs) more) One (spread_number t names) xs (numbers_and_sets (after_first xs) more names) inner free scope Said (number_well imports t names scope (λ w e. covers w (inl e)))
+      (λ next wide Said w b well. numbers_given r more (after_first xs) names inner next wide Said (λ z e. w (at names z) (covers z (inr e))) b well) below well
+  numbers_given r (more_arguments (set_argument s) more) xs names inner free scope Said covers below well =
+      value_given (GivenNumber (after_first xs) more) Two (spread_set s names) xs (numbers_and_sets (after_first xs) more names) inner free scope Said (set_well imports s names scope (λ w e. covers w (inl e)))
+      (λ next wide Said w b well. numbers_given r more (after_first xs) names inner next wide Said (λ z e. w (at names z) (covers z (inr e))) b well) below well
 
   -- a truth value among the arguments
-  truth_given : (names : Names) (f : Form) (F : ℕ → CoreForm) (o : Option ℕ) → variable_of_form f ≡ o → (free : ℕ) (scope : List Variable) (Said : ℕ → ℕ → CoreForm) → ((x : ℕ) → variable_of_form f ≡ Some x → IsAmong scope (variable (names Zero x) Zero)) →
-      ((next : ℕ) (wide : List Variable) → Wider scope wide → Below next wide → Stands imports wide (F next)) → Below free scope → SaysWell imports scope Zero Said → Stands imports scope (truth_value (option_map (names Zero) o) F free Said)
-  truth_given names f F (Some x) is free scope Said own stands below says = says free (names Zero x) scope (λ v h. h) below (own x is)
-  truth_given names f F None is free scope Said own stands below says =
-      let wide : List Variable = variable free Zero ∷ scope in (
-        below,
-        tt,
-        (
-          ((inl refl, tt), stands (free + 1) wide (λ v h. inr h) (below_new free Zero scope below)),
-          (says (free + 1) free wide (λ v h. inr h) (below_new free Zero scope below) (inl refl), tt),
-        ),
-      )
+  truth_well : (base : List Variable) (names : Names) (f : Form) (F : ℕ → CoreForm) (o : Option ℕ) → variable_of_form f ≡ o → ((x : ℕ) → variable_of_form f ≡ Some x → IsAmong base (variable (names Zero x) Zero)) →
+      ((next : ℕ) (wide : List Variable) → Wider base wide → Below next wide → Stands imports wide (F next)) → StandsWell imports base Zero (truth_value (option_map (names Zero) o) F)
+  truth_well base names f F (Some x) is own stands free scope Said wider below says = known_well imports base Zero (names Zero x) (own x is) free scope Said wider below says
+  truth_well base names f F None is own stands free scope Said wider below says =
+      let wide : List Variable = variable free Zero ∷ scope in
+      let new = below_new free Zero scope below in
+      (below, tt, (((inl refl, tt), stands (free + 1) wide (λ v h. inr (wider v h)) new), (says (free + 1) free wide (λ v h. inr h) new (inl refl), tt)))
 
 -- inner names read what a formula reads, where the variables that are given are known
 inner_covers : (xs : List ℕ) (args : Arguments) (names one both : Names) (scope wide most : List Variable) (w : Variable) → Wider scope wide → Wider wide most → Extends (GivenNumber xs args) names one wide → Extends (GivenTruth xs args) one both most →
@@ -304,19 +306,11 @@ module _ (imports : List Import) (r : Reads) (c : Callees) (fits : Fits imports 
     restriction_stands (restricted d) names scope free covers below = form_stands d names scope free covers below
 
     truths_given : (args : Arguments) (xs : List ℕ) (names inner : Names) (free : ℕ) (scope : List Variable) (Said : Inner) → Covers (FreeInArguments r args) names scope → Below free scope →
-        ((next : ℕ) (wide : List Variable) (made : Names) → Wider scope wide → Below next wide → Extends (GivenTruth xs args) inner made wide → Stands imports wide (Said made next)) → Stands imports scope (truth_values c xs args names inner free Said)
-    truths_given no_arguments [] names inner free scope Said covers below well = well free scope inner (λ v h. h) below (λ w. inr ((λ e. e), refl))
-    truths_given no_arguments (x ∷ xs) names inner free scope Said covers below well = well free scope inner (λ v h. h) below (λ w. inr ((λ e. e), refl))
-    truths_given (more_arguments (number_argument t) more) [] names inner free scope Said covers below well = truths_given more [] names inner free scope Said (λ w e. covers w (inr e)) below well
-    truths_given (more_arguments (number_argument t) more) (x ∷ xs) names inner free scope Said covers below well = truths_given more xs names inner free scope Said (λ w e. covers w (inr e)) below well
-    truths_given (more_arguments (set_argument s) more) [] names inner free scope Said covers below well = truths_given more [] names inner free scope Said (λ w e. covers w (inr e)) below well
-    truths_given (more_arguments (set_argument s) more) (x ∷ xs) names inner free scope Said covers below well = truths_given more xs names inner free scope Said (λ w e. covers w (inr e)) below well
-    truths_given (more_arguments (truth_argument f) more) [] names inner free scope Said covers below well =
-        truth_given imports names f (spread_under c f names) (variable_of_form f) refl free scope (λ free y. truth_values c [] more names inner free Said) (λ x is. covers (variable x Zero) (inl (own_variable r f x is)))
-        (λ next wide w b. form_stands f names wide next (λ z e. w (at names z) (covers z (inl e))) b) below (λ next y wide w b there.
-        truths_given more [] names inner next wide Said (λ z e. w (at names z) (covers z (inr e))) b (λ last most made m k extends. well last most made (λ v h. m v (w v h)) k extends))
-    truths_given (more_arguments (truth_argument f) more) (x ∷ xs) names inner free scope Said covers below well =
-        truth_given imports names f (spread_under c f names) (variable_of_form f) refl free scope (λ free y. truth_values c xs more names inner free (λ made free. Said (named Zero x y made) free)) (λ x is. covers (variable x Zero) (inl (own_variable r f x is)))
-        (λ next wide w b. form_stands f names wide next (λ z e. w (at names z) (covers z (inl e))) b) below (λ next y wide w b there.
-        truths_given more xs names inner next wide (λ made free. Said (named Zero x y made) free) (λ z e. w (at names z) (covers z (inr e))) b (λ last most made m k extends.
-        well last most (named Zero x y made) (λ v h. m v (w v h)) k (extended (GivenTruth xs more) Zero x y inner made most (m (variable y Zero) there) extends)))
+        InnerWell imports scope (GivenTruth xs args) inner Said → Stands imports scope (truth_values c xs args names inner free Said)
+    truths_given no_arguments xs names inner free scope Said covers below well = well free scope inner (λ v h. h) below (λ w. inr ((λ e. e), refl))
+    truths_given (more_arguments (number_argument t) more) xs names inner free scope Said covers below well = truths_given more (after_first xs) names inner free scope Said (λ w e. covers w (inr e)) below well
+    truths_given (more_arguments (set_argument s) more) xs names inner free scope Said covers below well = truths_given more (after_first xs) names inner free scope Said (λ w e. covers w (inr e)) below well
+    truths_given (more_arguments (truth_argument f) more) xs names inner free scope Said covers below well =
+        value_given imports (GivenTruth (after_first xs) more) Zero (truth_value (option_map (names Zero) (variable_of_form f)) (spread_under c f names)) xs (truth_values c (after_first xs) more names) inner free scope Said
+        (truth_well imports scope names f (spread_under c f names) (variable_of_form f) refl (λ x is. covers (variable x Zero) (inl (own_variable r f x is))) (λ next wide w b. form_stands f names wide next (λ z e. w (at names z) (covers z (inl e))) b))
+        (λ next wide Said w b well. truths_given more (after_first xs) names inner next wide Said (λ z e. w (at names z) (covers z (inr e))) b well) below well

@@ -12,13 +12,11 @@ use Rattle.ms_logic.specs.declared.mode.Order.TheVariants.{Zero, One, Two}
 use Rattle.ms_logic.specs.declared.mode.Quant.{Quant}
 use Rattle.ms_logic.specs.declared.mode.Rel.{Rel}
 use Rattle.ms_logic.specs.declared.mode.Rel.TheVariants.{Equal, Differs, Less, AtMost, Greater, AtLeast, Member, NotMember, Sub}
-use Rattle.ms_logic.specs.declared.term.Term1.{Term1}
-use Rattle.ms_logic.specs.declared.term.Term2.{Term2}
 use Rattle.ms_logic_core.specs.CoreForm as core
 use Rattle.ms_logic_core.specs.CoreForm.{CoreForm, CoreRestriction, core_form_of, core_forms, conjunction, disjunction}
-use Rattle.ms_logic_core.specs.Spread.{Callees, Names, TermSpread, conjunction_of, default_names, named, numbers_relate, sets_relate, restrictions_of, spread_each, spread_number, spread_restriction, spread_set, spread_under, truth_value, variable_of_form}
-use Rattle.ms_logic.specs.Tree.{Declaration, Form, Predicate, comparison, quantified, set_comparison}
-use Rattle.ms_logic.specs.View.{argument_of, formula_of, forms, restriction, set_term_of, term_of}
+use Rattle.ms_logic_core.specs.Spread.{Callees, Names, TermSpread, conjunction_of, default_names, named, numbers_relate, sets_relate, restrictions_of, spread_each, spread_restriction, spread_under, truth_value, variable_of_form}
+use Rattle.ms_logic.specs.Tree.{Declaration, Form, Predicate, quantified}
+use Rattle.ms_logic.specs.View.{argument_of, formula_of, forms, restriction}
 use Rattle.ms_logic.proofs.Views.{argument_of-Zero, formula_of-And, formula_of-Or}
 use Rattle.ms_lower.specs.declared.defined.Defined.{Defined}
 use Rattle.ms_lower.specs.Callees.{disjunction_over}

@@ -1,5 +1,5 @@
 -- The main root of a question.
-use Rattle.std.proofs.Common.{◌≡◌, ℕ, zero, suc, ◌+◌, ◌*◌, ◌-◌, ◌<◌, ◌≤◌, cond, max, min, List, [], ◌∷◌, ◌++◌, length, map, take, get_or, Some, None, refl, sym, ap, ap₂, ◌∙◌, arith, append-nil}
+use Rattle.std.proofs.Common.{◌≡◌, ℕ, zero, suc, ◌+◌, ◌*◌, ◌-◌, ◌<◌, ◌≤◌, cond, max, min, List, [], ◌∷◌, ◌++◌, length, map, take, get_or, refl, sym, ap, ap₂, ◌∙◌, arith}
 use Rattle.std.proofs.lemmas.Bool.{lt-ltb}
 use Rattle.std.proofs.lemmas.List.{map-append, take_more}
 use Rattle.std.proofs.lemmas.List.FromFn.{map-range_with_len_more}
@@ -8,10 +8,9 @@ use Rattle.std.specs.Option.{option_map}
 use Rattle.ms_logic.specs.declared.checked.Global.{Global}
 use Rattle.ms_logic.specs.declared.checked.Placed.{Placed}
 use Rattle.ms_logic_core.specs.declared.core_formula.Core.{Core}
-use Rattle.ms_logic.specs.declared.formula.Formula.{Formula}
 use Rattle.ms_logic.specs.declared.mode.Order.{Order}
 use Rattle.ms_logic.specs.Assignment.{Variable}
-use Rattle.ms_logic_core.specs.CoreForm.{CoreForm, core_form_of, restrict}
+use Rattle.ms_logic_core.specs.CoreForm.{CoreForm, core_form_of}
 use Rattle.ms_logic_core.specs.Roots.{first_free}
 use Rattle.ms_logic_core.specs.Spread.{Callees, Names, conjunction_of, own_names, restriction_before, restrictions_of, spread_each, spread_under}
 use Rattle.ms_logic.specs.Tree.{Declaration}

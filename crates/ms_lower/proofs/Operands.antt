@@ -1,14 +1,12 @@
 -- One operand or one parameter more.
-use Rattle.std.proofs.Common.{◌≡◌, ℕ, ◌+◌, ◌<◌, List, [], ◌∷◌, ◌++◌, length, map, take, get_or, Some, None, refl, sym, ap, ◌∙◌, append-nil}
+use Rattle.std.proofs.Common.{◌≡◌, ℕ, ◌+◌, ◌<◌, List, [], ◌∷◌, ◌++◌, length, map, take, get_or, refl, sym, ap, ◌∙◌}
 use Rattle.std.proofs.lemmas.List.{map-append}
-use Rattle.std.specs.Option.{option_map}
-use Rattle.ms_logic.specs.declared.checked.Param.{Param}
 use Rattle.ms_logic_core.specs.declared.core_formula.Core.{Core}
 use Rattle.ms_logic.specs.declared.formula.Formula.{Formula}
-use Rattle.ms_logic_core.specs.CoreForm.{CoreForm, core_form_of, restrict}
+use Rattle.ms_logic_core.specs.CoreForm.{CoreForm, core_form_of}
 use Rattle.ms_logic_core.specs.Spread.{Callees, Names, restriction_before, restrictions_of, spread_each, spread_under}
 use Rattle.ms_logic.specs.Tree.{Form, Declaration, Restriction, unrestricted, restricted}
-use Rattle.ms_logic.specs.View.{declaration_of, formula_of, forms, restriction}
+use Rattle.ms_logic.specs.View.{formula_of, forms}
 use Rattle.ms_lower.specs.Numbering.{Numbering, renumbered}
 use Rattle.ms_lower.proofs.Parts.{map-more}
 

@@ -1,28 +1,20 @@
 -- Values that are entered one after the other.
-use Rattle.std.proofs.Common.{◌≡◌, ℕ, zero, suc, ◌+◌, ◌-◌, ◌<◌, ◌≤◌, List, [], ◌∷◌, ◌++◌, length, map, drop, drop-cons, get_or, slice_get, Some, None, refl, sym, ap, ◌∙◌, arith}
+use Rattle.std.proofs.Common.{◌≡◌, ℕ, zero, suc, ◌+◌, ◌<◌, ◌≤◌, List, [], ◌∷◌, ◌++◌, length, map, drop, drop-cons, get_or, slice_get, Some, None, refl, sym, ap, ◌∙◌, arith}
 use Rattle.ms_logic_core.specs.CoreForm.{CoreForm}
 use Rattle.ms_logic.specs.declared.formula.Binding.{Binding}
 use Rattle.ms_logic.specs.declared.formula.Arg.TheFolds.{fold_out-Binding}
-use Rattle.ms_logic_core.specs.Spread.{Names, named}
 use Rattle.ms_logic.specs.Tree.{Form, Argument}
 use Rattle.ms_logic.specs.View.{argument_at, argument_of, binding_at, binding_of, form_at}
-use Rattle.ms_lower.specs.declared.given.Given.{Given}
-use Rattle.ms_lower.specs.inner.Given.{all_entered, below_all, below_given, entered, entered_at}
-use Rattle.ms_lower.specs.inner.Scope.{names_in}
-use Rattle.ms_lower.specs.declared.scope.Named.{Named}
-use Rattle.ms_lower.proofs.Scopes.{names_in-append}
+use Rattle.ms_lower.specs.declared.defined.Defined.{Defined}
+use Rattle.ms_lower.specs.inner.Given.{below_all, below_given}
 
 -- the items from a place on
 pub drop_at : {A : Type 0} (xs : List A) (i : ℕ) (x : A) → i < length xs → x ≡ get_or xs i x → drop i xs ≡ x ∷ drop (i + 1) xs
 drop_at xs i x within is = let next : suc i ≡ i + 1 = omega arith in drop-cons xs i x within ∙ (ap (λ y. y ∷ drop (suc i) xs) (sym is) ∙ ap (λ k. x ∷ drop k xs) next)
 
-pub below_all-append : (given : List Given) (last : Given) (f : CoreForm) → below_all (given ++ last ∷ []) f ≡ below_all given (below_given last f)
+pub below_all-append : (made : List Defined) (last : Defined) (f : CoreForm) → below_all (made ++ last ∷ []) f ≡ below_all made (below_given last f)
 below_all-append [] last f = refl
-below_all-append (g ∷ given) last f = ap (below_given g) (below_all-append given last f)
-
-pub all_entered-append : (given : List Given) (last : Given) (names : Names) → all_entered (given ++ last ∷ []) names ≡ all_entered given (entered last names)
-all_entered-append [] last names = refl
-all_entered-append (g ∷ given) last names = ap (entered g) (all_entered-append given last names)
+below_all-append (d ∷ made) last f = ap (below_given d) (below_all-append made last f)
 
 -- the item at a place of a list that was mapped twice
 pub get_map_two : {A B C : Type 0} (f : A → B) (g : B → C) (xs : List A) (i : ℕ) (x : A) → i < length xs → x ≡ get_or xs i x → slice_get (map g (map f xs)) i ≡ Some (g (f x))
@@ -36,25 +28,8 @@ get_map_beyond f g (y ∷ xs) zero beyond = absurd (omega arith)
 get_map_beyond f g (y ∷ xs) (suc i) beyond = get_map_beyond f g xs i (omega arith)
 
 -- the values of a list without its last one, and then those of the last
-pub below_last : (all front : List Given) (last : Given) (f : CoreForm) → all ≡ front ++ last ∷ [] → below_all front (below_given last f) ≡ below_all all f
+pub below_last : (all front : List Defined) (last : Defined) (f : CoreForm) → all ≡ front ++ last ∷ [] → below_all front (below_given last f) ≡ below_all all f
 below_last all front last f is = sym (below_all-append front last f) ∙ ap (λ l. below_all l f) (sym is)
-
--- one more is entered, going down
-pub entered_before : (scope outer : List Named) (given : List Given) (i : ℕ) (g : Given) (x : ℕ) → 0 < i → i ≤ length given → g ≡ get_or given (i - 1) g → g.variable ≡ Some x →
-    names_in scope ≡ all_entered (drop i given) (names_in outer) →
-    names_in (scope ++ (record { order = g.defined.order; variable = x; name = g.defined.name }) ∷ []) ≡ all_entered (drop (i - 1) given) (names_in outer)
-entered_before scope outer given i g x positive within is variable names =
-    let split : drop (i - 1) given ≡ g ∷ drop i given = drop_at given (i - 1) g (omega arith) is ∙ (let next : i - 1 + 1 ≡ i = omega arith in ap (λ k. g ∷ drop k given) next) in
-    names_in-append scope (record { order = g.defined.order; variable = x; name = g.defined.name })
-    ∙ (ap (λ names. named g.defined.order x g.defined.name names) names
-    ∙ (ap (λ v. entered_at v g.defined.order g.defined.name (all_entered (drop i given) (names_in outer))) (sym variable)
-    ∙ ap (λ l. all_entered l (names_in outer)) (sym split)))
-
-pub entered_nothing : (outer : Names) (given : List Given) (i : ℕ) (g : Given) → 0 < i → i ≤ length given → g ≡ get_or given (i - 1) g → g.variable ≡ None →
-    all_entered (drop i given) outer ≡ all_entered (drop (i - 1) given) outer
-entered_nothing outer given i g positive within is variable =
-    let split : drop (i - 1) given ≡ g ∷ drop i given = drop_at given (i - 1) g (omega arith) is ∙ (let next : i - 1 + 1 ≡ i = omega arith in ap (λ k. g ∷ drop k given) next) in
-    ap (λ v. entered_at v g.defined.order g.defined.name (all_entered (drop i given) outer)) (sym variable) ∙ ap (λ l. all_entered l outer) (sym split)
 
 binding_is : (b : Binding) → binding_of b ≡ (b.variable, argument_of b.value)
 binding_is b = fold_out-Binding Argument Form (ℕ × Argument) argument_at form_at binding_at b

@@ -7,6 +7,7 @@ ghost use Rattle.std.specs.Prelude.{◌≡◌, IfOk};
 
 use crate::cores::{Bound, and, implies, not, or, quantify, relation};
 use crate::defined::{Defined, over};
+use crate::made::Made;
 use crate::tables::{Tables, number};
 use ms_list::{Boxed, NoMemory};
 use ms_logic::{Order, Quant};
@@ -24,7 +25,7 @@ fn number_bound(quant: Quant, number: u32) -> Bound
 }
 
 /// `x` is `y - by`, where `z` is a new number.
-pub fn minus(alloc: Global, y: u32, by: u64, z: u32, x: u32) -> Result<Boxed<Core>, NoMemory>
+pub fn minus(alloc: Global, y: u32, by: u64, z: u32, x: u32) -> Made
     ensures { IfOk result (λ core. core_form_of core ≡ is_minus y by z x) }
 {
     let some = number_bound(Quant::Ex, z);
@@ -37,7 +38,7 @@ pub fn minus(alloc: Global, y: u32, by: u64, z: u32, x: u32) -> Result<Boxed<Cor
 }
 
 /// `x` is the one member of `y`, where `z` is a new number.
-pub fn only_member(alloc: Global, y: u32, z: u32, x: u32) -> Result<Boxed<Core>, NoMemory>
+pub fn only_member(alloc: Global, y: u32, z: u32, x: u32) -> Made
     ensures { IfOk result (λ core. core_form_of core ≡ is_only_member y z x) }
 {
     let member = relation(alloc, Basic::Member(z, y))?;
@@ -49,7 +50,7 @@ pub fn only_member(alloc: Global, y: u32, z: u32, x: u32) -> Result<Boxed<Core>,
 }
 
 /// Each number is a member of `y`, where `z` is a new number.
-pub fn whole(alloc: Global, z: u32, y: u32) -> Result<Boxed<Core>, NoMemory>
+pub fn whole(alloc: Global, z: u32, y: u32) -> Made
     ensures { IfOk result (λ core. core_form_of core ≡ is_whole z y) }
 {
     let member = relation(alloc, Basic::Member(z, y))?;
@@ -57,7 +58,7 @@ pub fn whole(alloc: Global, z: u32, y: u32) -> Result<Boxed<Core>, NoMemory>
 }
 
 /// A basic relation of a variable that a term is.
-pub fn of_one(alloc: Global, one: Defined, relates: Basic) -> Result<Boxed<Core>, NoMemory>
+pub fn of_one(alloc: Global, one: Defined, relates: Basic) -> Made
     ensures { IfOk result (λ core. core_form_of core ≡ below one (basic relates)) }
 {
     let body = relation(alloc, relates)?;
@@ -65,12 +66,7 @@ pub fn of_one(alloc: Global, one: Defined, relates: Basic) -> Result<Boxed<Core>
 }
 
 /// A basic relation of the variables that two terms are.
-pub fn of_two(
-    alloc: Global,
-    one: Defined,
-    other: Defined,
-    relates: Basic,
-) -> Result<Boxed<Core>, NoMemory>
+pub fn of_two(alloc: Global, one: Defined, other: Defined, relates: Basic) -> Made
     ensures { IfOk result (λ core. core_form_of core ≡ below one (below other (basic relates))) }
 {
     let body = of_one(alloc, other, relates)?;

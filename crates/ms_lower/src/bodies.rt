@@ -9,11 +9,11 @@ ghost use Rattle.ms_lower.specs.inner.Scope.{names_in};
 ghost use Rattle.std.specs.Prelude.{◌≡◌, map, IfOk, OnOk};
 
 use crate::formulas::formula;
+use crate::made::MadeList;
 use crate::relations::{conjunction, constant, restricted};
 use crate::restriction::push_restriction;
-use crate::scope::{Named, Scope};
+use crate::scope::{Named, Scope, enter_named};
 use crate::tables::Tables;
-use crate::truths::enter_named;
 use ms_list::{Boxed, List, NoMemory, push};
 use ms_logic::Param;
 use ms_logic_core::Core;
@@ -68,12 +68,7 @@ fn free_at(globals: u32, params: &[Param], variables: &[u32]) -> u64
 }
 
 // `restrict` of each restriction of the parameters.
-fn restrictions(
-    tables: &Tables,
-    scope: &mut Scope,
-    params: &[Param],
-    free: u64,
-) -> Result<List<Core>, NoMemory>
+fn restrictions(tables: &Tables, scope: &mut Scope, params: &[Param], free: u64) -> MadeList
     ensures cores { IfOk result (λ cores. map core_form_of cores ≡ map (renumbered (numbering_of tables.now))
         (restrictions_of (callees_in tables.now) (map declaration_of params.now) (names_in scope.old) free)) }
     ensures scope { OnOk result (scope.new ≡ scope.old) }

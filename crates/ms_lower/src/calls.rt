@@ -4,6 +4,7 @@ ghost use Rattle.ms_lower.specs.Numbering.{number_at, numbering_of, renumbered};
 ghost use Rattle.ms_lower.specs.inner.Scope.{names_in};
 ghost use Rattle.std.specs.Prelude.{◌≡◌, ◌+◌, length, map, IfOk};
 
+use crate::made::Made;
 use crate::relations::{constant, restricted};
 use crate::scope::Scope;
 use crate::tables::{Tables, number};
@@ -34,12 +35,7 @@ fn number_of_call(tables: &Tables, predicate: u32) -> Result<u32, NoMemory>
 
 /// A call of a predicate, as an import behind those of the source, of the variables that the parameters stand for and of the
 /// first number that is free.
-pub fn call(
-    tables: &Tables,
-    scope: &Scope,
-    predicate: u32,
-    free: u64,
-) -> Result<Boxed<Core>, NoMemory>
+pub fn call(tables: &Tables, scope: &Scope, predicate: u32, free: u64) -> Made
     ensures { IfOk result (λ core. core_form_of core ≡ renumbered (numbering_of tables.now)
         ((callees_in tables.now).body predicate (names_in scope.now) free)) }
 {

@@ -3,13 +3,14 @@ ghost use Rattle.ms_logic_core.specs.Spread.{both_of, either_of, is_minus, is_on
 ghost use Rattle.std.specs.Option.{option_map};
 ghost use Rattle.std.specs.Prelude.{◌≡◌, ◌∷◌, [], IfOk};
 
+use crate::made::Made;
 use ms_list::{Boxed, List, NoMemory, on_heap, push};
 use ms_logic::{Order, Quant};
 use ms_logic_core::{Basic, Core};
 use std::alloc::Global;
 
 /// A basic relation.
-pub fn relation(alloc: Global, relation: Basic) -> Result<Boxed<Core>, NoMemory>
+pub fn relation(alloc: Global, relation: Basic) -> Made
     ensures { IfOk result (λ core. core_form_of core ≡ basic relation) }
 {
     let core = Core::Basic(relation);
@@ -17,7 +18,7 @@ pub fn relation(alloc: Global, relation: Basic) -> Result<Boxed<Core>, NoMemory>
 }
 
 /// `~`
-pub fn not(alloc: Global, body: Boxed<Core>) -> Result<Boxed<Core>, NoMemory>
+pub fn not(alloc: Global, body: Boxed<Core>) -> Made
     ensures { IfOk result (λ core. core_form_of core ≡ negation (core_form_of body)) }
 {
     let core = Core::Not(body);
@@ -25,11 +26,7 @@ pub fn not(alloc: Global, body: Boxed<Core>) -> Result<Boxed<Core>, NoMemory>
 }
 
 /// `=>`
-pub fn implies(
-    alloc: Global,
-    left: Boxed<Core>,
-    right: Boxed<Core>,
-) -> Result<Boxed<Core>, NoMemory>
+pub fn implies(alloc: Global, left: Boxed<Core>, right: Boxed<Core>) -> Made
     ensures { IfOk result (λ core. core_form_of core ≡ implication (core_form_of left) (core_form_of right)) }
 {
     let core = Core::Implies(left, right);
@@ -56,7 +53,7 @@ fn two<T: Drop>(alloc: Global, first: Boxed<T>, second: Boxed<T>) -> Result<List
 }
 
 /// `&` of two formulas.
-pub fn and(alloc: Global, left: Boxed<Core>, right: Boxed<Core>) -> Result<Boxed<Core>, NoMemory>
+pub fn and(alloc: Global, left: Boxed<Core>, right: Boxed<Core>) -> Made
     ensures { IfOk result (λ core. core_form_of core ≡ both_of (core_form_of left) (core_form_of right)) }
 {
     let core = Core::And(two(alloc, left, right)?);
@@ -64,7 +61,7 @@ pub fn and(alloc: Global, left: Boxed<Core>, right: Boxed<Core>) -> Result<Boxed
 }
 
 /// `|` of two formulas.
-pub fn or(alloc: Global, left: Boxed<Core>, right: Boxed<Core>) -> Result<Boxed<Core>, NoMemory>
+pub fn or(alloc: Global, left: Boxed<Core>, right: Boxed<Core>) -> Made
     ensures { IfOk result (λ core. core_form_of core ≡ either_of (core_form_of left) (core_form_of right)) }
 {
     let core = Core::Or(two(alloc, left, right)?);
@@ -80,12 +77,7 @@ pub struct Bound {
 }
 
 /// A quantifier.
-pub fn quantify(
-    alloc: Global,
-    bound: Bound,
-    domain: Option<Boxed<Core>>,
-    body: Boxed<Core>,
-) -> Result<Boxed<Core>, NoMemory>
+pub fn quantify(alloc: Global, bound: Bound, domain: Option<Boxed<Core>>, body: Boxed<Core>) -> Made
     ensures { IfOk result (λ core. core_form_of core
         ≡ quantified bound.quant bound.order bound.number (core_restriction (option_map core_form_of domain)) (core_form_of body)) }
 {

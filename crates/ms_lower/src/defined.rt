@@ -3,6 +3,7 @@ ghost use Rattle.ms_lower.specs.inner.Defined.{below, new_definition};
 ghost use Rattle.std.specs.Prelude.{◌≡◌, ◌<◌, ◌^◌, IfOk};
 
 use crate::cores::{Bound, quantify};
+use crate::made::Made;
 use ms_list::{Boxed, NoMemory};
 use ms_logic::{Order, Quant};
 use ms_logic_core::Core;
@@ -34,7 +35,7 @@ pub fn fresh(order: Order, name: u64, number: u32, definition: Boxed<Core>) -> D
 }
 
 /// A formula below the binder of the variable, if that is new.
-pub fn over(alloc: Global, defined: Defined, body: Boxed<Core>) -> Result<Boxed<Core>, NoMemory>
+pub fn over(alloc: Global, defined: Defined, body: Boxed<Core>) -> Made
     ensures { IfOk result (λ core. core_form_of core ≡ below defined (core_form_of body)) }
 {
     let Defined {

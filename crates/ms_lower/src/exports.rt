@@ -95,16 +95,11 @@ pub fn roots(
     ensures seen { OnOk result (seen.new ≡ seen.old) }
 {
     match source {
-        Formula::Not(body) => roots(tables, exports, seen, body.get()),
-        Formula::Restrict(body) => roots(tables, exports, seen, body.get()),
-        Formula::And(operands) => roots_of_each(tables, exports, seen, operands.slice()),
-        Formula::Or(operands) => roots_of_each(tables, exports, seen, operands.slice()),
-        Formula::Implies(left, right) => {
-            let left = roots(tables, exports, seen, left.get())?;
-            let right = roots(tables, exports, seen, right.get())?;
-            joined(left, right)
+        Formula::Not(body) | Formula::Restrict(body) => roots(tables, exports, seen, body.get()),
+        Formula::And(operands) | Formula::Or(operands) => {
+            roots_of_each(tables, exports, seen, operands.slice())
         }
-        Formula::Iff(left, right) => {
+        Formula::Implies(left, right) | Formula::Iff(left, right) => {
             let left = roots(tables, exports, seen, left.get())?;
             let right = roots(tables, exports, seen, right.get())?;
             joined(left, right)
@@ -130,17 +125,17 @@ pub fn roots(
             let inside = roots(tables, exports, seen, body.get())?;
             joined(all, inside)
         }
-        Formula::True => Ok(List::new(tables.alloc)),
-        Formula::False => Ok(List::new(tables.alloc)),
-        Formula::Var(_) => Ok(List::new(tables.alloc)),
-        Formula::Compare(_, _, _) => Ok(List::new(tables.alloc)),
-        Formula::CompareSets(_, _, _) => Ok(List::new(tables.alloc)),
-        Formula::Member(_, _, _) => Ok(List::new(tables.alloc)),
-        Formula::IsEmpty(_) => Ok(List::new(tables.alloc)),
-        Formula::Let(_, _) => Ok(List::new(tables.alloc)),
-        Formula::Call(_, _) => Ok(List::new(tables.alloc)),
-        Formula::Import(_) => Ok(List::new(tables.alloc)),
-        Formula::Domain(_, _) => Ok(List::new(tables.alloc)),
+        Formula::True
+        | Formula::False
+        | Formula::Var(_)
+        | Formula::Compare(_, _, _)
+        | Formula::CompareSets(_, _, _)
+        | Formula::Member(_, _, _)
+        | Formula::IsEmpty(_)
+        | Formula::Let(_, _)
+        | Formula::Call(_, _)
+        | Formula::Import(_)
+        | Formula::Domain(_, _) => Ok(List::new(tables.alloc)),
     }
 }
 

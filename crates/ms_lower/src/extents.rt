@@ -22,17 +22,16 @@ pub fn count_formula(known: &Extents, formula: &Formula, limit: u32) -> Option<C
 {
     let below = limit.checked_sub(1)?;
     match formula {
-        Formula::True => above(Some(NO_PARTS)),
-        Formula::False => above(Some(NO_PARTS)),
-        Formula::Var(_) => above(Some(NO_PARTS)),
-        Formula::Not(body) => above(count_formula(known, body.get(), below)),
-        Formula::And(operands) => above(count_each(known, operands.slice(), below)),
-        Formula::Or(operands) => above(count_each(known, operands.slice(), below)),
-        Formula::Implies(left, right) => {
-            let left = count_formula(known, left.get(), below);
-            above(both(left, count_formula(known, right.get(), below)))
+        Formula::True | Formula::False | Formula::Var(_) | Formula::Import(_) => {
+            above(Some(NO_PARTS))
         }
-        Formula::Iff(left, right) => {
+        Formula::Not(body) | Formula::Restrict(body) | Formula::Export(_, body) => {
+            above(count_formula(known, body.get(), below))
+        }
+        Formula::And(operands) | Formula::Or(operands) => {
+            above(count_each(known, operands.slice(), below))
+        }
+        Formula::Implies(left, right) | Formula::Iff(left, right) => {
             let left = count_formula(known, left.get(), below);
             above(both(left, count_formula(known, right.get(), below)))
         }
@@ -52,9 +51,6 @@ pub fn count_formula(known: &Extents, formula: &Formula, limit: u32) -> Option<C
             let given = count_arguments(known, arguments.slice(), below);
             above(both(given, known.called(*predicate, below)))
         }
-        Formula::Restrict(body) => above(count_formula(known, body.get(), below)),
-        Formula::Import(_) => above(Some(NO_PARTS)),
-        Formula::Export(_, body) => above(count_formula(known, body.get(), below)),
         Formula::Domain(predicate, _) => known.default(*predicate, limit),
     }
 }

@@ -14,12 +14,13 @@ use crate::arguments::Arguments;
 use crate::calls::call;
 use crate::cores::{Bound, implies, not, quantify, relation, with_room};
 use crate::defined::{Defined, fresh};
-use crate::given::{Entered, enter_all, number_arguments, over_all, with_value};
+use crate::given::{Entered, number_arguments, over_all, with_value};
+use crate::made::{Made, MadeList};
 use crate::pairs::{comparison, emptiness, membership, set_comparison};
 use crate::relations::{conjunction, constant, disjunction, import, restricted, same};
-use crate::scope::{Named, Scope};
+use crate::scope::{Named, Scope, enter_named};
 use crate::tables::{Tables, number};
-use crate::truths::{default_names, enter_named, known_truth, truth_variable};
+use crate::truths::{default_names, known_truth, truth_variable};
 use ms_list::{Boxed, List, NoMemory, push};
 use ms_logic::{Arg, Binding, Formula, Order, Quant};
 use ms_logic_core::{Basic, Core};
@@ -28,12 +29,7 @@ use std::alloc::Global;
 /// The core formula of a formula. From a number on all are free in the spread. It calls itself once for each level, so the
 /// depth of a source is looked at before.
 #[cycle(formulas)]
-pub fn formula(
-    tables: &Tables,
-    scope: &mut Scope,
-    source: &Formula,
-    free: u64,
-) -> Result<Boxed<Core>, NoMemory>
+pub fn formula(tables: &Tables, scope: &mut Scope, source: &Formula, free: u64) -> Made
     ensures core { IfOk result (λ core. core_form_of core ≡ spread_in tables.now (formula_of source.now) (names_in scope.old) free) }
     ensures scope { OnOk result (scope.new ≡ scope.old) }
 {
@@ -96,12 +92,7 @@ pub fn formula(
 }
 
 #[cycle(formulas)]
-fn each(
-    tables: &Tables,
-    scope: &mut Scope,
-    operands: &[Formula],
-    free: u64,
-) -> Result<List<Core>, NoMemory>
+fn each(tables: &Tables, scope: &mut Scope, operands: &[Formula], free: u64) -> MadeList
     ensures cores { IfOk result (λ cores. map core_form_of cores ≡ map (renumbered (numbering_of tables.now))
         (spread_each (callees_in tables.now) (forms (map formula_of operands.now)) (names_in scope.old) free)) }
     ensures scope { OnOk result (scope.new ≡ scope.old) }
@@ -146,7 +137,7 @@ fn bind(
     binder: Binder,
     domain: &Option<Boxed<Formula>>,
     body: &Formula,
-) -> Result<Boxed<Core>, NoMemory>
+) -> Made
     ensures core { IfOk result (λ core. core_form_of core ≡ spread_in tables.now
         (quantified binder.quant binder.named.order binder.named.variable (restriction (option_map formula_of domain.now)) (formula_of body.now))
         (names_in scope.old) binder.named.name) }
@@ -174,7 +165,7 @@ fn where_let(
     bindings: &[Binding],
     body: &Formula,
     free: u64,
-) -> Result<Boxed<Core>, NoMemory>
+) -> Made
     ensures core { IfOk result (λ core. core_form_of core ≡ spread_in tables.now
         (where_let (map (λ b. b.0) (map binding_of bindings.now)) (arguments_of (map (λ b. b.1) (map binding_of bindings.now))) (formula_of body.now))
         (names_in scope.old) free) }
@@ -191,13 +182,7 @@ fn where_let(
 // A call, over its arguments.
 #[cycle(formulas)]
 #[inline(never)]
-fn call_with(
-    tables: &Tables,
-    scope: &mut Scope,
-    predicate: u32,
-    given: &[Arg],
-    free: u64,
-) -> Result<Boxed<Core>, NoMemory>
+fn call_with(tables: &Tables, scope: &mut Scope, predicate: u32, given: &[Arg], free: u64) -> Made
     ensures core { IfOk result (λ core. core_form_of core ≡ spread_in tables.now
         (call predicate (arguments_of (map argument_of given.now))) (names_in scope.old) free) }
     ensures scope { OnOk result (scope.new ≡ scope.old) }
@@ -212,13 +197,7 @@ fn call_with(
 
 // A default restriction at a variable.
 #[cycle(formulas)]
-fn default(
-    tables: &Tables,
-    scope: &mut Scope,
-    predicate: u32,
-    variable: u32,
-    free: u64,
-) -> Result<Boxed<Core>, NoMemory>
+fn default(tables: &Tables, scope: &mut Scope, predicate: u32, variable: u32, free: u64) -> Made
     ensures core { IfOk result (λ core. core_form_of core ≡ renumbered (numbering_of tables.now)
         ((callees_in tables.now).default predicate variable (names_in scope.old) free)) }
     ensures scope { OnOk result (scope.new ≡ scope.old) }
@@ -274,10 +253,7 @@ fn truth_arguments(
         (truth_values (callees_in tables.now) (variables_of arguments.now) (arguments_of (values_of arguments.now)) (names_in scope.old)) free) }
     ensures scope { OnOk result (scope.new ≡ scope.old) }
 {
-    let mut entered = Entered {
-        given: List::new(tables.alloc),
-        next: free,
-    };
+    let mut entered = Entered::none(tables.alloc, free);
     for i in 0..arguments.len() {
         let value = truth(tables, scope, arguments.value(i), entered.next)?;
         entered = with_value(entered, arguments.variable(i), value)?;
@@ -304,13 +280,13 @@ fn enter_arguments(
     ensures values { (Said : Inner) → IfOk result (λ values. renumbered (numbering_of tables.now)
         (numbers_and_sets (variables_of arguments.now) (arguments_of (values_of arguments.now)) (names_in scope.old) (names_in scope.old) free
         (λ inner free. truth_values (callees_in tables.now) (variables_of arguments.now) (arguments_of (values_of arguments.now)) (names_in scope.old) inner free Said))
-        ≡ below_all values.numbers.given (below_all values.truths.given (renumbered (numbering_of tables.now) (Said (names_in scope.new) values.next)))) }
+        ≡ below_all values.numbers.defined (below_all values.truths.defined (renumbered (numbering_of tables.now) (Said (names_in scope.new) values.next)))) }
     ensures kept { OnOk result (take (length scope.old) scope.new ≡ scope.old) }
 {
     let numbers = number_arguments(tables, scope, arguments, free)?;
     let truths = truth_arguments(tables, scope, arguments, numbers.next)?;
-    enter_all(scope, numbers.given.slice())?;
-    enter_all(scope, truths.given.slice())?;
+    enter_named(scope, numbers.named.slice())?;
+    enter_named(scope, truths.named.slice())?;
     let next = truths.next;
     Ok(Values {
         numbers,
@@ -320,17 +296,17 @@ fn enter_arguments(
 }
 
 // A formula below the binders of these values.
-fn over_values(alloc: Global, values: Values, body: Boxed<Core>) -> Result<Boxed<Core>, NoMemory>
+fn over_values(alloc: Global, values: Values, body: Boxed<Core>) -> Made
     ensures { IfOk result (λ core. core_form_of core
-        ≡ below_all values.numbers.given (below_all values.truths.given (core_form_of body))) }
+        ≡ below_all values.numbers.defined (below_all values.truths.defined (core_form_of body))) }
 {
     let Values {
         numbers,
         truths,
         ..
     } = values;
-    let Entered { given, .. } = truths;
-    let body = over_all(alloc, given, body)?;
-    let Entered { given, .. } = numbers;
-    over_all(alloc, given, body)
+    let Entered { defined, .. } = truths;
+    let body = over_all(alloc, defined, body)?;
+    let Entered { defined, .. } = numbers;
+    over_all(alloc, defined, body)
 }

@@ -2,15 +2,16 @@ ghost use Rattle.ms_logic_core.specs.CoreForm.{core_form_of};
 ghost use Rattle.ms_logic_core.specs.Spread.{numbers_and_sets};
 ghost use Rattle.ms_logic.specs.View.{argument_of};
 ghost use Rattle.ms_logic.specs.View.{arguments as arguments_of};
-ghost use Rattle.ms_lower.specs.inner.Given.{Enters, IsNumberOrSet, all_entered, below_all, below_given, below_truth, entered_with, values_of, variables_of};
+ghost use Rattle.ms_lower.specs.inner.Given.{Enters, IsNumberOrSet, below_all, below_given, below_truth, entered_with, named_by, nothing_entered, values_of, variables_of};
 ghost use Rattle.ms_lower.specs.Numbering.{numbering_of};
 ghost use Rattle.ms_lower.specs.inner.Scope.{names_in};
 ghost use Rattle.std.specs.Option.{option_map};
-ghost use Rattle.std.specs.Prelude.{◌≡◌, length, take, IfOk, OnOk};
+ghost use Rattle.std.specs.Prelude.{◌≡◌, ◌++◌, IfOk, OnOk};
 
 use crate::arguments::Arguments;
 use crate::cores::{Bound, and, quantify, relation};
 use crate::defined::{Defined, over};
+use crate::made::Made;
 use crate::relations::{restricted, same};
 use crate::scope::{Named, Scope};
 use crate::tables::Tables;
@@ -20,18 +21,46 @@ use ms_logic::{Arg, Order, Quant};
 use ms_logic_core::{Basic, Core};
 use std::alloc::Global;
 
-/// A variable that gets a value, if there is one, and the variable that the value is.
-#[derive(Drop)]
-pub struct Given {
-    pub variable: Option<u32>,
-    pub defined: Defined,
-}
-
-/// Some of these. From a number on all are free in the spread.
+/// The variables that some values are, and the variables that get a value. From a number on all are free in the spread.
 #[derive(Drop)]
 pub struct Entered {
-    pub given: List<Given>,
+    pub defined: List<Defined>,
+    pub named: List<Named>,
     pub next: u64,
+}
+
+impl Entered {
+    /// No values.
+    pub fn none(alloc: Global, next: u64) -> Entered
+        ensures { result ≡ nothing_entered next }
+    {
+        Entered {
+            defined: List::new(alloc),
+            named: List::new(alloc),
+            next,
+        }
+    }
+}
+
+// Appends the variable that gets a value, if there is one.
+fn push_named(
+    named: &mut List<Named>,
+    variable: Option<u32>,
+    made: &Defined,
+) -> Result<(), NoMemory>
+    ensures { OnOk result (named.new ≡ named.old ++ named_by variable made.now) }
+{
+    match variable {
+        None => Ok(()),
+        Some(variable) => {
+            let one = Named {
+                order: made.order,
+                variable,
+                name: made.name,
+            };
+            push(named, one)
+        }
+    }
 }
 
 /// With one value more, if there is one.
@@ -44,11 +73,17 @@ pub fn with_value(
 {
     match value {
         None => Ok(before),
-        Some(defined) => {
-            let next = defined.next;
-            let mut given = before.given;
-            push(&mut given, Given { variable, defined })?;
-            Ok(Entered { given, next })
+        Some(made) => {
+            let next = made.next;
+            let mut named = before.named;
+            push_named(&mut named, variable, &made)?;
+            let mut defined = before.defined;
+            push(&mut defined, made)?;
+            Ok(Entered {
+                defined,
+                named,
+                next,
+            })
         }
     }
 }
@@ -59,7 +94,7 @@ fn over_truth(
     number: u32,
     definition: Option<Boxed<Core>>,
     body: Boxed<Core>,
-) -> Result<Boxed<Core>, NoMemory>
+) -> Made
     ensures { IfOk result (λ core. core_form_of core ≡ below_truth number (option_map core_form_of definition) (core_form_of body)) }
 {
     match definition {
@@ -79,10 +114,9 @@ fn over_truth(
 }
 
 /// A formula below the binder of a value, if that is new.
-fn over_given(alloc: Global, given: Given, body: Boxed<Core>) -> Result<Boxed<Core>, NoMemory>
-    ensures { IfOk result (λ core. core_form_of core ≡ below_given given (core_form_of body)) }
+fn over_given(alloc: Global, defined: Defined, body: Boxed<Core>) -> Made
+    ensures { IfOk result (λ core. core_form_of core ≡ below_given defined (core_form_of body)) }
 {
-    let Given { defined, .. } = given;
     match defined.order {
         Order::Zero => {
             let Defined {
@@ -98,41 +132,15 @@ fn over_given(alloc: Global, given: Given, body: Boxed<Core>) -> Result<Boxed<Co
 }
 
 /// A formula below the binders of some values, the first outermost.
-pub fn over_all(
-    alloc: Global,
-    given: List<Given>,
-    body: Boxed<Core>,
-) -> Result<Boxed<Core>, NoMemory>
-    ensures { IfOk result (λ core. core_form_of core ≡ below_all given (core_form_of body)) }
+pub fn over_all(alloc: Global, defined: List<Defined>, body: Boxed<Core>) -> Made
+    ensures { IfOk result (λ core. core_form_of core ≡ below_all defined (core_form_of body)) }
 {
-    let mut outer = given.into_vec();
+    let mut outer = defined.into_vec();
     let mut core = body;
     while let Some(last) = outer.pop() {
         core = over_given(alloc, last, core)?;
     }
     Ok(core)
-}
-
-/// Enters the variables that get these values, the first over the later ones.
-pub fn enter_all(scope: &mut Scope, given: &[Given]) -> Result<(), NoMemory>
-    ensures names { OnOk result (names_in scope.new ≡ all_entered given.now (names_in scope.old)) }
-    ensures kept { OnOk result (take (length scope.old) scope.new ≡ scope.old) }
-{
-    let mut i = given.len();
-    while i > 0 {
-        i -= 1;
-        let next = &given[i];
-        if let Some(variable) = next.variable {
-            let order = next.defined.order;
-            let name = next.defined.name;
-            scope.enter(Named {
-                order,
-                variable,
-                name,
-            })?;
-        }
-    }
-    Ok(())
 }
 
 /// The variable that a number or a set is, and nothing for a truth value.
@@ -167,10 +175,7 @@ pub fn number_arguments(
     ensures { IfOk result (Enters (numbering_of tables.now)
         (numbers_and_sets (variables_of arguments.now) (arguments_of (values_of arguments.now)) (names_in scope.now)) free) }
 {
-    let mut entered = Entered {
-        given: List::new(tables.alloc),
-        next: free,
-    };
+    let mut entered = Entered::none(tables.alloc, free);
     for i in 0..arguments.len() {
         let value = number_or_set(tables, scope, arguments.value(i), entered.next)?;
         entered = with_value(entered, arguments.variable(i), value)?;

@@ -7,6 +7,7 @@ ghost use Rattle.std.specs.Option.{is_some};
 ghost use Rattle.std.specs.Prelude.{◌≡◌, [], ◌∷◌, filter, length, map, IfOk};
 
 use crate::formulas::formula;
+use crate::made::MadeList;
 use crate::main_root::{global_restrictions, over_globals};
 use crate::scope::Scope;
 use crate::tables::Tables;
@@ -15,7 +16,7 @@ use ms_logic::{Formula, Global, Placed};
 use ms_logic_core::{Core, Root};
 
 // A formula alone.
-fn one_formula(tables: &Tables, source: &Formula, free: u64) -> Result<List<Core>, NoMemory>
+fn one_formula(tables: &Tables, source: &Formula, free: u64) -> MadeList
     ensures { IfOk result (λ cores. map core_form_of cores ≡ spread_in tables.now (formula_of source.now) own_names free ∷ []) }
 {
     let mut scope = Scope::new(tables.alloc);

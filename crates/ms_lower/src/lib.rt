@@ -16,6 +16,7 @@ mod formulas;
 mod given;
 mod goal_roots;
 mod laws;
+mod made;
 mod main_root;
 mod orders;
 mod pairs;

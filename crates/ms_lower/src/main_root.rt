@@ -10,6 +10,7 @@ ghost use Rattle.std.specs.Prelude.{◌≡◌, ◌++◌, filter, length, map, If
 
 use crate::exports::joined;
 use crate::formulas::formula;
+use crate::made::MadeList;
 use crate::relations::conjunction;
 use crate::restriction::push_restriction;
 use crate::scope::Scope;
@@ -19,11 +20,7 @@ use ms_logic::{Global, Placed};
 use ms_logic_core::{Core, Root};
 
 /// `restrict` of each restriction of the globals.
-pub fn global_restrictions(
-    tables: &Tables,
-    globals: &[Global],
-    free: u64,
-) -> Result<List<Core>, NoMemory>
+pub fn global_restrictions(tables: &Tables, globals: &[Global], free: u64) -> MadeList
     ensures { IfOk result (λ cores. map core_form_of cores ≡ map (renumbered (numbering_of tables.now))
         (restrictions_of (callees_in tables.now) (globals_from 0 globals.now) own_names free)) }
 {
@@ -43,11 +40,7 @@ fn is_declared(placed: &Placed) -> bool
 }
 
 /// The formulas of the formula declarations.
-pub fn declared_formulas(
-    tables: &Tables,
-    formulas: &[Placed],
-    free: u64,
-) -> Result<List<Core>, NoMemory>
+pub fn declared_formulas(tables: &Tables, formulas: &[Placed], free: u64) -> MadeList
     ensures { IfOk result (λ cores. map core_form_of cores ≡ map (renumbered (numbering_of tables.now))
         (spread_each (callees_in tables.now)
         (forms (map (λ placed. formula_of placed.formula) (filter (λ placed. is_none placed.title) formulas.now))) own_names free)) }

@@ -8,6 +8,7 @@ ghost use Rattle.std.specs.Prelude.{◌≡◌, IfOk};
 
 use crate::atoms::of_one;
 use crate::defined::{Defined, over};
+use crate::made::Made;
 use crate::relations::{number_relation, relate, set_relation};
 use crate::scope::Scope;
 use crate::tables::Tables;
@@ -18,12 +19,7 @@ use ms_logic_core::{Basic, Core};
 use std::alloc::Global;
 
 /// A formula over what two terms are, the first around the second.
-fn over_two(
-    alloc: Global,
-    first: Defined,
-    second: Defined,
-    body: Boxed<Core>,
-) -> Result<Boxed<Core>, NoMemory>
+fn over_two(alloc: Global, first: Defined, second: Defined, body: Boxed<Core>) -> Made
     ensures { IfOk result (λ core. core_form_of core ≡ below first (below second (core_form_of body))) }
 {
     let body = over(alloc, second, body)?;
@@ -38,7 +34,7 @@ pub fn comparison(
     rel: Rel,
     sides: (&Term1, &Term1),
     free: u64,
-) -> Result<Boxed<Core>, NoMemory>
+) -> Made
     ensures { IfOk result (λ core. core_form_of core ≡ spread_in tables.now
         (tree.comparison rel (term_of sides.entry.0.now) (term_of sides.entry.1.now)) (names_in scope.now) free) }
 {
@@ -56,7 +52,7 @@ pub fn set_comparison(
     rel: Rel,
     sides: (&Term2, &Term2),
     free: u64,
-) -> Result<Boxed<Core>, NoMemory>
+) -> Made
     ensures { IfOk result (λ core. core_form_of core ≡ spread_in tables.now
         (tree.set_comparison rel (set_term_of sides.entry.0.now) (set_term_of sides.entry.1.now)) (names_in scope.now) free) }
 {
@@ -74,7 +70,7 @@ pub fn membership(
     positive: bool,
     sides: (&Term1, &Term2),
     free: u64,
-) -> Result<Boxed<Core>, NoMemory>
+) -> Made
     ensures { IfOk result (λ core. core_form_of core ≡ spread_in tables.now
         (tree.membership positive (term_of sides.entry.0.now) (set_term_of sides.entry.1.now)) (names_in scope.now) free) }
 {
@@ -87,12 +83,7 @@ pub fn membership(
 
 /// `empty` of a term for a set.
 #[inline(never)]
-pub fn emptiness(
-    tables: &Tables,
-    scope: &Scope,
-    set: &Term2,
-    free: u64,
-) -> Result<Boxed<Core>, NoMemory>
+pub fn emptiness(tables: &Tables, scope: &Scope, set: &Term2, free: u64) -> Made
     ensures { IfOk result (λ core. core_form_of core ≡ spread_in tables.now
         (tree.emptiness (set_term_of set.now)) (names_in scope.now) free) }
 {

@@ -8,6 +8,7 @@ ghost use Rattle.ms_lower.specs.inner.Scope.{names_in};
 ghost use Rattle.std.specs.Prelude.{◌≡◌, map, slice_get, if◌then◌else◌, IfOk};
 
 use crate::cores::{not, relation};
+use crate::made::Made;
 use crate::scope::Scope;
 use crate::tables::{Tables, number};
 use ms_list::{Boxed, List, NoMemory, on_heap, push};
@@ -16,7 +17,7 @@ use ms_logic_core::{Basic, Core};
 use std::alloc::Global;
 
 /// A basic relation, or where it is not positive its negation.
-pub fn relate(alloc: Global, relates: Basic, positive: bool) -> Result<Boxed<Core>, NoMemory>
+pub fn relate(alloc: Global, relates: Basic, positive: bool) -> Made
     ensures { IfOk result (λ core. core_form_of core ≡ basic_or_not positive relates) }
 {
     let core = relation(alloc, relates)?;
@@ -24,7 +25,7 @@ pub fn relate(alloc: Global, relates: Basic, positive: bool) -> Result<Boxed<Cor
 }
 
 /// A relation between two numbers that are variables.
-pub fn number_relation(alloc: Global, rel: Rel, x: u32, y: u32) -> Result<Boxed<Core>, NoMemory>
+pub fn number_relation(alloc: Global, rel: Rel, x: u32, y: u32) -> Made
     ensures { IfOk result (λ core. core_form_of core ≡ numbers_relate rel x y) }
 {
     match rel {
@@ -39,7 +40,7 @@ pub fn number_relation(alloc: Global, rel: Rel, x: u32, y: u32) -> Result<Boxed<
 }
 
 /// A relation between two sets that are variables.
-pub fn set_relation(alloc: Global, rel: Rel, s: u32, t: u32) -> Result<Boxed<Core>, NoMemory>
+pub fn set_relation(alloc: Global, rel: Rel, s: u32, t: u32) -> Made
     ensures { IfOk result (λ core. core_form_of core ≡ sets_relate rel s t) }
 {
     match rel {
@@ -51,7 +52,7 @@ pub fn set_relation(alloc: Global, rel: Rel, s: u32, t: u32) -> Result<Boxed<Cor
 }
 
 /// `true` or `false`
-pub fn constant(alloc: Global, holds: bool) -> Result<Boxed<Core>, NoMemory>
+pub fn constant(alloc: Global, holds: bool) -> Made
     ensures { IfOk result (λ core. core_form_of core ≡ (if holds then truth else falsity)) }
 {
     let core = if holds { Core::True } else { Core::False };
@@ -59,7 +60,7 @@ pub fn constant(alloc: Global, holds: bool) -> Result<Boxed<Core>, NoMemory>
 }
 
 /// `restrict`
-pub fn restricted(alloc: Global, body: Boxed<Core>) -> Result<Boxed<Core>, NoMemory>
+pub fn restricted(alloc: Global, body: Boxed<Core>) -> Made
     ensures { IfOk result (λ core. core_form_of core ≡ restrict (core_form_of body)) }
 {
     let core = Core::Restrict(body);
@@ -67,7 +68,7 @@ pub fn restricted(alloc: Global, body: Boxed<Core>) -> Result<Boxed<Core>, NoMem
 }
 
 /// `<=>`
-pub fn same(alloc: Global, left: Boxed<Core>, right: Boxed<Core>) -> Result<Boxed<Core>, NoMemory>
+pub fn same(alloc: Global, left: Boxed<Core>, right: Boxed<Core>) -> Made
     ensures { IfOk result (λ core. core_form_of core ≡ equivalence (core_form_of left) (core_form_of right)) }
 {
     let core = Core::Iff(left, right);
@@ -75,7 +76,7 @@ pub fn same(alloc: Global, left: Boxed<Core>, right: Boxed<Core>) -> Result<Boxe
 }
 
 /// The disjunction of a list.
-pub fn disjunction(alloc: Global, operands: List<Core>) -> Result<Boxed<Core>, NoMemory>
+pub fn disjunction(alloc: Global, operands: List<Core>) -> Made
     ensures { IfOk result (λ core. core_form_of core ≡ disjunction_over (map core_form_of operands)) }
 {
     let core = Core::Or(operands);
@@ -83,7 +84,7 @@ pub fn disjunction(alloc: Global, operands: List<Core>) -> Result<Boxed<Core>, N
 }
 
 /// The conjunction of a list: `true` where it is empty, and one formula alone is itself.
-pub fn conjunction(alloc: Global, operands: List<Core>) -> Result<Boxed<Core>, NoMemory>
+pub fn conjunction(alloc: Global, operands: List<Core>) -> Made
     ensures { IfOk result (λ core. core_form_of core ≡ conjunction_of (map core_form_of operands)) }
 {
     let count = operands.len();
@@ -124,7 +125,7 @@ fn pairs_of(imports: &[ImportUse], import: u32) -> &[MapPair]
 }
 
 /// An import, with the variables that stand for those of its file.
-pub fn import(tables: &Tables, scope: &Scope, import: u32) -> Result<Boxed<Core>, NoMemory>
+pub fn import(tables: &Tables, scope: &Scope, import: u32) -> Made
     ensures { IfOk result (λ core. core_form_of core ≡ renumbered (numbering_of tables.now)
         (spread_under (callees_in tables.now) (tree.imported import) (names_in scope.now) 0)) }
 {

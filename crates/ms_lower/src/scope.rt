@@ -1,6 +1,6 @@
 ghost use Rattle.ms_logic_core.specs.Spread.{is_order};
 ghost use Rattle.ms_lower.specs.NumberedRoots.{order_seen, seen_over};
-ghost use Rattle.ms_lower.specs.inner.Scope.{names_in};
+ghost use Rattle.ms_lower.specs.inner.Scope.{all_named, names_in};
 ghost use Rattle.std.specs.Prelude.{◌≡◌, ◌++◌, ◌∷◌, [], ◌==◌, ◌&&◌, length, take, OnOk};
 
 use ms_list::NoMemory;
@@ -112,4 +112,23 @@ impl Scope {
     {
         self.variables.truncate(count)
     }
+}
+
+fn enter_one(scope: &mut Scope, named: &Named) -> Result<(), NoMemory>
+    ensures { OnOk result (scope.new ≡ scope.old ++ named.now ∷ []) }
+{
+    scope.enter(*named)
+}
+
+/// Enters some variables, the first over the later ones.
+pub fn enter_named(scope: &mut Scope, named: &[Named]) -> Result<(), NoMemory>
+    ensures names { OnOk result (names_in scope.new ≡ all_named named.now (names_in scope.old)) }
+    ensures kept { OnOk result (take (length scope.old) scope.new ≡ scope.old) }
+{
+    let mut i = named.len();
+    while i > 0 {
+        i -= 1;
+        enter_one(scope, &named[i])?;
+    }
+    Ok(())
 }

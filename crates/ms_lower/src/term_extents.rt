@@ -13,12 +13,9 @@ pub fn count_number(term: &Term1, limit: u32) -> Option<Counted>
 {
     let below = limit.checked_sub(1)?;
     match term {
-        Term1::Var(_) => above(Some(NO_PARTS)),
-        Term1::Number(_) => above(Some(NO_PARTS)),
-        Term1::Plus(term, _) => above(count_number(term.get(), below)),
-        Term1::Minus(term, _) => above(count_number(term.get(), below)),
-        Term1::Min(set) => above(count_set(set.get(), below)),
-        Term1::Max(set) => above(count_set(set.get(), below)),
+        Term1::Var(_) | Term1::Number(_) => above(Some(NO_PARTS)),
+        Term1::Plus(term, _) | Term1::Minus(term, _) => above(count_number(term.get(), below)),
+        Term1::Min(set) | Term1::Max(set) => above(count_set(set.get(), below)),
     }
 }
 
@@ -29,25 +26,13 @@ pub fn count_set(term: &Term2, limit: u32) -> Option<Counted>
 {
     let below = limit.checked_sub(1)?;
     match term {
-        Term2::Var(_) => above(Some(NO_PARTS)),
-        Term2::EmptySet => above(Some(NO_PARTS)),
-        Term2::Whole => above(Some(NO_PARTS)),
+        Term2::Var(_) | Term2::EmptySet | Term2::Whole | Term2::Pconst(_) => above(Some(NO_PARTS)),
         Term2::Literal(elements) => above(count_elements(elements.slice(), below)),
-        Term2::Pconst(_) => above(Some(NO_PARTS)),
-        Term2::Union(left, right) => above(both(
-            count_set(left.get(), below),
-            count_set(right.get(), below),
-        )),
-        Term2::Inter(left, right) => above(both(
-            count_set(left.get(), below),
-            count_set(right.get(), below),
-        )),
-        Term2::Minus(left, right) => above(both(
-            count_set(left.get(), below),
-            count_set(right.get(), below),
-        )),
-        Term2::Up(set, _) => above(count_set(set.get(), below)),
-        Term2::Down(set, _) => above(count_set(set.get(), below)),
+        Term2::Union(left, right) | Term2::Inter(left, right) | Term2::Minus(left, right) => {
+            let left = count_set(left.get(), below);
+            above(both(left, count_set(right.get(), below)))
+        }
+        Term2::Up(set, _) | Term2::Down(set, _) => above(count_set(set.get(), below)),
     }
 }
 

@@ -10,6 +10,7 @@ ghost use Rattle.std.specs.Prelude.{◌≡◌, ◌≤◌, ◌+◌, ℕ, length, 
 use crate::atoms::{known, minus, of_one, of_two, only_member, whole};
 use crate::cores::relation;
 use crate::defined::{Defined, fresh, over};
+use crate::made::Made;
 use crate::scope::Scope;
 use crate::tables::{Tables, number};
 use ms_list::{Boxed, NoMemory};
@@ -17,7 +18,7 @@ use ms_logic::{Order, Term1, Term2};
 use ms_logic_core::{Basic, Core};
 
 // The restriction to be less by a number than a term, for the variable with the number `own`.
-fn less_by(tables: &Tables, term: Defined, own: u32, by: u64) -> Result<Boxed<Core>, NoMemory>
+fn less_by(tables: &Tables, term: Defined, own: u32, by: u64) -> Made
     ensures { (T : TermSpread) → (free name : ℕ) → IsDefined (numbering_of tables.now) One T free term →
         own ≡ (numbering_of tables.now).number One name →
         IfOk result (λ core. core_form_of core ≡ renumbered (numbering_of tables.now) (T free (is_minus name by))) }
@@ -146,7 +147,7 @@ pub fn define_set(
 }
 
 // The restriction to be the set with one term, for the variable with the number `own`.
-fn only(tables: &Tables, term: Defined, own: u32) -> Result<Boxed<Core>, NoMemory>
+fn only(tables: &Tables, term: Defined, own: u32) -> Made
     ensures { (T : TermSpread) → (free name : ℕ) → IsDefined (numbering_of tables.now) One T free term →
         own ≡ (numbering_of tables.now).number Two name →
         IfOk result (λ core. core_form_of core ≡ renumbered (numbering_of tables.now) (T free (is_only_member name))) }

@@ -5,7 +5,7 @@ ghost use Rattle.ms_logic.specs.declared.mode.Order.TheVariants.{Zero};
 ghost use Rattle.ms_lower.specs.inner.Given.{IsGiven};
 ghost use Rattle.ms_lower.specs.Numbering.{numbering_of};
 ghost use Rattle.ms_lower.specs.inner.Scope.{all_named, default_over, names_in};
-ghost use Rattle.std.specs.Prelude.{◌≡◌, ◌++◌, ◌∷◌, [], ℕ, length, map, take, IfOk, OnOk, Some};
+ghost use Rattle.std.specs.Prelude.{◌≡◌, ℕ, map, IfOk, Some};
 
 use crate::defined::Defined;
 use crate::scope::{Named, Scope};
@@ -75,23 +75,4 @@ pub fn default_names(
         push(&mut named, one)?;
     }
     Ok(named)
-}
-
-fn enter_one(scope: &mut Scope, named: &Named) -> Result<(), NoMemory>
-    ensures { OnOk result (scope.new ≡ scope.old ++ named.now ∷ []) }
-{
-    scope.enter(*named)
-}
-
-/// Enters some variables, the first over the later ones.
-pub fn enter_named(scope: &mut Scope, named: &[Named]) -> Result<(), NoMemory>
-    ensures names { OnOk result (names_in scope.new ≡ all_named named.now (names_in scope.old)) }
-    ensures kept { OnOk result (take (length scope.old) scope.new ≡ scope.old) }
-{
-    let mut i = named.len();
-    while i > 0 {
-        i -= 1;
-        enter_one(scope, &named[i])?;
-    }
-    Ok(())
 }

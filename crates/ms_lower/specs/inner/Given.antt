@@ -6,15 +6,16 @@ use Rattle.ms_logic.specs.declared.mode.Order.TheVariants.{Zero, One, Two}
 use Rattle.ms_logic.specs.declared.mode.Quant.TheVariants.{Ex}
 use Rattle.ms_logic_core.specs.declared.core_formula.Basic.TheVariants.{Truth}
 use Rattle.ms_logic_core.specs.CoreForm.{CoreForm, basic, core_form_of, equivalence, quantified, restrict, unrestricted}
-use Rattle.ms_logic_core.specs.Spread.{Callees, Names, Saying, TermSpread, both_of, named, spread_number, spread_set, spread_under, truth_value, variable_of_form}
+use Rattle.ms_logic_core.specs.Spread.{Callees, Names, Saying, TermSpread, both_of, spread_number, spread_set, spread_under, truth_value, variable_of_form}
 use Rattle.ms_logic.specs.Tree.{Argument, truth_argument, number_argument, set_argument}
 use Rattle.ms_logic.specs.View.{argument_of, binding_of}
 use Rattle.ms_lower.specs.declared.arguments.Arguments.{Arguments}
 use Rattle.ms_lower.specs.declared.arguments.Arguments.TheVariants.{Call, Let}
 use Rattle.ms_lower.specs.declared.defined.Defined.{Defined}
 use Rattle.ms_lower.specs.declared.given.Entered.{Entered}
-use Rattle.ms_lower.specs.declared.given.Given.{Given}
+use Rattle.ms_lower.specs.declared.scope.Named.{Named}
 use Rattle.ms_lower.specs.inner.Defined.{IsDefined, below}
+use Rattle.ms_lower.specs.inner.Scope.{all_named}
 use Rattle.ms_lower.specs.Numbering.{Numbering, renumbered}
 
 -- the variables that get a value
@@ -26,18 +27,10 @@ abbrev pub values_of : Arguments → List Argument
 values_of (Call params values) = map argument_of values.now
 values_of (Let bindings) = map (λ b. b.1) (map binding_of bindings.now)
 
--- the names, with the variable standing for what it is given
-abbrev pub entered_at : Option ℕ → Order → ℕ → Names → Names
-entered_at None order name names = names
-entered_at (Some x) order name names = named order x name names
-
-abbrev pub entered : Given → Names → Names
-entered given names = entered_at given.variable given.defined.order given.defined.name names
-
--- the first over the later ones
-abbrev pub all_entered : List Given → Names → Names
-all_entered [] names = names
-all_entered (given ∷ more) names = entered given (all_entered more names)
+-- the variable that gets a value, if there is one, with the number in the spread of what the value is
+abbrev pub named_by : Option ℕ → Defined → List Named
+named_by None made = []
+named_by (Some x) made = (record { order = made.order; variable = x; name = made.name }) ∷ []
 
 -- a formula below the binder of a truth value, if that is new: it is true where a formula is Yes and false where it is No
 abbrev pub below_truth : ℕ → Option CoreForm → CoreForm → CoreForm
@@ -49,18 +42,23 @@ below_given_at Zero made f = below_truth made.number (option_map core_form_of ma
 below_given_at One made f = below made f
 below_given_at Two made f = below made f
 
-abbrev pub below_given : Given → CoreForm → CoreForm
-below_given given f = below_given_at given.defined.order given.defined f
+abbrev pub below_given : Defined → CoreForm → CoreForm
+below_given made f = below_given_at made.order made f
 
-abbrev pub below_all : List Given → CoreForm → CoreForm
+abbrev pub below_all : List Defined → CoreForm → CoreForm
 below_all [] f = f
-below_all (given ∷ more) f = below_given given (below_all more f)
+below_all (made ∷ more) f = below_given made (below_all more f)
+
+-- no arguments
+abbrev pub nothing_entered : ℕ → Entered
+nothing_entered free = record { defined = []; named = []; next = free }
 
 -- with one argument more, if there is one
 abbrev pub entered_with : Entered → Option ℕ → Option Defined → Entered
 entered_with before variable None = before
 entered_with before variable (Some made) = record {
-  given = before.given ++ (record { variable = variable; defined = made }) ∷ [];
+  defined = before.defined ++ made ∷ [];
+  named = before.named ++ named_by variable made;
   next = made.next;
 }
 
@@ -86,12 +84,12 @@ pub record IsGiven (n : Numbering) (order : Order) (T : TermSpread) (free : ℕ)
 -- of some values the first have been entered, and the others are left
 pub record EntersBefore (n : Numbering) (whole rest : Giving) (free : ℕ) (made : Entered) : Type 0 where
   pub says : (inner : Names) (Said : Inner) → renumbered n (whole inner free Said)
-      ≡ below_all made.given (renumbered n (rest inner made.next (λ inner free. Said (all_entered made.given inner) free)))
+      ≡ below_all made.defined (renumbered n (rest inner made.next (λ inner free. Said (all_named made.named inner) free)))
 
 -- all values have been entered
 pub record Enters (n : Numbering) (whole : Giving) (free : ℕ) (made : Entered) : Type 0 where
   pub says : (inner : Names) (Said : Inner) → renumbered n (whole inner free Said)
-      ≡ below_all made.given (renumbered n (Said (all_entered made.given inner) made.next))
+      ≡ below_all made.defined (renumbered n (Said (all_named made.named inner) made.next))
 
 -- the variable that a truth value among the arguments is
 abbrev pub IsTruth : Numbering → Callees → Argument → Names → ℕ → Option Defined → Type 0

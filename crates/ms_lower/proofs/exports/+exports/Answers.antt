@@ -10,7 +10,7 @@ roots-returns-in_ok-inside-in-Bind-clause-roots t c =
     let T = c.args.tables.now in
     let exports = c.args.exports.now in
     c.in_ok-inside-in-Bind.ensures.roots
-    ∙ (ap (λ f. map (renumbered_root T) (roots_in T exports (seen_over [] c.enter.new.self) (formula_of f))) c.get-in-Bind.ensures
+    ∙ (ap (λ f. map (renumbered_root T) (roots_in T exports (seen_over [] c.enter.new.self) (formula_of f))) c.get.ensures
     ∙ (ap (λ s. map (renumbered_root T) (roots_in T exports s (formula_of c.in-Bind.body))) (ap (seen_over []) c.in_ok-enter-in-Bind.ensures ∙ seen_over-append [] c.args.seen.now _)
     ∙ ap (λ g. map (renumbered_root T) (roots_in T exports (seen_over [] c.args.seen.now) g)) (sym (ap formula_of c.in-Bind.is ∙ formula_of-Bind c.in-Bind.field-0 c.in-Bind.order c.in-Bind.variable c.in-Bind.field-3 c.in-Bind.body))))
 

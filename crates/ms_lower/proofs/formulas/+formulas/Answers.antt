@@ -94,7 +94,7 @@ pub where_let-returns-clause-core : goal.where_let-returns-clause-core
 where_let-returns-clause-core t c =
     let T = c.args.tables.now in
     let values = c.in_ok-values.values in
-    IfOk-weaker c.over_values.result _ _ (λ core is. is ∙ (ap (λ f. below_all values.numbers.given (below_all values.truths.given f)) c.in_ok-body.ensures.core
+    IfOk-weaker c.over_values.result _ _ (λ core is. is ∙ (ap (λ f. below_all values.numbers.defined (below_all values.truths.defined f)) c.in_ok-body.ensures.core
     ∙ sym (c.in_ok-values.ensures.values (λ inner free. spread_under (callees_in T) (formula_of c.args.body.now) inner free)))) c.over_values.ensures
 
 pub call_with-returns-clause-core : goal.call_with-returns-clause-core
@@ -103,7 +103,7 @@ call_with-returns-clause-core t c =
     let values = c.in_ok-values.values in
     let names = names_in c.args.scope.now in
     let vs = arguments (map argument_of c.args.given.now) in
-    IfOk-weaker c.over_values.result _ _ (λ core is. is ∙ (ap (λ f. below_all values.numbers.given (below_all values.truths.given f)) c.in_ok-body.ensures
+    IfOk-weaker c.over_values.result _ _ (λ core is. is ∙ (ap (λ f. below_all values.numbers.defined (below_all values.truths.defined f)) c.in_ok-body.ensures
     ∙ (sym (c.in_ok-values.ensures.values (λ inner free. (callees_in T).body c.args.predicate inner free))
     ∙ ap (λ ys. renumbered (numbering_of T) (numbers_and_sets ys vs names names c.args.free (λ inner free. truth_values (callees_in T) ys vs names inner free (λ inner free. (callees_in T).body c.args.predicate inner free)))) c.params.ensures))) c.over_values.ensures
 

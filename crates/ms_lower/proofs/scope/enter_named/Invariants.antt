@@ -1,6 +1,6 @@
 use Rattle.std.proofs.Common.{◌≡◌, ◌≤◌, drop, length, take}
 use Rattle.ms_lower.specs.inner.Scope.{all_named, names_in}
-use Rattle.ms_lower.proofs.truths.enter_named.Given as goal
+use Rattle.ms_lower.proofs.scope.enter_named.Given as goal
 
 abbrev pub invariant-loop-i : goal.invariant-loop-i
 invariant-loop-i l = record {

@@ -2,7 +2,7 @@ use Rattle.std.proofs.Common.{length, take, refl, ap, ◌∙◌, arith}
 use Rattle.std.proofs.lemmas.List.{length-append, take-append-le}
 use Rattle.ms_lower.specs.inner.Scope.{names_in}
 use Rattle.ms_lower.proofs.Defaults.{named_before}
-use Rattle.ms_lower.proofs.truths.enter_named.Goals as goal
+use Rattle.ms_lower.proofs.scope.enter_named.Goals as goal
 
 pub loop-i-preserved : goal.loop-i-preserved
 loop-i-preserved c =
