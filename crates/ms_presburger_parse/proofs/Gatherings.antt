@@ -131,6 +131,14 @@ count_of-most (x ∷ xs) y =
       | inr e ↦ omega (arith, ap (λ b. if b then suc (count_of xs y) else count_of xs y) e, count_of-most xs y)
     ]
 
+counted_more : (here : Bool) (m n : ℕ) → m ≡ n + 1 → (if here then suc m else m) ≡ (if here then suc n else n) + 1
+counted_more true m n is = omega (arith, is)
+counted_more false m n is = is
+
+counted_below : (here : Bool) (m n : ℕ) → m < n → (if here then suc m else m) < (if here then suc n else n)
+counted_below true m n below = omega (arith, below)
+counted_below false m n below = below
+
 -- the item at a place, one more time, and no other name
 
 count_of-here-at : (xs : List (List ℕ)) (i : ℕ) (x : List ℕ) → i < length xs → x ≡ get_or xs i x → count_of (take (suc i) xs) x ≡ count_of (take i xs) x + 1
@@ -139,22 +147,7 @@ count_of-here-at (y ∷ ys) zero x within is =
     let same : bytes_eq y x ≡ true = (bytes_eq-Decides y x).1 (sym is) in
     ap (λ b. if b then 1 else 0) same
 count_of-here-at (y ∷ ys) (suc i) x within is =
-    elim (cases_Bool (bytes_eq y x)) [
-      | inl e ↦
-          omega (
-            arith,
-            ap (λ b. if b then suc (count_of (take (suc i) ys) x) else count_of (take (suc i) ys) x) e,
-            ap (λ b. if b then suc (count_of (take i ys) x) else count_of (take i ys) x) e,
-            count_of-here-at ys i x (omega (arith, within)) is,
-          )
-      | inr e ↦
-          omega (
-            arith,
-            ap (λ b. if b then suc (count_of (take (suc i) ys) x) else count_of (take (suc i) ys) x) e,
-            ap (λ b. if b then suc (count_of (take i ys) x) else count_of (take i ys) x) e,
-            count_of-here-at ys i x (omega (arith, within)) is,
-          )
-    ]
+    counted_more (bytes_eq y x) (count_of (take (suc i) ys) x) (count_of (take i ys) x) (count_of-here-at ys i x (omega (arith, within)) is)
 
 pub count_of-here : (xs : List (List ℕ)) (i : ℕ) (x : List ℕ) → i < length xs → x ≡ get_or xs i x → count_of (take (i + 1) xs) x ≡ count_of (take i xs) x + 1
 count_of-here xs i x within is = ap (λ j. count_of (take j xs) x) (add-one i) ∙ count_of-here-at xs i x within is
@@ -176,22 +169,7 @@ count_of-within (y ∷ ys) zero x within is =
     let same : bytes_eq y x ≡ true = (bytes_eq-Decides y x).1 (sym is) in
     omega (arith, ap (λ b. if b then suc (count_of ys x) else count_of ys x) same)
 count_of-within (y ∷ ys) (suc i) x within is =
-    elim (cases_Bool (bytes_eq y x)) [
-      | inl e ↦
-          omega (
-            arith,
-            ap (λ b. if b then suc (count_of ys x) else count_of ys x) e,
-            ap (λ b. if b then suc (count_of (take i ys) x) else count_of (take i ys) x) e,
-            count_of-within ys i x (omega (arith, within)) is,
-          )
-      | inr e ↦
-          omega (
-            arith,
-            ap (λ b. if b then suc (count_of ys x) else count_of ys x) e,
-            ap (λ b. if b then suc (count_of (take i ys) x) else count_of (take i ys) x) e,
-            count_of-within ys i x (omega (arith, within)) is,
-          )
-    ]
+    counted_below (bytes_eq y x) (count_of (take i ys) x) (count_of ys x) (count_of-within ys i x (omega (arith, within)) is)
 
 -- no quantifier around and none of these names binds
 zero_sum : (n : ℕ) (xs : List (List ℕ)) (x : List ℕ) → is_zero (n + count_of xs x) ≡ (not (is_among xs x) && is_zero n)

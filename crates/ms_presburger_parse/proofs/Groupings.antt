@@ -3,7 +3,7 @@ use Rattle.std.proofs.Common.{◌≡◌, ℕ, suc, ◌≤◌, ◌⊎◌, refl, i
 use Rattle.std.specs.Prelude.{nat_eq, if◌then◌else◌}
 use Rattle.ms_presburger.specs.Tree.{depth}
 use Rattle.ms_parse_stack.specs.declared.junction.Junction.{Junction}
-use Rattle.ms_parse_stack.specs.declared.junction.Junction.TheVariants.{Conjunction, Disjunction}
+use Rattle.ms_parse_stack.specs.declared.junction.Junction.TheVariants.{Conjunction}
 use Rattle.ms_parse_stack.specs.inner.Frames.{filled}
 use Rattle.ms_parse_stack.proofs.Depths as stacks
 use Rattle.ms_parse_stack.proofs.Depths.{Depths}
@@ -20,29 +20,15 @@ use Rattle.ms_presburger_parse.specs.inner.Machine.{operators, prefix_operand}
 abbrev grouping : ℕ → Grouping
 grouping n = if nat_eq n 1 then to_left else if nat_eq n 2 then to_right else in_lists
 
-left_groups : (op : Binary) → left_level op ≡ left_of (grouping (binary_level op)) (binary_level op)
-left_groups Equivalence = refl
-left_groups Implication = refl
+-- how an operator groups, and that it binds more loosely than one before its operand
+infixes : (op : Binary) → (left_level op ≡ left_of (grouping (binary_level op)) (binary_level op)) × (right_level op ≡ right_of (grouping (binary_level op)) (binary_level op))
+    × (grouping (binary_level op) ≡ in_lists → ⊥) × (suc (binary_level op) ≤ prefix_level)
+infixes Equivalence = (refl, refl, λ same. cc, omega arith)
+infixes _ = (refl, refl, λ same. cc, omega arith)
 
-right_groups : (op : Binary) → right_level op ≡ right_of (grouping (binary_level op)) (binary_level op)
-right_groups Equivalence = refl
-right_groups Implication = refl
-
-single : (op : Binary) → grouping (binary_level op) ≡ in_lists → ⊥
-single Equivalence same = cc
-single Implication same = cc
-
-lists : (op : Junction) → grouping (junction_level op) ≡ in_lists
-lists Conjunction = refl
-lists Disjunction = refl
-
-infix_small : (op : Binary) → suc (binary_level op) ≤ prefix_level
-infix_small Equivalence = omega arith
-infix_small Implication = omega arith
-
-junction_small : (op : Junction) → suc (junction_level op) ≤ prefix_level
-junction_small Conjunction = omega arith
-junction_small Disjunction = omega arith
+junctions : (op : Junction) → (grouping (junction_level op) ≡ in_lists) × (suc (junction_level op) ≤ prefix_level)
+junctions Conjunction = (refl, omega arith)
+junctions _ = (refl, omega arith)
 
 infix_some : (op : Binary) → 1 ≤ binary_level op
 infix_some Equivalence = omega arith
@@ -55,14 +41,14 @@ prefix_operands (Quantifier q xs) = inr (refl, infix_some)
 pub levelled : AreLevelled operators
 levelled = record {
   grouping = grouping;
-  left = left_groups;
-  right = right_groups;
-  single = single;
-  lists = lists;
+  left = λ op. (infixes op).0;
+  right = λ op. (infixes op).1;
+  single = λ op. (infixes op).2;
+  lists = λ op. (junctions op).0;
   differ = λ same. omega (arith, same);
   prefix_operands = prefix_operands;
-  infix_small = infix_small;
-  junction_small = junction_small;
+  infix_small = λ op. (infixes op).3;
+  junction_small = λ op. (junctions op).1;
   prefix_small = omega arith;
 }
 

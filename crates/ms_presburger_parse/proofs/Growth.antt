@@ -14,7 +14,7 @@ use Rattle.ms_parse_stack.proofs.Growth.{IsGrowing}
 use Rattle.ms_presburger_parse.specs.Grammar.{compares}
 use Rattle.ms_presburger_parse.specs.Symbol.{Symbol, name, number, word_true, word_false, quantifier, negation_sign, infix_operator, joining, relation, plus, comma, colon, open_bracket, close_bracket, semicolon, other}
 use Rattle.ms_presburger_parse.specs.declared.operator.Prefix.TheVariants.{Negation}
-use Rattle.ms_presburger_parse.specs.inner.Machine.{Frame, machine, action, Side, on_left, on_right, Place, wanted, naming, named, adding, added, holding, with_number, times, with_name, with_plus, with_relation, with_quantifier, with_comma, with_leaf, opening, body, State, run, compared, completed, shortest}
+use Rattle.ms_presburger_parse.specs.inner.Machine.{Frame, machine, action, Side, on_left, on_right, Place, wanted, naming, named, adding, added, with_number, times, with_name, with_plus, with_relation, with_quantifier, with_comma, with_leaf, opening, body, State, run, compared, completed, shortest}
 use Rattle.ms_presburger_parse.specs.inner.States.{BecomesTwo, KeepsDepth}
 use Rattle.ms_presburger_parse.proofs.Groupings.{levelled}
 use Rattle.ms_presburger_parse.specs.inner.Deep.{deep}
@@ -27,11 +27,8 @@ depth-compared (on_right r left) parts = refl
 
 pub number_two : (n : ℕ) → BecomesTwo (with_number n)
 number_two n wanted = (omega arith, refl)
-number_two n (naming q xs) = tt
-number_two n (named q xs) = tt
 number_two n (adding side parts) = (omega (arith, depth-compared side (parts ++ Number 0 ∷ [])), depth-compared side (parts ++ Number n ∷ []))
-number_two n (added side before last) = tt
-number_two n (holding f) = tt
+number_two n _ = tt
 
 times_two : (side : Side) (before : List Part) (x : List ℕ) (last : Part) → IfSome (times side before x last) (λ q. (depth (completed (added side before last)) ≤ 2) × (depth (completed q) ≡ 2))
 times_two side before x (Number n) = (omega (arith, depth-compared side (before ++ Number n ∷ [])), depth-compared side (before ++ Times n x ∷ []))
@@ -41,34 +38,21 @@ times_two side before x (Times n y) = tt
 pub name_two : (x : List ℕ) → BecomesTwo (with_name x)
 name_two x wanted = (omega arith, refl)
 name_two x (naming q xs) = (omega arith, refl)
-name_two x (named q xs) = tt
 name_two x (adding side parts) = (omega (arith, depth-compared side (parts ++ Number 0 ∷ [])), depth-compared side (parts ++ Var x ∷ []))
 name_two x (added side before last) = times_two side before x last
-name_two x (holding f) = tt
+name_two x _ = tt
 
 pub quantifier_two : (q : Quant) → BecomesTwo (with_quantifier q)
 quantifier_two q wanted = (omega arith, refl)
-quantifier_two q (naming q' xs) = tt
-quantifier_two q (named q' xs) = tt
-quantifier_two q (adding side parts) = tt
-quantifier_two q (added side before last) = tt
-quantifier_two q (holding f) = tt
+quantifier_two q _ = tt
 
 -- the other symbols within it keep the depth
 
 pub plus_keeps : KeepsDepth with_plus
-plus_keeps wanted = tt
-plus_keeps (naming q xs) = tt
-plus_keeps (named q xs) = tt
-plus_keeps (adding side parts) = tt
 plus_keeps (added side before last) = omega (arith, depth-compared side ((before ++ last ∷ []) ++ Number 0 ∷ []), depth-compared side (before ++ last ∷ []))
-plus_keeps (holding f) = tt
+plus_keeps _ = tt
 
 pub relation_keeps : (r : Rel) → KeepsDepth (with_relation r)
-relation_keeps r wanted = tt
-relation_keeps r (naming q xs) = tt
-relation_keeps r (named q xs) = tt
-relation_keeps r (adding side parts) = tt
 relation_keeps r (added on_left before last) =
     let next = Some (adding (on_right r (before ++ last ∷ [])) []) in
     let P : Bool → Type 0 = λ b. IfSome (if b then next else None) (λ q. depth (completed q) ≡ 2) in
@@ -76,24 +60,15 @@ relation_keeps r (added on_left before last) =
       | inl e ↦ subst P (sym e) refl
       | inr e ↦ subst P (sym e) tt
     ]
-relation_keeps r (added (on_right r' left) before last) = tt
-relation_keeps r (holding f) = tt
+relation_keeps r _ = tt
 
 pub comma_keeps : KeepsDepth with_comma
-comma_keeps wanted = tt
-comma_keeps (naming q xs) = tt
 comma_keeps (named q xs) = refl
-comma_keeps (adding side parts) = tt
-comma_keeps (added side before last) = tt
-comma_keeps (holding f) = tt
+comma_keeps _ = tt
 
 pub leaf_keeps : (f : Arithmetic) → depth f ≡ 1 → KeepsDepth (with_leaf f)
 leaf_keeps f leaf wanted = leaf
-leaf_keeps f leaf (naming q xs) = tt
-leaf_keeps f leaf (named q xs) = tt
-leaf_keeps f leaf (adding side parts) = tt
-leaf_keeps f leaf (added side before last) = tt
-leaf_keeps f leaf (holding g) = tt
+leaf_keeps f leaf _ = tt
 
 grows_some : (p : Place) (next : Option Place) → IfSome next (λ q. depth (completed q) ≡ depth (completed p)) → IfSome next (λ q. depth (completed p) ≤ depth (completed q))
 grows_some p (Some q) same = omega (arith, same)
@@ -114,19 +89,11 @@ Deeper p next = IfSome next (λ frame. depth (completed p) ≤ suc (max (inside 
 
 opening_grows : (frame : Frame) (p : Place) → Deeper p (opening frame p)
 opening_grows frame wanted = omega arith
-opening_grows frame (naming q xs) = tt
-opening_grows frame (named q xs) = tt
-opening_grows frame (adding side parts) = tt
-opening_grows frame (added side before last) = tt
-opening_grows frame (holding f) = tt
+opening_grows frame _ = tt
 
 body_grows : (p : Place) → Deeper p (body p)
-body_grows wanted = tt
-body_grows (naming q xs) = tt
 body_grows (named q xs) = omega arith
-body_grows (adding side parts) = tt
-body_grows (added side before last) = tt
-body_grows (holding f) = tt
+body_grows _ = tt
 
 grows : (x : Symbol) → IsGrowing machine depth (action x)
 grows (name x) = two_grows (with_name x) (name_two x)

@@ -89,12 +89,8 @@ joined_sound Conjunction fs h left part = record { enough = le_refl _; grammatic
 joined_sound Disjunction fs h left part = record { enough = le_refl _; grammatical = (has_two fs h left.some, operands_more (suc (junction_level Disjunction)) fs h (omega arith) left.each part) }
 
 number_sound : (n : ℕ) (p : Place) → IsSoundPlace p → IfSome (with_number n p) IsSoundPlace
-number_sound n wanted sound = tt
-number_sound n (naming q xs) sound = tt
-number_sound n (named q xs) sound = tt
 number_sound n (adding side parts) sound = sound
-number_sound n (added side before last) sound = tt
-number_sound n (holding f) sound = tt
+number_sound n _ sound = tt
 
 times_sound : (side : Side) (before : List Part) (x : List ℕ) (last : Part) → IsSoundSide side → IfSome (times side before x last) IsSoundPlace
 times_sound side before x (Number n) sound = sound
@@ -102,26 +98,16 @@ times_sound side before x (Var y) sound = tt
 times_sound side before x (Times n y) sound = tt
 
 name_sound : (x : List ℕ) (p : Place) → IsSoundPlace p → IfSome (with_name x p) IsSoundPlace
-name_sound x wanted sound = tt
 name_sound x (naming q xs) sound = one_last xs x
-name_sound x (named q xs) sound = tt
 name_sound x (adding side parts) sound = sound
 name_sound x (added side before last) sound = times_sound side before x last sound
-name_sound x (holding f) sound = tt
+name_sound x _ sound = tt
 
 plus_sound : (p : Place) → IsSoundPlace p → IfSome (with_plus p) IsSoundPlace
-plus_sound wanted sound = tt
-plus_sound (naming q xs) sound = tt
-plus_sound (named q xs) sound = tt
-plus_sound (adding side parts) sound = tt
 plus_sound (added side before last) sound = sound
-plus_sound (holding f) sound = tt
+plus_sound _ sound = tt
 
 relation_sound : (r : Rel) (p : Place) → IsSoundPlace p → IfSome (with_relation r p) IsSoundPlace
-relation_sound r wanted sound = tt
-relation_sound r (naming q xs) sound = tt
-relation_sound r (named q xs) sound = tt
-relation_sound r (adding side parts) sound = tt
 relation_sound r (added on_left before last) sound =
     let next = Some (adding (on_right r (before ++ last ∷ [])) []) in
     let P : Bool → Type 0 = λ b. IfSome (if b then next else None) IsSoundPlace in
@@ -129,8 +115,7 @@ relation_sound r (added on_left before last) sound =
       | inl e ↦ subst P (sym e) (e, one_last before last)
       | inr e ↦ subst P (sym e) tt
     ]
-relation_sound r (added (on_right r' left) before last) sound = tt
-relation_sound r (holding f) sound = tt
+relation_sound r _ sound = tt
 
 quantifier_sound : (q : Quant) (p : Place) → IsSoundPlace p → IfSome (with_quantifier q p) IsSoundPlace
 quantifier_sound q wanted sound = tt
@@ -150,36 +135,20 @@ comma_sound (holding f) sound = tt
 
 leaf_sound : (f : Arithmetic) → 6 ≤ strength f → IsGrammatical f → (p : Place) → IsSoundPlace p → IfSome (with_leaf f p) IsSoundPlace
 leaf_sound f strong good wanted sound = (strong, good)
-leaf_sound f strong good (naming q xs) sound = tt
-leaf_sound f strong good (named q xs) sound = tt
-leaf_sound f strong good (adding side parts) sound = tt
-leaf_sound f strong good (added side before last) sound = tt
-leaf_sound f strong good (holding g) sound = tt
+leaf_sound f strong good _ sound = tt
 
 opening_sound : (frame : Frame) → IsSoundFrame machine grammar frame → (p : Place) → IsSoundPlace p → IfSome (opening frame p) (IsSoundFrame machine grammar)
 opening_sound frame h wanted sound = h
-opening_sound frame h (naming q xs) sound = tt
-opening_sound frame h (named q xs) sound = tt
-opening_sound frame h (adding side parts) sound = tt
-opening_sound frame h (added side before last) sound = tt
-opening_sound frame h (holding f) sound = tt
+opening_sound frame h _ sound = tt
 
 body_sound : (p : Place) → IsSoundPlace p → IfSome (body p) (IsSoundFrame machine grammar)
-body_sound wanted sound = tt
-body_sound (naming q xs) sound = tt
 body_sound (named q xs) sound = (sound, le_refl _)
-body_sound (adding side parts) sound = tt
-body_sound (added side before last) sound = tt
-body_sound (holding f) sound = tt
+body_sound _ sound = tt
 
 operand_sound : (p : Place) → IsSoundPlace p → IfSome (operand p) (IsLeft machine grammar 6)
-operand_sound wanted sound = tt
-operand_sound (naming q xs) sound = tt
-operand_sound (named q xs) sound = tt
-operand_sound (adding side parts) sound = tt
-operand_sound (added on_left before last) sound = tt
 operand_sound (added (on_right r left) before last) sound = record { enough = le_refl _; grammatical = (sound.0, sound.1, one_last before last) }
 operand_sound (holding f) sound = record { enough = sound.0; grammatical = sound.1 }
+operand_sound _ sound = tt
 
 compared_part : (side : Side) (parts : List Part) → IsSoundSide side → HasOne parts → IsPart machine grammar 5 (compared side parts)
 compared_part on_left parts sound some = record { enough = omega arith; grammatical = (refl, some, tt) }

@@ -111,15 +111,11 @@ spelled-completed (holding f) = sym (append-nil (spelled f))
 
 -- a formula that may end here is what has been read
 operand_said : (p : Place) → IfSome (operand p) (λ f. said_place p ≡ spelled f)
-operand_said wanted = tt
-operand_said (naming q xs) = tt
-operand_said (named q xs) = tt
-operand_said (adding side parts) = tt
-operand_said (added on_left before last) = tt
 operand_said (added (on_right r left) before last) =
     append_assoc (spelled_sum left) (relation r ∷ []) (terminated plus spelled_part before ++ spelled_part last)
     ∙ ap (λ x. spelled_sum left ++ (relation r ∷ x)) (sym (separated-last plus spelled_part before last))
 operand_said (holding f) = refl
+operand_said _ = tt
 
 -- one symbol more
 
@@ -128,11 +124,8 @@ Says x p next = IfSome next (λ q. said_place q ≡ said_place p ++ x ∷ [])
 
 number_said : (n : ℕ) (p : Place) → Says (number n) p (with_number n p)
 number_said n wanted = refl
-number_said n (naming q xs) = tt
-number_said n (named q xs) = tt
 number_said n (adding side parts) = sym (append_assoc (said_side side) (terminated plus spelled_part parts) (number n ∷ []))
-number_said n (added side before last) = tt
-number_said n (holding f) = tt
+number_said n _ = tt
 
 times_said : (side : Side) (before : List Part) (x : List ℕ) (last : Part) → Says (name x) (added side before last) (times side before x last)
 times_said side before x (Number n) =
@@ -144,26 +137,17 @@ times_said side before x (Times n y) = tt
 name_said : (x : List ℕ) (p : Place) → Says (name x) p (with_name x p)
 name_said x wanted = refl
 name_said x (naming q xs) = ap (λ y. quantifier q ∷ y) (separated-last comma said_name xs x)
-name_said x (named q xs) = tt
 name_said x (adding side parts) = sym (append_assoc (said_side side) (terminated plus spelled_part parts) (name x ∷ []))
 name_said x (added side before last) = times_said side before x last
-name_said x (holding f) = tt
+name_said x _ = tt
 
 plus_said : (p : Place) → Says plus p (with_plus p)
-plus_said wanted = tt
-plus_said (naming q xs) = tt
-plus_said (named q xs) = tt
-plus_said (adding side parts) = tt
 plus_said (added side before last) =
     ap (λ y. said_side side ++ y) (terminated-last plus spelled_part before last)
     ∙ sym (append_assoc (said_side side) (terminated plus spelled_part before ++ spelled_part last) (plus ∷ []))
-plus_said (holding f) = tt
+plus_said _ = tt
 
 relation_said : (r : Rel) (p : Place) → Says (relation r) p (with_relation r p)
-relation_said r wanted = tt
-relation_said r (naming q xs) = tt
-relation_said r (named q xs) = tt
-relation_said r (adding side parts) = tt
 relation_said r (added on_left before last) =
     let next = Some (adding (on_right r (before ++ last ∷ [])) []) in
     let P : Bool → Type 0 = λ b. Says (relation r) (added on_left before last) (if b then next else None) in
@@ -172,51 +156,30 @@ relation_said r (added on_left before last) =
       | inl e ↦ subst P (sym e) is
       | inr e ↦ subst P (sym e) tt
     ]
-relation_said r (added (on_right r' left) before last) = tt
-relation_said r (holding f) = tt
+relation_said r _ = tt
 
 quantifier_said : (q : Quant) (p : Place) → Says (quantifier q) p (with_quantifier q p)
 quantifier_said q wanted = refl
-quantifier_said q (naming q' xs) = tt
-quantifier_said q (named q' xs) = tt
-quantifier_said q (adding side parts) = tt
-quantifier_said q (added side before last) = tt
-quantifier_said q (holding f) = tt
+quantifier_said q _ = tt
 
 comma_said : (p : Place) → IsSoundPlace p → Says comma p (with_comma p)
-comma_said wanted sound = tt
-comma_said (naming q xs) sound = tt
 comma_said (named q xs) sound = ap (λ y. quantifier q ∷ y) (separated-sign comma said_name xs sound)
-comma_said (adding side parts) sound = tt
-comma_said (added side before last) sound = tt
-comma_said (holding f) sound = tt
+comma_said _ sound = tt
 
 leaf_said : (f : Arithmetic) (x : Symbol) → spelled f ≡ x ∷ [] → (p : Place) → Says x p (with_leaf f p)
 leaf_said f x is wanted = is
-leaf_said f x is (naming q xs) = tt
-leaf_said f x is (named q xs) = tt
-leaf_said f x is (adding side parts) = tt
-leaf_said f x is (added side before last) = tt
-leaf_said f x is (holding g) = tt
+leaf_said f x is _ = tt
 
 abbrev pub Opens : Symbol → Place → Option Frame → Type 0
 Opens x p next = IfSome next (λ frame. said_before spelling frame ≡ said_place p ++ x ∷ [])
 
 opening_said : (frame : Frame) (x : Symbol) → said_before spelling frame ≡ x ∷ [] → (p : Place) → Opens x p (opening frame p)
 opening_said frame x is wanted = is
-opening_said frame x is (naming q xs) = tt
-opening_said frame x is (named q xs) = tt
-opening_said frame x is (adding side parts) = tt
-opening_said frame x is (added side before last) = tt
-opening_said frame x is (holding g) = tt
+opening_said frame x is _ = tt
 
 body_said : (p : Place) → Opens colon p (body p)
-body_said wanted = tt
-body_said (naming q xs) = tt
 body_said (named q xs) = refl
-body_said (adding side parts) = tt
-body_said (added side before last) = tt
-body_said (holding g) = tt
+body_said _ = tt
 
 pub is_spelling : IsSpelling machine grammar spelling
 is_spelling = record {

@@ -10,7 +10,7 @@ use Rattle.ms_presburger_parse.specs.declared.operator.Binary.{Binary}
 use Rattle.ms_presburger_parse.specs.declared.operator.Binary.TheVariants.{Equivalence, Implication}
 use Rattle.ms_presburger_parse.specs.declared.operator.Prefix.{Prefix}
 use Rattle.ms_presburger_parse.specs.declared.operator.Prefix.TheVariants.{Negation, Quantifier}
-use Rattle.ms_presburger_parse.specs.inner.Machine.{operators, machine, prefixed, binary, joined, operand, completed, Place, on_left, on_right, wanted, naming, named, adding, added, holding}
+use Rattle.ms_presburger_parse.specs.inner.Machine.{operators, machine, prefixed, binary, joined, operand, completed, Place, on_right, added, holding}
 
 depth-prefixed : (op : Prefix) (f : Arithmetic) → depth (prefixed op f) ≡ suc (depth f)
 depth-prefixed Negation f = refl
@@ -33,13 +33,9 @@ operators_deep = record { brackets_deep = λ f. refl; prefixed_deep = depth-pref
 
 -- a formula that may end is the shortest one
 operand_deep : (p : Place) → IfSome (operand p) (λ f. completed p ≡ f)
-operand_deep wanted = tt
-operand_deep (naming q xs) = tt
-operand_deep (named q xs) = tt
-operand_deep (adding side parts) = tt
-operand_deep (added on_left before last) = tt
 operand_deep (added (on_right r left) before last) = refl
 operand_deep (holding f) = refl
+operand_deep _ = tt
 
 pub deep : IsDepth machine depth
 deep = record { operators_deep = operators_deep; wanted_deep = refl; holding_deep = λ f. refl; operand_deep = operand_deep }

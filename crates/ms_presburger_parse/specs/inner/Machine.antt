@@ -85,23 +85,16 @@ pub data Place : Type 0 where
 
 -- the formula that has been read, if it may end here
 abbrev pub operand : Place → Option Arithmetic
-operand wanted = None
-operand (naming q xs) = None
-operand (named q xs) = None
-operand (adding side parts) = None
-operand (added on_left before last) = None
 operand (added (on_right r left) before last) = Some (comparison r left (before ++ last ∷ []))
 operand (holding f) = Some f
+operand _ = None
 
 -- what single symbols do within the innermost formula
 
 abbrev pub with_number : ℕ → Place → Option Place
 with_number n wanted = Some (added on_left [] (Number n))
 with_number n (adding side parts) = Some (added side parts (Number n))
-with_number n (naming q xs) = None
-with_number n (named q xs) = None
-with_number n (added side before last) = None
-with_number n (holding f) = None
+with_number n _ = None
 
 -- a name behind a number is multiplied with it
 abbrev pub times : Side → List Part → List ℕ → Part → Option Place
@@ -112,70 +105,40 @@ times side before x (Times n y) = None
 abbrev pub with_name : List ℕ → Place → Option Place
 with_name x wanted = Some (added on_left [] (Var x))
 with_name x (naming q xs) = Some (named q (xs ++ x ∷ []))
-with_name x (named q xs) = None
 with_name x (adding side parts) = Some (added side parts (Var x))
 with_name x (added side before last) = times side before x last
-with_name x (holding f) = None
+with_name x _ = None
 
 abbrev pub with_plus : Place → Option Place
 with_plus (added side before last) = Some (adding side (before ++ last ∷ []))
-with_plus wanted = None
-with_plus (naming q xs) = None
-with_plus (named q xs) = None
-with_plus (adding side parts) = None
-with_plus (holding f) = None
+with_plus _ = None
 
 abbrev pub with_relation : Rel → Place → Option Place
 with_relation r (added on_left before last) = if compares r then Some (adding (on_right r (before ++ last ∷ [])) []) else None
-with_relation r (added (on_right r' left) before last) = None
-with_relation r wanted = None
-with_relation r (naming q xs) = None
-with_relation r (named q xs) = None
-with_relation r (adding side parts) = None
-with_relation r (holding f) = None
+with_relation r _ = None
 
 abbrev pub with_quantifier : Quant → Place → Option Place
 with_quantifier q wanted = Some (naming q [])
-with_quantifier q (naming q' xs) = None
-with_quantifier q (named q' xs) = None
-with_quantifier q (adding side parts) = None
-with_quantifier q (added side before last) = None
-with_quantifier q (holding f) = None
+with_quantifier q _ = None
 
 abbrev pub with_comma : Place → Option Place
 with_comma (named q xs) = Some (naming q xs)
-with_comma wanted = None
-with_comma (naming q xs) = None
-with_comma (adding side parts) = None
-with_comma (added side before last) = None
-with_comma (holding f) = None
+with_comma _ = None
 
 -- a formula of one symbol
 abbrev pub with_leaf : Arithmetic → Place → Option Place
 with_leaf f wanted = Some (holding f)
-with_leaf f (naming q xs) = None
-with_leaf f (named q xs) = None
-with_leaf f (adding side parts) = None
-with_leaf f (added side before last) = None
-with_leaf f (holding g) = None
+with_leaf f _ = None
 
 -- what begins a frame
 
 abbrev pub opening : Frame → Place → Option Frame
 opening frame wanted = Some frame
-opening frame (naming q xs) = None
-opening frame (named q xs) = None
-opening frame (adding side parts) = None
-opening frame (added side before last) = None
-opening frame (holding f) = None
+opening frame _ = None
 
 abbrev pub body : Place → Option Frame
 body (named q xs) = Some (behind_prefix (Quantifier q xs))
-body wanted = None
-body (naming q xs) = None
-body (adding side parts) = None
-body (added side before last) = None
-body (holding f) = None
+body _ = None
 
 -- What the shortest row of symbols makes of the innermost formula that goes on so: with `true` for a formula that is wanted, `x`
 -- for a name, 0 for a part of a sum, and `= 0` behind a left sum.
