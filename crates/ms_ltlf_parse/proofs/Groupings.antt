@@ -10,9 +10,9 @@ use Rattle.ms_parse_stack.proofs.Depths.{Depths}
 use Rattle.ms_parse_stack.proofs.Fitting.{AreLevelled, Grouping, to_left, to_right, in_lists, left_of, right_of}
 use Rattle.ms_ltlf_parse.specs.Grammar.{binary_level, left_level, right_level, junction_level, prefix_level, level}
 use Rattle.ms_ltlf_parse.specs.declared.operator.Binary.{Binary}
-use Rattle.ms_ltlf_parse.specs.declared.operator.Binary.TheVariants.{Equivalence, Implication, Until, Release}
+use Rattle.ms_ltlf_parse.specs.declared.operator.Binary.TheVariants.{Equivalence}
 use Rattle.ms_ltlf_parse.specs.declared.operator.Prefix.{Prefix}
-use Rattle.ms_ltlf_parse.specs.declared.operator.Prefix.TheVariants.{Negation, Next, WeakNext, Eventually, Always}
+use Rattle.ms_ltlf_parse.specs.declared.operator.Prefix.TheVariants.{Negation}
 use Rattle.ms_ltlf_parse.specs.inner.Deep.{operators_deep}
 use Rattle.ms_ltlf_parse.specs.inner.Machine.{operators, prefixed, binary, joined}
 
@@ -20,64 +20,37 @@ use Rattle.ms_ltlf_parse.specs.inner.Machine.{operators, prefixed, binary, joine
 abbrev grouping : ℕ → Grouping
 grouping n = if nat_eq n 0 then to_left else if nat_eq n 2 then in_lists else if nat_eq n 3 then in_lists else to_right
 
-left_groups : (op : Binary) → left_level op ≡ left_of (grouping (binary_level op)) (binary_level op)
-left_groups Equivalence = refl
-left_groups Implication = refl
-left_groups Until = refl
-left_groups Release = refl
+-- how an operator groups, and that it binds more loosely than one before its operand
+infixes : (op : Binary) → (left_level op ≡ left_of (grouping (binary_level op)) (binary_level op)) × (right_level op ≡ right_of (grouping (binary_level op)) (binary_level op))
+    × (grouping (binary_level op) ≡ in_lists → ⊥) × (suc (binary_level op) ≤ prefix_level)
+infixes Equivalence = (refl, refl, λ same. cc, omega arith)
+infixes _ = (refl, refl, λ same. cc, omega arith)
 
-right_groups : (op : Binary) → right_level op ≡ right_of (grouping (binary_level op)) (binary_level op)
-right_groups Equivalence = refl
-right_groups Implication = refl
-right_groups Until = refl
-right_groups Release = refl
-
-single : (op : Binary) → grouping (binary_level op) ≡ in_lists → ⊥
-single Equivalence same = cc
-single Implication same = cc
-single Until same = cc
-single Release same = cc
-
-lists : (op : Junction) → grouping (junction_level op) ≡ in_lists
-lists Conjunction = refl
-lists Disjunction = refl
-
-infix_small : (op : Binary) → suc (binary_level op) ≤ prefix_level
-infix_small Equivalence = omega arith
-infix_small Implication = omega arith
-infix_small Until = omega arith
-infix_small Release = omega arith
-
-junction_small : (op : Junction) → suc (junction_level op) ≤ prefix_level
-junction_small Conjunction = omega arith
-junction_small Disjunction = omega arith
+junctions : (op : Junction) → (grouping (junction_level op) ≡ in_lists) × (suc (junction_level op) ≤ prefix_level)
+junctions Conjunction = (refl, omega arith)
+junctions _ = (refl, omega arith)
 
 pub levelled : AreLevelled operators
 levelled = record {
   grouping = grouping;
-  left = left_groups;
-  right = right_groups;
-  single = single;
-  lists = lists;
+  left = λ op. (infixes op).0;
+  right = λ op. (infixes op).1;
+  single = λ op. (infixes op).2;
+  lists = λ op. (junctions op).0;
   differ = λ same. omega (arith, same);
   prefix_operands = λ p. inl refl;
-  infix_small = infix_small;
-  junction_small = junction_small;
+  infix_small = λ op. (infixes op).3;
+  junction_small = λ op. (junctions op).1;
   prefix_small = omega arith;
 }
 
 pub level-prefixed : (op : Prefix) (f : Temporal) → level (prefixed op f) ≡ prefix_level
 level-prefixed Negation f = refl
-level-prefixed Next f = refl
-level-prefixed WeakNext f = refl
-level-prefixed Eventually f = refl
-level-prefixed Always f = refl
+level-prefixed _ f = refl
 
 pub level-binary : (op : Binary) (f g : Temporal) → level (binary op f g) ≡ binary_level op
 level-binary Equivalence f g = refl
-level-binary Implication f g = refl
-level-binary Until f g = refl
-level-binary Release f g = refl
+level-binary _ f g = refl
 
 pub level-joined : (op : Junction) (fs : List Temporal) → level (joined op fs) ≡ junction_level op
 level-joined Conjunction fs = refl

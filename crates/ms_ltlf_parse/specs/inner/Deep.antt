@@ -7,23 +7,18 @@ use Rattle.ms_parse_stack.specs.declared.junction.Junction.TheVariants.{Conjunct
 use Rattle.ms_parse_stack.specs.inner.Frames.{AreDeep, depth_of_each}
 use Rattle.ms_parse_stack.specs.inner.Machine.{IsDepth}
 use Rattle.ms_ltlf_parse.specs.declared.operator.Binary.{Binary}
-use Rattle.ms_ltlf_parse.specs.declared.operator.Binary.TheVariants.{Equivalence, Implication, Until, Release}
+use Rattle.ms_ltlf_parse.specs.declared.operator.Binary.TheVariants.{Equivalence}
 use Rattle.ms_ltlf_parse.specs.declared.operator.Prefix.{Prefix}
-use Rattle.ms_ltlf_parse.specs.declared.operator.Prefix.TheVariants.{Negation, Next, WeakNext, Eventually, Always}
+use Rattle.ms_ltlf_parse.specs.declared.operator.Prefix.TheVariants.{Negation}
 use Rattle.ms_ltlf_parse.specs.inner.Machine.{operators, machine, prefixed, binary, joined, operand, completed, Place, wanted, holding}
 
 depth-prefixed : (op : Prefix) (f : Temporal) → depth (prefixed op f) ≡ suc (depth f)
 depth-prefixed Negation f = refl
-depth-prefixed Next f = refl
-depth-prefixed WeakNext f = refl
-depth-prefixed Eventually f = refl
-depth-prefixed Always f = refl
+depth-prefixed _ f = refl
 
 pub depth-binary : (op : Binary) (f g : Temporal) → depth (binary op f g) ≡ suc (max (depth f) (depth g))
 depth-binary Equivalence f g = refl
-depth-binary Implication f g = refl
-depth-binary Until f g = refl
-depth-binary Release f g = refl
+depth-binary _ f g = refl
 
 depth-all : (fs : List Temporal) → depth_of_all (temporals fs) ≡ depth_of_each depth fs
 depth-all [] = refl

@@ -16,22 +16,15 @@ pub number_of-requires-clause-text : goal.number_of-requires-clause-text
 number_of-requires-clause-text c is =
     token_is_utf8 c.args.tokens.now c.args.i c.get-token.result c.slice-slice.result.now c.get-token.ensures.token (c.terminal_of-terminal.ensures.name is) c.slice-slice.ensures.spelled
 
-pub returns-clause-ok : goal.returns-clause-ok
-returns-clause-ok c =
+pub returns : goal.returns
+returns c =
     let lexed = c.args.tokens.now in
     let slice = c.slice-slice.result.now in
     let x = symbol_with c.terminal_of-terminal.result slice in
     let names = c.number_of.new.sights.names in
     let next = front-next symbol_of lexed c.args.i c.get-token.result slice x c.get-token.ensures.token c.slice-slice.ensures.slice c.terminal_of-terminal.ensures.symbol in
     let all = comes_next lexed c.args.i c.args.reader.now c.args.outcome x names c.step.new.begun c.step.result c.requires.here next c.in_ok-number.ensures.names (c.step.ensures (place names) slice c.in_ok-number.ensures.number) in
-    come_ok lexed c.args.i c.number_of.new.sights c.step.new.begun c.step.result all.0 c.in_ok-number.ensures.table all.1
-
-pub returns-clause-err : goal.returns-clause-err
-returns-clause-err c =
-    let lexed = c.args.tokens.now in
-    let slice = c.slice-slice.result.now in
-    let x = symbol_with c.terminal_of-terminal.result slice in
-    let names = c.number_of.new.sights.names in
-    let next = front-next symbol_of lexed c.args.i c.get-token.result slice x c.get-token.ensures.token c.slice-slice.ensures.slice c.terminal_of-terminal.ensures.symbol in
-    let all = comes_next lexed c.args.i c.args.reader.now c.args.outcome x names c.step.new.begun c.step.result c.requires.here next c.in_ok-number.ensures.names (c.step.ensures (place names) slice c.in_ok-number.ensures.number) in
-    come_err recognises state_of lexed c.args.i c.step.new.begun c.step.result (can_follow lexed c.args.i c.args.reader.now c.args.outcome c.requires.here) all.1
+    record {
+      ok = come_ok lexed c.args.i c.number_of.new.sights c.step.new.begun c.step.result all.0 c.in_ok-number.ensures.table all.1;
+      err = come_err recognises state_of lexed c.args.i c.step.new.begun c.step.result (can_follow lexed c.args.i c.args.reader.now c.args.outcome c.requires.here) all.1;
+    }
