@@ -128,6 +128,9 @@ parts_stop room parts i x within at pass =
 
 -- how many entries there are
 
+counted_test : (least size n : ℕ) (P : Type 0) → n ≡ size → (least ≤ n → P) → (P → least ≤ n) → (IsTrue (nat_le least size) → P) × (P → IsTrue (nat_le least size))
+counted_test least size n P same enough counted = (λ many. enough (omega (arith, leb-true least size many)), λ is. le-leb least size (omega (arith, counted is)))
+
 two_counted : (es : Expressions) → 2 ≤ count es → HasTwo es
 two_counted no_expressions many = absurd (omega (arith, many))
 two_counted (and_expression no_expressions e) many = absurd (omega (arith, many))
@@ -140,10 +143,7 @@ counted_two (and_expression (and_expression before d) e) two = omega arith
 
 pub two_test : (es : List Expr) → (IsTrue (nat_le 2 (length es)) → HasTwo (expressions_of es)) × (HasTwo (expressions_of es) → IsTrue (nat_le 2 (length es)))
 two_test es =
-    let same : count (expressions_of es) ≡ length es = count_behind no_expressions (map expression_of es) ∙ zero-add (length (map expression_of es)) ∙ length-map es expression_of in (
-      λ many. two_counted (expressions_of es) (omega (arith, leb-true 2 (length es) many)),
-      λ two. le-leb 2 (length es) (omega (arith, counted_two (expressions_of es) two)),
-    )
+    counted_test 2 (length es) (count (expressions_of es)) (HasTwo (expressions_of es)) (count_behind no_expressions (map expression_of es) ∙ zero-add (length (map expression_of es)) ∙ length-map es expression_of) (two_counted (expressions_of es)) (counted_two (expressions_of es))
 
 some_variable : (vs : Variables) → 1 ≤ count_variables vs → IsVariableList vs
 some_variable no_variables many = absurd (omega (arith, many))
@@ -155,10 +155,7 @@ variable_counted (and_variable before at o n d) some = omega arith
 
 pub variable_test : (bounds : List Bound) → (IsTrue (nat_le 1 (length bounds)) → IsVariableList (variables_of bounds)) × (IsVariableList (variables_of bounds) → IsTrue (nat_le 1 (length bounds)))
 variable_test bounds =
-    let same : count_variables (variables_of bounds) ≡ length bounds = count_variables_behind no_variables (map variable_of bounds) ∙ zero-add (length (map variable_of bounds)) ∙ length-map bounds variable_of in (
-      λ many. some_variable (variables_of bounds) (omega (arith, leb-true 1 (length bounds) many)),
-      λ some. le-leb 1 (length bounds) (omega (arith, variable_counted (variables_of bounds) some)),
-    )
+    counted_test 1 (length bounds) (count_variables (variables_of bounds)) (IsVariableList (variables_of bounds)) (count_variables_behind no_variables (map variable_of bounds) ∙ zero-add (length (map variable_of bounds)) ∙ length-map bounds variable_of) (some_variable (variables_of bounds)) (variable_counted (variables_of bounds))
 
 some_part : (parts : Parts) → 1 ≤ count_parts parts → IsPartList parts
 some_part no_parts many = absurd (omega (arith, many))
@@ -170,10 +167,7 @@ part_counted (and_part before at n value) some = omega arith
 
 pub part_test : (parts : List LetPart) → (IsTrue (nat_le 1 (length parts)) → IsPartList (parts_of parts)) × (IsPartList (parts_of parts) → IsTrue (nat_le 1 (length parts)))
 part_test parts =
-    let same : count_parts (parts_of parts) ≡ length parts = count_parts_behind no_parts (map part_of parts) ∙ zero-add (length (map part_of parts)) ∙ length-map parts part_of in (
-      λ many. some_part (parts_of parts) (omega (arith, leb-true 1 (length parts) many)),
-      λ some. le-leb 1 (length parts) (omega (arith, part_counted (parts_of parts) some)),
-    )
+    counted_test 1 (length parts) (count_parts (parts_of parts)) (IsPartList (parts_of parts)) (count_parts_behind no_parts (map part_of parts) ∙ zero-add (length (map part_of parts)) ∙ length-map parts part_of) (some_part (parts_of parts)) (part_counted (parts_of parts))
 
 -- orders
 

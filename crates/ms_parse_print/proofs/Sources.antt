@@ -1,16 +1,13 @@
 -- What is printed for a document has tokens that read as it.
-use Rattle.std.proofs.Common.{◌≡◌, Bool, ◌≢◌, ℕ, inl, true, false, List, [], ◌∷◌, ◌++◌, codes, eqb, Option, Some, None, refl, sym, ap, ◌∙◌, subst, append_assoc}
+use Rattle.std.proofs.Common.{◌≡◌, Bool, ◌≢◌, ℕ, inl, true, false, List, [], ◌∷◌, ◌++◌, codes, Option, Some, None, refl, sym, ap, ◌∙◌, subst, append_assoc}
 use Rattle.std.specs.List.{flat_map}
-use Rattle.std.specs.Cmp.Lexicographic.{pointwise}
-use Rattle.std.proofs.lemmas.Bool.{false≢true}
 use Rattle.std.proofs.lemmas.List.{append-nil}
 use Rattle.ms_list.specs.declared.at.At.{At}
 use Rattle.ms_text.specs.declared.keyword.Keyword.{Keyword}
-use Rattle.ms_text.specs.declared.keyword.Keyword.TheVariants as words
 use Rattle.ms_text.specs.declared.keyword.LeftOutWord.{LeftOutWord}
-use Rattle.ms_text.specs.declared.keyword.LeftOutWord.TheVariants as others
-use Rattle.ms_text.specs.Spelling.{word_spelling, left_out_spelling}
+use Rattle.ms_text.specs.Spelling.{is_identifier, word_spelling, left_out_spelling}
 use Rattle.ms_text.specs.TokenList.{Lexed, IsTokenList}
+use Rattle.ms_text.proofs.OneReading.{word_spelled, word_spelled-spelling, left_out_spelled, left_out_spelled-spelling}
 use Rattle.ms_logic.specs.declared.mode.Mode.{Mode}
 use Rattle.ms_logic.specs.declared.mode.Mode.TheVariants.{Ws1s, M2lStr}
 use Rattle.ms_logic.specs.declared.mode.Order.{Order}
@@ -155,42 +152,26 @@ declarations_back (d ∷ ds) are from more e good =
     let c = declarations_back ds are.1 b.0 more b.2 b.3 in
     (c.0, (a.0, b.0, begins_anywhere d.at from (printed_declaration single d.declaration) semicolon tail grouped, a.1, b.1, c.1), c.2, c.3)
 
--- the word of a goal is no word of the language, so that it can be said as a name
+-- what is no word of the language can be said as a name
 
-no_word_goal : (word : Keyword) → codes "goal" ≢ word_spelling word
-no_word_goal words.Ws1s same = false≢true (sym (ap (pointwise eqb (codes "goal")) same))
-no_word_goal _ same = false≢true (sym (ap (pointwise eqb (codes "goal")) same))
+no_word : (n : List ℕ) → word_spelled n ≡ None → (word : Keyword) → n ≢ word_spelling word
+no_word n none word same = let never : Some word ≡ None = sym (word_spelled-spelling word) ∙ ap word_spelled (sym same) ∙ none in cc
 
-not_left_out_goal : (word : LeftOutWord) → codes "goal" ≢ left_out_spelling word
-not_left_out_goal others.Ws2s same = false≢true (sym (ap (pointwise eqb (codes "goal")) same))
-not_left_out_goal _ same = false≢true (sym (ap (pointwise eqb (codes "goal")) same))
+not_left_out : (n : List ℕ) → left_out_spelled n ≡ None → (word : LeftOutWord) → n ≢ left_out_spelling word
+not_left_out n none word same = let never : Some word ≡ None = sym (left_out_spelled-spelling word) ∙ ap left_out_spelled (sym same) ∙ none in cc
+
+word_said : (n : List ℕ) → is_identifier n ≡ true → word_spelled n ≡ None → left_out_spelled n ≡ None → IsSpellable (name n)
+word_said n is none left_out = (is, (λ w. no_word n none w.0 w.1), (λ w. not_left_out n left_out w.0 w.1))
 
 pub goal_said : IsSpellable (name (codes "goal"))
-goal_said = (refl, (λ w. no_word_goal w.0 w.1), (λ w. not_left_out_goal w.0 w.1))
+goal_said = word_said (codes "goal") refl refl refl
 
 -- the header
-
-no_word_m2l : (word : Keyword) → codes "m2l" ≢ word_spelling word
-no_word_m2l words.Ws1s same = false≢true (sym (ap (pointwise eqb (codes "m2l")) same))
-no_word_m2l _ same = false≢true (sym (ap (pointwise eqb (codes "m2l")) same))
-
-no_word_str : (word : Keyword) → codes "str" ≢ word_spelling word
-no_word_str words.Ws1s same = false≢true (sym (ap (pointwise eqb (codes "str")) same))
-no_word_str _ same = false≢true (sym (ap (pointwise eqb (codes "str")) same))
-
-not_left_out_m2l : (word : LeftOutWord) → codes "m2l" ≢ left_out_spelling word
-not_left_out_m2l others.Ws2s same = false≢true (sym (ap (pointwise eqb (codes "m2l")) same))
-not_left_out_m2l _ same = false≢true (sym (ap (pointwise eqb (codes "m2l")) same))
-
-not_left_out_str : (word : LeftOutWord) → codes "str" ≢ left_out_spelling word
-not_left_out_str others.Ws2s same = false≢true (sym (ap (pointwise eqb (codes "str")) same))
-not_left_out_str _ same = false≢true (sym (ap (pointwise eqb (codes "str")) same))
 
 header_spellable : (header : Option (At × Mode)) → AreSpellable (printed_header single header)
 header_spellable None = tt
 header_spellable (Some (at, Ws1s)) = (tt, (tt, tt))
-header_spellable (Some (at, M2lStr)) =
-    ((refl, (λ w. no_word_m2l w.0 w.1), (λ w. not_left_out_m2l w.0 w.1)), (tt, ((refl, (λ w. no_word_str w.0 w.1), (λ w. not_left_out_str w.0 w.1)), (tt, tt))))
+header_spellable (Some (at, M2lStr)) = (word_said (codes "m2l") refl refl refl, (tt, (word_said (codes "str") refl refl refl, (tt, tt))))
 
 pub string_said : (exact : Bool) (at : At) (from behind : List Placed) → ReadsString exact at from behind → unplaced from ≡ name (codes "m2l") ∷ sign true ∷ name (codes "str") ∷ semicolon ∷ unplaced behind
 string_said exact at from behind (f1, f2, f3, starts, minus_is, name_is, ends) =

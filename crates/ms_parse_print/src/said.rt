@@ -1,12 +1,13 @@
 //! What tokens can say.
 
-ghost use Rattle.std.specs.Prelude.{◌≡◌, ◌↔◌, IsTrue};
+ghost use Rattle.std.specs.Prelude.{◌≡◌, ◌↔◌, List, IsTrue};
 ghost use Rattle.std.specs.List.{flat_map, list_all};
 ghost use Rattle.ms_text.specs.Spelling.{is_text_byte};
 ghost use Rattle.ms_parse_grammar.specs.Reads.{int_symbol};
 ghost use Rattle.ms_parse_grammar.specs.Symbol as symbol;
+ghost use Rattle.ms_parse_grammar.specs.Symbol.{Symbol};
 ghost use Rattle.ms_parse_grammar.specs.Tree as tree;
-ghost use Rattle.ms_parse_print.specs.inner.Printed.{AreSpellable, IsSpellable, printed_atom, printed_pair, single, unsigned};
+ghost use Rattle.ms_parse_print.specs.inner.Printed.{AreSpellable, IsSpellable, printed_atom, printed_pair, printed_shift, single, unsigned};
 
 use ms_list::{Name, Text};
 use ms_logic::{Int, PlacedInt, Rename};
@@ -68,25 +69,47 @@ pub fn can_say_unsigned(n: &PlacedInt) -> bool
     !n.minus && can_say_int(&n.value)
 }
 
-fn can_pair(pair: &Rename) -> bool
-    ensures { IsTrue result ↔ AreSpellable (printed_pair single pair.now) }
-{
-    can_name(&pair.left) && can_name(&pair.right)
+/// An entry of a list of them.
+pub trait Entry {
+    /// What is printed for it.
+    ghost symbols: { Self → List Symbol };
+
+    /// Whether it can be said.
+    fn can_be_said(&self) -> bool
+        ensures { IsTrue result ↔ AreSpellable (symbols self.now) };
 }
 
-fn can_pairs(pairs: &[Rename]) -> bool
-    ensures { IsTrue result ↔ AreSpellable (flat_map (printed_pair single) pairs.now) }
+/// Whether each of the entries can be said.
+pub fn can_say_all<T: Entry>(entries: &[T]) -> bool
+    ensures { IsTrue result ↔ AreSpellable (flat_map T.symbols entries.now) }
 {
-    for pair in pairs {
-        if !can_pair(pair) {
+    for entry in entries {
+        if !entry.can_be_said() {
             return false;
         }
     }
     true
 }
 
+impl Entry for Rename {
+    ghost symbols = { printed_pair single };
+
+    fn can_be_said(&self) -> bool {
+        can_name(&self.left) && can_name(&self.right)
+    }
+}
+
+/// A number of a sum, behind its sign.
+impl Entry for PlacedInt {
+    ghost symbols = { printed_shift single };
+
+    fn can_be_said(&self) -> bool {
+        can_say_int(&self.value)
+    }
+}
+
 pub fn can_import(file: &Text, pairs: &[Rename]) -> bool
     ensures { IsTrue result ↔ AreSpellable (printed_atom single (tree.imported file.now pairs.now)) }
 {
-    can_quote(file) && can_pairs(pairs)
+    can_quote(file) && can_say_all(pairs)
 }

@@ -1,7 +1,6 @@
 //! Whether some text reads as a source.
 
 ghost use Rattle.std.specs.Prelude.{◌≡◌, ◌↔◌, Bool, false, true, map, IsTrue};
-ghost use Rattle.std.specs.List.{flat_map};
 ghost use Rattle.ms_list.specs.declared.at.At.{At};
 ghost use Rattle.ms_parse_grammar.specs.Declarations.{Fits};
 ghost use Rattle.ms_parse_grammar.specs.Grammar.{IsExpression};
@@ -10,12 +9,12 @@ ghost use Rattle.ms_parse_grammar.specs.Tree as tree;
 ghost use Rattle.ms_parse_grammar.specs.View.{declaration_of, declared_of, expression_of, variables_of};
 ghost use Rattle.ms_parse_print.specs.inner.Passes.{VariablesPass};
 ghost use Rattle.ms_parse_print.specs.inner.Printable.{ArePrintable, HasSummand, IsPrintable};
-ghost use Rattle.ms_parse_print.specs.inner.Printed.{AreSpellable, IsSpellable, printed, printed_shift, printed_sum, single};
+ghost use Rattle.ms_parse_print.specs.inner.Printed.{AreSpellable, IsSpellable, printed, printed_sum, single};
 
 use crate::clear::is_clear;
 use crate::declaration::first_order;
 use crate::fit::{are_alike, passes, variables_pass};
-use crate::said::{can_name, can_quote, can_say_int, can_say_unsigned};
+use crate::said::{can_name, can_quote, can_say_all, can_say_unsigned};
 use ms_list::{Name, Text};
 use ms_logic::{Bound, Decl, Expr, Item, Order, PlacedInt, Source};
 
@@ -35,28 +34,11 @@ fn variables_fit(bounds: &[Bound]) -> bool
     are_alike(bounds, first_order(bounds)) && variables_pass(bounds, GREATEST_DEPTH, true)
 }
 
-fn can_shift(n: &PlacedInt) -> bool
-    ensures { IsTrue result ↔ AreSpellable (printed_shift single n.now) }
-{
-    can_say_int(&n.value)
-}
-
-fn can_shift_all(further: &[PlacedInt]) -> bool
-    ensures { IsTrue result ↔ AreSpellable (flat_map (printed_shift single) further.now) }
-{
-    for n in further {
-        if !can_shift(n) {
-            return false;
-        }
-    }
-    true
-}
-
 fn sum_fits(sum: &[PlacedInt]) -> bool
     ensures { IsTrue result ↔ (AreSpellable (printed_sum single sum.now) × HasSummand sum.now) }
 {
     match sum {
-        [first, further @ ..] => can_say_unsigned(first) && can_shift_all(further),
+        [first, further @ ..] => can_say_unsigned(first) && can_say_all(further),
         [] => false,
     }
 }

@@ -8,6 +8,6 @@ use Rattle.ms_parse_print.proofs.said.can_import.Goals as goal
 pub returns-then-can_quote : goal.returns-then-can_quote
 returns-then-can_quote c =
     let pairs = flat_map (printed_pair single) c.args.pairs.now in (
-      λ holds. (tt, (tt, (c.if-can_quote.ensures.0 refl, spellable_both pairs (close_round ∷ []) (c.can_pairs.ensures.0 holds) (tt, tt)))),
-      λ all. c.can_pairs.ensures.1 (spellable_split pairs (close_round ∷ []) all.1.1.1).0,
+      λ holds. (tt, (tt, (c.if-can_quote.ensures.0 refl, spellable_both pairs (close_round ∷ []) (c.can_say_all.ensures.0 holds) (tt, tt)))),
+      λ all. c.can_say_all.ensures.1 (spellable_split pairs (close_round ∷ []) all.1.1.1).0,
     )
