@@ -1,6 +1,7 @@
 -- Names that stand twice in a list.
-use Rattle.std.proofs.Common.{◌≡◌, ℕ, ◌+◌, ◌<◌, length, get_or, drop, List, [], ◌∷◌, ◌++◌, append_assoc, sym, subst, ap, ◌∙◌, take}
+use Rattle.std.proofs.Common.{◌≡◌, ℕ, ◌+◌, ◌<◌, length, get_or, drop, List, [], ◌∷◌, ◌++◌, append_assoc, sym, subst, ap, ap₂, ◌∙◌, take}
 use Rattle.std.proofs.lemmas.List.{append-nil}
+use Rattle.ms_list.specs.declared.at.At.{At}
 use Rattle.ms_logic.specs.declared.checked.MapPair.{MapPair}
 use Rattle.ms_logic.specs.declared.source.Bound.{Bound, out-Bound}
 use Rattle.ms_logic.specs.declared.source.LetPart.{LetPart, out-LetPart}
@@ -11,6 +12,7 @@ use Rattle.ms_names_rules.specs.Reads.{readings_of_renames, readings_of_variable
 use Rattle.ms_names_rules.specs.Rules.{faults_of_bounds, faults_of_parts, faults_of_renames, faults_of_repeat, faults_of_variable, with_names_of_bounds, with_names_of_parts}
 use Rattle.ms_names_rules.specs.Scope.{Scope, meaning_of, Bytes}
 use Rattle.ms_names_rules.specs.Uses.{pair_of, pairs_of}
+use Rattle.ms_parse_grammar.specs.Tree.{Parts, Variables}
 use Rattle.ms_parse_grammar.specs.View.{variable_of, variables_of, part_of, parts_of}
 use Rattle.ms_names_rules.proofs.Repeats.{bound_at-out, bound_name-out, next, part_at-out, part_name-out}
 use Rattle.ms_names_scopes.specs.inner.Found.{Found, with_faults, noted}
@@ -21,55 +23,46 @@ use Rattle.ms_names_rules.proofs.Operands.{parts-more, variables-more}
 pub faults-faults : (s : Found) (fs gs : List Fault) → with_faults (with_faults s fs) gs ≡ with_faults s (fs ++ gs)
 faults-faults s fs gs = ap (λ known. record s { first = known }) (sym (first_with-append s.first fs gs))
 
--- after the variables of a list and one more
-pub bounds-next : (s t u : Found) (earlier seen : List Bytes) (vs : List Bound) (i : ℕ) (v : Bound) → i < length vs → v ≡ get_or vs i v →
-    t ≡ with_faults s (faults_of_bounds earlier (variables_of (take i vs))) →
-    seen ≡ with_names_of_bounds earlier (variables_of (take i vs)) →
-    u ≡ with_faults t (faults_of_repeat (out-Bound v).at (out-Bound v).name seen) →
-    u ≡ with_faults s (faults_of_bounds earlier (variables_of (take (i + 1) vs)))
-bounds-next s t u earlier seen vs i v below is before names checked =
-    let fs = faults_of_bounds earlier (variables_of (take i vs)) in
-    checked
-    ∙ (ap (λ there. with_faults there (faults_of_repeat (out-Bound v).at (out-Bound v).name seen)) before
-    ∙ (faults-faults s fs (faults_of_repeat (out-Bound v).at (out-Bound v).name seen)
-    ∙ (ap (λ ns. with_faults s (fs ++ faults_of_repeat (out-Bound v).at (out-Bound v).name ns)) names
-    ∙ (ap (λ n. with_faults s (fs ++ faults_of_repeat (out-Bound v).at n (with_names_of_bounds earlier (variables_of (take i vs))))) (sym (bound_name-out v))
-    ∙ (ap (λ a. with_faults s (fs ++ faults_of_repeat a (variable_of v).name (with_names_of_bounds earlier (variables_of (take i vs))))) (sym (bound_at-out v))
-    ∙ ap (λ all. with_faults s (faults_of_bounds earlier all)) (variables-more vs i v below is))))))
+-- the names of a list were looked at: what is found after them, and which they are
+pub record AreSeen (s : Found) (faults : List Fault) (names : List Bytes) (t : Found) (seen : List Bytes) : Type 0 where
+  pub state : t ≡ with_faults s faults
+  pub seen_is : seen ≡ names
 
-pub bounds-names : (earlier seen more : List Bytes) (vs : List Bound) (i : ℕ) (v : Bound) → i < length vs → v ≡ get_or vs i v →
-    seen ≡ with_names_of_bounds earlier (variables_of (take i vs)) → more ≡ (out-Bound v).name ∷ seen →
-    more ≡ with_names_of_bounds earlier (variables_of (take (i + 1) vs))
-bounds-names earlier seen more vs i v below is names added =
-    added
-    ∙ (ap (λ ns. (out-Bound v).name ∷ ns) names
-    ∙ (ap (λ n. n ∷ with_names_of_bounds earlier (variables_of (take i vs))) (sym (bound_name-out v))
-    ∙ ap (with_names_of_bounds earlier) (variables-more vs i v below is)))
+one-seen : (s t u : Found) (fs : List Fault) (names seen more : List Bytes) (at : At) (n : Bytes) → AreSeen s fs names t seen → u ≡ with_faults t (faults_of_repeat at n seen) → more ≡ n ∷ seen →
+    AreSeen s (fs ++ faults_of_repeat at n names) (n ∷ names) u more
+one-seen s t u fs names seen more at n before checked added = record {
+  state =
+      checked
+      ∙ (ap (λ there. with_faults there (faults_of_repeat at n seen)) before.state
+      ∙ (faults-faults s fs (faults_of_repeat at n seen) ∙ ap (λ ns. with_faults s (fs ++ faults_of_repeat at n ns)) before.seen_is));
+  seen_is = added ∙ ap (λ ns. n ∷ ns) before.seen_is;
+}
+
+-- the variables of a list and one more
+abbrev pub BoundsSeen : Found → List Bytes → Variables → Found → List Bytes → Type 0
+BoundsSeen s earlier vs t seen = AreSeen s (faults_of_bounds earlier vs) (with_names_of_bounds earlier vs) t seen
+
+pub bounds-seen : (s t u : Found) (earlier seen more : List Bytes) (vs : List Bound) (i : ℕ) (v : Bound) → i < length vs → v ≡ get_or vs i v → BoundsSeen s earlier (variables_of (take i vs)) t seen →
+    u ≡ with_faults t (faults_of_repeat (out-Bound v).at (out-Bound v).name seen) → more ≡ (out-Bound v).name ∷ seen → BoundsSeen s earlier (variables_of (take (i + 1) vs)) u more
+bounds-seen s t u earlier seen more vs i v below is before checked added =
+    let V = variables_of (take i vs) in
+    subst (λ all. BoundsSeen s earlier all u more) (variables-more vs i v below is)
+    (one-seen s t u (faults_of_bounds earlier V) (with_names_of_bounds earlier V) seen more (variable_of v).at (variable_of v).name before
+    (checked ∙ ap₂ (λ a n. with_faults t (faults_of_repeat a n seen)) (sym (bound_at-out v)) (sym (bound_name-out v)))
+    (added ∙ ap (λ n. n ∷ seen) (sym (bound_name-out v))))
 
 -- the same in a `let`
-pub parts-next : (s t u : Found) (seen : List Bytes) (ps : List LetPart) (i : ℕ) (p : LetPart) → i < length ps → p ≡ get_or ps i p →
-    t ≡ with_faults s (faults_of_parts [] (parts_of (take i ps))) →
-    seen ≡ with_names_of_parts [] (parts_of (take i ps)) →
-    u ≡ with_faults t (faults_of_repeat (out-LetPart p).at (out-LetPart p).name seen) →
-    u ≡ with_faults s (faults_of_parts [] (parts_of (take (i + 1) ps)))
-parts-next s t u seen ps i p below is before names checked =
-    let fs = faults_of_parts [] (parts_of (take i ps)) in
-    checked
-    ∙ (ap (λ there. with_faults there (faults_of_repeat (out-LetPart p).at (out-LetPart p).name seen)) before
-    ∙ (faults-faults s fs (faults_of_repeat (out-LetPart p).at (out-LetPart p).name seen)
-    ∙ (ap (λ ns. with_faults s (fs ++ faults_of_repeat (out-LetPart p).at (out-LetPart p).name ns)) names
-    ∙ (ap (λ n. with_faults s (fs ++ faults_of_repeat (out-LetPart p).at n (with_names_of_parts [] (parts_of (take i ps))))) (sym (part_name-out p))
-    ∙ (ap (λ a. with_faults s (fs ++ faults_of_repeat a (part_of p).name (with_names_of_parts [] (parts_of (take i ps))))) (sym (part_at-out p))
-    ∙ ap (λ all. with_faults s (faults_of_parts [] all)) (parts-more ps i p below is))))))
+abbrev pub PartsSeen : Found → Parts → Found → List Bytes → Type 0
+PartsSeen s ps t seen = AreSeen s (faults_of_parts [] ps) (with_names_of_parts [] ps) t seen
 
-pub parts-names : (seen more : List Bytes) (ps : List LetPart) (i : ℕ) (p : LetPart) → i < length ps → p ≡ get_or ps i p →
-    seen ≡ with_names_of_parts [] (parts_of (take i ps)) → more ≡ (out-LetPart p).name ∷ seen →
-    more ≡ with_names_of_parts [] (parts_of (take (i + 1) ps))
-parts-names seen more ps i p below is names added =
-    added
-    ∙ (ap (λ ns. (out-LetPart p).name ∷ ns) names
-    ∙ (ap (λ n. n ∷ with_names_of_parts [] (parts_of (take i ps))) (sym (part_name-out p))
-    ∙ ap (with_names_of_parts []) (parts-more ps i p below is)))
+pub parts-seen : (s t u : Found) (seen more : List Bytes) (ps : List LetPart) (i : ℕ) (p : LetPart) → i < length ps → p ≡ get_or ps i p → PartsSeen s (parts_of (take i ps)) t seen →
+    u ≡ with_faults t (faults_of_repeat (out-LetPart p).at (out-LetPart p).name seen) → more ≡ (out-LetPart p).name ∷ seen → PartsSeen s (parts_of (take (i + 1) ps)) u more
+parts-seen s t u seen more ps i p below is before checked added =
+    let P = parts_of (take i ps) in
+    subst (λ all. PartsSeen s all u more) (parts-more ps i p below is)
+    (one-seen s t u (faults_of_parts [] P) (with_names_of_parts [] P) seen more (part_of p).at (part_of p).name before
+    (checked ∙ ap₂ (λ a n. with_faults t (faults_of_repeat a n seen)) (sym (part_at-out p)) (sym (part_name-out p)))
+    (added ∙ ap (λ n. n ∷ seen) (sym (part_name-out p))))
 
 -- some faults and readings, and then some more
 pub noted-noted : (s : Found) (fs gs : List Fault) (rs more : List Reading) → noted (noted s fs rs) gs more ≡ noted s (fs ++ gs) (rs ++ more)

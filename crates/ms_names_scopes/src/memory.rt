@@ -1,4 +1,4 @@
-ghost use Rattle.std.specs.Prelude.{◌≡◌, IfOk};
+ghost use Rattle.std.specs.Prelude.{◌≡◌, ◌++◌, ◌∷◌, [], IfOk, OnErr, OnOk};
 
 use ms_list::{Name, NoMemory, Text};
 use std::alloc::Global;
@@ -15,4 +15,15 @@ pub(crate) fn name_text(alloc: Global, name: &Name) -> Result<Text, NoMemory>
     ensures { IfOk result (λ made. made ≡ name.now) }
 {
     Text::new(alloc, name.text())
+}
+
+/// One more item. Where memory is refused, the items are as they were.
+pub(crate) fn add<T: Drop>(items: &mut Vec<T>, item: T) -> Result<(), NoMemory>
+    ensures ok { OnOk result (items.new.items ≡ items.old.items ++ item ∷ []) }
+    ensures same { OnErr result (items.new.items ≡ items.old.items) }
+{
+    match items.push(item) {
+        Ok(()) => Ok(()),
+        Err(_) => Err(NoMemory),
+    }
 }

@@ -6,6 +6,7 @@ ghost use Rattle.ms_names_scopes.specs.inner.Table.{flat, number_of, IsNoted, Is
 ghost use Rattle.std.specs.Prelude.{◌≡◌, [], ◌∷◌, ◌++◌, drop, length, map, IfOk, OnOk, OnErr, option_copied, string_bytes};
 
 use crate::free::Read;
+use crate::memory::add;
 use crate::numbers::Numbers;
 use crate::ordered::take_first;
 use indexmap::IndexMap;
@@ -203,15 +204,4 @@ fn set_place(
         return Err(NoMemory);
     };
     Ok(())
-}
-
-// One more entry. Where memory is refused, the entries are as they were.
-fn add(entries: &mut Vec<Entry>, entry: Entry) -> Result<(), NoMemory>
-    ensures ok { OnOk result (entries.new.items ≡ entries.old.items ++ entry ∷ []) }
-    ensures same { OnErr result (entries.new.items ≡ entries.old.items) }
-{
-    match entries.push(entry) {
-        Ok(()) => Ok(()),
-        Err(_) => Err(NoMemory),
-    }
 }

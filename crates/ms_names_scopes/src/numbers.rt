@@ -4,6 +4,7 @@ ghost use Rattle.std.specs.BTreeSet.{contains};
 ghost use Rattle.std.specs.Ordering.{nat_cmp};
 ghost use Rattle.std.specs.Prelude.{◌≡◌, ◌==◌, ◌-◌, ◌∷◌, ◌++◌, ◌||◌, [], None, ℕ, if◌then◌else◌, true, length, nat_eq, take, IfOk, OnErr, OnOk};
 
+use crate::memory::add;
 use crate::ordered::insert;
 use indexmap::IndexMap;
 use ms_list::NoMemory;
@@ -138,17 +139,6 @@ fn set_last(last: &mut IndexMap<u32, usize>, x: u32, place: Option<usize>) -> Re
     };
     match last.insert(x, place) {
         Ok(_) => Ok(()),
-        Err(_) => Err(NoMemory),
-    }
-}
-
-// One more place. Where memory is refused, the places are as they were.
-fn add(places: &mut Vec<Place>, place: Place) -> Result<(), NoMemory>
-    ensures ok { OnOk result (places.new.items ≡ places.old.items ++ place ∷ []) }
-    ensures same { OnErr result (places.new.items ≡ places.old.items) }
-{
-    match places.push(place) {
-        Ok(()) => Ok(()),
         Err(_) => Err(NoMemory),
     }
 }
