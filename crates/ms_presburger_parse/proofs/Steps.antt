@@ -7,15 +7,11 @@ use Rattle.ms_presburger_parse.specs.declared.state.Outcome.TheVariants.{Within}
 use Rattle.ms_parse_stack.specs.declared.stop.Stop.{Stop}
 use Rattle.ms_parse_stack.specs.declared.stop.Stop.TheVariants.{Memory, Misplaced, TooDeep}
 use Rattle.ms_parse_stack.specs.inner.Machine.{within, plugged, stay, moved, GoesOn}
-use Rattle.ms_presburger_parse.specs.inner.Machine.{Frame, Place, State, machine, completed, shortest}
+use Rattle.ms_presburger_parse.specs.inner.Machine.{Frame, Place, machine, completed, shortest}
 use Rattle.ms_presburger_parse.specs.inner.States.{Begun, BecomesTwo, ComesTo, Frame as CodeFrame, IsMeasured, KeepsDepth, MovesTo, frame_of, place_of, stack_of}
 use Rattle.ms_presburger_parse.specs.declared.place.Place as code
 use Rattle.ms_parse_stack.proofs.Depths.{replaced, same_depth}
 use Rattle.ms_presburger_parse.proofs.Groupings.{depths}
-
--- the same state, and what the code comes to
-pub comes_same : (s t : State) (begun : Begun) (r : Result Outcome Stop) → s ≡ t → ComesTo t begun r → ComesTo s begun r
-comes_same s t begun r same h = subst (λ x. ComesTo x begun r) (sym same) h
 
 -- what stops within the innermost formula stops the step
 stops_moved : (move : Place → Option Place) (frames : List Frame) (p : Place) (begun : Begun) (stop : Stop) → MovesTo (move p) (Err stop) → ComesTo (moved machine move (within frames p)) begun (Err stop)
