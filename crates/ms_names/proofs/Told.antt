@@ -27,6 +27,10 @@ use Rattle.ms_names.specs.inner.Outcome.{declared_in}
 use Rattle.ms_names_scopes.proofs.Findings.{first_with-append}
 use Rattle.ms_names_rules.proofs.Orders.{ordered}
 
+-- what is told of a declaration is told of the same one
+pub told-same : (s u : Found) (k : Known) {d e : Declaration} → d ≡ e → u ≡ told s k d u.reads → u ≡ told s k e u.reads
+told-same s u k same is = is ∙ ap (λ there. told s k there u.reads) same
+
 kept-reads : (u v : Found) → u ≡ v → u ≡ record v { reads = u.reads }
 kept-reads u v same = let P : Found → Type 0 = λ there. u ≡ record there { reads = u.reads } in subst P same refl
 

@@ -24,7 +24,7 @@ ghost use Rattle.std.specs.Prelude.{◌≡◌, ◌∷◌, ◌++◌, [], map, IfO
 use crate::call::called;
 use crate::name::{lone_name, lone_pconst};
 use crate::operation::{Binary, Connective, Unary};
-use crate::variable::{with_restricted, with_unrestricted};
+use crate::variable::{next_number, with_restricted, with_unrestricted};
 use ms_list::{At, List, Name, NoMemory, Text};
 use ms_logic::{
     Arg, Binding, Bound, Expr, Form, Formula, LetPart, Order, Param, PlacedInt, Quant, Rel, Term1,
@@ -306,10 +306,7 @@ pub(crate) fn variables(
     let mut x = first;
     for bound in bounds {
         made = one_variable(checker, made, x, takes_defaults, bound)?;
-        let Some(next) = x.checked_add(1) else {
-            return Err(NoMemory);
-        };
-        x = next;
+        x = next_number(x)?;
     }
     Ok(made)
 }
@@ -406,10 +403,7 @@ fn right_sides(
     for part in parts {
         let value = expression(checker, Wanted::Exactly(order), &part.value)?;
         made = more_bindings(made, x, order, value)?;
-        let Some(next) = x.checked_add(1) else {
-            return Err(NoMemory);
-        };
-        x = next;
+        x = next_number(x)?;
     }
     Ok(made)
 }

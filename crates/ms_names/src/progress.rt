@@ -7,6 +7,7 @@ ghost use Rattle.std.specs.Option.{option_map};
 ghost use Rattle.std.specs.Prelude.{◌≡◌, ◌+◌, ◌∷◌, ◌++◌, ◌⊎◌, [], map, IfErr, IfOk, OnOk};
 
 use crate::outcome::{Outcome, declare};
+use crate::variable::next_number;
 use ms_edge::Refusal;
 use ms_list::{At, List, NoMemory, Text, push};
 use ms_logic::{Bound, Decl, Item, Mode, Param, Placed, Predicate};
@@ -164,9 +165,7 @@ impl Progress {
         }) }
     {
         let count = more(self.count, decl)?;
-        let Some(item) = self.item.checked_add(1) else {
-            return Err(NoMemory);
-        };
+        let item = next_number(self.item)?;
         self.count = count;
         self.item = item;
         Ok(())

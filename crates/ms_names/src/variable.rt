@@ -3,12 +3,19 @@ ghost use Rattle.ms_names_rules.specs.inner.Binder.{restricted_variable, restric
 ghost use Rattle.ms_parse_grammar.specs.Tree.{unrestricted};
 ghost use Rattle.ms_names_rules.specs.Typed.{both, typed_restriction};
 ghost use Rattle.std.specs.Option.{option_map};
-ghost use Rattle.std.specs.Prelude.{◌≡◌, ◌∷◌, ◌++◌, [], map, IfOk};
+ghost use Rattle.std.specs.Prelude.{◌≡◌, ◌∷◌, ◌++◌, ◌+◌, [], map, IfOk};
 
 use ms_list::NoMemory;
 use ms_logic::{Arg, Order, Param};
 use ms_names_scopes::Checker;
 use ms_names_typing::{more_params, restricted};
+
+/// The number behind a number. Where numbers run out, memory has long run out.
+pub(crate) fn next_number(x: u32) -> Result<u32, NoMemory>
+    ensures { IfOk result (λ next. next ≡ x + 1) }
+{
+    x.checked_add(1).ok_or(NoMemory)
+}
 
 /// A variable without a restriction of its own, behind those before it.
 #[inline(never)]

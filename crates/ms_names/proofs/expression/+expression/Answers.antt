@@ -1,4 +1,4 @@
-use Rattle.std.proofs.Common.{rules, ◌≡◌, ℕ, ◌++◌, ◌∷◌, [], List, length, map, Option, Some, sym, subst, ap, ◌∙◌, arith, IfOk}
+use Rattle.std.proofs.Common.{rules, ◌≡◌, ℕ, ◌++◌, ◌∷◌, [], List, length, map, Option, Some, refl, sym, subst, ap, ◌∙◌, arith, IfOk}
 use Rattle.std.specs.Option.{option_map}
 use Rattle.std.proofs.lemmas.List.{take_all}
 use Rattle.std.proofs.lemmas.Result.{on_ok_weaker}
@@ -23,12 +23,12 @@ use Rattle.ms_names_rules.specs.Occurrence.{occurrences, inside_operands, inside
 use Rattle.ms_names_rules.specs.Reads.{readings_of_bounds, readings_of_call}
 use Rattle.ms_names_rules.specs.Rules.{faults_of_bounds, faults_of_call, faults_of_parts}
 use Rattle.ms_names_rules.specs.Scope.{meaning_of, count}
-use Rattle.ms_names_rules.specs.Typed.{both, formula_in, typed, typed_arguments, typed_formulas, typed_numbers}
+use Rattle.ms_names_rules.specs.Typed.{both, formula_behind, formula_in, number_behind, number_in, typed, typed_arguments, typed_formulas, typed_numbers}
 use Rattle.ms_parse_grammar.specs.View.{variable_of, variables_of, expression_of, parts_of, expressions_of}
 use Rattle.ms_names_rules.proofs.Lists.{count_of_bounds-length, count_of_parts-length, count-length}
 use Rattle.ms_names_scopes.specs.inner.Found.{after_restrictions, passed}
 use Rattle.ms_names.proofs.Lists.{arguments-next, arguments-typed, parts-passed, parts-typed, restrictions-next, restrictions-typed}
-use Rattle.ms_names.proofs.Operands.{formulas-more, numbers-more, operands-more}
+use Rattle.ms_names.proofs.Operands.{read-all, read-more, read-none}
 use Rattle.ms_names_scopes.proofs.Findings.{passed-none, two-passed}
 use Rattle.ms_names.proofs.Values.{call-value, let-value, quantified-value, restriction-value}
 use Rattle.ms_names.proofs.Operations.{all-formed, all-typed, two-formed}
@@ -45,78 +45,40 @@ expression-returns-clause-state t c =
 -- operands
 
 pub of_all-loop-operand-init : goal.of_all-loop-operand-init
-of_all-loop-operand-init t c = record {
-  state = passed-none c.args.checker.now;
-  value = ap (λ made. option_map forms_of (Some made)) c.new.ensures;
-}
+of_all-loop-operand-init t c = read-none c.args.checker.now formula_wanted typed_formulas _ (ap (λ made. option_map forms_of (Some made)) c.new.ensures)
 
 pub of_all-loop-operand-preserved : goal.of_all-loop-operand-preserved
 of_all-loop-operand-preserved t c =
-    let s = c.args.checker.now in
-    let i = c.loop-operand.operand-index in
-    let es = c.args.operands.now in
-    let e = c.operand-item.result in
-    record {
-      state =
-          operands-more s c.loop-operand.checker c.expression.new.checker formula_wanted es i e (omega arith) c.operand-item.is
-          c.loop-operand.invariant.state c.in_ok-value.ensures.state;
-      value =
-          c.in_ok-made.ensures
-          ∙ formulas-more s c.loop-operand.checker formula_wanted es i e (option_map forms_of c.loop-operand.made) (option_map argument_of c.in_ok-value.value)
-          (omega arith) c.operand-item.is c.loop-operand.invariant.state c.loop-operand.invariant.value c.in_ok-value.ensures.value;
-    }
+    read-more typed_formulas formula_behind formula_in (λ s b es e. refl) c.args.checker.now c.loop-operand.checker c.expression.new.checker formula_wanted c.args.operands.now c.loop-operand.operand-index c.operand-item.result
+    (option_map forms_of c.loop-operand.made) (option_map forms_of c.in_ok-made.made) (option_map argument_of c.in_ok-value.value) (omega arith) c.operand-item.is c.loop-operand.invariant c.in_ok-value.ensures.state c.in_ok-value.ensures.value c.in_ok-made.ensures
 
 pub of_all-returns-clause-state : goal.of_all-returns-clause-state
 of_all-returns-clause-state t c =
-    let s = c.args.checker.now in
-    let all = ap expressions_of (take_all c.loop-operand.operand-index c.args.operands.now (omega arith)) in
-    λ at. all-formed s c.loop-operand.checker c.args.operation at (expressions_of c.args.operands.now)
-    (c.loop-operand.invariant.state
-    ∙ ap (λ es. passed s (inside_operands s.scope s.before formula_wanted es) (after_all s.before es)) all)
+    let all = read-all c.args.checker.now formula_wanted typed_formulas c.args.operands.now c.loop-operand.operand-index c.loop-operand.checker (option_map forms_of c.loop-operand.made) (omega arith) c.loop-operand.invariant in
+    λ at. all-formed c.args.checker.now c.loop-operand.checker c.args.operation at (expressions_of c.args.operands.now) all.state
 
 pub of_all-returns-clause-value : goal.of_all-returns-clause-value
 of_all-returns-clause-value t c =
     let s = c.args.checker.now in
-    let es = expressions_of c.args.operands.now in
-    λ at. c.made.ensures
-    ∙ all-typed s.scope s.before c.args.operation at es (option_map forms_of c.loop-operand.made)
-    (c.loop-operand.invariant.value ∙ ap (typed_formulas s.scope s.before) (ap expressions_of (take_all c.loop-operand.operand-index c.args.operands.now (omega arith))))
+    let all = read-all s formula_wanted typed_formulas c.args.operands.now c.loop-operand.operand-index c.loop-operand.checker (option_map forms_of c.loop-operand.made) (omega arith) c.loop-operand.invariant in
+    λ at. c.made.ensures ∙ all-typed s.scope s.before c.args.operation at (expressions_of c.args.operands.now) (option_map forms_of c.loop-operand.made) all.value
 
 pub literal_of-loop-element-init : goal.literal_of-loop-element-init
-literal_of-loop-element-init t c = record {
-  state = passed-none c.args.checker.now;
-  value = ap (λ made. option_map terms_of (Some made)) c.new.ensures;
-}
+literal_of-loop-element-init t c = read-none c.args.checker.now number_wanted typed_numbers _ (ap (λ made. option_map terms_of (Some made)) c.new.ensures)
 
 pub literal_of-loop-element-preserved : goal.literal_of-loop-element-preserved
 literal_of-loop-element-preserved t c =
-    let s = c.args.checker.now in
-    let i = c.loop-element.element-index in
-    let es = c.args.elements.now in
-    let e = c.element-item.result in
-    record {
-      state =
-          operands-more s c.loop-element.checker c.expression.new.checker number_wanted es i e (omega arith) c.element-item.is
-          c.loop-element.invariant.state c.in_ok-value.ensures.state;
-      value =
-          c.in_ok-made.ensures
-          ∙ numbers-more s c.loop-element.checker number_wanted es i e (option_map terms_of c.loop-element.made) (option_map argument_of c.in_ok-value.value)
-          (omega arith) c.element-item.is c.loop-element.invariant.state c.loop-element.invariant.value c.in_ok-value.ensures.value;
-    }
+    read-more typed_numbers number_behind number_in (λ s b es e. refl) c.args.checker.now c.loop-element.checker c.expression.new.checker number_wanted c.args.elements.now c.loop-element.element-index c.element-item.result
+    (option_map terms_of c.loop-element.made) (option_map terms_of c.in_ok-made.made) (option_map argument_of c.in_ok-value.value) (omega arith) c.element-item.is c.loop-element.invariant c.in_ok-value.ensures.state c.in_ok-value.ensures.value c.in_ok-made.ensures
 
 pub literal_of-returns-clause-state : goal.literal_of-returns-clause-state
-literal_of-returns-clause-state t c =
-    let s = c.args.checker.now in
-    let all = ap expressions_of (take_all c.loop-element.element-index c.args.elements.now (omega arith)) in
-    λ at. c.loop-element.invariant.state
-    ∙ ap (λ es. passed s (inside_operands s.scope s.before number_wanted es) (after_all s.before es)) all
+literal_of-returns-clause-state t c = λ at.
+    (read-all c.args.checker.now number_wanted typed_numbers c.args.elements.now c.loop-element.element-index c.loop-element.checker (option_map terms_of c.loop-element.made) (omega arith) c.loop-element.invariant).state
 
 pub literal_of-returns-clause-value : goal.literal_of-returns-clause-value
 literal_of-returns-clause-value t c =
-    let s = c.args.checker.now in
-    λ at. c.literal.ensures
-    ∙ ap (option_map (λ ts. tree.set_argument (tree.literal ts)))
-    (c.loop-element.invariant.value ∙ ap (typed_numbers s.scope s.before) (ap expressions_of (take_all c.loop-element.element-index c.args.elements.now (omega arith))))
+    let all = read-all c.args.checker.now number_wanted typed_numbers c.args.elements.now c.loop-element.element-index c.loop-element.checker (option_map terms_of c.loop-element.made) (omega arith) c.loop-element.invariant in
+    λ at. c.literal.ensures ∙ ap (option_map (λ ts. tree.set_argument (tree.literal ts))) all.value
 
 -- arguments
 

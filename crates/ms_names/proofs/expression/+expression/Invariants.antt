@@ -6,10 +6,11 @@ use Rattle.ms_names_rules.specs.Before.{after_all, after_parts}
 use Rattle.ms_names_rules.specs.inner.Binder.{restricted_variables, typed_sides, sides_of}
 use Rattle.ms_names_rules.specs.inner.Lists.{forms_of, terms_of, arguments_of}
 use Rattle.ms_names_rules.specs.Order.{formula_wanted, number_wanted}
-use Rattle.ms_names_rules.specs.Occurrence.{inside_arguments, inside_operands, inside_parts}
+use Rattle.ms_names_rules.specs.Occurrence.{inside_arguments, inside_parts}
 use Rattle.ms_names_rules.specs.Typed.{typed_arguments, typed_formulas, typed_numbers}
 use Rattle.ms_parse_grammar.specs.View.{variables_of, parts_of, expressions_of}
 use Rattle.ms_names_scopes.specs.inner.Found.{after_restrictions, passed}
+use Rattle.ms_names.proofs.Operands.{AreRead}
 use Rattle.ms_names.proofs.expression.+expression.Given as goal
 
 -- what stands inside is less deep; at a level each call comes before those that it makes there
@@ -91,26 +92,10 @@ invariant-variables-loop-bound l = record {
 }
 
 abbrev pub invariant-of_all-loop-operand : goal.invariant-of_all-loop-operand
-invariant-of_all-loop-operand l = record {
-  state :
-      l.checker
-      ≡ passed l.initial.checker (inside_operands l.initial.checker.scope l.initial.checker.before formula_wanted (expressions_of (take l.operand-index l.operands)))
-      (after_all l.initial.checker.before (expressions_of (take l.operand-index l.operands)));
-  value :
-      option_map forms_of l.made
-      ≡ typed_formulas l.initial.checker.scope l.initial.checker.before (expressions_of (take l.operand-index l.operands));
-}
+invariant-of_all-loop-operand l = AreRead l.initial.checker formula_wanted typed_formulas (expressions_of (take l.operand-index l.operands)) l.checker (option_map forms_of l.made)
 
 abbrev pub invariant-literal_of-loop-element : goal.invariant-literal_of-loop-element
-invariant-literal_of-loop-element l = record {
-  state :
-      l.checker
-      ≡ passed l.initial.checker (inside_operands l.initial.checker.scope l.initial.checker.before number_wanted (expressions_of (take l.element-index l.elements)))
-      (after_all l.initial.checker.before (expressions_of (take l.element-index l.elements)));
-  value :
-      option_map terms_of l.made
-      ≡ typed_numbers l.initial.checker.scope l.initial.checker.before (expressions_of (take l.element-index l.elements));
-}
+invariant-literal_of-loop-element l = AreRead l.initial.checker number_wanted typed_numbers (expressions_of (take l.element-index l.elements)) l.checker (option_map terms_of l.made)
 
 abbrev pub invariant-right_sides-loop-part : goal.invariant-right_sides-loop-part
 invariant-right_sides-loop-part l = record {
