@@ -10,7 +10,8 @@ use Rattle.ms_dfa_explore.specs.Small.{TransitionTable, bit_at, zero_bits}
 use Rattle.ms_dfa_explore.specs.Tracks.{distinct}
 use Rattle.ms_logic_core.specs.Operands.{variables_of_basic}
 use Rattle.ms_basic.specs.Operands.{HaveOneOrder, set, truth_value}
-use Rattle.ms_basic.specs.Sets.{agrees, is_of_itself, is_same, sets_form, sets_table, tested_step}
+use Rattle.ms_basic.specs.Sets.{agrees, is_same, sets_table, tested_step}
+use Rattle.ms_basic.specs.inner.Related.{is_of_itself, sets_form}
 use Rattle.ms_basic.specs.declared.sets.SetRelation.{SetRelation}
 use Rattle.ms_basic.specs.declared.sets.SetRelation.TheVariants.{Sub, Union, Inter, Diff}
 use Rattle.ms_basic.specs.declared.reading.Wiring.{Wiring}

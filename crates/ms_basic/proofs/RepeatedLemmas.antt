@@ -12,7 +12,7 @@ use Rattle.ms_logic.proofs.Members.{is_member-union_of, is_member-filter, IsRisi
 use Rattle.ms_logic.proofs.SetLaws.{sets_are_their_members, subset_law}
 use Rattle.ms_logic_core.specs.Operands.{variables_of_basic}
 use Rattle.ms_basic.specs.Operands.{number, set}
-use Rattle.ms_basic.specs.Sets.{is_of_itself, sets_form}
+use Rattle.ms_basic.specs.inner.Related.{is_of_itself, sets_form}
 use Rattle.ms_basic.specs.declared.sets.SetRelation.{SetRelation}
 use Rattle.ms_basic.specs.declared.sets.SetRelation.TheVariants as relations
 use Rattle.ms_basic.specs.inner.Relation.{DecidesRelation, IsRight}

@@ -19,7 +19,8 @@ use Rattle.ms_logic_core.specs.Operands.{variables_of_basic}
 use Rattle.ms_basic.specs.Operands.{set}
 use Rattle.ms_basic.specs.inner.Reading.{operand_bits, state_behind}
 use Rattle.ms_basic.specs.inner.Relation.{DecidesRelation, IsRight}
-use Rattle.ms_basic.specs.Sets.{agrees, is_same, sets_form, sets_table, tested_step}
+use Rattle.ms_basic.specs.Sets.{agrees, is_same, sets_table, tested_step}
+use Rattle.ms_basic.specs.inner.Related.{sets_form}
 use Rattle.ms_basic.specs.Verdict.{sign_by_contradiction}
 use Rattle.ms_basic.proofs.ReadingLemmas.{kept}
 use Rattle.ms_basic.proofs.SetLemmas.{one_more_same, other_bits, other_sets, same_bits, same_sets}

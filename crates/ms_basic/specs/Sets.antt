@@ -1,7 +1,5 @@
 -- The machine of a relation between sets that is tested position by position.
-use Rattle.std.specs.Prelude.{ℕ, zero, suc, Bool, true, false, not, ◌==◌, ◌&&◌, ◌||◌, if◌then◌else◌}
-use Rattle.ms_logic_core.specs.declared.core_formula.Basic.{Basic}
-use Rattle.ms_logic_core.specs.declared.core_formula.Basic.TheVariants as basic
+use Rattle.std.specs.Prelude.{ℕ, zero, suc, Bool, true, false, not, ◌&&◌, ◌||◌, if◌then◌else◌}
 use Rattle.ms_dfa_explore.specs.declared.small.TrackBits.{TrackBits}
 use Rattle.ms_dfa_explore.specs.Small.{TransitionTable}
 use Rattle.ms_basic.specs.declared.sets.SetRelation.TheVariants.{Sub, Union, Inter, Diff}
@@ -19,20 +17,6 @@ agrees Sub bits = not bits.first || bits.second
 agrees Union bits = is_same bits.first (bits.second || bits.third)
 agrees Inter bits = is_same bits.first (bits.second && bits.third)
 agrees Diff bits = is_same bits.first (bits.second && not bits.third)
-
--- the relation as a basic one; of an inclusion there is no third set
-abbrev pub sets_form : SetRelation → ℕ → ℕ → ℕ → Basic
-sets_form Sub s t u = basic.Sub s t
-sets_form Union s t u = basic.Union s t u
-sets_form Inter s t u = basic.Inter s t u
-sets_form Diff s t u = basic.Diff s t u
-
--- whether the operands are one set, and each set has the relation to itself
-abbrev pub is_of_itself : SetRelation → ℕ → ℕ → ℕ → Bool
-is_of_itself Sub s t u = s == t
-is_of_itself Union s t u = s == t && t == u
-is_of_itself Inter s t u = s == t && t == u
-is_of_itself Diff s t u = false
 
 -- from the state 1, in which all positions agreed, the first that does not leads to the state 0
 abbrev pub tested_step : Bool → ℕ → ℕ

@@ -10,6 +10,7 @@ pub mod Pairs
 pub mod Plus
 pub mod Reached
 pub mod Reading
+pub mod Related
 pub mod Relation
 pub mod Repeated
 pub mod Tally

@@ -38,13 +38,13 @@ fn moved_form(direction: Direction, s: u32, t: u32, n: u64) -> Basic
 pub(crate) fn moved(
     alloc: Global,
     direction: Direction,
-    s: u32,
-    t: u32,
+    sets: (u32, u32),
     n: u64,
     setting: Setting,
 ) -> Result<Automaton, StepFault>
-    ensures { IsMadeUnder setting (moved_form direction s t n) result }
+    ensures { IsMadeUnder setting (moved_form direction sets.0 sets.1 n) result }
 {
+    let (s, t) = sets;
     if s == t {
         let form = moved_form(direction, s, t, n);
         return if n == 0 {

@@ -1,7 +1,8 @@
 ghost use Rattle.std.specs.Prelude.{◌≡◌, length};
 ghost use Rattle.ms_logic_core.specs.Operands.{variables_of_basic};
+ghost use Rattle.ms_basic.specs.inner.Related.{is_of_itself, sets_form};
 ghost use Rattle.ms_basic.specs.inner.Relation.{IsMadeUnder};
-ghost use Rattle.ms_basic.specs.Sets.{agrees, is_of_itself, sets_form};
+ghost use Rattle.ms_basic.specs.Sets.{agrees};
 
 use crate::made::made;
 use crate::repeated::ConstantMachine;
@@ -105,13 +106,12 @@ impl SmallMachine for SetsMachine {
 pub(crate) fn sets(
     alloc: Global,
     relation: SetRelation,
-    s: u32,
-    t: u32,
-    u: u32,
+    operands: (u32, u32, u32),
     setting: Setting,
 ) -> Result<Automaton, StepFault>
-    ensures { IsMadeUnder setting (sets_form relation s t u) result }
+    ensures { IsMadeUnder setting (sets_form relation operands.0 operands.1 operands.2) result }
 {
+    let (s, t, u) = operands;
     let form = sets_form(relation, s, t, u);
     if is_of_itself(relation, s, t, u) {
         return made(alloc, ConstantMachine { holds: true }, form, 1, setting);

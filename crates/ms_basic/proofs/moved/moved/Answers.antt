@@ -20,42 +20,42 @@ returns-then-n-gt-GREATEST c = record {
   differ = tt;
   reached = tt;
   within = tt;
-  nodes = (refl, too_many_windows c.args.direction c.args.s c.args.t c.args.n c.args.setting.limit c.if-s-t.false c.if-n-gt-GREATEST.true c.args.setting.small);
+  nodes = (refl, too_many_windows c.args.direction c.args.sets.0 c.args.sets.1 c.args.n c.args.setting.limit c.if-s-t.false c.if-n-gt-GREATEST.true c.args.setting.small);
 }
 
 pub made-requires-clause-orders : goal.made-requires-clause-orders
 made-requires-clause-orders c =
-    rw (c.moved_form-form.ensures, moved_operands c.args.direction c.args.s c.args.t c.args.n) (orders_of_two c.args.s c.args.t)
+    rw (c.moved_form-form.ensures, moved_operands c.args.direction c.args.sets.0 c.args.sets.1 c.args.n) (orders_of_two c.args.sets.0 c.args.sets.1)
 
 pub made-requires-clause-decides : goal.made-requires-clause-decides
 made-requires-clause-decides c =
-    rw (c.moved_form-form.ensures, moved_operands c.args.direction c.args.s c.args.t c.args.n, ← c.if-s-t.true, c.if-n-eq0.true)
-    (decides_by_none c.args.setting.mode c.args.direction c.args.s)
+    rw (c.moved_form-form.ensures, moved_operands c.args.direction c.args.sets.0 c.args.sets.1 c.args.n, ← c.if-s-t.true, c.if-n-eq0.true)
+    (decides_by_none c.args.setting.mode c.args.direction c.args.sets.0)
 
 pub made-requires-clause-reached : goal.made-requires-clause-reached
 made-requires-clause-reached c = constant_reached (take 1 (variables_of_basic c.moved_form-form.result)) true
 
 pub made-requires-else-n-eq0-clause-orders : goal.made-requires-else-n-eq0-clause-orders
 made-requires-else-n-eq0-clause-orders c =
-    rw (c.moved_form-form.ensures, moved_operands c.args.direction c.args.s c.args.t c.args.n) (orders_of_two c.args.s c.args.t)
+    rw (c.moved_form-form.ensures, moved_operands c.args.direction c.args.sets.0 c.args.sets.1 c.args.n) (orders_of_two c.args.sets.0 c.args.sets.1)
 
 pub made-requires-else-n-eq0-clause-decides : goal.made-requires-else-n-eq0-clause-decides
 made-requires-else-n-eq0-clause-decides c =
     let further : 0 < c.args.n = omega (arith, c.if-n-eq0.false) in
     rw (
       c.moved_form-form.ensures,
-      moved_operands c.args.direction c.args.s c.args.t c.args.n,
+      moved_operands c.args.direction c.args.sets.0 c.args.sets.1 c.args.n,
       ← c.if-s-t.true,
       c.none.ensures.mode,
       c.none.ensures.number,
       c.none.ensures.digits,
     )
-    (decides_further c.args.setting.mode c.args.direction c.args.s c.args.n further)
+    (decides_further c.args.setting.mode c.args.direction c.args.sets.0 c.args.n further)
 
 pub made-requires-else-n-eq0-clause-reached : goal.made-requires-else-n-eq0-clause-reached
 made-requires-else-n-eq0-clause-reached c =
-    rw (c.moved_form-form.ensures, moved_operands c.args.direction c.args.s c.args.t c.args.n)
-    (reached_one (set c.args.s) (bits_table c.none.result.mode c.none.result.number c.none.result.digits) refl
+    rw (c.moved_form-form.ensures, moved_operands c.args.direction c.args.sets.0 c.args.sets.1 c.args.n)
+    (reached_one (set c.args.sets.0) (bits_table c.none.result.mode c.none.result.number c.none.result.digits) refl
     (bits_reached c.none.result.mode c.none.result.number c.none.result.digits))
 
 pub invariant_of-made : goal.invariant_of-made
@@ -65,15 +65,15 @@ invariant_of-made c = record {
 }
 
 pub made-requires-in-Up-clause-decides : goal.made-requires-in-Up-clause-decides
-made-requires-in-Up-clause-decides c = rw c.size-size.ensures (decides_up c.args.setting.mode c.args.s c.args.t c.args.n)
+made-requires-in-Up-clause-decides c = rw c.size-size.ensures (decides_up c.args.setting.mode c.args.sets.0 c.args.sets.1 c.args.n)
 
 pub made-requires-in-Up-clause-apart : goal.made-requires-in-Up-clause-apart
 made-requires-in-Up-clause-apart c =
-    rw c.size-size.ensures (apart_two (set c.args.s) (set c.args.t) (up_table c.args.setting.mode (2 ^ c.args.n)) c.if-s-t.false refl refl (up_apart c.args.setting.mode c.args.n))
+    rw c.size-size.ensures (apart_two (set c.args.sets.0) (set c.args.sets.1) (up_table c.args.setting.mode (2 ^ c.args.n)) c.if-s-t.false refl refl (up_apart c.args.setting.mode c.args.n))
 
 pub made-requires-in-Up-clause-reached : goal.made-requires-in-Up-clause-reached
 made-requires-in-Up-clause-reached c =
-    rw c.size-size.ensures (reached_two (set c.args.s) (set c.args.t) (up_table c.args.setting.mode (2 ^ c.args.n)) c.if-s-t.false refl refl (up_reached c.args.setting.mode c.args.n))
+    rw c.size-size.ensures (reached_two (set c.args.sets.0) (set c.args.sets.1) (up_table c.args.setting.mode (2 ^ c.args.n)) c.if-s-t.false refl refl (up_reached c.args.setting.mode c.args.n))
 
 pub invariant_of-made-in-Down : goal.invariant_of-made-in-Down
 invariant_of-made-in-Down c = record {
@@ -82,12 +82,12 @@ invariant_of-made-in-Down c = record {
 }
 
 pub made-requires-in-Down-clause-decides : goal.made-requires-in-Down-clause-decides
-made-requires-in-Down-clause-decides c = rw c.size-size.ensures (decides_down c.args.setting.mode c.args.s c.args.t c.args.n)
+made-requires-in-Down-clause-decides c = rw c.size-size.ensures (decides_down c.args.setting.mode c.args.sets.0 c.args.sets.1 c.args.n)
 
 pub made-requires-in-Down-clause-apart : goal.made-requires-in-Down-clause-apart
 made-requires-in-Down-clause-apart c =
-    rw c.size-size.ensures (apart_two (set c.args.s) (set c.args.t) (down_table (2 ^ c.args.n)) c.if-s-t.false refl refl (down_apart c.args.n))
+    rw c.size-size.ensures (apart_two (set c.args.sets.0) (set c.args.sets.1) (down_table (2 ^ c.args.n)) c.if-s-t.false refl refl (down_apart c.args.n))
 
 pub made-requires-in-Down-clause-reached : goal.made-requires-in-Down-clause-reached
 made-requires-in-Down-clause-reached c =
-    rw c.size-size.ensures (reached_two (set c.args.s) (set c.args.t) (down_table (2 ^ c.args.n)) c.if-s-t.false refl refl (down_reached c.args.n))
+    rw c.size-size.ensures (reached_two (set c.args.sets.0) (set c.args.sets.1) (down_table (2 ^ c.args.n)) c.if-s-t.false refl refl (down_reached c.args.n))

@@ -19,7 +19,7 @@ use Rattle.ms_names_rules.specs.Before.{after, after_all, after_parts}
 use Rattle.ms_names_rules.specs.inner.Binder.{quantified_over, restricted_variables, sides_of, typed_sides}
 use Rattle.ms_names_rules.specs.inner.Lists.{arguments_of, forms_of, terms_of}
 use Rattle.ms_names_rules.specs.Order.{formula_wanted, number_wanted, order_of, wanted_on_the_left, wanted_on_the_right}
-use Rattle.ms_names_rules.specs.Occurrence.{occurrences, inside_operands, inside_arguments, inside_parts}
+use Rattle.ms_names_rules.specs.Occurrence.{occurrences, inside_arguments, inside_parts}
 use Rattle.ms_names_rules.specs.Reads.{readings_of_bounds, readings_of_call}
 use Rattle.ms_names_rules.specs.Rules.{faults_of_bounds, faults_of_call, faults_of_parts}
 use Rattle.ms_names_rules.specs.Scope.{meaning_of, count}
