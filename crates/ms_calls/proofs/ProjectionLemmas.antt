@@ -4,11 +4,14 @@ use Rattle.std.proofs.Math.Nat.{mul-le-mul_right}
 use Rattle.std.proofs.lemmas.Option.{none-some}
 use Rattle.ms_list.specs.declared.word.Word.{Word}
 use Rattle.ms_arena.specs.Diagram.{Bits, leaf_of}
+use Rattle.ms_arena.specs.declared.node.Ref.{Ref}
 use Rattle.ms_arena.specs.declared.node.Ref.TheVariants.{Leaf}
 use Rattle.ms_arena.proofs.Paths.{leaf_of-leaf}
 use Rattle.ms_arena.proofs.ReachLemmas.{leaf_of-tested}
 use Rattle.ms_build_parts.specs.Labels.{behind_state}
 use Rattle.ms_dfa.specs.Automaton.{IsAutomaton}
+use Rattle.ms_dfa.specs.declared.state.State.{State}
+use Rattle.ms_diagram.specs.Store.{Contents}
 use Rattle.ms_product.proofs.WidenedLemmas.{followed}
 use Rattle.ms_dfa_explore.specs.Tracks.{places_among}
 use Rattle.ms_dfa_explore.proofs.AmongLemmas.{leads_to}
@@ -23,13 +26,14 @@ use Rattle.ms_logic_starts.proofs.RisingLemmas.{rising_distinct}
 use Rattle.ms_logic_words.specs.Content.{Content, StateOf, is_in_letters, is_truth_value, letter_bits, state_after, truth_bits}
 use Rattle.ms_logic_words.specs.declared.sign.Sign.{Sign}
 use Rattle.ms_logic_words.specs.declared.sign.Sign.TheVariants.{Yes}
-use Rattle.ms_product.specs.Pairing.{ReachedAreAtLeast}
+use Rattle.ms_product.specs.Pairing.{IsPairedIn, ReachedAreAtLeast}
 use Rattle.ms_product.specs.declared.op.Op.TheVariants.{And}
 use Rattle.ms_project.specs.Always.{always}
 use Rattle.ms_project.specs.Paired.{operands_for}
-use Rattle.ms_project.specs.Projection.{ReachedNeedsAtLeast, SetsOfAnswerAreAtLeast, SetsOfReachedAreAtLeast}
+use Rattle.ms_project.specs.Projection.{ReachedNeedsAtLeast, SetsOfAnswerAreAtLeast, begun_behind}
+use Rattle.ms_project.specs.Subsetting.{SetsAreAtLeast}
 use Rattle.ms_project.proofs.AlwaysLemmas.{IsAutomaton-always}
-use Rattle.ms_project_parts.proofs.Found.{few_inner, few_outer}
+use Rattle.ms_project_parts.proofs.Found.{few_outer}
 use Rattle.ms_project_parts.proofs.Matches.{truth_matches}
 use Rattle.ms_project_parts.specs.Laws.{IsBoundAs}
 use Rattle.ms_project_parts.specs.inner.Matched.{AreMatched, IsRead}
@@ -113,49 +117,30 @@ module _ (body domain : Content Sign) (bound : Variable) (is_body : IsBody body 
       products_need_few_pairs And (operands_for body domain) body.variables (rising_distinct body.variables rising)
       (stands_among body body.variables is_body.automaton rising (λ v there. there)) (stands_among domain body.variables is_range.automaton rising is_range.for_body.among) count needs n counted
 
-  -- the nodes of a product whose pairs are reached
-  few_begun : (count : ℕ) (sets : SetsOfReachedAreAtLeast count body domain bound.name) (n : ℕ) → LeadToPairs body domain body.variables n → length sets.sets.inner.nodes ≤ n
-  few_begun count sets n counted =
-      few_pairs (length sets.sets.inner.nodes) (record {
-        least = record {
-          nodes = sets.sets.inner.nodes;
-          pairs = sets.sets.pairs;
-          ordered = sets.sets.needed.store.ordered;
-          reduced = sets.sets.needed.store.reduced;
-          needed = sets.sets.needed.needed;
-          numbering = sets.sets.paired.numbering;
-          states = sets.sets.paired.are;
-          many = omega arith;
-        };
-        reached = sets.reached;
-      }) n counted
-
   -- the content by which the domain is measured has states that match its own, and its variables stand where those of the domain do
   module _ {Domain : Type 0} (restriction : Content Domain) (right : AreMatched domain restriction)
       (stands : (place : ℕ) (w : Variable) → slice_get restriction.variables place ≡ Some w → slice_get body.variables (slice_index (places_among domain.variables body.variables) place) ≡ Some w)
       (m : ℕ) (counted : IsNumberOf (LeadToSameSet body restriction bound) (IsStartOver (without bound.name body.variables)) m) where
-    few_answer : (count limit : ℕ) → SetsOfAnswerAreAtLeast count limit body domain bound.name → count ≤ m
-    few_answer count limit answer =
-        let found = answer.sets in
+    -- what is found behind a product
+    few_found : (inner : Contents) (start : Ref) (states : List State) (pairs : List (ℕ × ℕ)) → IsPairedIn inner.nodes And (operands_for body domain) pairs start states
+        → (count : ℕ) → SetsAreAtLeast count (begun_behind body bound.name inner start states) → count ≤ m
+    few_found inner start states pairs paired count sets =
         let few = few_outer body domain body restriction bound bound (bound_as_itself body bound is_body) (rising_distinct body.variables rising) refl is_range.automaton.rising is_range.for_body.among stands
-        (own_matches body is_body.automaton) right m counted answer.inner answer.start answer.states answer.pairs answer.paired answer.needed.store found.found found.outer found.behind in
-        let many = found.many in
+        (own_matches body is_body.automaton) right m counted inner start states pairs paired sets.found sets.outer sets.behind in
+        let many = sets.many in
         omega (arith, few, many)
 
-    few_sets : (count : ℕ) → SetsOfReachedAreAtLeast count body domain bound.name → (n : ℕ) → LeadToPairs body domain body.variables n → count ≤ n + 2 * m
-    few_sets count sets n pairs =
-        let product = sets.sets in
-        let found = product.sets in
-        let first = few_inner body domain body restriction bound bound (bound_as_itself body bound is_body) (rising_distinct body.variables rising) refl is_range.automaton.rising is_range.for_body.among stands
-        (own_matches body is_body.automaton) right m counted product.inner product.start product.states product.pairs product.paired product.needed.store found.found found.outer found.behind in
-        let second = few_outer body domain body restriction bound bound (bound_as_itself body bound is_body) (rising_distinct body.variables rising) refl is_range.automaton.rising is_range.for_body.among stands
-        (own_matches body is_body.automaton) right m counted product.inner product.start product.states product.pairs product.paired product.needed.store found.found found.outer found.behind in
-        let begun = few_begun count sets n pairs in
-        let many = found.many in
-        omega (arith, first, second, begun, many)
+    few_answer : (count : ℕ) → SetsOfAnswerAreAtLeast count body domain bound.name → count ≤ m
+    few_answer count answer = few_found answer.inner answer.start answer.states answer.pairs answer.paired count answer.sets
 
     few : (count : ℕ) → ReachedNeedsAtLeast count body domain bound.name → (n : ℕ) → LeadToPairs body domain body.variables n → count ≤ n + 2 * m
-    few count needs n pairs = ⊎_elim (λ product. let less = few_pairs count product n pairs in omega (arith, less)) (λ sets. few_sets count sets n pairs) needs
+    few count needs n pairs = ⊎_elim
+        (λ product. let less = few_pairs count product n pairs in omega (arith, less))
+        (λ reached.
+        let product = reached.sets in
+        let less = few_found product.inner product.start product.states product.pairs product.paired count product.sets in
+        omega (arith, less))
+        needs
 
 -- what is at most the pairs that are read and twice the sets is below the measure
 below_twice : (limit n parts m r : ℕ) → limit ≤ n + 2 * m → r ≡ n + parts → limit < call_measure m r
@@ -175,8 +160,8 @@ projections_are_within_measure body domain bound is_body is_range limit needs m 
     (few body domain bound is_body is_range domain (own_matches domain is_range.automaton) (stands_at body domain bound is_body is_range) m measure.made limit needs measure.pairs measure.pairs_read) measure.read
 
 pub projections_need_few_sets : ProjectionsNeedFewSets
-projections_need_few_sets body domain bound is_body is_range count limit answer m r measure =
-    few_answer body domain bound is_body is_range domain (own_matches domain is_range.automaton) (stands_at body domain bound is_body is_range) m measure.made count limit answer
+projections_need_few_sets body domain bound is_body is_range count answer m r measure =
+    few_answer body domain bound is_body is_range domain (own_matches domain is_range.automaton) (stands_at body domain bound is_body is_range) m measure.made count answer
 
 pub always_range : (body : Content Sign) → IsRange body (always body.mode)
 always_range body = record { automaton = IsAutomaton-always body.mode; for_body = record { mode = refl; among = λ v none. absurd none } }
@@ -188,5 +173,5 @@ unrestricted_are_within_measure body bound mode is_body limit needs m r measure 
     (truth_pairs body mode measure.pairs measure.pairs_read)) measure.read
 
 pub unrestricted_need_few_sets : UnrestrictedNeedFewSets
-unrestricted_need_few_sets body bound mode is_body count limit answer m r measure =
-    few_answer body (always body.mode) bound is_body (always_range body) (no_restriction mode) (truth_matches body.mode mode) (λ place w held. absurd (none-some w held)) m measure.made count limit answer
+unrestricted_need_few_sets body bound mode is_body count answer m r measure =
+    few_answer body (always body.mode) bound is_body (always_range body) (no_restriction mode) (truth_matches body.mode mode) (λ place w held. absurd (none-some w held)) m measure.made count answer

@@ -36,10 +36,10 @@ UnrestrictedAreWithinMeasure =
 -- it makes no more states and nodes than the number m of its measure
 abbrev pub ProjectionsNeedFewSets : Type 0
 ProjectionsNeedFewSets =
-    (body domain : Content Sign) (bound : Variable) → IsBody body bound → IsRange body domain → (count limit : ℕ) → SetsOfAnswerAreAtLeast count limit body domain bound.name
+    (body domain : Content Sign) (bound : Variable) → IsBody body bound → IsRange body domain → (count : ℕ) → SetsOfAnswerAreAtLeast count body domain bound.name
     → (m r : ℕ) → IsProjectMeasure body domain bound m r → count ≤ m
 
 abbrev pub UnrestrictedNeedFewSets : Type 0
 UnrestrictedNeedFewSets =
-    (body : Content Sign) (bound : Variable) (mode : Mode) → IsBody body bound → (count limit : ℕ) → SetsOfAnswerAreAtLeast count limit body (always body.mode) bound.name
+    (body : Content Sign) (bound : Variable) (mode : Mode) → IsBody body bound → (count : ℕ) → SetsOfAnswerAreAtLeast count body (always body.mode) bound.name
     → (m r : ℕ) → IsProjectMeasure body (no_restriction mode) bound m r → count ≤ m

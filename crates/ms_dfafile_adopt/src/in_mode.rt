@@ -1,13 +1,13 @@
 ghost use Rattle.std.specs.Prelude.{◌≡◌, IfOk, IfErr, IfSome, IfNone};
-ghost use Rattle.ms_dfa.specs.Automaton.{states_of};
 ghost use Rattle.ms_logic.specs.declared.mode.Mode.TheVariants.{Ws1s, M2lStr};
 ghost use Rattle.ms_dfafile_adopt.specs.inner.Open.{IsFirstChange, IsInMode, IsNotInMode, ShowsNoChange};
 
 use crate::changes::{changes, with_states};
 use ms_best::first;
-use ms_dfa::{Automaton, Sign, State};
-use ms_list::{List, NoMemory, Word, push};
+use ms_dfa::{Automaton, Sign};
+use ms_list::{NoMemory, Word};
 use ms_logic::Mode;
+use ms_product::same_states;
 use std::alloc::Global;
 
 /// Why there is no automaton over all numbers: the first word that encodes an assignment and has another sign with one zero
@@ -26,19 +26,6 @@ fn first_change(alloc: Global, a: &Automaton) -> Result<Option<Word>, NoMemory>
 {
     let changes = changes(alloc, a)?;
     first(alloc, &changes, Sign::Yes)
-}
-
-/// The states of an automaton.
-fn same_states(alloc: Global, a: &Automaton) -> Result<List<State>, NoMemory>
-    ensures { IfOk result (λ made. states_of made ≡ a.now.states) }
-{
-    let mut made = List::new(alloc);
-    for state in 0..a.states() {
-        let sign = a.sign(state);
-        let next = a.next_ref(state);
-        push(&mut made, State { sign, next })?;
-    }
-    Ok(made)
 }
 
 /// The automaton over all numbers in place of strings.

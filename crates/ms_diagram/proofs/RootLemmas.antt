@@ -1,5 +1,6 @@
 -- Lists of roots: their items, their halves and their least level.
 use Rattle.std.proofs.Common.{◌≡◌, ℕ, ◌<◌, ◌≤◌, Bool, true, false, List, [], ◌∷◌, ◌++◌, length, map, drop, Contains, sym, ap, subst, ◌∙◌, ⊎_elim, append-nil, arith}
+use Rattle.std.proofs.lemmas.Bool.{cases_lt}
 use Rattle.std.proofs.lemmas.List.{at_drop_all}
 use Rattle.std.proofs.lemmas.List.Elements.{Contains-append_left, Contains-append_right, Contains-append_cases}
 use Rattle.std.proofs.lemmas.List.Kept.{Contains-dedup, Contains-from_dedup}
@@ -76,6 +77,13 @@ least_level-each nodes [] root there = absurd (Contains-none root there)
 least_level-each nodes (first ∷ roots) root there = ⊎_elim
     (λ same. let level = ap (level_of nodes) same in omega (arith, level))
     (λ later. let rest = least_level-each nodes roots root later in omega arith) (Contains-cases first roots root there)
+
+pub least_level-own : (nodes : List Node) (roots : List Ref) → least_level nodes roots < 4294967296 → (root : Ref) × Contains roots root × (level_of nodes root ≡ least_level nodes roots)
+least_level-own nodes [] small = absurd (omega (arith, small))
+least_level-own nodes (root ∷ roots) small = ⊎_elim
+    (λ less. (root, Contains-first root roots, omega (arith, less)))
+    (λ more. let rest = least_level-own nodes roots (omega (arith, more, small)) in (rest.0, Contains-rest root roots rest.0 rest.1, omega (arith, more, rest.2)))
+    (cases_lt (level_of nodes root) (least_level nodes roots))
 
 pub least_level-above : (nodes : List Node) (var : ℕ) (roots : List Ref) → var < 4294967296 → ((root : Ref) → Contains roots root → var < level_of nodes root) → var < least_level nodes roots
 least_level-above nodes var [] small above = small

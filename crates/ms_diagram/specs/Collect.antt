@@ -1,19 +1,20 @@
--- The function that gives at each bits the number of the set of leaves that several references have there.
+-- The function that gives at each bits the number of the set of leaves that several references of another store have there, for
+-- both bits of the variable that is left out.
 use Rattle.std.specs.Prelude.{◌≡◌, ℕ, min, Bool, List, [], ◌∷◌, length, slice_get, Some, All, Contains}
 use Rattle.std.specs.List.Sorted.{IsStrictlyIncreasing}
 use Rattle.ms_arena.specs.declared.node.Ref.{Ref}
 use Rattle.ms_arena.specs.declared.node.Ref.TheVariants.{Leaf, Inner}
 use Rattle.ms_arena.specs.declared.node.Node.{Node}
 use Rattle.ms_arena.specs.Diagram.{Bits, leaf_of, IsValid}
-use Rattle.ms_arena.specs.Bits.{with_bit}
 use Rattle.ms_arena.specs.Halves.{half_of, level_of}
 use Rattle.ms_arena.specs.Target.{Target, Meets}
 use Rattle.ms_diagram.specs.Numbering.{IsNumbering, IsMissing, IsLeafOf}
+use Rattle.ms_diagram.specs.Projecting.{Projecting, IsReadIn, opened}
 
--- one of the roots has this leaf at the bits, with the bit of the track at 0 or at 1
-abbrev pub IsLeafThere : List Node → List Ref → ℕ → Bits → ℕ → Type 0
-IsLeafThere nodes roots track bits leaf =
-    (root : Ref) × (bit : Bool) × Contains roots root × (leaf_of nodes root (with_bit bits track bit) ≡ leaf)
+-- one of the roots has this leaf at the bits, for one of the bits of the track
+abbrev pub IsLeafThere : Projecting → List Ref → Bits → ℕ → Type 0
+IsLeafThere view roots bits leaf =
+    (root : Ref) × (bit : Bool) × Contains roots root × (leaf_of view.nodes root (opened view bits bit) ≡ leaf)
 
 -- a strictly rising list of the numbers that are members, and of no others
 pub record IsRisingSet (set : List ℕ) (IsMember : ℕ → Type 0) : Type 0 where
@@ -22,30 +23,30 @@ pub record IsRisingSet (set : List ℕ) (IsMember : ℕ → Type 0) : Type 0 whe
   pub only : (item : ℕ) → Contains set item → IsMember item
 
 -- the leaves of the roots are this set at some bits
-abbrev pub HasLeafSet : List Node → List Ref → ℕ → List ℕ → Type 0
-HasLeafSet nodes roots track set = (bits : Bits) × IsRisingSet set (IsLeafThere nodes roots track bits)
+abbrev pub HasLeafSet : Projecting → List Ref → List ℕ → Type 0
+HasLeafSet view roots set = (bits : Bits) × IsRisingSet set (IsLeafThere view roots bits)
 
 -- the number of the set of the leaves of the roots
-abbrev pub SetNumber : List Node → List (List ℕ) → List Ref → ℕ → Target
-SetNumber nodes sets roots track = λ bits number.
-    (set : List ℕ) × (slice_get sets number ≡ Some set) × IsRisingSet set (IsLeafThere nodes roots track bits)
+abbrev pub SetNumber : Projecting → List (List ℕ) → List Ref → Target
+SetNumber view sets roots = λ bits number.
+    (set : List ℕ) × (slice_get sets number ≡ Some set) × IsRisingSet set (IsLeafThere view roots bits)
 
 -- a set of leaves has no number, and each of the 2^32 - 1 numbers has a set
-abbrev pub LacksSet : List Node → List (List ℕ) → List Ref → ℕ → Type 0
-LacksSet nodes sets roots track =
+abbrev pub LacksSet : Projecting → List (List ℕ) → List Ref → Type 0
+LacksSet view sets roots =
     (length sets ≡ 4294967295)
-    × ((bits : Bits) × ((number : ℕ) (set : List ℕ) → slice_get sets number ≡ Some set → IsRisingSet set (IsLeafThere nodes roots track bits) → ⊥))
+    × ((bits : Bits) × ((number : ℕ) (set : List ℕ) → slice_get sets number ≡ Some set → IsRisingSet set (IsLeafThere view roots bits) → ⊥))
 
 -- the sets differ, and each is strictly rising
 pub record IsSetNumbering (sets : List (List ℕ)) : Type 0 where
   pub numbering : IsNumbering sets
   pub rising : (number : ℕ) (set : List ℕ) → slice_get sets number ≡ Some set → IsStrictlyIncreasing set
 
--- the reference has at all bits the number of the set of the roots' leaves
-pub record IsCollected (nodes : List Node) (sets : List (List ℕ)) (track : ℕ) (roots : List Ref) (made : Ref) : Type 0 where
-  pub valid_roots : All (IsValid nodes) roots
+-- the reference has at all bits the number of the set of the leaves of the roots
+pub record IsCollected (view : Projecting) (sets : List (List ℕ)) (nodes : List Node) (roots : List Ref) (made : Ref) : Type 0 where
+  pub read : All (IsReadIn view) roots
   pub valid : IsValid nodes made
-  pub meets : Meets nodes (SetNumber nodes sets roots track) made
+  pub meets : Meets nodes (SetNumber view sets roots) made
 
 -- the halves of the roots for one value of a variable's bit
 pub record AreHalves (nodes : List Node) (var : ℕ) (bit : Bool) (roots halves : List Ref) : Type 0 where

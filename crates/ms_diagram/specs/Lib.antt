@@ -6,6 +6,7 @@ pub mod Growth
 pub mod Hash
 pub mod Leaves
 pub mod Numbering
+pub mod Projecting
 pub mod Relabel
 pub mod Side
 pub mod Store

@@ -9,6 +9,7 @@ use Rattle.ms_diagram.specs.Across.{IsPairedAcross}
 use Rattle.ms_diagram.specs.Apply.{IsPaired}
 use Rattle.ms_diagram.specs.Bring.{IsBrought}
 use Rattle.ms_diagram.specs.Collect.{IsCollected}
+use Rattle.ms_diagram.specs.Projecting.{Projecting}
 use Rattle.ms_diagram.specs.Relabel.{IsRelabelled}
 
 -- each pair of references has become the reference of the numbers of its leaves' pairs
@@ -19,9 +20,9 @@ ArePaired nodes pairs = EachEntry (IsPaired nodes pairs)
 abbrev pub ArePairedAcross : Sides → List (ℕ × ℕ) → List Node → List ((Ref × Ref) × Ref) → Type 0
 ArePairedAcross sides pairs nodes = EachEntry (IsPairedAcross sides pairs nodes)
 
--- each list of references has become the reference of the numbers of its sets of leaves
-abbrev pub AreCollected : List Node → List (List ℕ) → ℕ → List (RootList × Ref) → Type 0
-AreCollected nodes sets track = EachEntry (λ key. IsCollected nodes sets track key.roots.items)
+-- each list of references of the other store has become the reference of the numbers of its sets of leaves
+abbrev pub AreCollected : Projecting → List (List ℕ) → List Node → List (RootList × Ref) → Type 0
+AreCollected view sets nodes = EachEntry (λ key. IsCollected view sets nodes key.roots.items)
 
 -- each place of the other store has become its renamed function
 abbrev pub AreBrought : List Node → List ℕ → List Node → List (ℕ × Ref) → Type 0

@@ -1,11 +1,11 @@
 ghost use Rattle.std.specs.Prelude.{◌≡◌, ◌⊎◌, IfOk, All};
-ghost use Rattle.ms_arena.specs.Diagram.{IsValid};
+ghost use Rattle.ms_arena.specs.Halves.{IsLeaf};
 ghost use Rattle.ms_arena.specs.Target.{Extends};
 
-use crate::halves::LEAF_LEVEL;
 use crate::notes::Notes;
+use crate::projected::Projected;
 use crate::root_list::RootList;
-use crate::roots::leaf_set;
+use crate::roots::{are_leaves, leaf_set};
 use crate::sets::Sets;
 use crate::store::Store;
 use crate::walk::{Visit, Walk};
@@ -16,10 +16,10 @@ use ms_list::StepFault;
 // What each list of roots has become.
 type RootTable = IndexMap<RootList, Ref>;
 
-// Sets of leaves get numbers, and the bit of the track is read at 0 and at 1.
+// Sets of leaves of another store get numbers, and the bit of the track is read at 0 and at 1.
 #[derive(Drop)]
 struct Collecting<'a> {
-    track: u32,
+    view: &'a Projected<'a>,
     sets: &'a mut Sets,
 }
 
@@ -31,9 +31,9 @@ impl Walk for Collecting<'_> {
 
     type Key = RootList;
 
-    ghost rules = { collecting (λ s. s.track) (λ s. s.sets.now) (λ s. s.sets.ghost_name) (λ list. list.roots.items) };
+    ghost rules = { collecting (λ s. s.view.now) (λ s. s.sets.now) (λ s. s.sets.ghost_name) (λ list. list.roots.items) };
 
-    ghost laws = { collecting_laws (λ s. s.track) (λ s. s.sets.now) (λ s. s.sets.ghost_name) (λ list. list.roots.items) same_roots };
+    ghost laws = { collecting_laws (λ s. s.view.now) (λ s. s.sets.now) (λ s. s.sets.ghost_name) (λ list. list.roots.items) same_roots };
 
     fn visit<T: Notes<RootList>>(
         &mut self,
@@ -41,28 +41,32 @@ impl Walk for Collecting<'_> {
         item: RootList,
         notes: &mut T,
     ) -> Result<Visit<RootList, RootList>, StepFault> {
+        let view = self.view;
+        let from = view.store;
+        // The length tells that the nodes are those of a store.
+        let _ = from.len();
         let list = item.roots.as_slice();
-        let level = store.least_level(list);
-        if level == LEAF_LEVEL {
+        if are_leaves(list) {
             let made = store.set_leaf(list, self.sets)?;
             return Ok(Visit::Made(made));
         }
+        // The notes are asked before the nodes are read, which lie anywhere.
         if let Some(made) = notes.ask(&item) {
             return Ok(Visit::Made(made));
         }
-        let var = level as u32;
-        if var == self.track {
-            let Ok(both) = store.both_halves(list, var) else {
+        let var = from.first_variable(list);
+        if var == view.track {
+            let Ok(both) = from.both_halves(list, var) else {
                 return Err(StepFault::Memory);
             };
             return Ok(Visit::Instead(both));
         }
-        let Ok((low, high)) = store.half_sets(list, var) else {
+        let Ok((low, high)) = from.half_sets(list, var) else {
             return Err(StepFault::Memory);
         };
         Ok(Visit::Split {
             key: item,
-            var,
+            var: view.map[var as usize],
             low,
             high,
         })
@@ -70,49 +74,33 @@ impl Walk for Collecting<'_> {
 }
 
 impl Store {
-    ghost use Rattle.ms_diagram.specs.Collect.{HasLeafSet, IsCollected, IsSetOf, IsSetLeaf, IsSetMissing, IsSetNumbering, LacksSet, SetNumber, leaf_values};
+    ghost use Rattle.ms_diagram.specs.Collect.{HasLeafSet, IsCollected, IsSetNumbering, IsSetOf, IsSetLeaf, IsSetMissing, LacksSet, SetNumber, leaf_values};
     ghost use Rattle.ms_diagram.specs.Growth.{Builds, OnNodes};
     ghost use Rattle.ms_diagram.specs.Numbering.{AddsOnly};
+    ghost use Rattle.ms_diagram.specs.Projecting.{IsReadIn, KeepsOrder};
     ghost use Rattle.ms_diagram.specs.Store.{IsStore};
     ghost use Rattle.ms_diagram.specs.Table.{EachEntry};
 
-    /// The function that has at each bits the number of the set of the leaves that the roots have there, with the bit
-    /// of the track at 0 and at 1. A set that is new gets its number at first sight; no other gets
-    /// one.
-    pub fn collect(&mut self, roots: &[Ref], track: u32, sets: &mut Sets) -> Result<Ref, StepFault>
-        requires { All (IsValid self.old.nodes) roots.now }
-        ensures builds { Builds self.old self.new (SetNumber self.old.nodes sets.new roots.now track) (LacksSet self.old.nodes sets.new roots.now track) result }
-        ensures sets { Extends sets.old sets.new }
-        ensures added { AddsOnly (HasLeafSet self.old.nodes roots.now track) sets.old sets.new }
-    {
-        // The length tells that the sets are a numbering.
-        let _ = sets.len();
-        let Ok(list) = Vec::from_slice(self.alloc, roots) else {
-            return Err(StepFault::Memory);
-        };
-        let mut table = IndexMap::new(self.alloc);
-        self.collect_at(list, track, sets, &mut table)
-    }
-
-    // The same for a list of halves of the roots, over a table of what is done.
+    // The function that has at each bits the number of the set of the leaves that the roots have there, for both bits of the
+    // track, over a table of what is done.
     pub(crate) fn collect_at(
         &mut self,
+        view: &Projected,
         roots: Vec<Ref>,
-        track: u32,
         sets: &mut Sets,
         table: &mut RootTable,
     ) -> Result<Ref, StepFault>
         requires store { IsStore self.old.nodes self.old.limit }
         requires numbering { IsSetNumbering sets.old }
-        requires valid { All (IsValid self.old.nodes) roots.items }
-        requires table { EachEntry (λ key. IsCollected self.old.nodes sets.old track key.roots.items) table.old.entries }
-        ensures builds { Builds self.old self.new (SetNumber self.old.nodes sets.new roots.items track) (LacksSet self.old.nodes sets.new roots.items track) result }
+        requires order { KeepsOrder view.now }
+        requires read { All (IsReadIn view.now) roots.items }
+        requires table { EachEntry (λ key. IsCollected view.now sets.old self.old.nodes key.roots.items) table.old.entries }
+        ensures builds { Builds self.old self.new (SetNumber view.now sets.new roots.items) (LacksSet view.now sets.new roots.items) result }
         ensures sets { Extends sets.old sets.new }
-        ensures added { AddsOnly (HasLeafSet self.old.nodes roots.items track) sets.old sets.new }
-        ensures numbering { IsSetNumbering sets.new }
-        ensures table { EachEntry (λ key. IsCollected self.new.nodes sets.new track key.roots.items) table.new.entries }
+        ensures added { AddsOnly (HasLeafSet view.now roots.items) sets.old sets.new }
+        ensures table { EachEntry (λ key. IsCollected view.now sets.new self.new.nodes key.roots.items) table.new.entries }
     {
-        let mut collecting = Collecting { track, sets };
+        let mut collecting = Collecting { view, sets };
         self.walk(&mut collecting, RootList::new(roots), table)
     }
 
@@ -137,7 +125,7 @@ impl Store {
             };
             return Ok(Ref::Leaf(number));
         }
-        let Ok(number) = sets.number(set.as_slice()) else {
+        let Ok(number) = sets.number(set) else {
             return Err(StepFault::Memory);
         };
         Ok(Ref::Leaf(number))

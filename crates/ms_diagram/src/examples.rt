@@ -1,11 +1,13 @@
 ghost use Rattle.std.specs.Prelude.{◌≡◌, [], ◌∷◌, false, true};
 ghost use Rattle.ms_arena.specs.declared.node.Ref.TheVariants.{Inner, Leaf};
 ghost use Rattle.ms_diagram.specs.Across.{AreOn, HasLeavesAcross, IsHalf, IsOn, LacksAcross, NumberAcross, leaves_across};
+ghost use Rattle.ms_diagram.specs.Collect.{LacksSet, SetNumber};
 ghost use Rattle.ms_diagram.specs.Hash.{scattered};
+ghost use Rattle.ms_diagram.specs.Projecting.{IsReadIn, KeepsOrder, opened};
 ghost use Rattle.ms_diagram.specs.Store.{IsNewest};
 ghost use Rattle.ms_diagram.specs.inner.Computed.{row_of, HasMoved, IsPlaced, entries_of, no_slots, place_of};
 ghost use Rattle.ms_diagram.specs.inner.Short.{AreShort, IsLong, short_entries};
-ghost use Rattle.ms_diagram.specs.inner.Examples.{both_roots, crossed, half_full, only, without_map};
+ghost use Rattle.ms_diagram.specs.inner.Examples.{both_roots, crossed, half_full, left_out_bit, one_and_both, only, read_in, renamed_bit, without_map};
 
 /// Two diagrams of other stores, each read through a map: the pairs of their leaves, and the numbers of these.
 pub fn worked_sides()
@@ -63,6 +65,22 @@ pub fn worked_halves()
     ensures other_end { ¬ IsHalf crossed.right 0 true (Inner 0) (Leaf 0) }
     ensures as_it_is { IsHalf crossed.left 0 true (Inner 0) (Inner 0) }
     ensures too_late { ¬ IsHalf crossed.left 1 true (Inner 0) (Inner 0) }
+{}
+
+/// A diagram of another store with one variable left out: another one, so that one leaf is met, and its own, so that both are.
+pub fn worked_projected()
+    ensures other_variable { opened renamed_bit (only 5) false 0 ≡ true }
+    ensures track { opened left_out_bit (only 5) false 0 ≡ false }
+    ensures order { KeepsOrder (read_in (2 ∷ 0 ∷ 5 ∷ []) 1) }
+    ensures turned_round { ¬ KeepsOrder (read_in (2 ∷ 0 ∷ 5 ∷ []) 2) }
+    ensures read { IsReadIn renamed_bit (Inner 0) }
+    ensures no_variable { ¬ IsReadIn (read_in [] 1) (Inner 0) }
+
+    // the number of a set is its place
+    ensures both_leaves { SetNumber left_out_bit one_and_both (Inner 0 ∷ []) (only 5) 1 }
+    ensures one_leaf { SetNumber renamed_bit one_and_both (Inner 0 ∷ []) (only 5) 0 }
+    ensures not_both { ¬ SetNumber renamed_bit one_and_both (Inner 0 ∷ []) (only 5) 1 }
+    ensures room_for_sets { ¬ LacksSet left_out_bit one_and_both (Inner 0 ∷ []) }
 {}
 
 /// The node at the last of three places.

@@ -2,7 +2,7 @@ ghost use Rattle.std.specs.Prelude.{◌≡◌, ◌<◌, ◌^◌};
 ghost use Rattle.ms_diagram.specs.Hash.{scattered};
 
 /// An odd number whose bits look random: the first bits of the golden ratio.
-const FACTOR: u64 = 0x9E37_79B9_7F4A_7C15;
+pub(crate) const FACTOR: u64 = 0x9E37_79B9_7F4A_7C15;
 
 /// A hash of four bytes, for numbers that differ little one that differs much (multiplicative hashing: D. E. Knuth, "The Art of
 /// Computer Programming", volume 3, section 6.4).

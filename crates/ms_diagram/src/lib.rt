@@ -16,6 +16,7 @@ mod notes;
 mod pair_table;
 mod pairs;
 mod places;
+mod projected;
 mod relabel;
 mod root_list;
 mod roots;
@@ -25,11 +26,14 @@ mod store;
 mod tables;
 mod walk;
 
-pub use examples::{worked_buckets, worked_codes, worked_halves, worked_newest, worked_sides};
+pub use examples::{
+    worked_buckets, worked_codes, worked_halves, worked_newest, worked_projected, worked_sides,
+};
 pub use hash::scatter;
 pub use pair_table::PairTable;
 pub use pairs::Pairs;
 pub use places::PlaceTable;
+pub use projected::Projected;
 pub use root_list::RootList;
 pub use sets::Sets;
 pub use sides::{Renamed, Sides};

@@ -1,5 +1,6 @@
 ghost use Rattle.std.specs.Prelude.{◌≡◌};
 
+use crate::hash::FACTOR;
 use crate::roots::rank;
 use ms_arena::Ref;
 use std::hash::{Hash, Hasher};
@@ -23,9 +24,6 @@ impl Hash for RootList {
         state.write_u64(self.hash);
     }
 }
-
-/// An odd number whose bits look random: the first bits of the golden ratio.
-const FACTOR: u64 = 0x9E37_79B9_7F4A_7C15;
 
 // A number that differs for most lists that differ, also where they differ in order alone.
 fn mixed(roots: &[Ref]) -> u64 {

@@ -1,4 +1,4 @@
-ghost use Rattle.std.specs.Prelude.{◌≡◌, ◌≤◌, true, false, map, IfOk, All};
+ghost use Rattle.std.specs.Prelude.{◌≡◌, ◌≤◌, ◌↔◌, true, false, map, IsTrue, IfOk, All};
 ghost use Rattle.std.specs.List.Sorted.{IsStrictlyIncreasing};
 ghost use Rattle.ms_arena.specs.Diagram.{IsValid};
 ghost use Rattle.ms_arena.specs.Halves.{half_of, IsLeaf};
@@ -36,7 +36,9 @@ pub(crate) fn leaf_set(alloc: Global, roots: &[Ref]) -> Result<Vec<u32>, NoMemor
     ensures rising { IfOk result (λ set. IsStrictlyIncreasing set.items) }
     ensures same { IfOk result (λ set. HaveSameItems (leaf_values roots.now) set.items) }
 {
-    let mut values = Vec::new(alloc);
+    let Ok(mut values) = Vec::with_capacity(alloc, roots.len()) else {
+        return Err(NoMemory);
+    };
     for root in roots {
         if let Ref::Leaf(value) = root {
             if values.push(*value).is_err() {
@@ -49,10 +51,21 @@ pub(crate) fn leaf_set(alloc: Global, roots: &[Ref]) -> Result<Vec<u32>, NoMemor
     Ok(values)
 }
 
+// Whether no root is a node.
+pub(crate) fn are_leaves(roots: &[Ref]) -> bool
+    ensures { IsTrue result ↔ All IsLeaf roots.now }
+{
+    for root in roots {
+        if let Ref::Inner(_) = root {
+            return false;
+        }
+    }
+    true
+}
+
 impl Store {
     // The first variable that one of the roots tests, or the level of a leaf.
-    #[inline(never)]
-    pub(crate) fn least_level(&self, roots: &[Ref]) -> u64
+    fn least_level(&self, roots: &[Ref]) -> u64
         requires { All (IsValid self.now.nodes) roots.now }
         ensures level { result ≡ least_level self.now.nodes roots.now }
         ensures leaves { result ≡ 4294967296 → All IsLeaf roots.now }
@@ -63,6 +76,16 @@ impl Store {
             least = least.min(self.level(*root));
         }
         least
+    }
+
+    // The first variable that one of the roots tests, some of which are nodes.
+    #[inline(never)]
+    pub(crate) fn first_variable(&self, roots: &[Ref]) -> u32
+        requires valid { All (IsValid self.now.nodes) roots.now }
+        requires node { ¬ All IsLeaf roots.now }
+        ensures { result ≡ least_level self.now.nodes roots.now }
+    {
+        self.least_level(roots) as u32
     }
 
     // The halves of the roots where the bit of the variable is 0, in their order, and those where it is 1.

@@ -11,7 +11,6 @@ use std::marker::Model;
 /// A numbering of strictly rising lists by first sight. Contracts see the list of these lists.
 #[derive(Drop)]
 pub struct Sets {
-    alloc: Global,
     sets: IndexSet<Vec<u32>>,
 }
 
@@ -32,7 +31,6 @@ impl Sets {
         ensures { result ≡ [] }
     {
         Sets {
-            alloc,
             sets: IndexSet::new(alloc),
         }
     }
@@ -54,21 +52,15 @@ impl Sets {
     }
 
     /// The number of the set, which gets the next one where it has none.
-    pub fn number(&mut self, set: &[u32]) -> Result<u32, NoMemory>
-        requires rising { IsStrictlyIncreasing set.now }
+    pub fn number(&mut self, set: Vec<u32>) -> Result<u32, NoMemory>
+        requires rising { IsStrictlyIncreasing set.items }
         requires room { length self.old < 4294967295 }
-        ensures number { IfOk result (λ number. slice_get self.new number ≡ Some set.now) }
-        ensures numbers { Numbers self.old self.new set.now }
+        ensures number { IfOk result (λ number. slice_get self.new number ≡ Some set.items) }
+        ensures numbers { Numbers self.old self.new set.items }
         ensures refused { OnErr result (self.new ≡ self.old) }
         ensures numbering { IsSetNumbering self.new }
     {
-        if let Some(number) = self.find(set) {
-            return Ok(number);
-        }
-        let Ok(copy) = Vec::from_slice(self.alloc, set) else {
-            return Err(NoMemory);
-        };
-        let Ok((number, _)) = self.sets.insert_full(copy) else {
+        let Ok((number, _)) = self.sets.insert_full(set) else {
             return Err(NoMemory);
         };
         Ok(number as u32)

@@ -5,6 +5,7 @@ ghost use Rattle.ms_arena.specs.Target.{Extends};
 use crate::pair_table::PairTable;
 use crate::pairs::Pairs;
 use crate::places::PlaceTable;
+use crate::projected::Projected;
 use crate::root_list::RootList;
 use crate::sets::Sets;
 use crate::sides::Sides;
@@ -58,6 +59,7 @@ impl Store {
     ghost use Rattle.ms_diagram.specs.Collect.{HasLeafSet, LacksSet, SetNumber};
     ghost use Rattle.ms_diagram.specs.Growth.{Builds};
     ghost use Rattle.ms_diagram.specs.Numbering.{AddsOnly};
+    ghost use Rattle.ms_diagram.specs.Projecting.{IsReadIn, KeepsOrder};
     ghost use Rattle.ms_diagram.specs.Relabel.{CoversLeaves, MappedLeaf};
     ghost use Rattle.ms_diagram.specs.Table.{AreBrought, AreCollected, ArePaired, ArePairedAcross, AreRelabelled};
 
@@ -106,27 +108,31 @@ impl Store {
         self.cross(sides, roots, pairs, table)
     }
 
-    /// What `collect` gives, over what earlier calls have noted for these sets and this track.
-    pub fn collect_with(
+    /// The function that has at each bits the number of the set of the leaves that several diagrams of another store have there,
+    /// for both bits of the track, over what earlier calls have noted for this store and these sets. None of its nodes come into
+    /// this one. A set that is new gets its number at first sight; no other gets one.
+    pub fn collect(
         &mut self,
+        view: &Projected,
         roots: &[Ref],
-        track: u32,
         sets: &mut Sets,
         table: &mut ListTable,
     ) -> Result<Ref, StepFault>
-        requires valid { All (IsValid self.old.nodes) roots.now }
-        requires table { AreCollected self.old.nodes sets.old track table.old }
-        ensures builds { Builds self.old self.new (SetNumber self.old.nodes sets.new roots.now track) (LacksSet self.old.nodes sets.new roots.now track) result }
+        requires order { KeepsOrder view.now }
+        requires read { All (IsReadIn view.now) roots.now }
+        requires table { AreCollected view.now sets.old self.old.nodes table.old }
+        ensures builds { Builds self.old self.new (SetNumber view.now sets.new roots.now) (LacksSet view.now sets.new roots.now) result }
         ensures sets { Extends sets.old sets.new }
-        ensures added { AddsOnly (HasLeafSet self.old.nodes roots.now track) sets.old sets.new }
-        ensures table { AreCollected self.new.nodes sets.new track table.new }
+        ensures added { AddsOnly (HasLeafSet view.now roots.now) sets.old sets.new }
+        ensures table { AreCollected view.now sets.new self.new.nodes table.new }
     {
+        // The lengths tell that the sets are a numbering, and the nodes those of a store.
         let _ = sets.len();
         let _ = self.len();
         let Ok(list) = Vec::from_slice(self.alloc, roots) else {
             return Err(StepFault::Memory);
         };
-        self.collect_at(list, track, sets, &mut table.done)
+        self.collect_at(view, list, sets, &mut table.done)
     }
 
     /// What `bring` gives, over what earlier calls have noted for this map.

@@ -3,4 +3,5 @@ pub mod CombineSteps
 pub mod CombinedLemmas
 pub mod ProductLemmas
 pub mod SizeLemmas
+pub mod StateLemmas
 pub mod WidenedLemmas

@@ -1,7 +1,7 @@
 -- An automaton over more variables leads, by the bits of a word over them, where it leads by the word read over its own.
-use Rattle.std.proofs.Common.{◌≡◌, ◌≢◌, ℕ, ◌<◌, Bool, true, false, List, length, slice_get, slice_index, Some, None, Result, Ok, IfSome, sym, ap, subst, ◌∙◌, arith}
+use Rattle.std.proofs.Common.{◌≡◌, ◌≢◌, ℕ, ◌<◌, Bool, true, false, List, length, slice_get, slice_index, Some, sym, ap, subst, ◌∙◌, arith}
+use Rattle.std.proofs.lemmas.List.{length-map}
 use Rattle.std.proofs.lemmas.Option.{slice_get_within, get_or_from_slice_get}
-use Rattle.ms_list.specs.declared.fault.StepFault.{StepFault}
 use Rattle.ms_arena.specs.declared.node.Ref.{Ref}
 use Rattle.ms_arena.specs.declared.node.Node.{Node}
 use Rattle.ms_arena.specs.Bits.{with_bit}
@@ -9,25 +9,18 @@ use Rattle.ms_arena.specs.Diagram.{Bits, leaf_of, IsOrdered}
 use Rattle.ms_arena.proofs.BitsLemmas.{with_bit-other}
 use Rattle.ms_arena.proofs.Lists.{slice_get-held}
 use Rattle.ms_arena.proofs.ReachLemmas.{leaf_of-tested}
-use Rattle.ms_diagram.specs.Bring.{read_through, RenamedLeaf, Renames}
-use Rattle.ms_diagram.specs.Growth.{Builds}
-use Rattle.ms_diagram.specs.Store.{Contents, IsStore}
-use Rattle.ms_dfa.specs.declared.state.State.{State}
+use Rattle.ms_diagram.specs.Bring.{read_through, Renames}
+use Rattle.ms_logic.specs.Assignment.{Variable}
+use Rattle.ms_logic.specs.Lists.{AreRising, IsAmong}
 use Rattle.ms_logic.specs.declared.mode.Order.{Order}
 use Rattle.ms_logic_words.specs.declared.sign.Sign.{Sign}
-use Rattle.ms_logic.specs.Assignment.{Variable}
 use Rattle.ms_logic_words.specs.Content.{StateOf, Content, HasValueAt, IsClosed, IsFollowed, is_truth_value, is_in_letters, first_state, next_from, next_state, sign_at, truth_bits, letter_bits}
 use Rattle.ms_logic_words.specs.Signs.{sign_or_outside}
 use Rattle.ms_dfa.specs.Narrow.{narrowed_truth, narrowed_letter}
 use Rattle.ms_dfa.proofs.NarrowLemmas.{leaf_of-gathered}
-use Rattle.std.proofs.lemmas.List.{length-map}
-use Rattle.ms_diagram.proofs.Building.{Grows-same}
-use Rattle.ms_logic.specs.Lists.{AreRising, IsAmong}
-use Rattle.ms_dfa_explore.specs.Explored.{Findings, GrowsForSome, Explores}
 use Rattle.ms_dfa_explore.specs.Tracks.{place_of, places_among}
 use Rattle.ms_dfa_explore.proofs.AmongLemmas.{places_rise}
-use Rattle.ms_dfa_explore.proofs.ExploredLemmas.{GrowsForSome-one}
-use Rattle.ms_product.specs.Widened.{first_through, behind_through, next_through, sign_in, widened_findings, IsRisingMap, IsBroughtIn}
+use Rattle.ms_product.specs.Widened.{first_through, behind_through, next_through, sign_in, IsRisingMap}
 
 -- what a followed reference tests is read through a rising map
 pub Renames-followed : (content : Content Sign) (nodes : List Node) (has_value : Order → Bool) (map : List ℕ) (root : Ref) → nodes ≡ content.nodes
@@ -39,22 +32,6 @@ Renames-followed content nodes has_value map root same is followed = subst (λ l
   where
     below : (var : ℕ) → HasValueAt content.variables has_value var → var < length content.variables
     below var at = slice_get_within content.variables var at.0 at.1
-
--- a start that was brought leads where the start of the automaton does
-pub Builds-start : (content : Content Sign) (nodes : List Node) (map : List ℕ) (root : Ref) (old new : Contents) (result : Result Ref StepFault) → nodes ≡ content.nodes → root ≡ content.start
-    → Builds old new (RenamedLeaf nodes map root) ⊥ result → Builds old new (widened_findings content map).starts (widened_findings content map).LacksNumber result
-Builds-start content nodes map root old new result same start builds =
-    subst (λ list. Builds old new (RenamedLeaf list map content.start) ⊥ result) same (subst (λ r. Builds old new (RenamedLeaf nodes map r) ⊥ result) start builds)
-
--- and so does a state
-pub Builds-next : (content : Content Sign) (nodes : List Node) (map : List ℕ) (state : ℕ) (root : Ref) (old new : Contents) (result : Result Ref StepFault) → nodes ≡ content.nodes
-    → state < length content.states → IfSome (slice_get content.states state) (λ (found : StateOf Sign). root ≡ found.next)
-    → Builds old new (RenamedLeaf nodes map root) ⊥ result → Builds old new ((widened_findings content map).steps state) (widened_findings content map).LacksNumber result
-Builds-next content nodes map state root old new result same within next builds =
-    let held = slice_get-held content.states state within in
-    let root_is : root ≡ held.0.next = subst (λ found. IfSome found (λ (s : StateOf Sign). root ≡ s.next)) held.1 next in
-    subst (λ found. Builds old new (λ bits number. number ≡ behind_through content map found bits) ⊥ result) (sym held.1)
-    (subst (λ list. Builds old new (RenamedLeaf list map held.0.next) ⊥ result) same (subst (λ r. Builds old new (RenamedLeaf nodes map r) ⊥ result) root_is builds))
 
 -- the sign of a state
 pub sign_in-is : (content : Content Sign) (state : ℕ) (sign : Sign) → sign_at content state ≡ Some sign → sign_in content state ≡ sign
@@ -117,17 +94,3 @@ IsRisingMap-among narrow wide rising_n rising_w among = record {
   long = length-map narrow (λ (v : Variable). place_of v.name wide);
   rising = places_rise narrow wide rising_n rising_w among;
 }
-
--- a store to which nothing has been added
-pub GrowsForSome-none : (store : Contents) (findings : Findings) → IsStore store.nodes store.limit → GrowsForSome store store findings
-GrowsForSome-none store findings is =
-    let grows = Grows-same store findings.starts is in
-    GrowsForSome-one store store findings None tt grows
-
--- what an exploration of it found has been brought
-pub brought_by : (content given : Content Sign) (map places : List ℕ) (old new : Contents) (start : Ref) (states : List State) → IsClosed content → given ≡ content → map ≡ places
-    → Explores old new (widened_findings given map) states (Ok start) → IsBroughtIn new.nodes content places start states
-brought_by content given map places old new start states closed same_content same_map explores =
-    let is = subst (λ (m : List ℕ). Explores old new (widened_findings content m) states (Ok start)) same_map
-    (subst (λ (c : Content Sign). Explores old new (widened_findings c map) states (Ok start)) same_content explores) in
-    record { closed = closed; starts = is.start; all = is.all; follows = is.follows }

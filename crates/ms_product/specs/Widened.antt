@@ -1,14 +1,11 @@
 -- An automaton over more variables (its cylindrification): each of its own variables is read at the place that a map gives.
 use Rattle.std.specs.Prelude.{◌≡◌, ℕ, ◌<◌, List, length, slice_get, slice_index, Option, Some, None}
-use Rattle.ms_arena.specs.declared.node.Ref.{Ref}
-use Rattle.ms_arena.specs.declared.node.Node.{Node}
 use Rattle.ms_arena.specs.Diagram.{Bits, leaf_of}
 use Rattle.ms_diagram.specs.Bring.{read_through}
-use Rattle.ms_dfa.specs.declared.state.State.{State}
 use Rattle.ms_logic_words.specs.declared.sign.Sign.{Sign}
 use Rattle.ms_logic_words.specs.declared.sign.Sign.TheVariants.{Outside}
-use Rattle.ms_logic_words.specs.Content.{StateOf, Content, IsClosed, sign_at}
-use Rattle.ms_dfa_explore.specs.Explored.{Findings, Leads, Follows}
+use Rattle.ms_logic_words.specs.Content.{StateOf, Content, sign_at}
+use Rattle.ms_dfa_explore.specs.Explored.{Findings}
 use Rattle.ms_logic_words.specs.Signs.{sign_or_outside}
 
 -- the state to which the bits lead from the start
@@ -41,10 +38,3 @@ widened_findings content map = record {
 pub record IsRisingMap (count : ℕ) (map : List ℕ) : Type 0 where
   pub long : length map ≡ count
   pub rising : (one two : ℕ) → one < two → two < count → slice_index map one < slice_index map two
-
--- a closed content, whose start and states have been brought among the nodes of a store
-pub record IsBroughtIn (nodes : List Node) (content : Content Sign) (map : List ℕ) (start : Ref) (states : List State) : Type 0 where
-  pub closed : IsClosed content
-  pub starts : Leads nodes (widened_findings content map).starts start
-  pub all : length states ≡ length content.states
-  pub follows : Follows nodes (widened_findings content map) states

@@ -8,10 +8,12 @@ mod op;
 mod operand;
 mod pairing;
 mod product;
+mod states;
 
 pub use change::{negate, restrict_to};
 pub use connective::combine;
 pub use examples::{worked_changes, worked_connectives};
 pub use op::Op;
-pub use operand::{Brought, Widened, bring, over_tracks};
+pub use operand::{Widened, over_tracks};
 pub use pairing::{Paired, pair_up};
+pub use states::same_states;

@@ -5,9 +5,6 @@ use Rattle.std.proofs.lemmas.Option.{none-some}
 use Rattle.ms_list.specs.declared.fault.StepFault.{StepFault}
 use Rattle.ms_list.specs.declared.fault.StepFault.TheVariants.{Nodes, Memory}
 use Rattle.ms_arena.specs.declared.node.Ref.{Ref}
-use Rattle.ms_arena.specs.declared.node.Node.{Node}
-use Rattle.ms_arena.specs.Diagram.{IsOrdered}
-use Rattle.ms_arena.specs.Target.{Extends}
 use Rattle.ms_diagram.specs.Store.{Contents, IsStore}
 use Rattle.ms_dfa.specs.Automaton.{IsAutomaton}
 use Rattle.ms_dfa.specs.declared.state.State.{State}
@@ -18,7 +15,6 @@ use Rattle.ms_dfa_explore.specs.Explored.{OnRefused}
 use Rattle.ms_dfa_explore.specs.Tracks.{place_of}
 use Rattle.ms_logic.specs.Lists.{IsAmong}
 use Rattle.ms_dfa_explore.proofs.AmongLemmas.{leads_to}
-use Rattle.ms_dfa_explore.proofs.ExploredLemmas.{Leads-later}
 use Rattle.ms_dfa_explore.proofs.RunLemmas.{IsClosed-explored}
 use Rattle.ms_product.specs.declared.op.Op.TheVariants.{And}
 use Rattle.ms_product.specs.Pairing.{AreReachedPairs, product_findings}
@@ -29,22 +25,6 @@ use Rattle.ms_project.specs.Paired.{IsDomainFor, operands_for, marks_of_pair, pl
 use Rattle.ms_project.specs.Projection.{IsProjection, NeedsAtLeast, ReachedNeedsAtLeast, begun_behind}
 use Rattle.ms_project.specs.Subsetting.{Subsetting, IsReadyForSets, IsLaterSubsetting, AreSetsFound, SetsAreAtLeast, begun}
 use Rattle.ms_project.proofs.LeaveLemmas.{length-places_left, places_left-rise}
-
--- what was paired stays so in a longer list
-pub IsPairedIn-extends : (old new : List Node) → IsOrdered old → Extends old new → (body domain : Content Sign) (pairs : List (ℕ × ℕ)) (start : Ref) (states : List State)
-    → IsPairedIn old And (operands_for body domain) pairs start states → IsPairedIn new And (operands_for body domain) pairs start states
-IsPairedIn-extends old new ordered extends body domain pairs start states is =
-    let findings = product_findings And (operands_for body domain) pairs in
-    record {
-      starts = Leads-later old new findings.starts findings.starts start ordered extends (λ bits number right. right) is.starts;
-      all = is.all;
-      follows = λ number state held. (
-        Leads-later old new (findings.steps number) (findings.steps number) state.next ordered extends (λ bits after right. right) (is.follows number state held).0,
-        (is.follows number state held).1,
-      );
-      numbering = is.numbering;
-      are = is.are;
-    }
 
 module _ (body domain : Content Sign) (body_is : IsAutomaton body) (domain_is : IsAutomaton domain) (is_domain : IsDomainFor body domain) (own : Variable) (own_among : IsAmong body.variables own)
     (store : Contents) (is_store : IsStore store.nodes store.limit) (pairs : List (ℕ × ℕ)) (start : Ref) (states : List State) (is : IsPairedIn store.nodes And (operands_for body domain) pairs start states) where
@@ -68,13 +48,12 @@ module _ (body domain : Content Sign) (body_is : IsAutomaton body) (domain_is : 
   pub projection_found : (v : Subsetting) → IsLaterSubsetting at_first v → (held : Contents) (outer_start : Ref) (outer_states : List State) → AreSetsFound v held outer_start outer_states
       → (marks : List Marks) → marks ≡ map_list (marks_of_pair body domain) pairs → IsProjection body domain own.name marks v held outer_start outer_states
   projection_found v later held outer_start outer_states found marks marks_are =
-      let from : v ≡ record at_first { inner = v.inner; sets = v.sets } = later.same in
+      let from : v ≡ record at_first { sets = v.sets } = later.same in
       record {
-        same = from ∙ ap (λ (u : Subsetting). record { body = body; inner = v.inner; start = u.start; states = u.states; bound = place_of own.name body.variables; back = places_left own.name 0 body.variables; sets = v.sets }) (sym from);
+        same = from ∙ ap (λ (u : Subsetting). record { body = body; inner = u.inner; start = u.start; states = u.states; bound = place_of own.name body.variables; back = places_left own.name 0 body.variables; sets = v.sets }) (sym from);
         pairs = pairs;
         paired =
-            subst (λ (u : Subsetting). IsPairedIn v.inner.nodes And (operands_for body domain) pairs u.start u.states) (sym from)
-            (IsPairedIn-extends store.nodes v.inner.nodes is_store.ordered (later.grows is_store).extends body domain pairs start states is);
+            subst (λ (u : Subsetting). IsPairedIn u.inner.nodes And (operands_for body domain) pairs u.start u.states) (sym from) is;
         marks_are = marks_are;
         ready = later.ready ready_at_first;
         found = found;
@@ -83,11 +62,11 @@ module _ (body domain : Content Sign) (body_is : IsAutomaton body) (domain_is : 
 -- what is refused behind a product of pairs that are reached
 pub sets_refused : (A : Type 0) (body domain : Content Sign) (name : ℕ) (store : Contents) (pairs : List (ℕ × ℕ)) (start : Ref) (states : List State) → IsPairedIn store.nodes And (operands_for body domain) pairs start states
     → (limit : ℕ) → IsPairedStore store limit And (operands_for body domain) pairs → AreReachedPairs (operands_for body domain) pairs → (result : Result A StepFault)
-    → OnRefused result (λ refused. (refused ≡ store.limit) × SetsAreAtLeast refused (begun_behind body name store start states)) → OnRefused result (λ refused. (refused ≡ limit) × ReachedNeedsAtLeast limit body domain name)
+    → OnRefused result (λ refused. (refused ≡ limit) × SetsAreAtLeast refused (begun_behind body name store start states)) → OnRefused result (λ refused. (refused ≡ limit) × ReachedNeedsAtLeast limit body domain name)
 sets_refused A body domain name store pairs start states is limit needed reached (Ok made) cause = tt
 sets_refused A body domain name store pairs start states is limit needed reached (Err Memory) cause = tt
 sets_refused A body domain name store pairs start states is limit needed reached (Err (Nodes refused)) cause =
-    let same : refused ≡ limit = cause.0 ∙ needed.limited in (
+    let same : refused ≡ limit = cause.0 in (
       same,
       inr (record {
         sets = record { inner = store; start = start; states = states; pairs = pairs; paired = is; needed = needed; sets = subst (λ n. SetsAreAtLeast n (begun_behind body name store start states)) same cause.1 };

@@ -1,24 +1,29 @@
 -- The product of a body and truth is the body itself.
-use Rattle.std.proofs.Common.{◌≡◌, ℕ, ◌<◌, List, [], length, slice_get, None, Some, IfSome, refl, sym, ap, subst, ◌∙◌, arith}
+use Rattle.std.proofs.Common.{◌≡◌, ℕ, ◌<◌, Bool, List, length, slice_get, slice_index, Some, IfSome, refl, sym, ap, subst, ◌∙◌, arith}
+use Rattle.std.specs.Option.{option_map}
 use Rattle.std.proofs.lemmas.Option.{slice_get_within}
 use Rattle.ms_arena.specs.declared.node.Ref.{Ref}
-use Rattle.ms_arena.specs.declared.node.Node.{Node}
-use Rattle.ms_arena.specs.Bits.{below_from}
-use Rattle.ms_arena.specs.Diagram.{Bits}
-use Rattle.ms_arena.specs.Target.{IsNeeded}
-use Rattle.ms_dfa.specs.declared.state.State.{State}
+use Rattle.ms_arena.specs.Diagram.{Bits, leaf_of}
+use Rattle.ms_arena.proofs.ReachLemmas.{leaf_of-tested}
+use Rattle.ms_diagram.specs.Bring.{read_through}
 use Rattle.ms_diagram.specs.Numbering.{IsNumbering, AreOwnPairs}
-use Rattle.ms_diagram.specs.Store.{Contents}
+use Rattle.ms_dfa.specs.Automaton.{IsAutomaton, state_of, states_of}
+use Rattle.ms_dfa.specs.declared.state.State.{State}
+use Rattle.ms_dfa.proofs.States.{state_in}
+use Rattle.ms_logic.specs.Assignment.{Variable}
+use Rattle.ms_logic.specs.declared.mode.Order.{Order}
 use Rattle.ms_logic_words.specs.declared.sign.Sign.{Sign}
 use Rattle.ms_logic_words.specs.declared.sign.Sign.TheVariants.{Yes, No, Undefined, Outside}
-use Rattle.ms_logic_words.specs.Content.{Content, IsClosed}
-use Rattle.ms_dfa_explore.specs.Explored.{GrowsForSome, Leads, Origin, IsFound, target_of}
+use Rattle.ms_logic_words.specs.Content.{Content, IsClosed, IsFollowed, StateOf, is_in_letters, is_truth_value}
+use Rattle.ms_dfa_explore.specs.Explored.{Leads}
 use Rattle.ms_dfa_explore.specs.Tracks.{places_among}
+use Rattle.ms_dfa_explore.proofs.AmongLemmas.{leads_to, one_place}
+use Rattle.ms_dfa_explore.proofs.RunLemmas.{length-states_of}
 use Rattle.ms_product.specs.declared.op.Op.TheVariants.{And}
-use Rattle.ms_product.specs.Pairing.{behind_pair, sign_of_number, product_findings, AreStates, IsNeededForSome, IsPairedIn, IsPairedStore}
+use Rattle.ms_product.specs.Pairing.{behind_pair, sign_of_number, AreStates, IsPairedIn}
 use Rattle.ms_product.specs.Signs.{strict}
-use Rattle.ms_product.specs.Widened.{first_through, next_through, sign_in, widened_findings, IsBroughtIn}
-use Rattle.ms_product.proofs.WidenedLemmas.{first_below, next_below}
+use Rattle.ms_product.specs.Widened.{behind_through, first_through, next_through, sign_in}
+use Rattle.ms_product.proofs.WidenedLemmas.{first_below, followed, next_below, sign_in-is}
 use Rattle.ms_project.specs.Paired.{IsTruth, operands_for}
 
 -- the conjunction of a sign and Yes is the sign
@@ -28,7 +33,7 @@ strict-yes No = refl
 strict-yes Undefined = refl
 strict-yes Outside = refl
 
-module _ (body domain : Content Sign) (closed : IsClosed domain) (truth : IsTruth domain) (pairs : List (ℕ × ℕ)) (numbering : IsNumbering pairs) (own : AreOwnPairs (length body.states) pairs) where
+module _ (body domain : Content Sign) (body_is : IsAutomaton body) (closed : IsClosed domain) (truth : IsTruth domain) (pairs : List (ℕ × ℕ)) (numbering : IsNumbering pairs) (own : AreOwnPairs (length body.states) pairs) where
   abbrev pub left_map : List ℕ
   left_map = places_among body.variables body.variables
 
@@ -57,69 +62,49 @@ module _ (body domain : Content Sign) (closed : IsClosed domain) (truth : IsTrut
       subst (λ found. IfSome found (λ (p : ℕ × ℕ). (p.0 < length body.states) × (p.1 < length domain.states))) held
       (subst (λ found. IfSome found (λ (p : ℕ × ℕ). (p.0 < length body.states) × (p.1 < length domain.states))) (sym (own.own number state)) (state, zero))
 
-  module _ (nodes : List Node) (start : Ref) (states : List State) (brought : IsBroughtIn nodes body left_map start states) where
-    follows_at : (number : ℕ) (state : State) → number < length body.states → Leads nodes (λ bits after. after ≡ next_through body left_map number bits) state.next × (state.sign ≡ sign_in body number)
-        → Leads nodes (behind_pair (operands_for body domain) pairs (Some (number, 0))) state.next × (state.sign ≡ sign_of_number And (operands_for body domain) (Some (number, 0)))
-    follows_at number state less was = (
-      record {
-        valid = was.0.valid;
-        meets = λ bits. ap (slice_get pairs) (was.0.meets bits) ∙ own_next bits (next_through body left_map number bits) (next_below body left_map brought.closed number less bits);
-      },
-      was.1 ∙ strict-yes (sign_in body number) ∙ ap (strict And (sign_in body number)) (sym truth.yes),
-    )
+  -- the bits of its own variables are those at their places
+  own_place : (place : ℕ) (v : Variable) → slice_get body.variables place ≡ Some v → slice_index left_map place ≡ place
+  own_place place v held =
+      one_place body.variables body_is.rising (slice_index left_map place) place v (leads_to body.variables body.variables body_is.rising body_is.rising (λ w among. among) place v held) held
 
-    pub alone_in : IsPairedIn nodes And (operands_for body domain) pairs start states
+  own_read : (has_value : Order → Bool) (root : Ref) → IsFollowed body has_value root → (bits : Bits) → leaf_of body.nodes root bits ≡ leaf_of body.nodes root (read_through left_map bits)
+  own_read has_value root is bits =
+      leaf_of-tested body.nodes body_is.ordered root bits (read_through left_map bits) is.valid
+      (λ var tested. let at = is.tests var tested in ap bits (sym (own_place var at.0 at.1)))
+
+  module _ (states : List State) (states_are : states_of states ≡ body.states) where
+    held_own : (number : ℕ) (state : State) → slice_get states number ≡ Some state → slice_get body.states number ≡ Some (state_of state)
+    held_own number state held = ap (λ list. slice_get list number) (sym states_are) ∙ state_in states number state held
+
+    follows_at : (number : ℕ) (state : State) → slice_get body.states number ≡ Some (state_of state)
+        → Leads body.nodes (behind_pair (operands_for body domain) pairs (Some (number, 0))) state.next × (state.sign ≡ sign_of_number And (operands_for body domain) (Some (number, 0)))
+    follows_at number state there =
+        let is = followed body left_map body_is.closed number (state_of state) there in
+        let less = slice_get_within body.states number (state_of state) there in
+        let sign : sign_in body number ≡ state.sign = sign_in-is body number state.sign (ap (option_map (λ (s : StateOf Sign). s.sign)) there) in (
+          record {
+            valid = is.valid;
+            meets = λ bits.
+                ap (slice_get pairs) (own_read is_in_letters state.next is bits ∙ sym (ap (λ found. behind_through body left_map found bits) there))
+                ∙ own_next bits (next_through body left_map number bits) (next_below body left_map body_is.closed number less bits);
+          },
+          sym sign ∙ strict-yes (sign_in body number) ∙ ap (strict And (sign_in body number)) (sym truth.yes),
+        )
+
+    pub alone_in : IsPairedIn body.nodes And (operands_for body domain) pairs body.start states
     alone_in = record {
       starts = record {
-        valid = brought.starts.valid;
-        meets = λ bits. ap (slice_get pairs) (brought.starts.meets bits) ∙ own_first bits (first_through body left_map bits) (first_below body left_map brought.closed bits);
+        valid = body_is.closed.start.valid;
+        meets = λ bits.
+            ap (slice_get pairs) (own_read is_truth_value body.start body_is.closed.start bits)
+            ∙ own_first bits (first_through body left_map bits) (first_below body left_map body_is.closed bits);
       };
-      all = brought.all ∙ sym own.long;
+      all = sym (length-states_of states) ∙ ap length states_are ∙ sym own.long;
       follows = λ number state held.
-          let all = brought.all in
-          let within = slice_get_within states number state held in
-          let less : number < length body.states = omega (arith, within, all) in
-          subst (λ found. Leads nodes (behind_pair (operands_for body domain) pairs found) state.next × (state.sign ≡ sign_of_number And (operands_for body domain) found)) (sym (own.own number less))
-          (follows_at number state less (brought.follows number state held));
+          let there = held_own number state held in
+          let less = slice_get_within body.states number (state_of state) there in
+          subst (λ found. Leads body.nodes (behind_pair (operands_for body domain) pairs found) state.next × (state.sign ≡ sign_of_number And (operands_for body domain) found)) (sym (own.own number less))
+          (follows_at number state there);
       numbering = numbering;
       are = are_states;
     }
-
-  module _ (body_closed : IsClosed body) where
-    -- what the body needs, the product needs
-    needed_from : (nodes : List Node) (node : Node) (origin : Origin) → IsFound (widened_findings body left_map) origin → IsNeeded nodes (target_of (widened_findings body left_map) origin) node
-        → IsNeededForSome nodes (product_findings And (operands_for body domain) pairs) node
-    needed_from nodes node None found needed = (
-      None,
-      tt,
-      (
-        needed.0,
-        λ bits.
-            let there = below_from node.var needed.0 bits in
-            ap (slice_get pairs) (needed.1 bits) ∙ own_first there (first_through body left_map there) (first_below body left_map body_closed there),
-      ),
-    )
-    needed_from nodes node (Some state) found needed =
-        let long = own.long in
-        let less : state < length body.states = found in (
-          Some state,
-          omega (arith, less, long),
-          subst (λ pair. IsNeeded nodes (behind_pair (operands_for body domain) pairs pair) node) (sym (own.own state less)) (
-            needed.0,
-            λ bits.
-                let there = below_from node.var needed.0 bits in
-                ap (slice_get pairs) (needed.1 bits) ∙ own_next there (next_through body left_map state there) (next_below body left_map body_closed state less there),
-          ),
-        )
-
-    module _ (limit : ℕ) (zero one : Contents) (empty : zero.nodes ≡ []) (limit_is : zero.limit ≡ limit) (grows : GrowsForSome zero one (widened_findings body left_map)) where
-      -- all that the store holds is needed
-      pub alone_store : IsPairedStore one limit And (operands_for body domain) pairs
-      alone_store = record {
-        store = grows.store;
-        limited = grows.limit ∙ limit_is;
-        needed = λ place node there.
-            let none = ap length empty in
-            let needed = grows.needed place node (omega (arith, none)) there in
-            needed_from one.nodes node needed.0 needed.1 needed.2;
-      }

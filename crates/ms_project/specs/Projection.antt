@@ -19,7 +19,7 @@ use Rattle.ms_project.specs.Marks.{AreClosedMarks, can_be_empty}
 use Rattle.ms_product.specs.Pairing.{IsPairedIn, IsPairedStore}
 use Rattle.ms_project.specs.Paired.{marks_of_pair, operands_for, places_left}
 use Rattle.ms_project.specs.Signed.{AreSigned, zero_step}
-use Rattle.ms_project.specs.Subsetting.{Subsetting, AreSetsFound, IsReadyForSets, OuterSetsAreAtLeast, SetsAreAtLeast, begun}
+use Rattle.ms_project.specs.Subsetting.{Subsetting, AreSetsFound, IsReadyForSets, SetsAreAtLeast, begun, with_sets}
 
 -- the subset construction over the product of a body and a domain that has found its sets; the marks are those of its pairs
 pub record IsProjection (body domain : Content Sign) (name : ℕ) (marks : List Marks) (v : Subsetting) (held : Contents) (start : Ref) (states : List State) : Type 0 where
@@ -29,6 +29,11 @@ pub record IsProjection (body domain : Content Sign) (name : ℕ) (marks : List 
   pub marks_are : marks ≡ map (marks_of_pair body domain) pairs
   pub ready : IsReadyForSets v
   pub found : AreSetsFound v held start states
+
+-- the same of some construction that has found these sets
+pub record IsProjectionOf (body domain : Content Sign) (name : ℕ) (marks : List Marks) (sets : List (List ℕ)) (held : Contents) (start : Ref) (states : List State) : Type 0 where
+  pub begun_with : Subsetting
+  pub is : IsProjection body domain name marks (with_sets begun_with sets) held start states
 
 -- the states of the sets, signed by the marks of their members
 pub record AreSignedSets (mode : Mode) (q : Quant) (rest : List Variable) (marks : List Marks) (sets : List (List ℕ)) (nodes : List Node) (states signed : List State) : Type 0 where
@@ -62,12 +67,11 @@ pub record SetsOfReachedAreAtLeast (count : ℕ) (body domain : Content Sign) (n
 abbrev pub ReachedNeedsAtLeast : ℕ → Content Sign → Content Sign → ℕ → Type 0
 ReachedNeedsAtLeast count body domain name = ReachedAreAtLeast count And (operands_for body domain) ⊎ SetsOfReachedAreAtLeast count body domain name
 
--- an answer has at most so many nodes and states as were found behind the product, which was built under a limit
-pub record SetsOfAnswerAreAtLeast (count limit : ℕ) (body domain : Content Sign) (name : ℕ) : Type 0 where
+-- an answer has at most so many nodes and states as were found behind the product
+pub record SetsOfAnswerAreAtLeast (count : ℕ) (body domain : Content Sign) (name : ℕ) : Type 0 where
   pub inner : Contents
   pub start : Ref
   pub states : List State
   pub pairs : List (ℕ × ℕ)
   pub paired : IsPairedIn inner.nodes And (operands_for body domain) pairs start states
-  pub needed : IsPairedStore inner limit And (operands_for body domain) pairs
-  pub sets : OuterSetsAreAtLeast count (begun_behind body name inner start states)
+  pub sets : SetsAreAtLeast count (begun_behind body name inner start states)

@@ -1,24 +1,21 @@
--- The sets that a subset construction has found, in a store of their own that holds the diagrams over all variables.
-use Rattle.std.specs.Prelude.{◌≡◌, ◌≢◌, ◌⊎◌, ℕ, ◌+◌, ◌<◌, ◌≤◌, Bool, List, [], length, Contains, slice_get, slice_index, Option, Some, None, Result, Ok, Err}
-use Rattle.ms_list.specs.declared.fault.StepFault.{StepFault}
-use Rattle.ms_list.specs.declared.fault.StepFault.TheVariants.{Nodes, Memory}
+-- The sets that a subset construction has found.
+use Rattle.std.specs.Prelude.{◌≡◌, ◌≢◌, ℕ, ◌+◌, ◌<◌, ◌≤◌, Bool, List, [], length, Contains, slice_get, slice_index, Option, Some, None}
 use Rattle.ms_arena.specs.declared.node.Ref.{Ref}
 use Rattle.ms_arena.specs.declared.node.Node.{Node}
 use Rattle.ms_arena.specs.Bits.{with_bit}
-use Rattle.ms_arena.specs.Diagram.{Bits, leaf_of, IsValid, IsOrdered, IsReduced}
+use Rattle.ms_arena.specs.Diagram.{Bits, leaf_of, IsOrdered, IsReduced}
 use Rattle.ms_arena.specs.Target.{Target, Extends}
 use Rattle.ms_diagram.specs.declared.root_list.RootList.{RootList}
-use Rattle.ms_diagram.specs.Bring.{RenamedLeaf, Renames}
 use Rattle.ms_diagram.specs.Collect.{IsRisingSet, IsSetNumbering}
-use Rattle.ms_diagram.specs.Growth.{Builds}
+use Rattle.ms_diagram.specs.Projecting.{Projecting}
 use Rattle.ms_diagram.specs.Store.{Contents, IsStore}
-use Rattle.ms_diagram.specs.Table.{AreBrought, AreCollected}
+use Rattle.ms_diagram.specs.Table.{AreCollected}
 use Rattle.ms_dfa.specs.Automaton.{states_of}
 use Rattle.ms_dfa.specs.declared.state.State.{State}
 use Rattle.ms_logic_words.specs.declared.sign.Sign.{Sign}
 use Rattle.ms_logic_words.specs.declared.sign.Sign.TheVariants.{Outside}
 use Rattle.ms_logic_words.specs.Content.{Content, IsClosed}
-use Rattle.ms_dfa_explore.specs.Explored.{Findings, AreMore, GrowsForSome, Leads, Follows}
+use Rattle.ms_dfa_explore.specs.Explored.{Findings, AreMore, Leads, Follows}
 use Rattle.ms_product.specs.Pairing.{IsNeededForSome}
 use Rattle.ms_project.specs.Subsets.{next_of, start_sets, sets_behind}
 
@@ -48,22 +45,11 @@ sets_at content bound sets (Some from) = λ bits number.
     (set : List ℕ) × (slice_get sets number ≡ Some set)
     × IsRisingSet set (λ state. (member : ℕ) × (bit : Bool) × Contains from member × (leaf_of content.nodes (next_of content member) (with_bit bits bound bit) ≡ state))
 
--- the own store is full, or each of the 2^32 - 1 numbers has a set
-abbrev pub IsFullWithin : Subsetting → Type 0
-IsFullWithin v = (length v.inner.nodes ≡ v.inner.limit) ⊎ (length v.sets ≡ 4294967295)
+-- the diagrams of the product, read with the bound place left out
+abbrev pub projecting : Subsetting → Projecting
+projecting v = record { nodes = v.inner.nodes; map = v.back; track = v.bound }
 
--- what is found of the sets, over all places
-abbrev pub collected_findings : Subsetting → Findings
-collected_findings v = record {
-  count = length v.sets;
-  starts = sets_at_start (paired v) v.bound v.sets;
-  steps = λ number. sets_at (paired v) v.bound v.sets (slice_get v.sets number);
-  sign_of = λ number. Outside;
-  most_nodes = 4000000000;
-  LacksNumber = IsFullWithin v;
-}
-
--- and over the places of the rest
+-- what is found of the sets, over the places of the rest; a number lacks only once each of the 2^32 - 1 has a set
 abbrev pub subset_findings : Subsetting → Findings
 subset_findings v = record {
   count = length v.sets;
@@ -71,7 +57,7 @@ subset_findings v = record {
   steps = λ number. sets_behind (paired v) v.back v.bound v.sets (slice_get v.sets number);
   sign_of = λ number. Outside;
   most_nodes = 4000000000;
-  LacksNumber = IsFullWithin v;
+  LacksNumber = length v.sets ≡ 4294967295;
 }
 
 -- each member of each set is a state
@@ -96,35 +82,25 @@ pub record IsReadyForSets (v : Subsetting) : Type 0 where
   pub long : length v.back ≡ length v.body.variables
   pub rising : (one two : ℕ) → one < two → two < length v.body.variables → one ≢ v.bound → two ≢ v.bound → slice_index v.back one < slice_index v.back two
 
--- what has been noted is right: of lists of references what they have become in the own store, and of its nodes what they have
--- become over the places of the rest
-abbrev pub AreNoted : Subsetting → List Node → List (RootList × Ref) → List (ℕ × Ref) → Type 0
-AreNoted v nodes lists places = AreCollected v.inner.nodes v.sets v.bound lists × AreBrought v.inner.nodes v.back nodes places
+-- what has been noted of lists of references is right
+abbrev pub AreNoted : Subsetting → List Node → List (RootList × Ref) → Type 0
+AreNoted v nodes lists = AreCollected (projecting v) v.sets nodes lists
 
--- the same construction with more sets, and with the nodes that they need
+-- the same construction with more sets
 pub record IsLaterSubsetting (early late : Subsetting) : Type 0 where
-  pub same : late ≡ record early { inner = late.inner; sets = late.sets }
+  pub same : late ≡ record early { sets = late.sets }
   pub sets : Extends early.sets late.sets
   pub more : AreMore (subset_findings early) (subset_findings late)
-  pub more_collected : AreMore (collected_findings early) (collected_findings late)
-  pub grows : IsStore early.inner.nodes early.inner.limit → GrowsForSome early.inner late.inner (collected_findings late)
   pub ready : IsReadyForSets early → IsReadyForSets late
   pub reached : AreReachedNumbers early → AreReachedNumbers late
-
--- what a store is handed: the diagram that another has collected, over the places of the rest, or the refusal of the other
-abbrev pub IsHanded : Contents → Contents → List Node → List ℕ → Result Ref StepFault → Result Ref StepFault → Type 0
-IsHanded old new nodes back (Ok made) result = Builds old new (RenamedLeaf nodes back made) ⊥ result
-IsHanded old new nodes back (Err Memory) result = (new ≡ old) × (result ≡ Err Memory)
-IsHanded old new nodes back (Err (Nodes limit)) result = (new ≡ old) × (result ≡ Err (Nodes old.limit))
-
--- the collected diagram can be read over the places of the rest
-abbrev pub IsHandable : List Node → List ℕ → Result Ref StepFault → Type 0
-IsHandable nodes back (Ok made) = IsValid nodes made × Renames nodes back made
-IsHandable nodes back (Err fault) = Unit {0}
 
 -- a construction that has found no sets yet
 abbrev pub begun : Content Sign → Contents → Ref → List State → ℕ → List ℕ → Subsetting
 begun body inner start states bound back = record { body = body; inner = inner; start = start; states = states; bound = bound; back = back; sets = [] }
+
+-- the same with these sets
+abbrev pub with_sets : Subsetting → List (List ℕ) → Subsetting
+with_sets v sets = record v { sets = sets }
 
 -- all sets have been found, and their diagrams over the places of the rest have been built in a store
 pub record AreSetsFound (v : Subsetting) (held : Contents) (start : Ref) (states : List State) : Type 0 where
@@ -145,16 +121,8 @@ pub record AreSetsBehind (begun_with found : Subsetting) (outer : List Node) : T
   pub reduced : IsReduced outer
   pub needed : (place : ℕ) (node : Node) → slice_get outer place ≡ Some node → IsNeededForSome outer (subset_findings found) node
 
--- the nodes of both stores and the sets that have been found are together at least so many; the nodes behind those that one began
--- with are needed for sets that have been found
+-- the nodes over the places of the rest and the sets that have been found are together at least so many; each is needed
 pub record SetsAreAtLeast (count : ℕ) (begun_with : Subsetting) : Type 0 where
-  pub found : Subsetting
-  pub outer : List Node
-  pub behind : AreSetsBehind begun_with found outer
-  pub many : count ≤ length found.inner.nodes + length outer + length found.sets
-
--- the nodes over the places of the rest and the sets are
-pub record OuterSetsAreAtLeast (count : ℕ) (begun_with : Subsetting) : Type 0 where
   pub found : Subsetting
   pub outer : List Node
   pub behind : AreSetsBehind begun_with found outer

@@ -6,7 +6,7 @@ ghost use Rattle.ms_logic_words.specs.declared.sign.Sign.TheVariants.{No, Outsid
 ghost use Rattle.ms_project.specs.inner.Examples.{everywhere, number_and_set, of_one_state, only_set};
 ghost use Rattle.ms_project.specs.Marks.{can_be_empty, marks_of, sign_by};
 ghost use Rattle.ms_project.specs.Paired.{IsTruth};
-ghost use Rattle.ms_project.specs.Subsetting.{IsReachedNumber, OuterSetsAreAtLeast};
+ghost use Rattle.ms_project.specs.Subsetting.{IsReachedNumber, SetsAreAtLeast};
 ghost use Rattle.ms_logic.specs.Lists.{without};
 ghost use Rattle.ms_quotient.specs.Closure.{no_marks};
 
@@ -48,6 +48,6 @@ pub fn worked_truth()
 pub fn worked_sets()
     ensures alone { IsReachedNumber (of_one_state ((0 ∷ []) ∷ [])) 0 }
     ensures no_set { ¬ IsReachedNumber (of_one_state ((0 ∷ []) ∷ [])) 1 }
-    ensures begun { OuterSetsAreAtLeast 0 (of_one_state []) }
+    ensures begun { SetsAreAtLeast 0 (of_one_state []) }
     ensures no_state { ¬ IsReachedNumber (of_one_state ((0 ∷ []) ∷ (0 ∷ 1 ∷ []) ∷ [])) 1 }
 {}

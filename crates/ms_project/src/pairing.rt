@@ -4,11 +4,12 @@ ghost use Rattle.ms_product.specs.Pairing.{AreReachedPairs, IsPairedIn, IsPaired
 ghost use Rattle.ms_product.specs.declared.op.Op.TheVariants.{And};
 ghost use Rattle.ms_project.specs.Paired.{IsDomainFor, IsTruth, operands_for};
 
-use ms_dfa::Automaton;
+use ms_arena::Ref;
+use ms_dfa::{Automaton, State};
 use ms_diagram::{Pairs, Store};
-use ms_list::StepFault;
+use ms_list::{List, NoMemory, StepFault};
 use ms_logic_words::Sign;
-use ms_product::{Brought, Op, Paired, bring, over_tracks};
+use ms_product::{Op, Paired, over_tracks, same_states};
 use std::alloc::Global;
 
 /// Whether a domain is truth, which leaves its body as it is.
@@ -18,35 +19,36 @@ pub(crate) fn is_truth(domain: &Automaton) -> bool
     domain.states() == 1 && domain.sign(0) == Sign::Yes
 }
 
-/// The product of a body and truth: all of the body's own states and diagrams, whether they are reached or not.
-pub(crate) fn pair_with_truth(
+/// The product of a body and a domain over the tracks of the body, as a search reads it: its diagrams, where the truth values
+/// lead, its states, and the pairs that these are.
+#[derive(Drop)]
+pub(crate) struct Product<'a> {
+    pub(crate) body: &'a Automaton,
+    pub(crate) store: &'a Store,
+    pub(crate) start: Ref,
+    pub(crate) states: List<State>,
+    pub(crate) pairs: Pairs,
+}
+
+/// The product of a body and truth, which is the body itself: all its states and diagrams, whether they are reached or not.
+pub(crate) fn pair_with_truth<'a>(
     alloc: Global,
-    body: &Automaton,
+    body: &'a Automaton,
     domain: &Automaton,
-    limit: u64,
-) -> Result<Paired, StepFault>
+) -> Result<Product<'a>, NoMemory>
     requires truth { IsTruth domain.now }
-    requires some { 1 ≤ limit }
-    requires small { limit ≤ 4000000000 }
-    ensures paired { IfOk result (λ p. IsPairedIn p.store.nodes And (operands_for body.now domain.now) p.pairs p.start p.states) }
-    ensures store { IfOk result (λ p. IsPairedStore p.store limit And (operands_for body.now domain.now) p.pairs) }
+    ensures body { IfOk result (λ p. p.body.now ≡ body.now) }
+    ensures paired { IfOk result (λ p. IsPairedIn p.store.now.nodes And (operands_for body.now domain.now) p.pairs p.start p.states) }
 {
     // The states tell that these are automata, and the length that the pairs are a numbering.
     let _ = domain.states();
-    let Ok(pairs) = Pairs::own(alloc, body.states()) else {
-        return Err(StepFault::Memory);
-    };
+    let pairs = Pairs::own(alloc, body.states())?;
     let _ = pairs.len();
-    let mut store = Store::new(alloc, limit);
-    let brought = match bring(alloc, &mut store, body, body.tracks()) {
-        Ok(brought) => brought,
-        Err(fault) => return Err(fault),
-    };
-    let Brought { start, states } = brought;
-    Ok(Paired {
-        store,
-        start,
-        states,
+    Ok(Product {
+        body,
+        store: body.store(),
+        start: body.start_ref(),
+        states: same_states(alloc, body)?,
         pairs,
     })
 }

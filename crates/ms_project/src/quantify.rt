@@ -36,7 +36,7 @@ fn project_within(
     ensures variables { IfOk result (λ made. made.variables ≡ without quantifier.track.variable body.now.variables) }
     ensures values { IfOk result (HasValues (quantified quantifier.quant (variable_of quantifier.track) (λ e. own_meaning domain.now e Yes) (own_meaning body.now))) }
     ensures within { IfOk result (λ made. length made.nodes + length made.states ≤ limit) }
-    ensures size { IfOk result (λ made. SetsOfAnswerAreAtLeast (length made.nodes + length made.states) limit body.now domain.now quantifier.track.variable) }
+    ensures size { IfOk result (λ made. SetsOfAnswerAreAtLeast (length made.nodes + length made.states) body.now domain.now quantifier.track.variable) }
     ensures nodes { OnRefused result (λ refused. (refused ≡ limit) × ReachedNeedsAtLeast limit body.now domain.now quantifier.track.variable) }
 {
     // The tracks tell that both are automata.
@@ -85,7 +85,7 @@ pub fn project(
     ensures variables { IfOk result (λ made. made.variables ≡ without quantifier.track.variable body.now.variables) }
     ensures values { IfOk result (HasValues (quantified quantifier.quant (variable_of quantifier.track) (IsMetBy (option_copied domain.entry)) (own_meaning body.now))) }
     ensures within { IfOk result (λ made. length made.nodes + length made.states ≤ limit) }
-    ensures size { IfOk result (λ made. SetsOfAnswerAreAtLeast (length made.nodes + length made.states) limit body.now (domain_or_always body.now.mode (option_copied domain.entry)) quantifier.track.variable) }
+    ensures size { IfOk result (λ made. SetsOfAnswerAreAtLeast (length made.nodes + length made.states) body.now (domain_or_always body.now.mode (option_copied domain.entry)) quantifier.track.variable) }
     ensures nodes { OnRefused result (λ refused. (refused ≡ limit) × NeedsAtLeast limit body.now (domain_or_always body.now.mode (option_copied domain.entry)) quantifier.track.variable) }
     ensures reached_nodes { OnRefused result (λ refused. ReachedNeedsAtLeast limit body.now (domain_or_always body.now.mode (option_copied domain.entry)) quantifier.track.variable) }
 {

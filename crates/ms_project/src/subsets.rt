@@ -1,26 +1,25 @@
 ghost use Rattle.std.specs.Prelude.{◌≡◌, ℕ, ◌<◌, ◌≤◌, ◌+◌, Contains, IfOk, length, map};
 ghost use Rattle.ms_diagram.specs.Growth.{Builds};
-ghost use Rattle.ms_diagram.specs.Table.{AreBrought};
 ghost use Rattle.ms_dfa.specs.Automaton.{states_of};
 ghost use Rattle.ms_project.specs.Subsets.{next_in};
-ghost use Rattle.ms_project.specs.Subsetting.{AreNoted, IsHandable, IsHanded, IsLaterSubsetting, IsReadyForSets, subset_findings};
+ghost use Rattle.ms_project.specs.Subsetting.{AreNoted, IsLaterSubsetting, IsReadyForSets, subset_findings};
 
 use ms_arena::Ref;
 use ms_dfa::{Automaton, State};
 use ms_dfa_explore::Machine;
-use ms_diagram::{ListTable, PlaceTable, Sets, Store};
+use ms_diagram::{ListTable, Projected, Sets, Store};
 use ms_list::{List, NoMemory, StepFault, push};
 use ms_logic_words::Sign;
 use std::alloc::Global;
 use std::marker::Model;
 
 /// The subset construction over the states of a product: sets of states that words reach which differ in one track alone.
-/// Its diagrams over all tracks are collected in a store of its own.
+/// The diagrams of the product are read with that track left out.
 #[derive(Drop)]
 pub(crate) struct Subsets<'a> {
     pub(crate) alloc: Global,
     pub(crate) body: &'a Automaton,
-    pub(crate) inner: Store,
+    pub(crate) inner: &'a Store,
     pub(crate) start: Ref,
     pub(crate) states: List<State>,
     pub(crate) bound: u32,
@@ -35,22 +34,13 @@ impl<'a> Model for Subsets<'a> {
 
     ghost view = { λ s. record {
       body = s.body.now;
-      inner = s.inner;
+      inner = s.inner.now;
       start = s.start;
       states = s.states;
       bound = s.bound;
       back = s.back;
       sets = s.sets;
     } };
-}
-
-impl<'a> Subsets<'a> {
-    /// The sets that have numbers.
-    pub(crate) fn sets(&self) -> &Sets
-        ensures { result.now ≡ self.now.sets }
-    {
-        &self.sets
-    }
 }
 
 /// The references from which letters lead on from the members of a set.
@@ -66,66 +56,31 @@ fn roots_of(alloc: Global, states: &[State], set: &[u32]) -> Result<List<Ref>, N
     Ok(roots)
 }
 
-/// Brings a diagram that was collected in another store, over the places of the rest, and notes what its nodes have become.
-fn hand_over(
-    inner: &Store,
-    store: &mut Store,
-    back: &[u32],
-    collected: Result<Ref, StepFault>,
-    places: &mut PlaceTable,
-) -> Result<Ref, StepFault>
-    requires handable { IsHandable inner.now.nodes back.now collected }
-    requires places { AreBrought inner.now.nodes back.now store.old.nodes places.old }
-    ensures handed { IsHanded store.old store.new inner.now.nodes back.now collected result }
-    ensures places { AreBrought inner.now.nodes back.now store.new.nodes places.new }
-{
-    match collected {
-        Ok(made) => store.bring_with(inner, made, back, places),
-        Err(StepFault::Memory) => Err(StepFault::Memory),
-        Err(StepFault::Nodes { .. }) => Err(StepFault::Nodes {
-            limit: store.limit(),
-        }),
-    }
-}
-
-/// What lists of references have become in the store of a subset construction, and what its nodes have become in that of
-/// the answer.
-#[derive(Drop)]
-pub(crate) struct SubsetTables {
-    pub(crate) lists: ListTable,
-    pub(crate) places: PlaceTable,
-}
-
 impl<'a> Subsets<'a> {
     /// Where the truth values lead from the start.
     fn lead_from_start(
         &mut self,
         store: &mut Store,
-        tables: &mut SubsetTables,
+        lists: &mut ListTable,
     ) -> Result<Ref, StepFault>
         requires ready { IsReadyForSets self.old }
-        requires tables { AreNoted self.old store.old.nodes tables.old.lists tables.old.places }
+        requires lists { AreNoted self.old store.old.nodes lists.old }
         ensures ready { IsReadyForSets self.new }
-        ensures tables { AreNoted self.new store.new.nodes tables.new.lists tables.new.places }
+        ensures lists { AreNoted self.new store.new.nodes lists.new }
         ensures later { IsLaterSubsetting self.old self.new }
         ensures builds { Builds store.old store.new (subset_findings self.new).starts (subset_findings self.new).LacksNumber result }
         ensures few { length store.new.nodes ≤ length store.old.nodes + (subset_findings self.new).most_nodes }
     {
-        // The lengths tell that the nodes are those of stores, and the sets a numbering.
-        let _ = self.inner.len();
+        // The lengths tell that the nodes are those of a store, and the sets a numbering.
         let _ = store.len();
-        let roots = [self.start];
-        let collected = self
-            .inner
-            .collect_with(&roots, self.bound, &mut self.sets, &mut tables.lists);
         let _ = self.sets.len();
-        hand_over(
-            &self.inner,
-            store,
-            self.back.slice(),
-            collected,
-            &mut tables.places,
-        )
+        let view = Projected {
+            store: self.inner,
+            map: self.back.slice(),
+            track: self.bound,
+        };
+        let roots = [self.start];
+        store.collect(&view, &roots, &mut self.sets, lists)
     }
 
     /// Where a letter leads from the set of this number.
@@ -133,36 +88,28 @@ impl<'a> Subsets<'a> {
         &mut self,
         store: &mut Store,
         state: u32,
-        tables: &mut SubsetTables,
+        lists: &mut ListTable,
     ) -> Result<Ref, StepFault>
         requires state { state < (subset_findings self.old).count }
         requires ready { IsReadyForSets self.old }
-        requires tables { AreNoted self.old store.old.nodes tables.old.lists tables.old.places }
+        requires lists { AreNoted self.old store.old.nodes lists.old }
         ensures ready { IsReadyForSets self.new }
-        ensures tables { AreNoted self.new store.new.nodes tables.new.lists tables.new.places }
+        ensures lists { AreNoted self.new store.new.nodes lists.new }
         ensures later { IsLaterSubsetting self.old self.new }
         ensures builds { Builds store.old store.new ((subset_findings self.new).steps state) (subset_findings self.new).LacksNumber result }
         ensures few { length store.new.nodes ≤ length store.old.nodes + (subset_findings self.new).most_nodes }
     {
-        let _ = self.inner.len();
         let _ = store.len();
+        let _ = self.sets.len();
         let Ok(roots) = roots_of(self.alloc, self.states.slice(), self.sets.get(state)) else {
             return Err(StepFault::Memory);
         };
-        let collected = self.inner.collect_with(
-            roots.slice(),
-            self.bound,
-            &mut self.sets,
-            &mut tables.lists,
-        );
-        let _ = self.sets.len();
-        hand_over(
-            &self.inner,
-            store,
-            self.back.slice(),
-            collected,
-            &mut tables.places,
-        )
+        let view = Projected {
+            store: self.inner,
+            map: self.back.slice(),
+            track: self.bound,
+        };
+        store.collect(&view, roots.slice(), &mut self.sets, lists)
     }
 
     /// How many sets have numbers.
@@ -173,11 +120,11 @@ impl<'a> Subsets<'a> {
     }
 }
 
-/// A subset construction with the tables of what has been built for it.
+/// A subset construction with what lists of references have become in the store of the answer.
 #[derive(Drop)]
 pub(crate) struct SubsetsMachine<'a> {
     pub(crate) subsets: Subsets<'a>,
-    pub(crate) tables: SubsetTables,
+    pub(crate) lists: ListTable,
 }
 
 impl<'a> Machine for SubsetsMachine<'a> {
@@ -186,7 +133,7 @@ impl<'a> Machine for SubsetsMachine<'a> {
 
     ghost findings = { λ machine. subset_findings machine.subsets };
 
-    ghost IsReady = { λ machine nodes. IsReadyForSets machine.subsets × AreNoted machine.subsets nodes machine.tables.lists machine.tables.places };
+    ghost IsReady = { λ machine nodes. IsReadyForSets machine.subsets × AreNoted machine.subsets nodes machine.lists };
 
     ghost IsLater = { λ early late. IsLaterSubsetting early.subsets late.subsets };
 
@@ -197,11 +144,11 @@ impl<'a> Machine for SubsetsMachine<'a> {
     ghost later_findings = { λ early late. subsetting_later_findings early.subsets late.subsets };
 
     fn start(&mut self, store: &mut Store) -> Result<Ref, StepFault> {
-        self.subsets.lead_from_start(store, &mut self.tables)
+        self.subsets.lead_from_start(store, &mut self.lists)
     }
 
     fn next(&mut self, store: &mut Store, state: u32) -> Result<Ref, StepFault> {
-        self.subsets.lead_from(store, state, &mut self.tables)
+        self.subsets.lead_from(store, state, &mut self.lists)
     }
 
     fn sign(&self, _state: u32) -> Sign {

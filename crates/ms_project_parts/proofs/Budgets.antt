@@ -27,7 +27,7 @@ use Rattle.ms_project.specs.Always.{always}
 use Rattle.ms_project.specs.Paired.{operands_for}
 use Rattle.ms_project.specs.Projection.{NeedsAtLeast, SetsOfProductAreAtLeast}
 use Rattle.ms_project.proofs.AlwaysLemmas.{IsAutomaton-always}
-use Rattle.ms_project_parts.proofs.Found.{few_inner, few_outer}
+use Rattle.ms_project_parts.proofs.Found.{few_outer}
 use Rattle.ms_project_parts.specs.inner.Matched.{AreMatched}
 use Rattle.ms_project_parts.proofs.Matches.{measured_matches, truth_matches}
 use Rattle.ms_project_parts.specs.Laws.{IsBoundAs, IsOverSome, ProjectionsAreWithinBudget, ProjectionsNeedFewSets, UnrestrictedAreWithinBudget}
@@ -53,33 +53,17 @@ module _ {Domain : Type 0} (body domain canonical : Content Sign) (restriction :
       }) left_labels right_labels count least
 
   module _ (m : ℕ) (counted : IsNumberOf (LeadToSameSet canonical restriction x) (IsStartOver (without x.name canonical.variables)) m) (count : ℕ) (needs : SetsOfProductAreAtLeast count body domain bound.name) where
-    few_begun : length needs.inner.nodes ≤ 2 * (a * b)
-    few_begun = few_pairs (length needs.inner.nodes) (record {
-      nodes = needs.inner.nodes;
-      pairs = needs.pairs;
-      ordered = needs.needed.store.ordered;
-      reduced = needs.needed.store.reduced;
-      needed = needs.needed.needed;
-      numbering = needs.paired.numbering;
-      states = needs.paired.are;
-      many = omega arith;
-    })
-
-    few_sets : count ≤ 2 * (a * b) + 2 * m
+    few_sets : count ≤ m
     few_sets =
-        let store = needs.needed.store in
-        let found = needs.sets.found in
-        let outer = needs.sets.outer in
-        let first = few_inner body domain canonical restriction bound x is_bound own long domain_rising among stands left right m counted needs.inner needs.start needs.states needs.pairs needs.paired store found outer needs.sets.behind in
-        let second = few_outer body domain canonical restriction bound x is_bound own long domain_rising among stands left right m counted needs.inner needs.start needs.states needs.pairs needs.paired store found outer needs.sets.behind in
-        let begun_few = few_begun in
-        let many = needs.sets.many in
-        omega (arith, first, second, begun_few, many)
+        let sets = needs.sets in
+        let few = few_outer body domain canonical restriction bound x is_bound own long domain_rising among stands left right m counted needs.inner needs.start needs.states needs.pairs needs.paired sets.found sets.outer sets.behind in
+        let many = sets.many in
+        omega (arith, few, many)
 
   pub few : (m : ℕ) → IsNumberOf (LeadToSameSet canonical restriction x) (IsStartOver (without x.name canonical.variables)) m → (count : ℕ) → NeedsAtLeast count body domain bound.name → count ≤ 2 * (a * b) + 2 * m
   few m counted count needs = ⊎_elim
       (λ pairs. let less = few_pairs count pairs in omega (arith, less))
-      (λ sets. few_sets m counted count sets)
+      (λ sets. let less = few_sets m counted count sets in omega (arith, less))
       needs
 
 -- at its place in the body a variable of the restriction stands for that of the domain

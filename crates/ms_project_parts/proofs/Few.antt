@@ -1,7 +1,6 @@
 -- What a projection needs beside its product has starts that lead apart.
 use Rattle.std.proofs.Common.{◌≡◌, ◌≢◌, ℕ, ◌+◌, ◌<◌, ◌≤◌, ⊎_elim, List, length, slice_get, slice_index, Option, Some, None, refl, sym, ap, subst, ◌∙◌, arith}
 use Rattle.std.proofs.lemmas.Bool.{cases_lt}
-use Rattle.std.proofs.lemmas.List.{length-append}
 use Rattle.std.proofs.lemmas.Option.{slice_get_within}
 use Rattle.ms_arena.specs.Bits.{below_from}
 use Rattle.ms_arena.specs.Diagram.{Bits, IsOrdered, IsReduced, end_at, leaf_of}
@@ -12,11 +11,9 @@ use Rattle.ms_arena.specs.declared.node.Ref.TheVariants.{Inner}
 use Rattle.ms_arena.proofs.BitsLemmas.{below_from-first}
 use Rattle.ms_arena.proofs.Lists.{slice_get-held}
 use Rattle.ms_arena.proofs.Paths.{leaf_of-node}
-use Rattle.ms_build_parts.proofs.Levels.{IsLevelOf, level_of, put_together}
-use Rattle.ms_dfa_explore.specs.Explored.{GrowsForSome, IsFound, Origin, target_of}
+use Rattle.ms_dfa_explore.specs.Explored.{IsFound, Origin, target_of}
 use Rattle.ms_diagram.specs.Bring.{read_through}
 use Rattle.ms_diagram.specs.Collect.{IsSetNumbering}
-use Rattle.ms_diagram.specs.Store.{Contents}
 use Rattle.ms_logic.specs.Assignment.{Variable}
 use Rattle.ms_logic.specs.Lists.{without}
 use Rattle.ms_logic_measures.specs.CallMeasures.{IsNumberOf, LeadToSameSet}
@@ -29,7 +26,7 @@ use Rattle.ms_logic_words.specs.Content.{Content}
 use Rattle.ms_logic_words.specs.declared.sign.Sign.{Sign}
 use Rattle.ms_product.specs.Pairing.{IsNeededForSome}
 use Rattle.ms_project.specs.Subsets.{sets_behind}
-use Rattle.ms_project.specs.Subsetting.{AreReachedNumbers, Subsetting, collected_findings, paired, sets_at, subset_findings}
+use Rattle.ms_project.specs.Subsetting.{AreReachedNumbers, Subsetting, paired, sets_at, sets_at_start, subset_findings}
 use Rattle.ms_project_parts.specs.inner.Matched.{IsProjected}
 use Rattle.ms_project_parts.proofs.Needed.{LeadsTo, led_by_letter, led_by_truth, led_number, one_function}
 
@@ -57,9 +54,6 @@ all_places content back bound sets (Some from) bits number right = right
 
 module _ {Domain : Type 0} (v : Subsetting) (body : Content Sign) (domain : Content Domain) (x : Variable) (at : ℕ → ℕ) (setting : IsProjected v body domain x at) (numbering : IsSetNumbering v.sets)
     (reached : AreReachedNumbers v) where
-  abbrev into : List ℕ
-  into = setting.are.into
-
   abbrev others : List Variable
   others = without x.name body.variables
 
@@ -68,33 +62,6 @@ module _ {Domain : Type 0} (v : Subsetting) (body : Content Sign) (domain : Cont
 
   inside : (place : ℕ) (w : Variable) → slice_get body.variables place ≡ Some w → place ≢ v.bound → slice_index v.back place < length others
   inside place w held other = slice_get_within others (slice_index v.back place) w (setting.are.out.stays place w held other).0
-
-  -- a node of the own store, which has its bits over all places
-  module _ (nodes : List Node) (ordered : IsOrdered nodes) (reduced : IsReduced nodes) (i : ℕ) (node : Node) (held : slice_get nodes i ≡ Some node) where
-    abbrev own_read : Bits → Bits
-    own_read bits = bits
-
-    level : (level : ℕ) × IsLevelOf into (length others) setting.are.rises node.var (length others) level
-    level = level_of into (length others) setting.are.rises node.var (length others) (omega arith)
-
-    put : (first bits : Bits) (place : ℕ) (w : Variable) → slice_get body.variables place ≡ Some w → place ≢ v.bound
-        → below_from node.var first bits place ≡ below_from level.0 (read_through into first) (λ any. bits place) (slice_index v.back place)
-    put first bits place w is other =
-        let stays = (setting.are.out.stays place w is other).1 in
-        ap (below_from node.var first bits) (sym stays)
-        ∙ put_together into (length others) setting.are.rises node.var level.0 level.1 first bits (slice_index v.back place) (inside place w is other)
-        ∙ ap (λ own. below_from level.0 (read_through into first) (λ any. own) (slice_index v.back place)) (ap bits stays)
-
-    pub own_led : (origin : Origin) → IsFound (collected_findings v) origin → IsNeeded nodes (target_of (collected_findings v) origin) node → IsLed nodes own_read (Inner i)
-    own_led None found needed =
-        led_by_truth v body domain x at setting numbering nodes own_read i (slice_get_within nodes i node held) ordered reduced
-        level.0 (read_through into needed.0) (λ bits. below_from node.var needed.0 bits) level.1.within (λ bits place w is other. put needed.0 bits place w is other)
-        (λ bits. subst ((collected_findings v).starts (below_from node.var needed.0 bits)) (sym (leaf_of-node nodes ordered bits i node held)) (needed.1 bits))
-    own_led (Some number) found needed =
-        led_by_letter v body domain x at setting numbering nodes own_read i (slice_get_within nodes i node held) ordered reduced
-        level.0 (read_through into needed.0) (λ bits. below_from node.var needed.0 bits) level.1.within (λ bits place w is other. put needed.0 bits place w is other)
-        number (reached number found)
-        (λ bits. subst (sets_at (paired v) v.bound v.sets (slice_get v.sets number) (below_from node.var needed.0 bits)) (sym (leaf_of-node nodes ordered bits i node held)) (needed.1 bits))
 
   -- a node of the store of the answer, which has its bits over the places of the rest
   module _ (nodes : List Node) (ordered : IsOrdered nodes) (reduced : IsReduced nodes) (i : ℕ) (node : Node) (held : slice_get nodes i ≡ Some node) where
@@ -127,7 +94,7 @@ module _ {Domain : Type 0} (v : Subsetting) (body : Content Sign) (domain : Cont
     rest_led None found needed =
         led_by_truth v body domain x at setting numbering nodes rest_read i (slice_get_within nodes i node held) ordered reduced
         top.level needed.0 (wide needed.0) top.few (λ bits place w is other. rest_put needed.0 bits place w is other)
-        (λ bits. subst ((collected_findings v).starts (wide needed.0 bits)) (sym (leaf_of-node nodes ordered bits i node held)) (needed.1 bits))
+        (λ bits. subst (sets_at_start (paired v) v.bound v.sets (wide needed.0 bits)) (sym (leaf_of-node nodes ordered bits i node held)) (needed.1 bits))
     rest_led (Some number) found needed =
         led_by_letter v body domain x at setting numbering nodes rest_read i (slice_get_within nodes i node held) ordered reduced
         top.level needed.0 (wide needed.0) top.few (λ bits place w is other. rest_put needed.0 bits place w is other)
@@ -143,24 +110,6 @@ module _ {Domain : Type 0} (v : Subsetting) (body : Content Sign) (domain : Cont
         (needed_lead_apart (IsStartOver others) (LeadToSameSet body domain x) (LeadsTo v body domain x at setting nodes read) nodes old more count led ordered reduced
         (one_function v body domain x at setting numbering nodes read))
         counted
-
-    -- the nodes of the own store behind the old ones, and the sets
-    pub few_own : (begun : Contents) → GrowsForSome begun v.inner (collected_findings v) → length v.inner.nodes + length v.sets ≤ length begun.nodes + m
-    few_own begun grows =
-        let old = length begun.nodes in
-        let long = ap length grows.extends.1 ∙ length-append begun.nodes grows.extends.0 in
-        let more = length grows.extends.0 in
-        let ordered = grows.store.ordered in
-        let reduced = grows.store.reduced in
-        let few = few_by v.inner.nodes (λ bits. bits) old more (length v.sets) ordered reduced (record {
-          within = omega (arith, long);
-          places = λ i from below.
-              let held = slice_get-held v.inner.nodes i (omega (arith, below, long)) in
-              let needed = grows.needed i held.0 from held.1 in
-              own_led v.inner.nodes ordered reduced i held.0 held.1 needed.0 needed.1 needed.2;
-          numbers = λ number within. led_number v body domain x at setting numbering v.inner.nodes (λ bits. bits) number (reached number within);
-        }) in
-        omega (arith, few, long)
 
     -- the nodes of the store of the answer, and the sets
     pub few_rest : (outer : List Node) → IsOrdered outer → IsReduced outer → ((place : ℕ) (node : Node) → slice_get outer place ≡ Some node → IsNeededForSome outer (subset_findings v) node) → length outer + length v.sets ≤ m

@@ -17,6 +17,7 @@ use ms_dfa::{Automaton, State};
 use ms_dfa_explore::distinct;
 use ms_diagram::Store;
 use ms_list::{List, NoMemory, StepFault, push};
+use ms_product::same_states;
 use std::alloc::Global;
 
 /// How many nodes there may be on the way; what is more is more than memory holds.
@@ -68,19 +69,6 @@ fn rises(map: &[u32]) -> bool
         }
     }
     true
-}
-
-/// The states of an automaton.
-fn same_states(alloc: Global, a: &Automaton) -> Result<List<State>, NoMemory>
-    ensures { IfOk result (λ made. states_of made ≡ a.now.states) }
-{
-    let mut made = List::new(alloc);
-    for state in 0..a.states() {
-        let sign = a.sign(state);
-        let next = a.next_ref(state);
-        push(&mut made, State { sign, next })?;
-    }
-    Ok(made)
 }
 
 /// The automaton over the variables of a map whose numbers rise: the same but for the names of the tracks.

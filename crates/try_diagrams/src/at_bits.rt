@@ -1,8 +1,11 @@
 //! Answers on diagrams, at all bits of four variables.
-use crate::functions::{leaf_at, parity};
+ghost use Rattle.std.specs.Prelude.{◌≡◌, []};
+
+use crate::functions::{chain, identity, leaf_at, parity};
 use anyhow::Result;
-use ms_diagram::{Pairs, Sets, Store};
+use ms_diagram::{ListTable, Pairs, Projected, Sets, Store};
 use ms_list::{List, StepFault, let_go};
+use std::alloc::Global;
 
 pub fn tell(rt: &HostRuntime) -> Result<()> {
     pairs_at_bits(rt)?;
@@ -46,22 +49,38 @@ fn print_right(rt: &HostRuntime, what: &str, right: Result<u32, StepFault>) -> R
 /// The set of the leaves with either bit of a track, at all bits of four variables.
 fn sets_at_bits(rt: &HostRuntime) -> Result<()> {
     let mut store = Store::new(rt.alloc(), 100);
+    let mut other = Store::new(rt.alloc(), 100);
     let mut sets = Sets::new(rt.alloc());
-    let right = right_sets(&mut store, &mut sets);
+    let right = right_sets(rt.alloc(), &mut store, &mut other, &mut sets);
     let_go(store);
+    let_go(other);
     let_go(sets);
     print_right(rt, "sets", right)
 }
 
-fn right_sets(store: &mut Store, sets: &mut Sets) -> Result<u32, StepFault> {
-    let zero = store.leaf(0);
-    let one = store.leaf(1);
-    let second = store.mk(1, zero, one)?;
-    let either = store.collect(&[one, second], 0, sets)?;
+/// Both leaves of a chain of two variables are met where the second bit is 1, and one where it is 0.
+fn right_sets(
+    alloc: Global,
+    store: &mut Store,
+    other: &mut Store,
+    sets: &mut Sets,
+) -> Result<u32, StepFault>
+    requires { store.old.nodes ≡ [] }
+{
+    let both = chain(store, 2)?;
+    let Ok(map) = identity(alloc, 2) else {
+        return Err(StepFault::Memory);
+    };
+    let view = Projected {
+        store,
+        map: map.slice(),
+        track: 0,
+    };
+    let either = other.collect(&view, &[both], sets, &mut ListTable::new(alloc))?;
     let mut right = 0u32;
     for word in 0..16u32 {
-        let number = leaf_at(store, either, word);
-        let wanted = 2 - (word / 2 % 2) as usize;
+        let number = leaf_at(other, either, word);
+        let wanted = 1 + (word / 2 % 2) as usize;
         if number < sets.len() && sets.get(number).len() == wanted {
             right = right.saturating_add(1);
         }

@@ -65,7 +65,7 @@ fn number_full(rt: &HostRuntime, sets: &mut Sets) -> Result<()> {
     if sets.len() < 9 {
         println!(rt;
             "the set of 1 and 3 has the number {}",
-            sets.number(&[1, 3])?
+            sets.number(Vec::from_slice(rt.alloc(), &[1, 3])?)?
         )?;
     }
     Ok(())
@@ -73,7 +73,10 @@ fn number_full(rt: &HostRuntime, sets: &mut Sets) -> Result<()> {
 
 fn number_empty(rt: &HostRuntime, sets: &mut Sets) -> Result<()> {
     if sets.len() < 9 {
-        println!(rt; "the empty set has the number {}", sets.number(&[])?)?;
+        println!(rt;
+            "the empty set has the number {}",
+            sets.number(Vec::new(rt.alloc()))?
+        )?;
     }
     Ok(())
 }

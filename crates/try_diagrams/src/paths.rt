@@ -3,7 +3,7 @@ ghost use Rattle.std.specs.Prelude.{◌≡◌, []};
 
 use crate::functions::{chain, identity, parity};
 use anyhow::Result;
-use ms_diagram::{Pairs, Sets, Store};
+use ms_diagram::{ListTable, Pairs, Projected, Sets, Store};
 use ms_list::{List, StepFault, let_go};
 use std::alloc::Global;
 
@@ -57,19 +57,37 @@ fn print_paired(
 
 fn collected_path(rt: &HostRuntime) -> Result<()> {
     let mut store = Store::new(rt.alloc(), ROOM);
+    let mut other = Store::new(rt.alloc(), ROOM);
     let mut sets = Sets::new(rt.alloc());
-    let collected = collect_path(&mut store, &mut sets);
+    let nodes = collect_path(rt.alloc(), &mut store, &mut other, &mut sets);
+    let made = sets.len();
     let_go(store);
+    let_go(other);
     let_go(sets);
-    let (nodes, sets) = collected?;
-    println!(rt; "collected: {nodes} nodes, {sets} sets")?;
+    println!(rt; "collected: {} nodes, {made} sets", nodes?)?;
     Ok(())
 }
 
-fn collect_path(store: &mut Store, sets: &mut Sets) -> Result<(u64, u32), StepFault> {
-    let odd = parity(store, LONG)?;
-    let _sets = store.collect(&[odd], LONG, sets)?;
-    Ok((store.len(), sets.len()))
+/// A chain whose first variable is left out, and what it takes in another store.
+fn collect_path(
+    alloc: Global,
+    store: &mut Store,
+    other: &mut Store,
+    sets: &mut Sets,
+) -> Result<u64, StepFault>
+    requires { store.old.nodes ≡ [] }
+{
+    let root = chain(store, LONG)?;
+    let Ok(map) = identity(alloc, LONG) else {
+        return Err(StepFault::Memory);
+    };
+    let view = Projected {
+        store,
+        map: map.slice(),
+        track: 0,
+    };
+    let _sets = other.collect(&view, &[root], sets, &mut ListTable::new(alloc))?;
+    Ok(other.len())
 }
 
 fn relabelled_path(rt: &HostRuntime) -> Result<()> {

@@ -7,6 +7,7 @@ use Rattle.ms_arena.specs.Diagram.{Bits}
 use Rattle.ms_diagram.specs.declared.computed_table.Bucket.{Bucket}
 use Rattle.ms_diagram.specs.declared.sides.Sides.{Sides}
 use Rattle.ms_diagram.specs.inner.Computed.{no_slots}
+use Rattle.ms_diagram.specs.Projecting.{Projecting}
 use Rattle.ms_diagram.specs.Side.{Side}
 
 -- a node that tests variable 0: its leaf is that variable's bit
@@ -16,6 +17,22 @@ own_bit = record { var = 0; low = Leaf 0; high = Leaf 1 } ∷ []
 -- the same on both sides, where the left one reads variable 1, and the right one variable 0
 abbrev pub crossed : Sides
 crossed = record { left = record { nodes = own_bit; map = 1 ∷ [] }; right = record { nodes = own_bit; map = 0 ∷ [] } }
+
+-- it alone, read in a map with one variable left out
+abbrev pub read_in : List ℕ → ℕ → Projecting
+read_in map track = record { nodes = own_bit; map = map; track = track }
+
+-- it reads variable 5 in place of its own
+abbrev pub renamed_bit : Projecting
+renamed_bit = read_in (5 ∷ []) 1
+
+-- its own variable is left out
+abbrev pub left_out_bit : Projecting
+left_out_bit = read_in (5 ∷ []) 0
+
+-- the set of leaf 1, and that of both leaves
+abbrev pub one_and_both : List (List ℕ)
+one_and_both = (1 ∷ []) ∷ (0 ∷ 1 ∷ []) ∷ []
 
 -- a map that has no variable for it
 abbrev pub without_map : Side

@@ -1,5 +1,4 @@
 use Rattle.std.proofs.Common.{ap, sym, subst, ◌∙◌}
-use Rattle.ms_diagram.specs.Store.{Contents}
 use Rattle.ms_dfa.specs.Automaton.{IsAutomaton, variables_of}
 use Rattle.ms_dfa.specs.Values.{HasValues, own_meaning}
 use Rattle.ms_product.specs.Combined.{changed, with_signs}

@@ -1,4 +1,4 @@
-use Rattle.std.proofs.Common.{ℕ, List, length, sym, ap, subst, ◌∙◌}
+use Rattle.std.proofs.Common.{ℕ, List, length, refl, sym, ap, subst, ◌∙◌}
 use Rattle.ms_dfa.specs.declared.state.State.{State}
 use Rattle.ms_dfa.specs.declared.track.Track.{Track}
 use Rattle.ms_quotient.specs.declared.marks.Marks.{Marks}
@@ -18,10 +18,10 @@ closed_marks-requires-clause-tested c =
 pub returns : goal.returns
 returns c =
     let p = c.args.projection.now in
-    IfOk-implies c.sign_states.result _ (AreSignedSets c.args.mode c.args.quant (variables_of p.tracks) p.marks p.found.subsets.sets p.found.store.nodes p.found.states)
+    IfOk-implies c.sign_states.result _ (AreSignedSets c.args.mode c.args.quant (variables_of p.tracks) p.marks p.found.sets p.found.store.nodes p.found.states)
     (λ signed signs.
-    signed_sets c.args.mode c.args.quant p.tracks p.marks c.slice.result.now c.in_ok-marks.marks c.in_ok-closed.closed p.found.subsets.sets c.sets.result.now p.found.store.nodes p.found.states c.slice-2.result.now signed
-    c.len.result c.can_be_empty-empty.result c.slice.ensures c.sets.ensures c.slice-2.ensures c.len.ensures c.in_ok-marks.ensures c.in_ok-closed.ensures
+    signed_sets c.args.mode c.args.quant p.tracks p.marks c.slice.result.now c.in_ok-marks.marks c.in_ok-closed.closed p.found.sets p.found.sets p.found.store.nodes p.found.states c.slice-2.result.now signed
+    c.len.result c.can_be_empty-empty.result c.slice.ensures refl c.slice-2.ensures c.len.ensures c.in_ok-marks.ensures c.in_ok-closed.ensures
     (c.can_be_empty-empty.ensures ∙ ap (λ (tracks : List Track). can_be_empty c.args.mode (variables_of tracks)) c.slice-3.ensures)
     (subst (λ (states : List State). AreSigned c.args.quant c.can_be_empty-empty.result c.in_ok-closed.closed states signed) c.slice-states.ensures
     (subst (λ (closed : List Marks). AreSigned c.args.quant c.can_be_empty-empty.result closed c.slice-states.result.now signed) c.slice-4.ensures signs)))

@@ -1,7 +1,7 @@
 use Rattle.std.proofs.Common.{ap, ◌∙◌, arith}
 use Rattle.ms_dfa.specs.Automaton.{states_of}
-use Rattle.ms_rename.proofs.ImageLemmas.{same_states-more}
-use Rattle.ms_rename.proofs.renaming.same_states.Goals as goal
+use Rattle.ms_product.proofs.StateLemmas.{same_states-more}
+use Rattle.ms_product.proofs.states.same_states.Goals as goal
 
 pub loop-state-preserved : goal.loop-state-preserved
 loop-state-preserved c =

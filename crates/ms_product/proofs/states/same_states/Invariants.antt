@@ -1,6 +1,6 @@
 use Rattle.std.proofs.Common.{◌≡◌, take}
 use Rattle.ms_dfa.specs.Automaton.{states_of}
-use Rattle.ms_rename.proofs.renaming.same_states.Given as goal
+use Rattle.ms_product.proofs.states.same_states.Given as goal
 
 -- the states so far
 abbrev pub invariant-loop-state : goal.invariant-loop-state

@@ -1,7 +1,0 @@
-use Rattle.std.proofs.Common.{◌≡◌, take}
-use Rattle.ms_dfa.specs.Automaton.{states_of}
-use Rattle.ms_dfafile_adopt.proofs.in_mode.same_states.Given as goal
-
--- the states so far
-abbrev pub invariant-loop-state : goal.invariant-loop-state
-invariant-loop-state l = states_of l.made ≡ take l.state l.a.states
