@@ -68,26 +68,13 @@ fn tell_load(
     name: &str,
     names: &mut List<Text>,
 ) -> Result<()> {
-    load_noting(rt, files, name, names)?;
-    let noted = joined(rt.alloc(), names.slice())?;
-    println!(rt; "noted: {noted}")?;
-    Ok(())
-}
-
-/// Loads a file and prints the answer.
-fn load_noting(
-    rt: &HostRuntime,
-    files: &mut MemFiles,
-    name: &str,
-    names: &mut List<Text>,
-) -> Result<()> {
     if names.len() > 9 {
         bail!("more names than were noted");
     }
-    let answer = load(rt.alloc(), files, name, names);
-    let told = print_answer(rt, &answer);
-    let_go(answer);
-    told
+    print_answer(rt, load(rt.alloc(), files, name, names))?;
+    let noted = joined(rt.alloc(), names.slice())?;
+    println!(rt; "noted: {noted}")?;
+    Ok(())
 }
 
 /// Loads a text and prints the answer.
@@ -96,17 +83,16 @@ fn load_text(rt: &HostRuntime, text: &str) -> Result<()> {
     if bytes.len() > 1_048_576 {
         bail!("the text is too long");
     }
-    let answer = load_bytes(rt.alloc(), "generated", bytes);
-    let told = print_answer(rt, &answer);
-    let_go(answer);
-    told
+    print_answer(rt, load_bytes(rt.alloc(), "generated", bytes))
 }
 
-fn print_answer(rt: &HostRuntime, answer: &Result<Loaded, Refusal>) -> Result<()> {
-    match answer {
+fn print_answer(rt: &HostRuntime, answer: Result<Loaded, Refusal>) -> Result<()> {
+    let printed = match &answer {
         Ok(loaded) => print_loaded(rt, loaded),
         Err(refusal) => print_refusal(rt, refusal),
-    }
+    };
+    let_go(answer);
+    printed
 }
 
 fn print_loaded(rt: &HostRuntime, loaded: &Loaded) -> Result<()> {

@@ -1,13 +1,12 @@
 //! Trees of sources: their outermost forms.
 use crate::rows::{Question, run_rows};
 use crate::tokens::{FILE, tokens_of};
-use crate::told::{mode_word, refused, told};
+use crate::told::{mode_word, told_of};
 use anyhow::Result;
 use ms_edge::Refusal;
 use ms_list::{Bytes, List, let_go};
 use ms_logic::{Decl, Expr, Form, Item, Source};
 use ms_parse::parse;
-use ms_text::Tokens;
 use std::alloc::{AllocError, Global};
 
 pub fn tell(rt: &HostRuntime) -> Result<()> {
@@ -18,34 +17,27 @@ pub fn tell(rt: &HostRuntime) -> Result<()> {
 
 /// The outermost forms of the last formula of a source, or its refusal.
 pub fn answer(alloc: Global, bytes: Bytes) -> Result<String> {
-    let read = tokens_of(alloc, bytes)?;
-    let shape = shape_of(alloc, &read);
-    let_go(read);
-    shape
+    let parsed = tree_of(alloc, bytes)?;
+    told_of(alloc, parsed, |source| last_shape(alloc, source))
 }
 
-fn shape_of(alloc: Global, read: &Result<Tokens, Refusal>) -> Result<String> {
-    match read {
-        Ok(all) => shape_of_tokens(alloc, all),
-        Err(refusal) => told(alloc, refusal),
+/// The tree of a source, or its refusal.
+pub fn tree_of(alloc: Global, bytes: Bytes) -> Result<Result<Source, Refusal>> {
+    match tokens_of(alloc, bytes)? {
+        Ok(all) => {
+            let parsed = parse(alloc, &all, FILE);
+            let_go(all);
+            Ok(parsed)
+        }
+        Err(refusal) => Ok(Err(refusal)),
     }
 }
 
-fn shape_of_tokens(alloc: Global, all: &Tokens) -> Result<String> {
-    let parsed = parse(alloc, all, FILE);
-    let shape = shape_of_parsed(alloc, &parsed);
-    let_go(parsed);
-    shape
+fn last_shape(alloc: Global, source: &Source) -> Result<String> {
+    Ok(shape_of_last(alloc, source.items.slice())?)
 }
 
-fn shape_of_parsed(alloc: Global, parsed: &Result<Source, Refusal>) -> Result<String> {
-    match parsed {
-        Ok(source) => Ok(last_shape(alloc, source.items.slice())?),
-        Err(refusal) => told(alloc, refusal),
-    }
-}
-
-fn last_shape(alloc: Global, items: &[Item]) -> Result<String, AllocError> {
+fn shape_of_last(alloc: Global, items: &[Item]) -> Result<String, AllocError> {
     match items.last() {
         Some(item) => match &item.decl {
             Decl::Formula(expr) => shape(alloc, expr),
@@ -116,46 +108,25 @@ fn push_roots(text: &mut String, operands: &[Expr]) -> Result<(), AllocError> {
     Ok(())
 }
 
-/// The header of a source that has one, and how many declarations follow it.
+/// Prints the header of a source that has one, and how many declarations follow it.
 fn header(rt: &HostRuntime) -> Result<()> {
-    let bytes = List::from(Vec::from_slice(rt.alloc(), b" m2l-str; var1 x; x = 0;")?);
-    let read = tokens_of(rt.alloc(), bytes)?;
-    let told = tell_header(rt, &read);
-    let_go(read);
-    told
-}
-
-fn tell_header(rt: &HostRuntime, read: &Result<Tokens, Refusal>) -> Result<()> {
-    match read {
-        Ok(all) => header_of(rt, all),
-        Err(refusal) => refused(rt.alloc(), refusal),
-    }
-}
-
-fn header_of(rt: &HostRuntime, all: &Tokens) -> Result<()> {
-    let parsed = parse(rt.alloc(), all, FILE);
-    let told = tell_parsed(rt, &parsed);
-    let_go(parsed);
-    told
-}
-
-fn tell_parsed(rt: &HostRuntime, parsed: &Result<Source, Refusal>) -> Result<()> {
-    match parsed {
-        Ok(source) => print_header(rt, source),
-        Err(refusal) => refused(rt.alloc(), refusal),
-    }
-}
-
-fn print_header(rt: &HostRuntime, source: &Source) -> Result<()> {
-    match &source.header {
-        Some((at, mode)) => println!(rt;
-            "a header of {} at {}:{}",
-            mode_word(*mode),
-            at.file,
-            at.place
-        )?,
-        None => println!(rt; "no header")?,
-    }
-    println!(rt; "{} declarations", source.items.len())?;
+    let alloc = rt.alloc();
+    let bytes = List::from(Vec::from_slice(alloc, b" m2l-str; var1 x; x = 0;")?);
+    let parsed = tree_of(alloc, bytes)?;
+    let told = told_of(alloc, parsed, |source| told_header(alloc, source))?;
+    println!(rt; "{told}")?;
     Ok(())
+}
+
+fn told_header(alloc: Global, source: &Source) -> Result<String> {
+    let mut text = String::new(alloc);
+    match &source.header {
+        Some((at, mode)) => {
+            let mode = mode_word(*mode);
+            write!(text, "a header of {mode} at {}:{}\n", at.file, at.place)?;
+        }
+        None => text.push_str("no header\n")?,
+    }
+    write!(text, "{} declarations", source.items.len())?;
+    Ok(text)
 }

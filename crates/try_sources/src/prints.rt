@@ -1,14 +1,11 @@
 //! Sources that are printed and read again, and trees that cannot be printed.
+use crate::parses::tree_of;
 use crate::rows::{Question, run_rows};
-use crate::tokens::{FILE, tokens_of};
-use crate::told::{shown, told};
+use crate::told::{shown, told_of};
 use anyhow::{Result, bail};
-use ms_edge::Refusal;
 use ms_list::{At, Boxed, Bytes, List, Name, NoMemory, let_go, on_heap, push};
 use ms_logic::{Bound, Decl, Expr, Form, Item, Mode, Order, Quant, Rel, Source};
-use ms_parse::parse;
 use ms_parse_print::{fits, print};
-use ms_text::Tokens;
 use std::alloc::Global;
 use std::io;
 
@@ -48,31 +45,8 @@ fn same_again(alloc: Global, once: &str) -> Result<String> {
 
 /// What is printed of a source, or its refusal.
 fn printed(alloc: Global, bytes: Bytes) -> Result<String> {
-    let read = tokens_of(alloc, bytes)?;
-    let printed = printed_read(alloc, &read);
-    let_go(read);
-    printed
-}
-
-fn printed_read(alloc: Global, read: &Result<Tokens, Refusal>) -> Result<String> {
-    match read {
-        Ok(all) => printed_tokens(alloc, all),
-        Err(refusal) => told(alloc, refusal),
-    }
-}
-
-fn printed_tokens(alloc: Global, all: &Tokens) -> Result<String> {
-    let parsed = parse(alloc, all, FILE);
-    let printed = printed_parsed(alloc, &parsed);
-    let_go(parsed);
-    printed
-}
-
-fn printed_parsed(alloc: Global, parsed: &Result<Source, Refusal>) -> Result<String> {
-    match parsed {
-        Ok(source) => printed_source(alloc, source),
-        Err(refusal) => told(alloc, refusal),
-    }
+    let parsed = tree_of(alloc, bytes)?;
+    told_of(alloc, parsed, |source| printed_source(alloc, source))
 }
 
 fn printed_source(alloc: Global, source: &Source) -> Result<String> {

@@ -1,9 +1,9 @@
 //! Tokens.
 use crate::rows::{Question, run_rows};
-use crate::told::{refused, shown, told};
+use crate::told::{shown, told_of};
 use anyhow::{Result, bail};
 use ms_edge::Refusal;
-use ms_list::{Bytes, List, let_go};
+use ms_list::{Bytes, List};
 use ms_text::{Kind, MAX_BYTES, Token, Tokens, is_name, name_length, tokens};
 use std::alloc::Global;
 
@@ -28,16 +28,7 @@ pub fn tokens_of(alloc: Global, bytes: Bytes) -> Result<Result<Tokens, Refusal>>
 /// Each token of a source with its place and its length, or how many they are where they are many, or the refusal.
 pub fn answer(alloc: Global, bytes: Bytes) -> Result<String> {
     let read = tokens_of(alloc, bytes)?;
-    let told = told_tokens(alloc, &read);
-    let_go(read);
-    told
-}
-
-fn told_tokens(alloc: Global, read: &Result<Tokens, Refusal>) -> Result<String> {
-    match read {
-        Ok(all) => listed(alloc, all),
-        Err(refusal) => told(alloc, refusal),
-    }
+    told_of(alloc, read, |all| listed(alloc, all))
 }
 
 fn listed(alloc: Global, all: &Tokens) -> Result<String> {
@@ -73,28 +64,23 @@ fn push_token(text: &mut String, token: Token) -> Result<()> {
     Ok(())
 }
 
-/// The bytes of each token of a source, and how many bytes it has.
+/// Prints the bytes of each token of a source, and how many bytes it has.
 fn slices(rt: &HostRuntime) -> Result<()> {
-    let bytes = List::from(Vec::from_slice(rt.alloc(), b"ex1 x': # all\n x'<=>{007}")?);
-    let read = tokens_of(rt.alloc(), bytes)?;
-    let told = tell_slices(rt, &read);
-    let_go(read);
-    told
-}
-
-fn tell_slices(rt: &HostRuntime, read: &Result<Tokens, Refusal>) -> Result<()> {
-    match read {
-        Ok(all) => print_slices(rt, all),
-        Err(refusal) => refused(rt.alloc(), refusal),
-    }
-}
-
-fn print_slices(rt: &HostRuntime, all: &Tokens) -> Result<()> {
-    for i in 0..all.len() {
-        println!(rt; "token {i} is {}", shown(all.slice(i)))?;
-    }
-    println!(rt; "of {} bytes", all.end())?;
+    let alloc = rt.alloc();
+    let bytes = List::from(Vec::from_slice(alloc, b"ex1 x': # all\n x'<=>{007}")?);
+    let read = tokens_of(alloc, bytes)?;
+    let told = told_of(alloc, read, |all| sliced(alloc, all))?;
+    println!(rt; "{told}")?;
     Ok(())
+}
+
+fn sliced(alloc: Global, all: &Tokens) -> Result<String> {
+    let mut text = String::new(alloc);
+    for i in 0..all.len() {
+        write!(text, "token {i} is {}\n", shown(all.slice(i)))?;
+    }
+    write!(text, "of {} bytes", all.end())?;
+    Ok(text)
 }
 
 fn names(rt: &HostRuntime) -> Result<()> {

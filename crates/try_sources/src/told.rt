@@ -1,6 +1,7 @@
 //! Answers in words.
-use anyhow::{Result, anyhow};
+use anyhow::Result;
 use ms_edge::Refusal;
+use ms_list::let_go;
 use ms_logic::Mode;
 use std::alloc::Global;
 
@@ -24,10 +25,20 @@ fn push_told(text: &mut String, refusal: &Refusal) -> Result<()> {
     push_detail(text, refusal)
 }
 
-/// The error that tells a refusal which should not have been.
-pub fn refused(alloc: Global, refusal: &Refusal) -> Result<()> {
-    let told = told(alloc, refusal)?;
-    Err(anyhow!("refused: {told}"))
+/// What is told of an answer, or its refusal.
+pub fn told_of<T: Drop, F: FnOnce(&T) -> Result<String>>(
+    alloc: Global,
+    answer: Result<T, Refusal>,
+    tell: F,
+) -> Result<String>
+    requires { F.IsAlwaysCallable tell }
+{
+    let text = match &answer {
+        Ok(value) => tell(value),
+        Err(refusal) => told(alloc, refusal),
+    };
+    let_go(answer);
+    text
 }
 
 /// The number of a refusal that a source can have, and 99 of any other.
