@@ -29,7 +29,8 @@ use Rattle.ms_names_rules.specs.Order.{fits, order_of}
 use Rattle.ms_names_rules.specs.Uses.{export_at, export_of_form, import_at, import_of_form}
 use Rattle.ms_names_rules.proofs.Fitting.{If, each-append}
 use Rattle.ms_include_laws.specs.inner.places.Places.{EachPlaceIn, EachPlaceInBounds, EachPlaceInParts, EachPlaceInRenames}
-use Rattle.ms_include_laws.proofs.of_places.Occurrences.{StandsAt, place-at}
+use Rattle.ms_include_laws.proofs.of_places.Occurrences.{StandsAt}
+use Rattle.ms_include_laws.proofs.of_places.Reading.{place-at}
 use Rattle.ms_include_laws.proofs.of_places.Refused.{IsToldAt}
 use Rattle.ms_parse_grammar.specs.declared.operator.Bracket.{Bracket}
 

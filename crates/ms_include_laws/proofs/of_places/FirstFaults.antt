@@ -7,7 +7,7 @@ use Rattle.ms_logic.specs.declared.source.Loaded.{Loaded}
 use Rattle.ms_logic.specs.declared.source.PlacedInt.{PlacedInt}
 use Rattle.ms_names_rules.specs.declared.fault.Fault.{Fault}
 use Rattle.ms_names_rules.specs.Scope.{Bytes, Scope}
-use Rattle.ms_parse_grammar.specs.Tree.{Declaration, variables, constant, predicate, included, default_restriction, formula, goal, Declared}
+use Rattle.ms_parse_grammar.specs.Tree.{Declaration, variables, constant, predicate, goal, Declared}
 use Rattle.ms_names_rules.specs.Checking.{IsFirstFault}
 use Rattle.ms_names_rules.specs.Constant.{Sum, sums_to, leaves_range, has_no_value, sum_from}
 use Rattle.ms_names_rules.specs.Declarations.{Known, after_declaration, at_the_beginning, declared_names, exports_in, faults_in, faults_of_declaration, faults_of_sum, faults_of_title, first_fault_from, occurrences_in, or_later, title_in}
@@ -41,19 +41,11 @@ module _ (P : At → Type 0) where
       (both-at P sum numbers (sum-at at (sum_from k.scope 0 is) h.0) (numbers-at k.scope is h.1))
   declaration-at k (predicate is_pred at n vs e) h =
       both-at P (faults_of_repeat at n (declared_names k.scope)) (faults_of_bounds [] vs) (repeat-at P at n (declared_names k.scope) h.0) (bounds-at P [] vs h.1)
-  declaration-at k (included at file) h = tt
-  declaration-at k (default_restriction o n e) h = tt
-  declaration-at k (formula e) h = tt
-  declaration-at k (goal at title e) h = tt
+  declaration-at k _ h = tt
 
   title-at : (earlier : List Bytes) (d : Declaration) → EachPlaceInDeclaration P d → FaultsAt P (faults_of_title earlier (title_in d))
-  title-at earlier (variables vs) h = tt
-  title-at earlier (constant at n is) h = tt
-  title-at earlier (predicate is_pred at n vs e) h = tt
-  title-at earlier (included at file) h = tt
-  title-at earlier (default_restriction o n e) h = tt
-  title-at earlier (formula e) h = tt
   title-at earlier (goal at title e) h = repeat-at P at title earlier h.0
+  title-at earlier _ h = tt
 
   faults-at : (k : Known) (d : Declaration) → EachPlaceInDeclaration P d → FaultsAt P (faults_in k d)
   faults-at k d h =

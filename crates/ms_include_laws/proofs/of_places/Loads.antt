@@ -7,7 +7,7 @@ use Rattle.ms_edge.specs.declared.refusal.Refusal.TheVariants as refusals
 use Rattle.ms_edge.specs.Files.{Seen}
 use Rattle.ms_logic.specs.declared.mode.Mode.{Mode}
 use Rattle.ms_logic.specs.declared.source.Decl.{Decl}
-use Rattle.ms_logic.specs.declared.source.Decl.TheVariants.{Vars, Const, Pred, Include, Default, Formula, Goal}
+use Rattle.ms_logic.specs.declared.source.Decl.TheVariants.{Include}
 use Rattle.ms_logic.specs.declared.source.Item.{Item}
 use Rattle.ms_logic.specs.declared.source.Loaded.{Loaded}
 use Rattle.ms_include.specs.declared.begun.Begun.{Begun}
@@ -51,13 +51,8 @@ loading-grows files (suc deeper) chain read name after items (source, few, is, n
 
 -- the place of the name in an include is one of its places
 include-at : (P : At → Type 0) (d : Decl) → EachPlaceInDeclaration P (declaration_of d) → If (λ (include : At × List ℕ). P include.0) (include_of d)
-include-at P (Vars bounds) h = tt
-include-at P (Const at n sum) h = tt
-include-at P (Pred is_pred at n bounds body) h = tt
 include-at P (Include at file) h = h
-include-at P (Default o n body) h = tt
-include-at P (Formula e) h = tt
-include-at P (Goal at title e) h = tt
+include-at P _ h = tt
 
 -- All places are in so many files from `base` on, where no more files are read.
 module _ (seen : Seen) (base count : ℕ) where

@@ -15,23 +15,12 @@ use Rattle.ms_names_rules.specs.Scope.{Scope, count_of_bounds, count_of_parts, m
 use Rattle.ms_names_rules.proofs.Fitting.{each-append, each-weaker}
 use Rattle.ms_include_laws.specs.inner.places.Laws.{ExpressionsInsideHavePlaces}
 use Rattle.ms_include_laws.specs.inner.places.Places.{EachPlaceIn, EachPlaceInAll, EachPlaceInBounds, EachPlaceInDomain, EachPlaceInParts, IsAmongFiles}
+use Rattle.ms_include_laws.proofs.of_places.Reading.{place-at}
 
 module _ (P : At → Type 0) where
   -- P holds of each place of the expression that stands there
   abbrev pub StandsAt : Occurrence → Type 0
   StandsAt o = EachPlaceIn P o.expression
-
-  -- the place of an expression is one of its places
-  pub place-at : (e : Expression) → EachPlaceIn P e → P (place e)
-  place-at (atom at a) h = h.0
-  place-at (prefixed at op e) h = h.0
-  place-at (binary at op e f) h = h.0
-  place-at (joined at op es) h = h.0
-  place-at (shifted at e i) h = h.0
-  place-at (enclosed at k e) h = h.0
-  place-at (listed at l es) h = h.0
-  place-at (quantified at q o vs e) h = h.0
-  place-at (let_in at o ps e) h = h.0
 
   mutual
     pub stand-at : (s : Scope) (b : Before) (w : Wanted) (e : Expression) → EachPlaceIn P e → Each StandsAt (occurrences s b w e)

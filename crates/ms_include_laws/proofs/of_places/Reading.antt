@@ -69,7 +69,7 @@ module _ (P : At → Type 0) where
   list-opening-at (Call p) at from behind (f1, names, opens) h = let first = starts _ at from f1 names h in (first.0, follows _ f1 behind opens first.1)
 
   -- the place of an expression is one of its places
-  place-at : (e : Expression) → EachPlaceIn P e → P (place e)
+  pub place-at : (e : Expression) → EachPlaceIn P e → P (place e)
   place-at (atom at a) h = h.0
   place-at (prefixed at op e) h = h.0
   place-at (binary at op l r) h = h.0

@@ -71,3 +71,5 @@ goal-inside = (((omega arith, omega arith), ((omega arith, omega arith), body-in
 
 pub goal-outside : HasPlacesInFiles 0 (source (goal_at (at 0) (at 0) (at 1) ∷ [])) → ⊥
 goal-outside h = omega (arith, (subst (EachPlaceIn (IsAmongFiles 0 1)) (truth-of (at 1)) h.0.1.1).0.1)
+
+pub ruleset worked = (inside, behind, formula-outside, second-outside, before, global-inside, global-outside, predicate-inside, predicate-body-outside, default-outside, goal-inside, goal-outside)

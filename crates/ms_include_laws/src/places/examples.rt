@@ -6,6 +6,7 @@ ghost use Rattle.ms_include_laws.specs.inner.places.Places.{HasPlacesInFiles, Is
 ghost use Rattle.std.specs.Prelude.{[], ◌∷◌, codes};
 
 /// Sources of one file, which has the number 0, or 1 where another was read before.
+#[tactic(auto, using(crate::proofs::of_places::Worked::worked))]
 pub fn worked_sources()
     // true;
     ensures inside { HasPlacesInFiles 0 (source (truth_at (at 0) (at 0) ∷ [])) }
