@@ -1,6 +1,7 @@
 pub mod Appending
 pub mod BitsLemmas
 pub mod Canonicity
+pub mod CellLemmas
 pub mod ChainLemmas
 pub mod CodeLemmas
 pub mod Ends

@@ -7,7 +7,7 @@ use Rattle.ms_arena.proofs.Lists.{slice_get-pushed}
 use Rattle.ms_arena.specs.declared.cells.Cell.{Cell}
 use Rattle.ms_arena.specs.Arena.{IsUnique}
 use Rattle.ms_arena.specs.inner.Table.{IsTable}
-use Rattle.ms_arena.specs.inner.Chain.{nodes_of, IsLinked}
+use Rattle.ms_arena.specs.inner.Chain.{nodes_of, AreLinked}
 
 IsUnique-push : (nodes : List Node) (node : Node) → length nodes < 4294967295 → IsNew nodes node → IsUnique nodes → IsUnique (nodes ++ node ∷ [])
 IsUnique-push nodes node room new unique = record {
@@ -26,7 +26,7 @@ IsUnique-push nodes node room new unique = record {
 
 -- so the table stays one when a cell is put behind its cells and linked
 pub IsTable-push : (cells new : List Cell) (heads new_heads : List ℕ) (cell : Cell) (spare room new_room : ℕ) → IsTable cells heads spare room → IsNew (nodes_of cells) cell.node → 1 ≤ spare
-    → new_room + 1 ≡ room → nodes_of new ≡ nodes_of (cells ++ cell ∷ []) → length new_heads ≡ length heads → IsLinked new new_heads (length cells + 1) → IsTable new new_heads (spare - 1) new_room
+    → new_room + 1 ≡ room → nodes_of new ≡ nodes_of (cells ++ cell ∷ []) → length new_heads ≡ length heads → AreLinked new new_heads (length cells + 1) → IsTable new new_heads (spare - 1) new_room
 IsTable-push cells new heads new_heads cell spare room new_room table absent some_room less same same_heads linked =
     let node = λ (c : Cell). c.node in
     let grown = same ∙ map-append node cells (cell ∷ []) in
@@ -37,7 +37,7 @@ IsTable-push cells new heads new_heads cell spare room new_room table absent som
     let longer : length new ≡ length cells + 1 = omega (arith, length-map new node, ap length same, length-map (cells ++ cell ∷ []) node, length-append cells (cell ∷ [])) in
     record {
       unique = subst IsUnique (sym grown) (IsUnique-push (nodes_of cells) cell.node (omega arith) absent table.unique);
-      linked = subst (IsLinked new new_heads) (sym longer) linked;
+      linked = subst (AreLinked new new_heads) (sym longer) linked;
       reserved = omega (arith, reserved, less);
       small = omega arith;
       bucketed = λ some. omega arith;

@@ -2,7 +2,7 @@ ghost use Rattle.std.specs.Prelude.{◌≡◌, ◌+◌, ◌<◌, ◌≤◌, ◌/
 ghost use Rattle.ms_arena.specs.Target.{IsNew};
 
 use crate::cells::Cells;
-use crate::chain::{find_in_chain, link, link_all};
+use crate::chain::{empty_all, find_in_chain, link, link_all};
 use crate::node::Node;
 use ms_list::NoMemory;
 use std::alloc::Global;
@@ -10,6 +10,9 @@ use std::marker::Model;
 
 /// The least number of nodes that room is made for.
 const LEAST_ROOM: u64 = 64;
+
+/// How many nodes there is room for to each bucket. With one to each the program takes a fourteenth more memory, and no less time.
+const ROOM_OF_BUCKET: usize = 2;
 
 /// A list of nodes, no two equal, that knows the place of each. Contracts see the list, and how many more nodes there is
 /// room for.
@@ -98,12 +101,15 @@ impl Arena {
     {
         let held = self.cells.len();
         let room = room_for(held as u64 + u64::from(n)) as usize;
-        let mut heads = Vec::new(self.alloc);
-        if heads.resize(room, 0).is_err() || self.cells.reserve_exact(room - held).is_err() {
+        let buckets = room / ROOM_OF_BUCKET;
+        let more = buckets.saturating_sub(self.heads.len());
+        if self.heads.reserve_exact(more).is_err()
+            || self.cells.reserve_exact(room - held).is_err()
+        {
             return Err(NoMemory);
         }
-        link_all(&mut self.cells, &mut heads);
-        self.heads = heads;
+        empty_all(&mut self.heads, buckets);
+        link_all(&mut self.cells, &mut self.heads);
         self.spare = (room.min(u32::MAX as usize) - held) as u32;
         Ok(())
     }

@@ -1,6 +1,6 @@
-ghost use Rattle.std.specs.Prelude.{◌≡◌, ◌+◌, ◌<◌, ◌≤◌, length, slice_get, MatchOption};
+ghost use Rattle.std.specs.Prelude.{◌≡◌, ◌+◌, ◌<◌, ◌≤◌, length, slice_get, MatchOption, vec_capacity};
 ghost use Rattle.ms_arena.specs.Target.{IsNew};
-ghost use Rattle.ms_arena.specs.inner.Chain.{nodes_of, AreEmpty, IsLinked};
+ghost use Rattle.ms_arena.specs.inner.Chain.{nodes_of, AreEmpty, AreLinked};
 
 use crate::cells::Cells;
 use crate::hash::bucket;
@@ -9,7 +9,7 @@ use crate::node::Node;
 // The place of the node, which is looked for in the chain of its bucket.
 pub(crate) fn find_in_chain(cells: &Cells, heads: &[u32], node: Node) -> Option<u32>
     requires heads { 0 < length heads.now }
-    requires linked { IsLinked cells.now.cells heads.now (length cells.now.cells) }
+    requires linked { AreLinked cells.now.cells heads.now (length cells.now.cells) }
     ensures { MatchOption result (IsNew (nodes_of cells.now.cells) node) (λ place. slice_get (nodes_of cells.now.cells) place ≡ Some node) }
 {
     let mut link = heads[bucket(node, heads.len())];
@@ -29,8 +29,8 @@ pub(crate) fn link(cells: &mut Cells, heads: &mut [u32], place: u32)
     requires place { place < length cells.old.cells }
     requires small { place < 4294967295 }
     requires heads { 0 < length heads.old }
-    requires linked { IsLinked cells.old.cells heads.old place }
-    ensures linked { IsLinked cells.new.cells heads.new (place + 1) }
+    requires linked { AreLinked cells.old.cells heads.old place }
+    ensures linked { AreLinked cells.new.cells heads.new (place + 1) }
     ensures nodes { nodes_of cells.new.cells ≡ nodes_of cells.old.cells }
     ensures spare { cells.new.spare ≡ cells.old.spare }
 {
@@ -39,12 +39,22 @@ pub(crate) fn link(cells: &mut Cells, heads: &mut [u32], place: u32)
     heads[head] = place + 1;
 }
 
+// Makes so many heads, all empty, where they have room.
+pub(crate) fn empty_all(heads: &mut Vec<u32>, buckets: usize)
+    requires { buckets ≤ vec_capacity heads.old }
+    ensures buckets { length heads.new.items ≡ buckets }
+    ensures empty { AreEmpty heads.new.items }
+{
+    heads.clear();
+    let _ = heads.resize(buckets, 0);
+}
+
 // Makes the chains anew, on heads that are all empty.
 pub(crate) fn link_all(cells: &mut Cells, heads: &mut [u32])
     requires small { length cells.old.cells ≤ 4294967295 }
     requires heads { 0 < length heads.old }
     requires empty { AreEmpty heads.old }
-    ensures linked { IsLinked cells.new.cells heads.new (length cells.old.cells) }
+    ensures linked { AreLinked cells.new.cells heads.new (length cells.old.cells) }
     ensures nodes { nodes_of cells.new.cells ≡ nodes_of cells.old.cells }
     ensures spare { cells.new.spare ≡ cells.old.spare }
 {

@@ -10,6 +10,7 @@ pub mod EvalLemmas
 pub mod Keys
 pub mod LeavesLemmas
 pub mod ListLemmas
+pub mod ListedLemmas
 pub mod NotesLemmas
 pub mod Noting
 pub mod NumberingLemmas

@@ -3,7 +3,6 @@ pub use Rattle.ms_cache.specs.Memo.{EachEntry}
 use Rattle.std.specs.Prelude.{ℕ, List}
 use Rattle.ms_arena.specs.declared.node.Ref.{Ref}
 use Rattle.ms_arena.specs.declared.node.Node.{Node}
-use Rattle.ms_diagram.specs.declared.root_list.RootList.{RootList}
 use Rattle.ms_diagram.specs.declared.sides.Sides.{Sides}
 use Rattle.ms_diagram.specs.Across.{IsPairedAcross}
 use Rattle.ms_diagram.specs.Apply.{IsPaired}
@@ -21,8 +20,8 @@ abbrev pub ArePairedAcross : Sides → List (ℕ × ℕ) → List Node → List 
 ArePairedAcross sides pairs nodes = EachEntry (IsPairedAcross sides pairs nodes)
 
 -- each list of references of the other store has become the reference of the numbers of its sets of leaves
-abbrev pub AreCollected : Projecting → List (List ℕ) → List Node → List (RootList × Ref) → Type 0
-AreCollected view sets nodes = EachEntry (λ key. IsCollected view sets nodes key.roots.items)
+abbrev pub AreCollected : Projecting → List (List ℕ) → List Node → List (List Ref × Ref) → Type 0
+AreCollected view sets nodes = EachEntry (IsCollected view sets nodes)
 
 -- each place of the other store has become its renamed function
 abbrev pub AreBrought : List Node → List ℕ → List Node → List (ℕ × Ref) → Type 0

@@ -6,6 +6,7 @@ pub mod Computed
 pub mod Crossing
 pub mod Equal
 pub mod Examples
+pub mod Listed
 pub mod Notes
 pub mod Places
 pub mod Relabelling

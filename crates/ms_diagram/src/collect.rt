@@ -2,6 +2,7 @@ ghost use Rattle.std.specs.Prelude.{◌≡◌, ◌⊎◌, IfOk, All};
 ghost use Rattle.ms_arena.specs.Halves.{IsLeaf};
 ghost use Rattle.ms_arena.specs.Target.{Extends};
 
+use crate::list_table::ListTable;
 use crate::notes::Notes;
 use crate::projected::Projected;
 use crate::root_list::RootList;
@@ -9,12 +10,8 @@ use crate::roots::{are_leaves, leaf_set};
 use crate::sets::Sets;
 use crate::store::Store;
 use crate::walk::{Visit, Walk};
-use indexmap::IndexMap;
 use ms_arena::Ref;
 use ms_list::StepFault;
-
-// What each list of roots has become.
-type RootTable = IndexMap<RootList, Ref>;
 
 // Sets of leaves of another store get numbers, and the bit of the track is read at 0 and at 1.
 #[derive(Drop)]
@@ -31,9 +28,9 @@ impl Walk for Collecting<'_> {
 
     type Key = RootList;
 
-    ghost rules = { collecting (λ s. s.view.now) (λ s. s.sets.now) (λ s. s.sets.ghost_name) (λ list. list.roots.items) };
+    ghost rules = { collecting (λ s. s.view.now) (λ s. s.sets.now) (λ s. s.sets.ghost_name) (λ list. list) };
 
-    ghost laws = { collecting_laws (λ s. s.view.now) (λ s. s.sets.now) (λ s. s.sets.ghost_name) (λ list. list.roots.items) same_roots };
+    ghost laws = { collecting_laws (λ s. s.view.now) (λ s. s.sets.now) (λ s. s.sets.ghost_name) (λ list. list) same_roots };
 
     fn visit<T: Notes<RootList>>(
         &mut self,
@@ -74,12 +71,12 @@ impl Walk for Collecting<'_> {
 }
 
 impl Store {
-    ghost use Rattle.ms_diagram.specs.Collect.{HasLeafSet, IsCollected, IsSetNumbering, IsSetOf, IsSetLeaf, IsSetMissing, LacksSet, SetNumber, leaf_values};
+    ghost use Rattle.ms_diagram.specs.Collect.{HasLeafSet, IsSetNumbering, IsSetOf, IsSetLeaf, IsSetMissing, LacksSet, SetNumber, leaf_values};
     ghost use Rattle.ms_diagram.specs.Growth.{Builds, OnNodes};
     ghost use Rattle.ms_diagram.specs.Numbering.{AddsOnly};
     ghost use Rattle.ms_diagram.specs.Projecting.{IsReadIn, KeepsOrder};
     ghost use Rattle.ms_diagram.specs.Store.{IsStore};
-    ghost use Rattle.ms_diagram.specs.Table.{EachEntry};
+    ghost use Rattle.ms_diagram.specs.Table.{AreCollected};
 
     // The function that has at each bits the number of the set of the leaves that the roots have there, for both bits of the
     // track, over a table of what is done.
@@ -88,17 +85,17 @@ impl Store {
         view: &Projected,
         roots: Vec<Ref>,
         sets: &mut Sets,
-        table: &mut RootTable,
+        table: &mut ListTable,
     ) -> Result<Ref, StepFault>
         requires store { IsStore self.old.nodes self.old.limit }
         requires numbering { IsSetNumbering sets.old }
         requires order { KeepsOrder view.now }
         requires read { All (IsReadIn view.now) roots.items }
-        requires table { EachEntry (λ key. IsCollected view.now sets.old self.old.nodes key.roots.items) table.old.entries }
+        requires table { AreCollected view.now sets.old self.old.nodes table.old }
         ensures builds { Builds self.old self.new (SetNumber view.now sets.new roots.items) (LacksSet view.now sets.new roots.items) result }
         ensures sets { Extends sets.old sets.new }
         ensures added { AddsOnly (HasLeafSet view.now roots.items) sets.old sets.new }
-        ensures table { EachEntry (λ key. IsCollected view.now sets.new self.new.nodes key.roots.items) table.new.entries }
+        ensures table { AreCollected view.now sets.new self.new.nodes table.new }
     {
         let mut collecting = Collecting { view, sets };
         self.walk(&mut collecting, RootList::new(roots), table)

@@ -2,12 +2,13 @@ ghost use Rattle.std.specs.Prelude.{◌≡◌, [], ◌∷◌, false, true};
 ghost use Rattle.ms_arena.specs.declared.node.Ref.TheVariants.{Inner, Leaf};
 ghost use Rattle.ms_diagram.specs.Across.{AreOn, HasLeavesAcross, IsHalf, IsOn, LacksAcross, NumberAcross, leaves_across};
 ghost use Rattle.ms_diagram.specs.Collect.{LacksSet, SetNumber};
-ghost use Rattle.ms_diagram.specs.Hash.{scattered};
+ghost use Rattle.ms_diagram.specs.Hash.{hash_of, scattered};
 ghost use Rattle.ms_diagram.specs.Projecting.{IsReadIn, KeepsOrder, opened};
 ghost use Rattle.ms_diagram.specs.Store.{IsNewest};
-ghost use Rattle.ms_diagram.specs.inner.Computed.{row_of, HasMoved, IsPlaced, entries_of, no_slots, place_of};
+ghost use Rattle.ms_diagram.specs.inner.Computed.{row_of, HasMoved, IsPlaced, entries_of as slots_of, no_slots, place_of};
+ghost use Rattle.ms_diagram.specs.inner.Listed.{IsListedIn, bucket_of, entries_of, listed_behind};
 ghost use Rattle.ms_diagram.specs.inner.Short.{AreShort, IsLong, short_entries};
-ghost use Rattle.ms_diagram.specs.inner.Examples.{both_roots, crossed, half_full, left_out_bit, one_and_both, only, read_in, renamed_bit, without_map};
+ghost use Rattle.ms_diagram.specs.inner.Examples.{both_roots, crossed, first_list, half_full, left_out_bit, one_and_both, only, read_in, renamed_bit, row_of_three, second_list, without_map};
 
 /// Two diagrams of other stores, each read through a map: the pairs of their leaves, and the numbers of these.
 pub fn worked_sides()
@@ -41,8 +42,8 @@ pub fn worked_codes()
 /// A computed table of one bucket whose second slot is empty, and the buckets of pairs: those of leaves 3 and 4 with one node
 /// stand side by side.
 pub fn worked_buckets()
-    ensures entries { entries_of (half_full ∷ []) ≡ ((6, 7), 2) ∷ [] }
-    ensures empty { entries_of (no_slots ∷ no_slots ∷ []) ≡ [] }
+    ensures entries { slots_of (half_full ∷ []) ≡ ((6, 7), 2) ∷ [] }
+    ensures empty { slots_of (no_slots ∷ no_slots ∷ []) ≡ [] }
     ensures scattered { scattered 1 ≡ 2654435769 }
     ensures row { row_of (6, 9) ≡ 1741314242 }
     ensures bucket { place_of 1024 (6, 9) ≡ 197 }
@@ -81,6 +82,21 @@ pub fn worked_projected()
     ensures one_leaf { SetNumber renamed_bit one_and_both (Inner 0 ∷ []) (only 5) 0 }
     ensures not_both { ¬ SetNumber renamed_bit one_and_both (Inner 0 ∷ []) (only 5) 1 }
     ensures room_for_sets { ¬ LacksSet left_out_bit one_and_both (Inner 0 ∷ []) }
+{}
+
+/// Two lists in a row, the second of which has a wrong hash.
+pub fn worked_lists()
+    // what was told last comes first
+    ensures entries { entries_of row_of_three (first_list ∷ second_list ∷ []) ≡ (Inner 7 ∷ [], Inner 9) ∷ (Leaf 1 ∷ Inner 2 ∷ [], Leaf 4) ∷ [] }
+
+    // by hand from the first bits of the golden ratio
+    ensures hash_of_none { hash_of [] ≡ 0 }
+    ensures hash_of_one { hash_of (Leaf 1 ∷ []) ≡ 3703547198 }
+    ensures hash_of_two { hash_of (Leaf 1 ∷ Inner 2 ∷ []) ≡ 2278550756 }
+    ensures listed { IsListedIn row_of_three (first_list) }
+    ensures wrong_hash { ¬ IsListedIn row_of_three (second_list) }
+    ensures bucket { bucket_of 16 2278550756 ≡ 4 }
+    ensures behind { listed_behind row_of_three (Leaf 1 ∷ []) (Leaf 0) ≡ record { begin = 3; end = 4; made = Leaf 0; hash = 3703547198 } }
 {}
 
 /// The node at the last of three places.

@@ -12,6 +12,8 @@ mod examples;
 mod halves;
 mod hash;
 mod leaves;
+mod list_table;
+mod listed;
 mod notes;
 mod pair_table;
 mod pairs;
@@ -27,9 +29,11 @@ mod tables;
 mod walk;
 
 pub use examples::{
-    worked_buckets, worked_codes, worked_halves, worked_newest, worked_projected, worked_sides,
+    worked_buckets, worked_codes, worked_halves, worked_lists, worked_newest, worked_projected,
+    worked_sides,
 };
 pub use hash::scatter;
+pub use list_table::ListTable;
 pub use pair_table::PairTable;
 pub use pairs::Pairs;
 pub use places::PlaceTable;
@@ -38,4 +42,3 @@ pub use root_list::RootList;
 pub use sets::Sets;
 pub use sides::{Renamed, Sides};
 pub use store::Store;
-pub use tables::{ListTable, Table};

@@ -1,33 +1,56 @@
-ghost use Rattle.std.specs.Prelude.{◌≡◌};
+ghost use Rattle.std.specs.Prelude.{◌≡◌, ◌<◌, ◌^◌};
+ghost use Rattle.ms_diagram.specs.Hash.{mixed_with};
 
 use crate::hash::FACTOR;
 use crate::roots::rank;
 use ms_arena::Ref;
-use std::hash::{Hash, Hasher};
+use std::marker::Model;
 
-/// A list of references, with a hash of it that is worked out once: a table is asked for a list, and told of it later.
-#[derive(PartialEq, Eq, Drop)]
+/// A list of references, with a hash of it that is worked out once: a table is asked for a list, and told of it later. Contracts see
+/// the list.
+#[derive(Drop)]
 pub struct RootList {
-    hash: u64,
+    pub(crate) hash: u32,
     pub(crate) roots: Vec<Ref>,
 }
 
-impl Hash for RootList {
-    ghost use Rattle.std.specs.Hash as fed;
-    ghost use Rattle.ms_diagram.specs.inner.Equal.{same_hash};
+impl Model for RootList {
+    ghost use Rattle.std.specs.Prelude.{◌≡◌, List};
+    ghost use Rattle.ms_arena.specs.declared.node.Ref.{Ref};
+    ghost use Rattle.ms_diagram.specs.Hash.{hash_of};
 
-    ghost hash_input = { λ list. fed.u64 list.hash };
+    ghost Value = { List Ref };
 
-    ghost respects_eq = { same_hash };
+    ghost view = { λ list. list.roots.items };
 
-    fn hash<H: Hasher>(&self, state: &mut H) {
-        state.write_u64(self.hash);
+    ghost invariant = { λ list. list.hash ≡ hash_of list.roots.items };
+}
+
+impl PartialEq for RootList {
+    ghost use Rattle.std.specs.Cmp.{partial_equiv_from_equiv};
+    ghost use Rattle.ms_diagram.specs.inner.Equal.{roots_eq, roots_laws};
+
+    ghost eq = { roots_eq };
+
+    ghost laws = { partial_equiv_from_equiv roots_laws };
+
+    fn eq(&self, other: &RootList) -> bool {
+        self.roots.as_slice() == other.roots.as_slice()
     }
 }
 
+impl Eq for RootList {
+    ghost use Rattle.ms_diagram.specs.inner.Equal.{roots_laws};
+
+    ghost laws = { roots_laws };
+}
+
 // A number that differs for most lists that differ, also where they differ in order alone.
-fn mixed(roots: &[Ref]) -> u64 {
-    let mut hash = 0;
+fn mixed(roots: &[Ref]) -> u64
+    ensures value { result ≡ mixed_with 0 roots.now }
+    ensures short { result < 2 ^ 64 }
+{
+    let mut hash: u64 = 0;
     for root in roots {
         hash = (hash ^ rank(root)).rotate_left(23).wrapping_mul(FACTOR);
     }
@@ -37,9 +60,9 @@ fn mixed(roots: &[Ref]) -> u64 {
 impl RootList {
     // The list as it stands.
     pub(crate) fn new(roots: Vec<Ref>) -> RootList
-        ensures { result.roots ≡ roots }
+        ensures { result ≡ roots.items }
     {
-        let hash = mixed(roots.as_slice());
+        let hash = (mixed(roots.as_slice()) >> 32) as u32;
         RootList { hash, roots }
     }
 }

@@ -1,8 +1,9 @@
-ghost use Rattle.std.specs.Prelude.{◌≡◌, ◌≤◌, ◌↔◌, true, false, map, IsTrue, IfOk, All};
+ghost use Rattle.std.specs.Prelude.{◌≡◌, ◌<◌, ◌≤◌, ◌^◌, ◌↔◌, true, false, map, IsTrue, IfOk, All};
 ghost use Rattle.std.specs.List.Sorted.{IsStrictlyIncreasing};
 ghost use Rattle.ms_arena.specs.Diagram.{IsValid};
 ghost use Rattle.ms_arena.specs.Halves.{half_of, IsLeaf};
 ghost use Rattle.ms_diagram.specs.Collect.{AreBothHalves, AreHalves, HaveSameItems, least_level, leaf_values};
+ghost use Rattle.ms_diagram.specs.Hash.{rank_of};
 
 use crate::halves::LEAF_LEVEL;
 use crate::root_list::RootList;
@@ -12,7 +13,10 @@ use ms_list::NoMemory;
 use std::alloc::Global;
 
 // Where a reference stands in a sorted list: the leaves first.
-pub(crate) fn rank(reference: &Ref) -> u64 {
+pub(crate) fn rank(reference: &Ref) -> u64
+    ensures value { result ≡ rank_of reference.now }
+    ensures short { result < 2 ^ 64 }
+{
     match reference {
         Ref::Leaf(value) => u64::from(*value),
         Ref::Inner(place) => LEAF_LEVEL + u64::from(*place),
@@ -21,7 +25,7 @@ pub(crate) fn rank(reference: &Ref) -> u64 {
 
 // The roots in one order, each once, so that equal sets are equal lists.
 fn ordered_set(mut roots: Vec<Ref>) -> RootList
-    ensures { HaveSameItems roots.items result.roots.items }
+    ensures { HaveSameItems roots.items result }
 {
     if roots.len() < 2 {
         return RootList::new(roots);
@@ -88,13 +92,20 @@ impl Store {
         self.least_level(roots) as u32
     }
 
-    // The halves of the roots where the bit of the variable is 0, in their order, and those where it is 1.
-    fn half_lists(&self, roots: &[Ref], var: u32) -> Result<(Vec<Ref>, Vec<Ref>), NoMemory>
+    // The halves of the roots where the bit of the variable is 0, in their order, with room for so many more, and those where it
+    // is 1.
+    fn half_lists(
+        &self,
+        roots: &[Ref],
+        var: u32,
+        spare: usize,
+    ) -> Result<(Vec<Ref>, Vec<Ref>), NoMemory>
         requires { All (IsValid self.now.nodes) roots.now }
         ensures low { IfOk result (λ lists. lists.0.items ≡ map (half_of self.now.nodes var false) roots.now) }
         ensures high { IfOk result (λ lists. lists.1.items ≡ map (half_of self.now.nodes var true) roots.now) }
     {
-        let Ok(mut low) = Vec::with_capacity(self.alloc, roots.len()) else {
+        let room = roots.len().saturating_add(spare);
+        let Ok(mut low) = Vec::with_capacity(self.alloc, room) else {
             return Err(NoMemory);
         };
         let Ok(mut high) = Vec::with_capacity(self.alloc, roots.len()) else {
@@ -117,10 +128,10 @@ impl Store {
         var: u32,
     ) -> Result<(RootList, RootList), NoMemory>
         requires { All (IsValid self.now.nodes) roots.now }
-        ensures low { IfOk result (λ sets. AreHalves self.now.nodes var false roots.now sets.0.roots.items) }
-        ensures high { IfOk result (λ sets. AreHalves self.now.nodes var true roots.now sets.1.roots.items) }
+        ensures low { IfOk result (λ sets. AreHalves self.now.nodes var false roots.now sets.0) }
+        ensures high { IfOk result (λ sets. AreHalves self.now.nodes var true roots.now sets.1) }
     {
-        let (low, high) = self.half_lists(roots, var)?;
+        let (low, high) = self.half_lists(roots, var, 0)?;
         Ok((ordered_set(low), ordered_set(high)))
     }
 
@@ -128,9 +139,9 @@ impl Store {
     #[inline(never)]
     pub(crate) fn both_halves(&self, roots: &[Ref], var: u32) -> Result<RootList, NoMemory>
         requires { All (IsValid self.now.nodes) roots.now }
-        ensures { IfOk result (λ halves. AreBothHalves self.now.nodes var roots.now halves.roots.items) }
+        ensures { IfOk result (λ halves. AreBothHalves self.now.nodes var roots.now halves) }
     {
-        let (mut list, high) = self.half_lists(roots, var)?;
+        let (mut list, high) = self.half_lists(roots, var, roots.len())?;
         let Ok(()) = list.extend_from_slice(high.as_slice()) else {
             return Err(NoMemory);
         };

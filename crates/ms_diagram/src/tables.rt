@@ -1,56 +1,17 @@
-ghost use Rattle.std.specs.Prelude.{◌≡◌, [], All};
+ghost use Rattle.std.specs.Prelude.{All};
 ghost use Rattle.ms_arena.specs.Diagram.{IsValid};
 ghost use Rattle.ms_arena.specs.Target.{Extends};
 
+use crate::list_table::ListTable;
 use crate::pair_table::PairTable;
 use crate::pairs::Pairs;
 use crate::places::PlaceTable;
 use crate::projected::Projected;
-use crate::root_list::RootList;
 use crate::sets::Sets;
 use crate::sides::Sides;
 use crate::store::Store;
-use indexmap::IndexMap;
 use ms_arena::Ref;
 use ms_list::StepFault;
-use std::alloc::Global;
-use std::hash::Hash;
-use std::marker::Model;
-
-/// What each key has become in a store. A caller keeps it from call to call, so that what several diagrams share is
-/// built once. Contracts see the list of its entries.
-pub struct Table<K: Eq + Hash + Drop> {
-    done: IndexMap<K, Ref>,
-}
-
-impl<K: Eq + Hash + Drop> Drop for Table<K> {
-    fn drop(self) {
-        let Table { done: _ } = self;
-    }
-}
-
-/// What lists of references have become, where a numbering of sets grows beside it.
-pub type ListTable = Table<RootList>;
-
-impl<K: Eq + Hash + Drop> Model for Table<K> {
-    ghost use Rattle.std.specs.Prelude.{List};
-    ghost use Rattle.ms_arena.specs.declared.node.Ref.{Ref};
-
-    ghost Value = { List (K × Ref) };
-
-    ghost view = { λ table. table.done.entries };
-}
-
-impl<K: Eq + Hash + Drop> Table<K> {
-    /// A table in which nothing has been noted.
-    pub fn new(alloc: Global) -> Table<K>
-        ensures { result ≡ [] }
-    {
-        Table {
-            done: IndexMap::new(alloc),
-        }
-    }
-}
 
 impl Store {
     ghost use Rattle.ms_diagram.specs.Across.{AreOn, HasLeavesAcross, LacksAcross, NumberAcross};
@@ -132,7 +93,7 @@ impl Store {
         let Ok(list) = Vec::from_slice(self.alloc, roots) else {
             return Err(StepFault::Memory);
         };
-        self.collect_at(view, list, sets, &mut table.done)
+        self.collect_at(view, list, sets, table)
     }
 
     /// What `bring` gives, over what earlier calls have noted for this map.

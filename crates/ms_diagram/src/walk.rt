@@ -4,7 +4,6 @@ use crate::notes::{Notes, remember};
 use crate::store::Store;
 use ms_arena::Ref;
 use ms_list::StepFault;
-use std::hash::Hash;
 
 // What a walk finds at an item: its answer, an item whose answer it has, or a variable and the items of both ends.
 #[derive(Drop)]
@@ -37,7 +36,7 @@ pub(crate) trait Walk {
 
     type Item: Drop;
 
-    type Key: Eq + Hash + Drop;
+    type Key: Eq + Drop;
 
     ghost rules: { Rules Self Self.Item Self.Key };
 

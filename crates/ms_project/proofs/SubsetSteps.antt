@@ -15,7 +15,6 @@ use Rattle.ms_diagram.specs.Numbering.{AddsOnly}
 use Rattle.ms_diagram.specs.Projecting.{Projecting, IsReadIn, KeepsOrder}
 use Rattle.ms_diagram.specs.Store.{Contents, IsStore}
 use Rattle.ms_diagram.specs.Table.{AreCollected}
-use Rattle.ms_diagram.specs.declared.root_list.RootList.{RootList}
 use Rattle.ms_diagram.proofs.Building.{Builds-memory}
 use Rattle.ms_dfa.specs.Automaton.{states_of}
 use Rattle.ms_logic_words.specs.Content.{IsFollowed, is_truth_value, is_in_letters}
@@ -37,11 +36,11 @@ module _ (inside seen : Subsetting) (same : inside ≡ seen) (seen_ready : IsRea
   pub view_order : KeepsOrder view
   view_order = subst KeepsOrder (sym view_is) (order_kept inside ready)
 
-  pub view_noted : (nodes : List Node) (lists : List (RootList × Ref)) → AreNoted seen nodes lists → AreCollected view inside.sets nodes lists
+  pub view_noted : (nodes : List Node) (lists : List (List Ref × Ref)) → AreNoted seen nodes lists → AreCollected view inside.sets nodes lists
   view_noted nodes lists were =
       subst (λ v. AreCollected v inside.sets nodes lists) (sym view_is) (subst (λ (v : Subsetting). AreNoted v nodes lists) (sym same) were)
 
-  pub noted_later : (sets : List (List ℕ)) (nodes : List Node) (lists : List (RootList × Ref)) → AreCollected view sets nodes lists → AreNoted (record inside { sets = sets }) nodes lists
+  pub noted_later : (sets : List (List ℕ)) (nodes : List Node) (lists : List (List Ref × Ref)) → AreCollected view sets nodes lists → AreNoted (record inside { sets = sets }) nodes lists
   noted_later sets nodes lists are = subst (λ v. AreCollected v sets nodes lists) view_is are
 
   -- what is collected over the view is collected over the places of the rest

@@ -5,7 +5,6 @@ use Rattle.ms_arena.specs.declared.node.Node.{Node}
 use Rattle.ms_arena.specs.Bits.{with_bit}
 use Rattle.ms_arena.specs.Diagram.{Bits, leaf_of, IsOrdered, IsReduced}
 use Rattle.ms_arena.specs.Target.{Target, Extends}
-use Rattle.ms_diagram.specs.declared.root_list.RootList.{RootList}
 use Rattle.ms_diagram.specs.Collect.{IsRisingSet, IsSetNumbering}
 use Rattle.ms_diagram.specs.Projecting.{Projecting}
 use Rattle.ms_diagram.specs.Store.{Contents, IsStore}
@@ -83,7 +82,7 @@ pub record IsReadyForSets (v : Subsetting) : Type 0 where
   pub rising : (one two : ℕ) → one < two → two < length v.body.variables → one ≢ v.bound → two ≢ v.bound → slice_index v.back one < slice_index v.back two
 
 -- what has been noted of lists of references is right
-abbrev pub AreNoted : Subsetting → List Node → List (RootList × Ref) → Type 0
+abbrev pub AreNoted : Subsetting → List Node → List (List Ref × Ref) → Type 0
 AreNoted v nodes lists = AreCollected (projecting v) v.sets nodes lists
 
 -- the same construction with more sets

@@ -1,14 +1,13 @@
 -- The `==` of pairs and of lists is equality where that of their parts is.
 use Rattle.std.specs.Prelude.{◌≡◌, ℕ, Bool, true, nat_eq, ◌&&◌, List}
 use Rattle.std.specs.Cmp.Lexicographic.{pointwise}
-use Rattle.std.specs.Hash as fed
-use Rattle.std.proofs.Common.{[], ◌∷◌, IsTrue, refl, ap}
-use Rattle.std.proofs.lemmas.Bool.{and_parts, eqb-true, false≢true}
+use Rattle.std.specs.Cmp.{IsEquivalence}
+use Rattle.std.proofs.lemmas.Cmp.{lists_equiv}
+use Rattle.std.proofs.Common.{[], ◌∷◌, refl}
+use Rattle.std.proofs.lemmas.Bool.{and_parts, false≢true}
 use Rattle.ms_arena.specs.declared.node.Ref.{Ref}
 use Rattle.ms_arena.specs.contracts.node.RefPartialEq.TheImpl as of_ref
-use Rattle.ms_arena.proofs.Equality.{same_ref}
-use Rattle.ms_diagram.specs.declared.root_list.RootList.{RootList}
-use Rattle.ms_diagram.specs.contracts.root_list.RootListPartialEq.TheImpl as of_list
+use Rattle.ms_arena.proofs.Equality.{same_ref, ref_laws}
 
 module _ {A B : Type 0} (eq_a : A → A → Bool) (eq_b : B → B → Bool) where
   abbrev pub pair_eq : A × B → A × B → Bool
@@ -42,13 +41,13 @@ module _ {X : Type 0} (eq : X → X → Bool) where
       let rest = same_list same xs ys parts.1 in
       λ i. first i ∷ rest i
 
--- lists of references that compare equal have the same references, and the same hash
-pub same_roots : (key other : RootList) → of_list.eq-value.it key other ≡ true → key.roots.items ≡ other.roots.items
-same_roots key other same =
-    let parts = and_parts (nat_eq key.hash other.hash) (pointwise of_ref.eq-value.it key.roots.items other.roots.items) same in
-    same_list of_ref.eq-value.it same_ref key.roots.items other.roots.items parts.1
+-- lists of references
+abbrev pub roots_eq : List Ref → List Ref → Bool
+roots_eq = pointwise of_ref.eq-value.it
 
-pub same_hash : (key other : RootList) → IsTrue (of_list.eq-value.it key other) → fed.u64 key.hash ≡ fed.u64 other.hash
-same_hash key other same =
-    let parts = and_parts (nat_eq key.hash other.hash) (pointwise of_ref.eq-value.it key.roots.items other.roots.items) same in
-    ap fed.u64 (eqb-true key.hash other.hash parts.0)
+-- those that compare equal are equal
+pub same_roots : (key other : List Ref) → roots_eq key other ≡ true → key ≡ other
+same_roots = same_list of_ref.eq-value.it same_ref
+
+pub roots_laws : IsEquivalence roots_eq
+roots_laws = lists_equiv ref_laws

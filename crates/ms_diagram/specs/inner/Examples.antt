@@ -1,10 +1,11 @@
--- Two diagrams of other stores, and a bucket, for worked examples.
+-- Two diagrams of other stores, a bucket, and a row of lists, for worked examples.
 use Rattle.std.specs.Prelude.{ℕ, ◌==◌, List, [], ◌∷◌}
 use Rattle.ms_arena.specs.declared.node.Node.{Node}
 use Rattle.ms_arena.specs.declared.node.Ref.{Ref}
 use Rattle.ms_arena.specs.declared.node.Ref.TheVariants.{Leaf, Inner}
 use Rattle.ms_arena.specs.Diagram.{Bits}
 use Rattle.ms_diagram.specs.declared.computed_table.Bucket.{Bucket}
+use Rattle.ms_diagram.specs.declared.listed.Listed.{Listed}
 use Rattle.ms_diagram.specs.declared.sides.Sides.{Sides}
 use Rattle.ms_diagram.specs.inner.Computed.{no_slots}
 use Rattle.ms_diagram.specs.Projecting.{Projecting}
@@ -44,6 +45,16 @@ both_roots = (Inner 0, Inner 0)
 -- the bit of one variable alone
 abbrev pub only : ℕ → Bits
 only var = λ other. other == var
+
+-- a row of two lists of references, one of two and one of one
+abbrev pub row_of_three : List Ref
+row_of_three = Leaf 1 ∷ Inner 2 ∷ Inner 7 ∷ []
+
+abbrev pub first_list : Listed
+first_list = record { begin = 0; end = 2; made = Leaf 4; hash = 2278550756 }
+
+abbrev pub second_list : Listed
+second_list = record { begin = 2; end = 3; made = Inner 9; hash = 5 }
 
 -- a bucket of a computed table, whose second slot is empty
 abbrev pub half_full : Bucket

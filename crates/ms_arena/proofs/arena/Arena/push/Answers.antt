@@ -2,8 +2,8 @@ use Rattle.std.proofs.Common.{◌≡◌, ◌+◌, ◌≤◌, ◌∷◌, [], ◌+
 use Rattle.std.proofs.lemmas.List.{take_at}
 use Rattle.ms_arena.specs.Target.{IsNew}
 use Rattle.ms_arena.specs.declared.cells.Cell.{Cell}
-use Rattle.ms_arena.specs.inner.Chain.{nodes_of, IsLinked}
-use Rattle.ms_arena.proofs.ChainLemmas.{IsLinked-append}
+use Rattle.ms_arena.specs.inner.Chain.{nodes_of, AreLinked}
+use Rattle.ms_arena.proofs.CellLemmas.{AreLinked-append}
 use Rattle.ms_arena.proofs.UniqueLemmas.{IsTable-push}
 use Rattle.ms_arena.proofs.arena.Arena.push.Goals as goal
 
@@ -12,8 +12,8 @@ link-requires-clause-linked c =
     let cells = c.self.inside.cells.cells in
     let place : length cells ≡ c.len-place.result = search rules in
     rw (c.push.ensures.cells, c.deref_mut.ensures.value)
-    (subst (IsLinked (cells ++ record { node = c.args.node; next = 0 } ∷ []) c.self.inside.heads.items) place
-    (IsLinked-append cells c.self.inside.heads.items (record { node = c.args.node; next = 0 }) c.self.invariant.linked))
+    (subst (AreLinked (cells ++ record { node = c.args.node; next = 0 } ∷ []) c.self.inside.heads.items) place
+    (AreLinked-append cells c.self.inside.heads.items (record { node = c.args.node; next = 0 }) c.self.invariant.linked))
 
 pub invariant_of-self : goal.invariant_of-self
 invariant_of-self c =
@@ -29,4 +29,4 @@ invariant_of-self c =
     (subst (λ contents. 1 ≤ contents.spare) (sym c.self.view_is) c.requires.room)
     (ap (λ spare. spare + 1) c.link.ensures.spare ∙ c.push.ensures.spare)
     (c.link.ensures.nodes ∙ ap nodes_of c.push.ensures.cells) same_heads
-    (subst (λ count. IsLinked c.link.new.cells.cells c.link.new.heads (count + 1)) (sym place) c.link.ensures.linked))
+    (subst (λ count. AreLinked c.link.new.cells.cells c.link.new.heads (count + 1)) (sym place) c.link.ensures.linked))

@@ -1,8 +1,7 @@
-use Rattle.std.proofs.Common.{subst, sym}
+use Rattle.std.proofs.Common.{subst}
 use Rattle.ms_diagram.specs.Collect.{HasLeafSet, SetNumber, LacksSet}
 use Rattle.ms_diagram.specs.Growth.{Builds}
 use Rattle.ms_diagram.specs.Numbering.{AddsOnly}
-use Rattle.ms_diagram.specs.Table.{AreCollected}
 use Rattle.ms_diagram.proofs.Building.{Builds-memory}
 use Rattle.ms_diagram.proofs.NumberingLemmas.{AddsOnly-same}
 use Rattle.ms_diagram.proofs.store.Store.collect.Goals as goal
@@ -25,7 +24,3 @@ pub returns-clause-added : goal.returns-clause-added
 returns-clause-added c =
     subst (λ roots. AddsOnly (HasLeafSet c.args.view.now roots) c.args.sets.now c.collect_at.new.sets)
     c.in-Ok.ensures.items c.collect_at.ensures.added
-
-pub collect_at-requires-clause-table : goal.collect_at-requires-clause-table
-collect_at-requires-clause-table c =
-    subst (λ table. AreCollected c.args.view.now c.args.sets.now c.args.self.now.nodes table) (sym c.table.view_is) c.requires.table
