@@ -1,5 +1,5 @@
 -- The derived `==` on references and on nodes is equality.
-use Rattle.std.proofs.Common.{◌≡◌, true, ◌&&◌, nat_eq, refl, sym, ap, ◌∙◌, ⊎_elim}
+use Rattle.std.proofs.Common.{◌≡◌, true, false, ◌&&◌, nat_eq, refl, sym, ap, ◌∙◌, ⊎_elim}
 use Rattle.std.proofs.lemmas.Bool.{eqb-true, eq-eqb, and_parts, and_from, false≢true, both_ways, cases_Bool}
 use Rattle.std.specs.Cmp.{IsEquivalence}
 use Rattle.ms_arena.specs.declared.node.Ref.{Ref}
@@ -47,3 +47,7 @@ ref_laws = record {
       (cases_Bool (of_ref.eq-value.it a b));
   congr = λ a b c equal. ap (λ r. of_ref.eq-value.it r c) (same_ref a b equal);
 }
+
+-- nodes that compare unequal differ
+pub differing : (one two : Node) → false ≡ of_node.eq-value.it one two → one ≡ two → ⊥
+differing one two unequal same = both_ways (of_node.eq-value.it one two) (sym unequal) (ap (λ node. of_node.eq-value.it node two) same ∙ node_itself two)

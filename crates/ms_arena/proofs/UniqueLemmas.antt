@@ -32,13 +32,13 @@ IsTable-push cells new heads new_heads cell spare room new_room table absent som
     let grown = same ∙ map-append node cells (cell ∷ []) in
     let small = table.small in
     let reserved = table.reserved in
-    let bucketed = table.bucketed in
+    let headed : 0 < length new_heads = let some = table.headed (omega arith) in omega (arith, some, same_heads) in
     let held = length-map cells node in
     let longer : length new ≡ length cells + 1 = omega (arith, length-map new node, ap length same, length-map (cells ++ cell ∷ []) node, length-append cells (cell ∷ [])) in
     record {
       unique = subst IsUnique (sym grown) (IsUnique-push (nodes_of cells) cell.node (omega arith) absent table.unique);
-      linked = subst (AreLinked new new_heads) (sym longer) linked;
+      linked = λ any. subst (AreLinked new new_heads) (sym longer) linked;
       reserved = omega (arith, reserved, less);
       small = omega arith;
-      bucketed = λ some. omega arith;
+      headed = λ more. omega arith;
     }

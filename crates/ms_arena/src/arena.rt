@@ -2,7 +2,7 @@ ghost use Rattle.std.specs.Prelude.{◌≡◌, ◌+◌, ◌<◌, ◌≤◌, ◌/
 ghost use Rattle.ms_arena.specs.Target.{IsNew};
 
 use crate::cells::Cells;
-use crate::chain::{empty_all, find_in_chain, link, link_all};
+use crate::chain::{empty_all, find_in_chain, find_in_row, link, link_all};
 use crate::node::Node;
 use ms_list::NoMemory;
 use std::alloc::Global;
@@ -72,20 +72,31 @@ impl Arena {
     pub fn find(&self, node: Node) -> Option<u32>
         ensures { MatchOption result (IsNew self.now.nodes node) (λ place. slice_get self.now.nodes place ≡ Some node) }
     {
-        if self.cells.len() == 0 {
-            return None;
+        if self.heads.is_empty() {
+            return find_in_row(&self.cells, node);
         }
         find_in_chain(&self.cells, &self.heads, node)
     }
 
-    /// Makes room for at least so many more nodes.
+    /// Lets the heads of the chains go, and the room for more nodes, for an arena that is read alone: a node is then looked for at
+    /// one place after the other, until room is made.
+    pub fn seal(&mut self)
+        ensures nodes { self.new.nodes ≡ self.old.nodes }
+        ensures spare { self.new.spare ≡ 0 }
+    {
+        self.heads.clear();
+        self.heads.shrink_to_fit();
+        self.spare = 0;
+    }
+
+    /// Makes room for at least so many more nodes, and the chains anew where they were let go.
     pub fn reserve(&mut self, n: u32) -> Result<(), NoMemory>
         requires { length self.old.nodes + n ≤ 4294967295 }
         ensures room { OnOk result (n ≤ self.new.spare) }
         ensures nodes { self.new.nodes ≡ self.old.nodes }
         ensures refused { OnErr result (self.new ≡ self.old) }
     {
-        if n <= self.spare {
+        if n <= self.spare && !self.heads.is_empty() {
             return Ok(());
         }
         self.grow(n)

@@ -6,6 +6,20 @@ use crate::cells::Cells;
 use crate::hash::bucket;
 use crate::node::Node;
 
+// The place of the node, which is looked for at one place after the other.
+#[cold]
+pub(crate) fn find_in_row(cells: &Cells, node: Node) -> Option<u32>
+    requires { length cells.now.cells ≤ 4294967295 }
+    ensures { MatchOption result (IsNew (nodes_of cells.now.cells) node) (λ place. slice_get (nodes_of cells.now.cells) place ≡ Some node) }
+{
+    for place in 0..cells.len() as u32 {
+        if cells.get(place).node == node {
+            return Some(place);
+        }
+    }
+    None
+}
+
 // The place of the node, which is looked for in the chain of its bucket.
 pub(crate) fn find_in_chain(cells: &Cells, heads: &[u32], node: Node) -> Option<u32>
     requires heads { 0 < length heads.now }

@@ -39,9 +39,9 @@ impl Model for Automaton {
 }
 
 impl Automaton {
-    /// The automaton of these parts.
+    /// The automaton of these parts. Its store is read alone, so what finds a node there is let go.
     pub fn make(
-        store: Store,
+        mut store: Store,
         mode: Mode,
         tracks: List<Track>,
         start: Ref,
@@ -50,6 +50,7 @@ impl Automaton {
         requires { IsAutomaton (content_of store.nodes mode tracks start states) }
         ensures { result ≡ content_of store.nodes mode tracks start states }
     {
+        store.seal();
         Automaton {
             store,
             mode,

@@ -1,19 +1,17 @@
 ghost use Rattle.std.specs.Prelude.{◌≡◌, ◌≤◌, [], IfSome, MatchOption};
 ghost use Rattle.std.specs.Map.{lookup};
-ghost use Rattle.ms_arena.specs.inner.Code.{code_of, ref_of};
+ghost use Rattle.ms_arena.specs.inner.Code.{code_of};
 ghost use Rattle.ms_diagram.specs.inner.Equal.{refs_eq};
 ghost use Rattle.ms_diagram.specs.inner.Short.{AreShort, IsLong, IsShort, short_entries};
 
 use crate::computed_table::ComputedTable;
 use crate::notes::Notes;
+use crate::short::{reference, short};
 use indexmap::IndexMap;
 use ms_arena::Ref;
 use ms_list::NoMemory;
 use std::alloc::Global;
 use std::marker::Model;
-
-/// The numbers of references whose codes have four bytes, and are none of the two greatest, are below this one.
-const SHORT: u32 = 0x7FFF_FFFF;
 
 /// What pairs of references have become, where a numbering of pairs grows beside it. A caller keeps it from call to call, so
 /// that what several diagrams share is built once. Contracts see the list of its entries.
@@ -57,21 +55,6 @@ impl PairTable {
     }
 }
 
-// The code of a reference, if it has four bytes: twice its number for a leaf, and one more for a node.
-fn short(reference: Ref) -> Option<u32>
-    ensures { MatchOption result (4294967294 ≤ code_of reference) (λ code. (code ≡ code_of reference) × IsShort code) }
-{
-    let (number, is_node) = match reference {
-        Ref::Leaf(value) => (value, 0),
-        Ref::Inner(place) => (place, 1),
-    };
-    if number < SHORT {
-        Some(2 * number + is_node)
-    } else {
-        None
-    }
-}
-
 // The codes of both.
 fn short_pair(key: &(Ref, Ref)) -> Option<(u32, u32)>
     ensures { MatchOption result (IsLong key.now) (λ codes. (codes ≡ (code_of key.now.0, code_of key.now.1)) × IsShort codes.0 × IsShort codes.1) }
@@ -95,18 +78,6 @@ fn short_entry(
     let codes = short_pair(key)?;
     let code = short(made)?;
     Some((codes, code))
-}
-
-// The reference of a code.
-fn reference(code: u32) -> Ref
-    ensures { result ≡ ref_of code }
-{
-    let number = code / 2;
-    if code % 2 == 0 {
-        Ref::Leaf(number)
-    } else {
-        Ref::Inner(number)
-    }
 }
 
 // What the pair has become by an entry in twelve bytes.

@@ -82,6 +82,14 @@ impl Store {
         self.nodes.reserve(room as u32)
     }
 
+    /// Lets go what finds a node, for a store that is read alone. It is made again with the first new node; until then `mk` looks at
+    /// one node after the other.
+    pub fn seal(&mut self)
+        ensures { self.new ≡ self.old }
+    {
+        self.nodes.seal();
+    }
+
     /// How often `apply` has found in the memo what it was to build, up to the greatest `u64`.
     pub fn hits(&self) -> u64
         ensures { result ≡ self.now.hits }

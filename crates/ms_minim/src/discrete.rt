@@ -5,7 +5,7 @@ ghost use Rattle.ms_minim.specs.inner.Partition.{IsIdentity};
 use crate::classes::Partition;
 use crate::images::Images;
 use ms_arena::Ref;
-use ms_diagram::Store;
+use ms_diagram::{RefList, Store};
 use ms_list::{List, NoMemory, push};
 use std::alloc::Global;
 
@@ -35,9 +35,9 @@ pub(crate) fn own_images(alloc: Global, from: &Store) -> Result<Images, NoMemory
     ensures store { IfOk result (λ made. made.store.nodes ≡ from.now.nodes) }
     ensures list { IfOk result (λ made. AreOwnImages (length from.now.nodes) made.list) }
 {
-    let mut list = List::new(alloc);
+    let mut list = RefList::new(alloc);
     for place in 0..from.len() as u32 {
-        push(&mut list, Ref::Inner(place))?;
+        list.push(Ref::Inner(place))?;
     }
     let store = from.copy()?;
     Ok(Images { store, list })

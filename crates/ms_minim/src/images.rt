@@ -8,8 +8,8 @@ ghost use Rattle.ms_minim.specs.inner.Origin.{AreClosed, IsOn};
 
 use crate::origins::is_seen;
 use ms_arena::Ref;
-use ms_diagram::Store;
-use ms_list::{List, NoMemory, push};
+use ms_diagram::{RefList, Store};
+use ms_list::NoMemory;
 use std::alloc::Global;
 
 /// How many nodes a store holds at most.
@@ -18,7 +18,7 @@ pub(crate) const ROOM: u64 = 4000000000;
 /// What each node of an automaton has become in a store of their own, where leaves are read as classes.
 pub(crate) struct Images {
     pub store: Store,
-    pub list: List<Ref>,
+    pub list: RefList,
 }
 
 // Written out, so that a function that lets one go at each of its exits is proved at the cost of a call.
@@ -49,13 +49,13 @@ pub(crate) fn class_of(classes: &[u32], state: u32) -> u32
 }
 
 /// What a reference becomes, by what the nodes have become.
-pub(crate) fn image(images: &[Ref], classes: &[u32], reference: Ref) -> Ref
+pub(crate) fn image(images: &RefList, classes: &[u32], reference: Ref) -> Ref
     requires { IsBefore (length images.now) reference }
     ensures { result ≡ image_of images.now classes.now reference }
 {
     match reference {
         Ref::Leaf(value) => Ref::Leaf(class_of(classes, value)),
-        Ref::Inner(place) => images[place as usize],
+        Ref::Inner(place) => images.get(place),
     }
 }
 
@@ -71,7 +71,7 @@ pub(crate) struct Reached<'a> {
 fn image_at(
     store: &mut Store,
     reached: &Reached,
-    images: &[Ref],
+    images: &RefList,
     place: u32,
 ) -> Result<Ref, NoMemory>
     requires store { IsStore store.old.nodes store.old.limit }
@@ -105,13 +105,13 @@ pub(crate) fn images_of(alloc: Global, reached: &Reached) -> Result<Images, NoMe
     ensures few { IfOk result (λ made. length made.store.nodes ≤ length reached.now.store.now.nodes) }
 {
     let mut store = Store::new(alloc, ROOM);
-    let mut list = List::new(alloc);
+    let mut list = RefList::new(alloc);
     store.reserve(reached.store.len())?;
     // The length tells that the nodes are those of a store.
     let _ = store.len();
     for place in 0..reached.store.len() {
-        let made = image_at(&mut store, reached, list.slice(), place as u32)?;
-        push(&mut list, made)?;
+        let made = image_at(&mut store, reached, &list, place as u32)?;
+        list.push(made)?;
     }
     Ok(Images { store, list })
 }

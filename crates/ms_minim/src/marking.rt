@@ -58,7 +58,7 @@ pub(crate) fn marks(
     let _ = known.len();
     for state in 0..automaton.states() {
         let root = automaton.next_ref(state);
-        let reference = image(images.list.slice(), classes, root);
+        let reference = image(&images.list, classes, root);
         let found = mark(&mut known, reference)?;
         push(&mut made, found)?;
     }

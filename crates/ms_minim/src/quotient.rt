@@ -99,7 +99,7 @@ fn numbers_behind(
     let _ = pairs.len();
     let _ = source.automaton.states();
     let classes = source.partition.classes.slice();
-    let behind = image(tables.images.list.slice(), classes, root);
+    let behind = image(&tables.images.list, classes, root);
     if tables.settled {
         return Ok(behind);
     }

@@ -19,7 +19,7 @@ pub(crate) fn own_start(source: &Source, pairs: &Pairs, tables: &QuotientTables)
 {
     let root = source.automaton.start_ref();
     let classes = source.partition.classes.slice();
-    image(tables.images.list.slice(), classes, root)
+    image(&tables.images.list, classes, root)
 }
 
 /// The state of the class of a number, which leads on by the image of what the state of the class leads on by.
@@ -36,7 +36,7 @@ fn own_state(source: &Source, pairs: &Pairs, tables: &QuotientTables, number: u3
     let sign = source.automaton.sign(member);
     let root = source.automaton.next_ref(member);
     let classes = source.partition.classes.slice();
-    let next = image(tables.images.list.slice(), classes, root);
+    let next = image(&tables.images.list, classes, root);
     State { sign, next }
 }
 

@@ -1,16 +1,9 @@
-use Rattle.std.proofs.Common.{◌≡◌, ◌+◌, ◌-◌, ◌<◌, false, length, sym, ap, subst, Some, ◌∙◌, arith}
-use Rattle.std.proofs.lemmas.Bool.{both_ways}
+use Rattle.std.proofs.Common.{◌≡◌, ◌+◌, ◌-◌, ◌<◌, length, sym, ap, subst, Some, ◌∙◌, arith}
 use Rattle.std.proofs.lemmas.List.{length-map}
-use Rattle.ms_arena.specs.declared.node.Node.{Node}
-use Rattle.ms_arena.specs.contracts.node.NodePartialEq.TheImpl as of_node
-use Rattle.ms_arena.proofs.Equality.{node_itself, same_node}
+use Rattle.ms_arena.proofs.Equality.{differing, same_node}
 use Rattle.ms_arena.specs.declared.cells.Cell.{Cell}
 use Rattle.ms_arena.proofs.CellLemmas.{node_at, link_falls, LeadsToNode, LeadsTo-cell}
 use Rattle.ms_arena.proofs.chain.find_in_chain.Goals as goal
-
--- nodes that compare unequal differ
-differing : (one two : Node) → false ≡ of_node.eq-value.it one two → one ≡ two → ⊥
-differing one two unequal same = both_ways (of_node.eq-value.it one two) (sym unequal) (ap (λ node. of_node.eq-value.it node two) same ∙ node_itself two)
 
 pub loop-link-smaller : goal.loop-link-smaller
 loop-link-smaller c =

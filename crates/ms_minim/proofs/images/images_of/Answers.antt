@@ -5,10 +5,6 @@ use Rattle.ms_minim.specs.inner.Origin.{IsOn}
 use Rattle.ms_minim.proofs.ImageLemmas.{HaveImages-more}
 use Rattle.ms_minim.proofs.images.images_of.Goals as goal
 
-pub image_at-requires-clause-images : goal.image_at-requires-clause-images
-image_at-requires-clause-images c =
-    subst (HaveImages c.loop-place.store.nodes c.args.reached.now.store.now.nodes c.args.reached.now.classes.now c.args.reached.now.origins.now) (sym c.slice.ensures) c.loop-place.invariant.2
-
 pub loop-place-preserved : goal.loop-place-preserved
 loop-place-preserved c =
     let was = c.loop-place.invariant in
@@ -16,7 +12,7 @@ loop-place-preserved c =
     let classes = c.args.reached.now.classes.now in
     let origins = c.args.reached.now.origins.now in
     let after = c.image_at.new.store.nodes in
-    let pushed = c.in_ok-push.ensures.ok in (
+    let pushed = c.in_ok-push.ensures.pushed in (
       ap length pushed ∙ length-append c.loop-place.list (c.in_ok-made.made ∷ []) ∙ ap (λ n. n + 1) was.0,
       c.in_ok-made.ensures.store,
       subst (HaveImages after old classes origins) (sym pushed)

@@ -14,9 +14,8 @@ pub image-reference-requires : goal.image-reference-requires
 image-reference-requires c =
     let content = c.args.automaton.now in
     let within : c.loop-state.state < length content.states = let less = c.loop-state-test.true in let states = c.states-state-end.ensures.states in omega (arith, less, states) in
-    subst (λ (list : List Ref). IsBefore (length list) c.next_ref-root.result) (sym c.slice.ensures)
-    (root_before content c.args.classes.now c.args.origins.now c.args.images.now c.requires.images c.next_ref-root.result (is_in_letters, c.next_ref-root.ensures.followed)
-    (seen_next content c.args.origins.now c.requires.origins c.loop-state.state within c.next_ref-root.result c.next_ref-root.ensures.next))
+    root_before content c.args.classes.now c.args.origins.now c.args.images.now c.requires.images c.next_ref-root.result (is_in_letters, c.next_ref-root.ensures.followed)
+    (seen_next content c.args.origins.now c.requires.origins c.loop-state.state within c.next_ref-root.result c.next_ref-root.ensures.next)
 
 pub loop-state-preserved : goal.loop-state-preserved
 loop-state-preserved c =
@@ -29,8 +28,8 @@ loop-state-preserved c =
     let within : c.loop-state.state < length content.states = let less = c.loop-state-test.true in let states = c.states-state-end.ensures.states in omega (arith, less, states) in
     let is : IsRoot content root = (is_in_letters, c.next_ref-root.ensures.followed) in
     let seen = seen_next content c.args.origins.now c.requires.origins c.loop-state.state within root c.next_ref-root.ensures.next in
-    let image = IsImage-read content classes c.args.origins.now images c.requires.images root is seen c.slice.result.now classes c.image-reference.result c.slice.ensures refl c.image-reference.ensures in
-    let meets = Meets-read content classes c.args.origins.now images c.requires.images root is seen c.requires.classes c.slice.result.now classes c.image-reference.result c.slice.ensures refl c.image-reference.ensures in
+    let image = IsImage-read content classes c.args.origins.now images c.requires.images root is seen images.list classes c.image-reference.result refl refl c.image-reference.ensures in
+    let meets = Meets-read content classes c.args.origins.now images c.requires.images root is seen c.requires.classes images.list classes c.image-reference.result refl refl c.image-reference.ensures in
     subst (λ made. MarksSoFar nodes limit c.mark.new.known content classes made (c.loop-state.state + 1)) (sym c.in_ok-push.ensures.ok)
     (MarksSoFar-more nodes limit c.loop-state.known content classes c.loop-state.made c.loop-state.state c.loop-state.invariant nodes limit (Extends-same nodes) c.requires.images.store
     root c.image-reference.result image.valid meets within

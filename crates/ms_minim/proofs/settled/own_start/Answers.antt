@@ -1,4 +1,4 @@
-use Rattle.std.proofs.Common.{sym, subst}
+use Rattle.std.proofs.Common.{refl, sym, subst}
 use Rattle.ms_arena.specs.Target.{Meets}
 use Rattle.ms_logic_words.specs.Content.{is_truth_value}
 use Rattle.ms_minim.specs.inner.Origin.{IsSeen}
@@ -13,6 +13,6 @@ returns c =
     let tables = c.args.tables.now in
     let root = c.start_ref-root.result in
     let image = own_image a classes c.args.source.now.partition.members c.args.source.now.places c.args.pairs.now c.requires.quotient tables c.requires.tables c.requires.settled root
-    (is_truth_value, c.start_ref-root.ensures.followed) (subst (IsSeen tables.origins) (sym c.start_ref-root.ensures.start) c.requires.tables.origins.start) c.slice.result.now c.slice-classes.result.now
-    c.image.result c.slice.ensures c.slice-classes.ensures c.image.ensures in
+    (is_truth_value, c.start_ref-root.ensures.followed) (subst (IsSeen tables.origins) (sym c.start_ref-root.ensures.start) c.requires.tables.origins.start) tables.images.list c.slice-classes.result.now
+    c.image.result refl c.slice-classes.ensures c.image.ensures in
     record { valid = image.valid; meets = subst (λ r. Meets tables.images.store.nodes (NumberBehind a classes c.args.pairs.now r) c.image.result) c.start_ref-root.ensures.start image.meets }

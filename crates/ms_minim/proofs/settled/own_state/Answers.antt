@@ -28,8 +28,8 @@ returns-clause-leads c =
     let member = c.get-member.result.now in
     let within = state_within a classes members map pairs c.requires.quotient c.get-class.result.0 member c.get-member.ensures in
     let image = own_image a classes members map pairs c.requires.quotient tables c.requires.tables c.requires.settled root
-    (is_in_letters, c.next_ref-root.ensures.followed) (seen_next a tables.origins c.requires.tables.origins member within root c.next_ref-root.ensures.next) c.slice.result.now c.slice-classes.result.now
-    c.image-next.result c.slice.ensures c.slice-classes.ensures c.image-next.ensures in
+    (is_in_letters, c.next_ref-root.ensures.followed) (seen_next a tables.origins c.requires.tables.origins member within root c.next_ref-root.ensures.next) tables.images.list c.slice-classes.result.now
+    c.image-next.result refl c.slice-classes.ensures c.image-next.ensures in
     record {
       valid = image.valid;
       meets = λ bits.

@@ -13,7 +13,8 @@ link-requires-clause-linked c =
     let place : length cells ≡ c.len-place.result = search rules in
     rw (c.push.ensures.cells, c.deref_mut.ensures.value)
     (subst (AreLinked (cells ++ record { node = c.args.node; next = 0 } ∷ []) c.self.inside.heads.items) place
-    (AreLinked-append cells c.self.inside.heads.items (record { node = c.args.node; next = 0 }) c.self.invariant.linked))
+    (AreLinked-append cells c.self.inside.heads.items (record { node = c.args.node; next = 0 })
+    (c.self.invariant.linked (c.self.invariant.headed (subst (λ contents. 1 ≤ contents.spare) (sym c.self.view_is) c.requires.room)))))
 
 pub invariant_of-self : goal.invariant_of-self
 invariant_of-self c =
