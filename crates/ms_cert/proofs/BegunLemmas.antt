@@ -13,10 +13,10 @@ use Rattle.ms_dfa.specs.declared.plain.FileSign.{FileSign}
 use Rattle.ms_logic.specs.Assignment.{Variable}
 use Rattle.ms_logic_words.specs.Canonical.{IsCanonical}
 use Rattle.ms_logic_words.specs.Content.{AreLetters, Content, IsContent, StateOf, count_of, first_state, is_in_letters, is_truth_value, letter_bits, next_from, next_state, state_after, truth_bits}
+use Rattle.ms_dfafile_outside.proofs.ContentLemmas.{valid-part}
 use Rattle.ms_cert.specs.Certificate.{AreWordsTo, GrowByLetters}
 use Rattle.ms_cert.specs.inner.Lengths.{letters_to}
 use Rattle.ms_cert.specs.inner.Levels.{AreUpTo, HasBegun, IsKept, IsKnown, IsReached, IsWordTo, Leads, MakesWords, Reached}
-use Rattle.ms_cert.proofs.ContentLemmas.{valid-part}
 use Rattle.ms_cert.proofs.LengthsLemmas.{letters-held}
 use Rattle.ms_cert.proofs.LevelsLemmas.{leads-kept, letters-kept}
 

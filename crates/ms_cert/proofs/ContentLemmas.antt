@@ -1,16 +1,15 @@
 -- The content of a file: its parts by their places, and where its references lead.
-use Rattle.std.proofs.Common.{◌≡◌, ℕ, zero, suc, ◌+◌, ◌<◌, ◌≤◌, Bool, true, false, List, [], ◌∷◌, drop, length, slice_get, slice_index_or, Option, Some, None, refl, sym, ap, subst, ◌∙◌, arith}
+use Rattle.std.proofs.Common.{◌≡◌, ℕ, ◌+◌, ◌<◌, Bool, List, [], ◌∷◌, drop, length, slice_get, slice_index_or, Option, Some, None, refl, sym, ap, ◌∙◌}
 use Rattle.std.specs.Option.{option_map}
-use Rattle.std.proofs.lemmas.List.{length-map}
 use Rattle.std.proofs.lemmas.Option.{none-some, same_Some, slice_get-map}
 use Rattle.ms_arena.specs.declared.node.Node.{Node}
 use Rattle.ms_arena.specs.declared.node.Ref.{Ref}
-use Rattle.ms_arena.specs.declared.node.Ref.TheVariants.{Leaf, Inner}
-use Rattle.ms_arena.specs.Diagram.{Bits, IsBefore, IsValid, leaf_of}
+use Rattle.ms_arena.specs.declared.node.Ref.TheVariants.{Inner}
+use Rattle.ms_arena.specs.Diagram.{Bits, leaf_of}
 use Rattle.ms_arena.proofs.Canonicity.{end_for}
-use Rattle.ms_arena.proofs.Lists.{slice_get-held}
-use Rattle.ms_arena.proofs.Paths.{IsBefore-end_at, IsBefore-later, leaf_of-leaf, leaf_of-node}
-use Rattle.ms_dfa.proofs.OrdersLemmas.{orders-by_place}
+use Rattle.ms_arena.proofs.Paths.{leaf_of-node}
+use Rattle.ms_dfafile_outside.proofs.ContentLemmas.{leads-to_state, named-end, valid-part}
+use Rattle.ms_dfafile_outside.proofs.FileLemmas.{state-at, state_of}
 use Rattle.ms_dfa.specs.Files.{content_of_file}
 use Rattle.ms_dfa.specs.declared.plain.FileSign.{FileSign}
 use Rattle.ms_dfa.specs.declared.plain.FileState.{FileState}
@@ -20,42 +19,19 @@ use Rattle.ms_cert.specs.inner.Slots.{orders_of, slot_bits, slots_of}
 use Rattle.ms_cert.proofs.ListLemmas.{drop-item}
 use Rattle.ms_cert.proofs.SlotsLemmas.{leaf-letter, leaf-truth}
 
-pub valid-part : {Sign : Type 0} (content : Content Sign) (reference : Ref) → NamesPart content reference → IsValid content.nodes reference
-valid-part content (Leaf state) named = tt
-valid-part content (Inner place) named = named
-
 module _ {Sign : Type 0} (content : Content Sign) (rules : IsContent content) where
-  pub named-end : (place : ℕ) (node : Node) (bit : Bool) → slice_get content.nodes place ≡ Some node → NamesPart content (end_for node bit)
-  named-end place node true held = rules.high_named place node held
-  named-end place node false held = rules.low_named place node held
-
-  leads_before : (count : ℕ) (reference : Ref) → IsBefore count reference → count ≤ length content.nodes → NamesPart content reference → (bits : Bits)
-      → leaf_of content.nodes reference bits < length content.states
-  leads_before count (Leaf state) before within named bits = rw (leaf_of-leaf content.nodes bits state) named
-  leads_before zero (Inner place) before within named bits = absurd (omega arith)
-  leads_before (suc count) (Inner place) before within named bits =
-      let held = slice_get-held content.nodes place (omega arith) in
-      subst (λ leaf. leaf < length content.states) (sym (leaf_of-node content.nodes rules.ordered bits place held.0 held.1))
-      (leads_before count (end_for held.0 (bits held.0.var))
-      (IsBefore-later place count (end_for held.0 (bits held.0.var)) (omega arith) (IsBefore-end_at content.nodes rules.ordered place held.0 bits held.1)) (omega arith)
-      (named-end place held.0 (bits held.0.var) held.1) bits)
-
-  -- a reference leads to states
-  pub leads-to_state : (reference : Ref) → NamesPart content reference → (bits : Bits) → leaf_of content.nodes reference bits < length content.states
-  leads-to_state reference named bits = leads_before (length content.nodes) reference (valid-part content reference named) (omega arith) named bits
-
   -- bits lead from the end of a node that they choose where they lead from the node
   pub way-more : (bits : Bits) (reference : Ref) (place : ℕ) (node : Node) (bit : Bool) → reference ≡ Inner place → slice_get content.nodes place ≡ Some node → bits node.var ≡ bit
       → NamesPart content (end_for node bit) × (leaf_of content.nodes (end_for node bit) bits ≡ leaf_of content.nodes reference bits)
   way-more bits reference place node bit is held own = (
-    named-end place node bit held,
+    named-end content rules place node bit held,
     ap (λ (b : Bool). leaf_of content.nodes (end_for node b) bits) (sym own)
         ∙ sym (leaf_of-node content.nodes rules.ordered bits place node held)
         ∙ ap (λ (r : Ref). leaf_of content.nodes r bits) (sym is),
   )
 
   pub first-state : (truth : List Bool) → first_state content truth < length content.states
-  first-state truth = leads-to_state content.start rules.start_named (truth_bits content.variables truth)
+  first-state truth = leads-to_state content rules content.start rules.start_named (truth_bits content.variables truth)
 
   -- a letter leads from a state to one
   pub next-state : (state : ℕ) (letter : List Bool) → next_state content state letter < length content.states
@@ -63,25 +39,15 @@ module _ {Sign : Type 0} (content : Content Sign) (rules : IsContent content) wh
     where
       by_state : (found : Option (StateOf Sign)) → slice_get content.states state ≡ found → next_from content found letter < length content.states
       by_state None is = rules.some_state
-      by_state (Some s) is = leads-to_state s.next (rules.next_named state s is) (letter_bits content.variables letter)
+      by_state (Some s) is = leads-to_state content rules s.next (rules.next_named state s is) (letter_bits content.variables letter)
 
   -- and so do letters
   pub after-state : (letters : List (List Bool)) (state : ℕ) → state < length content.states → state_after content state letters < length content.states
   after-state [] state within = within
   after-state (letter ∷ letters) state within = after-state letters (next_state content state letter) (next-state state letter)
 
--- a state of a file in its content
-abbrev pub state_of : FileState → StateOf FileSign
-state_of state = record { sign = state.sign; next = state.next }
-
 module _ (plain : Plain) where
-  pub length-states : length (content_of_file plain).states ≡ length plain.states
-  length-states = length-map plain.states state_of
-
-  pub state-at : (place : ℕ) (state : FileState) → slice_get plain.states place ≡ Some state → slice_get (content_of_file plain).states place ≡ Some (state_of state)
-  state-at place state held = slice_get-map state_of plain.states place ∙ ap (option_map state_of) held
-
-  -- and a state of the content in the file
+  -- a state of the content in the file
   pub state-in : (place : ℕ) (state : StateOf FileSign) → slice_get (content_of_file plain).states place ≡ Some state → (own : FileState) × (slice_get plain.states place ≡ Some own) × (state_of own ≡ state)
   state-in place state held = mapped (slice_get plain.states place) (sym (slice_get-map state_of plain.states place) ∙ held)
     where
@@ -90,12 +56,7 @@ module _ (plain : Plain) where
       mapped (Some own) is = (own, refl, same_Some (state_of own) state is)
 
   pub sign-at : (place : ℕ) (state : FileState) → slice_get plain.states place ≡ Some state → sign_at (content_of_file plain) place ≡ Some state.sign
-  sign-at place state held = ap (option_map (λ (s : StateOf FileSign). s.sign)) (state-at place state held)
-
-  pub length-variables : length (content_of_file plain).variables ≡ length plain.variables
-  length-variables =
-      let orders = orders_of plain in
-      sym (length-map (content_of_file plain).variables (λ v. v.order)) ∙ ap length (orders-by_place orders) ∙ length-map plain.variables (λ v. v.order)
+  sign-at place state held = ap (option_map (λ (s : StateOf FileSign). s.sign)) (state-at plain place state held)
 
   module _ (rules : IsContent (content_of_file plain)) where
     -- by the slots, truth values lead to the first state, and a letter from a state to the next one
@@ -107,7 +68,7 @@ module _ (plain : Plain) where
         → leaf_of plain.nodes state.next (slot_bits (slots_of plain) letter) ≡ next_state (content_of_file plain) place letter
     next-by_slots place state letter held =
         let content = content_of_file plain in
-        let there = state-at place state held in
+        let there = state-at plain place state held in
         leaf-letter plain.nodes rules.ordered (orders_of plain) letter state.next (valid-part content state.next (rules.next_named place (state_of state) there)) (rules.next_tests place (state_of state) there)
         ∙ ap (λ (found : Option (StateOf FileSign)). next_from content found letter) (sym there)
 

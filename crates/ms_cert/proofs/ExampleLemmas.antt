@@ -1,11 +1,12 @@
 -- What the worked examples need.
-use Rattle.std.proofs.Common.{◌≡◌, ℕ, zero, suc, ◌≤◌, Bool, true, false, List, [], ◌∷◌, length, slice_get, slice_index, Some, refl, sym, ap, subst, arith}
-use Rattle.std.proofs.lemmas.Option.{none-some, same_Some}
+use Rattle.std.proofs.Common.{◌≡◌, ℕ, ◌≤◌, Bool, true, false, List, [], ◌∷◌, length, slice_get, slice_index, Some, refl, sym, ap, arith}
+use Rattle.std.proofs.lemmas.Option.{same_Some}
 use Rattle.ms_list.specs.declared.word.Word.{Word}
 use Rattle.ms_arena.specs.Diagram.{leaf_of}
 use Rattle.ms_dfa.specs.Files.{content_of_file}
 use Rattle.ms_dfa.specs.declared.plain.FileSign.{FileSign}
 use Rattle.ms_dfa.specs.declared.plain.FileSign.TheVariants.{Plus}
+use Rattle.ms_dfafile_outside.proofs.ShortLists.{at_three, at_two}
 use Rattle.ms_dfafile.specs.inner.Examples.{subset}
 use Rattle.ms_logic_words.specs.Content.{Content, IsWordOver, first_state, last_state, next_state, state_after}
 use Rattle.ms_cert.specs.Certificate.{IsCertified, IsLineOver, branch, leaf}
@@ -13,18 +14,6 @@ use Rattle.ms_cert.specs.ShortestWords.{AreShortest}
 use Rattle.ms_cert.specs.declared.cert.TreeLine.TheVariants.{At, By}
 use Rattle.ms_cert.specs.inner.Examples.{cert, other_state, too_long, turned_round, word_with}
 use Rattle.ms_cert.proofs.SeparationLemmas.{branch-to, each-apart, leaf-to}
-
--- what is true of two items is true of each that a list of the two has, and the same of three
-at_two : {X : Type 0} (P : ℕ → X → Type 0) (first second : X) → P 0 first → P 1 second → (place : ℕ) (x : X) → slice_get (first ∷ second ∷ []) place ≡ Some x → P place x
-at_two P first second one two zero x held = subst (P 0) (same_Some first x held) one
-at_two P first second one two (suc zero) x held = subst (P 1) (same_Some second x held) two
-at_two P first second one two (suc (suc place)) x held = absurd (none-some x held)
-
-at_three : {X : Type 0} (P : ℕ → X → Type 0) (first second third : X) → P 0 first → P 1 second → P 2 third → (place : ℕ) (x : X) → slice_get (first ∷ second ∷ third ∷ []) place ≡ Some x → P place x
-at_three P first second third one two three zero x held = subst (P 0) (same_Some first x held) one
-at_three P first second third one two three (suc zero) x held = subst (P 1) (same_Some second x held) two
-at_three P first second third one two three (suc (suc zero)) x held = subst (P 2) (same_Some third x held) three
-at_three P first second third one two three (suc (suc (suc place))) x held = absurd (none-some x held)
 
 abbrev content : Content FileSign
 content = content_of_file subset

@@ -12,11 +12,12 @@ use Rattle.ms_logic.specs.Assignment.{Variable}
 use Rattle.ms_logic.specs.FiniteSet.{numbers_below}
 use Rattle.std_collections.proofs.IndexTableLemmas.Probe.{pigeonhole}
 use Rattle.ms_logic_words.specs.Content.{AreLetters, Content, IsContent, IsWordOver, first_state, last_state, next_state, sign_at, state_after}
+use Rattle.ms_dfafile_outside.proofs.FileLemmas.{length-states}
 use Rattle.ms_cert.specs.Certificate.{AreWordsTo, IsCertified, IsLineOver, Separates, Tree, branch, ends_in, is_sign, leaf, lines_of}
 use Rattle.ms_cert.specs.Laws.{HaveSameWords}
 use Rattle.ms_cert.specs.declared.cert.Cert.{Cert}
 use Rattle.ms_cert.specs.inner.Partition.{IsIn}
-use Rattle.ms_cert.proofs.ContentLemmas.{after-state, first-state, length-states}
+use Rattle.ms_cert.proofs.ContentLemmas.{after-state, first-state}
 use Rattle.ms_cert.proofs.MemberLemmas.{kept}
 
 only-one : (own state place : ℕ) → slice_get (own ∷ []) place ≡ Some state → own ≡ state

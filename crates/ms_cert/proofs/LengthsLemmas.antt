@@ -24,9 +24,11 @@ use Rattle.ms_dfa.specs.Files.{content_of_file}
 use Rattle.ms_dfa.specs.declared.plain.FileSign.{FileSign}
 use Rattle.ms_dfa.specs.declared.plain.Plain.{Plain}
 use Rattle.ms_logic_words.specs.Content.{Content, HasValueAt, IsContent, NamesPart, StateOf, bits_at, first_state, is_in_letters, is_truth_value, letter_bits, next_from, next_state, padded, truth_bits}
+use Rattle.ms_dfafile_outside.proofs.ContentLemmas.{valid-part}
+use Rattle.ms_dfafile_outside.proofs.FileLemmas.{length-states, state-at, state_of}
 use Rattle.ms_cert.specs.Certificate.{GrowByLetters}
 use Rattle.ms_cert.specs.inner.Lengths.{AreMost, HasSteps, IsKnown, IsMost, letters_in, letters_to, most_at}
-use Rattle.ms_cert.proofs.ContentLemmas.{first-state, length-states, next-state, state-at, state-in, state_of, valid-part}
+use Rattle.ms_cert.proofs.ContentLemmas.{first-state, next-state, state-in}
 
 module _ (nodes : List Node) (words : List Word) (ordered : IsOrdered nodes) where
   pub most-leaf : (state : ℕ) → IsMost nodes words (Leaf state) (letters_to words state)

@@ -76,6 +76,9 @@ module _ (content : Content FileSign) where
         (λ class less. let within = slice_get_within parts.classes (first_of (slice_get parts.members class)) class (first-in class less) in let long = is.states_count in omega (arith, within, long))
         (λ one other less also same. same_Some one other (sym (first-in one less) ∙ ap (slice_get parts.classes) same ∙ first-in other also))
 
+    pub few-classes : (limit : ℕ) → length content.states < limit → length parts.parents < limit
+    few-classes limit few = let same = is.members_count in omega (arith, count-classes, same, few)
+
     -- the splitter by which two classes parted tells their states apart
     pub parting-tells : (one other one_class other_class split : ℕ) (splitter : Splitter) → slice_get parts.classes one ≡ Some one_class → slice_get parts.classes other ≡ Some other_class
         → IsParting parts.parents one_class other_class split → slice_get parts.splitters split ≡ Some splitter → is_split_off content splitter one ≢ is_split_off content splitter other

@@ -10,11 +10,12 @@ use Rattle.ms_dfa.specs.Narrow.{gathered}
 use Rattle.ms_dfa.specs.declared.plain.FileSign.{FileSign}
 use Rattle.ms_logic_words.specs.Canonical.{IsCanonical}
 use Rattle.ms_logic_words.specs.Content.{Content, IsContent, StateOf, is_in_letters, letter_bits, next_from, next_state, sign_at, state_after}
+use Rattle.ms_dfafile_outside.proofs.ContentLemmas.{valid-part}
 use Rattle.ms_cert.specs.declared.splitter.Splitter.{Splitter}
 use Rattle.ms_cert.specs.inner.Images.{IsImage}
 use Rattle.ms_cert.specs.inner.Partition.{Classes, IsDiscrete, IsIn, IsPartition, with_split}
 use Rattle.ms_cert.specs.inner.Refinement.{AreAlike, AreAllAlike, AreSettled, AreSettledBelow, LeadTogether, Refines}
-use Rattle.ms_cert.proofs.ContentLemmas.{next-state, valid-part}
+use Rattle.ms_cert.proofs.ContentLemmas.{next-state}
 use Rattle.ms_cert.proofs.SplitLemmas.{new-other, split-refines}
 
 -- what follows where nothing is found

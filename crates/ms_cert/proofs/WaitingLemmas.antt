@@ -6,6 +6,7 @@ use Rattle.ms_dfa.specs.Files.{content_of_file}
 use Rattle.ms_dfa.specs.declared.plain.FileSign.{FileSign}
 use Rattle.ms_dfa.specs.declared.plain.Plain.{Plain}
 use Rattle.ms_logic_words.specs.Content.{Content}
+use Rattle.ms_dfafile_outside.proofs.FileLemmas.{length-states}
 use Rattle.ms_cert.specs.Certificate.{Separates, Tree, branch, ends_in, leaf}
 use Rattle.ms_cert.specs.declared.cert.TreeLine.TheVariants.{By}
 use Rattle.ms_cert.specs.declared.splitter.Splitter.{Splitter}
@@ -13,7 +14,6 @@ use Rattle.ms_cert.specs.declared.separation.Sides.{Sides}
 use Rattle.ms_cert.specs.inner.Partition.{Classes, IsPartition, is_split_off, with_split}
 use Rattle.ms_cert.specs.inner.Refinement.{TellsSomeApart}
 use Rattle.ms_cert.specs.inner.Separation.{AreStates, AreWaiting, SeparateEach, Takes, lists_of}
-use Rattle.ms_cert.proofs.ContentLemmas.{length-states}
 use Rattle.ms_cert.proofs.MemberLemmas.{in-filter}
 use Rattle.ms_cert.proofs.PartitionLemmas.{class-within, member-within, only-first}
 use Rattle.ms_cert.proofs.SeparationLemmas.{branch-to, last_first, takes-branch}

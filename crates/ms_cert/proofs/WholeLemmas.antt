@@ -7,11 +7,11 @@ use Rattle.ms_dfa.specs.declared.plain.Plain.{Plain}
 use Rattle.ms_dfafile.specs.File.{IsFile}
 use Rattle.ms_logic.specs.FiniteSet.{numbers_below}
 use Rattle.ms_logic_words.specs.Content.{Content}
+use Rattle.ms_dfafile_outside.proofs.FileLemmas.{length-states}
 use Rattle.ms_cert.specs.Certificate.{IsCertified, Separates, Tree, branch, ends_in, leaf, lines_of}
 use Rattle.ms_cert.specs.Text.{IsSmallLine, IsWhole}
 use Rattle.ms_cert.specs.declared.cert.Cert.{Cert}
 use Rattle.ms_cert.specs.inner.Partition.{IsIn}
-use Rattle.ms_cert.proofs.ContentLemmas.{length-states}
 use Rattle.ms_cert.proofs.GrowingLemmas.{all-join, length-sides}
 use Rattle.ms_cert.proofs.MemberLemmas.{in-filter, number-below}
 use Rattle.std.proofs.lemmas.List.FromFn.{length-range_with_len}

@@ -6,8 +6,7 @@ ghost use Rattle.ms_cert.specs.Text.{IsSmallLine, tree_line};
 use crate::cert::TreeLine;
 use crate::letters::{append_letters, last_letters};
 use crate::line::Line;
-use crate::sign::{sign, sign_field};
-use ms_dfafile::{FileFault, behind, number};
+use ms_dfafile::{FileFault, behind, number, sign, sign_field};
 use std::alloc::{AllocError, Global};
 
 /// The state of a leaf, behind its first word.

@@ -140,8 +140,7 @@ first_head = record { version = versions.One; mode = Ws1s }
 
 -- what stands behind the number of variables
 abbrev behind_number : List ℕ
-behind_number =
-    line (codes "2 P") ++ line (codes "start s0") ++ line (codes "states 2") ++ line (codes "+ n0") ++ line (codes "- s1") ++ line (codes "nodes 1") ++ line (codes "0 s0 s1") ++ line (codes "end")
+behind_number = codes "2 P\nstart s0\nstates 2\n+ n0\n- s1\nnodes 1\n0 s0 s1\nend\n"
 
 pub zero_before-no_file : (plain : Plain) → ¬ IsSpelled zero_before plain
 zero_before-no_file plain is =

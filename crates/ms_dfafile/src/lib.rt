@@ -23,4 +23,5 @@ pub use fault::FileFault;
 pub use field::{behind, number};
 pub use laws::laws_of_files;
 pub use reading::read;
+pub use state::{sign, sign_field};
 pub use writing::write;

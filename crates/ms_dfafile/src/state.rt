@@ -9,7 +9,7 @@ use ms_dfa::{FileSign, FileState};
 use std::alloc::{AllocError, Global};
 
 /// The sign in the field at the front.
-fn sign(bytes: &[u8]) -> Option<(FileSign, &[u8])>
+pub fn sign(bytes: &[u8]) -> Option<(FileSign, &[u8])>
     ensures { Reads (λ sign. field (sign_text sign)) (λ _. Unit {0}) bytes.now result }
 {
     if let Some(rest) = behind(bytes, b"+ ") {
@@ -34,7 +34,8 @@ fn state(bytes: &[u8]) -> Option<(FileState, &[u8])>
     Some((FileState { sign, next }, rest))
 }
 
-fn sign_field(sign: FileSign) -> &'static str
+/// A sign and the blank behind it.
+pub fn sign_field(sign: FileSign) -> &'static str
     ensures { result.now ≡ field (sign_text sign) }
 {
     match sign {

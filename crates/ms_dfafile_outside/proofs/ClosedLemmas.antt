@@ -24,7 +24,8 @@ use Rattle.ms_dfafile_outside.proofs.ClashLemmas.{encodes}
 use Rattle.ms_dfafile_outside.proofs.ComeLemmas.{count_with, count_with-here, count_with-other, from-start, level-in_letters, level-of_truth, stands-end, start-label, tests-own, truth-apart}
 use Rattle.ms_dfafile_outside.proofs.LabelLemmas.{full-from, full-to, label-same, lost-more, one_more-cases}
 use Rattle.ms_dfafile_outside.proofs.NumbersLemmas.{rank-gap}
-use Rattle.ms_dfafile_outside.proofs.WordsLemmas.{leads-to_state, named-end, number-within, valid-part}
+use Rattle.ms_dfafile_outside.proofs.ContentLemmas.{leads-to_state, named-end, valid-part}
+use Rattle.ms_dfafile_outside.proofs.WordsLemmas.{number-within}
 
 -- what is lost stays so, whatever comes
 stays-lost : (content : Content FileSign) (count : ℕ → ℕ) (place : ℕ) (more : Label) → IsLabel (orders_in content) count Lost → IsLabel (orders_in content) (one_more count place) more → more ≡ Lost

@@ -33,7 +33,8 @@ use Rattle.ms_dfafile_outside.specs.inner.Labels.{HasCome, HasNoGap, IsLabel, Is
 use Rattle.ms_dfafile_outside.proofs.ClashLemmas.{clash, encodes, labels-agree}
 use Rattle.ms_dfafile_outside.proofs.LabelLemmas.{full-from, full-to, label-same, one_more-cases, one_more-here}
 use Rattle.ms_dfafile_outside.proofs.NumbersLemmas.{zero-one}
-use Rattle.ms_dfafile_outside.proofs.WordsLemmas.{last-with, number-within, ones-with, over-with, valid-part, word_with}
+use Rattle.ms_dfafile_outside.proofs.ContentLemmas.{valid-part}
+use Rattle.ms_dfafile_outside.proofs.WordsLemmas.{last-with, number-within, ones-with, over-with, word_with}
 
 -- nothing is in no set
 set_of-none : (orders : List Order) → set_of orders (λ place. 0) ≡ 0

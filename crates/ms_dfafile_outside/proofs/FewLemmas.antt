@@ -19,7 +19,8 @@ use Rattle.ms_dfafile_outside.specs.inner.Numbers.{IsNumberAt, numbers_in, one_i
 use Rattle.ms_dfafile_outside.specs.inner.Labels.{ones_at, orders_in}
 use Rattle.ms_dfafile_outside.proofs.ClashLemmas.{clash}
 use Rattle.ms_dfafile_outside.proofs.NumbersLemmas.{power-more, set_of-same}
-use Rattle.ms_dfafile_outside.proofs.WordsLemmas.{last-with, leads-to_state, letter_for, ones-with, over-with, word_with}
+use Rattle.ms_dfafile_outside.proofs.ContentLemmas.{leads-to_state}
+use Rattle.ms_dfafile_outside.proofs.WordsLemmas.{last-with, letter_for, ones-with, over-with, word_with}
 
 -- which numbers are in a set
 abbrev bits_of : List Order → ℕ → Bits

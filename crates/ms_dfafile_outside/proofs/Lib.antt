@@ -1,6 +1,7 @@
 pub mod NumbersLemmas
 pub mod LabelLemmas
 pub mod OnesLemmas
+pub mod ContentLemmas
 pub mod WordsLemmas
 pub mod ClashLemmas
 pub mod ComeLemmas
@@ -10,4 +11,5 @@ pub mod FileLemmas
 pub mod LabelsLemmas
 pub mod SetsLemmas
 pub mod ArrivalLemmas
+pub mod ShortLists
 pub mod ExampleLemmas

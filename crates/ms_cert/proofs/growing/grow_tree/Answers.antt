@@ -4,12 +4,12 @@ use Rattle.std.proofs.lemmas.Option.{slice_get_within}
 use Rattle.ms_dfa.specs.Files.{content_of_file}
 use Rattle.ms_dfa.specs.declared.plain.FileSign.{FileSign}
 use Rattle.ms_logic_words.specs.Content.{Content}
+use Rattle.ms_dfafile_outside.proofs.FileLemmas.{length-states}
 use Rattle.ms_cert.specs.declared.cert.TreeLine.{TreeLine}
 use Rattle.ms_cert.specs.declared.cert.TreeLine.TheVariants.{At, By}
 use Rattle.ms_cert.specs.declared.splitter.Splitter.{Splitter}
 use Rattle.ms_cert.specs.inner.Growing.{AreGrown, IsGrown, Joins}
 use Rattle.ms_cert.specs.inner.Partition.{Classes, IsPartition, classes_of}
-use Rattle.ms_cert.proofs.ContentLemmas.{length-states}
 use Rattle.ms_cert.proofs.GrowingLemmas.{grown-all, grown-join, grown-leaves}
 use Rattle.ms_cert.proofs.ListLemmas.{get-item}
 use Rattle.ms_cert.proofs.PartitionLemmas.{class-within}

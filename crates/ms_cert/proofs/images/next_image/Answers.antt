@@ -1,5 +1,5 @@
 use Rattle.std.proofs.Common.{length, arith}
-use Rattle.ms_cert.proofs.ContentLemmas.{length-variables}
+use Rattle.ms_dfafile_outside.proofs.FileLemmas.{length-variables}
 use Rattle.ms_cert.proofs.ImageLemmas.{below-appends, image-node, image-read}
 use Rattle.ms_cert.proofs.images.next_image.Goals as goal
 

@@ -1,8 +1,9 @@
 use Rattle.std.proofs.Common.{◌≡◌, ℕ, List, length, sym, ap, subst, ◌∙◌}
 use Rattle.std.proofs.lemmas.Bool.{false≢true}
 use Rattle.ms_dfa.specs.Files.{content_of_file}
+use Rattle.ms_dfafile_outside.proofs.ContentLemmas.{valid-part}
+use Rattle.ms_dfafile_outside.proofs.FileLemmas.{length-states}
 use Rattle.ms_cert.specs.inner.Lengths.{HasSteps, most_at}
-use Rattle.ms_cert.proofs.ContentLemmas.{length-states, valid-part}
 use Rattle.ms_cert.proofs.LengthsLemmas.{grow-by_steps, most-known, start-to}
 use Rattle.ms_cert.proofs.lengths.grow_by_letters.Goals as goal
 

@@ -4,8 +4,9 @@ use Rattle.std.proofs.lemmas.Option.{same_Some, slice_get_within}
 use Rattle.ms_dfa.specs.Files.{content_of_file}
 use Rattle.ms_dfa.specs.declared.plain.FileState.{FileState}
 use Rattle.ms_list.specs.declared.word.Word.{Word}
+use Rattle.ms_dfafile_outside.proofs.ContentLemmas.{valid-part}
+use Rattle.ms_dfafile_outside.proofs.FileLemmas.{length-states, state-at, state_of}
 use Rattle.ms_cert.specs.inner.Lengths.{most_at}
-use Rattle.ms_cert.proofs.ContentLemmas.{length-states, state-at, state_of, valid-part}
 use Rattle.ms_cert.proofs.LengthsLemmas.{known-before}
 use Rattle.ms_cert.proofs.ListLemmas.{get-item}
 use Rattle.ms_arena.specs.Diagram.{IsBefore}

@@ -11,8 +11,9 @@ use Rattle.ms_dfa.specs.Files.{content_of_file}
 use Rattle.ms_dfa.specs.declared.part.Part.{Part}
 use Rattle.ms_dfa.specs.declared.plain.Plain.{Plain}
 use Rattle.ms_logic_words.specs.Content.{IsContent, NamesPart, bits_at}
+use Rattle.ms_dfafile_outside.proofs.ContentLemmas.{named-end}
+use Rattle.ms_dfafile_outside.proofs.FileLemmas.{length-variables}
 use Rattle.ms_cert.specs.inner.Levels.{IsReached, Leads, MakesWords, Reached, reached_of, with_node}
-use Rattle.ms_cert.proofs.ContentLemmas.{length-variables, named-end}
 use Rattle.ms_cert.proofs.LevelsLemmas.{leads-kept, leads-leaf, leads-node, makes-end, makes-leaf}
 use Rattle.ms_cert.proofs.ListLemmas.{get-item}
 use Rattle.ms_cert.proofs.ReachedLemmas.{node-kept, node-reached, reached-same}

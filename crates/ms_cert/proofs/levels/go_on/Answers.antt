@@ -4,10 +4,10 @@ use Rattle.ms_list.specs.declared.word.Word.{Word}
 use Rattle.ms_dfa.specs.Files.{content_of_file}
 use Rattle.ms_dfa.specs.declared.plain.Plain.{Plain}
 use Rattle.ms_logic_words.specs.Content.{bits_at}
+use Rattle.ms_dfafile_outside.proofs.FileLemmas.{length-states, state-at, state_of}
 use Rattle.ms_cert.specs.declared.levels.Found.{Found}
 use Rattle.ms_cert.specs.inner.Levels.{AreUpTo, HasBegun, IsKnown, IsWordTo, reached_of}
 use Rattle.ms_cert.proofs.BegunLemmas.{begun-few, begun-more, makes-next}
-use Rattle.ms_cert.proofs.ContentLemmas.{length-states, state-at, state_of}
 use Rattle.ms_cert.proofs.ListLemmas.{get-item}
 use Rattle.ms_cert.proofs.levels.go_on.Goals as goal
 

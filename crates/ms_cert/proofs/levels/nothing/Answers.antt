@@ -1,7 +1,7 @@
 use Rattle.std.proofs.Common.{◌≡◌, ℕ, false, [], length, replicate, refl, sym, ap, subst, ◌∙◌, arith}
 use Rattle.ms_dfa.specs.Files.{content_of_file}
+use Rattle.ms_dfafile_outside.proofs.FileLemmas.{length-states}
 use Rattle.ms_cert.specs.inner.Levels.{AreUpTo, IsReached, Reached}
-use Rattle.ms_cert.proofs.ContentLemmas.{length-states}
 use Rattle.ms_cert.proofs.ReachedLemmas.{none-few, none-reached, reached-same}
 use Rattle.ms_cert.proofs.levels.nothing.Goals as goal
 

@@ -2,8 +2,8 @@ use Rattle.std.proofs.Common.{◌≡◌, ◌<◌, true, false, length, sym, subs
 use Rattle.std.proofs.lemmas.Option.{same_Some, slice_get_within}
 use Rattle.std.proofs.lemmas.Result.{on_ok_weaker}
 use Rattle.ms_dfa.specs.Files.{content_of_file}
+use Rattle.ms_dfafile_outside.proofs.FileLemmas.{length-states}
 use Rattle.ms_cert.specs.inner.Levels.{AreUpTo, IsKept, IsKnown, IsReached, IsWordOf, Reached, level_of, reached_of}
-use Rattle.ms_cert.proofs.ContentLemmas.{length-states}
 use Rattle.ms_cert.proofs.ListLemmas.{get-item}
 use Rattle.ms_cert.proofs.ReachedLemmas.{word-few, word-kept, word-known, word-reached}
 use Rattle.ms_cert.proofs.levels.reach.Goals as goal

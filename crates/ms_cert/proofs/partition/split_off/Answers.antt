@@ -1,10 +1,10 @@
 use Rattle.std.proofs.Common.{◌≡◌, ℕ, List, slice_get, Some, subst, arith}
 use Rattle.ms_dfa.specs.Files.{content_of_file}
+use Rattle.ms_dfafile_outside.proofs.FileLemmas.{length-states}
 use Rattle.ms_cert.specs.inner.Partition.{IsIn, classes_of}
-use Rattle.ms_cert.proofs.ContentLemmas.{length-states}
 use Rattle.ms_cert.proofs.ListLemmas.{get-item}
 use Rattle.ms_cert.proofs.MemberLemmas.{in-filter}
-use Rattle.ms_cert.proofs.PartitionLemmas.{count-classes, member-within}
+use Rattle.ms_cert.proofs.PartitionLemmas.{few-classes, member-within}
 use Rattle.ms_cert.proofs.partition.split_off.Goals as goal
 
 pub sides_by-requires-clause-states : goal.sides_by-requires-clause-states
@@ -26,9 +26,4 @@ put-requires-clause-states c = λ state in_side.
 
 pub put-requires-clause-few : goal.put-requires-clause-few
 put-requires-clause-few c =
-    let plain = c.args.file.now.plain.now in
-    let is = c.requires.partition in
-    let most = count-classes (content_of_file plain) (classes_of c.args.partition.now) is in
-    let same = is.members_count in
-    let few = c.requires.few in
-    omega (arith, most, same, few, length-states plain)
+    few-classes (content_of_file c.args.file.now.plain.now) (classes_of c.args.partition.now) c.requires.partition _ (omega (arith, c.requires.few, length-states c.args.file.now.plain.now))

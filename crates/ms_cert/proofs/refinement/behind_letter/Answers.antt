@@ -1,8 +1,8 @@
 use Rattle.std.proofs.Common.{◌≡◌, ◌≢◌, ◌<◌, ◌++◌, ◌∷◌, [], ℕ, Bool, List, length, slice_get, Some, ap, subst, ◌∙◌, arith}
 use Rattle.ms_dfa.specs.Files.{content_of_file}
 use Rattle.ms_logic_words.specs.Content.{next_state, state_after}
+use Rattle.ms_dfafile_outside.proofs.FileLemmas.{length-states}
 use Rattle.ms_cert.specs.inner.Partition.{IsParting, classes_of}
-use Rattle.ms_cert.proofs.ContentLemmas.{length-states}
 use Rattle.ms_cert.proofs.ListLemmas.{get-item}
 use Rattle.ms_cert.proofs.TellingLemmas.{tells-behind}
 use Rattle.ms_cert.proofs.refinement.behind_letter.Goals as goal

@@ -4,8 +4,9 @@ use Rattle.ms_arena.specs.Diagram.{IsBefore}
 use Rattle.ms_arena.specs.declared.node.Ref.{Ref}
 use Rattle.ms_dfa.specs.Files.{content_of_file}
 use Rattle.ms_dfa.specs.declared.plain.FileState.{FileState}
+use Rattle.ms_dfafile_outside.proofs.ContentLemmas.{valid-part}
+use Rattle.ms_dfafile_outside.proofs.FileLemmas.{state-at, state_of}
 use Rattle.ms_cert.specs.inner.Images.{IsImage, image_of}
-use Rattle.ms_cert.proofs.ContentLemmas.{state-at, state_of, valid-part}
 use Rattle.ms_cert.proofs.ImageLemmas.{image-read}
 use Rattle.ms_cert.proofs.refinement.image_behind.Goals as goal
 

@@ -4,9 +4,9 @@ use Rattle.ms_arena.proofs.Lists.{slice_get-held}
 use Rattle.ms_dfa.proofs.GatheredLemmas.{length-gathered}
 use Rattle.ms_dfa.specs.Files.{content_of_file}
 use Rattle.ms_logic_words.specs.Content.{bits_at, is_in_letters}
+use Rattle.ms_dfafile_outside.proofs.FileLemmas.{state-at, state_of}
 use Rattle.ms_cert.specs.inner.Difference.{TestBelow}
 use Rattle.ms_cert.specs.inner.Refinement.{LeadsApart}
-use Rattle.ms_cert.proofs.ContentLemmas.{state-at, state_of}
 use Rattle.ms_cert.proofs.RefinementLemmas.{image-letter, together-images}
 use Rattle.ms_cert.proofs.refinement.letter_apart.Goals as goal
 

@@ -1,7 +1,7 @@
 use Rattle.std.proofs.Common.{sym, subst, arith}
 use Rattle.ms_dfa.specs.Files.{content_of_file}
+use Rattle.ms_dfafile_outside.proofs.FileLemmas.{length-states}
 use Rattle.ms_cert.specs.inner.Partition.{IsPartition, classes_of}
-use Rattle.ms_cert.proofs.ContentLemmas.{length-states}
 use Rattle.ms_cert.proofs.PartitionLemmas.{count-classes, one-partition}
 use Rattle.ms_cert.proofs.RefinementLemmas.{settled-discrete}
 use Rattle.ms_cert.proofs.refinement.refine.Goals as goal

@@ -2,10 +2,10 @@ use Rattle.std.proofs.Common.{◌≡◌, ◌+◌, ◌<◌, ◌≤◌, ℕ, IfNon
 use Rattle.ms_arena.proofs.Lists.{slice_get-held}
 use Rattle.ms_dfa.specs.Files.{content_of_file}
 use Rattle.ms_logic_words.specs.Content.{AreLetters}
+use Rattle.ms_dfafile_outside.proofs.FileLemmas.{length-states}
 use Rattle.ms_cert.specs.declared.splitter.Splitter.{Splitter}
 use Rattle.ms_cert.specs.inner.Partition.{Classes, IsPartition, classes_of, with_split}
 use Rattle.ms_cert.specs.inner.Refinement.{AreAllAlike, AreSettledBelow, Refines, TellsSomeApart}
-use Rattle.ms_cert.proofs.ContentLemmas.{length-states}
 use Rattle.ms_cert.proofs.PartitionLemmas.{count-classes}
 use Rattle.ms_cert.proofs.RefinementLemmas.{refines-own, refines-split, settled-all, settled-more, settled-split}
 use Rattle.ms_cert.proofs.SplitLemmas.{split-longer, split-partition, there}

@@ -4,8 +4,9 @@ use Rattle.ms_arena.specs.declared.node.Ref.{Ref}
 use Rattle.ms_arena.specs.Diagram.{leaf_of}
 use Rattle.ms_arena.proofs.Paths.{leaf_of-leaf}
 use Rattle.ms_dfa.specs.Files.{content_of_file}
+use Rattle.ms_dfafile_outside.proofs.FileLemmas.{length-variables}
 use Rattle.ms_cert.specs.inner.Slots.{orders_of, slot_bits}
-use Rattle.ms_cert.proofs.ContentLemmas.{length-variables, way-more}
+use Rattle.ms_cert.proofs.ContentLemmas.{way-more}
 use Rattle.ms_cert.proofs.SlotsLemmas.{length-slots}
 use Rattle.ms_cert.proofs.running.led_to.Goals as goal
 

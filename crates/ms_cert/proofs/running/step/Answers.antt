@@ -1,7 +1,8 @@
 use Rattle.std.proofs.Common.{List, ℕ, ap, ◌∙◌}
 use Rattle.ms_arena.specs.Diagram.{leaf_of}
+use Rattle.ms_dfafile_outside.proofs.FileLemmas.{state-at, state_of}
 use Rattle.ms_cert.specs.inner.Slots.{slot_bits}
-use Rattle.ms_cert.proofs.ContentLemmas.{next-by_slots, state-at, state_of}
+use Rattle.ms_cert.proofs.ContentLemmas.{next-by_slots}
 use Rattle.ms_cert.proofs.running.step.Goals as goal
 
 pub led_to-requires-clause-named : goal.led_to-requires-clause-named

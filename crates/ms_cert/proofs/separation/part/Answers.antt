@@ -5,16 +5,16 @@ use Rattle.ms_arena.proofs.Lists.{slice_get-push}
 use Rattle.ms_dfa.specs.Files.{content_of_file}
 use Rattle.ms_dfa.specs.declared.plain.FileSign.{FileSign}
 use Rattle.ms_logic_words.specs.Content.{Content}
+use Rattle.ms_dfafile_outside.proofs.FileLemmas.{length-states}
 use Rattle.ms_cert.specs.declared.cert.TreeLine.TheVariants.{By}
 use Rattle.ms_cert.specs.declared.splitter.Splitter.{Splitter}
 use Rattle.ms_cert.specs.declared.separation.Sides.{Sides}
 use Rattle.ms_cert.specs.inner.Partition.{Classes, IsIn, IsPartition, classes_of, is_split_off, with_sides, with_split}
 use Rattle.ms_cert.specs.inner.Refinement.{TellsSomeApart}
 use Rattle.ms_cert.specs.inner.Separation.{AreWaiting, Takes, lists_of}
-use Rattle.ms_cert.proofs.ContentLemmas.{length-states}
 use Rattle.ms_cert.proofs.ListLemmas.{get-item}
 use Rattle.ms_cert.proofs.MemberLemmas.{in-filter}
-use Rattle.ms_cert.proofs.PartitionLemmas.{count-classes, member-within}
+use Rattle.ms_cert.proofs.PartitionLemmas.{few-classes, member-within}
 use Rattle.ms_cert.proofs.SplitLemmas.{split-partition, there}
 use Rattle.ms_cert.proofs.WaitingLemmas.{members-are, part-no_side, part-takes, part-waiting, sides-tell, some-item}
 use Rattle.ms_cert.proofs.separation.part.Goals as goal
@@ -31,12 +31,7 @@ put-requires-clause-class c = c.requires.waiting.within (length c.args.waiting.n
 
 pub put-requires-clause-few : goal.put-requires-clause-few
 put-requires-clause-few c =
-    let plain = c.args.file.now.plain.now in
-    let is = c.requires.partition in
-    let most = count-classes (content_of_file plain) (classes_of c.args.partition.now) is in
-    let same = is.members_count in
-    let few = c.requires.few in
-    omega (arith, most, same, few, length-states plain)
+    few-classes (content_of_file c.args.file.now.plain.now) (classes_of c.args.partition.now) c.requires.partition _ (omega (arith, c.requires.few, length-states c.args.file.now.plain.now))
 
 pub put-requires-clause-states : goal.put-requires-clause-states
 put-requires-clause-states c = λ state in_side.

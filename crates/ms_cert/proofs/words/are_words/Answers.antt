@@ -1,5 +1,5 @@
 use Rattle.std.proofs.Common.{arith}
-use Rattle.ms_cert.proofs.ContentLemmas.{length-states}
+use Rattle.ms_dfafile_outside.proofs.FileLemmas.{length-states}
 use Rattle.ms_cert.proofs.words.are_words.Goals as goal
 
 pub returns : goal.returns

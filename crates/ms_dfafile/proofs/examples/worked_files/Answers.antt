@@ -2,18 +2,15 @@ use Rattle.std.proofs.Common.{refl}
 use Rattle.std.specs.Fmt.{digits}
 use Rattle.ms_dfafile.proofs.examples.worked_files.Goals as goal
 
-pub returns-clause-subset : goal.returns-clause-subset
+pub returns : goal.returns
 unfolding digits
-returns-clause-subset c = refl
-
-pub returns-clause-equivalence : goal.returns-clause-equivalence
-unfolding digits
-returns-clause-equivalence c = refl
-
-pub returns-clause-emptiness : goal.returns-clause-emptiness
-unfolding digits
-returns-clause-emptiness c = refl
-
-pub returns-clause-number : goal.returns-clause-number
-unfolding digits
-returns-clause-number c = refl
+returns c = record {
+  subset = refl;
+  subset_bytes = refl;
+  equivalence = refl;
+  equivalence_bytes = refl;
+  emptiness = refl;
+  emptiness_bytes = refl;
+  number = refl;
+  number_bytes = refl;
+}

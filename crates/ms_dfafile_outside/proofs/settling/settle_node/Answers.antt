@@ -9,7 +9,7 @@ use Rattle.ms_dfafile_outside.proofs.ComeLemmas.{come-end}
 use Rattle.ms_dfafile_outside.proofs.FileLemmas.{length-variables}
 use Rattle.ms_dfafile_outside.proofs.LabelLemmas.{small-label}
 use Rattle.ms_dfafile_outside.proofs.LabelsLemmas.{Finds-then, HasArrived-kept}
-use Rattle.ms_dfafile_outside.proofs.WordsLemmas.{valid-part}
+use Rattle.ms_dfafile_outside.proofs.ContentLemmas.{valid-part}
 use Rattle.ms_dfafile_outside.proofs.settling.settle_node.Goals as goal
 
 pub level_behind-level-requires : goal.level_behind-level-requires
