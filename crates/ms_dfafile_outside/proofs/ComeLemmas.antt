@@ -32,7 +32,7 @@ use Rattle.ms_dfafile_outside.specs.inner.Numbers.{IsNumberAt, full_set, one_if,
 use Rattle.ms_dfafile_outside.specs.inner.Labels.{HasCome, HasNoGap, IsLabel, IsLed, Stands, first_of, first_tested, level_behind, level_by, ones_at, orders_in}
 use Rattle.ms_dfafile_outside.proofs.ClashLemmas.{clash, encodes, labels-agree}
 use Rattle.ms_dfafile_outside.proofs.LabelLemmas.{full-from, full-to, label-same, one_more-cases, one_more-here}
-use Rattle.ms_dfafile_outside.proofs.NumbersLemmas.{zero-one}
+use Rattle.ms_dfafile_outside.proofs.NumbersLemmas.{rank-none, zero-one}
 use Rattle.ms_dfafile_outside.proofs.ContentLemmas.{valid-part}
 use Rattle.ms_dfafile_outside.proofs.WordsLemmas.{last-with, number-within, ones-with, over-with, word_with}
 
@@ -52,17 +52,9 @@ number-between [] level next more = absurd (omega (arith, more))
 number-between (order ∷ orders) level zero more = absurd (omega (arith, more))
 number-between (Zero ∷ orders) zero (suc next) more =
     let found = number-between orders zero next (let none = rank-none orders in omega (arith, more, none)) in (suc found.0, found.1, omega arith, omega (arith, found.3))
-  where
-    rank-none : (os : List Order) → rank os 0 ≡ 0
-    rank-none [] = refl
-    rank-none (o ∷ os) = refl
 number-between (One ∷ orders) zero (suc next) more = (0, refl, omega arith, omega arith)
 number-between (Two ∷ orders) zero (suc next) more =
     let found = number-between orders zero next (let none = rank-none orders in omega (arith, more, none)) in (suc found.0, found.1, omega arith, omega (arith, found.3))
-  where
-    rank-none : (os : List Order) → rank os 0 ≡ 0
-    rank-none [] = refl
-    rank-none (o ∷ os) = refl
 number-between (Zero ∷ orders) (suc level) (suc next) more = let found = number-between orders level next more in (suc found.0, found.1, omega (arith, found.2), omega (arith, found.3))
 number-between (One ∷ orders) (suc level) (suc next) more = let found = number-between orders level next (omega (arith, more)) in (suc found.0, found.1, omega (arith, found.2), omega (arith, found.3))
 number-between (Two ∷ orders) (suc level) (suc next) more = let found = number-between orders level next more in (suc found.0, found.1, omega (arith, found.2), omega (arith, found.3))

@@ -1,6 +1,6 @@
 -- What the worked examples need.
-use Rattle.std.proofs.Common.{◌≡◌, ◌≢◌, ℕ, zero, suc, ◌<◌, inl, inr, true, List, [], ◌∷◌, slice_get, Option, Some, refl, sym, ap, subst, ◌∙◌, arith}
-use Rattle.std.proofs.lemmas.Option.{none-some, same_Some}
+use Rattle.std.proofs.Common.{◌≡◌, ◌≢◌, ℕ, zero, suc, ◌<◌, inl, inr, true, List, [], ◌∷◌, length, slice_get, Option, Some, refl, sym, ap, subst, ◌∙◌, arith}
+use Rattle.std.proofs.lemmas.Option.{same_Some}
 use Rattle.ms_arena.specs.declared.node.Node.{Node}
 use Rattle.ms_arena.specs.declared.node.Ref.{Ref}
 use Rattle.ms_arena.specs.declared.node.Ref.TheVariants.{Leaf, Inner}
@@ -20,7 +20,7 @@ use Rattle.ms_dfafile_outside.specs.inner.Examples.{number, number_undefined, nu
 use Rattle.ms_dfafile_outside.specs.inner.Labels.{IsKnown, IsSettled, IsSettledNode, IsSettledState}
 use Rattle.ms_dfafile_outside.proofs.ClashLemmas.{encodes}
 use Rattle.ms_dfafile_outside.proofs.ClosedLemmas.{marks-closed}
-use Rattle.ms_dfafile_outside.proofs.ShortLists.{at_three, at_two}
+use Rattle.ms_dfafile_outside.proofs.ShortLists.{at_none, at_one, at_three, at_two}
 use Rattle.ms_dfafile_outside.proofs.LabelLemmas.{with-once, with-twice}
 
 module _ (before behind : FileSign) where
@@ -152,32 +152,31 @@ undefined_fails marks =
 abbrev set_labels : List (Option Label)
 set_labels = Some (Seen 0) ∷ []
 
+abbrev set_state : StateOf FileSign
+set_state = record { sign = Plus; next = Leaf 0 }
+
 set_rules : IsContent set
 set_rules = record {
   some_state = omega arith;
   ordered = record {
-    earlier_low = λ place node held. absurd (none-some node held);
-    earlier_high = λ place node held. absurd (none-some node held);
-    rising_low = λ place node held. absurd (none-some node held);
-    rising_high = λ place node held. absurd (none-some node held);
+    earlier_low = at_none (λ place node. IsBefore place node.low);
+    earlier_high = at_none (λ place node. IsBefore place node.high);
+    rising_low = at_none (λ place node. TestsAbove [] node.var node.low);
+    rising_high = at_none (λ place node. TestsAbove [] node.var node.high);
   };
   start_named = omega arith;
-  next_named = at_one (λ state. NamesPart set state.next) (omega arith);
-  low_named = λ place node held. absurd (none-some node held);
-  high_named = λ place node held. absurd (none-some node held);
-  variables = λ place node held. absurd (none-some node held);
+  next_named = at_one (λ place state. NamesPart set state.next) set_state (omega arith);
+  low_named = at_none (λ place node. NamesPart set node.low);
+  high_named = at_none (λ place node. NamesPart set node.high);
+  variables = at_none (λ place node. node.var < length set.variables);
   start_tests = TestsOnly-leaf set.nodes (HasValueAt set.variables is_truth_value) 0;
-  next_tests = at_one (λ state. TestsOnly set.nodes (HasValueAt set.variables is_in_letters) state.next) (TestsOnly-leaf set.nodes (HasValueAt set.variables is_in_letters) 0);
+  next_tests = at_one (λ place state. TestsOnly set.nodes (HasValueAt set.variables is_in_letters) state.next) set_state (TestsOnly-leaf set.nodes (HasValueAt set.variables is_in_letters) 0);
 }
-  where
-    at_one : (P : StateOf FileSign → Type 0) → P (record { sign = Plus; next = Leaf 0 }) → (place : ℕ) (state : StateOf FileSign) → slice_get set.states place ≡ Some state → P state
-    at_one P one zero state held = subst P (same_Some (record { sign = Plus; next = Leaf 0 }) state held) one
-    at_one P one (suc place) state held = absurd (none-some state held)
 
 set_settled : (reference : Ref) (label : Label) → NamesPart set reference → IsKnown set set_labels reference label → IsSettled set set_labels reference label
 set_settled (Leaf zero) label named known =
     subst (IsSettled set set_labels (Leaf 0)) (label_is (Some (Some (Seen 0))) (Seen 0) label refl known) (λ state held.
-    subst (λ (s : StateOf FileSign). IsSettledState set set_labels s (Seen 0)) (same_Some (record { sign = Plus; next = Leaf 0 }) state held) (record {
+    subst (λ (s : StateOf FileSign). IsSettledState set set_labels s (Seen 0)) (same_Some set_state state held) (record {
       sign = (λ is. let never : ⊥ = cc in absurd never, λ partial. absurd (partial refl));
       next = record { is_known = refl; no_gap = inr (omega arith) };
     }))

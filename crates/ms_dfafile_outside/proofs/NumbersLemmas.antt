@@ -93,6 +93,11 @@ pub set_of-apart : (orders : List Order) (one two : ℕ → ℕ) → AreOnce ord
 set_of-apart orders one two once_one once_two same place is =
     sym (set_of-bit orders one place once_one is) ∙ ap (λ set. set / 2 ^ rank orders place % 2) same ∙ set_of-bit orders two place once_two is
 
+-- no number is before the first place
+pub rank-none : (orders : List Order) → rank orders 0 ≡ 0
+rank-none [] = refl
+rank-none (order ∷ orders) = refl
+
 -- more places have no fewer numbers before them
 pub rank-rising : (orders : List Order) (one two : ℕ) → one ≤ two → rank orders one ≤ rank orders two
 rank-rising [] one two less = omega arith
@@ -107,10 +112,6 @@ pub rank-next : (orders : List Order) (place : ℕ) → IsNumberAt orders place 
 rank-next [] place is = absurd (none-some One is)
 rank-next (Zero ∷ orders) zero is = absurd (zero-one is)
 rank-next (One ∷ orders) zero is = let none : rank orders 0 ≡ 0 = rank-none orders in let next : 0 + 1 ≡ suc 0 = omega arith in ap (λ k. rank (One ∷ orders) k) next ∙ omega (arith, none)
-  where
-    rank-none : (more : List Order) → rank more 0 ≡ 0
-    rank-none [] = refl
-    rank-none (order ∷ more) = refl
 rank-next (Two ∷ orders) zero is = absurd (two-one is)
 rank-next (Zero ∷ orders) (suc place) is = let next : suc place + 1 ≡ suc (place + 1) = omega arith in ap (λ k. rank (Zero ∷ orders) k) next ∙ rank-next orders place is
 rank-next (One ∷ orders) (suc place) is =
@@ -125,10 +126,6 @@ rank-other (first ∷ orders) zero order held is =
     let next : 0 + 1 ≡ suc 0 = omega arith in
     let none : rank orders 0 ≡ 0 = rank-none orders in
     ap (λ k. rank (first ∷ orders) k) next ∙ ap (λ (o : Order). with_order o (rank orders 0)) (same_Some first order held) ∙ ap (with_order order) none ∙ is
-  where
-    rank-none : (more : List Order) → rank more 0 ≡ 0
-    rank-none [] = refl
-    rank-none (o ∷ more) = refl
 rank-other (first ∷ orders) (suc place) order held is =
     let next : suc place + 1 ≡ suc (place + 1) = omega arith in
     ap (λ k. rank (first ∷ orders) k) next ∙ ap (with_order first) (rank-other orders place order held is)

@@ -1,14 +1,15 @@
 -- The sets of the numbers before each variable.
-use Rattle.std.proofs.Common.{◌≡◌, ◌↔◌, ℕ, zero, suc, ◌+◌, ◌*◌, ◌^◌, ◌<◌, ◌≤◌, ⊎_elim, List, [], ◌∷◌, ◌++◌, length, slice_get, get_or, Some, refl, sym, ap, ◌∙◌, arith, length-append}
+use Rattle.std.proofs.Common.{◌≡◌, ◌↔◌, ℕ, ◌+◌, ◌*◌, ◌^◌, ◌<◌, ◌≤◌, ⊎_elim, List, [], ◌∷◌, ◌++◌, length, slice_get, get_or, Some, refl, sym, ap, ◌∙◌, arith, length-append}
 use Rattle.std.proofs.lemmas.Bool.{cases_lt}
 use Rattle.std.proofs.lemmas.Nat.{pow_below}
-use Rattle.std.proofs.lemmas.Option.{none-some, same_Some, slice_get_within, slice_get-get_or}
+use Rattle.std.proofs.lemmas.Option.{slice_get_within, slice_get-get_or}
 use Rattle.std.proofs.Math.Nat.{pow-le-pow_right}
 use Rattle.ms_arena.proofs.Lists.{slice_get-pushed}
 use Rattle.ms_logic.specs.declared.mode.Order.{Order}
 use Rattle.ms_logic.specs.declared.mode.Order.TheVariants.{Zero, One, Two}
 use Rattle.ms_dfafile_outside.specs.inner.Numbers.{AreSetsBefore, IsNumberAt, full_set, numbers_in, rank, with_order}
-use Rattle.ms_dfafile_outside.proofs.NumbersLemmas.{full_set-is, power-more, rank-next, rank-other, rank-rising}
+use Rattle.ms_dfafile_outside.proofs.ShortLists.{at_one}
+use Rattle.ms_dfafile_outside.proofs.NumbersLemmas.{full_set-is, power-more, rank-next, rank-none, rank-other, rank-rising}
 
 -- the sets before the first so many variables and behind them, where there are few numbers so far
 pub record AreSetsSoFar (orders : List Order) (sets : List ℕ) (count before : ℕ) : Type 0 where
@@ -18,20 +19,14 @@ pub record AreSetsSoFar (orders : List Order) (sets : List ℕ) (count before : 
   pub few : before < 2 ^ 31
 
 pub sets-none : (orders : List Order) → AreSetsSoFar orders (0 ∷ []) 0 0
-sets-none orders = record {
-  long = refl;
-  each = each;
-  last = sym (ap (λ n. 2 ^ n) (rank-none orders));
-  few = omega arith;
-}
-  where
-    rank-none : (more : List Order) → rank more 0 ≡ 0
-    rank-none [] = refl
-    rank-none (o ∷ more) = refl
-
-    each : (place set : ℕ) → slice_get (0 ∷ []) place ≡ Some set → set + 1 ≡ 2 ^ rank orders place
-    each zero set held = ap (λ n. n + 1) (sym (same_Some 0 set held)) ∙ sym (ap (λ n. 2 ^ n) (rank-none orders))
-    each (suc place) set held = absurd (none-some set held)
+sets-none orders =
+    let first : 0 + 1 ≡ 2 ^ rank orders 0 = sym (ap (λ n. 2 ^ n) (rank-none orders)) in
+    record {
+      long = refl;
+      each = at_one (λ place set. set + 1 ≡ 2 ^ rank orders place) 0 first;
+      last = first;
+      few = omega arith;
+    }
 
 sets-more : (orders : List Order) (sets : List ℕ) (count before next : ℕ) → AreSetsSoFar orders sets count before → next + 1 ≡ 2 ^ rank orders (count + 1) → next < 2 ^ 31
     → AreSetsSoFar orders (sets ++ next ∷ []) (count + 1) next

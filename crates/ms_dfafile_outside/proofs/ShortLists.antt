@@ -1,8 +1,15 @@
--- Lists of two items and of three.
+-- Lists of at most three items.
 use Rattle.std.proofs.Common.{◌≡◌, ℕ, zero, suc, [], ◌∷◌, slice_get, Some, subst}
 use Rattle.std.proofs.lemmas.Option.{none-some, same_Some}
 
--- what is true of two items is true of each that a list of the two has, and the same of three
+-- what is true of some items is true of each that a list of them has
+pub at_none : {X : Type 0} (P : ℕ → X → Type 0) (place : ℕ) (x : X) → slice_get [] place ≡ Some x → P place x
+at_none P place x held = absurd (none-some x held)
+
+pub at_one : {X : Type 0} (P : ℕ → X → Type 0) (first : X) → P 0 first → (place : ℕ) (x : X) → slice_get (first ∷ []) place ≡ Some x → P place x
+at_one P first one zero x held = subst (P 0) (same_Some first x held) one
+at_one P first one (suc place) x held = absurd (none-some x held)
+
 pub at_two : {X : Type 0} (P : ℕ → X → Type 0) (first second : X) → P 0 first → P 1 second → (place : ℕ) (x : X) → slice_get (first ∷ second ∷ []) place ≡ Some x → P place x
 at_two P first second one two zero x held = subst (P 0) (same_Some first x held) one
 at_two P first second one two (suc zero) x held = subst (P 1) (same_Some second x held) two
