@@ -5,9 +5,12 @@ ghost use Rattle.ms_arena.specs.declared.node.Node.{Node};
 ghost use Rattle.ms_diagram.specs.Relabel.{CoversLeaves};
 
 use ms_arena::Ref;
-use ms_diagram::Store;
+use ms_diagram::{ListTable, Projected, Sets, Store};
 use ms_list::{List, NoMemory, StepFault};
 use std::alloc::Global;
+
+/// How many nodes a store of long paths may hold.
+pub const ROOM: u64 = 1_000_000;
 
 /// Whether the number of ones among the first bits is odd.
 pub fn parity(store: &mut Store, count: u32) -> Result<Ref, StepFault>
@@ -58,6 +61,28 @@ pub fn identity(alloc: Global, count: u32) -> Result<List<u32>, NoMemory>
         var += 1;
     }
     Ok(made)
+}
+
+/// The sets of the leaves that a chain of the variables below a count has with either bit of the first one, in another store.
+pub fn either_leaf(
+    alloc: Global,
+    other: &mut Store,
+    sets: &mut Sets,
+    count: u32,
+) -> Result<Ref, StepFault>
+    ensures { IfOk result (IsValid other.new.nodes) }
+{
+    let mut store = Store::new(alloc, ROOM);
+    let root = chain(&mut store, count)?;
+    let Ok(map) = identity(alloc, count) else {
+        return Err(StepFault::Memory);
+    };
+    let view = Projected {
+        store: &store,
+        map: map.slice(),
+        track: 0,
+    };
+    other.collect(&view, &[root], sets, &mut ListTable::new(alloc))
 }
 
 /// The leaf at bits that are given as a number, the bit of variable 0 lowest.

@@ -1,8 +1,8 @@
 //! Numberings of pairs and of sets.
+ghost use Rattle.std.specs.List.Sorted.{IsStrictlyIncreasing};
+
 use anyhow::Result;
 use ms_diagram::{Pairs, Sets};
-use ms_list::let_go;
-use std::io;
 
 pub fn tell(rt: &HostRuntime) -> Result<()> {
     println!(rt; "Numberings")?;
@@ -12,12 +12,6 @@ pub fn tell(rt: &HostRuntime) -> Result<()> {
 
 fn pairs(rt: &HostRuntime) -> Result<()> {
     let mut pairs = Pairs::new(rt.alloc());
-    let told = number_pairs(rt, &mut pairs);
-    let_go(pairs);
-    told
-}
-
-fn number_pairs(rt: &HostRuntime, pairs: &mut Pairs) -> Result<()> {
     for (left, right) in [(4, 2), (2, 4), (4, 2)] {
         if pairs.len() < 9 {
             println!(rt;
@@ -26,11 +20,10 @@ fn number_pairs(rt: &HostRuntime, pairs: &mut Pairs) -> Result<()> {
             )?;
         }
     }
-    print_pairs(rt, pairs)?;
-    Ok(())
+    print_pairs(rt, &pairs)
 }
 
-fn print_pairs(rt: &HostRuntime, pairs: &Pairs) -> io::Result<()> {
+fn print_pairs(rt: &HostRuntime, pairs: &Pairs) -> Result<()> {
     println!(rt; "{} pairs", pairs.len())?;
     for i in 0..pairs.len() {
         println!(rt; "pair {i} is {:?}", pairs.get(i))?;
@@ -40,43 +33,26 @@ fn print_pairs(rt: &HostRuntime, pairs: &Pairs) -> io::Result<()> {
 
 fn sets(rt: &HostRuntime) -> Result<()> {
     let mut sets = Sets::new(rt.alloc());
-    let told = number_sets(rt, &mut sets);
-    let_go(sets);
-    told
+    number(rt, &mut sets, "the set of 1 and 3", &[1, 3])?;
+    number(rt, &mut sets, "the empty set", &[])?;
+    number(rt, &mut sets, "the set of 1 and 3", &[1, 3])?;
+    print_sets(rt, &sets)
 }
 
-fn number_sets(rt: &HostRuntime, sets: &mut Sets) -> Result<()> {
-    number_full(rt, sets)?;
-    number_empty(rt, sets)?;
-    number_full(rt, sets)?;
-    print_sets(rt, sets)?;
+fn number(rt: &HostRuntime, sets: &mut Sets, name: &str, set: &[u32]) -> Result<()>
+    requires { IsStrictlyIncreasing set.now }
+{
+    if sets.len() < 9 {
+        let number = sets.number(Vec::from_slice(rt.alloc(), set)?)?;
+        println!(rt; "{name} has the number {number}")?;
+    }
     Ok(())
 }
 
-fn print_sets(rt: &HostRuntime, sets: &Sets) -> io::Result<()> {
+fn print_sets(rt: &HostRuntime, sets: &Sets) -> Result<()> {
     println!(rt; "{} sets", sets.len())?;
     for i in 0..sets.len() {
         println!(rt; "set {i} is {:?}", sets.get(i))?;
-    }
-    Ok(())
-}
-
-fn number_full(rt: &HostRuntime, sets: &mut Sets) -> Result<()> {
-    if sets.len() < 9 {
-        println!(rt;
-            "the set of 1 and 3 has the number {}",
-            sets.number(Vec::from_slice(rt.alloc(), &[1, 3])?)?
-        )?;
-    }
-    Ok(())
-}
-
-fn number_empty(rt: &HostRuntime, sets: &mut Sets) -> Result<()> {
-    if sets.len() < 9 {
-        println!(rt;
-            "the empty set has the number {}",
-            sets.number(Vec::new(rt.alloc()))?
-        )?;
     }
     Ok(())
 }
