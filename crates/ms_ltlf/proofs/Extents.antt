@@ -12,74 +12,39 @@ use Rattle.ms_translation.proofs.Globals.{count-globals, restrictions-have-no-pa
 
 depth-positive : (f : Temporal) → 1 ≤ depth f
 depth-positive truth = omega arith
-depth-positive falsity = omega arith
-depth-positive (proposition p) = omega arith
-depth-positive (brackets f) = omega arith
-depth-positive (negation f) = omega arith
-depth-positive (conjunction fs) = omega arith
-depth-positive (disjunction fs) = omega arith
-depth-positive (implication f g) = omega arith
-depth-positive (equivalence f g) = omega arith
-depth-positive (next f) = omega arith
-depth-positive (weak_next f) = omega arith
-depth-positive (eventually f) = omega arith
-depth-positive (always f) = omega arith
-depth-positive (until f g) = omega arith
-depth-positive (release f g) = omega arith
+depth-positive _ = omega arith
 
 module _ (E : Extents) where
   mutual
-    deep : (f : Temporal) (x : ℕ) → (extent_under E (string_form f x)).depth ≤ 5 * depth f
-    deep truth x = omega arith
-    deep falsity x = omega arith
-    deep (proposition p) x = omega arith
-    deep (brackets f) x = omega (arith, deep f x)
-    deep (negation f) x = omega (arith, deep f x)
-    deep (conjunction fs) x = omega (arith, all-deep fs x)
-    deep (disjunction fs) x = omega (arith, all-deep fs x)
-    deep (implication f g) x = omega (arith, deep f x, deep g x)
-    deep (equivalence f g) x = omega (arith, deep f x, deep g x)
-    deep (next f) x = omega (arith, deep f (x + 1), depth-positive f)
-    deep (weak_next f) x = omega (arith, deep f (x + 1), depth-positive f)
-    deep (eventually f) x = omega (arith, deep f (x + 1), depth-positive f)
-    deep (always f) x = omega (arith, deep f (x + 1), depth-positive f)
-    deep (until f g) x = omega (arith, deep f (x + 2), deep g (x + 1), depth-positive f)
-    deep (release f g) x = omega (arith, deep f (x + 2), deep g (x + 1), depth-positive f)
+    bounds : (f : Temporal) (x : ℕ) → ((extent_under E (string_form f x)).depth ≤ 5 * depth f) × ((extent_under E (string_form f x)).size ≤ 14 * size f)
+    bounds truth x = (omega arith, omega arith)
+    bounds falsity x = (omega arith, omega arith)
+    bounds (proposition p) x = (omega arith, omega arith)
+    bounds (brackets f) x = let (deep, large) = bounds f x in (omega (arith, deep), omega (arith, large))
+    bounds (negation f) x = let (deep, large) = bounds f x in (omega (arith, deep), omega (arith, large))
+    bounds (conjunction fs) x = let (deep, large) = all-bounds fs x in (omega (arith, deep), omega (arith, large))
+    bounds (disjunction fs) x = let (deep, large) = all-bounds fs x in (omega (arith, deep), omega (arith, large))
+    bounds (implication f g) x = let (deep, large) = bounds f x in let (deep', large') = bounds g x in (omega (arith, deep, deep'), omega (arith, large, large'))
+    bounds (equivalence f g) x = let (deep, large) = bounds f x in let (deep', large') = bounds g x in (omega (arith, deep, deep'), omega (arith, large, large'))
+    bounds (next f) x = let (deep, large) = bounds f (x + 1) in (omega (arith, deep, depth-positive f), omega (arith, large))
+    bounds (weak_next f) x = let (deep, large) = bounds f (x + 1) in (omega (arith, deep, depth-positive f), omega (arith, large))
+    bounds (eventually f) x = let (deep, large) = bounds f (x + 1) in (omega (arith, deep, depth-positive f), omega (arith, large))
+    bounds (always f) x = let (deep, large) = bounds f (x + 1) in (omega (arith, deep, depth-positive f), omega (arith, large))
+    bounds (until f g) x = let (deep, large) = bounds f (x + 2) in let (deep', large') = bounds g (x + 1) in (omega (arith, deep, deep', depth-positive f), omega (arith, large, large'))
+    bounds (release f g) x = let (deep, large) = bounds f (x + 2) in let (deep', large') = bounds g (x + 1) in (omega (arith, deep, deep', depth-positive f), omega (arith, large, large'))
 
-    all-deep : (fs : Temporals) (x : ℕ) → greatest_depth (extents_of_each E (string_forms fs x)) ≤ 5 * depth_of_all fs
-    all-deep no_temporals x = omega arith
-    all-deep (more_temporals f fs) x = omega (arith, deep f x, all-deep fs x)
-
-  mutual
-    large : (f : Temporal) (x : ℕ) → (extent_under E (string_form f x)).size ≤ 14 * size f
-    large truth x = omega arith
-    large falsity x = omega arith
-    large (proposition p) x = omega arith
-    large (brackets f) x = omega (arith, large f x)
-    large (negation f) x = omega (arith, large f x)
-    large (conjunction fs) x = omega (arith, all-large fs x)
-    large (disjunction fs) x = omega (arith, all-large fs x)
-    large (implication f g) x = omega (arith, large f x, large g x)
-    large (equivalence f g) x = omega (arith, large f x, large g x)
-    large (next f) x = omega (arith, large f (x + 1))
-    large (weak_next f) x = omega (arith, large f (x + 1))
-    large (eventually f) x = omega (arith, large f (x + 1))
-    large (always f) x = omega (arith, large f (x + 1))
-    large (until f g) x = omega (arith, large f (x + 2), large g (x + 1))
-    large (release f g) x = omega (arith, large f (x + 2), large g (x + 1))
-
-    all-large : (fs : Temporals) (x : ℕ) → total_size (extents_of_each E (string_forms fs x)) ≤ 14 * size_of_all fs
-    all-large no_temporals x = omega arith
-    all-large (more_temporals f fs) x = omega (arith, large f x, all-large fs x)
+    all-bounds : (fs : Temporals) (x : ℕ) → (greatest_depth (extents_of_each E (string_forms fs x)) ≤ 5 * depth_of_all fs) × (total_size (extents_of_each E (string_forms fs x)) ≤ 14 * size_of_all fs)
+    all-bounds no_temporals x = (omega arith, omega arith)
+    all-bounds (more_temporals f fs) x = let (deep, large) = bounds f x in let (deep', large') = all-bounds fs x in (omega (arith, deep, deep'), omega (arith, large, large'))
 
 module _ (names : List (List ℕ)) (f : Temporal) where
   source-deep : depth_of_source (string_problem names f) ≤ 5 * depth f + 3
   source-deep =
-      omega (arith, ap (λ es. greatest_depth (es ++ extents_of_each no_extents (string_problem names f).formulas)) (restrictions-have-no-parts no_extents names 0), deep no_extents f (length names), depth-positive f)
+      omega (arith, ap (λ es. greatest_depth (es ++ extents_of_each no_extents (string_problem names f).formulas)) (restrictions-have-no-parts no_extents names 0), (bounds no_extents f (length names)).0, depth-positive f)
 
   source-large : size_of_source (string_problem names f) ≤ 14 * size f + length names + 11
   source-large =
-      omega (arith, ap (λ es. total_size (es ++ extents_of_each no_extents (string_problem names f).formulas)) (restrictions-have-no-parts no_extents names 0), large no_extents f (length names), count-globals names 0)
+      omega (arith, ap (λ es. total_size (es ++ extents_of_each no_extents (string_problem names f).formulas)) (restrictions-have-no-parts no_extents names 0), (bounds no_extents f (length names)).1, count-globals names 0)
 
 -- for whatever is made as the source says
 
