@@ -8,71 +8,29 @@ use Rattle.ms_parse.proofs.Continuations.{follows_by_trial, misplaced_by_trial, 
 use Rattle.ms_parse_steps.proofs.Refusals.{word_follows, word_shuts}
 use Rattle.ms_parse.proofs.examples.example_continuations.Goals as goal
 
-pub returns-clause-at_the_beginning : goal.returns-clause-at_the_beginning
-returns-clause-at_the_beginning c = follows_by_trial 40 (row []) refl
-
-pub returns-clause-behind_a_comma : goal.returns-clause-behind_a_comma
-returns-clause-behind_a_comma c = follows_by_trial 40 (row (open_curly ∷ x ∷ comma ∷ [])) refl
-
-pub returns-clause-behind_a_relation : goal.returns-clause-behind_a_relation
-returns-clause-behind_a_relation c = follows_by_trial 40 (row (a ∷ infix_operator (Relation Equal) ∷ b ∷ [])) refl
-
-pub returns-clause-without_semicolon : goal.returns-clause-without_semicolon
-returns-clause-without_semicolon c = follows_by_trial 40 (row (word_true ∷ [])) refl
-
-pub returns-clause-string_mode : goal.returns-clause-string_mode
-returns-clause-string_mode c = follows_by_trial 40 (row (name (codes "m2l") ∷ sign true ∷ name (codes "str") ∷ [])) refl
-
-pub returns-clause-bracket_behind_a_comma : goal.returns-clause-bracket_behind_a_comma
-returns-clause-bracket_behind_a_comma c = misplaced_by_trial 40 (row (open_curly ∷ x ∷ comma ∷ [])) (placed close_curly (at 3)) refl (λ none. refl)
-
-pub returns-clause-second_relation : goal.returns-clause-second_relation
-returns-clause-second_relation c = misplaced_by_trial 40 (row (a ∷ infix_operator (Relation Equal) ∷ b ∷ [])) (placed (infix_operator (Relation Equal)) (at 3)) refl (λ none. refl)
-
-pub returns-clause-word_left_out : goal.returns-clause-word_left_out
-returns-clause-word_left_out c = misplaced_by_trial 40 [] (placed (left_out (codes "tree")) (at 0)) refl (λ none. refl)
-
-pub returns-clause-behind_the_mode : goal.returns-clause-behind_the_mode
-returns-clause-behind_the_mode c = word_follows (at 0)
-
-pub returns-clause-mode_without_semicolon : goal.returns-clause-mode_without_semicolon
-returns-clause-mode_without_semicolon c = word_shuts (at 0) (placed word_true (at 1)) (λ place same. let never : ⊥ = cc in never)
-
-pub returns-clause-deepest_bracket : goal.returns-clause-deepest_bracket
-returns-clause-deepest_bracket c = follows_by_trial 400 (row (repeated 299 open_round [])) refl
-
-pub returns-clause-bracket_too_deep : goal.returns-clause-bracket_too_deep
-returns-clause-bracket_too_deep c = (too_deep_by_trial 400 (row (repeated 299 open_round [])) (placed open_round (at 299)) refl).0
-
-pub returns-clause-bracket_at_any_depth : goal.returns-clause-bracket_at_any_depth
-returns-clause-bracket_at_any_depth c = (too_deep_by_trial 400 (row (repeated 299 open_round [])) (placed open_round (at 299)) refl).1
-
-pub returns-clause-empty_call_at_the_depth : goal.returns-clause-empty_call_at_the_depth
-returns-clause-empty_call_at_the_depth c = follows_by_trial 400 (row (repeated 299 open_round (p ∷ open_round ∷ []))) refl
-
-pub returns-clause-argument_too_deep : goal.returns-clause-argument_too_deep
-returns-clause-argument_too_deep c = (too_deep_by_trial 400 (row (repeated 299 open_round (p ∷ open_round ∷ []))) (placed x (at 301)) refl).0
-
-pub returns-clause-argument_at_any_depth : goal.returns-clause-argument_at_any_depth
-returns-clause-argument_at_any_depth c = (too_deep_by_trial 400 (row (repeated 299 open_round (p ∷ open_round ∷ []))) (placed x (at 301)) refl).1
-
-pub returns-clause-no_argument_at_any_depth : goal.returns-clause-no_argument_at_any_depth
-returns-clause-no_argument_at_any_depth c = misplaced_by_trial 400 (row (repeated 299 open_round (p ∷ open_round ∷ []))) (placed comma (at 301)) refl (λ none. refl)
-
-pub returns-clause-behind_goal : goal.returns-clause-behind_goal
-returns-clause-behind_goal c = follows_by_trial 40 (row (goal_name ∷ [])) refl
-
-pub returns-clause-behind_a_title : goal.returns-clause-behind_a_title
-returns-clause-behind_a_title c = follows_by_trial 40 (row (goal_name ∷ text (codes "t") ∷ [])) refl
-
-pub returns-clause-title_without_formula : goal.returns-clause-title_without_formula
-returns-clause-title_without_formula c = misplaced_by_trial 40 (row (goal_name ∷ text (codes "t") ∷ [])) (placed semicolon (at 2)) refl (λ none. refl)
-
-pub returns-clause-second_title : goal.returns-clause-second_title
-returns-clause-second_title c = misplaced_by_trial 40 (row (goal_name ∷ text (codes "t") ∷ [])) (placed (text (codes "u")) (at 2)) refl (λ none. refl)
-
-pub returns-clause-title_behind_another_name : goal.returns-clause-title_behind_another_name
-returns-clause-title_behind_another_name c = misplaced_by_trial 40 (row (a ∷ [])) (placed (text (codes "t")) (at 1)) refl (λ none. refl)
-
-pub returns-clause-title_in_a_formula : goal.returns-clause-title_in_a_formula
-returns-clause-title_in_a_formula c = misplaced_by_trial 40 (row (prefix_operator Negation ∷ goal_name ∷ [])) (placed (text (codes "t")) (at 2)) refl (λ none. refl)
+pub returns : goal.returns
+returns c = record {
+  at_the_beginning = follows_by_trial 40 (row []) refl;
+  behind_a_comma = follows_by_trial 40 (row (open_curly ∷ x ∷ comma ∷ [])) refl;
+  bracket_behind_a_comma = misplaced_by_trial 40 (row (open_curly ∷ x ∷ comma ∷ [])) (placed close_curly (at 3)) refl (λ none. refl);
+  behind_a_relation = follows_by_trial 40 (row (a ∷ infix_operator (Relation Equal) ∷ b ∷ [])) refl;
+  second_relation = misplaced_by_trial 40 (row (a ∷ infix_operator (Relation Equal) ∷ b ∷ [])) (placed (infix_operator (Relation Equal)) (at 3)) refl (λ none. refl);
+  without_semicolon = follows_by_trial 40 (row (word_true ∷ [])) refl;
+  word_left_out = misplaced_by_trial 40 [] (placed (left_out (codes "tree")) (at 0)) refl (λ none. refl);
+  behind_goal = follows_by_trial 40 (row (goal_name ∷ [])) refl;
+  behind_a_title = follows_by_trial 40 (row (goal_name ∷ text (codes "t") ∷ [])) refl;
+  title_without_formula = misplaced_by_trial 40 (row (goal_name ∷ text (codes "t") ∷ [])) (placed semicolon (at 2)) refl (λ none. refl);
+  second_title = misplaced_by_trial 40 (row (goal_name ∷ text (codes "t") ∷ [])) (placed (text (codes "u")) (at 2)) refl (λ none. refl);
+  title_behind_another_name = misplaced_by_trial 40 (row (a ∷ [])) (placed (text (codes "t")) (at 1)) refl (λ none. refl);
+  title_in_a_formula = misplaced_by_trial 40 (row (prefix_operator Negation ∷ goal_name ∷ [])) (placed (text (codes "t")) (at 2)) refl (λ none. refl);
+  behind_the_mode = word_follows (at 0);
+  mode_without_semicolon = word_shuts (at 0) (placed word_true (at 1)) (λ place same. let never : ⊥ = cc in never);
+  string_mode = follows_by_trial 40 (row (name (codes "m2l") ∷ sign true ∷ name (codes "str") ∷ [])) refl;
+  deepest_bracket = follows_by_trial 400 (row (repeated 299 open_round [])) refl;
+  bracket_too_deep = (too_deep_by_trial 400 (row (repeated 299 open_round [])) (placed open_round (at 299)) refl).0;
+  bracket_at_any_depth = (too_deep_by_trial 400 (row (repeated 299 open_round [])) (placed open_round (at 299)) refl).1;
+  empty_call_at_the_depth = follows_by_trial 400 (row (repeated 299 open_round (p ∷ open_round ∷ []))) refl;
+  argument_too_deep = (too_deep_by_trial 400 (row (repeated 299 open_round (p ∷ open_round ∷ []))) (placed x (at 301)) refl).0;
+  argument_at_any_depth = (too_deep_by_trial 400 (row (repeated 299 open_round (p ∷ open_round ∷ []))) (placed x (at 301)) refl).1;
+  no_argument_at_any_depth = misplaced_by_trial 400 (row (repeated 299 open_round (p ∷ open_round ∷ []))) (placed comma (at 301)) refl (λ none. refl);
+}
