@@ -77,35 +77,17 @@ module _ (E : Extents) where
   large-terms (suc limit) [] y x = omega arith
   large-terms limit (t ∷ terms) y x = omega (arith, large-sum limit t terms y x)
 
-  deep-related : (r : Rel) (u v x : ℕ) → depth_of (related r u v x) ≤ 8
-  deep-related Equal u v x = omega arith
-  deep-related Differs u v x = omega arith
-  deep-related Less u v x = omega arith
-  deep-related AtMost u v x = omega arith
-  deep-related Greater u v x = omega arith
-  deep-related AtLeast u v x = omega arith
-  deep-related Member u v x = omega arith
-  deep-related NotMember u v x = omega arith
-  deep-related Sub u v x = omega arith
-
-  large-related : (r : Rel) (u v x : ℕ) → size_of (related r u v x) ≤ 21
-  large-related Equal u v x = omega arith
-  large-related Differs u v x = omega arith
-  large-related Less u v x = omega arith
-  large-related AtMost u v x = omega arith
-  large-related Greater u v x = omega arith
-  large-related AtLeast u v x = omega arith
-  large-related Member u v x = omega arith
-  large-related NotMember u v x = omega arith
-  large-related Sub u v x = omega arith
+  related-bounds : (r : Rel) (u v x : ℕ) → (depth_of (related r u v x) ≤ 8) × (size_of (related r u v x) ≤ 21)
+  related-bounds Equal u v x = (omega arith, omega arith)
+  related-bounds _ u v x = (omega arith, omega arith)
 
   deep-compared : (r : Rel) (levels : ℕ) (left right : List Summand) (x : ℕ) → length left ≤ 2 ^ levels → length right ≤ 2 ^ levels → depth_of (compared r left right x) ≤ 2 * levels + 11
   deep-compared r levels left right x few few' =
-      omega (arith, deep-sum (length left) levels left x (x + 2) few, deep-sum (length right) levels right (x + 2) (x + 4) few', deep-related r x (x + 2) (x + 4))
+      omega (arith, deep-sum (length left) levels left x (x + 2) few, deep-sum (length right) levels right (x + 2) (x + 4) few', (related-bounds r x (x + 2) (x + 4)).0)
 
   large-compared : (r : Rel) (left right : List Summand) (x : ℕ) → size_of (compared r left right x) ≤ 55 * (length left + length right) + 27
   large-compared r left right x =
-      omega (arith, large-terms (length left) left x (x + 2), large-terms (length right) right (x + 2) (x + 4), large-related r x (x + 2) (x + 4))
+      omega (arith, large-terms (length left) left x (x + 2), large-terms (length right) right (x + 2) (x + 4), (related-bounds r x (x + 2) (x + 4)).1)
 
   -- quantifiers
 

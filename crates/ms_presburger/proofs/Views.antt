@@ -25,3 +25,11 @@ arithmetic_of-Implies f g = ap arithmetic_of (sym (rolls-Implies f g)) ∙ fold-
 
 pub arithmetic_of-Iff : (f g : Linear) → arithmetic_of (Iff f g) ≡ equivalence (arithmetic_of f) (arithmetic_of g)
 arithmetic_of-Iff f g = ap arithmetic_of (sym (rolls-Iff f g)) ∙ fold-roll-Linear Arithmetic arithmetic_at (Linear-F.Iff f g)
+
+-- the same of a tree whose operands are known by other names
+
+pub implication_of : {formula f g left right : Linear} → formula ≡ Implies f g → left ≡ f → right ≡ g → arithmetic_of formula ≡ implication (arithmetic_of left) (arithmetic_of right)
+implication_of {formula} {f} {g} {left} {right} is one other = let same = is ∙ (ap (λ (h : Linear). Implies h g) (sym one) ∙ ap (λ (h : Linear). Implies left h) (sym other)) in ap arithmetic_of same ∙ arithmetic_of-Implies left right
+
+pub equivalence_of : {formula f g left right : Linear} → formula ≡ Iff f g → left ≡ f → right ≡ g → arithmetic_of formula ≡ equivalence (arithmetic_of left) (arithmetic_of right)
+equivalence_of {formula} {f} {g} {left} {right} is one other = let same = is ∙ (ap (λ (h : Linear). Iff h g) (sym one) ∙ ap (λ (h : Linear). Iff left h) (sym other)) in ap arithmetic_of same ∙ arithmetic_of-Iff left right

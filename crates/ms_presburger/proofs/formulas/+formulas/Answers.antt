@@ -4,7 +4,7 @@ use Rattle.std.specs.Prelude.{OnOk}
 use Rattle.ms_logic.specs.Tree.{Form}
 use Rattle.ms_logic.specs.Tree as sets
 use Rattle.ms_presburger.specs.declared.linear.Linear.{Linear, the_lemmas}
-use Rattle.ms_presburger.specs.declared.linear.Linear.TheVariants.{Not, And, Or, Implies, Iff, Bind}
+use Rattle.ms_presburger.specs.declared.linear.Linear.TheVariants.{Not, And, Or, Bind}
 use Rattle.ms_presburger.specs.Sets.{Scope, set_form}
 use Rattle.ms_presburger.specs.Tree.{Arithmetic}
 use Rattle.ms_presburger.specs.View.{arithmetic_of, arithmetics}
@@ -13,7 +13,7 @@ use Rattle.ms_presburger.specs.inner.Scopes.{AreAllFactorsSmall, AreFactorsSmall
 use Rattle.ms_presburger.proofs.Operands.{all-translated, some-translated, bound-translated, extent-operand, small-more}
 use Rattle.ms_presburger.proofs.Kept.{both-made, done-then, gives-both, gives-then, kept, kept-all, kept-both, kept-then, then-both, where-made, wrapped-apart}
 use Rattle.ms_presburger.proofs.Lookups.{as-in-both, length-hidden}
-use Rattle.ms_presburger.proofs.Views.{arithmetic_of-Not, arithmetic_of-And, arithmetic_of-Or, arithmetic_of-Implies, arithmetic_of-Iff, arithmetic_of-Bind}
+use Rattle.ms_presburger.proofs.Views.{arithmetic_of-Not, arithmetic_of-And, arithmetic_of-Or, arithmetic_of-Bind, implication_of, equivalence_of}
 use Rattle.ms_presburger.proofs.formulas.+formulas.Goals as goal
 
 pub formula_at-returns-in-And-clause-made : goal.formula_at-returns-in-And-clause-made
@@ -62,8 +62,7 @@ pub formula_at-returns-in-Implies-clause-small : goal.formula_at-returns-in-Impl
 formula_at-returns-in-Implies-clause-small t c =
     let left = c.get-in-Implies.result.now in
     let right = c.get-in-Implies-2.result.now in
-    let parts = ap (λ (l : Linear). Implies l c.in-Implies.right) (sym c.get-in-Implies.ensures) ∙ ap (λ (r : Linear). Implies left r) (sym c.get-in-Implies-2.ensures) in
-    let is = sym (ap arithmetic_of (c.in-Implies.is ∙ parts) ∙ arithmetic_of-Implies left right) in
+    let is = sym (implication_of c.in-Implies.is c.get-in-Implies.ensures c.get-in-Implies-2.ensures) in
     let P : Arithmetic → Type 0 = λ g. OnOk c.implication.result (AreFactorsSmall g) in
     subst P is (kept-both c.formula_at-left.result c.formula_at-in-Implies.result c.implication.result (λ f g. sets.implication f g) (λ g same. cc) (λ f same. cc) c.implication.ensures (AreFactorsSmall (arithmetic_of left)) (AreFactorsSmall (arithmetic_of right))
     c.formula_at-left.ensures.small c.formula_at-in-Implies.ensures.small)
@@ -72,8 +71,7 @@ pub formula_at-returns-in-Iff-clause-small : goal.formula_at-returns-in-Iff-clau
 formula_at-returns-in-Iff-clause-small t c =
     let left = c.get-in-Iff.result.now in
     let right = c.get-in-Iff-2.result.now in
-    let parts = ap (λ (l : Linear). Iff l c.in-Iff.right) (sym c.get-in-Iff.ensures) ∙ ap (λ (r : Linear). Iff left r) (sym c.get-in-Iff-2.ensures) in
-    let is = sym (ap arithmetic_of (c.in-Iff.is ∙ parts) ∙ arithmetic_of-Iff left right) in
+    let is = sym (equivalence_of c.in-Iff.is c.get-in-Iff.ensures c.get-in-Iff-2.ensures) in
     let P : Arithmetic → Type 0 = λ g. OnOk c.equivalence.result (AreFactorsSmall g) in
     subst P is (kept-both c.formula_at-left-in-Iff.result c.formula_at-in-Iff.result c.equivalence.result (λ f g. sets.equivalence f g) (λ g same. cc) (λ f same. cc) c.equivalence.ensures (AreFactorsSmall (arithmetic_of left)) (AreFactorsSmall (arithmetic_of right))
     c.formula_at-left-in-Iff.ensures.small c.formula_at-in-Iff.ensures.small)
@@ -84,8 +82,7 @@ formula_at-returns-in-Implies-clause-made t c = λ scope known.
     let right = c.get-in-Implies-2.result.now in
     let before = c.args.bindings.now in
     let middle = c.formula_at-left.new.bindings in
-    let parts = ap (λ (l : Linear). Implies l c.in-Implies.right) (sym c.get-in-Implies.ensures) ∙ ap (λ (r : Linear). Implies left r) (sym c.get-in-Implies-2.ensures) in
-    let is = sym (ap arithmetic_of (c.in-Implies.is ∙ parts) ∙ arithmetic_of-Implies left right) in
+    let is = sym (implication_of c.in-Implies.is c.get-in-Implies.ensures c.get-in-Implies-2.ensures) in
     let f = set_form (arithmetic_of left) scope c.args.x in
     let g = set_form (arithmetic_of right) scope c.args.x in
     let P : Arithmetic → Type 0 = λ h. Gives c.implication.result (set_form h scope c.args.x) in
@@ -106,8 +103,7 @@ formula_at-returns-in-Iff-clause-made t c = λ scope known.
     let right = c.get-in-Iff-2.result.now in
     let before = c.args.bindings.now in
     let middle = c.formula_at-left-in-Iff.new.bindings in
-    let parts = ap (λ (l : Linear). Iff l c.in-Iff.right) (sym c.get-in-Iff.ensures) ∙ ap (λ (r : Linear). Iff left r) (sym c.get-in-Iff-2.ensures) in
-    let is = sym (ap arithmetic_of (c.in-Iff.is ∙ parts) ∙ arithmetic_of-Iff left right) in
+    let is = sym (equivalence_of c.in-Iff.is c.get-in-Iff.ensures c.get-in-Iff-2.ensures) in
     let f = set_form (arithmetic_of left) scope c.args.x in
     let g = set_form (arithmetic_of right) scope c.args.x in
     let P : Arithmetic → Type 0 = λ h. Gives c.equivalence.result (set_form h scope c.args.x) in

@@ -4,17 +4,6 @@ use Rattle.ms_presburger.proofs.Free.{truth-is-of-free-names}
 use Rattle.ms_presburger.proofs.Truths.{all-is-dual}
 use Rattle.ms_presburger.proofs.laws.laws_of_numbers.Goals as goal
 
-pub returns-clause-decided : goal.returns-clause-decided
-returns-clause-decided c = truth-is-decided
-
-pub returns-clause-free_names : goal.returns-clause-free_names
-returns-clause-free_names c = truth-is-of-free-names
-
-pub returns-clause-all_is_dual : goal.returns-clause-all_is_dual
-returns-clause-all_is_dual c = all-is-dual
-
-pub returns-clause-has_digits : goal.returns-clause-has_digits
-returns-clause-has_digits c = set_of_number
-
-pub returns-clause-unique_digits : goal.returns-clause-unique_digits
-returns-clause-unique_digits c = number_of-unique
+pub returns : goal.returns
+returns c =
+    record { decided = truth-is-decided; free_names = truth-is-of-free-names; all_is_dual = all-is-dual; has_digits = set_of_number; unique_digits = number_of-unique }

@@ -21,94 +21,29 @@ use Rattle.ms_presburger.proofs.Sources.{tells-truth, is-over-numbers, tells-ver
 use Rattle.ms_translation.proofs.Asked.{names-kept, no-goals}
 use Rattle.ms_presburger.proofs.sets.to_sets.Goals as goal
 
-pub returns-clause-truth : goal.returns-clause-truth
-returns-clause-truth c =
+pub returns : goal.returns
+returns c =
     let names = c.args.problem.now.names in
     let f = arithmetic_of c.args.problem.now.formula in
-    IfOk-weaker c.set_source.result (IsSetSource names f) (λ made. (answers : Answers) → TellsTruth names f (main_question made answers)) (λ made is answers. tells-truth names f made answers c.requires.names is) c.set_source.ensures.source
-
-pub returns-clause-numbers : goal.returns-clause-numbers
-returns-clause-numbers c =
-    let names = c.args.problem.now.names in
-    let f = arithmetic_of c.args.problem.now.formula in
-    IfOk-weaker c.set_source.result (IsSetSource names f) (λ made. (answers : Answers) → IsOverNumbers names (main_question made answers)) (λ made is answers. is-over-numbers names f made answers c.requires.names is) c.set_source.ensures.source
-
-pub returns-clause-verdict : goal.returns-clause-verdict
-returns-clause-verdict c =
-    let names = c.args.problem.now.names in
-    let f = arithmetic_of c.args.problem.now.formula in
-    IfOk-weaker c.set_source.result (IsSetSource names f) (λ made. (answers : Answers) → TellsVerdict f (main_question made answers)) (λ made is answers. tells-verdict names f made answers c.requires.names is) c.set_source.ensures.source
-
-pub returns-clause-no_goals : goal.returns-clause-no_goals
-returns-clause-no_goals c =
-    let names = c.args.problem.now.names in
-    let f = arithmetic_of c.args.problem.now.formula in
-    IfOk-weaker c.set_source.result (IsSetSource names f) (λ (made : Checked). goals_in made ≡ []) (λ made is. no-goals Ws1s names (main_form names f ∷ []) made is) c.set_source.ensures.source
-
-pub returns-clause-mode : goal.returns-clause-mode
-returns-clause-mode c =
-    let names = c.args.problem.now.names in
-    let f = arithmetic_of c.args.problem.now.formula in
-    IfOk-weaker c.set_source.result (IsSetSource names f) (λ (made : Checked). made.mode ≡ Ws1s) (λ made is. is.mode) c.set_source.ensures.source
-
-pub returns-clause-names : goal.returns-clause-names
-returns-clause-names c =
-    let names = c.args.problem.now.names in
-    let f = arithmetic_of c.args.problem.now.formula in
-    IfOk-weaker c.set_source.result (IsSetSource names f) (λ (made : Checked). map (λ (g : Global). g.name) made.globals ≡ names) (λ made is. names-kept Ws1s names (main_form names f ∷ []) made is) c.set_source.ensures.source
-
-pub returns-clause-imports_nothing : goal.returns-clause-imports_nothing
-returns-clause-imports_nothing c =
-    let names = c.args.problem.now.names in
-    let f = arithmetic_of c.args.problem.now.formula in
-    IfOk-weaker c.set_source.result (IsSetSource names f) (λ (made : Checked). made.imports ≡ []) (λ made is. is.imports) c.set_source.ensures.source
-
-pub returns-clause-exports_nothing : goal.returns-clause-exports_nothing
-returns-clause-exports_nothing c =
-    let names = c.args.problem.now.names in
-    let f = arithmetic_of c.args.problem.now.formula in
-    IfOk-weaker c.set_source.result (IsSetSource names f) (λ (made : Checked). made.exports ≡ []) (λ made is. is.exports) c.set_source.ensures.source
-
-pub returns-clause-places : goal.returns-clause-places
-returns-clause-places c =
-    let names = c.args.problem.now.names in
-    let f = arithmetic_of c.args.problem.now.formula in
-    IfOk-weaker c.set_source.result (IsSetSource names f) (λ (made : Checked). map (λ (placed : Placed). placed.at) made.formulas ≡ start ∷ []) (λ made is. is.places) c.set_source.ensures.source
-
-pub returns-clause-items : goal.returns-clause-items
-returns-clause-items c =
-    let names = c.args.problem.now.names in
-    let f = arithmetic_of c.args.problem.now.formula in
-    IfOk-weaker c.set_source.result (IsSetSource names f) (λ (made : Checked). map (λ (placed : Placed). placed.item) made.formulas ≡ 1 ∷ []) (λ made is. is.items) c.set_source.ensures.source
-
-pub returns-clause-numbered : goal.returns-clause-numbered
-returns-clause-numbered c =
-    let names = c.args.problem.now.names in
-    let f = arithmetic_of c.args.problem.now.formula in
-    with-kept c.set_source.result (IsSetSource names f) IsWellNumbered (AreFactorsSmall f) (λ made is small. is-well-numbered names f made c.requires.names small is) c.set_source.ensures.source c.set_source.ensures.small
-
-pub returns-clause-exports : goal.returns-clause-exports
-returns-clause-exports c =
-    let names = c.args.problem.now.names in
-    let f = arithmetic_of c.args.problem.now.formula in
-    with-kept c.set_source.result (IsSetSource names f) ListsFreeVariables (AreFactorsSmall f) (λ made is small. lists-free-variables names f made c.requires.names small is) c.set_source.ensures.source c.set_source.ensures.small
-
-pub returns-clause-meets_rules : goal.returns-clause-meets_rules
-returns-clause-meets_rules c =
-    let names = c.args.problem.now.names in
-    let f = arithmetic_of c.args.problem.now.formula in
-    with-kept c.set_source.result (IsSetSource names f) MeetsRules (AreFactorsSmall f) (λ made is small. meets-rules names f made c.requires.names small is) c.set_source.ensures.source c.set_source.ensures.small
-
-pub returns-clause-depth : goal.returns-clause-depth
-returns-clause-depth c =
-    let names = c.args.problem.now.names in
-    let f = arithmetic_of c.args.problem.now.formula in
-    with-kept c.set_source.result (IsSetSource names f) (λ made. (answers : Answers) (levels : ℕ) → 64 * extent f ≤ 2 ^ levels → depth_of_source (problem_of made answers) ≤ reach f + 2 * levels + 12) (AreFactorsSmall f)
-    (λ made is small answers levels few. is-deep names f small made answers is levels few) c.set_source.ensures.source c.set_source.ensures.small
-
-pub returns-clause-size : goal.returns-clause-size
-returns-clause-size c =
-    let names = c.args.problem.now.names in
-    let f = arithmetic_of c.args.problem.now.formula in
-    with-kept c.set_source.result (IsSetSource names f) (λ made. (answers : Answers) → size_of_source (problem_of made answers) ≤ 27 * size f + 3520 * extent f + length names + 1) (AreFactorsSmall f)
-    (λ made is small answers. is-large names f small made answers is) c.set_source.ensures.source c.set_source.ensures.small
+    let result = c.set_source.result in
+    let source = c.set_source.ensures.source in
+    let small = c.set_source.ensures.small in
+    record {
+      source = source;
+      truth = IfOk-weaker result (IsSetSource names f) (λ made. (answers : Answers) → TellsTruth names f (main_question made answers)) (λ made is answers. tells-truth names f made answers c.requires.names is) source;
+      numbers = IfOk-weaker result (IsSetSource names f) (λ made. (answers : Answers) → IsOverNumbers names (main_question made answers)) (λ made is answers. is-over-numbers names f made answers c.requires.names is) source;
+      verdict = IfOk-weaker result (IsSetSource names f) (λ made. (answers : Answers) → TellsVerdict f (main_question made answers)) (λ made is answers. tells-verdict names f made answers c.requires.names is) source;
+      no_goals = IfOk-weaker result (IsSetSource names f) (λ (made : Checked). goals_in made ≡ []) (λ made is. no-goals Ws1s names (main_form names f ∷ []) made is) source;
+      numbered = with-kept result (IsSetSource names f) IsWellNumbered (AreFactorsSmall f) (λ made is small. is-well-numbered names f made c.requires.names small is) source small;
+      exports = with-kept result (IsSetSource names f) ListsFreeVariables (AreFactorsSmall f) (λ made is small. lists-free-variables names f made c.requires.names small is) source small;
+      meets_rules = with-kept result (IsSetSource names f) MeetsRules (AreFactorsSmall f) (λ made is small. meets-rules names f made c.requires.names small is) source small;
+      depth = with-kept result (IsSetSource names f) (λ made. (answers : Answers) (levels : ℕ) → 64 * extent f ≤ 2 ^ levels → depth_of_source (problem_of made answers) ≤ reach f + 2 * levels + 12) (AreFactorsSmall f) (λ made is small answers levels few. is-deep names f small made answers is levels few) source small;
+      size = with-kept result (IsSetSource names f) (λ made. (answers : Answers) → size_of_source (problem_of made answers) ≤ 27 * size f + 3520 * extent f + length names + 1) (AreFactorsSmall f) (λ made is small answers. is-large names f small made answers is) source small;
+      mode = IfOk-weaker result (IsSetSource names f) (λ (made : Checked). made.mode ≡ Ws1s) (λ made is. is.mode) source;
+      names = IfOk-weaker result (IsSetSource names f) (λ (made : Checked). map (λ (g : Global). g.name) made.globals ≡ names) (λ made is. names-kept Ws1s names (main_form names f ∷ []) made is) source;
+      imports_nothing = IfOk-weaker result (IsSetSource names f) (λ (made : Checked). made.imports ≡ []) (λ made is. is.imports) source;
+      exports_nothing = IfOk-weaker result (IsSetSource names f) (λ (made : Checked). made.exports ≡ []) (λ made is. is.exports) source;
+      places = IfOk-weaker result (IsSetSource names f) (λ (made : Checked). map (λ (placed : Placed). placed.at) made.formulas ≡ start ∷ []) (λ made is. is.places) source;
+      items = IfOk-weaker result (IsSetSource names f) (λ (made : Checked). map (λ (placed : Placed). placed.item) made.formulas ≡ 1 ∷ []) (λ made is. is.items) source;
+      files = c.set_source.ensures.files;
+    }
