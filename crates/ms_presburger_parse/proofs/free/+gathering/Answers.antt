@@ -1,11 +1,11 @@
 use Rattle.std.proofs.Common.{◌≡◌, ℕ, ◌-◌, rules, List, take, sym, ap, ◌∙◌, subst, arith}
 use Rattle.ms_presburger.specs.declared.linear.Linear.{Linear, the_lemmas}
-use Rattle.ms_presburger.specs.declared.linear.Linear.TheVariants.{Compare, Implies, Iff, Bind}
+use Rattle.ms_presburger.specs.declared.linear.Linear.TheVariants.{Compare, Bind}
 use Rattle.ms_presburger.specs.declared.linear.Part.{Part}
 use Rattle.ms_presburger.specs.Tree.{Arithmetic, free_places, names_in_sum}
 use Rattle.ms_presburger.specs.View.{arithmetic_of}
 use Rattle.ms_presburger.proofs.Operands.{extent-operand, extent-Bind}
-use Rattle.ms_presburger.proofs.Views.{arithmetic_of-Implies, arithmetic_of-Iff, arithmetic_of-Bind}
+use Rattle.ms_presburger.proofs.Views.{arithmetic_of-Bind, implication_of, equivalence_of}
 use Rattle.ms_presburger_parse.specs.inner.Gathering.{Binds, Gathers, bound_in, count_of}
 use Rattle.ms_presburger_parse.proofs.Gatherings.{count_of-most, gathers_append, gathers_both, gathers_bound, places-next, places_of}
 use Rattle.std.proofs.lemmas.Result.{on_ok_weaker}
@@ -23,19 +23,13 @@ gather-returns-in_ok-mention_sum-in-Compare t c =
 
 pub gather-returns-in_ok-gather-in-Implies : goal.gather-returns-in_ok-gather-in-Implies
 gather-returns-in_ok-gather-in-Implies t c =
-    let left = c.get-in-Implies.result.now in
-    let right = c.get-in-Implies-2.result.now in
-    let parts = ap (λ (l : Linear). Implies l c.in-Implies.right) (sym c.get-in-Implies.ensures) ∙ ap (λ (r : Linear). Implies left r) (sym c.get-in-Implies-2.ensures) in
-    let is = ap arithmetic_of (c.in-Implies.is ∙ parts) ∙ arithmetic_of-Implies left right in
-    gathers_both (arithmetic_of c.args.formula.now) c.args.gathered.now c.gather-in-Implies.new.gathered c.gather-in-Implies-2.new.gathered (free_places (arithmetic_of left)) (free_places (arithmetic_of right)) c.gather-in-Implies-2.result (ap free_places is) c.in_ok-gather-in-Implies.ensures c.gather-in-Implies-2.ensures
+    let is = implication_of c.in-Implies.is c.get-in-Implies.ensures c.get-in-Implies-2.ensures in
+    gathers_both (arithmetic_of c.args.formula.now) c.args.gathered.now c.gather-in-Implies.new.gathered c.gather-in-Implies-2.new.gathered _ _ c.gather-in-Implies-2.result (ap free_places is) c.in_ok-gather-in-Implies.ensures c.gather-in-Implies-2.ensures
 
 pub gather-returns-in_ok-gather-in-Iff : goal.gather-returns-in_ok-gather-in-Iff
 gather-returns-in_ok-gather-in-Iff t c =
-    let left = c.get-in-Iff.result.now in
-    let right = c.get-in-Iff-2.result.now in
-    let parts = ap (λ (l : Linear). Iff l c.in-Iff.right) (sym c.get-in-Iff.ensures) ∙ ap (λ (r : Linear). Iff left r) (sym c.get-in-Iff-2.ensures) in
-    let is = ap arithmetic_of (c.in-Iff.is ∙ parts) ∙ arithmetic_of-Iff left right in
-    gathers_both (arithmetic_of c.args.formula.now) c.args.gathered.now c.gather-in-Iff.new.gathered c.gather-in-Iff-2.new.gathered (free_places (arithmetic_of left)) (free_places (arithmetic_of right)) c.gather-in-Iff-2.result (ap free_places is) c.in_ok-gather-in-Iff.ensures c.gather-in-Iff-2.ensures
+    let is = equivalence_of c.in-Iff.is c.get-in-Iff.ensures c.get-in-Iff-2.ensures in
+    gathers_both (arithmetic_of c.args.formula.now) c.args.gathered.now c.gather-in-Iff.new.gathered c.gather-in-Iff-2.new.gathered _ _ c.gather-in-Iff-2.result (ap free_places is) c.in_ok-gather-in-Iff.ensures c.gather-in-Iff-2.ensures
 
 pub gather-gather-requires-in-Bind : goal.gather-gather-requires-in-Bind
 gather-gather-requires-in-Bind t c =
