@@ -7,6 +7,7 @@ ghost use Rattle.std.specs.Prelude.{◌≡◌, [], ◌∷◌, ◌++◌, drop, le
 
 use crate::free::Read;
 use crate::memory::add;
+use crate::name::small;
 use crate::numbers::Numbers;
 use crate::ordered::take_first;
 use indexmap::IndexMap;
@@ -20,14 +21,14 @@ use std::marker::Model;
 pub(crate) struct Entry {
     pub(crate) name: String,
     pub(crate) meaning: Meaning,
-    pub(crate) hidden: Option<usize>,
+    pub(crate) hidden: Option<u32>,
 }
 
 /// The names that are seen. Contracts see the list of names and meanings, the innermost first.
 #[derive(Drop)]
 pub(crate) struct Names {
     alloc: Global,
-    places: IndexMap<String, Option<usize>>,
+    places: IndexMap<String, Option<u32>>,
     numbers: Numbers,
     entries: Vec<Entry>,
 }
@@ -70,7 +71,7 @@ impl Names {
         ensures { option_copied result ≡ meaning_among self.now name.now }
     {
         match place_in(&self.places, name) {
-            Some(place) => Some(&self.entries[place].meaning),
+            Some(place) => Some(&self.entries[place as usize].meaning),
             None => None,
         }
     }
@@ -86,7 +87,7 @@ impl Names {
             return Err(NoMemory);
         };
         let hidden = place_in(&self.places, name);
-        let place = self.entries.len();
+        let place = small(self.entries.len())?;
         self.numbers.push(variable_number(&meaning))?;
         let entry = Entry {
             name: own,
@@ -181,7 +182,7 @@ fn note_entry(
 }
 
 // The place of the innermost entry of a name.
-fn place_in(places: &IndexMap<String, Option<usize>>, name: &Name) -> Option<usize>
+fn place_in(places: &IndexMap<String, Option<u32>>, name: &Name) -> Option<u32>
     ensures { result ≡ flat (get_by_text places.now name.now) }
 {
     match places.get(name.text()) {
@@ -192,9 +193,9 @@ fn place_in(places: &IndexMap<String, Option<usize>>, name: &Name) -> Option<usi
 
 // Notes the place of the innermost entry of a name. A name that is there takes no memory.
 fn set_place(
-    places: &mut IndexMap<String, Option<usize>>,
+    places: &mut IndexMap<String, Option<u32>>,
     name: String,
-    place: Option<usize>,
+    place: Option<u32>,
 ) -> Result<(), NoMemory>
     ensures ok { OnOk result (IsNoted (λ n. get_by_text places.old n) (λ n. get_by_text places.new n) (string_bytes name) place) }
     ensures err { OnErr result (get_by_text places.old (string_bytes name) ≡ None) }

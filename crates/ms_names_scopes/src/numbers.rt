@@ -5,6 +5,7 @@ ghost use Rattle.std.specs.Ordering.{nat_cmp};
 ghost use Rattle.std.specs.Prelude.{◌≡◌, ◌==◌, ◌-◌, ◌∷◌, ◌++◌, ◌||◌, [], None, ℕ, if◌then◌else◌, true, length, nat_eq, take, IfOk, OnErr, OnOk};
 
 use crate::memory::add;
+use crate::name::small;
 use crate::ordered::insert;
 use indexmap::IndexMap;
 use ms_list::NoMemory;
@@ -16,13 +17,13 @@ use std::marker::Model;
 #[derive(Clone, Copy)]
 pub(crate) struct Place {
     pub(crate) number: Option<u32>,
-    pub(crate) earlier: Option<usize>,
+    pub(crate) earlier: Option<u32>,
 }
 
 /// Places that are found by their numbers. Contracts see for each place its number, if it has one.
 #[derive(Drop)]
 pub(crate) struct Numbers {
-    last: IndexMap<u32, usize>,
+    last: IndexMap<u32, u32>,
     places: Vec<Place>,
 }
 
@@ -62,7 +63,7 @@ impl Numbers {
             add(&mut self.places, place)?;
             return Ok(());
         };
-        let last = self.places.len();
+        let last = small(self.places.len())?;
         let place = Place {
             number,
             earlier: last_of(&self.last, x),
@@ -110,15 +111,15 @@ impl Numbers {
     {
         let mut next = last_of(&self.last, x);
         while let Some(place) = next {
-            insert(places, place)?;
-            next = self.places[place].earlier;
+            insert(places, place as usize)?;
+            next = self.places[place as usize].earlier;
         }
         Ok(())
     }
 }
 
 // The last place of a number.
-fn last_of(last: &IndexMap<u32, usize>, x: u32) -> Option<usize>
+fn last_of(last: &IndexMap<u32, u32>, x: u32) -> Option<u32>
     ensures { result ≡ get nat_eq last.now x }
 {
     match last.get(&x) {
@@ -128,7 +129,7 @@ fn last_of(last: &IndexMap<u32, usize>, x: u32) -> Option<usize>
 }
 
 // Notes the last place of a number, or that it has none. A number that is there takes no memory.
-fn set_last(last: &mut IndexMap<u32, usize>, x: u32, place: Option<usize>) -> Result<(), NoMemory>
+fn set_last(last: &mut IndexMap<u32, u32>, x: u32, place: Option<u32>) -> Result<(), NoMemory>
     ensures ok { OnOk result ((y : ℕ) → get nat_eq last.new y ≡ (if x == y then place else get nat_eq last.old y)) }
     ensures absent { OnErr result (get nat_eq last.old x ≡ None) }
     ensures same { OnErr result ((y : ℕ) → get nat_eq last.new y ≡ get nat_eq last.old y) }

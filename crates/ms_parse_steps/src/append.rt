@@ -5,6 +5,7 @@ ghost use Rattle.ms_parse_steps.specs.inner.Binders.{binder_of};
 ghost use Rattle.ms_parse_steps.specs.declared.stop.Stop.TheVariants.{Memory};
 
 use crate::lists::{push_expression, push_part, push_restricted, push_variable};
+use crate::memory::with_room;
 use crate::operand::{Binder, Bounds, Identifier, Operand, Operands, Parts};
 use crate::stop::Stop;
 use std::alloc::Global;
@@ -25,7 +26,8 @@ pub fn with_unrestricted(binder: Binder, variable: Identifier) -> Result<Binder,
     ensures ok { IfOk result (λ made. binder_of made ≡ (binder.at, binder.quant, binder.order, and_variable (variables_of binder.bounds.list) variable.at binder.order variable.name unrestricted)) }
     ensures err { IfErr result (λ stop. stop ≡ Memory) }
 {
-    let Bounds { mut list, height } = binder.bounds;
+    let Bounds { list, height } = binder.bounds;
+    let mut list = with_room(list)?;
     push_variable(&mut list, binder.order, variable, None)?;
     let bounds = Bounds { list, height };
     Ok(Binder { bounds, ..binder })
@@ -42,7 +44,7 @@ pub fn with_restricted(
     ensures err { IfErr result (λ stop. stop ≡ Memory) }
 {
     let height = binder.bounds.height.max(domain.height);
-    let mut list = binder.bounds.list;
+    let mut list = with_room(binder.bounds.list)?;
     push_restricted(alloc, &mut list, binder.order, variable, domain.expr)?;
     let bounds = Bounds { list, height };
     Ok(Binder { bounds, ..binder })

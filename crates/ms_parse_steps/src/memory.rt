@@ -26,3 +26,18 @@ pub fn push<T: Drop>(list: &mut List<T>, item: T) -> Result<(), Stop>
         Err(_) => Err(Stop::Memory),
     }
 }
+
+/// The list, with room for one item where it has none: most lists of variables have one.
+pub fn with_room<T: Drop>(list: List<T>) -> Result<List<T>, Stop>
+    ensures ok { IfOk result (λ made. made ≡ list) }
+    ensures err { IfErr result (λ stop. stop ≡ Memory) }
+{
+    if !list.is_empty() {
+        return Ok(list);
+    }
+    let mut items = list.into_vec();
+    match items.reserve_exact(1) {
+        Ok(()) => Ok(List::from(items)),
+        Err(_) => Err(Stop::Memory),
+    }
+}

@@ -4,6 +4,7 @@ pub mod Decisions
 pub mod Fronts
 pub mod Gaps
 pub mod Here
+pub mod KeptTokens
 pub mod Lists
 pub mod Longest
 pub mod OneFault

@@ -7,7 +7,7 @@ use Rattle.ms_text.specs.declared.fault.Cause.{Cause}
 use Rattle.ms_text.specs.declared.token.Kind.{Kind}
 use Rattle.ms_text.specs.Fault.{IsFault, HasFaultBehind, HasFault}
 use Rattle.ms_text.specs.Gap.{IsGap}
-use Rattle.ms_text.specs.Spelling.{Spells, IsToken}
+use Rattle.ms_text.specs.Spelling.{Spells, IsAccepted, IsToken}
 use Rattle.ms_text.specs.TokenList.{BeginsWith, IsTokenList, place_behind}
 use Rattle.ms_text.proofs.Starts.{spelled_nonempty}
 
@@ -17,6 +17,7 @@ pub record Stands (whole : List ℕ) (place : ℕ) (token : Token) : Type 0 wher
   pub nonempty : 0 < token.length
   pub within : place_behind token ≤ length whole
   pub spelled : Spells token.kind (slice_range whole token.place (place_behind token))
+  pub accepted : IsAccepted token.kind (slice_range whole token.place (place_behind token))
 
 pub first_stands : (before bytes : List ℕ) (token : Token) (rest : List ℕ) → BeginsWith (length before) bytes token rest → Stands (before ++ bytes) (length before) token
 first_stands before bytes token rest begins =
@@ -32,6 +33,7 @@ first_stands before bytes token rest begins =
       nonempty = omega (arith, spelled_nonempty token.kind slice begins.is_token.spelled);
       within = omega (arith, ap length made_up, length-append (before ++ gap) (slice ++ rest), length-append before gap, length-append slice rest);
       spelled = subst (Spells token.kind) (sym cut) begins.is_token.spelled;
+      accepted = subst (IsAccepted token.kind) (sym cut) begins.is_token.accepted;
     }
 
 -- the text before the rest, with the token
@@ -59,6 +61,7 @@ token_stands before bytes place (t ∷ ts) (suc i) token place_is listed at =
       nonempty = stands.nonempty;
       within = stands.within;
       spelled = stands.spelled;
+      accepted = stands.accepted;
     }
 
 -- a list has no more tokens than the text has bytes
@@ -135,8 +138,11 @@ pub read_to_fault : (bytes : List ℕ) (from at : ℕ) (cause : Cause) (tokens :
 read_to_fault bytes from at cause tokens read faulty = (tokens ++ [], read.faulty [] at cause faulty)
 
 -- a fact on the token that stands at a place of the list
-pub spelled_at : (tokens : List Token) (i : ℕ) (token : Token) (bytes : List ℕ) → slice_get tokens i ≡ Some token → Spells token.kind bytes → IfSome (slice_get tokens i) (λ found. Spells found.kind bytes)
-spelled_at tokens i token bytes at spelled = rw at spelled
+pub told_at : (tokens : List Token) (i : ℕ) (token : Token) (Told : Token → Type 0) → slice_get tokens i ≡ Some token → Told token → IfSome (slice_get tokens i) Told
+told_at tokens i token Told there told = rw there told
+
+pub told_of : (tokens : List Token) (i : ℕ) (token : Token) (Told : Token → Type 0) → slice_get tokens i ≡ Some token → IfSome (slice_get tokens i) Told → Told token
+told_of tokens i token Told there told = rw there at told
 
 pub from_ok : {T E : Type 0} (r : Result T E) (P : Type 0) → is_err r ≡ false → OnOk r P → P
 from_ok (Ok x) P ok holds = holds

@@ -2,3 +2,4 @@ pub mod Fault
 pub mod Gap
 pub mod Spelling
 pub mod TokenList
+pub mod inner

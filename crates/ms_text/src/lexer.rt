@@ -7,6 +7,7 @@ ghost use Rattle.ms_text.specs.declared.fault.Cause.{Cause};
 
 use crate::fault::{Cause, Fault};
 use crate::gap::gap_length;
+use crate::kept::keep;
 use crate::scan::token_at;
 use crate::token::Token;
 use crate::token_list::{MAX_BYTES, Tokens};
@@ -63,17 +64,17 @@ pub fn tokens(alloc: Global, bytes: Bytes, file: u32) -> Result<Tokens, Refusal>
     ensures accepted { (all : List Token) → IsTokenList 0 bytes all → IsOkUnless result Refusal.Memory }
     ensures faulty { (at : ℕ) (cause : Cause) → HasFault bytes at cause → IsErr result }
 {
-    let mut tokens = List::new(alloc);
+    let mut all = List::new(alloc);
     let mut from = 0;
     loop {
         match next_token(bytes.slice(), from) {
             Ok(Some(token)) => {
                 from = (token.place + token.length) as usize;
-                if tokens.push(token).is_err() {
+                if all.push(keep(token)).is_err() {
                     return Err(Refusal::Memory);
                 }
             }
-            Ok(None) => return Ok(Tokens { bytes, tokens }),
+            Ok(None) => return Ok(Tokens { bytes, kept: all }),
             Err(fault) => return Err(refusal_of(file, fault)),
         }
     }

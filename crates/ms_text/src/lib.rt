@@ -5,6 +5,7 @@
 mod examples;
 mod fault;
 mod gap;
+mod kept;
 mod keyword;
 mod laws;
 mod lexer;

@@ -88,7 +88,7 @@ fn identifier_kind(slice: &[u8]) -> Kind
 }
 
 // The value of digits, if it is below 2^64.
-fn number_of(digits: &[u8]) -> Option<u64>
+pub(crate) fn number_of(digits: &[u8]) -> Option<u64>
     requires nonempty { 0 < length digits.now }
     requires digits { IsTrue (list_all is_ascii_digit digits.now) }
     ensures value { IfSome result (λ value. value ≡ digits_value 10 digits.now) }

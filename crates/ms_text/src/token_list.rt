@@ -2,6 +2,7 @@ ghost use Rattle.std.specs.Prelude.{◌≡◌, ◌+◌, ◌<◌, ◌≤◌, leng
 ghost use Rattle.ms_text.specs.Spelling.{Spells};
 ghost use Rattle.ms_text.specs.TokenList.{IsTokenList, slice_of, place_behind};
 
+use crate::kept::{Kept, kind_with};
 use crate::token::Token;
 use ms_list::{Bytes, List};
 use std::marker::Model;
@@ -13,19 +14,20 @@ pub const MAX_BYTES: usize = 67_108_864;
 #[derive(Drop)]
 pub struct Tokens {
     pub(crate) bytes: Bytes,
-    pub(crate) tokens: List<Token>,
+    pub(crate) kept: List<Kept>,
 }
 
 impl Model for Tokens {
     ghost use Rattle.std.specs.Prelude.{◌≤◌, length};
     ghost use Rattle.ms_text.specs.TokenList.{Lexed, IsTokenList};
+    ghost use Rattle.ms_text.specs.inner.Kept.{tokens_in};
     ghost use Rattle.ms_text.specs.declared.token_list.TheConstants.{MAX_BYTES};
 
     ghost Value = { Lexed };
 
-    ghost view = { λ t. record { bytes = t.bytes; tokens = t.tokens } };
+    ghost view = { λ t. record { bytes = t.bytes; tokens = tokens_in t.bytes t.kept } };
 
-    ghost invariant = { λ t. IsTokenList 0 t.bytes t.tokens × (length t.bytes ≤ MAX_BYTES) };
+    ghost invariant = { λ t. IsTokenList 0 t.bytes (tokens_in t.bytes t.kept) × (length t.bytes ≤ MAX_BYTES) };
 }
 
 impl Tokens {
@@ -35,7 +37,7 @@ impl Tokens {
         ensures bound { result ≤ MAX_BYTES }
         ensures tokens { IsTokenList 0 self.now.bytes self.now.tokens }
     {
-        self.tokens.len() as u32
+        self.kept.len() as u32
     }
 
     /// How many bytes the source has.
@@ -52,7 +54,12 @@ impl Tokens {
         ensures token { slice_get self.now.tokens i ≡ Some result }
         ensures within { place_behind result ≤ length self.now.bytes }
     {
-        *self.tokens.get(i as usize)
+        let kept = *self.kept.get(i as usize);
+        Token {
+            kind: kind_with(kept.kind, self.slice(i)),
+            place: u64::from(kept.place),
+            length: u64::from(kept.length),
+        }
     }
 
     /// The bytes of the token at a place in the list.
@@ -61,7 +68,8 @@ impl Tokens {
         ensures slice { IfSome (slice_get self.now.tokens i) (λ token. result.now ≡ slice_of self.now token) }
         ensures spelled { IfSome (slice_get self.now.tokens i) (λ token. Spells token.kind result.now) }
     {
-        let token = self.get(i);
-        &self.bytes.slice()[token.place as usize..(token.place + token.length) as usize]
+        let kept = self.kept.get(i as usize);
+        let from = kept.place as usize;
+        &self.bytes.slice()[from..from + kept.length as usize]
     }
 }
